@@ -3,7 +3,7 @@
    REFUSE is the number of the growth to refuse, from 1; without it none is refused. GROWTHS names a file of eight bytes,
    in which the number of growths asked for is kept. A growth is a call of malloc, or of realloc that asks for more.
 
-   The tests ask for ASKED bytes to learn whether a growth was refused (was_refused of crates/isort_tests): that call is
+   The tests ask for ASKED bytes to learn whether a growth was refused (was_refused of crates/test_harness): that call is
    refused once after the growth, and not counted. */
 #include <fcntl.h>
 #include <malloc.h>

@@ -1,22 +1,11 @@
 //! Own sections: settings, sections and sorted texts.
-use crate::harness::cases::{Case, SettingsCase, each_holds_again, each_holds_with, table_of};
 use crate::settings::pyproject::{Refused, Sectioned, is_read_so};
 use crate::sort::sorted::Under;
 use isort_settings::{Section, Settings};
 use std::alloc::Global;
 use std::test::Fail;
-
-/// Lines of `[tool.isort]` of a Django project.
-pub(crate) const DJANGO: &str =
-    "sections = [\"FUTURE\", \"STDLIB\", \"Django\", \"THIRDPARTY\"]\nknown_django = [\"django\"]\n";
-
-/// A text that is not sorted under these settings.
-pub(crate) const DJANGO_UNSORTED: &str =
-    "import requests\nimport django.db\nimport os\nfrom . import z\n";
-
-/// The same text, sorted under them.
-pub(crate) const DJANGO_SORTED: &str =
-    "import os\n\nimport django.db\n\nimport requests\n\nfrom . import z\n";
+use test_harness::cases::{Case, SettingsCase, each_holds_again, each_holds_with, table_of};
+use test_harness::texts::{DJANGO, DJANGO_SORTED, DJANGO_UNSORTED};
 
 /// Two own sections before the five, the second of which comes first by its name.
 const TWO: &str =

@@ -2,12 +2,12 @@
 ghost use Rattle.std.specs.Prelude.{◌≡◌, false, true};
 ghost use Rattle.isort_find.specs.Pieces.{IsOpenYet};
 
-use crate::harness::cases::{page, was_refused};
-use crate::harness::told::{tell, tell_binding, tell_error};
+use crate::told::{tell, tell_binding, tell_error};
 use isort_find::{Cursor, FindError, FindOptions, Finder, PieceFinder};
 use py_imports::Binding;
 use std::alloc::Global;
 use std::marker::Model;
+use test_harness::cases::{page, was_refused};
 
 /// More bytes than a text of these tests has.
 const MOST: u64 = 1_000_000;

@@ -1,13 +1,13 @@
 //! Finding the imports of a whole text, and going on from a cursor.
 use crate::find::acts::{begun, resumed, tell_import, tell_place};
-use crate::find::options::{ALL, ATTRIBUTES, MODULES, PACKAGES, TOP, UNIQUE};
-use crate::harness::cases::{Case, all_are_so, each_holds, each_holds_again, page, was_refused};
-use crate::texts::{ALIKE, DECLARED};
 use isort_find::laws::equal_keys;
 use isort_find::{Cursor, FindOptions, Finder, ImportKey, KeyText, ResumeError, key_of};
 use py_imports::Binding;
 use std::alloc::Global;
 use std::test::Fail;
+use test_harness::cases::{Case, all_are_so, each_holds, each_holds_again, page, was_refused};
+use test_harness::options::{ALL, ATTRIBUTES, MODULES, PACKAGES, TOP, UNIQUE};
+use test_harness::texts::{ALIKE, DECLARED};
 
 /// So many answers, each on a line of its own, and where the finder stops after them.
 fn tell_some(alloc: Global, mut finder: Finder<'_>, answers: usize, out: &mut String) -> Cursor {

@@ -2,12 +2,12 @@
 ghost use Rattle.std.specs.Prelude.{◌≤◌, length};
 
 use crate::find::acts::{Act, tell_acts, tells};
-use crate::find::options::{ALL, ATTRIBUTES, MODULES, PACKAGES, TOP, UNIQUE};
-use crate::harness::cases::{Case, all_are_so, each_holds, each_holds_again, was_refused};
-use crate::texts::{ALIKE, DECLARED, brackets, fields};
 use isort_find::FindOptions;
 use std::alloc::Global;
 use std::test::Fail;
+use test_harness::cases::{Case, all_are_so, each_holds, each_holds_again, was_refused};
+use test_harness::options::{ALL, ATTRIBUTES, MODULES, PACKAGES, TOP, UNIQUE};
+use test_harness::texts::{ALIKE, DECLARED, brackets, fields};
 
 /// Whether a finder that is fed the text in one piece tells what a finder of the whole text tells.
 fn tells_of_a_piece_as_of_a_whole(alloc: Global, options: FindOptions, text: &[u8]) -> bool {

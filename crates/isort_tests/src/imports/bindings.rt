@@ -1,12 +1,12 @@
 //! What logical lines bind, and what is said of them and of comments.
-use crate::harness::cases::{Case, each_holds_again};
-use crate::harness::told::tell_binding;
+use crate::told::tell_binding;
 use py_imports::{
     ActionComment, Binding, ImportError, Shape, bindings_of, is_declaration, mark_len, says, shape,
 };
 use py_lines::{Fault, FaultKind, Lines, Unit};
 use std::alloc::Global;
 use std::test::Fail;
+use test_harness::cases::{Case, each_holds_again};
 
 /// Whether a copy of the binding is equal to it.
 fn is_copied(alloc: Global, binding: &Binding) -> bool {

@@ -1,8 +1,8 @@
 //! Logical lines that are passed over without their tokens.
-use crate::harness::cases::{Case, each_holds_again};
 use py_lines::*;
 use std::alloc::Global;
 use std::test::Fail;
+use test_harness::cases::{Case, each_holds_again};
 
 /// Lines after the text's first, the byte before which they have to end, the bytes of each that is passed over, and where the reader
 /// then stands.

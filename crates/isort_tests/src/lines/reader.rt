@@ -1,10 +1,10 @@
 //! The logical lines of a whole text.
-use crate::harness::cases::{Case, each_holds_again, page, was_refused};
-use crate::harness::told::tell;
 use crate::lines::rows::{Lexed, tell_fault, tell_unit};
+use crate::told::tell;
 use py_lines::*;
 use std::alloc::Global;
 use std::test::Fail;
+use test_harness::cases::{Case, each_holds_again, page, was_refused};
 
 /// The next answer of the reader: whether it is a logical line. It is asked for once more where a growth was refused.
 fn tell_next(alloc: Global, told: &mut String, lines: &mut Lines<'_>) -> bool {

@@ -1,11 +1,11 @@
 //! The logical lines of texts, which both readers tell.
-use crate::harness::cases::{Case, all_are_so, each_holds, page};
-use crate::harness::told::tell;
-use crate::texts::brackets;
+use crate::told::tell;
 use py_lines::{LexError, Unit};
 use std::alloc::Global;
 use std::fmt::Write;
 use std::test::Fail;
+use test_harness::cases::{Case, all_are_so, each_holds, page};
+use test_harness::texts::brackets;
 
 /// A text, what is told of it, and the byte and the line that a reader of the whole text reaches. What is told are the
 /// logical lines, each with its kind, byte, line, indentation, length of its line end, and tokens, and then the end or the

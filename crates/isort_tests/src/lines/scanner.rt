@@ -1,13 +1,13 @@
 //! The logical lines of a text in pieces.
 ghost use Rattle.std.specs.Prelude.{◌≡◌, ◌≤◌, true, false, None, IfOk, length};
 
-use crate::harness::cases::{Case, each_holds_again, page, was_refused};
-use crate::harness::told::tell;
 use crate::lines::rows::{Lexed, tell_fault, tell_unit};
+use crate::told::tell;
 use py_lines::*;
 use std::alloc::Global;
 use std::fmt::Write;
 use std::test::Fail;
+use test_harness::cases::{Case, each_holds_again, page, was_refused};
 
 /// More bytes than a text of these tests has.
 const MOST: u64 = 1000;

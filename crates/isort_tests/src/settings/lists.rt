@@ -1,8 +1,8 @@
 //! Lists of modules that are made from a `Vec`, and given back.
-use crate::harness::cases::{all_are_so, are_texts, was_refused};
 use isort_settings::{Modules, OwnLists, Section, Settings, SettingsError};
 use std::alloc::{AllocError, Global};
 use std::test::Fail;
+use test_harness::cases::{all_are_so, are_texts, was_refused};
 
 const TABLE: &[u8] = b"[tool.isort]
 sections = [\"A\", \"B\"]

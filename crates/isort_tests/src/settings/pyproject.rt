@@ -1,13 +1,13 @@
 //! Settings files, settings, sections and orders.
-use crate::harness::cases::{
-    Case, SettingsCase, all_are_so, are_texts, each_holds_again, each_holds_with, is_shown,
-    was_refused,
-};
 use isort_settings::{Modules, Profile, Section, SettingKey, Settings, SettingsError, laws};
 use std::alloc::{AllocError, Global};
 use std::cmp::Ordering;
 use std::cmp::Ordering::{Equal, Greater, Less};
 use std::test::Fail;
+use test_harness::cases::{
+    Case, SettingsCase, all_are_so, are_texts, each_holds_again, each_holds_with, is_shown,
+    refusal, was_refused,
+};
 
 /// Whether the second name comes after the first, and the first is equal to itself.
 fn is_before(settings: &Settings, a: &str, b: &str) -> bool {
@@ -27,15 +27,6 @@ fn ascend(settings: &Settings, names: &[&str]) -> bool {
 }
 
 const BLACK: Option<Profile> = Some(Profile::Black);
-
-/// Why the settings of a text are refused, if they are.
-pub(crate) fn refusal(
-    alloc: Global,
-    text: &[u8],
-    profile: Option<Profile>,
-) -> Option<SettingsError> {
-    Settings::from_pyproject(alloc, text, profile).err()
-}
 
 /// A text, the profile that is handed in, and how the text is refused.
 pub(crate) struct Refused(

@@ -1,8 +1,8 @@
 //! The blocks of a text.
-use crate::harness::cases::{Case, each_holds_again};
 use isort_sort::{Block, blocks};
 use std::alloc::Global;
 use std::test::Fail;
+use test_harness::cases::{Case, each_holds_again};
 
 /// A text and its blocks.
 struct Spans(&'static str, &'static [Block]);

@@ -1,10 +1,10 @@
 //! What a metered reader or writer notes of its calls.
-use crate::harness::cases::{Case, each_holds_again};
-use crate::harness::devices::{Device, Trouble};
-use isort_cmd::{Last, Metered};
+use isort_sort::{Last, Metered};
 use std::alloc::Global;
 use std::io::{ErrorKind, Read, Write};
 use std::test::Fail;
+use test_harness::cases::{Case, each_holds_again};
+use test_harness::devices::{Device, Trouble};
 
 /// Whether a read is offered the whole buffer.
 fn reads_four(alloc: Global) -> bool {

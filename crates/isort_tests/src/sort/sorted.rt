@@ -1,5 +1,4 @@
 //! Sorted texts.
-use crate::harness::cases::{SettingsCase, all_are_so, each_holds_with};
 use crate::settings::pyproject::OWN;
 use crate::sort::sorted_again::{stays, stays_under_each};
 use crate::sort::writing::is_written;
@@ -8,6 +7,7 @@ use isort_sort::{Outcome, SortError, Sorted, blocks, check_code, sort_code, sort
 use py_lines::{Fault, FaultKind};
 use std::alloc::Global;
 use std::test::Fail;
+use test_harness::cases::{SettingsCase, all_are_so, each_holds_with};
 
 /// What sorting a text comes to.
 fn outcome_of(sorted: &Sorted) -> Outcome {

@@ -1,8 +1,8 @@
 //! Sorted texts, sorted again under the same settings: they stay as they are.
-use crate::harness::cases::{SettingsCase, holds_with};
 use isort_settings::Settings;
 use isort_sort::{Sorted, check_code, sort_code};
 use std::alloc::Global;
+use test_harness::cases::{SettingsCase, holds_with};
 
 /// Lines of `[tool.isort]` under which each text is sorted, beside its own: a profile, and each mode with short lines.
 const TABLES: &[&str] = &[

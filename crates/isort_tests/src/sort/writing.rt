@@ -2,14 +2,14 @@
 ghost use Rattle.std.specs.Prelude.{◌≡◌, ◌≤◌, length};
 ghost use Rattle.isort_sort.specs.Metered.{last_of};
 
-use crate::harness::cases::{SettingsCase, each_holds_with};
-use crate::harness::devices::{Device, Trouble};
-use crate::texts::{BROKEN, SKIPPED, SORTED, UNSORTED};
 use isort_settings::Settings;
 use isort_sort::{Last, Metered, Outcome, SortError, sort_to};
 use py_lines::{Fault, FaultKind};
 use std::alloc::Global;
 use std::test::Fail;
+use test_harness::cases::{SettingsCase, each_holds_with};
+use test_harness::devices::{Device, Trouble};
+use test_harness::texts::{BROKEN, SKIPPED, SORTED, UNSORTED};
 
 /// Whether sorting the text to the writer gives this answer, and leaves these bytes in it.
 fn leaves(

@@ -1,14 +1,15 @@
 //! Sorting and checking what a reader has.
-use crate::harness::cases::{SettingsCase, each_holds_with};
-use crate::harness::devices::{Device, Trouble};
-use crate::own_sections::{DJANGO, DJANGO_SORTED, DJANGO_UNSORTED};
-use crate::texts::{BROKEN, SKIPPED, SORTED, UNSORTED};
 use isort_cmd::{Metered, RunError, check_run, sort_run};
 use isort_settings::Settings;
 use isort_sort::Outcome;
 use py_lines::{Fault, FaultKind};
 use std::alloc::Global;
 use std::test::Fail;
+use test_harness::cases::{SettingsCase, each_holds_with};
+use test_harness::devices::{Device, Trouble};
+use test_harness::texts::{
+    BROKEN, DJANGO, DJANGO_SORTED, DJANGO_UNSORTED, SKIPPED, SORTED, UNSORTED,
+};
 
 const WRONG_CLOSE: RunError = RunError::Fault(Fault {
     kind: FaultKind::WrongClose,

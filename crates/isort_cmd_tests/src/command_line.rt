@@ -1,8 +1,8 @@
 //! The words of a command line.
-use crate::harness::cases::{Case, all_are_so, each_holds_again, is_shown, was_refused};
 use isort_cmd::{UsageError, command};
 use std::alloc::Global;
 use std::test::Fail;
+use test_harness::cases::{Case, all_are_so, each_holds_again, is_shown, was_refused};
 
 /// The words of a line, as `command` takes them.
 fn words_of(alloc: Global, line: &str) -> Option<Vec<String>> {

@@ -2,16 +2,16 @@
 ghost use Rattle.std.specs.Prelude.{◌≡◌};
 ghost use Rattle.isort_sort.specs.Metered.{last_of};
 
-use crate::find::options::ALL;
-use crate::harness::cases::{SettingsCase, each_holds_with};
-use crate::harness::devices::{Device, Trouble};
-use crate::texts::{FIRST, FIRST_LINES, SORTED, UNSORTED};
 use isort_cmd::{Last, Metered, RunError, identify, sort_run};
 use isort_settings::Settings;
 use std::alloc::Global;
 use std::io;
 use std::io::{ErrorKind, Read};
 use std::test::Fail;
+use test_harness::cases::{SettingsCase, each_holds_with};
+use test_harness::devices::{Device, Trouble};
+use test_harness::options::ALL;
+use test_harness::texts::{FIRST, FIRST_LINES, SORTED, UNSORTED};
 
 /// What is run.
 #[derive(Clone, Copy)]

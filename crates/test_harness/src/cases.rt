@@ -1,18 +1,18 @@
 //! Tables of cases. What such a test costs lies in the one function that tries a row. The test itself costs a second or two
 //! with some thirty rows, but with a hundred more than a minute: so a large table is cut into several, a test each.
-use isort_settings::Settings;
+use isort_settings::{Profile, Settings, SettingsError};
 use std::alloc::Global;
 use std::fmt::Display;
 use std::test::Fail;
 
 /// A row of a test's table.
-pub(crate) trait Case {
+pub trait Case {
     /// Whether what the row says is so. Where a call fails that has to go well, it isn't.
     fn holds(&self, alloc: Global) -> bool;
 }
 
 /// Every row of the table holds. One that doesn't is told by the name of the table, and by its place from 0 on.
-pub(crate) fn each_holds<C: Case>(alloc: Global, table: &str, cases: &[C]) -> Result<(), Fail> {
+pub fn each_holds<C: Case>(alloc: Global, table: &str, cases: &[C]) -> Result<(), Fail> {
     for (i, case) in cases.iter().enumerate() {
         if !case.holds(alloc) {
             return Err(Fail::new(format_args!("row {i} of {table} does not hold")));
@@ -27,17 +27,13 @@ const ASKED: usize = 65_521;
 /// Whether a growth was refused since this was asked last: only then may a call answer that memory ran out, and is it made
 /// again. `rt ci` refuses none, and grants these bytes. checks/gate/memory refuses each growth in turn, and these bytes once
 /// after it.
-pub(crate) fn was_refused(alloc: Global) -> bool {
+pub fn was_refused(alloc: Global) -> bool {
     String::with_capacity(alloc, ASKED).is_err()
 }
 
 /// Every row holds. One that doesn't is tried once more where a growth was refused: the same calls then have to answer as
 /// with ample memory.
-pub(crate) fn each_holds_again<C: Case>(
-    alloc: Global,
-    table: &str,
-    cases: &[C],
-) -> Result<(), Fail> {
+pub fn each_holds_again<C: Case>(alloc: Global, table: &str, cases: &[C]) -> Result<(), Fail> {
     for (i, case) in cases.iter().enumerate() {
         if !case.holds(alloc) && !(was_refused(alloc) && case.holds(alloc)) {
             return Err(Fail::new(format_args!("row {i} of {table} does not hold")));
@@ -47,7 +43,7 @@ pub(crate) fn each_holds_again<C: Case>(
 }
 
 /// A row of a test's table that is tried under settings.
-pub(crate) trait SettingsCase {
+pub trait SettingsCase {
     /// Lines of `[tool.isort]`, which make the settings: none for those without a profile.
     fn lines(&self) -> &str {
         ""
@@ -58,7 +54,7 @@ pub(crate) trait SettingsCase {
 }
 
 /// A text of settings: these lines of `[tool.isort]`, and more of them.
-pub(crate) fn table_of(alloc: Global, lines: &str, more: &str) -> Option<String> {
+pub fn table_of(alloc: Global, lines: &str, more: &str) -> Option<String> {
     format!(in alloc; "[tool.isort]\n{lines}\n{more}").ok()
 }
 
@@ -69,8 +65,13 @@ fn settings_of(alloc: Global, lines: &str, more: &str) -> Option<Settings> {
     Some(settings)
 }
 
+/// Why the settings of a text are refused, if they are.
+pub fn refusal(alloc: Global, text: &[u8], profile: Option<Profile>) -> Option<SettingsError> {
+    Settings::from_pyproject(alloc, text, profile).err()
+}
+
 /// Whether a row holds with these lines of `[tool.isort]` added to its own.
-pub(crate) fn holds_with<C: SettingsCase>(alloc: Global, more: &str, case: &C) -> bool {
+pub fn holds_with<C: SettingsCase>(alloc: Global, more: &str, case: &C) -> bool {
     match settings_of(alloc, case.lines(), more) {
         Some(settings) => case.holds_under(alloc, &settings),
         None => false,
@@ -78,7 +79,7 @@ pub(crate) fn holds_with<C: SettingsCase>(alloc: Global, more: &str, case: &C) -
 }
 
 /// Every row holds with these lines of `[tool.isort]` added to its own. One that doesn't is tried once more, as above.
-pub(crate) fn each_holds_with<C: SettingsCase>(
+pub fn each_holds_with<C: SettingsCase>(
     alloc: Global,
     table: &str,
     more: &str,
@@ -98,7 +99,7 @@ pub(crate) fn each_holds_with<C: SettingsCase>(
 const ROOM: usize = 8192;
 
 /// An empty text that doesn't grow while a row is told. Its one growth is asked for again if it is refused.
-pub(crate) fn page(alloc: Global) -> String {
+pub fn page(alloc: Global) -> String {
     match String::with_capacity(alloc, ROOM) {
         Ok(page) => page,
         Err(_) => match String::with_capacity(alloc, ROOM) {
@@ -109,7 +110,7 @@ pub(crate) fn page(alloc: Global) -> String {
 }
 
 /// Whether this is how it is shown.
-pub(crate) fn is_shown<E: Display>(alloc: Global, shown: &E, want: &str) -> bool {
+pub fn is_shown<E: Display>(alloc: Global, shown: &E, want: &str) -> bool {
     match format!(in alloc; "{shown}") {
         Ok(text) => text.as_str() == want,
         Err(_) => false,
@@ -117,7 +118,7 @@ pub(crate) fn is_shown<E: Display>(alloc: Global, shown: &E, want: &str) -> bool
 }
 
 /// Each of these is so.
-pub(crate) fn all_are_so(facts: &[bool]) -> Result<(), Fail> {
+pub fn all_are_so(facts: &[bool]) -> Result<(), Fail> {
     for (i, is_so) in facts.iter().enumerate() {
         if !*is_so {
             return Err(Fail::new(format_args!("fact {i} is not so")));
@@ -127,7 +128,7 @@ pub(crate) fn all_are_so(facts: &[bool]) -> Result<(), Fail> {
 }
 
 /// Whether these are the texts.
-pub(crate) fn are_texts(texts: &[String], wanted: &[&str]) -> bool {
+pub fn are_texts(texts: &[String], wanted: &[&str]) -> bool {
     if texts.len() != wanted.len() {
         return false;
     }

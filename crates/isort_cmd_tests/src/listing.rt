@@ -1,13 +1,13 @@
 //! Listing the imports of a reader.
-use crate::find::options::{ALL, ATTRIBUTES, MODULES, PACKAGES, TOP, UNIQUE};
-use crate::harness::cases::{Case, each_holds_again};
-use crate::harness::devices::{Device, Trouble};
-use crate::texts::{ALIKE, DECLARED, FIRST, FIRST_LINES, brackets};
 use isort_cmd::*;
 use py_lines::{Fault, FaultKind as Kind};
 use std::alloc::Global;
 use std::io::ErrorKind;
 use std::test::Fail;
+use test_harness::cases::{Case, each_holds_again};
+use test_harness::devices::{Device, Trouble};
+use test_harness::options::{ALL, ATTRIBUTES, MODULES, PACKAGES, TOP, UNIQUE};
+use test_harness::texts::{ALIKE, DECLARED, FIRST, FIRST_LINES, brackets};
 
 /// How a run ends.
 #[derive(Clone, Copy)]

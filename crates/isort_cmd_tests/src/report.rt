@@ -1,10 +1,10 @@
 //! What is told of a file.
-use crate::harness::cases::{Case, each_holds_again};
 use isort_cmd::{Action, RunError, report};
 use isort_find::FindOptions;
 use isort_sort::Outcome;
 use std::alloc::Global;
 use std::test::Fail;
+use test_harness::cases::{Case, each_holds_again};
 
 const UNSORTED: &str = "ERROR: b.py Imports are incorrectly sorted and/or formatted.\n";
 

@@ -1,9 +1,9 @@
 //! What tests tell of imports and faults, as texts.
-use crate::harness::cases::was_refused;
 use isort_find::FindError;
 use py_imports::{Binding, ImportError};
 use py_lines::Fault;
 use std::alloc::Global;
+use test_harness::cases::was_refused;
 
 /// Adds this. Where memory is refused, it is missing from what is told.
 pub(crate) fn tell(what: &str, out: &mut String) {

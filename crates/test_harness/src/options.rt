@@ -2,37 +2,37 @@
 use isort_find::{FindOptions, ImportKey};
 
 /// All imports.
-pub(crate) const ALL: FindOptions = FindOptions {
+pub const ALL: FindOptions = FindOptions {
     unique: None,
     top_only: false,
 };
 
 /// The imports before the first function or class.
-pub(crate) const TOP: FindOptions = FindOptions {
+pub const TOP: FindOptions = FindOptions {
     unique: None,
     top_only: true,
 };
 
 /// The first import of each package.
-pub(crate) const PACKAGES: FindOptions = FindOptions {
+pub const PACKAGES: FindOptions = FindOptions {
     unique: Some(ImportKey::Package),
     top_only: false,
 };
 
 /// The first import of each module.
-pub(crate) const MODULES: FindOptions = FindOptions {
+pub const MODULES: FindOptions = FindOptions {
     unique: Some(ImportKey::Module),
     top_only: false,
 };
 
 /// The first import of each attribute of a module.
-pub(crate) const ATTRIBUTES: FindOptions = FindOptions {
+pub const ATTRIBUTES: FindOptions = FindOptions {
     unique: Some(ImportKey::Attribute),
     top_only: false,
 };
 
 /// The first of equal imports.
-pub(crate) const UNIQUE: FindOptions = FindOptions {
+pub const UNIQUE: FindOptions = FindOptions {
     unique: Some(ImportKey::Alias),
     top_only: false,
 };

@@ -2,14 +2,14 @@
 ghost use Rattle.std.specs.Prelude.{◌≡◌};
 ghost use Rattle.isort_sort.specs.Metered.{last_of};
 
-use isort_cmd::{Last, Metered};
+use isort_sort::{Last, Metered};
 use std::alloc::Global;
 use std::io;
 use std::io::{ErrorKind, Read, Write};
 
 /// What goes wrong with a device.
 #[derive(Clone, Copy)]
-pub(crate) enum Trouble {
+pub enum Trouble {
     /// Nothing.
     None,
     /// It is interrupted so often before each call.
@@ -28,25 +28,20 @@ pub(crate) enum Trouble {
 
 /// A reader of `left`, and a writer into `taken`, of at most `most` bytes a call.
 #[derive(Drop)]
-pub(crate) struct Device<'t> {
+pub struct Device<'t> {
     left: &'t [u8],
-    pub(crate) taken: Vec<u8>,
+    pub taken: Vec<u8>,
     most: usize,
     trouble: Trouble,
     /// How often it was interrupted since a call went well.
     waited: u16,
     /// How many calls were made.
-    pub(crate) calls: u32,
+    pub calls: u32,
 }
 
 impl<'t> Device<'t> {
     /// A metered device of which nothing was read, and to which nothing was written.
-    pub(crate) fn new(
-        alloc: Global,
-        left: &'t [u8],
-        most: usize,
-        trouble: Trouble,
-    ) -> Metered<Device<'t>>
+    pub fn new(alloc: Global, left: &'t [u8], most: usize, trouble: Trouble) -> Metered<Device<'t>>
         ensures { last_of result ≡ Last.Fine }
     {
         Metered::new(Device {
@@ -60,7 +55,7 @@ impl<'t> Device<'t> {
     }
 
     /// Whether a call came after those that go well.
-    pub(crate) fn has_failed(&self) -> bool {
+    pub fn has_failed(&self) -> bool {
         match self.trouble {
             Trouble::After(sound, _) => sound < self.calls,
             _ => false,
