@@ -1,5 +1,5 @@
 //! Lists of modules that are made from a `Vec`, and given back.
-use isort_settings::{Modules, OwnLists, Section, Settings, SettingsError};
+use isort_settings::{Modules, OwnLists, Section, Settings};
 use std::alloc::{AllocError, Global};
 use std::test::Fail;
 use test_harness::cases::{all_are_so, are_texts, was_refused};
@@ -27,15 +27,26 @@ fn lists_of_table(alloc: Global) -> Result<Vec<Vec<String>>, AllocError> {
     Ok(lists)
 }
 
-/// Whether own lists that are made from a `Vec` are those that are read, and give the `Vec` back.
-fn own_lists(alloc: Global) -> Result<bool, SettingsError> {
-    let (settings, _) = Settings::from_pyproject(alloc, TABLE, None)?;
-    let made = OwnLists::from(lists_of_table(alloc)?);
-    if made != settings.own_lists || OwnLists::from(Vec::new(alloc)) == made {
-        return Ok(false);
+/// The settings of the table.
+fn settings_of_table(alloc: Global) -> Option<Settings> {
+    let (settings, _) = Settings::from_pyproject(alloc, TABLE, None).ok()?;
+    Some(settings)
+}
+
+/// Whether these are the own lists of the table.
+fn are_of_table(lists: &[Vec<String>]) -> bool {
+    match lists {
+        [first, second] => are_texts(first, &["x.y", "x"]) && second.is_empty(),
+        _ => false,
     }
-    let given = made.into_lists();
-    Ok(given.len() == 2 && are_texts(given[0].as_slice(), &["x.y", "x"]) && given[1].is_empty())
+}
+
+/// Whether own lists that are made of the table's are those that were read, and give their `Vec` back.
+fn are_own_lists(alloc: Global, lists: Vec<Vec<String>>, read: &OwnLists) -> bool {
+    let made = OwnLists::from(lists);
+    made == *read
+        && OwnLists::from(Vec::new(alloc)) != made
+        && are_of_table(made.into_lists().as_slice())
 }
 
 /// Whether modules have their sections, with the lists of the table.
@@ -60,27 +71,34 @@ fn gives_back(list: Modules) -> bool {
     }
 }
 
-/// Whether a list that was read gives its `Vec` back.
-fn known_list(alloc: Global) -> Result<bool, SettingsError> {
-    let (settings, _) = Settings::from_pyproject(alloc, TABLE, None)?;
-    Ok(gives_back(settings.known_first_party))
+/// The settings with own lists without an index, and with this list of the first party; and the list that they had.
+fn without_index(mut settings: Settings, listed: Vec<String>) -> (Settings, Modules) {
+    settings.own_lists = OwnLists::from(settings.own_lists.into_lists());
+    let read = settings.known_first_party;
+    settings.known_first_party = Modules::Listed(listed);
+    (settings, read)
 }
 
 /// Whether modules have the same sections by lists with an index and by lists without.
-fn without_index(alloc: Global) -> Result<bool, SettingsError> {
-    let (mut settings, _) = Settings::from_pyproject(alloc, TABLE, None)?;
+fn are_placed_alike(settings: Settings, listed: Vec<String>) -> bool {
     let are_placed_first = are_placed(&settings);
-    settings.own_lists = OwnLists::from(settings.own_lists.into_lists());
-    settings.known_first_party = Modules::Listed(list_of(alloc, &["m.n", "o"])?);
-    Ok(are_placed_first && are_placed(&settings))
+    let (settings, read) = without_index(settings, listed);
+    are_placed_first && are_placed(&settings) && gives_back(read)
+}
+
+/// Whether all lists of the table are given back.
+fn are_given_back(alloc: Global) -> Option<bool> {
+    let lists = lists_of_table(alloc).ok()?;
+    let listed = list_of(alloc, &["m.n", "o"]).ok()?;
+    let settings = settings_of_table(alloc)?;
+    Some(are_own_lists(alloc, lists, &settings.own_lists) && are_placed_alike(settings, listed))
 }
 
 #[test]
 fn lists_from_a_vec_and_back(rt: HostRuntime) -> Result<(), Fail> {
     let alloc = rt.alloc();
     all_are_so(&[
-        own_lists(alloc) == Ok(true) || was_refused(alloc) && own_lists(alloc) == Ok(true),
-        known_list(alloc) == Ok(true) || was_refused(alloc) && known_list(alloc) == Ok(true),
-        without_index(alloc) == Ok(true) || was_refused(alloc) && without_index(alloc) == Ok(true),
+        are_given_back(alloc) == Some(true)
+            || was_refused(alloc) && are_given_back(alloc) == Some(true),
     ])
 }
