@@ -5,5 +5,6 @@ pub mod Widths
 pub mod Writing
 pub mod Packing
 pub mod Framed
-pub mod GroupTexts
+pub mod Cuts
+pub mod Pieces
 pub mod LaidOut

@@ -23,10 +23,11 @@
 -- what its imports bring, and that is what the definitions take. Sorting puts it in order (Orders/SortedVectors,
 -- Groups/Ordered).
 --
--- Layout (proofs/Layouts: Packing, Framed, Writing, GroupTexts, LaidOut): packing from left to right is the cut, and
--- what is written one after another is the layout.
+-- Layout (proofs/Layouts: Packing, Cuts, Framed, Writing, Pieces, LaidOut): packing from left to right is the cut, and
+-- what is written one after another, statement by statement, is the layout.
 --
--- One call: `find_blocks` answers the blocks of a cut (`IsFoundIn`), and `arrange` the layout of each (`IsArranged`).
+-- One call: `find_blocks` answers the blocks of a cut (`IsFoundIn`), and `arrange` the layout of each (`IsArranged`), of which
+-- `text_left` is what `push_next` still has to put.
 -- What `Parts` has handed out is sorted whatever sorts the rest of the cut (`HasMade`; proofs/SortedTexts: Arranging,
 -- Parts), and so the parts with the last of the text are the sorted text (SortedTexts/OfParts, Finding/Spans). Where
 -- `sort_outcome` stops early, there is a sorted text that goes on from the parts so far, since each block has a layout.

@@ -1,19 +1,21 @@
-//! The layout of a block that was found.
-ghost use Rattle.std.specs.Prelude.{◌≡◌, IfOk, string_bytes, if◌then◌else◌};
+//! The layout of a block that was found, statement by statement.
+ghost use Rattle.std.specs.Prelude.{◌≡◌, ◌<◌, ◌++◌, ℕ, List, [], IfOk, OnOk, MatchBool, string_bytes, if◌then◌else◌};
 ghost use Rattle.isort_settings.specs.Values.{values};
-ghost use Rattle.isort_sort.specs.Private.Arranged.{IsArranged};
+ghost use Rattle.isort_sort.specs.Private.Arranged.{pieces_left, text_left, IsArranged, IsCutOff, IsReady};
 ghost use Rattle.isort_sort.specs.Private.Found.{blanks_of};
 ghost use Rattle.isort_sort.specs.Private.FoundValues.{found_value};
 ghost use Rattle.isort_sort.specs.Private.LineEnd.{end_bytes};
 
 use crate::finder::FoundBlock;
-use crate::group::group_members;
-use crate::layout::block_text;
+use crate::group::{Group, group_members};
+use crate::layout::Layout;
 use crate::line_end::LineEnd;
 use crate::row::BlankLines;
 use crate::texts::push_times;
 use isort_settings::Settings;
 use std::alloc::{AllocError, Global};
+use std::mem;
+use std::vec::IntoIter;
 
 /// How many blank lines the settings, or the line after it, ask for after a block (isort documentation,
 /// "lines_after_imports").
@@ -47,19 +49,108 @@ fn blank_lines(settings: &Settings, block: &FoundBlock) -> usize
     }
 }
 
-/// The layout of a block, with the blank lines after it.
-pub(crate) fn arrange(
+/// The layout of a block, with the blank lines after it, of which the text is made statement by statement.
+#[derive(Drop)]
+pub(crate) struct Arrangement<'t> {
+    /// The settings.
+    settings: &'t Settings,
+    /// The line end that is written.
+    end: LineEnd,
+    /// The block's indentation.
+    indentation: String,
+    /// Whether the last statement has a line end.
+    ended: bool,
+    /// The statement whose text was made last, if there is one.
+    before: Option<Group>,
+    /// The statements that are left.
+    groups: IntoIter<Group>,
+    /// How many blank lines are left.
+    blanks: usize,
+}
+
+/// The layout of a block, with the blank lines after it, of which no text is made yet.
+pub(crate) fn arrange<'t>(
     alloc: Global,
-    settings: &Settings,
+    settings: &'t Settings,
     end: LineEnd,
     block: FoundBlock,
-) -> Result<String, AllocError>
-    ensures { IfOk result (λ text. IsArranged (values settings.now) (end_bytes end) (found_value block) (string_bytes text)) }
+) -> Result<Arrangement<'t>, AllocError>
+    ensures arranged { IfOk result (λ arrangement.
+        IsArranged (values settings.now) (end_bytes end) (found_value block) (text_left arrangement)) }
+    ensures ready { IfOk result (λ arrangement. IsReady arrangement) }
 {
     let blanks = blank_lines(settings, &block);
     let groups = group_members(alloc, settings, block.members)?;
-    let indentation = block.indentation.as_str();
-    let mut text = block_text(alloc, settings, indentation, end, block.ended, &groups)?;
-    push_times(&mut text, end.as_str(), blanks)?;
-    Ok(text)
+    Ok(Arrangement {
+        settings,
+        end,
+        indentation: block.indentation,
+        ended: block.ended,
+        before: None,
+        groups: groups.into_iter(),
+        blanks,
+    })
+}
+
+impl Arrangement<'_> {
+    /// Puts the text of the next statement after `out`, with the blank lines before it and the comments above it; after the
+    /// last one, the blank lines after the block. Answers whether there was anything left.
+    fn push_next(&mut self, out: &mut String) -> Result<bool, AllocError>
+        requires { IsReady self.old }
+        ensures ready { OnOk result (IsReady self.new) }
+        ensures piece { OnOk result ((piece : List ℕ) × (string_bytes out.new ≡ string_bytes out.old ++ piece)
+            × (text_left self.old ≡ piece ++ text_left self.new)) }
+        ensures more { IfOk result (λ more. MatchBool more
+            (pieces_left self.new < pieces_left self.old) (text_left self.old ≡ [])) }
+    {
+        let Some(group) = self.groups.next() else {
+            let blanks = mem::replace(&mut self.blanks, 0);
+            push_times(out, self.end.as_str(), blanks)?;
+            return Ok(blanks > 0);
+        };
+        let end = self.end.as_str();
+        let layout = Layout {
+            settings: self.settings,
+            indentation: self.indentation.as_str(),
+            end,
+        };
+        layout.push_next(out, &self.before, &group)?;
+        if !self.ended && self.groups.len() == 0 {
+            out.truncate(out.len().saturating_sub(end.len()));
+        }
+        self.before = Some(group);
+        Ok(true)
+    }
+
+    /// The text of the layout.
+    pub(crate) fn into_text(mut self, alloc: Global) -> Result<String, AllocError>
+        requires { IsReady self }
+        ensures { IfOk result (λ text. string_bytes text ≡ text_left self.entry) }
+    {
+        let mut text = String::new(alloc);
+        'pieces: while self.push_next(&mut text)? {}
+        Ok(text)
+    }
+
+    /// What follows the text of the layout, where the bytes begin with it. It is made statement by statement in `buffer`, and
+    /// no more of it than up to the first statement that differs.
+    pub(crate) fn cut_off<'b>(
+        mut self,
+        buffer: &mut String,
+        bytes: &'b [u8],
+    ) -> Result<Option<&'b [u8]>, AllocError>
+        requires { IsReady self }
+        ensures { IfOk result (λ rest. IsCutOff bytes.now (text_left self.entry) rest) }
+    {
+        let mut left = bytes;
+        buffer.clear();
+        'pieces: while self.push_next(buffer)? {
+            match left.strip_prefix(buffer.as_bytes()) {
+                Some(rest) => left = rest,
+                None => return Ok(None),
+            }
+            buffer.clear();
+        }
+        Ok(Some(left))
+    }
 }

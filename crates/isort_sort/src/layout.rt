@@ -1,22 +1,20 @@
 //! The layout of a block.
-ghost use Rattle.std.specs.Prelude.{◌≡◌, ◌≢◌, ◌++◌, [], IfOk, OnOk, codes, map, max, string_bytes};
-ghost use Rattle.std.specs.List.{AllByRecursion, join_by};
+ghost use Rattle.std.specs.Prelude.{◌≡◌, ◌≢◌, ◌++◌, [], MatchOption, OnOk, codes, map, max, string_bytes};
+ghost use Rattle.std.specs.List.{join_by};
 ghost use Rattle.isort_settings.specs.Values.{values};
-ghost use Rattle.isort_sort.specs.Private.Group.{group_value, IsTextOf};
+ghost use Rattle.isort_sort.specs.Private.Group.{group_value};
 ghost use Rattle.isort_sort.specs.Layout.{gap_by_kind, gap_by_comment};
-ghost use Rattle.isort_sort.specs.Private.LineEnd.{end_bytes};
 ghost use Rattle.isort_sort.specs.Private.Packing.{text_with, HasSection};
 ghost use Rattle.isort_sort.specs.Private.Values.{statement_value};
 
 use crate::group::Group;
-use crate::line_end::LineEnd;
 use crate::statement::{FromItem, Statement};
 use crate::texts::push_times;
 use crate::width::width;
 use crate::wrap_mode::WrapMode;
 use crate::wrapping::{Wrap, bracket_width, push_alias, push_head, push_items, push_remark};
 use isort_settings::Settings;
-use std::alloc::{AllocError, Global};
+use std::alloc::AllocError;
 use std::slice;
 
 /// How many blank lines stand between two statements, by their sections and forms.
@@ -75,19 +73,17 @@ struct Names<'a> {
 
 /// How the statements of a block are laid out.
 #[derive(Clone, Copy)]
-struct Layout<'a> {
+pub(crate) struct Layout<'a> {
     /// The settings.
-    settings: &'a Settings,
+    pub(crate) settings: &'a Settings,
     /// The block's indentation.
-    indentation: &'a str,
+    pub(crate) indentation: &'a str,
     /// What ends every line.
-    end: &'static str,
+    pub(crate) end: &'static str,
 }
 
 impl Layout<'_> {
-    ghost use Rattle.std.specs.Prelude.{replicate};
     ghost use Rattle.std.specs.Option.{option_map};
-    ghost use Rattle.isort_sort.specs.Layout.{block_lines};
     ghost use Rattle.isort_sort.specs.Private.Packing.{
       line_room,
       packed,
@@ -96,7 +92,8 @@ impl Layout<'_> {
       wrapped_text,
       names_text,
       group_text,
-      laid_of,
+      gap_lines,
+      next_lines,
     };
     ghost use Rattle.isort_sort.specs.Statement.{straight, star};
     ghost use Rattle.isort_sort.specs.Private.Values.{item_value};
@@ -394,64 +391,40 @@ impl Layout<'_> {
         }
     }
 
-    /// Puts blank lines after `out`.
-    fn push_blank_lines(&self, out: &mut String, count: u32) -> Result<(), AllocError>
+    /// Puts the blank lines before a statement after `out`; none where there is no statement before it.
+    fn push_gap(
+        &self,
+        out: &mut String,
+        before: &Option<Group>,
+        group: &Group,
+    ) -> Result<(), AllocError>
+        requires before { MatchOption before.now (Unit {0}) (HasSection (values self.now.settings.now)) }
+        requires section { HasSection (values self.now.settings.now) group.now }
         ensures { OnOk result (string_bytes out.new ≡ string_bytes out.old
-            ++ text_with self.now.end.now (replicate count [])) }
+            ++ text_with self.now.end.now (gap_lines (values self.now.settings.now)
+            (option_map group_value before.now) (group_value group.now))) }
     {
-        push_times(out, self.end, count as usize)
-    }
-
-    /// Puts the lines of the groups after `out`, each with a line end.
-    fn push_groups(&self, out: &mut String, groups: &[Group]) -> Result<(), AllocError>
-        requires sections { AllByRecursion (HasSection (values self.now.settings.now)) groups.now }
-        requires items { AllByRecursion (λ g. (group_value g).items ≢ []) groups.now }
-        ensures { OnOk result (string_bytes out.new ≡ string_bytes out.old
-            ++ text_with self.now.end.now (block_lines (values self.now.settings.now)
-            self.now.indentation.now
-            (map (laid_of (values self.now.settings.now) self.now.indentation.now)
-            (map group_value groups.now)))) }
-    {
-        let Some((first, others)) = groups.split_first() else {
-            return Ok(());
-        };
-        self.push_group(out, first)?;
-        let mut before = first;
-        for group in others {
-            self.push_blank_lines(out, gap(self.settings, before, group))?;
-            self.push_group(out, group)?;
-            before = group;
+        match before {
+            Some(before) => push_times(out, self.end, gap(self.settings, before, group) as usize),
+            None => Ok(()),
         }
-        Ok(())
     }
-}
 
-/// The text of a block's statements, each line with the indentation and a line end; the last one without a line end
-/// unless `ended` is set.
-pub(crate) fn block_text(
-    alloc: Global,
-    settings: &Settings,
-    indentation: &str,
-    end: LineEnd,
-    ended: bool,
-    groups: &[Group],
-) -> Result<String, AllocError>
-    requires items { AllByRecursion (λ g. (group_value g).items ≢ []) groups.now }
-    requires sections { AllByRecursion (HasSection (values settings.now)) groups.now }
-    ensures { IfOk result (λ text. IsTextOf (values settings.now) indentation.now (end_bytes end) ended
-        (map group_value groups.now) (string_bytes text)) }
-{
-    let mut text = String::new(alloc);
-    let end = end.as_str();
-    let layout = Layout {
-        settings,
-        indentation,
-        end,
-    };
-    layout.push_groups(&mut text, groups)?;
-    if !ended {
-        let len = text.len().saturating_sub(end.len());
-        text.truncate(len);
+    /// Puts the next statement after `out`, with the blank lines before it and the comments above it.
+    pub(crate) fn push_next(
+        &self,
+        out: &mut String,
+        before: &Option<Group>,
+        group: &Group,
+    ) -> Result<(), AllocError>
+        requires before { MatchOption before.now (Unit {0}) (HasSection (values self.now.settings.now)) }
+        requires section { HasSection (values self.now.settings.now) group.now }
+        requires items { (group_value group.now).items ≢ [] }
+        ensures { OnOk result (string_bytes out.new ≡ string_bytes out.old
+            ++ text_with self.now.end.now (next_lines (values self.now.settings.now)
+            self.now.indentation.now (option_map group_value before.now) (group_value group.now))) }
+    {
+        self.push_gap(out, before, group)?;
+        self.push_group(out, group)
     }
-    Ok(text)
 }

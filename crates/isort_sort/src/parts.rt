@@ -2,11 +2,12 @@
 ghost use Rattle.std.specs.Prelude.{◌≡◌, ◌++◌, ◌≤◌, ℕ, List, [], length, slice_range, IfOk, IfSome};
 ghost use Rattle.std.specs.Str.{IsUtf8};
 ghost use Rattle.isort_settings.specs.Values.{Values, values};
+ghost use Rattle.isort_sort.specs.Private.Arranged.{IsCutOff, IsReady};
 ghost use Rattle.isort_sort.specs.Private.Parts.{part_text, parts_left, HasMade, Makes};
 ghost use Rattle.isort_sort.specs.Private.Reading.{IsFoundIn};
 ghost use Rattle.isort_sort.specs.Sorted.{IsLaidOut};
 
-use crate::arrange::arrange;
+use crate::arrange::{Arrangement, arrange};
 use crate::finder::FoundBlock;
 use crate::line_end::LineEnd;
 use crate::read::FoundText;
@@ -14,13 +15,13 @@ use isort_settings::Settings;
 use std::alloc::{AllocError, Global};
 use std::vec::IntoIter;
 
-/// What a sorted text has up to the end of a block.
+/// What a sorted text has up to the end of a block, of which the text isn't made yet.
 #[derive(Drop)]
-pub(crate) struct SortedPart<'t> {
+pub(crate) struct Part<'t> {
     /// What stays of the text before the block.
     pub(crate) before: &'t [u8],
     /// The layout of the block.
-    pub(crate) layout: String,
+    pub(crate) layout: Arrangement<'t>,
 }
 
 /// The bytes of a text from one place up to another.
@@ -32,15 +33,21 @@ fn between(text: &[u8], start: usize, stop: usize) -> &[u8]
     &text[start..stop]
 }
 
-impl SortedPart<'_> {
-    /// What follows the part, where the bytes begin with it.
-    pub(crate) fn cut_off<'b>(&self, bytes: &'b [u8]) -> Option<&'b [u8]>
-        ensures some { IfSome result (λ rest. bytes.now ≡ part_text self.now ++ rest.now) }
-        ensures none { result ≡ None → (rest : List ℕ) → bytes.now ≡ part_text self.now ++ rest → ⊥ }
+impl Part<'_> {
+    /// What follows the part, where the bytes begin with it. Its layout is made statement by statement in `buffer`, and no more
+    /// of it than up to the first statement that differs.
+    pub(crate) fn cut_off<'b>(
+        self,
+        buffer: &mut String,
+        bytes: &'b [u8],
+    ) -> Result<Option<&'b [u8]>, AllocError>
+        requires { IsReady self.layout }
+        ensures { IfOk result (λ rest. IsCutOff bytes.now (part_text self.entry) rest) }
     {
-        bytes
-            .strip_prefix(self.before)?
-            .strip_prefix(self.layout.as_bytes())
+        match bytes.strip_prefix(self.before) {
+            Some(rest) => self.layout.cut_off(buffer, rest),
+            None => Ok(None),
+        }
     }
 }
 
@@ -75,9 +82,10 @@ impl<'t> Parts<'t> {
     }
 
     /// The part up to the end of the next block; none where no block is left.
-    pub(crate) fn next(&mut self, alloc: Global) -> Result<Option<SortedPart<'t>>, AllocError>
+    pub(crate) fn next(&mut self, alloc: Global) -> Result<Option<Part<'t>>, AllocError>
         requires { (text : List ℕ) × (v : Values) × (out : List ℕ) × HasMade text v self.old out }
-        ensures { IfOk result (λ part. Makes self.old part self.new) }
+        ensures makes { IfOk result (λ part. Makes self.old part self.new) }
+        ensures ready { IfOk result (λ part. IfSome part (λ p. IsReady p.layout)) }
     {
         let Some(block) = self.blocks.next() else {
             return Ok(None);
@@ -85,7 +93,7 @@ impl<'t> Parts<'t> {
         let before = between(self.text, self.at, block.start);
         self.at = block.stop;
         let layout = arrange(alloc, self.settings, self.end, block)?;
-        Ok(Some(SortedPart { before, layout }))
+        Ok(Some(Part { before, layout }))
     }
 
     /// What stays of the text after the last block.

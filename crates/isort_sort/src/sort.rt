@@ -76,8 +76,8 @@ pub fn sort_code(alloc: Global, text: &[u8], settings: &Settings) -> Result<Sort
     })
 }
 
-/// What sorting the text comes to, without the sorted text. It stops at the first block that isn't sorted, and makes no text
-/// of its own.
+/// What sorting the text comes to, without the sorted text. It makes the text of one statement at a time, and stops at the
+/// first that isn't there.
 ///
 /// The errors are those of `sort_code`.
 pub fn sort_outcome(alloc: Global, text: &[u8], settings: &Settings) -> Result<Outcome, SortError>
@@ -89,9 +89,10 @@ pub fn sort_outcome(alloc: Global, text: &[u8], settings: &Settings) -> Result<O
         return Ok(Outcome::Skipped);
     };
     let mut parts = Parts::new(text, settings, found);
+    let mut buffer = String::new(alloc);
     let mut left = text;
     'parts: while let Some(part) = parts.next(alloc)? {
-        match part.cut_off(left) {
+        match part.cut_off(&mut buffer, left)? {
             Some(rest) => left = rest,
             None => return Ok(Outcome::Changed),
         }

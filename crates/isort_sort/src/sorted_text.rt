@@ -4,7 +4,8 @@ ghost use Rattle.std.specs.Io.KnownBytes.{Appends};
 ghost use Rattle.std.specs.Str.{IsUtf8};
 ghost use Rattle.isort_settings.specs.Values.{values};
 ghost use Rattle.isort_sort.specs.Metered.{inner_of, last_of, IsGivenUp};
-ghost use Rattle.isort_sort.specs.Private.Parts.{sorted_bytes, AreTexts};
+ghost use Rattle.isort_sort.specs.Private.Arranged.{IsCutOff, IsReady};
+ghost use Rattle.isort_sort.specs.Private.Parts.{part_text, sorted_bytes, sorted_part_text, AreTexts};
 ghost use Rattle.isort_sort.specs.Private.Reading.{IsFoundIn};
 ghost use Rattle.isort_sort.specs.Sorted.{IsLaidOut};
 ghost use Rattle.isort_sort.specs.Written.{AppendsPrefix};
@@ -12,13 +13,45 @@ ghost use Rattle.isort_sort.specs.Written.{AppendsPrefix};
 use crate::answer::SortError;
 use crate::finder::FoundBlock;
 use crate::metered::{Last, Metered};
-use crate::parts::{Parts, SortedPart};
+use crate::parts::{Part, Parts};
 use crate::read::FoundText;
 use crate::write::write_whole;
 use isort_settings::Settings;
 use std::alloc::{AllocError, Global};
 use std::io::Write;
 use std::str;
+
+/// What a sorted text has up to the end of a block.
+#[derive(Drop)]
+pub(crate) struct SortedPart<'t> {
+    /// What stays of the text before the block.
+    before: &'t [u8],
+    /// The layout of the block.
+    layout: String,
+}
+
+impl<'t> SortedPart<'t> {
+    /// The part, with the text of its layout.
+    fn new(alloc: Global, part: Part<'t>) -> Result<SortedPart<'t>, AllocError>
+        requires { IsReady part.layout }
+        ensures text { IfOk result (λ sorted. sorted_part_text sorted ≡ part_text part.entry) }
+        ensures before { IfOk result (λ sorted. sorted.before.now ≡ part.entry.before.now) }
+    {
+        Ok(SortedPart {
+            before: part.before,
+            layout: part.layout.into_text(alloc)?,
+        })
+    }
+
+    /// What follows the part, where the bytes begin with it.
+    fn cut_off<'b>(&self, bytes: &'b [u8]) -> Option<&'b [u8]>
+        ensures { IsCutOff bytes.now (sorted_part_text self.now) result }
+    {
+        bytes
+            .strip_prefix(self.before)?
+            .strip_prefix(self.layout.as_bytes())
+    }
+}
 
 /// A sorted text: its parts, and what stays of the text after the last of them.
 #[derive(Drop)]
@@ -45,7 +78,8 @@ impl<'t> SortedText<'t> {
         let mut made = Parts::new(text, settings, blocks);
         let mut parts = Vec::new(alloc);
         'parts: while let Some(part) = made.next(alloc)? {
-            parts.push(part)?;
+            let sorted = SortedPart::new(alloc, part)?;
+            parts.push(sorted)?;
         }
         Ok(SortedText {
             parts,

@@ -1,21 +1,20 @@
 -- A sorted text in parts is the text of its parts.
-use Rattle.std.proofs.Common.{◌≡◌, ◌≢◌, ◌⊎◌, inl, inr, ℕ, ◌+◌, ◌<◌, ◌≤◌, Bool, true, false, MatchBool, Option, None, Some, MatchOption, IfSome, Result, Ok, Err, OnErr, List, [], ◌∷◌, ◌++◌, length, take, drop, get_or, flat_map, sym, ap, ◌∙◌, append_assoc, append-nil, Bor}
+use Rattle.std.proofs.Common.{◌≡◌, ◌≢◌, ◌⊎◌, inl, inr, ℕ, ◌+◌, ◌<◌, ◌≤◌, Bool, true, false, MatchBool, Option, Result, Ok, Err, OnErr, List, [], ◌∷◌, ◌++◌, length, drop, get_or, flat_map, sym, ap, ◌∙◌, append_assoc, append-nil}
 use Rattle.std.specs.Cmp.Lexicographic.{bytes_decides, pointwise}
 use Rattle.std.specs.Io.KnownBytes.{Appends}
 use Rattle.std.specs.Str.{IsUtf8}
 use Rattle.std.proofs.KnownBytes.{Appends-trans}
 use Rattle.std.proofs.Math.Dec.{eqb}
-use Rattle.std.proofs.Math.Seq.{take-append_seam}
-use Rattle.std.proofs.lemmas.List.{append_cancel_left, drop_all, drop_more, take-append-drop}
+use Rattle.std.proofs.lemmas.List.{append_cancel_left, drop_all, drop_more}
 use Rattle.std.proofs.lemmas.List.Concat.{flat_map-append}
 use Rattle.isort_settings.specs.Values.{Values}
-use Rattle.isort_sort.specs.Private.Parts.{part_text, AreTexts, HasMade}
+use Rattle.isort_sort.specs.Private.Parts.{sorted_part_text, AreTexts, HasMade}
 use Rattle.isort_sort.specs.Answers.{Checks, IsSortedAs, TellsOutcome}
 use Rattle.isort_sort.specs.declared.answer.Outcome.{Outcome}
 use Rattle.isort_sort.specs.declared.answer.Outcome.TheVariants as outcome
 use Rattle.isort_sort.specs.Written.{AppendsPrefix}
 use Rattle.isort_sort.specs.declared.answer.SortError.{SortError}
-use Rattle.isort_sort.specs.declared.parts.SortedPart.{SortedPart}
+use Rattle.isort_sort.specs.declared.sorted_text.SortedPart.{SortedPart}
 use Rattle.isort_sort.specs.declared.parts.Parts.{Parts}
 use Rattle.isort_sort.proofs.SortedTexts.Parts.{goes_on_sorted}
 use Rattle.isort_sort.proofs.Orders.Statements.{AreOrders}
@@ -24,42 +23,21 @@ pub texts_snoc : (parts : List SortedPart) (part : SortedPart) → AreTexts part
 texts_snoc [] part h is = (is, tt)
 texts_snoc (p ∷ parts) part h is = (h.0, texts_snoc parts part h.1 is)
 
-pub bytes_snoc : (parts : List SortedPart) (part : SortedPart) → flat_map part_text (parts ++ part ∷ []) ≡ flat_map part_text parts ++ part_text part
-bytes_snoc parts part = flat_map-append part_text parts (part ∷ []) ∙ ap (λ (t : List ℕ). flat_map part_text parts ++ t) (append-nil (part_text part))
+pub bytes_snoc : (parts : List SortedPart) (part : SortedPart) → flat_map sorted_part_text (parts ++ part ∷ []) ≡ flat_map sorted_part_text parts ++ sorted_part_text part
+bytes_snoc parts part = flat_map-append sorted_part_text parts (part ∷ []) ∙ ap (λ (t : List ℕ). flat_map sorted_part_text parts ++ t) (append-nil (sorted_part_text part))
 
 -- the bytes from a part on
-pub bytes_from : (sorted done rest : List ℕ) (parts : List SortedPart) (i : ℕ) (part : SortedPart) → sorted ≡ done ++ (flat_map part_text (drop i parts) ++ rest) → i < length parts → part ≡ get_or parts i part → sorted ≡ done ++ (part_text part ++ (flat_map part_text (drop (i + 1) parts) ++ rest))
+pub bytes_from : (sorted done rest : List ℕ) (parts : List SortedPart) (i : ℕ) (part : SortedPart) → sorted ≡ done ++ (flat_map sorted_part_text (drop i parts) ++ rest) → i < length parts → part ≡ get_or parts i part → sorted ≡ done ++ (sorted_part_text part ++ (flat_map sorted_part_text (drop (i + 1) parts) ++ rest))
 bytes_from sorted done rest parts i part is within at =
-    let next : flat_map part_text (drop i parts) ≡ part_text part ++ flat_map part_text (drop (i + 1) parts) =
-    ap (flat_map part_text) (drop_more parts i part within) ∙ ap (λ (p : SortedPart). part_text p ++ flat_map part_text (drop (i + 1) parts)) (sym at) in
-    is ∙ ap (λ (t : List ℕ). done ++ (t ++ rest)) next ∙ ap (λ (t : List ℕ). done ++ t) (append_assoc (part_text part) (flat_map part_text (drop (i + 1) parts)) rest)
+    let next : flat_map sorted_part_text (drop i parts) ≡ sorted_part_text part ++ flat_map sorted_part_text (drop (i + 1) parts) =
+    ap (flat_map sorted_part_text) (drop_more parts i part within) ∙ ap (λ (p : SortedPart). sorted_part_text p ++ flat_map sorted_part_text (drop (i + 1) parts)) (sym at) in
+    is ∙ ap (λ (t : List ℕ). done ++ (t ++ rest)) next ∙ ap (λ (t : List ℕ). done ++ t) (append_assoc (sorted_part_text part) (flat_map sorted_part_text (drop (i + 1) parts)) rest)
 
-pub bytes_last : (sorted done rest : List ℕ) (parts : List SortedPart) (i : ℕ) → sorted ≡ done ++ (flat_map part_text (drop i parts) ++ rest) → length parts ≤ i → sorted ≡ done ++ rest
-bytes_last sorted done rest parts i is past = is ∙ ap (λ (l : List SortedPart). done ++ (flat_map part_text l ++ rest)) (drop_all i parts past)
+pub bytes_last : (sorted done rest : List ℕ) (parts : List SortedPart) (i : ℕ) → sorted ≡ done ++ (flat_map sorted_part_text (drop i parts) ++ rest) → length parts ≤ i → sorted ≡ done ++ rest
+bytes_last sorted done rest parts i is past = is ∙ ap (λ (l : List SortedPart). done ++ (flat_map sorted_part_text l ++ rest)) (drop_all i parts past)
 
 pub regrouped : (all done part more : List ℕ) → all ≡ done ++ (part ++ more) → all ≡ (done ++ part) ++ more
 regrouped all done part more is = is ∙ sym (append_assoc done part more)
-
--- what follows a prefix
-stripped : (bytes prefix rest : List ℕ) → pointwise eqb (take (length prefix) bytes) prefix ≡ true → rest ≡ drop (length prefix) bytes → bytes ≡ prefix ++ rest
-stripped bytes prefix rest same is = sym (take-append-drop (length prefix) bytes) ∙ ap (λ (t : List ℕ). t ++ drop (length prefix) bytes) ((bytes_decides _ _).0 same) ∙ ap (λ (t : List ℕ). prefix ++ t) (sym is)
-
-pub unstripped : (bytes prefix rest : List ℕ) → pointwise eqb (take (length prefix) bytes) prefix ≡ false → bytes ≡ prefix ++ rest → ⊥
-unstripped bytes prefix rest other is =
-    let same : pointwise eqb (take (length prefix) bytes) prefix ≡ true = (bytes_decides _ _).1 (ap (take (length prefix)) is ∙ take-append_seam prefix rest) in
-    cc
-
--- whether bytes begin with a prefix, and what follows it
-abbrev pub Strips : List ℕ → List ℕ → Option (Bor (List ℕ)) → Type 0
-Strips bytes prefix r = MatchOption r (pointwise eqb (take (length prefix) bytes) prefix ≡ false) (λ x. (pointwise eqb (take (length prefix) bytes) prefix ≡ true) × (x.now ≡ drop (length prefix) bytes) × (length x.now + length prefix ≡ length bytes))
-
-pub strips_part : (bytes before mid layout : List ℕ) (r : Option (Bor (List ℕ))) → pointwise eqb (take (length before) bytes) before ≡ true → mid ≡ drop (length before) bytes → Strips mid layout r → IfSome r (λ rest. bytes ≡ (before ++ layout) ++ rest.now)
-strips_part bytes before mid layout None same is h = tt
-strips_part bytes before mid layout (Some x) same is h = stripped bytes before mid same is ∙ ap (λ (t : List ℕ). before ++ t) (stripped mid layout x.now h.0 h.1) ∙ sym (append_assoc before layout x.now)
-
-pub strips_no_part : (bytes before mid layout : List ℕ) (r : Option (Bor (List ℕ))) → pointwise eqb (take (length before) bytes) before ≡ true → mid ≡ drop (length before) bytes → Strips mid layout r → r ≡ None → (rest : List ℕ) → bytes ≡ (before ++ layout) ++ rest → ⊥
-strips_no_part bytes before mid layout None same is h none rest begins = unstripped mid layout rest h (append_cancel_left before mid (layout ++ rest) (sym (stripped bytes before mid same is) ∙ begins ∙ append_assoc before layout rest))
-strips_no_part bytes before mid layout (Some x) same is h none rest begins = cc
 
 -- a text that begins as the sorted text does, and goes on in another way, is another text
 pub differs : (text sorted done left rest : List ℕ) → text ≡ done ++ left → sorted ≡ done ++ rest → (left ≡ rest → ⊥) → sorted ≢ text

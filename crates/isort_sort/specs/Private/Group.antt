@@ -1,14 +1,12 @@
 -- The statements of a block with what each takes from the members, before they are cut into lines.
-use Rattle.std.specs.Prelude.{◌≡◌, ℕ, Bool, None, List, [], ◌∷◌, map, codes, string_bytes}
+use Rattle.std.specs.Prelude.{◌≡◌, ℕ, None, List, [], ◌∷◌, map, codes, string_bytes}
 use Rattle.std.specs.List.{AllByRecursion}
 use Rattle.py_imports.specs.Grammar.{Item}
 use Rattle.isort_settings.specs.Values.{Values}
 use Rattle.isort_settings.specs.declared.section.Section.{Section}
-use Rattle.isort_sort.specs.Layout.{Laid, block_lines, text_of_lines}
 use Rattle.isort_sort.specs.Member.{Member, AreStatements, AreItemsOf, comments_of, above_of}
-use Rattle.isort_sort.specs.Statement.{Statement, straight, star, names, single, module_of, section_of, rank_of}
+use Rattle.isort_sort.specs.Statement.{Statement, straight, star, names, single, section_of, rank_of}
 use Rattle.isort_sort.specs.Private.Values.{item_value, statement_value}
-use Rattle.isort_sort.specs.Wrapping.{IsCut, fits_line}
 use Rattle.isort_sort.specs.declared.group.Group as code
 
 -- a statement with its section and that section's rank, its items in order, the comments that it joins, and those above it
@@ -50,21 +48,3 @@ pub record IsGrouped (v : Values) (members : List Member) (g : Group) : Type 0 w
 pub record AreGrouped (v : Values) (members : List Member) (groups : List Group) : Type 0 where
   pub statements : AreStatements v members (map (λ g. g.statement) groups)
   pub each : AllByRecursion (IsGrouped v members) groups
-
--- how a group is laid out: some cut of its items into lines, and all else as it is
-pub record LaysOut (v : Values) (indentation : List ℕ) (g : Group) (s : Laid) : Type 0 where
-  pub statement : s.statement ≡ g.statement
-  pub items : s.items ≡ g.items
-  pub cut : IsCut (fits_line v indentation (module_of g.statement)) g.items s.cut
-  pub comments : s.comments ≡ g.comments
-  pub above : s.above ≡ g.above
-
-abbrev pub LayOut : Values → List ℕ → List Group → List Laid → Type 0
-LayOut v indentation [] laid = laid ≡ []
-LayOut v indentation (g ∷ gs) laid =
-    (s : Laid) × (others : List Laid) × (laid ≡ s ∷ others) × LaysOut v indentation g s × LayOut v indentation gs others
-
--- the text of groups that are laid out, with these line ends
-abbrev pub IsTextOf : Values → List ℕ → List ℕ → Bool → List Group → List ℕ → Type 0
-IsTextOf v indentation end ended groups text =
-    (laid : List Laid) × LayOut v indentation groups laid × (text ≡ text_of_lines end ended 0 (block_lines v indentation laid))

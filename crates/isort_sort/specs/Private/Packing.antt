@@ -1,11 +1,11 @@
 -- How the program cuts items into lines, and the text that it writes.
 use Rattle.std.specs.Prelude.{◌≡◌, ℕ, ◌+◌, ◌-◌, ◌==◌, Bool, not, ◌&&◌, ◌||◌, List, []}
-use Rattle.std.specs.Prelude.{◌∷◌, ◌++◌, map, flat_map, length, if◌then◌else◌, nat_le}
+use Rattle.std.specs.Prelude.{◌∷◌, ◌++◌, Option, None, Some, map, flat_map, length, if◌then◌else◌, max, nat_le, replicate}
 use Rattle.py_imports.specs.Grammar.{Item}
 use Rattle.isort_settings.specs.Values.{Values}
 use Rattle.isort_sort.specs.Private.Group.{Group}
 use Rattle.isort_sort.specs.declared.group.Group as code
-use Rattle.isort_sort.specs.Layout.{Laid, own_lines}
+use Rattle.isort_sort.specs.Layout.{Laid, gap_by_kind, gap_by_comment, own_lines, lines_after, block_lines}
 use Rattle.isort_sort.specs.Statement.{module_of, section_of}
 use Rattle.isort_sort.specs.Private.Values.{statement_value}
 use Rattle.isort_sort.specs.Width.{width}
@@ -64,6 +64,21 @@ names_text v indentation end m comments items =
 -- a group
 abbrev pub group_text : Values → List ℕ → List ℕ → Group → List ℕ
 group_text v indentation end g = text_with end (own_lines v indentation (laid_of v indentation g))
+
+-- the blank lines between a group and the one before it, if there is one
+abbrev pub gap_lines : Values → Option Group → Group → List (List ℕ)
+gap_lines v None g = []
+gap_lines v (Some before) g = replicate (max (gap_by_kind v before.statement g.statement) (gap_by_comment v g.above)) []
+
+-- the lines of a group after the one before it
+abbrev pub next_lines : Values → List ℕ → Option Group → Group → List (List ℕ)
+next_lines v indentation before g = gap_lines v before g ++ own_lines v indentation (laid_of v indentation g)
+
+-- the lines of the groups that are left, after the group before them, if there is one
+abbrev pub lines_left : Values → List ℕ → Option Group → List Group → List (List ℕ)
+lines_left v indentation None groups = block_lines v indentation (map (laid_of v indentation) groups)
+lines_left v indentation (Some before) groups =
+    lines_after v indentation (laid_of v indentation before) (map (laid_of v indentation) groups)
 
 -- the group's section is that of its statement
 abbrev pub HasSection : Values → code.Group → Type 0

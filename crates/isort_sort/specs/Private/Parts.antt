@@ -4,19 +4,24 @@ use Rattle.std.specs.Prelude.{slice_range, string_bytes, Option, None, Some}
 use Rattle.std.specs.Str.{IsUtf8}
 use Rattle.py_lines.specs.LogicalLine.{LogicalLine}
 use Rattle.isort_settings.specs.Values.{Values, values}
+use Rattle.isort_sort.specs.Private.Arranged.{text_left}
 use Rattle.isort_sort.specs.Private.Arranging.{IsArranging}
 use Rattle.isort_sort.specs.Blocks.{Cut}
 use Rattle.isort_sort.specs.Private.Found.{Found}
 use Rattle.isort_sort.specs.Private.FoundValues.{found_value}
 use Rattle.isort_sort.specs.Private.LineEnd.{end_bytes}
 use Rattle.isort_sort.specs.Sorted.{first_end, mark_of, HasBlocks}
-use Rattle.isort_sort.specs.declared.parts.SortedPart.{SortedPart}
+use Rattle.isort_sort.specs.declared.parts.Part.{Part}
 use Rattle.isort_sort.specs.declared.parts.Parts.{Parts}
+use Rattle.isort_sort.specs.declared.sorted_text.SortedPart.{SortedPart}
 use Rattle.isort_sort.specs.declared.sorted_text.SortedText.{SortedText}
 
--- the bytes of a part
-abbrev pub part_text : SortedPart → List ℕ
-part_text p = p.before.now ++ string_bytes p.layout
+-- the bytes of a part, and of one whose text isn't made yet
+abbrev pub sorted_part_text : SortedPart → List ℕ
+sorted_part_text p = p.before.now ++ string_bytes p.layout
+
+abbrev pub part_text : Part → List ℕ
+part_text p = p.before.now ++ text_left p.layout
 
 -- the blocks that are left
 abbrev pub parts_left : Parts → List Found
@@ -24,7 +29,7 @@ parts_left p = map found_value p.blocks.rest.items
 
 -- the bytes of a sorted text
 abbrev pub sorted_bytes : SortedText → List ℕ
-sorted_bytes s = flat_map part_text s.parts.items ++ s.rest.now
+sorted_bytes s = flat_map sorted_part_text s.parts.items ++ s.rest.now
 
 -- what stays of the text is UTF-8
 abbrev pub AreTexts : List SortedPart → Type 0
@@ -47,7 +52,7 @@ pub record HasMade (text : List ℕ) (v : Values) (p : Parts) (out : List ℕ) :
   pub arranging : IsArranging text v (first_end text) (mark_of lines) cut (parts_left p) at (out ++ slice_range text p.at at)
 
 -- the next part, after which the parts have made it too, and fewer blocks are left; none where no block is left
-abbrev pub Makes : Parts → Option SortedPart → Parts → Type 0
+abbrev pub Makes : Parts → Option Part → Parts → Type 0
 Makes old None new =
     (parts_left new ≡ [])
     × ((text : List ℕ) (v : Values) (out : List ℕ) → HasMade text v old out → HasMade text v new out)

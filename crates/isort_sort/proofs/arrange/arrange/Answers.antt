@@ -1,18 +1,32 @@
+use Rattle.std.proofs.Common.{◌≢◌, [], cond, map, ap, ◌∙◌, sym, subst}
+use Rattle.std.specs.List.{AllByRecursion}
 use Rattle.isort_settings.specs.Values.{values}
-use Rattle.std.proofs.Common.{ℕ, List, ◌++◌, flat_map, replicate, string_bytes, ap, ◌∙◌}
+use Rattle.isort_sort.specs.Layout.{block_lines, text_of_lines}
+use Rattle.isort_sort.specs.Private.Arranged.{IsArranged}
+use Rattle.isort_sort.specs.Private.Found.{blanks_of}
 use Rattle.isort_sort.specs.Private.FoundValues.{found_value}
+use Rattle.isort_sort.specs.Private.Group.{group_value}
 use Rattle.isort_sort.specs.Private.LineEnd.{end_bytes}
-use Rattle.isort_sort.proofs.Layouts.LaidOut.{sections_right, arranged}
+use Rattle.isort_sort.specs.Private.Packing.{laid_of, HasSection}
 use Rattle.isort_sort.proofs.Groups.Named.{groups_have_items}
+use Rattle.isort_sort.proofs.Layouts.LaidOut.{sections_right, arranged}
 use Rattle.isort_sort.proofs.arrange.arrange.Goals as goal
 
-pub block_text-requires : goal.block_text-requires
-block_text-requires c = rw c.deref.ensures.value (record { items = groups_have_items _ _ _ c.in_ok-groups.ensures; sections = sections_right _ _ _ c.in_ok-groups.ensures.each })
-
-pub returns : goal.returns
-returns c =
+pub returns-clause-arranged : goal.returns-clause-arranged
+returns-clause-arranged c =
+    let v = values c.args.settings.now in
     let end = end_bytes c.args.end in
-    let written = string_bytes c.in_ok-text.text in
-    let blanks = c.blank_lines-blanks.result in
-    let is = c.in_ok-push_times.ensures ∙ ap (λ e. written ++ flat_map (λ (t : List ℕ). t) (replicate blanks e)) c.as_str.ensures in
-    arranged (values c.args.settings.now) end (found_value c.args.block) c.in_ok-groups.groups.items _ _ _ written (string_bytes c.push_times.new.out) c.in_ok-groups.ensures c.deref.ensures.value c.as_str-indentation.ensures.value c.in_ok-text.ensures c.blank_lines-blanks.ensures is
+    let f = found_value c.args.block in
+    subst (λ gs. IsArranged v end f (text_of_lines end f.ended c.blank_lines-blanks.result (block_lines v f.indentation (map (laid_of v f.indentation) (map group_value gs)))))
+    (sym c.into_iter.ensures.rest) (arranged v end f (map group_value c.in_ok-groups.groups.items) c.blank_lines-blanks.result c.in_ok-groups.ensures c.blank_lines-blanks.ensures)
+
+pub returns-clause-ready : goal.returns-clause-ready
+returns-clause-ready c =
+    let v = values c.args.settings.now in
+    let grouped = c.in_ok-groups.ensures in
+    record {
+      before = tt;
+      sections = subst (AllByRecursion (HasSection v)) (sym c.into_iter.ensures.rest) (sections_right v _ _ grouped.each);
+      items = subst (AllByRecursion (λ g. (group_value g).items ≢ [])) (sym c.into_iter.ensures.rest) (groups_have_items v _ _ grouped);
+      blanks = λ none. c.blank_lines-blanks.ensures ∙ ap (λ b. cond b (blanks_of v (found_value c.args.block)) 0) none;
+    }

@@ -1,5 +1,5 @@
-use Rattle.std.proofs.Common.{◌++◌, ◌∙◌, ap, refl, flat_map, drop, ◌+◌, List, ℕ}
-use Rattle.isort_sort.specs.Private.Parts.{part_text, sorted_bytes}
+use Rattle.std.proofs.Common.{◌++◌, ◌∙◌, ap, flat_map, drop, ◌+◌, List, ℕ}
+use Rattle.isort_sort.specs.Private.Parts.{sorted_part_text, sorted_bytes}
 use Rattle.isort_sort.proofs.SortedTexts.OfParts.{bytes_from, bytes_last, regrouped, differs, same_or_not}
 use Rattle.isort_sort.proofs.sorted_text.SortedText.is.Goals as goal
 
@@ -7,20 +7,20 @@ pub returns-in-None : goal.returns-in-None
 returns-in-None c =
     let i = c.parts.invariant in
     let items = c.deref-part-items.result.now in
-    let rest = flat_map part_text (drop (c.parts.part-index + 1) items) ++ c.args.self.now.rest.now in
-    differs c.args.text.now (sorted_bytes c.args.self.now) i.done c.parts.left.now (part_text c.part-item.result ++ rest) i.text
+    let rest = flat_map sorted_part_text (drop (c.parts.part-index + 1) items) ++ c.args.self.now.rest.now in
+    differs c.args.text.now (sorted_bytes c.args.self.now) i.done c.parts.left.now (sorted_part_text c.part-item.result ++ rest) i.text
     (bytes_from (sorted_bytes c.args.self.now) i.done c.args.self.now.rest.now items c.parts.part-index c.part-item.result i.sorted c.parts-test.true c.part-item.is)
-    (c.in-None.ensures.none refl rest)
+    (c.in-None.ensures rest)
 
 pub parts-preserved : goal.parts-preserved
 parts-preserved c =
     let i = c.parts.invariant in
     let items = c.deref-part-items.result.now in
-    let part = part_text c.part-item.result in
+    let part = sorted_part_text c.part-item.result in
     record {
       done = i.done ++ part;
-      text = regrouped c.args.text.now i.done part c.in-Some.rest.now (i.text ∙ ap (λ (t : List ℕ). i.done ++ t) c.in-Some.ensures.some);
-      sorted = regrouped (sorted_bytes c.args.self.now) i.done part (flat_map part_text (drop (c.parts.part-index + 1) items) ++ c.args.self.now.rest.now)
+      text = regrouped c.args.text.now i.done part c.in-Some.rest.now (i.text ∙ ap (λ (t : List ℕ). i.done ++ t) c.in-Some.ensures);
+      sorted = regrouped (sorted_bytes c.args.self.now) i.done part (flat_map sorted_part_text (drop (c.parts.part-index + 1) items) ++ c.args.self.now.rest.now)
           (bytes_from (sorted_bytes c.args.self.now) i.done c.args.self.now.rest.now items c.parts.part-index c.part-item.result i.sorted c.parts-test.true c.part-item.is);
     }
 

@@ -1,7 +1,7 @@
 use Rattle.std.proofs.Common.{Result, Ok, Err, OnOk, [], ◌++◌, ◌∙◌, ◌+◌, ap, sym, subst, flat_map, drop, List, ℕ, append-nil, append_assoc, string_bytes}
 use Rattle.std.specs.Io.KnownBytes.{Appends}
 use Rattle.std.proofs.KnownBytes.{Appends-trans}
-use Rattle.isort_sort.specs.Private.Parts.{part_text, sorted_bytes}
+use Rattle.isort_sort.specs.Private.Parts.{sorted_part_text, sorted_bytes}
 use Rattle.isort_sort.specs.Written.{AppendsPrefix}
 use Rattle.isort_sort.proofs.SortedTexts.OfParts.{bytes_from, bytes_last, regrouped, appends_front, on_err, on_err_map}
 use Rattle.isort_sort.proofs.sorted_text.SortedText.write_to.Goals as goal
@@ -22,7 +22,7 @@ returns-in_err-write_whole-clause-front g c =
     let i = c.parts.invariant in
     let items = c.deref-part-items.result.now in
     let part = c.part-item.result in
-    let more = flat_map part_text (drop (c.parts.part-index + 1) items) ++ c.args.self.now.rest.now in
+    let more = flat_map sorted_part_text (drop (c.parts.part-index + 1) items) ++ c.args.self.now.rest.now in
     let all = bytes_from (sorted_bytes c.args.self.now) i.done c.args.self.now.rest.now items c.parts.part-index part i.sorted c.parts-test.true c.part-item.is in
     on_err c.from_residual.result _
     (appends_front _ _ _ (sorted_bytes c.args.self.now) i.done part.before.now (string_bytes part.layout ++ more) i.written c.in_err-write_whole.ensures.front (all ∙ ap (λ (t : List ℕ). i.done ++ t) (append_assoc part.before.now (string_bytes part.layout) more)))
@@ -32,7 +32,7 @@ returns-in_err-write_whole-2-clause-front g c =
     let i = c.parts.invariant in
     let items = c.deref-part-items.result.now in
     let part = c.part-item.result in
-    let more = flat_map part_text (drop (c.parts.part-index + 1) items) ++ c.args.self.now.rest.now in
+    let more = flat_map sorted_part_text (drop (c.parts.part-index + 1) items) ++ c.args.self.now.rest.now in
     let all = bytes_from (sorted_bytes c.args.self.now) i.done c.args.self.now.rest.now items c.parts.part-index part i.sorted c.parts-test.true c.part-item.is in
     on_err c.from_residual-in_err-write_whole-2.result _
     (appends_front _ _ _ (sorted_bytes c.args.self.now) (i.done ++ part.before.now) (string_bytes part.layout) more (Appends-trans _ _ _ _ _ i.written c.in_ok-write_whole.ensures.ok)
@@ -44,13 +44,13 @@ parts-preserved g c =
     let i = c.parts.invariant in
     let items = c.deref-part-items.result.now in
     let part = c.part-item.result in
-    let more = flat_map part_text (drop (c.parts.part-index + 1) items) ++ c.args.self.now.rest.now in
+    let more = flat_map sorted_part_text (drop (c.parts.part-index + 1) items) ++ c.args.self.now.rest.now in
     let all = bytes_from (sorted_bytes c.args.self.now) i.done c.args.self.now.rest.now items c.parts.part-index part i.sorted c.parts-test.true c.part-item.is in
     record {
-      done = i.done ++ part_text part;
+      done = i.done ++ sorted_part_text part;
       fine = c.in_ok-write_whole-2.ensures.fine;
       written = Appends-trans _ _ _ _ _ i.written (Appends-trans _ _ _ _ _ c.in_ok-write_whole.ensures.ok (subst (Appends _ _) c.as_bytes.ensures.value c.in_ok-write_whole-2.ensures.ok));
-      sorted = regrouped (sorted_bytes c.args.self.now) i.done (part_text part) more all;
+      sorted = regrouped (sorted_bytes c.args.self.now) i.done (sorted_part_text part) more all;
     }
 
 pub returns-clause-front : goal.returns-clause-front
