@@ -31,7 +31,8 @@ impl Index {
     /// Adds the modules of a list that no earlier list holds.
     pub fn add_list(&mut self, list: &[String], place: usize) -> Result<(), AllocError>
         ensures { OnOk result ((text : List ℕ) → get_by_text self.new.places text
-            ≡ option_or (get_by_text self.old.places text) (if holds (map string_bytes list.now) text then Some place else None)) }
+            ≡ option_or (get_by_text self.old.places text)
+            (if holds (map string_bytes list.now) text then Some place else None)) }
     {
         for name in list {
             self.add_module(name, place)?;
@@ -42,7 +43,8 @@ impl Index {
     /// Adds a module, unless it is there.
     fn add_module(&mut self, name: &String, place: usize) -> Result<(), AllocError>
         ensures { OnOk result ((text : List ℕ) → get_by_text self.new.places text
-            ≡ option_or (get_by_text self.old.places text) (if bytes_eq (string_bytes name.now) text then Some place else None)) }
+            ≡ option_or (get_by_text self.old.places text)
+            (if bytes_eq (string_bytes name.now) text then Some place else None)) }
     {
         self.longest = self.longest.max(name.len());
         self.places.entry(name.clone()?)?.or_insert(place);

@@ -119,7 +119,8 @@ impl SettingKey {
 
     /// Whether a key is spelled so that isn't read with the others: `profile` or `sections`.
     fn is_read_apart(name: &str) -> bool
-        ensures { result ≡ (bytes_eq (name_of SettingKey.Profile) name.now || bytes_eq (name_of SettingKey.Sections) name.now) }
+        ensures { result ≡ (bytes_eq (name_of SettingKey.Profile) name.now
+            || bytes_eq (name_of SettingKey.Sections) name.now) }
     {
         SettingKey::Profile.is_spelled(name) || SettingKey::Sections.is_spelled(name)
     }

@@ -15,7 +15,8 @@ use crate::key::SettingKey;
 /// key of an own section's list.
 pub fn every_key_has_its_place(key: SettingKey)
     ensures { IsOwnList key
-        ⊎ Contains (keys_in_order ++ SettingKey.Profile ∷ SettingKey.Sections ∷ SettingKey.Tool ∷ SettingKey.ToolIsort ∷ []) key }
+        ⊎ Contains (keys_in_order ++
+        SettingKey.Profile ∷ SettingKey.Sections ∷ SettingKey.Tool ∷ SettingKey.ToolIsort ∷ []) key }
 {
     let _ = key;
 }
@@ -39,7 +40,8 @@ pub fn names_are_totally_ordered()
 
 /// In the settings that a text stands for no module in a list holds `*` or `?`, and so it is by default and under `black`.
 pub fn lists_hold_entries_alone()
-    ensures read { (text : List ℕ) (profile : Option Profile) → IfOk (settings_of text profile) (λ r. HoldEntries (all_lists r.0)) }
+    ensures read { (text : List ℕ) (profile : Option Profile)
+        → IfOk (settings_of text profile) (λ r. HoldEntries (all_lists r.0)) }
     ensures plain { HoldEntries (all_lists plain_values) }
     ensures black { HoldEntries (all_lists black_values) }
 {}

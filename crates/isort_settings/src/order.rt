@@ -80,7 +80,8 @@ pub fn natural_cmp(a: &[u8], b: &[u8], case_sensitive: bool) -> Ordering
 
 /// The order of two texts by their parts alone: text, number, text, number and so on.
 fn parts_cmp(a: &[u8], b: &[u8], case_sensitive: bool) -> Ordering
-    ensures { result ≡ slice_cmp part_cmp (parts case_sensitive a.now) (parts case_sensitive b.now) }
+    ensures { result
+        ≡ slice_cmp part_cmp (parts case_sensitive a.now) (parts case_sensitive b.now) }
 {
     let mut a_left = a;
     let mut b_left = b;

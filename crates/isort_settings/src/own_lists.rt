@@ -82,7 +82,8 @@ impl OwnLists {
 
 /// The place of the first list that holds the module, found list by list.
 fn first_holder(lists: &[Vec<String>], module: &[u8]) -> Option<usize>
-    ensures { result ≡ position_from (λ list. holds list «module».now) 0 (modules_of_lists lists.now) }
+    ensures { result
+        ≡ position_from (λ list. holds list «module».now) 0 (modules_of_lists lists.now) }
 {
     lists
         .iter()

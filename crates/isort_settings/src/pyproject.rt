@@ -41,7 +41,8 @@ fn inner_table<'t>(
 ) -> Result<Option<&'t Table>, SettingsError>
     ensures ok { IfOk result (λ t. table_value key (get_member name.now (table_view outer.now))
         ≡ Ok (option_map (λ m. table_view m.now) t)) }
-    ensures refused { IfErr result (λ e. table_value key (get_member name.now (table_view outer.now))
+    ensures refused { IfErr result
+        (λ e. table_value key (get_member name.now (table_view outer.now))
         ≡ Err e) }
 {
     let Some(value) = member(outer, name) else {
@@ -131,7 +132,8 @@ pub fn unknown_keys(
     own_names: &[String],
 ) -> Result<Vec<String>, AllocError>
     ensures names { IfOk result (λ v. map string_bytes v.items
-        ≡ filter (λ name. not (is_key (map list_key (map string_bytes own_names.now)) name)) (names_of (table_view table.now))) }
+        ≡ filter (λ name. not (is_key (map list_key (map string_bytes own_names.now)) name))
+        (names_of (table_view table.now))) }
     ensures ascend { IfOk result (λ v. Ascends (map string_bytes v.items)) }
 {
     let own_keys = own_keys(alloc, own_names)?;

@@ -15,7 +15,7 @@ use crate::section::Section;
 use std::alloc::{AllocError, Global};
 
 /// How many own sections there may be.
-const MOST_OWN: usize = 64;
+const MAX_OWN: usize = 64;
 
 /// Whether two texts are the same when the case of ASCII letters is ignored.
 fn is_same_word(a: &str, b: &str) -> bool
@@ -73,7 +73,8 @@ fn is_section_name(alloc: Global, name: &str) -> Result<bool, AllocError>
 
 /// Whether each name may be listed.
 fn are_section_names(alloc: Global, names: &[String]) -> Result<bool, AllocError>
-    ensures { IfOk result (λ answer. answer ≡ list_all is_section_name (map string_bytes names.now)) }
+    ensures { IfOk result (λ answer. answer
+        ≡ list_all is_section_name (map string_bytes names.now)) }
 {
     for name in names {
         if !is_section_name(alloc, name.as_str())? {
@@ -85,7 +86,8 @@ fn are_section_names(alloc: Global, names: &[String]) -> Result<bool, AllocError
 
 /// Whether the name is no other's, whatever the case of its ASCII letters.
 fn is_apart(name: &str, others: &[String]) -> bool
-    ensures { result ≡ not (list_any (λ other. str_eq_ignore_ascii_case other name.now) (map string_bytes others.now)) }
+    ensures { result ≡ not (list_any (λ other. str_eq_ignore_ascii_case other name.now)
+        (map string_bytes others.now)) }
 {
     !others
         .iter()
@@ -106,7 +108,8 @@ fn are_apart(names: &[String]) -> bool
 
 /// The own names among some names.
 pub fn own_among(alloc: Global, names: &[String]) -> Result<Vec<String>, AllocError>
-    ensures { IfOk result (λ own. map string_bytes own.items ≡ own_among (map string_bytes names.now)) }
+    ensures { IfOk result (λ own. map string_bytes own.items
+        ≡ own_among (map string_bytes names.now)) }
 {
     let mut own = Vec::new(alloc);
     for name in names {
@@ -123,12 +126,13 @@ pub fn are_sections(alloc: Global, names: &[String], own: &[String]) -> Result<b
     ensures answer { IfOk result (λ answer. answer ≡ are_sections (map string_bytes names.now)) }
     ensures few { IfOk result (λ answer. answer ≡ true → length own.now ≤ 64) }
 {
-    Ok(are_section_names(alloc, names)? && own.len() <= MOST_OWN && are_apart(names))
+    Ok(are_section_names(alloc, names)? && own.len() <= MAX_OWN && are_apart(names))
 }
 
 /// The place of the name that is the text.
 fn place_of(names: &[String], text: &str) -> Option<usize>
-    ensures place { result ≡ position (λ name. bytes_eq name text.now) (map string_bytes names.now) }
+    ensures place { result
+        ≡ position (λ name. bytes_eq name text.now) (map string_bytes names.now) }
     ensures within { IfSome result (λ place. place < length names.now) }
 {
     names.iter().position(|name| is_text(name, text.as_bytes()))
@@ -170,7 +174,8 @@ pub fn order_listed(
 
 /// Whether one of the names spells the section.
 fn is_listed(section: Section, names: &[String]) -> bool
-    ensures { result ≡ list_any (λ name. bytes_eq name (section_spelling section)) (map string_bytes names.now) }
+    ensures { result
+        ≡ list_any (λ name. bytes_eq name (section_spelling section)) (map string_bytes names.now) }
 {
     is_among(names, section.spelling().as_bytes())
 }
@@ -178,7 +183,8 @@ fn is_listed(section: Section, names: &[String]) -> bool
 /// Adds those of the five that no name spells, in their usual order.
 fn add_missing(order: &mut Vec<Section>, names: &[String]) -> Result<(), AllocError>
     ensures { OnOk result (order.new.items ≡ order.old.items
-        ++ filter (λ s. not (list_any (λ name. bytes_eq name (section_spelling s)) (map string_bytes names.now))) usual_order) }
+        ++ filter (λ s. not (list_any (λ name. bytes_eq name (section_spelling s))
+        (map string_bytes names.now))) usual_order) }
 {
     for section in Section::usual_order() {
         if !is_listed(*section, names) {

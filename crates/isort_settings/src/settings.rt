@@ -228,12 +228,15 @@ impl Settings {
         refused: Option<Key>,
     ) -> Result<(), SettingsError>
         requires own_names { (values self.old).own_names ≡ own_names_in (table_view table.now) }
-        requires refused { option_map bad_key refused ≡ first_refused (sections_refused (table_view table.now)) }
+        requires refused { option_map bad_key refused
+            ≡ first_refused (sections_refused (table_view table.now)) }
         ensures unrefused { OnOk result (first_refusal (table_view table.now) ≡ None) }
         ensures filled { OnOk result ((profile : Option Profile)
-            → values self.old ≡ with_sections (table_view table.now) (values_from (base_value profile))
+            → values self.old
+            ≡ with_sections (table_view table.now) (values_from (base_value profile))
             → values self.new ≡ values_in (table_view table.now) profile) }
-        ensures refused { IfErr result (λ e. e ≢ SettingsError.Memory → first_refusal (table_view table.now) ≡ Some e) }
+        ensures refused { IfErr result (λ e. e ≢ SettingsError.Memory
+            → first_refusal (table_view table.now) ≡ Some e) }
     {
         for key in Key::in_order() {
             if is_after(&key, &refused) {
@@ -252,10 +255,12 @@ impl Settings {
 
     /// Takes a key's value from the table.
     fn take_value(&mut self, alloc: Global, key: Key, value: &Value) -> Result<(), SettingsError>
-        ensures ok { OnOk result (IsOkAnd (read_value (values self.old).own_names (row_of key).kind key (view value.now))
+        ensures ok { OnOk result
+            (IsOkAnd (read_value (values self.old).own_names (row_of key).kind key (view value.now))
             (λ x. values self.new ≡ with_value key x (values self.old))) }
         ensures refused { IfErr result (λ e. e ≢ SettingsError.Memory
-            → read_value (values self.old).own_names (row_of key).kind key (view value.now) ≡ Err e) }
+            → read_value (values self.old).own_names (row_of key).kind key (view value.now)
+            ≡ Err e) }
     {
         let read = KeyValue { key, value };
         match read.key {
@@ -310,7 +315,8 @@ impl Settings {
     /// Changes the wrap mode, or refuses one above 3.
     pub fn set_mode(&mut self, n: u32) -> Result<(), SettingsError>
         ensures accepted { IsOk result ↔ (n ≤ 3) }
-        ensures ok { OnOk result (values self.new ≡ record (values self.old) { multi_line_output = n }) }
+        ensures ok { OnOk result (values self.new
+            ≡ record (values self.old) { multi_line_output = n }) }
         ensures refused { IfErr result (λ e. e ≡ SettingsError.UnsupportedMode) }
         ensures unchanged { OnErr result (values self.new ≡ values self.old) }
     {
@@ -419,7 +425,8 @@ impl Settings {
 
 /// Whether the key comes after one that is refused.
 fn is_after(key: &Key, refused: &Option<Key>) -> bool
-    ensures { result ≡ option_map_or (λ k. is_lt (slice_cmp nat_cmp (name_of k) (name_of key.now))) refused.now false }
+    ensures { result ≡ option_map_or
+        (λ k. is_lt (slice_cmp nat_cmp (name_of k) (name_of key.now))) refused.now false }
 {
     match refused {
         Some(refused) => refused.comes_before(key),

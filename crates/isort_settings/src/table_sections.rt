@@ -43,7 +43,8 @@ impl Listed {
 
 /// The sections that names list, or nothing where they may not be listed together.
 fn sections_named(alloc: Global, names: &[String]) -> Result<Option<Listed>, AllocError>
-    ensures sections { IfOk result (λ listed. option_map listed_value listed ≡ sections_of (map string_bytes names.now)) }
+    ensures sections { IfOk result (λ listed. option_map listed_value listed
+        ≡ sections_of (map string_bytes names.now)) }
     ensures few { IfOk result (λ listed. IfSome listed (λ l. length l.own_names.items ≤ 64)) }
 {
     let own_names = own_among(alloc, names)?;
@@ -59,7 +60,8 @@ fn sections_named(alloc: Global, names: &[String]) -> Result<Option<Listed>, All
 
 /// The sections of a table, or nothing where `sections` is refused.
 fn read_sections(alloc: Global, table: &Table) -> Result<Option<Listed>, AllocError>
-    ensures sections { IfOk result (λ listed. ok_or (option_map listed_value listed) (BadValue Sections)
+    ensures sections { IfOk result
+        (λ listed. ok_or (option_map listed_value listed) (BadValue Sections)
         ≡ section_table (table_view table.now)) }
     ensures few { IfOk result (λ listed. IfSome listed (λ l. length l.own_names.items ≤ 64)) }
 {
@@ -103,7 +105,8 @@ fn own_list(
 
 /// Of two keys, if they are there, the one whose name comes first.
 fn earlier(first: Option<SettingKey>, other: Option<SettingKey>) -> Option<SettingKey>
-    ensures { option_map bad_key result ≡ earliest (option_map bad_key first) (option_map bad_key other) }
+    ensures { option_map bad_key result
+        ≡ earliest (option_map bad_key first) (option_map bad_key other) }
 {
     let Some(key) = other else {
         return first;
@@ -122,7 +125,8 @@ fn own_lists(
 ) -> Result<(Vec<Vec<String>>, Option<SettingKey>), AllocError>
     ensures count { IfOk result (λ r. length r.0.items ≡ length names.now) }
     ensures lists { IfOk result (λ r. modules_of_lists r.0.items
-        ≡ map (λ name. result_unwrap_or (own_list (table_view table.now) name) []) (map string_bytes names.now)) }
+        ≡ map (λ name. result_unwrap_or (own_list (table_view table.now) name) [])
+        (map string_bytes names.now)) }
     ensures refused { IfOk result (λ r. option_map bad_key r.1
         ≡ first_refused (lists_refused (table_view table.now) (map string_bytes names.now))) }
 {
@@ -150,11 +154,14 @@ pub struct TableSections {
 impl TableSections {
     /// Reads the sections of a table.
     pub fn read(alloc: Global, table: &Table) -> Result<TableSections, AllocError>
-        ensures listed { IfOk result (λ s. listed_value s.listed ≡ sections_in (table_view table.now)) }
+        ensures listed { IfOk result (λ s. listed_value s.listed
+            ≡ sections_in (table_view table.now)) }
         ensures few { IfOk result (λ s. length s.listed.own_names.items ≤ 64) }
         ensures own_lists { IfOk result (λ s. s.own_lists
-            ≡ map (λ name. result_unwrap_or (own_list (table_view table.now) name) []) (own_names_in (table_view table.now))) }
-        ensures refused { IfOk result (λ s. option_map bad_key s.refused ≡ first_refused (sections_refused (table_view table.now))) }
+            ≡ map (λ name. result_unwrap_or (own_list (table_view table.now) name) [])
+            (own_names_in (table_view table.now))) }
+        ensures refused { IfOk result (λ s. option_map bad_key s.refused
+            ≡ first_refused (sections_refused (table_view table.now))) }
     {
         let Some(listed) = read_sections(alloc, table)? else {
             return Ok(TableSections {

@@ -64,7 +64,8 @@ impl KeyValue<'_> {
     /// A whole number within the limits.
     pub fn count(self, limits: Limits<u32>) -> Result<u32, SettingsError>
         ensures { result
-            ≡ read_value [] (count limits.least limits.most) self.entry.key (view self.entry.value.now) }
+            ≡ read_value [] (count limits.least limits.most) self.entry.key
+            (view self.entry.value.now) }
     {
         self.value
             .as_integer()
@@ -75,7 +76,8 @@ impl KeyValue<'_> {
     /// A whole number of either sign within the limits.
     pub fn whole(self, limits: Limits<i32>) -> Result<i32, SettingsError>
         ensures { result
-            ≡ read_value [] (whole limits.least limits.most) self.entry.key (view self.entry.value.now) }
+            ≡ read_value [] (whole limits.least limits.most) self.entry.key
+            (view self.entry.value.now) }
     {
         self.value
             .as_integer()
@@ -105,7 +107,8 @@ impl KeyValue<'_> {
     /// A section by its name, where these are the names of the own ones.
     pub fn section(self, own: &[String]) -> Result<Section, SettingsError>
         requires { length own.now ≤ 256 }
-        ensures { result ≡ read_value (map string_bytes own.now) section self.entry.key (view self.entry.value.now) }
+        ensures { result ≡ read_value (map string_bytes own.now) section self.entry.key
+            (view self.entry.value.now) }
     {
         match self.value.as_str() {
             Some(text) => section_named(own, text).ok_or(SettingsError::BadValue(self.key)),
@@ -115,7 +118,8 @@ impl KeyValue<'_> {
 
     /// A list of modules.
     pub fn modules(self, alloc: Global) -> Result<Modules, SettingsError>
-        ensures ok { IfOk result (λ m. read_value [] texts self.entry.key (view self.entry.value.now)
+        ensures ok { IfOk result
+            (λ m. read_value [] texts self.entry.key (view self.entry.value.now)
             ≡ Ok (modules_of m)) }
         ensures err { IfErr result (λ e. e ≢ SettingsError.Memory
             → read_value [] texts self.entry.key (view self.entry.value.now) ≡ Err e) }

@@ -22,7 +22,8 @@ pub struct Binding {
 
 /// The text in memory of its own, if there is one.
 pub(crate) fn copy_of_text(alloc: Global, text: Option<&str>) -> Result<Option<String>, AllocError>
-    ensures { IfOk result (λ copy. option_map string_bytes copy ≡ option_map (λ t. t.now) text.entry) }
+    ensures { IfOk result (λ copy. option_map string_bytes copy
+        ≡ option_map (λ t. t.now) text.entry) }
 {
     match text {
         Some(text) => Ok(Some(String::from_str(alloc, text)?)),

@@ -41,7 +41,8 @@ fn push_binding(
     bindings: &mut Vec<Binding>,
 ) -> Result<(), AllocError>
     ensures { OnOk result (map bound_of bindings.new.items
-        ≡ map bound_of bindings.old.items ++ bound_at head.line head.indented (item_imported item.entry) ∷ []) }
+        ≡ map bound_of bindings.old.items
+        ++ bound_at head.line head.indented (item_imported item.entry) ∷ []) }
 {
     let mut module_name = String::with_capacity(alloc, USUAL_MODULE_LEN)?;
     item.module.push_onto(&mut module_name)?;
@@ -63,7 +64,8 @@ fn bind_items(
     fault: Fault,
     bindings: &mut Vec<Binding>,
 ) -> Result<(), ImportError>
-    ensures ok { OnOk result (BindsOne (AreLeft items.entry) head bindings.old.items bindings.new.items) }
+    ensures ok { OnOk result
+        (BindsOne (AreLeft items.entry) head bindings.old.items bindings.new.items) }
     ensures err { IfErr result (λ e. RefusesItems (AreLeft items.entry) fault e) }
 {
     'items: loop {
@@ -78,7 +80,8 @@ fn bind_items(
 /// The fault of a bad statement that starts at `place`.
 fn fault_at(unit: &Unit<'_>, place: usize) -> Fault
     requires { place < length unit.now.tokens.now }
-    ensures { (t : Token) → slice_get unit.now.tokens.now place ≡ Some t → result ≡ statement_fault unit.now.offset t }
+    ensures { (t : Token) → slice_get unit.now.tokens.now place ≡ Some t
+        → result ≡ statement_fault unit.now.offset t }
 {
     let token = unit.tokens[place];
     Fault {
@@ -96,8 +99,10 @@ fn bind_statement(
     bindings: &mut Vec<Binding>,
 ) -> Result<(), ImportError>
     requires { place < length unit.now.tokens.now }
-    ensures ok { OnOk result (BindsMoreAt (line_in unit.now) place bindings.old.items bindings.new.items) }
-    ensures err { IfErr result (λ e. (p : TokenPlace) → IsPlaceAt unit.now.tokens.now place p → RefusesAt (line_in unit.now) p e) }
+    ensures ok { OnOk result
+        (BindsMoreAt (line_in unit.now) place bindings.old.items bindings.new.items) }
+    ensures err { IfErr result (λ e. (p : TokenPlace) → IsPlaceAt unit.now.tokens.now place p
+        → RefusesAt (line_in unit.now) p e) }
 {
     let token = unit.tokens[place];
     let Some(form) = form_of(token.kind, unit.word(place)) else {
@@ -125,7 +130,8 @@ fn may_be_first_word(word: &[u8]) -> bool
 #[inline(always)]
 fn is_first_word(unit: &Unit<'_>, place: usize) -> bool
     requires { place < length unit.now.tokens.now }
-    ensures { (t : Token) → slice_get unit.now.tokens.now place ≡ Some t → result ≡ is_first_word unit.now.text.now t }
+    ensures { (t : Token) → slice_get unit.now.tokens.now place ≡ Some t
+        → result ≡ is_first_word unit.now.text.now t }
 {
     let token = unit.tokens[place];
     may_be_first_word(&unit.text.as_bytes()[token.start..token.stop])
@@ -135,7 +141,8 @@ fn is_first_word(unit: &Unit<'_>, place: usize) -> bool
 /// Whether a token of the logical line is spelled as the first word of an import statement, `import` or `from`. Few lines
 /// have one, and a line without binds nothing.
 pub fn has_first_word(unit: &Unit<'_>) -> bool
-    ensures word { result ≡ list_any (λ t. begins_import (terminal_in unit.now.text.now t ∷ [])) unit.now.tokens.now }
+    ensures word { result
+        ≡ list_any (λ t. begins_import (terminal_in unit.now.text.now t ∷ [])) unit.now.tokens.now }
     ensures none { result ≡ false → Binds (line_in unit.now) [] }
 {
     'tokens: for place in 0..unit.tokens.len() {

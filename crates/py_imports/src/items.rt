@@ -46,7 +46,8 @@ impl ModulePath<'_> {
 
     /// Puts its names and dots after `text`, without what stands between them.
     pub(crate) fn push_onto(self, text: &mut String) -> Result<(), AllocError>
-        ensures { OnOk result (string_bytes text.new ≡ string_bytes text.old ++ path_of self.entry) }
+        ensures { OnOk result (string_bytes text.new
+            ≡ string_bytes text.old ++ path_of self.entry) }
     {
         let mut names = self.names;
         'names: loop {
@@ -89,7 +90,8 @@ enum Stage<'u> {
 
 /// The stage of a statement's end, where nothing is left.
 fn end_at<'u>(tokens: Lexemes<'u>) -> Option<Stage<'u>>
-    ensures { MatchOption result (unread_of tokens.entry ≢ []) (λ stage. (stage ≡ Stage.End) × (unread_of tokens.entry ≡ [])) }
+    ensures { MatchOption result (unread_of tokens.entry ≢ [])
+        (λ stage. (stage ≡ Stage.End) × (unread_of tokens.entry ≡ [])) }
 {
     if tokens.is_at_end() {
         Some(Stage::End)
@@ -121,7 +123,8 @@ impl<'u> ImportItems<'u> {
     pub(crate) fn new(unit: &'u Unit<'u>, form: Form, place: usize, end: usize) -> ImportItems<'u>
         requires ordered { place ≤ end }
         requires within { end ≤ length unit.now.tokens.now }
-        ensures { AreSameLists (IsImport (with_first_word form (terminals_between unit.now place end))) (AreLeft result) }
+        ensures { AreSameLists
+            (IsImport (with_first_word form (terminals_between unit.now place end))) (AreLeft result) }
     {
         let tokens = Lexemes::new(unit, place, end);
         match form {
@@ -169,8 +172,11 @@ impl<'u> ImportItems<'u> {
 
     /// MODULE [as NAME], and the comma after it, if there is one
     fn module_item(&mut self) -> Option<ImportItem<'u>>
-        ensures item { IsFirstOfLists (ListsOf whole_module (AreItems modules (unread_of self.old.tokens))) result (AreLeft self.new) }
-        ensures fewer { IfSome result (λ _. most_left self.new ≤ length (unread_of self.old.tokens)) }
+        ensures item { IsFirstOfLists
+            (ListsOf whole_module (AreItems modules (unread_of self.old.tokens)))
+            result (AreLeft self.new) }
+        ensures fewer { IfSome result
+            (λ _. most_left self.new ≤ length (unread_of self.old.tokens)) }
     {
         let names = self.tokens.module()?;
         let alias = self.tokens.alias()?;
@@ -184,8 +190,11 @@ impl<'u> ImportItems<'u> {
 
     /// RELATIVE_MODULE `import`, and the first item after them
     fn from_item(&mut self) -> Option<ImportItem<'u>>
-        ensures item { IsFirstOfLists (IsImport (from_word ∷ unread_of self.old.tokens)) result (AreLeft self.new) }
-        ensures fewer { IfSome result (λ _. most_left self.new ≤ length (unread_of self.old.tokens)) }
+        ensures item { IsFirstOfLists
+            (IsImport (from_word ∷ unread_of self.old.tokens))
+            result (AreLeft self.new) }
+        ensures fewer { IfSome result
+            (λ _. most_left self.new ≤ length (unread_of self.old.tokens)) }
     {
         let names = self.tokens.relative_module()?;
         self.first_item(ModulePath { names })
@@ -193,8 +202,11 @@ impl<'u> ImportItems<'u> {
 
     /// `*` alone, NAME [as NAME], or the same in brackets
     fn first_item(&mut self, from: ModulePath<'u>) -> Option<ImportItem<'u>>
-        ensures item { IsFirstOfLists (ListsFrom from.entry (AreNames (unread_of self.old.tokens))) result (AreLeft self.new) }
-        ensures fewer { IfSome result (λ _. most_left self.new ≤ length (unread_of self.old.tokens)) }
+        ensures item { IsFirstOfLists
+            (ListsFrom from.entry (AreNames (unread_of self.old.tokens)))
+            result (AreLeft self.new) }
+        ensures fewer { IfSome result
+            (λ _. most_left self.new ≤ length (unread_of self.old.tokens)) }
     {
         let mut after = self.tokens;
         match after.next() {
@@ -224,8 +236,11 @@ impl<'u> ImportItems<'u> {
 
     /// NAME [as NAME], and the comma after it, if there is one
     fn name_item(&mut self, from: ModulePath<'u>) -> Option<ImportItem<'u>>
-        ensures item { IsFirstOfLists (ListsFrom from.entry (AreItems identifiers (unread_of self.old.tokens))) result (AreLeft self.new) }
-        ensures fewer { IfSome result (λ _. most_left self.new ≤ length (unread_of self.old.tokens)) }
+        ensures item { IsFirstOfLists
+            (ListsFrom from.entry (AreItems identifiers (unread_of self.old.tokens)))
+            result (AreLeft self.new) }
+        ensures fewer { IfSome result
+            (λ _. most_left self.new ≤ length (unread_of self.old.tokens)) }
     {
         let (name, alias) = self.tokens.name_with_alias()?;
         self.stage = self.after_item(Stage::Names(from))?;
@@ -238,8 +253,11 @@ impl<'u> ImportItems<'u> {
 
     /// NAME [as NAME] in brackets, and the comma or the closing bracket after it
     fn bracketed_item(&mut self, from: ModulePath<'u>) -> Option<ImportItem<'u>>
-        ensures item { IsFirstOfLists (ListsFrom from.entry (AreBracketed (unread_of self.old.tokens))) result (AreLeft self.new) }
-        ensures fewer { IfSome result (λ _. most_left self.new ≤ length (unread_of self.old.tokens)) }
+        ensures item { IsFirstOfLists
+            (ListsFrom from.entry (AreBracketed (unread_of self.old.tokens)))
+            result (AreLeft self.new) }
+        ensures fewer { IfSome result
+            (λ _. most_left self.new ≤ length (unread_of self.old.tokens)) }
     {
         let (name, alias) = self.tokens.name_with_alias()?;
         self.stage = self.after_bracketed(from)?;
@@ -252,7 +270,8 @@ impl<'u> ImportItems<'u> {
 
     /// What has to come after an item without brackets: after a comma more at this stage.
     fn after_item(&mut self, stage: Stage<'u>) -> Option<Stage<'u>>
-        ensures { FollowsItem stage.entry (unread_of self.old.tokens) result (unread_of self.new.tokens) }
+        ensures { FollowsItem stage.entry (unread_of self.old.tokens) result
+            (unread_of self.new.tokens) }
     {
         match self.tokens.next() {
             Lexeme::Comma => Some(stage),
@@ -263,7 +282,8 @@ impl<'u> ImportItems<'u> {
 
     /// What has to come after an item in brackets: after a comma more, or nothing after the closing bracket.
     fn after_bracketed(&mut self, from: ModulePath<'u>) -> Option<Stage<'u>>
-        ensures { FollowsBracketed from.entry (unread_of self.old.tokens) result (unread_of self.new.tokens) }
+        ensures { FollowsBracketed from.entry (unread_of self.old.tokens) result
+            (unread_of self.new.tokens) }
     {
         match self.tokens.next() {
             Lexeme::Closing => end_at(self.tokens),

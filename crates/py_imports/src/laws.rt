@@ -23,16 +23,20 @@ use py_lines::laws::tokens_are_words;
 
 /// An import statement binds one list: the grammar relates it to no other.
 pub fn binds_one_list()
-    ensures { (statement : List Terminal) (is others : List Imported) → IsImport statement is → IsImport statement others → is ≡ others }
+    ensures { (statement : List Terminal) (is others : List Imported) → IsImport statement is
+        → IsImport statement others → is ≡ others }
 {}
 
 /// A logical line binds a list or has a fault, and not both. What it binds is one list, and its fault is one: of one
 /// kind, at one byte, on one line.
 pub fn binds_or_is_bad()
     ensures some { (line : LogicalLine) → BindsOrIsBad line }
-    ensures one_list { (line : LogicalLine) (bounds others : List Bound) → Binds line bounds → Binds line others → bounds ≡ others }
-    ensures one_fault { (line : LogicalLine) (fault other : Fault) → IsBadAt line fault → IsBadAt line other → fault ≡ other }
-    ensures not_both { (line : LogicalLine) (bounds : List Bound) (fault : Fault) → Binds line bounds → ¬ (IsBadAt line fault) }
+    ensures one_list { (line : LogicalLine) (bounds others : List Bound) → Binds line bounds
+        → Binds line others → bounds ≡ others }
+    ensures one_fault { (line : LogicalLine) (fault other : Fault) → IsBadAt line fault
+        → IsBadAt line other → fault ≡ other }
+    ensures not_both { (line : LogicalLine) (bounds : List Bound) (fault : Fault)
+        → Binds line bounds → ¬ (IsBadAt line fault) }
 {}
 
 /// What a logical line says to the import grammar is what the words of its pieces say, wherever the line stands. Where the
@@ -41,21 +45,24 @@ pub fn names_are_words()
     ensures words { (offset line : ℕ) (pieces : List Piece)
         → terminals_of (line_of offset line pieces) ≡ terminals_in (words_of pieces) }
     ensures names { (offset line : ℕ) (pieces : List Piece) (rest : List ℕ)
-        → AreReadBefore pieces rest → all_scalars (spelled pieces) ≡ true → HaveNames (terminals_of (line_of offset line pieces)) }
+        → AreReadBefore pieces rest → all_scalars (spelled pieces) ≡ true
+        → HaveNames (terminals_of (line_of offset line pieces)) }
 {
     tokens_are_words();
 }
 
 /// An import statement whose names are words imports modules of such names, with dots, under such names.
 pub fn imports_of_words_are_named()
-    ensures { (statement : List Terminal) (is : List Imported) → IsImport statement is → HaveNames statement → AreNamed is }
+    ensures { (statement : List Terminal) (is : List Imported) → IsImport statement is
+        → HaveNames statement → AreNamed is }
 {}
 
 /// A logical line with neither `;` nor `:` outside its comments binds what it imports as one statement, if it is one in the
 /// grammar.
 pub fn one_statement_binds_its_imports()
     ensures { (line : LogicalLine) (token : Token) (tokens : List Token) (is : List Imported)
-        → significant line.tokens ≡ token ∷ tokens → list_any (λ t. is_divider t.kind) (token ∷ tokens) ≡ false
+        → significant line.tokens ≡ token ∷ tokens
+        → list_any (λ t. is_divider t.kind) (token ∷ tokens) ≡ false
         → begins_import (terminals_of line) ≡ true → IsImport (terminals_of line) is
         → Binds line (map (bound_at token.line (nat_lt 0 line.indent)) is) }
 {}
@@ -71,5 +78,6 @@ pub fn lines_without_first_words_bind_nothing()
 /// of them says.
 pub fn joined_texts_say_no_more()
     ensures { (a : ActionComment) (text rest : List ℕ)
-        → says a (text ++ (codes "; " ++ rest)) ≡ true → (says a text ≡ true) ⊎ (says a rest ≡ true) }
+        → says a (text ++ (codes "; " ++ rest)) ≡ true
+        → (says a text ≡ true) ⊎ (says a rest ≡ true) }
 {}

@@ -26,7 +26,8 @@ fn first_code(tokens: &[Token]) -> Option<usize>
 /// The place and the first word of the import statement that code begins with, if it does.
 #[tactic(auto, using(crate::proofs::ShapeLemmas::no_code))]
 fn started_by_word(unit: &Unit<'_>) -> Option<(usize, Form)>
-    ensures { MatchOption result (begins_so (line_in unit.now) ≡ false) (λ r. BeginsAt (line_in unit.now) r.0 r.1) }
+    ensures { MatchOption result (begins_so (line_in unit.now) ≡ false)
+        (λ r. BeginsAt (line_in unit.now) r.0 r.1) }
 {
     let UnitKind::Code = unit.kind else {
         return None;
@@ -78,7 +79,8 @@ fn comments_stand_well(tokens: &[Token]) -> bool
 /// Whether the token at `place` is a comment that says `skip`.
 fn is_skip(unit: &Unit<'_>, place: usize) -> bool
     requires { place < length unit.now.tokens.now }
-    ensures { (t : Token) → slice_get unit.now.tokens.now place ≡ Some t → result ≡ says_skip unit.now.text.now t }
+    ensures { (t : Token) → slice_get unit.now.tokens.now place ≡ Some t
+        → result ≡ says_skip unit.now.text.now t }
 {
     unit.tokens[place].kind.is_comment() && says(unit.word(place), ActionComment::Skip)
 }
@@ -98,7 +100,8 @@ fn says_skip(unit: &Unit<'_>) -> bool
 /// Whether the token at `place` stands directly after mark and indentation.
 fn stands_first(unit: &Unit<'_>, place: usize) -> bool
     requires { place < length unit.now.tokens.now }
-    ensures { (t : Token) → slice_get unit.now.tokens.now place ≡ Some t → result ≡ begins_line (line_in unit.now) t }
+    ensures { (t : Token) → slice_get unit.now.tokens.now place ≡ Some t
+        → result ≡ begins_line (line_in unit.now) t }
 {
     let start = unit.tokens[place].start;
     let mark = mark_len(unit);

@@ -41,7 +41,8 @@ pub(crate) fn statement_end(tokens: &[Token], start: usize) -> usize
     ensures from { start ≤ result }
     ensures within { result ≤ length tokens.now }
     ensures tokens { IsStatementBetween tokens.now start result }
-    ensures semicolon { (t : Token) → slice_get tokens.now result ≡ Some t → is_semicolon t.kind ≡ true }
+    ensures semicolon { (t : Token) → slice_get tokens.now result ≡ Some t
+        → is_semicolon t.kind ≡ true }
 {
     let mut depth: usize = 0;
     'tokens: for place in start..tokens.len() {
