@@ -2,8 +2,8 @@
 ghost use Rattle.std.specs.Prelude.{◌≡◌, ◌↔◌, IsTrue, IfOk, IfErr, string_bytes};
 ghost use Rattle.std.specs.Option.{option_map};
 ghost use Rattle.py_imports.specs.Bound.{bound_of};
-ghost use Rattle.isort_find.specs.Key.{key_with, key_of, key_eq, package_of};
-ghost use Rattle.isort_find.specs.KeyText.{key_in};
+ghost use Rattle.isort_find.specs.Key.{key_of, key_eq, package_of};
+ghost use Rattle.isort_find.specs.KeyText.{counted_key, key_in};
 
 use crate::error::FindError;
 use crate::options::ImportKey;
@@ -37,58 +37,54 @@ fn package_of(name: &str) -> &str
     name
 }
 
-/// A copy of the text, if there is one.
-fn text_copy(text: &Option<String>) -> Result<Option<String>, AllocError>
-    ensures { IfOk result (λ copy. option_map string_bytes copy ≡ option_map string_bytes text.now) }
+/// The texts of a binding by which it counts as one with another.
+#[derive(Clone, Copy)]
+struct CountedTexts<'b> {
+    /// The module, or its leading dots and first name.
+    text: &'b str,
+    /// The attribute, if it counts.
+    attribute: Option<&'b str>,
+    /// The alias, if it counts.
+    alias: Option<&'b str>,
+}
+
+/// The texts of a binding that count under a key.
+fn counted_texts<'b>(binding: &'b Binding, key: ImportKey) -> CountedTexts<'b>
+    ensures { counted_key result ≡ key_of key (bound_of binding.now) }
 {
-    match text {
-        Some(text) => Ok(Some(text.clone()?)),
-        None => Ok(None),
+    let module = binding.module_name.as_str();
+    let attribute = binding.attribute_name.as_deref();
+    let (text, attribute, alias) = match key {
+        ImportKey::Package => (package_of(module), None, None),
+        ImportKey::Module => (module, None, None),
+        ImportKey::Attribute => (module, attribute, None),
+        ImportKey::Alias => (module, attribute, binding.alias_name.as_deref()),
+    };
+    CountedTexts {
+        text,
+        attribute,
+        alias,
     }
-}
-
-/// A key with copies of these texts.
-fn key_with(
-    alloc: Global,
-    text: &str,
-    attribute: &Option<String>,
-    alias: &Option<String>,
-) -> Result<KeyText, FindError>
-    ensures ok { IfOk result (λ k. key_in k
-        ≡ key_with text.now (option_map string_bytes attribute.now) (option_map string_bytes alias.now)) }
-    ensures err { IfErr result (λ e. e ≡ FindError.Memory) }
-{
-    Ok(KeyText {
-        text: String::from_str(alloc, text)?,
-        attribute: text_copy(attribute)?,
-        alias: text_copy(alias)?,
-    })
-}
-
-/// Whether a key has these texts.
-fn has_texts(
-    known: &KeyText,
-    text: &str,
-    attribute: &Option<String>,
-    alias: &Option<String>,
-) -> bool
-    ensures { result ≡ key_eq (key_with text.now (option_map string_bytes attribute.now) (option_map string_bytes alias.now))
-        (key_in known.now) }
-{
-    text == known.text.as_str() && *attribute == known.attribute && *alias == known.alias
 }
 
 /// Whether a binding has this key. It takes no memory.
 pub(crate) fn is_key_of(known: &KeyText, binding: &Binding, key: ImportKey) -> bool
     ensures { result ≡ key_eq (key_of key (bound_of binding.now)) (key_in known.now) }
 {
-    let name = binding.module_name.as_str();
-    let attribute = &binding.attribute_name;
-    match key {
-        ImportKey::Package => has_texts(known, package_of(name), &None, &None),
-        ImportKey::Module => has_texts(known, name, &None, &None),
-        ImportKey::Attribute => has_texts(known, name, attribute, &None),
-        ImportKey::Alias => has_texts(known, name, attribute, &binding.alias_name),
+    let counted = counted_texts(binding, key);
+    counted.text == known.text.as_str()
+        && counted.attribute == known.attribute.as_deref()
+        && counted.alias == known.alias.as_deref()
+}
+
+/// A copy of the text, if there is one.
+fn copy_of_text(alloc: Global, text: Option<&str>) -> Result<Option<String>, AllocError>
+    ensures { IfOk result (λ copy. option_map string_bytes copy
+        ≡ option_map (λ t. t.now) text.entry) }
+{
+    match text {
+        Some(text) => Ok(Some(String::from_str(alloc, text)?)),
+        None => Ok(None),
     }
 }
 
@@ -97,12 +93,10 @@ pub fn key_of(alloc: Global, binding: &Binding, key: ImportKey) -> Result<KeyTex
     ensures ok { IfOk result (λ k. key_in k ≡ key_of key (bound_of binding.now)) }
     ensures err { IfErr result (λ e. e ≡ FindError.Memory) }
 {
-    let name = binding.module_name.as_str();
-    let attribute = &binding.attribute_name;
-    match key {
-        ImportKey::Package => key_with(alloc, package_of(name), &None, &None),
-        ImportKey::Module => key_with(alloc, name, &None, &None),
-        ImportKey::Attribute => key_with(alloc, name, attribute, &None),
-        ImportKey::Alias => key_with(alloc, name, attribute, &binding.alias_name),
-    }
+    let counted = counted_texts(binding, key);
+    Ok(KeyText {
+        text: String::from_str(alloc, counted.text)?,
+        attribute: copy_of_text(alloc, counted.attribute)?,
+        alias: copy_of_text(alloc, counted.alias)?,
+    })
 }
