@@ -16,7 +16,7 @@ use Rattle.isort_settings.proofs.Indexes.{other-longer}
 use Rattle.std.proofs.Math.Nat.{le-max_left, le-max_right}
 use native.Mathlib.Numerals.{unary_clauses}
 
--- two lists are the same from one place on where the modules at it are the same, and those behind it
+-- two lists are the same from one place on where the modules at it are the same, and those after it
 same_from : (xs ys : List (List ℕ)) (i : ℕ) → i < length xs → i < length ys
     → pointwise bytes_eq (drop i xs) (drop i ys) ≡ (option_eq bytes_eq (slice_get xs i) (slice_get ys i) && pointwise bytes_eq (drop (suc i) xs) (drop (suc i) ys))
 same_from [] ys i h k = absurd (omega (arith, h))
@@ -42,7 +42,7 @@ same_after xs ys i p q differ h k at_xs at_ys is =
     let e : option_eq bytes_eq (slice_get xs i) (slice_get ys i) ≡ not differ = rw (is, same_read p q, at_xs, at_ys) (sym (twice _)) in
     simp unary_clauses (same_from xs ys i h k ∙ ap (λ b. b && pointwise bytes_eq (drop (suc i) xs) (drop (suc i) ys)) e)
 
--- behind the end of both nothing differs
+-- after the end of both nothing differs
 pub same_at_end : (xs ys : List (List ℕ)) (i : ℕ) → length xs ≤ i → length ys ≤ i → pointwise bytes_eq (drop i xs) (drop i ys) ≡ true
 same_at_end xs ys i h k = rw (drop_all i xs h, drop_all i ys k) refl
 

@@ -29,7 +29,7 @@ BeginsWithDigit (z ∷ zs) = is_ascii_digit z ≡ true
 
 -- the parts of a cut text, and those after its first one
 abbrev parts_after : List Numbered → List Part
-parts_after ns = flat_map (λ n. number (digits_value 10 n.digits) ∷ text n.behind ∷ []) ns
+parts_after ns = flat_map (λ n. number (digits_value 10 n.digits) ∷ text n.after ∷ []) ns
 
 abbrev parts_of : NumberCut → List Part
 parts_of c = text c.first ∷ parts_after c.others
@@ -89,15 +89,15 @@ cut_text (x ∷ xs) = cut_text_step (is_ascii_digit x) x xs refl (cut_text xs)
 
 -- digits, and the cut of what stands after them
 abbrev numbered : List ℕ → List ℕ → NumberCut
-numbered ds rest = record { first = []; others = record { digits = ds; behind = (cut_at_numbers rest).first } ∷ (cut_at_numbers rest).others }
+numbered ds rest = record { first = []; others = record { digits = ds; after = (cut_at_numbers rest).first } ∷ (cut_at_numbers rest).others }
 
-before_text : (x y : ℕ) (first : List ℕ) (others : List Numbered) → digit_before x (y ∷ first) others ≡ record { first = []; others = record { digits = x ∷ []; behind = y ∷ first } ∷ others }
+before_text : (x y : ℕ) (first : List ℕ) (others : List Numbered) → digit_before x (y ∷ first) others ≡ record { first = []; others = record { digits = x ∷ []; after = y ∷ first } ∷ others }
 before_text x y first [] = refl
 before_text x y first (n ∷ ns) = refl
 
-digit_alone : (x y : ℕ) (c d : NumberCut) → c ≡ record d { first = y ∷ d.first } → digit_in_front x c ≡ record { first = []; others = record { digits = x ∷ []; behind = c.first } ∷ c.others }
+digit_alone : (x y : ℕ) (c d : NumberCut) → c ≡ record d { first = y ∷ d.first } → digit_in_front x c ≡ record { first = []; others = record { digits = x ∷ []; after = c.first } ∷ c.others }
 digit_alone x y c d e =
-    let P : NumberCut → Type 0 = λ t. digit_in_front x t ≡ record { first = []; others = record { digits = x ∷ []; behind = t.first } ∷ t.others } in
+    let P : NumberCut → Type 0 = λ t. digit_in_front x t ≡ record { first = []; others = record { digits = x ∷ []; after = t.first } ∷ t.others } in
     subst P (sym e) (before_text x y d.first d.others)
 
 one_more_digit : (n x : ℕ) (ds xs : List ℕ) (more : List ℕ → List ℕ) → ds ≡ take n xs
@@ -279,10 +279,10 @@ pub order_at_text : (s : Bool) (a b a_text b_text a_rest b_rest : List ℕ)
 order_at_text s a b a_text b_text a_rest b_rest ta tb ra rb = rw (ta, tb, ra, rb) (compare_text s a b)
 
 -- the numbers, and what stands after them
-pub order_at_number : (s : Bool) (a b a_digits b_digits a_behind b_behind : List ℕ) → BeginsWithDigit a → BeginsWithDigit b → 0 < length a → 0 < length b
-    → a_digits ≡ take (digits_end a) a → b_digits ≡ take (digits_end b) b → a_behind ≡ drop (digits_end a) a → b_behind ≡ drop (digits_end b) b
-    → numbers_order s a b ≡ ordering_then (nat_cmp (digits_value 10 a_digits) (digits_value 10 b_digits)) (parts_order s a_behind b_behind)
-order_at_number s a b a_digits b_digits a_behind b_behind ha hb la lb da db ba bb = rw (da, db, ba, bb) (compare_number s a b ha hb la lb)
+pub order_at_number : (s : Bool) (a b a_digits b_digits a_after b_after : List ℕ) → BeginsWithDigit a → BeginsWithDigit b → 0 < length a → 0 < length b
+    → a_digits ≡ take (digits_end a) a → b_digits ≡ take (digits_end b) b → a_after ≡ drop (digits_end a) a → b_after ≡ drop (digits_end b) b
+    → numbers_order s a b ≡ ordering_then (nat_cmp (digits_value 10 a_digits) (digits_value 10 b_digits)) (parts_order s a_after b_after)
+order_at_number s a b a_digits b_digits a_after b_after ha hb la lb da db ba bb = rw (da, db, ba, bb) (compare_number s a b ha hb la lb)
 
 pub BeginsWithDigit-rest : (a a_rest : List ℕ) → a_rest ≡ drop (digits_start a) a → BeginsWithDigit a_rest
 BeginsWithDigit-rest a a_rest e = subst BeginsWithDigit (sym e) (begins_with_digit a)
@@ -291,11 +291,11 @@ pub AllDigits-digits : (a a_digits : List ℕ) → a_digits ≡ take (digits_end
 AllDigits-digits a a_digits e = subst (AllDigits 10) (sym e) (AllDigits-take a)
 
 -- what is left after a number is shorter
-pub shorter_behind : (a a_rest a_behind : List ℕ) → a_rest ≡ drop (digits_start a) a → a_behind ≡ drop (digits_end a_rest) a_rest → 0 < length a_rest → length a_behind < length a
-shorter_behind a a_rest a_behind r b lt =
+pub shorter_after : (a a_rest a_after : List ℕ) → a_rest ≡ drop (digits_start a) a → a_after ≡ drop (digits_end a_rest) a_rest → 0 < length a_rest → length a_after < length a
+shorter_after a a_rest a_after r b lt =
     let some : 0 < digits_end a_rest = some_digit a_rest (BeginsWithDigit-rest a a_rest r) lt in
     let rest : length a_rest ≡ length a - digits_start a = ap length r ∙ length-drop (digits_start a) a in
-    let behind : length a_behind ≡ length a_rest - digits_end a_rest = ap length b ∙ length-drop (digits_end a_rest) a_rest in
+    let after : length a_after ≡ length a_rest - digits_end a_rest = ap length b ∙ length-drop (digits_end a_rest) a_rest in
     omega arith
 
 -- the texts before the first digits decide
@@ -313,18 +313,18 @@ text_ties s a b a_left b_left a_text b_text a_rest b_rest o test left ta tb ra r
     left ∙ order_at_text s a_left b_left a_text b_text a_rest b_rest ta tb ra rb ∙ sym (then-tied_by_test o (numbers_order s a_rest b_rest) _ test e t h)
 
 -- the numbers decide
-pub numbers_decide : (s : Bool) (a b a_digits b_digits a_behind b_behind : List ℕ) (o : Ordering) (test : Bool) → BeginsWithDigit a → BeginsWithDigit b → 0 < length a → 0 < length b
-    → a_digits ≡ take (digits_end a) a → b_digits ≡ take (digits_end b) b → a_behind ≡ drop (digits_end a) a → b_behind ≡ drop (digits_end b) b
+pub numbers_decide : (s : Bool) (a b a_digits b_digits a_after b_after : List ℕ) (o : Ordering) (test : Bool) → BeginsWithDigit a → BeginsWithDigit b → 0 < length a → 0 < length b
+    → a_digits ≡ take (digits_end a) a → b_digits ≡ take (digits_end b) b → a_after ≡ drop (digits_end a) a → b_after ≡ drop (digits_end b) b
     → o ≡ nat_cmp (digits_value 10 a_digits) (digits_value 10 b_digits) → test ≡ is_ne o → test ≡ true → o ≡ numbers_order s a b
-numbers_decide s a b a_digits b_digits a_behind b_behind o test ha hb la lb da db ba bb e t h =
-    then-decided_by_test o (parts_order s a_behind b_behind) _ test e t h ∙ sym (order_at_number s a b a_digits b_digits a_behind b_behind ha hb la lb da db ba bb)
+numbers_decide s a b a_digits b_digits a_after b_after o test ha hb la lb da db ba bb e t h =
+    then-decided_by_test o (parts_order s a_after b_after) _ test e t h ∙ sym (order_at_number s a b a_digits b_digits a_after b_after ha hb la lb da db ba bb)
 
 -- or they don't
-pub numbers_tie : (s : Bool) (a b a_digits b_digits a_behind b_behind : List ℕ) (o : Ordering) (test : Bool) → BeginsWithDigit a → BeginsWithDigit b → 0 < length a → 0 < length b
-    → a_digits ≡ take (digits_end a) a → b_digits ≡ take (digits_end b) b → a_behind ≡ drop (digits_end a) a → b_behind ≡ drop (digits_end b) b
-    → o ≡ nat_cmp (digits_value 10 a_digits) (digits_value 10 b_digits) → test ≡ is_ne o → test ≡ false → numbers_order s a b ≡ parts_order s a_behind b_behind
-numbers_tie s a b a_digits b_digits a_behind b_behind o test ha hb la lb da db ba bb e t h =
-    order_at_number s a b a_digits b_digits a_behind b_behind ha hb la lb da db ba bb ∙ sym (then-tied_by_test o (parts_order s a_behind b_behind) _ test e t h)
+pub numbers_tie : (s : Bool) (a b a_digits b_digits a_after b_after : List ℕ) (o : Ordering) (test : Bool) → BeginsWithDigit a → BeginsWithDigit b → 0 < length a → 0 < length b
+    → a_digits ≡ take (digits_end a) a → b_digits ≡ take (digits_end b) b → a_after ≡ drop (digits_end a) a → b_after ≡ drop (digits_end b) b
+    → o ≡ nat_cmp (digits_value 10 a_digits) (digits_value 10 b_digits) → test ≡ is_ne o → test ≡ false → numbers_order s a b ≡ parts_order s a_after b_after
+numbers_tie s a b a_digits b_digits a_after b_after o test ha hb la lb da db ba bb e t h =
+    order_at_number s a b a_digits b_digits a_after b_after ha hb la lb da db ba bb ∙ sym (then-tied_by_test o (parts_order s a_after b_after) _ test e t h)
 
 -- what the test for an empty slice says
 pub no_bytes : (n : ℕ) (empty : Bool) → empty ≡ (n == 0) → empty ≡ true → n ≡ 0

@@ -5,7 +5,7 @@ use Rattle.isort_settings.specs.Orders.{cut_at_numbers, parts, text, number, nat
 cut_nothing : cut_at_numbers [] ≡ record { first = []; others = [] }
 cut_nothing = refl
 
-cut_b10 : cut_at_numbers (codes "b10") ≡ record { first = codes "b"; others = record { digits = codes "10"; behind = [] } ∷ [] }
+cut_b10 : cut_at_numbers (codes "b10") ≡ record { first = codes "b"; others = record { digits = codes "10"; after = [] } ∷ [] }
 cut_b10 = refl
 
 parts_nothing : parts false [] ≡ text [] ∷ []
@@ -32,8 +32,8 @@ b9_before_b10 = refl
 zero_is_a_number : natural_cmp false (codes "a") (codes "A0") ≡ Less
 zero_is_a_number = refl
 
-a1_behind_a01 : natural_cmp false (codes "a1") (codes "a01") ≡ Greater
-a1_behind_a01 = refl
+a1_after_a01 : natural_cmp false (codes "a1") (codes "a01") ≡ Greater
+a1_after_a01 = refl
 
 constant_place : class_place (codes "A_1") ≡ 0
 constant_place = refl

@@ -14,7 +14,7 @@ use Rattle.isort_settings.specs.Values.{Values}
 -- a number in a text, as its digits, and the text after it, up to the next number
 pub record Numbered : Type 0 where
   pub digits : List ℕ
-  pub behind : List ℕ
+  pub after : List ℕ
 
 -- a text cut at its numbers, which are its longest runs of ASCII digits: the text before the first one, and each of
 -- them with the text after it
@@ -25,7 +25,7 @@ pub record NumberCut : Type 0 where
 -- a digit before a text and the numbers after it: where the text is empty, the digit belongs to the first number
 abbrev pub digit_before : ℕ → List ℕ → List Numbered → NumberCut
 digit_before d [] (n ∷ others) = record { first = []; others = record n { digits = d ∷ n.digits } ∷ others }
-digit_before d behind others = record { first = []; others = record { digits = d ∷ []; behind = behind } ∷ others }
+digit_before d after others = record { first = []; others = record { digits = d ∷ []; after = after } ∷ others }
 
 -- a digit before a cut text: it belongs to the number that the text begins with, or is one by itself
 abbrev pub digit_in_front : ℕ → NumberCut → NumberCut
@@ -52,7 +52,7 @@ cased sensitive name = if sensitive then name else map to_ascii_lowercase name
 abbrev pub parts : Bool → List ℕ → List Part
 parts sensitive name =
     let c = cut_at_numbers (cased sensitive name) in
-    text c.first ∷ flat_map (λ n. number (digits_value 10 n.digits) ∷ text n.behind ∷ []) c.others
+    text c.first ∷ flat_map (λ n. number (digits_value 10 n.digits) ∷ text n.after ∷ []) c.others
 
 -- texts by their bytes, numbers by their value, of any length (a text and a number never stand at one place)
 abbrev pub part_cmp : Part → Part → Ordering

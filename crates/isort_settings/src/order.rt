@@ -95,14 +95,14 @@ fn parts_cmp(a: &[u8], b: &[u8], case_sensitive: bool) -> Ordering
         if a_rest.is_empty() || b_rest.is_empty() {
             return a_rest.len().cmp(&b_rest.len());
         }
-        let (a_digits, a_behind) = split_number(a_rest);
-        let (b_digits, b_behind) = split_number(b_rest);
+        let (a_digits, a_after) = split_number(a_rest);
+        let (b_digits, b_after) = split_number(b_rest);
         let by_number = number_cmp(a_digits, b_digits);
         if by_number.is_ne() {
             return by_number;
         }
-        a_left = a_behind;
-        b_left = b_behind;
+        a_left = a_after;
+        b_left = b_after;
     }
 }
 

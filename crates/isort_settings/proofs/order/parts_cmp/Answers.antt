@@ -1,6 +1,6 @@
 -- Text by text and number by number.
 use Rattle.std.proofs.Common.{◌≡◌, inl, inr, sym, ◌∙◌}
-use Rattle.isort_settings.proofs.OrderParts.{text_decides, text_ties, numbers_decide, numbers_tie, compare_end, BeginsWithDigit-rest, AllDigits-digits, shorter_behind, no_bytes, some_bytes, parts_order, numbers_order}
+use Rattle.isort_settings.proofs.OrderParts.{text_decides, text_ties, numbers_decide, numbers_tie, compare_end, BeginsWithDigit-rest, AllDigits-digits, shorter_after, no_bytes, some_bytes, parts_order, numbers_order}
 use Rattle.isort_settings.proofs.order.parts_cmp.Goals.{then-is_empty-via-then-is_empty, then-is_empty-via-else-is_empty+then-is_empty-2}
 use Rattle.isort_settings.proofs.order.parts_cmp.Goals as goal
 
@@ -50,7 +50,7 @@ returns-then-is_ne-2 c =
 pub loop-a_rest-smaller : goal.loop-a_rest-smaller
 loop-a_rest-smaller c =
     let a_some = some_bytes _ _ c.is_empty.ensures c.if-is_empty.false in
-    shorter_behind c.loop-a_rest.a_left.now c.split_text.result.1.now _ c.split_text.ensures.rest c.split_number.ensures.rest a_some
+    shorter_after c.loop-a_rest.a_left.now c.split_text.result.1.now _ c.split_text.ensures.rest c.split_number.ensures.rest a_some
 
 pub loop-a_rest-preserved : goal.loop-a_rest-preserved
 loop-a_rest-preserved c =
