@@ -16,14 +16,14 @@ use crate::input::Inputs;
 use crate::messages::{tell, tell_no_memory};
 use crate::output::Output;
 use crate::settings::{settings_of, tell_refusal};
-use crate::task::perform;
-use isort_cmd::{Job, Settings, UsageError, command};
+use crate::task::{perform, prints};
+use isort_cmd::{Action, Job, RunError, Settings, UsageError, command};
 use std::env;
 use std::io::{self, ErrorKind};
 use std::process::ExitCode;
 
 /// How many bytes a file may have.
-const MOST_BYTES: u64 = 1 << 30;
+const MAX_BYTES: u64 = 1 << 30;
 
 /// The status where a file isn't sorted under a check, or where something could not be read, understood or written.
 const FAILED: u8 = 1;
@@ -84,9 +84,33 @@ fn run_over_files(rt: &HostRuntime, job: &Job, settings: &Settings) -> u8 {
     let mut output = Output::new();
     let mut status = 0;
     for path in &job.files {
-        let path = path.as_str();
-        let result = perform(rt, &mut inputs, job.action.task(path), path, settings);
-        status = status.max(output.tell_result(rt, path, &job.action, &result));
+        let told = run_over_file(
+            rt,
+            &mut inputs,
+            &mut output,
+            &job.action,
+            path.as_str(),
+            settings,
+        );
+        status = status.max(told);
     }
     status
+}
+
+/// Does the action on the file at `path`, tells what came of it, and answers the status for it. A write that failed where the
+/// text goes to standard output is no fault of the file.
+fn run_over_file(
+    rt: &HostRuntime,
+    inputs: &mut Inputs,
+    output: &mut Output,
+    action: &Action,
+    path: &str,
+    settings: &Settings,
+) -> u8 {
+    let task = action.task(path);
+    let result = perform(rt, inputs, task, path, settings);
+    if prints(task) && matches!(result, Err(RunError::Write)) {
+        return output.tell_broken(rt);
+    }
+    output.tell_result(rt, path, action, &result)
 }

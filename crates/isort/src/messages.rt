@@ -1,5 +1,5 @@
 //! What the program tells on standard error.
-use isort_cmd::{RunError, fault_text};
+use isort_cmd::{OUT_OF_MEMORY, RunError, fault_text};
 use std::io::{self, ErrorKind, Write};
 
 /// Puts a text on standard error. One that can't be written there is lost: no other place is left to tell it.
@@ -9,7 +9,7 @@ pub(crate) fn tell(rt: &HostRuntime, text: &str) {
 
 /// Tells that memory ran out, where no file is to blame.
 pub(crate) fn tell_no_memory(rt: &HostRuntime) {
-    tell(rt, "isort: R5 out of memory\n");
+    tell(rt, OUT_OF_MEMORY);
 }
 
 /// What an error of a file is told as: that memory ran out, or else as the other one.

@@ -1,7 +1,7 @@
 //! Standard output, and what is told of each file.
 use crate::FAILED;
 use crate::messages::{tell, tell_error, tell_no_memory};
-use isort_cmd::{Action, Outcome, RunError, Task, report};
+use isort_cmd::{Action, Outcome, RunError, report};
 use std::io::Write;
 
 /// What standard output is called where it can't be written.
@@ -31,8 +31,7 @@ impl Output {
         self.tell_broken(rt)
     }
 
-    /// Tells what came of the file at `path`, and answers the status for it. A write that failed where the text goes to
-    /// standard output is no fault of the file.
+    /// Tells what came of the file at `path`, and answers the status for it.
     pub(crate) fn tell_result(
         &mut self,
         rt: &HostRuntime,
@@ -40,10 +39,6 @@ impl Output {
         action: &Action,
         answer: &Result<Outcome, RunError>,
     ) -> u8 {
-        let is_printed = matches!(action.task(path), Task::List(_) | Task::Print);
-        if is_printed && matches!(answer, Err(RunError::Write)) {
-            return self.tell_broken(rt);
-        }
         let Ok(report) = report(rt.alloc(), path, action, answer) else {
             tell_no_memory(rt);
             return FAILED;
@@ -53,7 +48,7 @@ impl Output {
     }
 
     /// Tells that standard output is broken, where it wasn't told before, and answers the status.
-    fn tell_broken(&mut self, rt: &HostRuntime) -> u8 {
+    pub(crate) fn tell_broken(&mut self, rt: &HostRuntime) -> u8 {
         if !self.is_broken {
             self.is_broken = true;
             tell_error(rt, OUTPUT_NAME, &RunError::Write);

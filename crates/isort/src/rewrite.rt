@@ -2,7 +2,7 @@
 //!
 //! The new text goes to a new file beside the old one, which is renamed over the old one when it is whole. Where that
 //! can't be, the text is written in place, and a write that fails is taken back.
-use crate::MOST_BYTES;
+use crate::MAX_BYTES;
 use isort_cmd::{Metered, RunError, read_text};
 use std::fs::{self, File, Metadata};
 use std::io::{self, ErrorKind, Seek, Write};
@@ -11,7 +11,7 @@ use std::path::{Path, PathBuf};
 use std::process;
 
 /// How many names are tried for the new file.
-const MOST_NAMES: u32 = 16;
+const MAX_NAMES: u32 = 16;
 
 /// The permissions of the new file until it has those of the old one: nobody else may read it.
 const OWNER_ONLY: u32 = 0o600;
@@ -114,7 +114,7 @@ impl<'a> Change<'a> {
     fn expect_old_text(&self, rt: &HostRuntime) -> io::Result<()> {
         let mut file = &self.file;
         file.rewind()?;
-        match read_text(rt.alloc(), &mut Metered::new(file), MOST_BYTES) {
+        match read_text(rt.alloc(), &mut Metered::new(file), MAX_BYTES) {
             Ok(held) if held.as_slice() == self.old => Ok(()),
             Err(RunError::Memory) => Err(io::Error::from(ErrorKind::OutOfMemory)),
             _ => Err(changed()),
@@ -224,7 +224,7 @@ fn create_beside(rt: &HostRuntime, target: Path<'_>) -> io::Result<(PathBuf, Fil
         return Err(io::Error::from(ErrorKind::Unsupported));
     };
     let id = process::id(rt.process());
-    for number in 0..MOST_NAMES {
+    for number in 0..MAX_NAMES {
         let name = format!(in rt.alloc(); ".{name}.isort-{id}-{number}.tmp")?;
         let beside = target.with_file_name(rt.alloc(), name.as_str())?;
         match create(rt, beside.as_path()) {

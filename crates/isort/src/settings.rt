@@ -1,5 +1,5 @@
 //! The settings of a run that sorts.
-use crate::MOST_BYTES;
+use crate::MAX_BYTES;
 use crate::messages::{tell, tell_error, tell_no_memory, told_as};
 use isort_cmd::{
     Action, Metered, Profile, RunError, Settings, SettingsError, read_text, settings_text,
@@ -78,7 +78,7 @@ fn settings_bytes<'a>(rt: &HostRuntime, named: Option<&'a str>) -> Result<Vec<u8
         }
         Err(error) => return Err(Refusal::File(path, told_as(&error, RunError::Read))),
     };
-    match read_text(rt.alloc(), &mut Metered::new(file), MOST_BYTES) {
+    match read_text(rt.alloc(), &mut Metered::new(file), MAX_BYTES) {
         Ok(text) => Ok(text),
         Err(error) => Err(Refusal::File(path, error)),
     }

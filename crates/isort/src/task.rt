@@ -1,5 +1,5 @@
 //! What is done with each file.
-use crate::MOST_BYTES;
+use crate::MAX_BYTES;
 use crate::input::Inputs;
 use crate::messages::told_as;
 use crate::rewrite::rewrite;
@@ -21,10 +21,19 @@ pub(crate) fn perform(
 ) -> Result<Outcome, RunError> {
     match task {
         Task::List(options) => list(rt, inputs, path, options),
-        Task::Check => check(rt, inputs, path, settings),
+        Task::Check => Ok(if is_sorted(rt, inputs, path, settings)? {
+            Outcome::Same
+        } else {
+            Outcome::Changed
+        }),
         Task::Print => print_sorted(rt, inputs, path, settings),
         Task::Rewrite => sort_file(rt, inputs, path, settings),
     }
+}
+
+/// Whether the task prints on standard output what it makes of the text.
+pub(crate) fn prints(task: Task) -> bool {
+    matches!(task, Task::List(_) | Task::Print)
 }
 
 /// Standard output, through a buffer.
@@ -61,24 +70,20 @@ fn list(
         &mut writer,
         path,
         options,
-        MOST_BYTES,
+        MAX_BYTES,
     );
     written_out(writer, listed.map(|()| Outcome::Same))
 }
 
-/// Compares the text with its sorted text.
-fn check(
+/// Whether the text is its own sorted text.
+fn is_sorted(
     rt: &HostRuntime,
     inputs: &mut Inputs,
     path: &str,
     settings: &Settings,
-) -> Result<Outcome, RunError> {
+) -> Result<bool, RunError> {
     let mut reader = Metered::new(inputs.open(rt, path)?);
-    Ok(if check_run(rt.alloc(), &mut reader, settings, MOST_BYTES)? {
-        Outcome::Same
-    } else {
-        Outcome::Changed
-    })
+    check_run(rt.alloc(), &mut reader, settings, MAX_BYTES)
 }
 
 /// Puts the sorted text on standard output.
@@ -90,7 +95,7 @@ fn print_sorted(
 ) -> Result<Outcome, RunError> {
     let mut reader = Metered::new(inputs.open(rt, path)?);
     let mut writer = Metered::new(buffered_output(rt)?);
-    let sorted = sort_run(rt.alloc(), &mut reader, &mut writer, settings, MOST_BYTES);
+    let sorted = sort_run(rt.alloc(), &mut reader, &mut writer, settings, MAX_BYTES);
     written_out(writer, sorted)
 }
 
@@ -102,12 +107,11 @@ fn sort_file(
     settings: &Settings,
 ) -> Result<Outcome, RunError> {
     let seen = look_at(rt, path)?;
-    let checked = check(rt, inputs, path, settings)?;
-    if !matches!(checked, Outcome::Changed) {
-        return Ok(checked);
+    if is_sorted(rt, inputs, path, settings)? {
+        return Ok(Outcome::Same);
     }
     let mut reader = Metered::new(inputs.open(rt, path)?);
-    let old = read_text(rt.alloc(), &mut reader, MOST_BYTES)?;
+    let old = read_text(rt.alloc(), &mut reader, MAX_BYTES)?;
     drop(reader);
     let (outcome, new) = sort_in_memory(rt, old.as_slice(), settings)?;
     if !matches!(outcome, Outcome::Changed) {
@@ -127,7 +131,7 @@ fn sort_in_memory(
 ) -> Result<(Outcome, Vec<u8>), RunError> {
     let mut reader = Metered::new(text);
     let mut writer = Metered::new(Vec::with_capacity(rt.alloc(), text.len())?);
-    match sort_run(rt.alloc(), &mut reader, &mut writer, settings, MOST_BYTES) {
+    match sort_run(rt.alloc(), &mut reader, &mut writer, settings, MAX_BYTES) {
         Ok(outcome) => Ok((outcome, writer.into_inner())),
         // A vector refuses bytes only where memory runs out.
         Err(RunError::Write) => Err(RunError::Memory),

@@ -1,4 +1,4 @@
--- What listing a piece leaves.
+-- What listing a chunk leaves.
 use Rattle.std.proofs.Common.{◌≡◌, ℕ, ◌+◌, ◌-◌, ◌≤◌, false, Option, Err, List, [], ◌++◌, length, take, drop, refl, sym, ap, ◌∙◌, subst, append_assoc, length-append, arith}
 use Rattle.std.proofs.lemmas.Grind.{common_steps}
 use Rattle.std.proofs.lemmas.List.{append-nil, length-take-le, take-append-drop}
@@ -10,12 +10,12 @@ use Rattle.isort_sort.specs.Metered.{IsGivenUp}
 use Rattle.isort_sort.specs.declared.metered.Last.{Last}
 use Rattle.isort_sort.specs.declared.metered.Last.TheVariants as last
 use Rattle.isort_cmd.specs.RunError.{run_error_of}
-use Rattle.isort_cmd.specs.Private.Stages.{ListingState, ListsAll, StopsReady, StopsInPiece, TakesWholePiece}
-use Rattle.isort_cmd.specs.Private.Steps.{IsOutputError, HasListedSettled, HasListedGiven, HoldsNone, LeavesPiece, LooksAtHeld}
+use Rattle.isort_cmd.specs.Private.Stages.{ListingState, ListsAll, StopsReady, StopsInChunk, TakesWholeChunk}
+use Rattle.isort_cmd.specs.Private.Steps.{IsOutputError, HasListedSettled, HasListedGiven, HoldsNone, LeavesChunk, LooksAtHeld}
 use Rattle.isort_cmd.specs.declared.error.RunError.{RunError}
 use Rattle.isort_cmd.specs.declared.error.RunError.TheVariants as run
 use Rattle.isort_cmd.proofs.ListingLemmas.{GivenBegin}
-use Rattle.isort_cmd.proofs.PieceLemmas.{FoundLaws, front_each, has_listed_kept, leaves_each, leaves_fed, looked_listed, taken_listed, to_next}
+use Rattle.isort_cmd.proofs.ChunkLemmas.{FoundLaws, front_each, has_listed_kept, leaves_each, leaves_fed, looked_listed, taken_listed, to_next}
 use Rattle.isort_cmd.proofs.StageLemmas.{error_of_find, goes_at, stops_ready}
 
 -- ---- the byte that is held
@@ -24,7 +24,7 @@ use Rattle.isort_cmd.proofs.StageLemmas.{error_of_find, goes_at, stops_ready}
 pub looks_at_fault : FoundLaws → (old : PieceFinderState) (e : FindError) (new : PieceFinderState) → FeedsPiece old [] (Err e) new → LooksAtHeld old (Err (run_error_of e)) new
 looks_at_fault laws old e new feeds = (
   error_of_find e last.Fine refl,
-  λ path known options start now to. subst (λ (k : List ℕ). LeavesPiece path k options (run_error_of e) start now) (append-nil known) (leaves_fed laws path known [] options old e new start now feeds to),
+  λ path known options start now to. subst (λ (k : List ℕ). LeavesChunk path k options (run_error_of e) start now) (append-nil known) (leaves_fed laws path known [] options old e new start now feeds to),
 )
 
 -- memory ran out
@@ -42,21 +42,21 @@ looks_at_none laws old n new open_yet takes none =
       listed = λ path known options start now to. looked_listed laws path known options old n new start now open_yet takes none to;
     }
 
--- ---- inside a piece
+-- ---- inside a chunk
 
--- These bytes of a piece are left. Of the others all that is ready was listed.
-pub record IsAmid (piece rest : List ℕ) (old now : ListingState) : Type 0 where
+-- These bytes of a chunk are left. Of the others all that is ready was listed.
+pub record IsAmid (chunk rest : List ℕ) (old now : ListingState) : Type 0 where
   pub same_path : now.path ≡ old.path
   pub fine : now.last ≡ last.Fine
   pub front : List ℕ
-  pub split : front ++ rest ≡ piece
+  pub split : front ++ rest ≡ chunk
   pub fed : fed_by now.finder ≡ fed_by old.finder + length front
   pub open_yet : now.finder.scanning.ended ≡ false
   pub none_ready : has_ready now.finder ≡ false
   pub listed : (known : List ℕ) (options : FindOptions) (start : Option (List ℕ)) → HasListedSettled old.path known options old.finder start old.written → HasListedGiven old.path (known ++ front) options now.finder start now.written
 
-pub amid_first : (piece : List ℕ) (s : ListingState) → s.last ≡ last.Fine → s.finder.scanning.ended ≡ false → has_ready s.finder ≡ false → IsAmid piece piece s s
-amid_first piece s fine open_yet none = record {
+pub amid_first : (chunk : List ℕ) (s : ListingState) → s.last ≡ last.Fine → s.finder.scanning.ended ≡ false → has_ready s.finder ≡ false → IsAmid chunk chunk s s
+amid_first chunk s fine open_yet none = record {
   same_path = refl;
   fine = fine;
   front = [];
@@ -75,9 +75,9 @@ amid_first piece s fine open_yet none = record {
 parts_of : (n : ℕ) (bytes : List ℕ) → n ≤ length bytes → take n bytes ++ take (length bytes - n) (drop n bytes) ≡ bytes
 parts_of n bytes within = grind (arith, common_steps)
 
--- more bytes of the piece were taken, and what got ready was listed
-pub amid_next : FoundLaws → (piece rest : List ℕ) (old now : ListingState) (n : ℕ) (mid : PieceFinderState) (new : ListingState) → IsAmid piece rest old now → TakesFromPiece now.finder rest n mid → ListsAll (record now { finder = mid }) new → IsAmid piece (take (length rest - n) (drop n rest)) old new
-amid_next laws piece rest old now n mid new amid takes all =
+-- more bytes of the chunk were taken, and what got ready was listed
+pub amid_next : FoundLaws → (chunk rest : List ℕ) (old now : ListingState) (n : ℕ) (mid : PieceFinderState) (new : ListingState) → IsAmid chunk rest old now → TakesFromPiece now.finder rest n mid → ListsAll (record now { finder = mid }) new → IsAmid chunk (take (length rest - n) (drop n rest)) old new
+amid_next laws chunk rest old now n mid new amid takes all =
     let goes = all.goes_on in
     let size = length-take-le n rest takes.within in
     let joined = length-append amid.front (take n rest) in
@@ -98,70 +98,70 @@ amid_next laws piece rest old now n mid new amid takes all =
           subst (λ (k : List ℕ). HasListedGiven old.path k options new.finder start new.written) (append_assoc known amid.front (take n rest)) (to_next old.path ((known ++ amid.front) ++ take n rest) options mid new.finder start now.written new.written goes.fed goes.no_fault (λ text. goes_at old.path (record now { finder = mid }) new amid.same_path goes text options start) to);
     }
 
--- feeding more of the piece failed
-pub amid_fed : FoundLaws → (piece rest : List ℕ) (old now : ListingState) (e : FindError) (mid : PieceFinderState) → IsAmid piece rest old now → FeedsPiece now.finder rest (Err e) mid → StopsInPiece old piece (run_error_of e) (record now { finder = mid })
-amid_fed laws piece rest old now e mid amid feeds = record {
+-- feeding more of the chunk failed
+pub amid_fed : FoundLaws → (chunk rest : List ℕ) (old now : ListingState) (e : FindError) (mid : PieceFinderState) → IsAmid chunk rest old now → FeedsPiece now.finder rest (Err e) mid → StopsInChunk old chunk (run_error_of e) (record now { finder = mid })
+amid_fed laws chunk rest old now e mid amid feeds = record {
   error = error_of_find e now.last amid.fine;
   leaves = λ known options start so_far.
-      let whole : (known ++ amid.front) ++ rest ≡ known ++ piece = append_assoc known amid.front rest ∙ ap (λ x. known ++ x) amid.split in
-      subst (λ (k : List ℕ). LeavesPiece old.path k options (run_error_of e) start now.written) whole (leaves_fed laws old.path (known ++ amid.front) rest options now.finder e mid start now.written feeds (amid.listed known options start so_far));
+      let whole : (known ++ amid.front) ++ rest ≡ known ++ chunk = append_assoc known amid.front rest ∙ ap (λ x. known ++ x) amid.split in
+      subst (λ (k : List ℕ). LeavesChunk old.path k options (run_error_of e) start now.written) whole (leaves_fed laws old.path (known ++ amid.front) rest options now.finder e mid start now.written feeds (amid.listed known options start so_far));
 }
 
--- more of the piece was taken, and listing what got ready failed
-pub amid_ready : FoundLaws → (piece rest : List ℕ) (old now : ListingState) (n : ℕ) (mid : PieceFinderState) (e : RunError) (new : ListingState) → IsAmid piece rest old now → TakesFromPiece now.finder rest n mid → StopsReady (record now { finder = mid }) e new → StopsInPiece old piece e new
-amid_ready laws piece rest old now n mid e new amid takes stops = record {
+-- more of the chunk was taken, and listing what got ready failed
+pub amid_ready : FoundLaws → (chunk rest : List ℕ) (old now : ListingState) (n : ℕ) (mid : PieceFinderState) (e : RunError) (new : ListingState) → IsAmid chunk rest old now → TakesFromPiece now.finder rest n mid → StopsReady (record now { finder = mid }) e new → StopsInChunk old chunk e new
+amid_ready laws chunk rest old now n mid e new amid takes stops = record {
   error = stops.error;
   leaves = λ known options start so_far.
       let to = taken_listed laws old.path (known ++ amid.front) rest options now.finder n mid start now.written amid.open_yet takes (amid.listed known options start so_far) in
-      let whole : ((known ++ amid.front) ++ take n rest) ++ drop n rest ≡ known ++ piece = append_assoc (known ++ amid.front) (take n rest) (drop n rest) ∙ ap (λ x. (known ++ amid.front) ++ x) (take-append-drop n rest) ∙ append_assoc known amid.front rest ∙ ap (λ x. known ++ x) amid.split in
-      subst (λ (k : List ℕ). LeavesPiece old.path k options e start new.written) whole (leaves_each laws old.path ((known ++ amid.front) ++ take n rest) (drop n rest) options mid e start new.written to.fed (takes.open_yet ∙ amid.open_yet) (λ text goes. stops_ready old.path (record now { finder = mid }) new e amid.same_path stops text options start (to.listed text goes)));
+      let whole : ((known ++ amid.front) ++ take n rest) ++ drop n rest ≡ known ++ chunk = append_assoc (known ++ amid.front) (take n rest) (drop n rest) ∙ ap (λ x. (known ++ amid.front) ++ x) (take-append-drop n rest) ∙ append_assoc known amid.front rest ∙ ap (λ x. known ++ x) amid.split in
+      subst (λ (k : List ℕ). LeavesChunk old.path k options e start new.written) whole (leaves_each laws old.path ((known ++ amid.front) ++ take n rest) (drop n rest) options mid e start new.written to.fed (takes.open_yet ∙ amid.open_yet) (λ text goes. stops_ready old.path (record now { finder = mid }) new e amid.same_path stops text options start (to.listed text goes)));
 }
 
--- ---- where the piece was taken whole
+-- ---- where the chunk was taken whole
 
 -- what was listed of it
-listed_whole : (piece rest : List ℕ) (old now : ListingState) → (amid : IsAmid piece rest old now) → rest ≡ [] → (known : List ℕ) (options : FindOptions) (start : Option (List ℕ)) → HasListedSettled old.path known options old.finder start old.written → HasListedGiven old.path (known ++ piece) options now.finder start now.written
-listed_whole piece rest old now amid none known options start so_far = subst (λ (k : List ℕ). HasListedGiven old.path (known ++ k) options now.finder start now.written) (front_whole amid none) (amid.listed known options start so_far)
+listed_whole : (chunk rest : List ℕ) (old now : ListingState) → (amid : IsAmid chunk rest old now) → rest ≡ [] → (known : List ℕ) (options : FindOptions) (start : Option (List ℕ)) → HasListedSettled old.path known options old.finder start old.written → HasListedGiven old.path (known ++ chunk) options now.finder start now.written
+listed_whole chunk rest old now amid none known options start so_far = subst (λ (k : List ℕ). HasListedGiven old.path (known ++ k) options now.finder start now.written) (front_whole amid none) (amid.listed known options start so_far)
   where
-    front_whole : (a : IsAmid piece rest old now) → rest ≡ [] → a.front ≡ piece
+    front_whole : (a : IsAmid chunk rest old now) → rest ≡ [] → a.front ≡ chunk
     front_whole a empty = sym (append-nil a.front) ∙ ap (λ x. a.front ++ x) (sym empty) ∙ a.split
 
 -- the byte that is held decides a fault
-pub amid_looked : (piece rest : List ℕ) (old now : ListingState) (e : RunError) (mid : PieceFinderState) → IsAmid piece rest old now → rest ≡ [] → LooksAtHeld now.finder (Err e) mid → StopsInPiece old piece e (record now { finder = mid })
-amid_looked piece rest old now e mid amid none looks = record {
+pub amid_looked : (chunk rest : List ℕ) (old now : ListingState) (e : RunError) (mid : PieceFinderState) → IsAmid chunk rest old now → rest ≡ [] → LooksAtHeld now.finder (Err e) mid → StopsInChunk old chunk e (record now { finder = mid })
+amid_looked chunk rest old now e mid amid none looks = record {
   error = subst (λ (l : Last). IsOutputError e l) (sym amid.fine) looks.0;
-  leaves = λ known options start so_far. looks.1 old.path (known ++ piece) options start now.written (listed_whole piece rest old now amid none known options start so_far);
+  leaves = λ known options start so_far. looks.1 old.path (known ++ chunk) options start now.written (listed_whole chunk rest old now amid none known options start so_far);
 }
 
 -- all is well
-pub amid_whole : (piece rest : List ℕ) (old now : ListingState) (mid : PieceFinderState) → IsAmid piece rest old now → rest ≡ [] → HoldsNone now.finder mid → TakesWholePiece old piece (record now { finder = mid })
-amid_whole piece rest old now mid amid none holds =
-    let whole : amid.front ≡ piece = sym (append-nil amid.front) ∙ ap (λ x. amid.front ++ x) (sym none) ∙ amid.split in
+pub amid_whole : (chunk rest : List ℕ) (old now : ListingState) (mid : PieceFinderState) → IsAmid chunk rest old now → rest ≡ [] → HoldsNone now.finder mid → TakesWholeChunk old chunk (record now { finder = mid })
+amid_whole chunk rest old now mid amid none holds =
+    let whole : amid.front ≡ chunk = sym (append-nil amid.front) ∙ ap (λ x. amid.front ++ x) (sym none) ∙ amid.split in
     record {
       same_path = amid.same_path;
       fine = amid.fine;
       fed = holds.fed ∙ amid.fed ∙ ap (λ (x : List ℕ). fed_by old.finder + length x) whole;
       open_yet = holds.open_yet;
       none_ready = holds.none_ready;
-      listed = λ known options start so_far. holds.listed old.path (known ++ piece) options start now.written (listed_whole piece rest old now amid none known options start so_far);
+      listed = λ known options start so_far. holds.listed old.path (known ++ chunk) options start now.written (listed_whole chunk rest old now amid none known options start so_far);
     }
 
 -- the writer was flushed
-pub flushed : (piece : List ℕ) (old now : ListingState) (written : Option (List ℕ)) (l : Last) → TakesWholePiece old piece now → Keeps now.written written → l ≡ last.Fine → TakesWholePiece old piece (record now { written = written; last = l })
-flushed piece old now written l takes kept fine = record {
+pub flushed : (chunk : List ℕ) (old now : ListingState) (written : Option (List ℕ)) (l : Last) → TakesWholeChunk old chunk now → Keeps now.written written → l ≡ last.Fine → TakesWholeChunk old chunk (record now { written = written; last = l })
+flushed chunk old now written l takes kept fine = record {
   same_path = takes.same_path;
   fine = fine;
   fed = takes.fed;
   open_yet = takes.open_yet;
   none_ready = takes.none_ready;
-  listed = λ known options start so_far. has_listed_kept old.path (known ++ piece) options now.finder start now.written written kept (takes.listed known options start so_far);
+  listed = λ known options start so_far. has_listed_kept old.path (known ++ chunk) options now.finder start now.written written kept (takes.listed known options start so_far);
 }
 
 -- flushing failed
-pub stops_at_flush : GivenBegin → (piece : List ℕ) (old now : ListingState) (written : Option (List ℕ)) (l : Last) → TakesWholePiece old piece now → Keeps now.written written → IsGivenUp l → StopsInPiece old piece run.Write (record now { written = written; last = l })
-stops_at_flush begin piece old now written l takes kept given_up = record {
+pub stops_at_flush : GivenBegin → (chunk : List ℕ) (old now : ListingState) (written : Option (List ℕ)) (l : Last) → TakesWholeChunk old chunk now → Keeps now.written written → IsGivenUp l → StopsInChunk old chunk run.Write (record now { written = written; last = l })
+stops_at_flush begin chunk old now written l takes kept given_up = record {
   error = given_up;
   leaves = λ known options start so_far.
-      let all = has_listed_kept old.path (known ++ piece) options now.finder start now.written written kept (takes.listed known options start so_far) in
-      front_each begin old.path (known ++ piece) options now.finder start written (λ text goes. (all.listed text goes).listed);
+      let all = has_listed_kept old.path (known ++ chunk) options now.finder start now.written written kept (takes.listed known options start so_far) in
+      front_each begin old.path (known ++ chunk) options now.finder start written (λ text goes. (all.listed text goes).listed);
 }

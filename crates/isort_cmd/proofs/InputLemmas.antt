@@ -35,9 +35,9 @@ all_read (Some all) None text consumed ended = absurd consumed
 all_read (Some all) (Some rest) text consumed ended = consumed ∙ ap (λ r. text ++ r) ended ∙ append-nil text
 
 -- no byte came at the end
-pub read_whole : (max n : ℕ) (text piece : List ℕ) (given mid left : Option (List ℕ)) → Consumes given mid text → n ≡ 0 → Consumes mid left (take n piece) → IsAtEnd left → length text ≤ max → IsReadWhole max text given left
-read_whole max n text piece given mid left consumed none read ended within = record {
-  whole = all_read given left text (subst (λ bytes. Consumes given left bytes) (ap (λ m. text ++ take m piece) none ∙ append-nil text) (Consumes-trans given mid left text (take n piece) consumed read)) ended;
+pub read_whole : (max n : ℕ) (text chunk : List ℕ) (given mid left : Option (List ℕ)) → Consumes given mid text → n ≡ 0 → Consumes mid left (take n chunk) → IsAtEnd left → length text ≤ max → IsReadWhole max text given left
+read_whole max n text chunk given mid left consumed none read ended within = record {
+  whole = all_read given left text (subst (λ bytes. Consumes given left bytes) (ap (λ m. text ++ take m chunk) none ∙ append-nil text) (Consumes-trans given mid left text (take n chunk) consumed read)) ended;
   within = within;
   end = ended;
 }

@@ -7,8 +7,8 @@
 -- Lines (proofs/PrintedLemmas): the lines of some bindings and then of others are those of all.
 --
 -- The listing. After each import the lines of all bindings that the finder has given were written, of every text that
--- begins with the bytes fed (`GivenAreListed` of specs/Private/Steps.antt; proofs/ListingLemmas). Where a piece was taken, that is
--- all that these bytes settle, and they decide no fault (`HasListedSettled`; proofs/PieceLemmas, AmidLemmas, ReadLemmas). The
+-- begins with the bytes fed (`GivenAreListed` of specs/Private/Steps.antt; proofs/ListingLemmas). Where a chunk was taken, that is
+-- all that these bytes settle, and they decide no fault (`HasListedSettled`; proofs/ChunkLemmas, AmidLemmas, ReadLemmas). The
 -- contracts of `feed`, `next_ready` and `finish` turn the end and the fault into `IsFound` (proofs/EndLemmas,
 -- IdentifyLemmas). If a write fails or memory runs out, the laws of isort_find make what was written a prefix of the
 -- lines of all that is found. Each call of `Listing` has one clause, a word matched on its answer; proofs/StageLemmas
@@ -18,7 +18,7 @@
 -- whatever the reader or writer does.
 pub mod PrintedLemmas
 pub mod ListingLemmas
-pub mod PieceLemmas
+pub mod ChunkLemmas
 pub mod InputLemmas
 pub mod ReadLemmas
 pub mod EndLemmas

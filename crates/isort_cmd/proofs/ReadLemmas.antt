@@ -1,4 +1,4 @@
--- What is listed of pieces that are read and fed, one after the other.
+-- What is listed of chunks that are read and fed, one after the other.
 use Rattle.std.proofs.Common.{◌≡◌, ℕ, ◌+◌, ◌-◌, ◌<◌, ◌≤◌, ◌∙◌, refl, sym, ap, subst, Bool, true, false, Option, None, Some, IfSome, List, [], ◌++◌, length, min, take, length-append, arith, nat_lt, ltb-true, ltb-false}
 use Rattle.std.proofs.Math.Seq.{take-append-add}
 use Rattle.std.proofs.lemmas.List.{append-nil, length-take-le, take-take, take_all}
@@ -9,8 +9,8 @@ use Rattle.isort_find.specs.declared.options.FindOptions.{FindOptions}
 use Rattle.isort_sort.specs.declared.metered.Last.{Last}
 use Rattle.isort_sort.specs.declared.metered.Last.TheVariants as last
 use Rattle.isort_cmd.specs.RunError.{LeavesReader, LeavesWriter}
-use Rattle.isort_cmd.specs.Private.Stages.{ListingState, StopsInPiece, StopsInput, TakesWholePiece, TakesInput}
-use Rattle.isort_cmd.specs.Private.Steps.{IsOutputError, IsReadError, HasListedSettled, LeavesPiece, LeavesKnown}
+use Rattle.isort_cmd.specs.Private.Stages.{ListingState, StopsInChunk, StopsInput, TakesWholeChunk, TakesInput}
+use Rattle.isort_cmd.specs.Private.Steps.{IsOutputError, IsReadError, HasListedSettled, LeavesChunk, LeavesKnown}
 use Rattle.isort_cmd.specs.Written.{AreFed}
 use Rattle.isort_cmd.specs.declared.error.RunError.{RunError}
 use Rattle.isort_cmd.specs.declared.error.RunError.TheVariants as run
@@ -48,13 +48,13 @@ leaves_read_error path known options finder run.Read l start now h listed = list
 leaves_read_error path known options finder run.TooLong l start now h listed = listed
 leaves_read_error path known options finder run.NeverEnds l start now h listed = listed
 
-leaves_piece_error : (path known : List ℕ) (options : FindOptions) (finder : PieceFinderState) (e : RunError) (start now : Option (List ℕ)) → LeavesPiece path known options e start now → LeavesKnown path known options finder e start now
-leaves_piece_error path known options finder (run.Fault f) start now h = h
-leaves_piece_error path known options finder run.Write start now h = h
-leaves_piece_error path known options finder run.Memory start now h = h
-leaves_piece_error path known options finder run.Read start now h = absurd h
-leaves_piece_error path known options finder run.TooLong start now h = absurd h
-leaves_piece_error path known options finder run.NeverEnds start now h = absurd h
+leaves_chunk_error : (path known : List ℕ) (options : FindOptions) (finder : PieceFinderState) (e : RunError) (start now : Option (List ℕ)) → LeavesChunk path known options e start now → LeavesKnown path known options finder e start now
+leaves_chunk_error path known options finder (run.Fault f) start now h = h
+leaves_chunk_error path known options finder run.Write start now h = h
+leaves_chunk_error path known options finder run.Memory start now h = h
+leaves_chunk_error path known options finder run.Read start now h = absurd h
+leaves_chunk_error path known options finder run.TooLong start now h = absurd h
+leaves_chunk_error path known options finder run.NeverEnds start now h = absurd h
 
 -- ---- a read failed
 
@@ -89,7 +89,7 @@ read_stops old now max given mid left e l takes kept h = record {
   too_long = λ is. absurd (no_read_is_too_long e l h is);
 }
 
--- ---- a piece was read
+-- ---- a chunk was read
 
 -- nothing was read yet
 pub takes_nothing : (s : ListingState) (max : ℕ) (given : Option (List ℕ)) → s.last ≡ last.Fine → Consumes given given [] → HasListedSettled s.path [] (options_for s.finder) s.finder s.written s.written → TakesInput s max given given s
@@ -146,30 +146,30 @@ pub no_output_is_too_long : (e : RunError) (l : Last) → IsOutputError e l → 
 no_output_is_too_long e l h is = subst (λ x. IsOutputError x l) is h
 
 -- listing what fits failed
-pub piece_stops : (old now new : ListingState) (max n fed fitting : ℕ) (buffer : List ℕ) (given mid left : Option (List ℕ)) (e : RunError) → TakesInput old max given mid now → n ≤ length buffer → Consumes mid left (take n buffer) → fed ≡ fed_by now.finder → fitting ≡ min (max - fed) n → StopsInPiece now (take fitting buffer) e new → StopsInput old max given e left new
-piece_stops old now new max n fed fitting buffer given mid left e takes there read same is stops =
+pub chunk_stops : (old now new : ListingState) (max n fed fitting : ℕ) (buffer : List ℕ) (given mid left : Option (List ℕ)) (e : RunError) → TakesInput old max given mid now → n ≤ length buffer → Consumes mid left (take n buffer) → fed ≡ fed_by now.finder → fitting ≡ min (max - fed) n → StopsInChunk now (take fitting buffer) e new → StopsInput old max given e left new
+chunk_stops old now new max n fed fitting buffer given mid left e takes there read same is stops =
     let lists = takes.lists in
     let known = lists.known ++ take fitting buffer in
     let options = options_for old.finder in
     let listed = subst (λ (p : List ℕ). HasListedSettled p lists.known options now.finder old.written now.written) (sym takes.same_path) lists.listed in
-    let leaves = subst (λ (p : List ℕ). LeavesPiece p known options e old.written new.written) takes.same_path (stops.leaves lists.known options old.written listed) in
+    let leaves = subst (λ (p : List ℕ). LeavesChunk p known options e old.written new.written) takes.same_path (stops.leaves lists.known options old.written listed) in
     record {
       writer = stopped_writer e new.last stops.error;
       leaves = record {
         known = known;
         fed = fed_fitting old now max n fed fitting buffer given mid left takes there read same is;
-        leaves = leaves_piece_error old.path known options new.finder e old.written new.written leaves;
+        leaves = leaves_chunk_error old.path known options new.finder e old.written new.written leaves;
       };
       too_long = λ long. absurd (no_output_is_too_long e new.last stops.error long);
     }
 
 -- what fits was listed
-listed_fitting : (old now new : ListingState) (max : ℕ) (piece : List ℕ) (given mid : Option (List ℕ)) → (takes : TakesInput old max given mid now) → TakesWholePiece now piece new → HasListedSettled old.path (takes.lists.known ++ piece) (options_for old.finder) new.finder old.written new.written
-listed_fitting old now new max piece given mid takes all =
+listed_fitting : (old now new : ListingState) (max : ℕ) (chunk : List ℕ) (given mid : Option (List ℕ)) → (takes : TakesInput old max given mid now) → TakesWholeChunk now chunk new → HasListedSettled old.path (takes.lists.known ++ chunk) (options_for old.finder) new.finder old.written new.written
+listed_fitting old now new max chunk given mid takes all =
     let lists = takes.lists in
     let options = options_for old.finder in
     let listed = subst (λ (p : List ℕ). HasListedSettled p lists.known options now.finder old.written now.written) (sym takes.same_path) lists.listed in
-    subst (λ (p : List ℕ). HasListedSettled p (lists.known ++ piece) options new.finder old.written new.written) takes.same_path (all.listed lists.known options old.written listed)
+    subst (λ (p : List ℕ). HasListedSettled p (lists.known ++ chunk) options new.finder old.written new.written) takes.same_path (all.listed lists.known options old.written listed)
 
 consumed_long : (max : ℕ) (given left : Option (List ℕ)) (bytes : List ℕ) → Consumes given left bytes → max < length bytes → IfSome given (λ text. max < length text)
 consumed_long max None left bytes consumed long = tt
@@ -179,7 +179,7 @@ consumed_long max (Some text) (Some rest) bytes consumed long =
     omega (arith, size, long)
 
 -- and more came
-pub more_came : (old now new : ListingState) (max n fed fitting : ℕ) (buffer : List ℕ) (given mid left : Option (List ℕ)) → TakesInput old max given mid now → n ≤ length buffer → Consumes mid left (take n buffer) → fed ≡ fed_by now.finder → fitting ≡ min (max - fed) n → fitting < n → TakesWholePiece now (take fitting buffer) new → StopsInput old max given run.TooLong left new
+pub more_came : (old now new : ListingState) (max n fed fitting : ℕ) (buffer : List ℕ) (given mid left : Option (List ℕ)) → TakesInput old max given mid now → n ≤ length buffer → Consumes mid left (take n buffer) → fed ≡ fed_by now.finder → fitting ≡ min (max - fed) n → fitting < n → TakesWholeChunk now (take fitting buffer) new → StopsInput old max given run.TooLong left new
 more_came old now new max n fed fitting buffer given mid left takes there read same is less all =
     let lists = takes.lists in
     let room = room_of old now max n fed fitting given mid takes same is in
@@ -194,8 +194,8 @@ more_came old now new max n fed fitting buffer given mid left takes there read s
       too_long = λ _. consumed_long max given left (lists.known ++ take n buffer) (Consumes-trans given mid left lists.known (take n buffer) lists.consumed read) (omega (arith, size, room, less));
     }
 
--- all of the piece did fit
-pub takes_more : (old now new : ListingState) (max n fed fitting : ℕ) (buffer : List ℕ) (given mid left : Option (List ℕ)) → TakesInput old max given mid now → n ≤ length buffer → Consumes mid left (take n buffer) → fed ≡ fed_by now.finder → fitting ≡ min (max - fed) n → n ≤ fitting → TakesWholePiece now (take fitting buffer) new → TakesInput old max given left new
+-- all of the chunk did fit
+pub takes_more : (old now new : ListingState) (max n fed fitting : ℕ) (buffer : List ℕ) (given mid left : Option (List ℕ)) → TakesInput old max given mid now → n ≤ length buffer → Consumes mid left (take n buffer) → fed ≡ fed_by now.finder → fitting ≡ min (max - fed) n → n ≤ fitting → TakesWholeChunk now (take fitting buffer) new → TakesInput old max given left new
 takes_more old now new max n fed fitting buffer given mid left takes there read same is whole all =
     let lists = takes.lists in
     let room = room_of old now max n fed fitting given mid takes same is in

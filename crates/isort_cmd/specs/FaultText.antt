@@ -14,6 +14,10 @@ error_words (run.Fault f) = fault_words f.kind
 error_words run.Memory = codes "R5 out of memory"
 error_words run.NeverEnds = codes "R6 reader never ends"
 
+-- the line that tells that memory ran out where no file is to blame
+abbrev pub memory_line : List ℕ
+memory_line = codes "isort: R5 out of memory\n"
+
 -- a fault is printed after the path and its line, any other error after the program's name and the path
 abbrev pub error_line : List ℕ → RunError → List ℕ
 error_line path (run.Fault f) = path ++ (codes ":" ++ (decimal f.line ++ (codes ": " ++ (error_words (run.Fault f) ++ 10 ∷ []))))

@@ -5,7 +5,7 @@ use Rattle.isort_settings.specs.declared.error.SettingsError.{SettingsError}
 use Rattle.isort_settings.specs.declared.error.SettingsError.TheVariants.{Memory, BadToml, BadValue, UnknownProfile, UnsupportedMode}
 use Rattle.isort_sort.specs.declared.answer.Outcome.{Outcome}
 use Rattle.isort_sort.specs.declared.answer.Outcome.TheVariants.{Changed}
-use Rattle.isort_cmd.specs.FaultText.{error_line}
+use Rattle.isort_cmd.specs.FaultText.{error_line, memory_line}
 use Rattle.isort_cmd.specs.declared.error.RunError.{RunError}
 use Rattle.isort_cmd.specs.declared.job.Action.{Action}
 use Rattle.isort_cmd.specs.declared.job.Task.{Task}
@@ -52,7 +52,7 @@ reported path action answer = told_of path (task_of path action) answer
 
 -- why settings are refused
 abbrev pub settings_line : SettingsError → List ℕ
-settings_line Memory = codes "isort: R5 out of memory" ++ 10 ∷ []
+settings_line Memory = memory_line
 settings_line BadToml = codes "isort: settings: S1 not TOML" ++ 10 ∷ []
 settings_line (BadValue key) = codes "isort: settings: S2 bad value for " ++ (name_of key ++ 10 ∷ [])
 settings_line UnknownProfile = codes "isort: settings: S3 unknown profile" ++ 10 ∷ []

@@ -33,9 +33,10 @@ pub fn check_run<R: Read>(
     requires small { max ≤ 2 ^ 62 }
 
     // Where the reader tells its bytes.
-    ensures ok { IfOk result (λ same. ChecksInput (values settings.now) max same (R.remaining (inner_of reader.old))
-        (R.remaining (inner_of reader.new))) }
-    ensures fault { IfErr result (λ e. IfSome (R.remaining (inner_of reader.old)) (λ text. TellsFault text e)) }
+    ensures ok { IfOk result (λ same. ChecksInput (values settings.now) max same
+        (R.remaining (inner_of reader.old)) (R.remaining (inner_of reader.new))) }
+    ensures fault { IfErr result (λ e. IfSome (R.remaining (inner_of reader.old))
+        (λ text. TellsFault text e)) }
     ensures length { IfErr result (λ e. TellsLength max e (R.remaining (inner_of reader.old))) }
 
     // At any reader.

@@ -99,7 +99,8 @@ fn key_option(matches: &ArgMatches<'_>) -> Option<ImportKey>
 /// The files, in their order.
 #[tactic(auto, using(crate::proofs::MatchLemmas::all_values_found))]
 fn files_of(alloc: Global, matches: &ArgMatches<'_>) -> Result<Vec<String>, AllocError>
-    ensures { IfOk result (λ files. map string_bytes files.items ≡ unwrap_or (all_of (codes "FILE") (rows_in matches.now)) []) }
+    ensures { IfOk result (λ files. map string_bytes files.items
+        ≡ unwrap_or (all_of (codes "FILE") (rows_in matches.now)) []) }
 {
     match matches.get_raw("FILE") {
         Some(paths) => copies(alloc, paths),
@@ -132,16 +133,10 @@ fn option_text(
     matches: &ArgMatches<'_>,
     name: &str,
 ) -> Result<Option<String>, AllocError>
-    ensures { IfOk result (λ text. option_map string_bytes text ≡ first_of name.now (rows_in matches.now)) }
+    ensures { IfOk result (λ text. option_map string_bytes text
+        ≡ first_of name.now (rows_in matches.now)) }
 {
-    copy_of_text(alloc, matches.get_str(name))
-}
-
-/// The text in memory of its own, if there is one.
-fn copy_of_text(alloc: Global, text: Option<&str>) -> Result<Option<String>, AllocError>
-    ensures { IfOk result (λ copy. option_map string_bytes copy ≡ option_map (λ t. t.now) text.entry) }
-{
-    match text {
+    match matches.get_str(name) {
         Some(text) => Ok(Some(String::from_str(alloc, text)?)),
         None => Ok(None),
     }

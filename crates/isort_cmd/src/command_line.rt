@@ -30,7 +30,8 @@ pub fn command(alloc: Global, words: Vec<String>) -> Result<Job, UsageError>
     // What is printed is a line at least: the parser's text too isn't empty.
     ensures line { IfErr result (λ e. EndsInLineFeed (usage_text e)) }
     // Words that the parser takes are neither refused nor answered with help.
-    ensures taken { takes isort_app (map string_bytes words.items) ≡ true → IfErr result (λ e. ¬ IsOfParser e) }
+    ensures taken { takes isort_app (map string_bytes words.items) ≡ true
+        → IfErr result (λ e. ¬ IsOfParser e) }
 {
     match parse(alloc, words.as_slice()) {
         Ok(matches) => job_of(alloc, &matches),
@@ -42,7 +43,8 @@ pub fn command(alloc: Global, words: Vec<String>) -> Result<Job, UsageError>
 fn parse<'a>(alloc: Global, words: &'a [String]) -> Result<ArgMatches<'a>, Error>
     ensures ok { IfOk result (IsParse (map string_bytes words.now)) }
     ensures err { IfErr result (HasKind (fault_of isort_app (map string_bytes words.now))) }
-    ensures taken { IfErr result (λ e. takes isort_app (map string_bytes words.now) ≡ true → kind_of e ≡ ErrorKind.OutOfMemory) }
+    ensures taken { IfErr result (λ e. takes isort_app (map string_bytes words.now) ≡ true
+        → kind_of e ≡ ErrorKind.OutOfMemory) }
 {
     isort_command(alloc)?.try_get_matches_from(words)
 }

@@ -4,7 +4,7 @@ ghost use Rattle.std.specs.Io.KnownBytes.{Keeps};
 ghost use Rattle.isort_sort.specs.Metered.{inner_of, last_of, IsGivenUp};
 
 use crate::error::RunError;
-use isort_sort::{Last, MOST_INTERRUPTIONS, Metered};
+use isort_sort::{Last, MAX_INTERRUPTIONS, Metered};
 use std::io::Write;
 
 /// Flushes, tried again where it was interrupted fewer than 1000 times in a row.
@@ -20,7 +20,7 @@ pub(crate) fn flush_whole<W: Write>(writer: &mut Metered<W>) -> Result<(), RunEr
             return Ok(());
         }
         match writer.last() {
-            Last::Interrupted(count) if count < MOST_INTERRUPTIONS => {}
+            Last::Interrupted(count) if count < MAX_INTERRUPTIONS => {}
             _ => return Err(RunError::Write),
         }
     }

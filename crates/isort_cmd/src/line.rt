@@ -9,7 +9,8 @@ use std::alloc::Global;
 
 /// Puts `path:line ` after `out`, and `indented ` where the line is.
 fn push_position(path: &str, line: u64, indented: bool, out: &mut String) -> Result<(), RunError>
-    ensures ok { OnOk result (string_bytes out.new ≡ string_bytes out.old ++ place_text path.now line indented) }
+    ensures ok { OnOk result (string_bytes out.new
+        ≡ string_bytes out.old ++ place_text path.now line indented) }
     ensures err { IfErr result (λ e. e ≡ RunError.Memory) }
 {
     write!(out, "{path}:{line} ")?;
@@ -26,7 +27,8 @@ pub(crate) fn push_line(
     path: &str,
     out: &mut String,
 ) -> Result<(), RunError>
-    ensures ok { OnOk result (string_bytes out.new ≡ string_bytes out.old ++ line_text path.now (bound_of binding.now)) }
+    ensures ok { OnOk result (string_bytes out.new
+        ≡ string_bytes out.old ++ line_text path.now (bound_of binding.now)) }
     ensures err { IfErr result (λ e. e ≡ RunError.Memory) }
 {
     push_position(path, binding.line, binding.indented, out)?;

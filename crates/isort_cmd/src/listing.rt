@@ -1,17 +1,17 @@
-//! Listing the imports of a text that is read in pieces.
+//! Listing the imports of a text that is read in chunks.
 ghost use Rattle.std.specs.Prelude.{◌≡◌, ◌+◌, ◌≤◌, ◌^◌, ℕ, false, List, [], length, IfOk, OnOk, IfErr};
 ghost use Rattle.py_lines.specs.declared.fault.Fault.{Fault};
 ghost use Rattle.isort_find.specs.Pieces.{fed_by, has_ready, options_for};
 ghost use Rattle.isort_sort.specs.Metered.{inner_of, last_of};
 ghost use Rattle.isort_cmd.specs.RunError.{IsUnread, EndsReading, EndsWriting};
 ghost use Rattle.isort_cmd.specs.Private.Steps.{HasListedSettled, LooksAtHeld};
-ghost use Rattle.isort_cmd.specs.Private.Stages.{listing_state, ListsNext, ListsReady, ListsPiece, ListsPieces, ListsEnd, TellsWritten};
+ghost use Rattle.isort_cmd.specs.Private.Stages.{listing_state, ListsNext, ListsReady, ListsChunk, ListsChunks, ListsEnd, TellsWritten};
 ghost use Rattle.isort_cmd.specs.Written.{ListsInput, LeavesInput, ListsUnread, ListsFaulty};
 
 use crate::error::RunError;
 use crate::flush::flush_whole;
 use crate::line::push_line;
-use crate::read::read_piece;
+use crate::read::read_chunk;
 use isort_find::laws::{given_begin_the_found, one_found, settled_found_is_final};
 use isort_find::{FindOptions, PieceFinder};
 use isort_sort::{Last, Metered, write_whole};
@@ -19,7 +19,7 @@ use std::alloc::Global;
 use std::io::{Read, Write};
 
 /// How many bytes a listing asks a read for: few, so that what has come is listed soon.
-const LIST_PIECE: usize = 8192;
+const LIST_CHUNK: usize = 8192;
 
 /// Looks at the byte that may be held after the last logical line: it may decide a fault.
 fn look_at_held(finder: &mut PieceFinder) -> Result<(), RunError>
@@ -54,8 +54,10 @@ impl Listing<'_> {
     /// Writes the line of the next import that is ready: whether there is one.
     fn list_next<W: Write>(&mut self, writer: &mut Metered<W>) -> Result<bool, RunError>
         requires { last_of writer.old ≡ Last.Fine }
-        ensures lists { ListsNext (listing_state W.contents self.old writer.old) result (listing_state W.contents self.new writer.new) }
-        ensures some { IfOk result (λ some. TellsWritten some (W.contents (inner_of writer.old)) (W.contents (inner_of writer.new))) }
+        ensures lists { ListsNext (listing_state W.contents self.old writer.old) result
+            (listing_state W.contents self.new writer.new) }
+        ensures some { IfOk result (λ some. TellsWritten some
+            (W.contents (inner_of writer.old)) (W.contents (inner_of writer.new))) }
     {
         given_begin_the_found();
         let Some(binding) = self.finder.next_ready()? else {
@@ -70,8 +72,10 @@ impl Listing<'_> {
     /// Writes the lines of all imports that are ready: whether there are any.
     fn list_ready<W: Write>(&mut self, writer: &mut Metered<W>) -> Result<bool, RunError>
         requires { last_of writer.old ≡ Last.Fine }
-        ensures lists { ListsReady (listing_state W.contents self.old writer.old) result (listing_state W.contents self.new writer.new) }
-        ensures some { IfOk result (λ some. TellsWritten some (W.contents (inner_of writer.old)) (W.contents (inner_of writer.new))) }
+        ensures lists { ListsReady (listing_state W.contents self.old writer.old) result
+            (listing_state W.contents self.new writer.new) }
+        ensures some { IfOk result (λ some. TellsWritten some
+            (W.contents (inner_of writer.old)) (W.contents (inner_of writer.new))) }
     {
         let mut some = false;
         'imports: while self.list_next(writer)? {
@@ -80,24 +84,24 @@ impl Listing<'_> {
         Ok(some)
     }
 
-    /// Feeds a piece whole, and lists what gets ready. Lines that were written are flushed before more is read.
-    fn list_piece<W: Write>(
+    /// Feeds a chunk whole, and lists what gets ready. Lines that were written are flushed before more is read.
+    fn list_chunk<W: Write>(
         &mut self,
-        piece: &[u8],
+        chunk: &[u8],
         writer: &mut Metered<W>,
     ) -> Result<(), RunError>
         requires fine { last_of writer.old ≡ Last.Fine }
-        requires fits { fed_by self.old.finder + length piece.now ≤ 2 ^ 62 }
+        requires fits { fed_by self.old.finder + length chunk.now ≤ 2 ^ 62 }
         requires open_yet { self.old.finder.scanning.ended ≡ false }
         requires none_ready { has_ready self.old.finder ≡ false }
-        ensures { ListsPiece (listing_state W.contents self.old writer.old) piece.now result
+        ensures { ListsChunk (listing_state W.contents self.old writer.old) chunk.now result
             (listing_state W.contents self.new writer.new) }
     {
         one_found();
         given_begin_the_found();
         settled_found_is_final();
         let mut listed = false;
-        let mut rest = piece;
+        let mut rest = chunk;
         'lines: while !rest.is_empty() {
             let taken = self.finder.feed(rest)?;
             rest = &rest[taken..];
@@ -113,7 +117,7 @@ impl Listing<'_> {
     }
 
     /// Reads to the end, and lists the imports in the logical lines that the bytes settle.
-    fn list_pieces<R: Read, W: Write>(
+    fn list_chunks<R: Read, W: Write>(
         &mut self,
         reader: &mut Metered<R>,
         writer: &mut Metered<W>,
@@ -122,21 +126,22 @@ impl Listing<'_> {
         requires reader_fine { last_of reader.old ≡ Last.Fine }
         requires writer_fine { last_of writer.old ≡ Last.Fine }
         requires small { max ≤ 2 ^ 62 }
-        requires fresh { HasListedSettled self.old.path.now [] (options_for self.old.finder) self.old.finder
-            (W.contents (inner_of writer.old)) (W.contents (inner_of writer.old)) }
-        ensures lists { ListsPieces (listing_state W.contents self.old writer.old) max (R.remaining (inner_of reader.old)) result
+        requires fresh { HasListedSettled self.old.path.now [] (options_for self.old.finder)
+            self.old.finder (W.contents (inner_of writer.old)) (W.contents (inner_of writer.old)) }
+        ensures lists { ListsChunks (listing_state W.contents self.old writer.old) max
+            (R.remaining (inner_of reader.old)) result
             (R.remaining (inner_of reader.new)) (listing_state W.contents self.new writer.new) }
         ensures reader { EndsReading result (last_of reader.new) }
     {
-        let mut buffer = [0u8; LIST_PIECE];
-        'pieces: loop {
-            let count = read_piece(reader, &mut buffer)?;
+        let mut buffer = [0u8; LIST_CHUNK];
+        'chunks: loop {
+            let count = read_chunk(reader, &mut buffer)?;
             if count == 0 {
                 return Ok(());
             }
             let room = max - self.finder.fed();
             let fitting = room.min(count as u64) as usize;
-            self.list_piece(&buffer[..fitting], writer)?;
+            self.list_chunk(&buffer[..fitting], writer)?;
             if fitting < count {
                 return Err(RunError::TooLong);
             }
@@ -148,7 +153,8 @@ impl Listing<'_> {
         requires fine { last_of writer.old ≡ Last.Fine }
         requires open_yet { self.old.finder.scanning.ended ≡ false }
         requires none_ready { has_ready self.old.finder ≡ false }
-        ensures { ListsEnd (listing_state W.contents self.old writer.old) result (listing_state W.contents self.new writer.new) }
+        ensures { ListsEnd (listing_state W.contents self.old writer.old) result
+            (listing_state W.contents self.new writer.new) }
     {
         given_begin_the_found();
         self.finder.finish()?;
@@ -157,7 +163,7 @@ impl Listing<'_> {
     }
 }
 
-/// Lists the imports of a Python text: reads `reader` to its end in pieces, and writes to `writer` one line for each
+/// Lists the imports of a Python text: reads `reader` to its end in chunks, and writes to `writer` one line for each
 /// import that is found, as soon as its logical line is whole: `path:line `, `indented ` where that line is, the
 /// statement, and a line feed. Lines count from 1. Before it reads on it flushes what it has written. It keeps the text
 /// of one logical line, and of what was read at most 8192 bytes more.
@@ -190,17 +196,21 @@ pub fn identify<R: Read, W: Write>(
     requires small { max ≤ 2 ^ 62 }
 
     // Where the reader and the writer tell their bytes.
-    ensures ok { OnOk result (ListsInput path.now options max (R.remaining (inner_of reader.old))
-        (R.remaining (inner_of reader.new)) (W.contents (inner_of writer.old)) (W.contents (inner_of writer.new))) }
-    ensures err { IfErr result (λ e. LeavesInput path.now options max e (R.remaining (inner_of reader.old))
+    ensures ok { OnOk result (ListsInput path.now options max
+        (R.remaining (inner_of reader.old)) (R.remaining (inner_of reader.new))
+        (W.contents (inner_of writer.old)) (W.contents (inner_of writer.new))) }
+    ensures err { IfErr result (λ e. LeavesInput path.now options max e
+        (R.remaining (inner_of reader.old))
         (W.contents (inner_of writer.old)) (W.contents (inner_of writer.new))) }
 
     // At any reader and writer.
-    ensures unread { IfErr result (λ e. IsUnread e → ListsUnread path.now options max (R.remaining (inner_of reader.old))
-        (R.remaining (inner_of reader.new)) (W.contents (inner_of writer.old)) (W.contents (inner_of writer.new))) }
-    ensures fault { IfErr result (λ e. (f : Fault) → e ≡ RunError.Fault f → ListsFaulty path.now options max f
-        (R.remaining (inner_of reader.old)) (R.remaining (inner_of reader.new)) (W.contents (inner_of writer.old))
-        (W.contents (inner_of writer.new))) }
+    ensures unread { IfErr result (λ e. IsUnread e → ListsUnread path.now options max
+        (R.remaining (inner_of reader.old)) (R.remaining (inner_of reader.new))
+        (W.contents (inner_of writer.old)) (W.contents (inner_of writer.new))) }
+    ensures fault { IfErr result (λ e. (f : Fault) → e ≡ RunError.Fault f
+        → ListsFaulty path.now options max f
+        (R.remaining (inner_of reader.old)) (R.remaining (inner_of reader.new))
+        (W.contents (inner_of writer.old)) (W.contents (inner_of writer.new))) }
     ensures reader { EndsReading result (last_of reader.new) }
     ensures writer { EndsWriting result (last_of writer.new) }
 {
@@ -212,6 +222,6 @@ pub fn identify<R: Read, W: Write>(
         path,
         line: String::new(alloc),
     };
-    listing.list_pieces(reader, writer, max)?;
+    listing.list_chunks(reader, writer, max)?;
     listing.list_end(writer)
 }

@@ -7,6 +7,9 @@ use crate::error::RunError;
 use isort_settings::SettingsError;
 use std::alloc::Global;
 
+/// The line that tells that memory ran out where no file is to blame, with its line feed.
+pub const OUT_OF_MEMORY: &str = "isort: R5 out of memory\n";
+
 /// The line that tells of an error of the file at `path`, with its line feed. A fault gives the file, the line from
 /// 1, and what is wrong there; every other error gives the program's name, the file, and what went wrong.
 ///
@@ -31,7 +34,7 @@ pub fn settings_text(alloc: Global, error: &SettingsError) -> Result<String, Run
     ensures memory { IfErr result (λ e. e ≡ RunError.Memory) }
 {
     let text = match error {
-        SettingsError::Memory => String::from_str(alloc, "isort: R5 out of memory\n")?,
+        SettingsError::Memory => String::from_str(alloc, OUT_OF_MEMORY)?,
         SettingsError::BadToml => String::from_str(alloc, "isort: settings: S1 not TOML\n")?,
         SettingsError::BadValue(key) => {
             let name = key.name();

@@ -42,10 +42,12 @@ pub fn sort_run<R: Read, W: Write>(
     requires small { max ≤ 2 ^ 62 }
 
     // Where the reader and the writer tell their bytes.
-    ensures ok { IfOk result (λ outcome. SortsInput (values settings.now) max outcome (R.remaining (inner_of reader.old))
-        (R.remaining (inner_of reader.new)) (W.contents (inner_of writer.old)) (W.contents (inner_of writer.new))) }
-    ensures err { IfErr result (λ e. IfSome (R.remaining (inner_of reader.old)) (λ text. LeavesUnsorted text
-        (values settings.now) e (W.contents (inner_of writer.old)) (W.contents (inner_of writer.new)))) }
+    ensures ok { IfOk result (λ outcome. SortsInput (values settings.now) max outcome
+        (R.remaining (inner_of reader.old)) (R.remaining (inner_of reader.new))
+        (W.contents (inner_of writer.old)) (W.contents (inner_of writer.new))) }
+    ensures err { IfErr result (λ e. IfSome (R.remaining (inner_of reader.old))
+        (λ text. LeavesUnsorted text (values settings.now) e
+        (W.contents (inner_of writer.old)) (W.contents (inner_of writer.new)))) }
     ensures length { IfErr result (λ e. TellsLength max e (R.remaining (inner_of reader.old))) }
 
     // At any reader and writer.

@@ -1,4 +1,5 @@
 //! Why a command line gives no job.
+use crate::message::OUT_OF_MEMORY;
 use std::alloc::AllocError;
 use std::error::Error;
 use std::fmt;
@@ -29,7 +30,7 @@ impl UsageError {
         match self {
             UsageError::Help(text) | UsageError::Refused(text) => text.as_str(),
             UsageError::Together => "isort: U1 options do not go together\n",
-            UsageError::Memory => "isort: R5 out of memory\n",
+            UsageError::Memory => OUT_OF_MEMORY,
         }
     }
 }

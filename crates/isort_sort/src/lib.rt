@@ -26,6 +26,6 @@ mod wrapping;
 mod write;
 
 pub use answer::{Block, Outcome, SortError, Sorted};
-pub use metered::{Last, MOST_INTERRUPTIONS, Metered};
+pub use metered::{Last, MAX_INTERRUPTIONS, Metered};
 pub use sort::{blocks, check_code, sort_code, sort_outcome, sort_to};
 pub use write::write_whole;

@@ -8,7 +8,7 @@ use std::io;
 use std::io::{ErrorKind, Read, Write};
 
 /// How many interruptions in a row make a run give up.
-pub const MOST_INTERRUPTIONS: u16 = 1000;
+pub const MAX_INTERRUPTIONS: u16 = 1000;
 
 /// How the last read, write or flush ended.
 #[derive(Clone, Copy, Debug, PartialEq, Eq)]
@@ -81,7 +81,7 @@ impl<T> Metered<T> {
         self.last = match e.kind() {
             ErrorKind::Interrupted => {
                 let count = self.last.interruptions().saturating_add(1);
-                Last::Interrupted(count.min(MOST_INTERRUPTIONS))
+                Last::Interrupted(count.min(MAX_INTERRUPTIONS))
             }
             _ => Last::Failed,
         };

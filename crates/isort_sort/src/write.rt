@@ -5,7 +5,7 @@ ghost use Rattle.isort_sort.specs.Metered.{inner_of, last_of, IsGivenUp};
 ghost use Rattle.isort_sort.specs.Written.{AppendsPrefix};
 
 use crate::answer::SortError;
-use crate::metered::{Last, MOST_INTERRUPTIONS, Metered};
+use crate::metered::{Last, MAX_INTERRUPTIONS, Metered};
 use std::io::Write;
 
 /// One write of some bytes, tried again where it was interrupted fewer than 1000 times in a row.
@@ -28,7 +28,7 @@ fn write_some<W: Write>(writer: &mut Metered<W>, bytes: &[u8]) -> Result<usize, 
             Err(_) => {}
         }
         match writer.last() {
-            Last::Interrupted(count) if count < MOST_INTERRUPTIONS => {}
+            Last::Interrupted(count) if count < MAX_INTERRUPTIONS => {}
             _ => return Err(SortError::Write),
         }
     }

@@ -11,7 +11,7 @@ use Rattle.isort_sort.specs.declared.metered.Last.{Last}
 use Rattle.isort_sort.specs.declared.metered.Last.TheVariants as last
 use Rattle.isort_sort.specs.declared.metered.Metered.{Metered}
 use Rattle.isort_cmd.specs.RunError.{LeavesWriter}
-use Rattle.isort_cmd.specs.Private.Steps.{IsOutputError, GivenAreListed, HasListedSettled, LeavesReady, LeavesPiece, ListsRead, LeavesFed}
+use Rattle.isort_cmd.specs.Private.Steps.{IsOutputError, GivenAreListed, HasListedSettled, LeavesReady, LeavesChunk, ListsRead, LeavesFed}
 use Rattle.isort_cmd.specs.Written.{ListsFound, LeavesAtError}
 use Rattle.isort_cmd.specs.declared.error.RunError.{RunError}
 use Rattle.isort_cmd.specs.declared.error.RunError.TheVariants as run
@@ -82,28 +82,28 @@ abbrev pub ListsReady : ListingState → Result Bool RunError → ListingState �
 ListsReady old (Ok some) new = ListsAll old new
 ListsReady old (Err e) new = StopsReady old e new
 
--- a piece was fed whole, and what it settles was listed
-pub record TakesWholePiece (old : ListingState) (piece : List ℕ) (new : ListingState) : Type 0 where
+-- a chunk was fed whole, and what it settles was listed
+pub record TakesWholeChunk (old : ListingState) (chunk : List ℕ) (new : ListingState) : Type 0 where
   pub same_path : new.path ≡ old.path
   pub fine : new.last ≡ last.Fine
-  pub fed : fed_by new.finder ≡ fed_by old.finder + length piece
+  pub fed : fed_by new.finder ≡ fed_by old.finder + length chunk
   pub open_yet : new.finder.scanning.ended ≡ false
   pub none_ready : has_ready new.finder ≡ false
   pub listed : (known : List ℕ) (options : FindOptions) (start : Option (List ℕ))
       → HasListedSettled old.path known options old.finder start old.written
-      → HasListedSettled old.path (known ++ piece) options new.finder start new.written
+      → HasListedSettled old.path (known ++ chunk) options new.finder start new.written
 
--- listing a piece failed
-pub record StopsInPiece (old : ListingState) (piece : List ℕ) (e : RunError) (new : ListingState) : Type 0 where
+-- listing a chunk failed
+pub record StopsInChunk (old : ListingState) (chunk : List ℕ) (e : RunError) (new : ListingState) : Type 0 where
   pub error : IsOutputError e new.last
   pub leaves : (known : List ℕ) (options : FindOptions) (start : Option (List ℕ))
       → HasListedSettled old.path known options old.finder start old.written
-      → LeavesPiece old.path (known ++ piece) options e start new.written
+      → LeavesChunk old.path (known ++ chunk) options e start new.written
 
--- what a call that lists a piece answers
-abbrev pub ListsPiece : ListingState → List ℕ → Result (Unit {0}) RunError → ListingState → Type 0
-ListsPiece old piece (Ok done) new = TakesWholePiece old piece new
-ListsPiece old piece (Err e) new = StopsInPiece old piece e new
+-- what a call that lists a chunk answers
+abbrev pub ListsChunk : ListingState → List ℕ → Result (Unit {0}) RunError → ListingState → Type 0
+ListsChunk old chunk (Ok done) new = TakesWholeChunk old chunk new
+ListsChunk old chunk (Err e) new = StopsInChunk old chunk e new
 
 -- all that was read, at most `max` bytes, was fed, and what it settles was listed
 pub record TakesInput (old : ListingState) (max : ℕ) (given left : Option (List ℕ)) (new : ListingState) : Type 0 where
@@ -119,9 +119,9 @@ pub record StopsInput (old : ListingState) (max : ℕ) (given : Option (List ℕ
   pub too_long : e ≡ run.TooLong → IfSome given (λ text. max < length text)
 
 -- what a call that reads and lists to the end answers
-abbrev pub ListsPieces : ListingState → ℕ → Option (List ℕ) → Result (Unit {0}) RunError → Option (List ℕ) → ListingState → Type 0
-ListsPieces old max given (Ok done) left new = TakesInput old max given left new × IsAtEnd left
-ListsPieces old max given (Err e) left new = StopsInput old max given e left new
+abbrev pub ListsChunks : ListingState → ℕ → Option (List ℕ) → Result (Unit {0}) RunError → Option (List ℕ) → ListingState → Type 0
+ListsChunks old max given (Ok done) left new = TakesInput old max given left new × IsAtEnd left
+ListsChunks old max given (Err e) left new = StopsInput old max given e left new
 
 -- the text ended, and the lines of all that is found in it were written
 pub record EndsListing (old new : ListingState) : Type 0 where

@@ -33,7 +33,7 @@ IsOutputError run.Write l = IsGivenUp l
 IsOutputError run.Memory l = l ≡ last.Fine
 IsOutputError _ l = ⊥
 
--- What a finder over pieces gave of this text was listed, and before the text's end the bytes fed settle it.
+-- What a finder over chunks gave of this text was listed, and before the text's end the bytes fed settle it.
 pub record GivenAreListed (path text : List ℕ) (options : FindOptions) (finder : PieceFinderState)
     (start now : Option (List ℕ)) : Type 0 where
   pub bounds : List Bound
@@ -83,11 +83,11 @@ pub record MeetsFaultAfter (path known : List ℕ) (options : FindOptions) (faul
   pub written : Appends start now (printed path bounds)
 
 -- what an error leaves of each text that begins with these bytes
-abbrev pub LeavesPiece : List ℕ → List ℕ → FindOptions → RunError → Option (List ℕ) → Option (List ℕ) → Type 0
-LeavesPiece path known options (run.Fault f) start now = MeetsFaultAfter path known options f start now
-LeavesPiece path known options run.Write start now = (more : List ℕ) → ListsPrefix path (known ++ more) options start now
-LeavesPiece path known options run.Memory start now = (more : List ℕ) → ListsPrefix path (known ++ more) options start now
-LeavesPiece path known options _ start now = ⊥
+abbrev pub LeavesChunk : List ℕ → List ℕ → FindOptions → RunError → Option (List ℕ) → Option (List ℕ) → Type 0
+LeavesChunk path known options (run.Fault f) start now = MeetsFaultAfter path known options f start now
+LeavesChunk path known options run.Write start now = (more : List ℕ) → ListsPrefix path (known ++ more) options start now
+LeavesChunk path known options run.Memory start now = (more : List ℕ) → ListsPrefix path (known ++ more) options start now
+LeavesChunk path known options _ start now = ⊥
 
 -- all that the bytes fed have ready was listed, and they decide no fault
 pub record HoldsNone (old new : PieceFinderState) : Type 0 where
@@ -102,7 +102,7 @@ abbrev pub LooksAtHeld : PieceFinderState → Result (Unit {0}) RunError → Pie
 LooksAtHeld old (Ok done) new = HoldsNone old new
 LooksAtHeld old (Err e) new = IsOutputError e last.Fine
     × ((path known : List ℕ) (options : FindOptions) (start now : Option (List ℕ))
-    → HasListedGiven path known options old start now → LeavesPiece path known options e start now)
+    → HasListedGiven path known options old start now → LeavesChunk path known options e start now)
 
 -- All that was read, at most `max` bytes, was fed, and what it settles was listed.
 pub record ListsRead (path : List ℕ) (options : FindOptions) (max : ℕ) (finder : PieceFinderState)
@@ -117,7 +117,7 @@ abbrev pub LeavesKnown : List ℕ → List ℕ → FindOptions → PieceFinderSt
 LeavesKnown path known options finder run.Read start now = HasListedSettled path known options finder start now
 LeavesKnown path known options finder run.TooLong start now = HasListedSettled path known options finder start now
 LeavesKnown path known options finder run.NeverEnds start now = HasListedSettled path known options finder start now
-LeavesKnown path known options finder e start now = LeavesPiece path known options e start now
+LeavesKnown path known options finder e start now = LeavesChunk path known options e start now
 
 -- what an error leaves of what was read and fed
 pub record LeavesFed (path : List ℕ) (options : FindOptions) (max : ℕ) (finder : PieceFinderState) (e : RunError)

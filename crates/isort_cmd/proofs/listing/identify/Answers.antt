@@ -9,8 +9,8 @@ returns-in_err-new g c =
     let p = err_from_is_err_and c.from_residual.result c.from_residual.ensures.1 in
     rw (p.1, p.2, c.in_err-new.ensures.err) (identified_nothing c.one_found.ensures.some c.args.path.now c.args.options c.args.max _ _ _ _ c.requires.reader_fine c.requires.writer_fine)
 
-pub list_pieces-requires : goal.list_pieces-requires
-list_pieces-requires g c =
+pub list_chunks-requires : goal.list_chunks-requires
+list_chunks-requires g c =
     let new = c.in_ok-new.ensures in
     record {
       reader_fine = c.requires.reader_fine;
@@ -19,15 +19,15 @@ list_pieces-requires g c =
       fresh = nothing_fed c.args.path.now c.in_ok-new.field-0 _ new.fed new.none_ready new.open_yet new.is_open new.found new.settled new.undecided;
     }
 
-pub returns-in_err-list_pieces : goal.returns-in_err-list_pieces
-returns-in_err-list_pieces g c =
-    let p = err_from_is_err_and c.from_residual-in_err-list_pieces.result c.from_residual-in_err-list_pieces.ensures.1 in
+pub returns-in_err-list_chunks : goal.returns-in_err-list_chunks
+returns-in_err-list_chunks g c =
+    let p = err_from_is_err_and c.from_residual-in_err-list_chunks.result c.from_residual-in_err-list_chunks.ensures.1 in
     let laws = c.settled_found_is_final.ensures in
     let same = ap (λ x. x.options) c.in_ok-new.ensures.cursor in
-    rw (p.1, p.2) (identified_stopped laws.some laws.bad laws.bindings _ _ c.args.options c.args.max _ _ c.in_err-list_pieces.field-0.0 _ same c.in_err-list_pieces.ensures.lists c.in_err-list_pieces.ensures.reader)
+    rw (p.1, p.2) (identified_stopped laws.some laws.bad laws.bindings _ _ c.args.options c.args.max _ _ c.in_err-list_chunks.field-0.0 _ same c.in_err-list_chunks.ensures.lists c.in_err-list_chunks.ensures.reader)
 
 pub returns : goal.returns
 returns g c =
     let same = ap (λ x. x.options) c.in_ok-new.ensures.cursor in
-    let listed = c.in_ok-list_pieces.ensures in
+    let listed = c.in_ok-list_chunks.ensures in
     identified_ended _ _ _ c.args.options c.args.max _ _ c.list_end.result _ same listed.lists.0 listed.lists.1 listed.reader c.list_end.ensures

@@ -1,8 +1,8 @@
--- An empty piece was fed: the byte held decides no fault, or its fault is that of the text.
+-- An empty chunk was fed: the byte held decides no fault, or its fault is that of the text.
 use Rattle.std.proofs.Common.{[], sym, ◌∙◌}
 use Rattle.std.proofs.lemmas.Result.{err_from_is_err_and}
 use Rattle.isort_cmd.proofs.AmidLemmas.{looks_at_fault, looks_at_memory, looks_at_none}
-use Rattle.isort_cmd.proofs.PieceLemmas.{FoundLaws, feeds_error, feeds_some}
+use Rattle.isort_cmd.proofs.ChunkLemmas.{FoundLaws, feeds_error, feeds_some}
 use Rattle.isort_cmd.proofs.listing.look_at_held.Goals as goal
 
 pub returns-in_err-feed : goal.returns-in_err-feed

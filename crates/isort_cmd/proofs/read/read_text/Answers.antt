@@ -15,10 +15,10 @@ returns-in_err-count g c =
 pub returns-then-count-eq0 : goal.returns-then-count-eq0
 returns-then-count-eq0 g c =
     let read = c.in_ok-count.ensures in
-    let so_far = c.pieces.invariant in
-    let ended = read.bytes.1 c.if-count-eq0.true (omega (arith, so_far.room, c.read_piece.auto.piece)) in
+    let so_far = c.chunks.invariant in
+    let ended = read.bytes.1 c.if-count-eq0.true (omega (arith, so_far.room, c.read_chunk.auto.chunk)) in
     record {
-      ok = read_whole c.args.max c.in_ok-count.count c.pieces.text.items c.read_piece.new.piece _ _ _ so_far.front c.if-count-eq0.true read.bytes.0 ended (omega (arith, so_far.within, c.pieces.text.ok.0));
+      ok = read_whole c.args.max c.in_ok-count.count c.chunks.text.items c.read_chunk.new.chunk _ _ _ so_far.front c.if-count-eq0.true read.bytes.0 ended (omega (arith, so_far.within, c.chunks.text.ok.0));
       errors = tt;
       length = tt;
       reader = read.fine;

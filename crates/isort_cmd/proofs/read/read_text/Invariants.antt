@@ -5,13 +5,13 @@ use Rattle.isort_sort.specs.Metered.{inner_of, last_of}
 use Rattle.isort_sort.specs.declared.metered.Last.TheVariants.{Fine}
 use Rattle.isort_cmd.proofs.read.read_text.Given as goal
 
-abbrev pub invariant-pieces : goal.invariant-pieces
-invariant-pieces g l = record {
+abbrev pub invariant-chunks : goal.invariant-chunks
+invariant-chunks g l = record {
   fine : last_of l.reader ≡ Fine;
   within : vec_len l.text ≤ l.max;
-  room : length l.piece ≡ 16384;
+  room : length l.chunk ≡ 16384;
   front : Consumes (g.R.Read.remaining (inner_of l.initial.reader)) (g.R.Read.remaining (inner_of l.reader)) (vec_items l.text);
 }
 
-abbrev pub decreases-pieces : goal.decreases-pieces
-decreases-pieces g l = l.max + 1 - vec_len l.text
+abbrev pub decreases-chunks : goal.decreases-chunks
+decreases-chunks g l = l.max + 1 - vec_len l.text

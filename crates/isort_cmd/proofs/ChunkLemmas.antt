@@ -1,4 +1,4 @@
--- What was listed of each text that begins with the bytes of some pieces.
+-- What was listed of each text that begins with the bytes of some chunks.
 use Rattle.std.proofs.Common.{◌≡◌, ℕ, ◌+◌, false, Option, Some, Result, Ok, Err, List, [], ◌++◌, length, take, drop, refl, sym, ap, ◌∙◌, subst, append_assoc, length-append}
 use Rattle.std.proofs.Math.Seq.{take-add, take-append-add, take-append_seam, drop-append_seam}
 use Rattle.std.proofs.lemmas.List.{append-nil, length-take-le, take-append-drop}
@@ -20,7 +20,7 @@ use Rattle.isort_find.specs.declared.walker.Stand.TheVariants as stand
 use Rattle.isort_find.specs.declared.walker.Phase.TheVariants as phase
 use Rattle.isort_cmd.specs.Printed.{printed}
 use Rattle.isort_cmd.specs.RunError.{run_error_of}
-use Rattle.isort_cmd.specs.Private.Steps.{GivenAreListed, HasListedSettled, HasListedGiven, LeavesReady, LeavesPiece, MeetsFaultAfter}
+use Rattle.isort_cmd.specs.Private.Steps.{GivenAreListed, HasListedSettled, HasListedGiven, LeavesReady, LeavesChunk, MeetsFaultAfter}
 use Rattle.isort_cmd.specs.Written.{ListsFound, ListsPrefix}
 use Rattle.isort_cmd.specs.declared.error.RunError.{RunError}
 use Rattle.isort_cmd.specs.declared.error.RunError.TheVariants as run
@@ -49,7 +49,7 @@ begins_with_both text a b goes =
       ap (λ x. take (length b) (drop (length a) x)) (sym whole) ∙ ap (take (length b)) (drop-append_seam a (b ++ left)) ∙ take-append_seam b left,
     )
 
--- ---- a piece is taken
+-- ---- a chunk is taken
 
 -- what was settled stays so as more is fed
 settled_more : FoundLaws → (old new : PieceFinderState) (text : List ℕ) (bounds : List Bound) (n : ℕ) → fed_by new ≡ fed_by old + n → new.cursor ≡ old.cursor → AreSettled old text bounds → AreSettled new text bounds
@@ -63,15 +63,15 @@ settled_more laws old new text bounds n fed cursor settled found bad h =
     let begun = settled before.0 before.1 before.2 in
     (begun.0 ++ grown.0, grown.1 ∙ ap (λ x. x ++ grown.0) begun.1 ∙ append_assoc bounds begun.0 grown.0)
 
--- some bytes of a piece were taken: what was listed of each text that begins with them stays so
-pub taken_listed : FoundLaws → (path known piece : List ℕ) (options : FindOptions) (old : PieceFinderState) (n : ℕ) (new : PieceFinderState) (start now : Option (List ℕ)) → old.scanning.ended ≡ false → TakesFromPiece old piece n new → HasListedGiven path known options old start now → HasListedGiven path (known ++ take n piece) options new start now
-taken_listed laws path known piece options old n new start now open_yet takes to = record {
-  fed = takes.fed ∙ ap (λ (m : ℕ). m + n) to.fed ∙ ap (λ (m : ℕ). length known + m) (sym (length-take-le n piece takes.within)) ∙ sym (length-append known (take n piece));
+-- some bytes of a chunk were taken: what was listed of each text that begins with them stays so
+pub taken_listed : FoundLaws → (path known chunk : List ℕ) (options : FindOptions) (old : PieceFinderState) (n : ℕ) (new : PieceFinderState) (start now : Option (List ℕ)) → old.scanning.ended ≡ false → TakesFromPiece old chunk n new → HasListedGiven path known options old start now → HasListedGiven path (known ++ take n chunk) options new start now
+taken_listed laws path known chunk options old n new start now open_yet takes to = record {
+  fed = takes.fed ∙ ap (λ (m : ℕ). m + n) to.fed ∙ ap (λ (m : ℕ). length known + m) (sym (length-take-le n chunk takes.within)) ∙ sym (length-append known (take n chunk));
   no_fault = takes.no_fault;
   listed = λ text goes.
-      let both = begins_with_both text known (take n piece) goes in
+      let both = begins_with_both text known (take n chunk) goes in
       let listed = to.listed text both.0 in
-      let after = subst (λ (m : ℕ). GoesOnWith text m (take n piece)) (sym to.fed) both.1 in
+      let after = subst (λ (m : ℕ). GoesOnWith text m (take n chunk)) (sym to.fed) both.1 in
       record {
         bounds = listed.bounds;
         found = takes.found text listed.bounds listed.found after;
@@ -94,8 +94,8 @@ fault_after laws path known rest options fault start now lists decides =
       written = lists.written;
     }
 
--- an error at a finder that was fed the known bytes, of which more of a piece are left
-pub leaves_each : FoundLaws → (path known rest : List ℕ) (options : FindOptions) (mid : PieceFinderState) (e : RunError) (start now : Option (List ℕ)) → fed_by mid ≡ length known → mid.scanning.ended ≡ false → ((text : List ℕ) → GoesOnWith text 0 known → LeavesReady path text options mid e start now) → LeavesPiece path (known ++ rest) options e start now
+-- an error at a finder that was fed the known bytes, of which more of a chunk are left
+pub leaves_each : FoundLaws → (path known rest : List ℕ) (options : FindOptions) (mid : PieceFinderState) (e : RunError) (start now : Option (List ℕ)) → fed_by mid ≡ length known → mid.scanning.ended ≡ false → ((text : List ℕ) → GoesOnWith text 0 known → LeavesReady path text options mid e start now) → LeavesChunk path (known ++ rest) options e start now
 leaves_each laws path known rest options mid (run.Fault f) start now fed open_yet leaves =
     let left = leaves (known ++ rest) (goes_begin known rest) in
     let decides : DecidesFound known options f = subst (λ (k : List ℕ). DecidesFound k options f) (ap (λ (n : ℕ). take n (known ++ rest)) fed ∙ take-append_seam known rest) (left.1 open_yet) in
@@ -115,33 +115,33 @@ is_open other top fault = refl
 pub front_each : GivenBegin → (path known : List ℕ) (options : FindOptions) (finder : PieceFinderState) (start now : Option (List ℕ)) → ((text : List ℕ) → GoesOnWith text 0 known → GivenAreListed path text options finder start now) → (more : List ℕ) → ListsPrefix path (known ++ more) options start now
 front_each begin path known options finder start now listed more = lists_front begin path (known ++ more) options finder start now (listed (known ++ more) (goes_begin known more))
 
--- the piece decides a fault
-fed_fault : FoundLaws → (path known piece : List ℕ) (options : FindOptions) (old : PieceFinderState) (fault : Fault) (new : PieceFinderState) (start now : Option (List ℕ)) → MeetsFaultIn old piece fault new → HasListedGiven path known options old start now → MeetsFaultAfter path (known ++ piece) options fault start now
-fed_fault laws path known piece options old fault new start now meets to =
-    let text = known ++ piece in
-    let listed = to.listed text (goes_begin known piece) in
-    let at : GoesOnWith text (fed_by old) piece = subst (λ (m : ℕ). GoesOnWith text m piece) (sym to.fed) (ap (take (length piece)) (drop-append_seam known piece) ∙ ap (λ x. take (length piece) x) (sym (append-nil piece)) ∙ take-append_seam piece []) in
+-- the chunk decides a fault
+fed_fault : FoundLaws → (path known chunk : List ℕ) (options : FindOptions) (old : PieceFinderState) (fault : Fault) (new : PieceFinderState) (start now : Option (List ℕ)) → MeetsFaultIn old chunk fault new → HasListedGiven path known options old start now → MeetsFaultAfter path (known ++ chunk) options fault start now
+fed_fault laws path known chunk options old fault new start now meets to =
+    let text = known ++ chunk in
+    let listed = to.listed text (goes_begin known chunk) in
+    let at : GoesOnWith text (fed_by old) chunk = subst (λ (m : ℕ). GoesOnWith text m chunk) (sym to.fed) (ap (take (length chunk)) (drop-append_seam known chunk) ∙ ap (λ x. take (length chunk) x) (sym (append-nil chunk)) ∙ take-append_seam chunk []) in
     let found = found_fault new text listed.bounds fault (meets.found text listed.bounds listed.found at) meets.kept in
     let lists : ListsFound path text options (Some fault) start now = record { bounds = listed.bounds; found = subst (λ (o : FindOptions). IsFound text o listed.bounds (Some fault)) (meets.options ∙ listed.same_options) found; written = listed.written } in
     let decided = meets.decided text listed.bounds listed.found at (is_open old.stand meets.was_in_top to.no_fault) in
     let n = decided.0 in
-    let first = known ++ take n piece in
-    let rest = drop n piece in
-    let whole : first ++ rest ≡ text = append_assoc known (take n piece) rest ∙ ap (λ x. known ++ x) (take-append-drop n piece) in
-    let is : take (fed_by old + n) text ≡ first = ap (λ (m : ℕ). take (m + n) text) to.fed ∙ take-append-add known piece n in
+    let first = known ++ take n chunk in
+    let rest = drop n chunk in
+    let whole : first ++ rest ≡ text = append_assoc known (take n chunk) rest ∙ ap (λ x. known ++ x) (take-append-drop n chunk) in
+    let is : take (fed_by old + n) text ≡ first = ap (λ (m : ℕ). take (m + n) text) to.fed ∙ take-append-add known chunk n in
     let decides : DecidesFound first options fault = subst (λ (o : FindOptions). DecidesFound first o fault) listed.same_options (subst (λ (k : List ℕ). DecidesFound k (options_for old) fault) is decided.2) in
     subst (λ (t : List ℕ). MeetsFaultAfter path t options fault start now) whole (fault_after laws path first rest options fault start now (subst (λ (t : List ℕ). ListsFound path t options (Some fault) start now) (sym whole) lists) decides)
 
--- what the errors of a call that is fed a piece leave
-pub leaves_fed : FoundLaws → (path known piece : List ℕ) (options : FindOptions) (old : PieceFinderState) (e : FindError) (new : PieceFinderState) (start now : Option (List ℕ)) → FeedsPiece old piece (Err e) new → HasListedGiven path known options old start now → LeavesPiece path (known ++ piece) options (run_error_of e) start now
-leaves_fed laws path known piece options old (find.Fault f) new start now meets to = fed_fault laws path known piece options old f new start now meets to
-leaves_fed laws path known piece options old find.Memory new start now keeps to = front_each laws.begin path (known ++ piece) options old start now (λ text goes. to.listed text (begins_with_both text known piece goes).0)
+-- what the errors of a call that is fed a chunk leave
+pub leaves_fed : FoundLaws → (path known chunk : List ℕ) (options : FindOptions) (old : PieceFinderState) (e : FindError) (new : PieceFinderState) (start now : Option (List ℕ)) → FeedsPiece old chunk (Err e) new → HasListedGiven path known options old start now → LeavesChunk path (known ++ chunk) options (run_error_of e) start now
+leaves_fed laws path known chunk options old (find.Fault f) new start now meets to = fed_fault laws path known chunk options old f new start now meets to
+leaves_fed laws path known chunk options old find.Memory new start now keeps to = front_each laws.begin path (known ++ chunk) options old start now (λ text goes. to.listed text (begins_with_both text known chunk goes).0)
 
-pub feeds_error : (old : PieceFinderState) (piece : List ℕ) (r : Result ℕ FindError) (e : FindError) (new : PieceFinderState) → FeedsPiece old piece r new → r ≡ Err e → FeedsPiece old piece (Err e) new
-feeds_error old piece r e new h same = subst (λ (x : Result ℕ FindError). FeedsPiece old piece x new) same h
+pub feeds_error : (old : PieceFinderState) (chunk : List ℕ) (r : Result ℕ FindError) (e : FindError) (new : PieceFinderState) → FeedsPiece old chunk r new → r ≡ Err e → FeedsPiece old chunk (Err e) new
+feeds_error old chunk r e new h same = subst (λ (x : Result ℕ FindError). FeedsPiece old chunk x new) same h
 
-pub feeds_some : (old : PieceFinderState) (piece : List ℕ) (r : Result ℕ FindError) (n : ℕ) (new : PieceFinderState) → FeedsPiece old piece r new → r ≡ Ok n → TakesFromPiece old piece n new
-feeds_some old piece r n new h same = subst (λ (x : Result ℕ FindError). FeedsPiece old piece x new) same h
+pub feeds_some : (old : PieceFinderState) (chunk : List ℕ) (r : Result ℕ FindError) (n : ℕ) (new : PieceFinderState) → FeedsPiece old chunk r new → r ≡ Ok n → TakesFromPiece old chunk n new
+feeds_some old chunk r n new h same = subst (λ (x : Result ℕ FindError). FeedsPiece old chunk x new) same h
 
 -- ---- nothing is ready
 
