@@ -14,9 +14,9 @@ use Rattle.isort_find.specs.Pieces.{PieceFinderState, HasNoFault, AreSettled, Ta
 use Rattle.isort_find.specs.declared.options.FindOptions.{FindOptions}
 use Rattle.isort_find.specs.declared.error.FindError.{FindError}
 use Rattle.isort_find.specs.declared.error.FindError.TheVariants as find
-use Rattle.isort_find.specs.Stand.{phase_in}
-use Rattle.isort_find.specs.declared.walker.Stand.{Stand}
-use Rattle.isort_find.specs.declared.walker.Stand.TheVariants as stand
+use Rattle.isort_find.specs.Position.{phase_in}
+use Rattle.isort_find.specs.declared.walker.Position.{Position}
+use Rattle.isort_find.specs.declared.walker.Position.TheVariants as position
 use Rattle.isort_find.specs.declared.walker.Phase.TheVariants as phase
 use Rattle.isort_cmd.specs.Printed.{printed}
 use Rattle.isort_cmd.specs.RunError.{run_error_of}
@@ -106,9 +106,9 @@ leaves_each laws path known rest options mid run.Read start now fed open_yet lea
 leaves_each laws path known rest options mid run.TooLong start now fed open_yet leaves = leaves (known ++ rest) (goes_begin known rest)
 leaves_each laws path known rest options mid run.NeverEnds start now fed open_yet leaves = leaves (known ++ rest) (goes_begin known rest)
 
-is_open : (s : Stand) → (phase_in s ≡ phase.End → ⊥) → ((fault : Fault) → s ≡ stand.Fault fault → ⊥) → phase_in s ≡ phase.Open
-is_open (stand.End passed) top fault = absurd (top refl)
-is_open (stand.Fault f) top fault = absurd (fault f refl)
+is_open : (s : Position) → (phase_in s ≡ phase.End → ⊥) → ((fault : Fault) → s ≡ position.Fault fault → ⊥) → phase_in s ≡ phase.Open
+is_open (position.End passed) top fault = absurd (top refl)
+is_open (position.Fault f) top fault = absurd (fault f refl)
 is_open other top fault = refl
 
 -- a prefix of the lines was written, whatever follows the known bytes
@@ -123,7 +123,7 @@ fed_fault laws path known chunk options old fault new start now meets to =
     let at : GoesOnWith text (fed_by old) chunk = subst (λ (m : ℕ). GoesOnWith text m chunk) (sym to.fed) (ap (take (length chunk)) (drop-append_seam known chunk) ∙ ap (λ x. take (length chunk) x) (sym (append-nil chunk)) ∙ take-append_seam chunk []) in
     let found = found_fault new text listed.bounds fault (meets.found text listed.bounds listed.found at) meets.kept in
     let lists : ListsFound path text options (Some fault) start now = record { bounds = listed.bounds; found = subst (λ (o : FindOptions). IsFound text o listed.bounds (Some fault)) (meets.options ∙ listed.same_options) found; written = listed.written } in
-    let decided = meets.decided text listed.bounds listed.found at (is_open old.stand meets.was_in_top to.no_fault) in
+    let decided = meets.decided text listed.bounds listed.found at (is_open old.position meets.was_in_top to.no_fault) in
     let n = decided.0 in
     let first = known ++ take n chunk in
     let rest = drop n chunk in

@@ -7,7 +7,7 @@ use Rattle.isort_find.specs.Settled.{IsFoundSettled}
 use Rattle.isort_find.specs.Pieces.{PieceFinderState, FinishesText, EndsInFault, EndsFeeding, fed_by, options_for}
 use Rattle.isort_find.specs.declared.options.FindOptions.{FindOptions}
 use Rattle.isort_find.specs.declared.error.FindError.{FindError}
-use Rattle.isort_find.specs.Stand.{phase_in}
+use Rattle.isort_find.specs.Position.{phase_in}
 use Rattle.isort_find.specs.declared.walker.Phase.TheVariants as phase
 use Rattle.isort_find.specs.declared.error.FindError.TheVariants as find
 use Rattle.isort_cmd.specs.RunError.{run_error_of}
@@ -35,7 +35,7 @@ ends_listed path text options finder next start now h ends =
     }
 
 -- and it stays so
-pub still_ended : (next last : PieceFinderState) → (next.scanning.ended ≡ true) ⊎ (phase_in next.stand ≡ phase.End) → last.scanning.ended ≡ next.scanning.ended → (phase_in next.stand ≡ phase.End → phase_in last.stand ≡ phase.End) → (last.scanning.ended ≡ true) ⊎ (phase_in last.stand ≡ phase.End)
+pub still_ended : (next last : PieceFinderState) → (next.scanning.ended ≡ true) ⊎ (phase_in next.position ≡ phase.End) → last.scanning.ended ≡ next.scanning.ended → (phase_in next.position ≡ phase.End → phase_in last.position ≡ phase.End) → (last.scanning.ended ≡ true) ⊎ (phase_in last.position ≡ phase.End)
 still_ended next last (inl ended) same stays = inl (same ∙ ended)
 still_ended next last (inr top) same stays = inr (stays top)
 

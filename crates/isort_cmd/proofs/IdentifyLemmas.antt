@@ -10,9 +10,9 @@ use Rattle.isort_find.specs.Found.{IsFound, BeginsFound}
 use Rattle.isort_find.specs.Settled.{IsFoundSettled, DecidesFound}
 use Rattle.isort_find.specs.Pieces.{PieceFinderState, HasFoundIn, AreAllSettled, IsUndecided, fed_by, has_ready, options_for}
 use Rattle.isort_find.specs.declared.options.FindOptions.{FindOptions}
-use Rattle.isort_find.specs.Stand.{phase_in}
-use Rattle.isort_find.specs.declared.walker.Stand.{Stand}
-use Rattle.isort_find.specs.declared.walker.Stand.TheVariants as stand
+use Rattle.isort_find.specs.Position.{phase_in}
+use Rattle.isort_find.specs.declared.walker.Position.{Position}
+use Rattle.isort_find.specs.declared.walker.Position.TheVariants as position
 use Rattle.isort_find.specs.declared.walker.Phase.TheVariants as phase
 use Rattle.isort_sort.specs.declared.metered.Last.{Last}
 use Rattle.isort_sort.specs.declared.metered.Last.TheVariants as last
@@ -35,16 +35,16 @@ BadDecided = (text : List ℕ) (options : FindOptions) (bounds : List Bound) (fa
 abbrev pub SettledBegin : Type 0
 SettledBegin = (text more : List ℕ) (options : FindOptions) (bounds : List Bound) (bad : Option Fault) → IsFoundSettled text options bounds bad → BeginsFound (text ++ more) options bounds
 
-open_is_no_fault : (s : Stand) (fault : Fault) → phase_in s ≡ phase.Open → s ≡ stand.Fault fault → ⊥
+open_is_no_fault : (s : Position) (fault : Fault) → phase_in s ≡ phase.Open → s ≡ position.Fault fault → ⊥
 open_is_no_fault s fault is other = let both : phase_in s ≡ phase.Fault fault = ap phase_in other in cc
 
 -- a finder that was fed nothing
-pub nothing_fed : (path : List ℕ) (finder : PieceFinderState) (start : Option (List ℕ)) → fed_by finder ≡ 0 → has_ready finder ≡ false → finder.scanning.ended ≡ false → phase_in finder.stand ≡ phase.Open → ((text : List ℕ) → HasFoundIn finder text []) → ((text : List ℕ) → AreAllSettled finder text []) → ((text : List ℕ) → IsUndecided finder text) → HasListedSettled path [] (options_for finder) finder start start
+pub nothing_fed : (path : List ℕ) (finder : PieceFinderState) (start : Option (List ℕ)) → fed_by finder ≡ 0 → has_ready finder ≡ false → finder.scanning.ended ≡ false → phase_in finder.position ≡ phase.Open → ((text : List ℕ) → HasFoundIn finder text []) → ((text : List ℕ) → AreAllSettled finder text []) → ((text : List ℕ) → IsUndecided finder text) → HasListedSettled path [] (options_for finder) finder start start
 nothing_fed path finder start fed none_ready open_yet is_open found all undecided = record {
   fed = fed;
   none_ready = none_ready;
   open_yet = open_yet;
-  no_fault = λ fault is. open_is_no_fault finder.stand fault is_open is;
+  no_fault = λ fault is. open_is_no_fault finder.position fault is_open is;
   listed = λ text goes. record {
     listed = record {
       bounds = [];

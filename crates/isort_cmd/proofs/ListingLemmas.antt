@@ -12,9 +12,9 @@ use Rattle.isort_find.specs.Pieces.{PieceFinderState, HasFoundIn, HasReachedIn, 
 use Rattle.isort_find.specs.declared.options.FindOptions.{FindOptions}
 use Rattle.isort_find.specs.declared.error.FindError.{FindError}
 use Rattle.isort_find.specs.declared.error.FindError.TheVariants as find
-use Rattle.isort_find.specs.Stand.{phase_in, ready_in}
-use Rattle.isort_find.specs.declared.walker.Stand.{Stand}
-use Rattle.isort_find.specs.declared.walker.Stand.TheVariants as stand
+use Rattle.isort_find.specs.Position.{phase_in, ready_in}
+use Rattle.isort_find.specs.declared.walker.Position.{Position}
+use Rattle.isort_find.specs.declared.walker.Position.TheVariants as position
 use Rattle.isort_find.specs.declared.walker.Phase.TheVariants as phase
 use Rattle.isort_cmd.specs.Printed.{printed, line_text}
 use Rattle.isort_cmd.specs.RunError.{run_error_of}
@@ -45,9 +45,9 @@ lists_nothing some path text options contents =
     }
 
 -- a finder that met a fault has found all before it
-pub found_fault : (finder : PieceFinderState) (text : List ℕ) (bounds : List Bound) (fault : Fault) → HasFoundIn finder text bounds → finder.stand ≡ stand.Fault fault → IsFound text (options_for finder) bounds (Some fault)
+pub found_fault : (finder : PieceFinderState) (text : List ℕ) (bounds : List Bound) (fault : Fault) → HasFoundIn finder text bounds → finder.position ≡ position.Fault fault → IsFound text (options_for finder) bounds (Some fault)
 found_fault finder text bounds fault found is =
-    let at : HasReachedIn finder text bounds (stand.Fault fault) = subst (HasReachedIn finder text bounds) is found.reached in
+    let at : HasReachedIn finder text bounds (position.Fault fault) = subst (HasReachedIn finder text bounds) is found.reached in
     at.0
 
 -- one more binding was given, and its line was written
@@ -114,14 +114,14 @@ pub gave_error : (old : PieceFinderState) (r : Result (Option Binding) FindError
 gave_error old r e new h same = subst (λ x. GivesReady old x new) same h
 
 -- nothing is ready after the top
-pub not_after_top : (finder : PieceFinderState) → has_ready finder ≡ true → phase_in finder.stand ≡ phase.End → ⊥
-not_after_top finder ready top = by finder.stand ready top
+pub not_after_top : (finder : PieceFinderState) → has_ready finder ≡ true → phase_in finder.position ≡ phase.End → ⊥
+not_after_top finder ready top = by finder.position ready top
   where
     not_both : (b : Bool) → b ≡ false → b ≡ true → ⊥
     not_both b h k = cc
 
-    by : (s : Stand) → ready_in s ≡ true → phase_in s ≡ phase.End → ⊥
-    by (stand.End passed) h k = cc
+    by : (s : Position) → ready_in s ≡ true → phase_in s ≡ phase.End → ⊥
+    by (position.End passed) h k = cc
     by other h k = cc
 
 -- what the errors of a call that asks for what is ready leave

@@ -10,9 +10,9 @@ use Rattle.isort_find.specs.Pieces.{PieceFinderState, GivesBinding, GivesNone, G
 use Rattle.isort_find.specs.declared.options.FindOptions.{FindOptions}
 use Rattle.isort_find.specs.declared.error.FindError.{FindError}
 use Rattle.isort_find.specs.declared.error.FindError.TheVariants as find
-use Rattle.isort_find.specs.Stand.{phase_in}
-use Rattle.isort_find.specs.declared.walker.Stand.{Stand}
-use Rattle.isort_find.specs.declared.walker.Stand.TheVariants as stand
+use Rattle.isort_find.specs.Position.{phase_in}
+use Rattle.isort_find.specs.declared.walker.Position.{Position}
+use Rattle.isort_find.specs.declared.walker.Position.TheVariants as position
 use Rattle.isort_find.specs.declared.walker.Phase.TheVariants as phase
 use Rattle.isort_sort.specs.Metered.{IsGivenUp}
 use Rattle.isort_sort.specs.Written.{AppendsPrefix}
@@ -33,7 +33,7 @@ pub error_of_find : (e : FindError) (l : Last) → l ≡ last.Fine → IsOutputE
 error_of_find find.Memory l fine = fine
 error_of_find (find.Fault f) l fine = fine
 
-open_has_no_fault : (s : Stand) (fault : Fault) → phase_in s ≡ phase.Open → s ≡ stand.Fault fault → ⊥
+open_has_no_fault : (s : Position) (fault : Fault) → phase_in s ≡ phase.Open → s ≡ position.Fault fault → ⊥
 open_has_no_fault s fault is other = let both : phase_in s ≡ phase.Fault fault = ap phase_in other in cc
 
 -- ---- one import
@@ -46,7 +46,7 @@ lists_one old new b out same fine gives put wrote = record {
     fine = fine;
     fed = gives.fed;
     open_yet = gives.open_yet;
-    no_fault = λ h fault is. open_has_no_fault new.finder.stand fault gives.is_open is;
+    no_fault = λ h fault is. open_has_no_fault new.finder.position fault gives.is_open is;
     stays = λ top. absurd (not_after_top old.finder gives.was_ready top);
     listed = λ text options start h. listed_one_more old.path text options old.finder new.finder b out start old.written new.written gives put wrote h;
   };

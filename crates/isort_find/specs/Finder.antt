@@ -8,23 +8,23 @@ use Rattle.py_imports.specs.declared.binding.Binding.{Binding}
 use Rattle.isort_find.specs.Found.{IsFound}
 use Rattle.isort_find.specs.Cursor.{CursorState, next_count, IsAfter, HasStopped}
 use Rattle.isort_find.specs.Pending.{PendingState}
-use Rattle.isort_find.specs.Stand.{phase_in, left_in, IsInside, BindsFrom, MeetsEndAt, MeetsFaultAt, EndsInFaultAt}
+use Rattle.isort_find.specs.Position.{phase_in, left_in, IsInside, BindsFrom, MeetsEndAt, MeetsFaultAt, EndsInFaultAt}
 use Rattle.isort_find.specs.declared.options.FindOptions.{FindOptions}
 use Rattle.isort_find.specs.declared.error.FindError.{FindError}
 use Rattle.isort_find.specs.declared.error.FindError.TheVariants as error
-use Rattle.isort_find.specs.declared.walker.Stand.{Stand}
-use Rattle.isort_find.specs.declared.walker.Stand.TheVariants as stand
+use Rattle.isort_find.specs.declared.walker.Position.{Position}
+use Rattle.isort_find.specs.declared.walker.Position.TheVariants as position
 use Rattle.isort_find.specs.declared.walker.Phase.TheVariants as phase
 
 -- the reader of the text, where the finder stands, and the cursor at which it would stop
 pub record FinderState : Type 0 where
   pub reader : Reader
-  pub stand : Stand
+  pub position : Position
   pub cursor : CursorState
 
 -- what a finder is seen as, by its fields
-abbrev pub finder_state : Reader → Stand → CursorState → FinderState
-finder_state reader at cursor = record { reader = reader; stand = at; cursor = cursor }
+abbrev pub finder_state : Reader → Position → CursorState → FinderState
+finder_state reader at cursor = record { reader = reader; position = at; cursor = cursor }
 
 -- the text of the finder
 abbrev pub finder_text : FinderState → List ℕ
@@ -35,13 +35,13 @@ abbrev pub options_of : FinderState → FindOptions
 options_of f = f.cursor.options
 
 -- how far a reader has to go at most in a text of so many bytes: from its place, or back from a line left unread
-abbrev pub bytes_to_read : Stand → ℕ → ℕ → ℕ
-bytes_to_read (stand.Unread start skip) size place = size + 1
+abbrev pub bytes_to_read : Position → ℕ → ℕ → ℕ
+bytes_to_read (position.Unread start skip) size place = size + 1
 bytes_to_read other size place = size - place
 
 -- how far the reader has to go at most, and then the bindings that are left: it falls with each import that is given
 abbrev pub left_of : FinderState → ℕ
-left_of f = bytes_to_read f.stand (length (finder_text f)) f.reader.place * 2 ^ 64 + length (left_in f.stand)
+left_of f = bytes_to_read f.position (length (finder_text f)) f.reader.place * 2 ^ 64 + length (left_in f.position)
 
 -- between two logical lines, the next of which the reader reads next; so many of its bindings were looked at
 pub record IsBeforeLine (f : FinderState) (skip : ℕ) (bounds : List Bound) : Type 0 where
@@ -56,18 +56,18 @@ pub record IsInLine (f : FinderState) (pending : PendingState) (bounds : List Bo
   pub inside : IsInside (finder_text f) (options_of f) lines line pending bounds
 
 -- where a finder has got
-abbrev pub HasReached : FinderState → List Bound → Stand → Type 0
-HasReached f bounds (stand.Between skip) = IsBeforeLine f skip bounds
-HasReached f bounds (stand.Unread start skip) = IsAfter (finder_text f) (options_of f) start.offset start.line skip bounds
-HasReached f bounds (stand.Within pending) = IsInLine f pending bounds
-HasReached f bounds (stand.End passed) =
+abbrev pub HasReached : FinderState → List Bound → Position → Type 0
+HasReached f bounds (position.Between skip) = IsBeforeLine f skip bounds
+HasReached f bounds (position.Unread start skip) = IsAfter (finder_text f) (options_of f) start.offset start.line skip bounds
+HasReached f bounds (position.Within pending) = IsInLine f pending bounds
+HasReached f bounds (position.End passed) =
     IsFound (finder_text f) (options_of f) bounds None × MeetsEndAt (finder_text f) (options_of f) f.cursor.offset
-HasReached f bounds (stand.Fault fault) = EndsInFaultAt (finder_text f) (options_of f) bounds f.cursor.offset fault
+HasReached f bounds (position.Fault fault) = EndsInFaultAt (finder_text f) (options_of f) bounds f.cursor.offset fault
 
 -- this finder, with those that it goes on from, has given just these bindings: the first that are found in its text
 pub record HasFound (f : FinderState) (bounds : List Bound) : Type 0 where
   pub stopped : HasStopped (finder_text f) f.cursor bounds
-  pub reached : HasReached f bounds f.stand
+  pub reached : HasReached f bounds f.position
 
 -- the text and the options stay
 pub record SameTask (old new : FinderState) : Type 0 where
@@ -81,8 +81,8 @@ pub record FindsNext (old : FinderState) (b : Bound) (new : FinderState) : Type 
   pub task : SameTask old new
   pub given : new.cursor.given ≡ next_count old.cursor.given
   pub falls : left_of new < left_of old
-  pub was_open : phase_in old.stand ≡ phase.Open
-  pub is_open : phase_in new.stand ≡ phase.Open
+  pub was_open : phase_in old.position ≡ phase.Open
+  pub is_open : phase_in new.position ≡ phase.Open
 
 -- from one state to another that has given the same
 pub record KeepsGiven (old new : FinderState) : Type 0 where
@@ -95,25 +95,25 @@ pub record FindsEnd (old new : FinderState) : Type 0 where
   pub all : (bounds : List Bound) → HasFound old bounds → IsFound (finder_text old) (options_of old) bounds None
   pub offset : (bounds : List Bound) → HasFound old bounds → MeetsEndAt (finder_text old) (options_of old) new.cursor.offset
   pub keeps : KeepsGiven old new
-  pub no_fault : (fault : Fault) → old.stand ≡ stand.Fault fault → ⊥
-  pub ended : phase_in new.stand ≡ phase.End
+  pub no_fault : (fault : Fault) → old.position ≡ position.Fault fault → ⊥
+  pub ended : phase_in new.position ≡ phase.End
 
 -- all before the text's fault was given: the fault comes for good
 pub record FindsFault (old : FinderState) (fault : Fault) (new : FinderState) : Type 0 where
   pub all : (bounds : List Bound) → HasFound old bounds → IsFound (finder_text old) (options_of old) bounds (Some fault)
   pub offset : (bounds : List Bound) → HasFound old bounds → MeetsFaultAt (finder_text old) new.cursor.offset fault
   pub keeps : KeepsGiven old new
-  pub no_end : phase_in old.stand ≡ phase.End → ⊥
-  pub again : (first : Fault) → old.stand ≡ stand.Fault first → fault ≡ first
-  pub failed : new.stand ≡ stand.Fault fault
+  pub no_end : phase_in old.position ≡ phase.End → ⊥
+  pub again : (first : Fault) → old.position ≡ position.Fault first → fault ≡ first
+  pub failed : new.position ≡ position.Fault fault
 
 -- memory ran out: the same comes next, and the cursor stays
 pub record FinderRunsOut (old new : FinderState) : Type 0 where
   pub kept : (bounds : List Bound) → HasFound old bounds → HasFound new bounds
   pub task : SameTask old new
   pub cursor : new.cursor ≡ old.cursor
-  pub was_open : phase_in old.stand ≡ phase.Open
-  pub is_open : phase_in new.stand ≡ phase.Open
+  pub was_open : phase_in old.position ≡ phase.Open
+  pub is_open : phase_in new.position ≡ phase.Open
 
 -- what a call of `next_import` answers, from one state to the next
 abbrev pub GivesNext : FinderState → Result (Option Binding) FindError → FinderState → Type 0

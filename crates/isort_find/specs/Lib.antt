@@ -7,7 +7,7 @@ pub mod Settled
 pub mod Lexing
 pub mod Cursor
 pub mod Pending
-pub mod Stand
+pub mod Position
 pub mod Finder
 pub mod Pieces
 pub mod Private

@@ -17,79 +17,79 @@ use Rattle.isort_find.specs.Found.{firsts, ends_top, IsFound}
 use Rattle.isort_find.specs.Settled.{IsFoundSettled, DecidesFound}
 use Rattle.isort_find.specs.Cursor.{CursorState, next_count, BeginsNew, IsAfter, HasStopped}
 use Rattle.isort_find.specs.Pending.{PendingState}
-use Rattle.isort_find.specs.Stand.{phase_in, left_in, is_unread, ready_in, IsInside, BindsFrom, MeetsEndAt, EndsInFaultAt}
+use Rattle.isort_find.specs.Position.{phase_in, left_in, is_unread, ready_in, IsInside, BindsFrom, MeetsEndAt, EndsInFaultAt}
 use Rattle.isort_find.specs.declared.options.FindOptions.{FindOptions}
 use Rattle.isort_find.specs.declared.error.FindError.{FindError}
 use Rattle.isort_find.specs.declared.error.FindError.TheVariants as error
-use Rattle.isort_find.specs.declared.walker.Stand.{Stand}
-use Rattle.isort_find.specs.declared.walker.Stand.TheVariants as stand
+use Rattle.isort_find.specs.declared.walker.Position.{Position}
+use Rattle.isort_find.specs.declared.walker.Position.TheVariants as position
 use Rattle.isort_find.specs.declared.walker.Phase.TheVariants as phase
 
 -- The scanner, which holds the logical line that was read last until all of it was given; where the finder stands; and the
 -- cursor at which it would stop.
 pub record PieceFinderState : Type 0 where
   pub scanning : ScannerState
-  pub stand : Stand
+  pub position : Position
   pub cursor : CursorState
 
 -- what a finder is seen as, by its fields
-abbrev pub piece_finder_state : ScannerState → Stand → CursorState → PieceFinderState
-piece_finder_state scanning at cursor = record { scanning = scanning; stand = at; cursor = cursor }
+abbrev pub piece_finder_state : ScannerState → Position → CursorState → PieceFinderState
+piece_finder_state scanning at cursor = record { scanning = scanning; position = at; cursor = cursor }
 
 -- the options of the finder
 abbrev pub options_for : PieceFinderState → FindOptions
 options_for f = f.cursor.options
 
 -- how far the text was fed: after the top by what was passed over too
-abbrev pub fed_in : Stand → ScannerState → ℕ
-fed_in (stand.End passed) s = max passed (fed_of s)
+abbrev pub fed_in : Position → ScannerState → ℕ
+fed_in (position.End passed) s = max passed (fed_of s)
 fed_in other s = fed_of s
 
 -- the byte of the text up to which the finder was fed
 abbrev pub fed_by : PieceFinderState → ℕ
-fed_by f = fed_in f.stand f.scanning
+fed_by f = fed_in f.position f.scanning
 
 -- what is held of the text: nothing after the top
-abbrev pub held_at_stand : Stand → ScannerState → List ℕ
-held_at_stand (stand.End passed) s = []
-held_at_stand other s = s.held
+abbrev pub held_at_position : Position → ScannerState → List ℕ
+held_at_position (position.End passed) s = []
+held_at_position other s = s.held
 
 -- the text that the finder holds
 abbrev pub held_by : PieceFinderState → List ℕ
-held_by f = held_at_stand f.stand f.scanning
+held_by f = held_at_position f.position f.scanning
 
 -- whether an import is ready, or a refused growth left that open
 abbrev pub has_ready : PieceFinderState → Bool
-has_ready f = ready_in f.stand
+has_ready f = ready_in f.position
 
 -- the text has ended, or the top
 abbrev pub IsOver : PieceFinderState → Type 0
-IsOver f = (f.scanning.ended ≡ true) ⊎ (phase_in f.stand ≡ phase.End)
+IsOver f = (f.scanning.ended ≡ true) ⊎ (phase_in f.position ≡ phase.End)
 
 -- no fault was met
 abbrev pub HasNoFault : PieceFinderState → Type 0
-HasNoFault f = (fault : Fault) → f.stand ≡ stand.Fault fault → ⊥
+HasNoFault f = (fault : Fault) → f.position ≡ position.Fault fault → ⊥
 
 -- the text hasn't ended, or a fault was met: bytes may be fed, and the text may end
 abbrev pub IsOpenYet : PieceFinderState → Type 0
 IsOpenYet f = HasNoFault f → f.scanning.ended ≡ false
 
 -- how many bindings are left at most, where a line that was left unread has any number of them
-abbrev pub due_in : Stand → ℕ
-due_in (stand.Unread start skip) = 2 ^ 64
+abbrev pub due_in : Position → ℕ
+due_in (position.Unread start skip) = 2 ^ 64
 due_in other = length (left_in other)
 
 -- how many bindings the finder may have to give yet
 abbrev pub due_by : PieceFinderState → ℕ
-due_by f = due_in f.stand
+due_by f = due_in f.position
 
 -- the next binding that is left, if one is, has a key that wasn't given
 abbrev pub IsNextNew : PieceFinderState → Type 0
-IsNextNew f = BeginsNew f.cursor (left_in f.stand)
+IsNextNew f = BeginsNew f.cursor (left_in f.position)
 
 -- a refused growth left the last line unread, or the key of the next binding was given
 abbrev pub IsUnsure : PieceFinderState → Type 0
-IsUnsure f = (is_unread f.stand ≡ true) ⊎ ¬ (IsNextNew f)
+IsUnsure f = (is_unread f.position ≡ true) ⊎ ¬ (IsNextNew f)
 
 -- the scanner has released just these logical lines of the text, of which more may come or not
 abbrev pub HasReleased : ScannerState → List ℕ → List LogicalLine → Type 0
@@ -129,19 +129,19 @@ pub record IsAtTopEnd (s : ScannerState) (options : FindOptions) (text : List �
   pub found : bounds ≡ firsts options.unique [] before
 
 -- where a finder has got
-abbrev pub HasReachedIn : PieceFinderState → List ℕ → List Bound → Stand → Type 0
-HasReachedIn f text bounds (stand.Between skip) =
+abbrev pub HasReachedIn : PieceFinderState → List ℕ → List Bound → Position → Type 0
+HasReachedIn f text bounds (position.Between skip) =
     IsBetweenLines f.scanning f.cursor text skip bounds × (f.scanning.ready ≡ None)
-HasReachedIn f text bounds (stand.Unread start skip) = IsBetweenLines f.scanning f.cursor text skip bounds
-HasReachedIn f text bounds (stand.Within pending) = IsWithinLine f.scanning (options_for f) text pending bounds
-HasReachedIn f text bounds (stand.End passed) = IsAtTopEnd f.scanning (options_for f) text bounds
-HasReachedIn f text bounds (stand.Fault fault) = EndsInFaultAt text (options_for f) bounds f.cursor.offset fault
+HasReachedIn f text bounds (position.Unread start skip) = IsBetweenLines f.scanning f.cursor text skip bounds
+HasReachedIn f text bounds (position.Within pending) = IsWithinLine f.scanning (options_for f) text pending bounds
+HasReachedIn f text bounds (position.End passed) = IsAtTopEnd f.scanning (options_for f) text bounds
+HasReachedIn f text bounds (position.Fault fault) = EndsInFaultAt text (options_for f) bounds f.cursor.offset fault
 
 -- The finder was fed so much of this text. With those that it goes on from, it has given just these bindings: the first
 -- that are found in the text.
 pub record HasFoundIn (f : PieceFinderState) (text : List ℕ) (bounds : List Bound) : Type 0 where
   pub stopped : HasStopped text f.cursor bounds
-  pub reached : HasReachedIn f text bounds f.stand
+  pub reached : HasReachedIn f text bounds f.position
 
 -- of each text of which the finder has found some bindings
 abbrev pub OfEachText : PieceFinderState → (List ℕ → List Bound → Type 0) → Type 0
@@ -208,17 +208,17 @@ pub record TakesFromPiece (old : PieceFinderState) (piece : List ℕ) (n : ℕ) 
   pub all : InEachText old (take n piece) (λ text bounds. has_ready new ≡ false → AreAllSettled new text bounds)
   pub undecided : InEachText old (take n piece) (λ text bounds. has_ready new ≡ false → IsUndecided new text)
   pub rest : InEachText old (take n piece)
-      (λ text bounds. has_ready new ≡ false → phase_in new.stand ≡ phase.Open → HoldsRest new text)
+      (λ text bounds. has_ready new ≡ false → phase_in new.position ≡ phase.Open → HoldsRest new text)
   pub line : InEachText old (take n piece)
-      (λ text bounds. has_ready new ≡ true → HoldsLine new text ⊎ ((is_unread new.stand ≡ true) × HoldsRest new text))
+      (λ text bounds. has_ready new ≡ true → HoldsLine new text ⊎ ((is_unread new.position ≡ true) × HoldsRest new text))
   pub some : n ≡ 0 → (piece ≡ []) ⊎ (has_ready old ≡ true)
   pub waits : has_ready old ≡ true → (n ≡ 0) × (new ≡ old)
   pub next_new : has_ready old ≡ false → IsNextNew new
   pub whole : has_ready new ≡ false → n ≡ length piece
-  pub top : phase_in new.stand ≡ phase.End → n ≡ length piece
+  pub top : phase_in new.position ≡ phase.End → n ≡ length piece
   pub fed : fed_by new ≡ fed_by old + n
   pub cursor : new.cursor ≡ old.cursor
-  pub stays : phase_in old.stand ≡ phase.End → phase_in new.stand ≡ phase.End
+  pub stays : phase_in old.position ≡ phase.End → phase_in new.position ≡ phase.End
   pub was_no_fault : HasNoFault old
   pub no_fault : HasNoFault new
   pub open_yet : new.scanning.ended ≡ old.scanning.ended
@@ -232,15 +232,15 @@ DecidesWithin f piece text fault =
 -- the cursor stands at the logical line that has it, and the finder may be called again.
 pub record MeetsFaultIn (old : PieceFinderState) (piece : List ℕ) (fault : Fault) (new : PieceFinderState) : Type 0 where
   pub found : InEachText old piece (HasFoundIn new)
-  pub decided : InEachText old piece (λ text bounds. phase_in old.stand ≡ phase.Open → DecidesWithin old piece text fault)
+  pub decided : InEachText old piece (λ text bounds. phase_in old.position ≡ phase.Open → DecidesWithin old piece text fault)
   pub none_ready : has_ready old ≡ false
-  pub again : (first : Fault) → old.stand ≡ stand.Fault first → (fault ≡ first) × (new ≡ old)
-  pub was_in_top : phase_in old.stand ≡ phase.End → ⊥
+  pub again : (first : Fault) → old.position ≡ position.Fault first → (fault ≡ first) × (new ≡ old)
+  pub was_in_top : phase_in old.position ≡ phase.End → ⊥
   pub options : options_for new ≡ options_for old
   pub given : new.cursor.given ≡ old.cursor.given
   pub fed : fed_by new ≤ fed_by old + length piece
   pub open_yet : new.scanning.ended ≡ old.scanning.ended
-  pub kept : new.stand ≡ stand.Fault fault
+  pub kept : new.position ≡ position.Fault fault
 
 -- A growth was refused: the finder means what it meant, and no byte was taken. Where nothing is ready it holds what is not
 -- settled, and else what it held.
@@ -251,8 +251,8 @@ pub record PieceFinderRunsOut (old new : PieceFinderState) : Type 0 where
   pub fed : fed_by new ≡ fed_by old
   pub cursor : new.cursor ≡ old.cursor
   pub ready : has_ready new ≡ has_ready old
-  pub was_open : phase_in old.stand ≡ phase.Open
-  pub is_open : phase_in new.stand ≡ phase.Open
+  pub was_open : phase_in old.position ≡ phase.Open
+  pub is_open : phase_in new.position ≡ phase.Open
   pub open_yet : new.scanning.ended ≡ old.scanning.ended
 
 -- what a call that is fed a piece answers
@@ -274,7 +274,7 @@ pub record GivesBinding (old : PieceFinderState) (b : Bound) (new : PieceFinderS
   pub options : options_for new ≡ options_for old
   pub given : new.cursor.given ≡ next_count old.cursor.given
   pub fed : fed_by new ≡ fed_by old
-  pub is_open : phase_in new.stand ≡ phase.Open
+  pub is_open : phase_in new.position ≡ phase.Open
   pub open_yet : new.scanning.ended ≡ old.scanning.ended
 
 -- these bindings are all that is found in the text, whose end is met at this byte
@@ -288,13 +288,13 @@ pub record GivesNone (old new : PieceFinderState) : Type 0 where
   pub found : OfEachText old (HasFoundIn new)
   pub all : OfEachText old (λ text bounds. old.scanning.ended ≡ false → HasNoFault old → AreAllSettled new text bounds)
   pub whole : OfEachText old (λ text bounds. IsOver new → HasNoFault old → FindsAll old text bounds new.cursor.offset)
-  pub rest : OfEachText old (λ text bounds. old.scanning.ended ≡ false → phase_in new.stand ≡ phase.Open → HoldsRest new text)
+  pub rest : OfEachText old (λ text bounds. old.scanning.ended ≡ false → phase_in new.position ≡ phase.Open → HoldsRest new text)
   pub offset : HasNoFault old → OfEachText old (λ text bounds. new.cursor.offset ≡ new.scanning.place)
   pub unsure : has_ready old ≡ true → IsUnsure old
   pub none_ready : has_ready new ≡ false
-  pub after_fault : (fault : Fault) → old.stand ≡ stand.Fault fault → new ≡ old
+  pub after_fault : (fault : Fault) → old.position ≡ position.Fault fault → new ≡ old
   pub no_fault : HasNoFault old → HasNoFault new
-  pub stays : phase_in old.stand ≡ phase.End → phase_in new.stand ≡ phase.End
+  pub stays : phase_in old.position ≡ phase.End → phase_in new.position ≡ phase.End
   pub options : options_for new ≡ options_for old
   pub given : new.cursor.given ≡ old.cursor.given
   pub fed : fed_by new ≡ fed_by old
@@ -306,17 +306,17 @@ pub record GivesFault (old : PieceFinderState) (fault : Fault) (new : PieceFinde
   pub found : OfEachText old (HasFoundIn new)
   pub decided : OfEachText old
       (λ text bounds. old.scanning.ended ≡ false → DecidesFound (take (fed_by old) text) (options_for old) fault)
-  pub unread : is_unread old.stand ≡ true
-  pub was_open : phase_in old.stand ≡ phase.Open
+  pub unread : is_unread old.position ≡ true
+  pub was_open : phase_in old.position ≡ phase.Open
   pub options : options_for new ≡ options_for old
   pub given : new.cursor.given ≡ old.cursor.given
   pub fed : fed_by new ≡ fed_by old
   pub open_yet : new.scanning.ended ≡ old.scanning.ended
-  pub kept : new.stand ≡ stand.Fault fault
+  pub kept : new.position ≡ position.Fault fault
 
 -- if no line was left unread, and the next binding had a new key, so has the next one now
 abbrev pub StaysNew : PieceFinderState → PieceFinderState → Type 0
-StaysNew old new = is_unread old.stand ≡ false → IsNextNew old → IsNextNew new
+StaysNew old new = is_unread old.position ≡ false → IsNextNew old → IsNextNew new
 
 -- what a call that asks for what is ready answers
 abbrev pub GivesReady : PieceFinderState → Result (Option Binding) FindError → PieceFinderState → Type 0
@@ -339,12 +339,12 @@ pub record FinishesText (old new : PieceFinderState) : Type 0 where
 -- the text that ends here has this fault, after the bindings given
 pub record EndsInFault (old : PieceFinderState) (fault : Fault) (new : PieceFinderState) : Type 0 where
   pub found : InEachWhole old (HasFoundIn new)
-  pub again : (first : Fault) → old.stand ≡ stand.Fault first → (fault ≡ first) × (new ≡ old)
-  pub was_in_top : phase_in old.stand ≡ phase.End → ⊥
+  pub again : (first : Fault) → old.position ≡ position.Fault first → (fault ≡ first) × (new ≡ old)
+  pub was_in_top : phase_in old.position ≡ phase.End → ⊥
   pub options : options_for new ≡ options_for old
   pub given : new.cursor.given ≡ old.cursor.given
   pub fed : fed_by new ≡ fed_by old
-  pub kept : new.stand ≡ stand.Fault fault
+  pub kept : new.position ≡ position.Fault fault
 
 -- what a call that ends the text answers
 abbrev pub EndsFeeding : PieceFinderState → Result (Unit {0}) FindError → PieceFinderState → Type 0

@@ -33,7 +33,7 @@ impl<'t> Model for Finder<'t> {
 
     ghost Value = { FinderState };
 
-    ghost view = { λ f. finder_state f.lines f.walker.stand f.walker.cursor };
+    ghost view = { λ f. finder_state f.lines f.walker.position f.walker.cursor };
 
     ghost invariant = { λ f. f.lines.text ≡ f.text.now };
 }
@@ -41,7 +41,7 @@ impl<'t> Model for Finder<'t> {
 impl<'t> Finder<'t> {
     ghost use Rattle.isort_find.specs.Cursor.{first_cursor, HasStopped};
     ghost use Rattle.isort_find.specs.Finder.{HasFound, GivesNext, finder_text};
-    ghost use Rattle.isort_find.specs.Stand.{left_in, phase_in};
+    ghost use Rattle.isort_find.specs.Position.{left_in, phase_in};
     ghost use Rattle.isort_find.specs.Private.FinderSteps.{GivesNew, GoesBack, FollowsRead, ReadsNextLine};
 
     /// A finder at the start of the text, which is any bytes. It answers `Memory` alone.
@@ -65,7 +65,7 @@ impl<'t> Finder<'t> {
 
     /// The next binding of the logical line read last whose key wasn't given yet.
     fn next_new(&mut self) -> Result<Option<Binding>, FindError>
-        requires { phase_in self.old.stand ≡ Phase.Open }
+        requires { phase_in self.old.position ≡ Phase.Open }
         ensures { GivesNew self.old result self.new }
     {
         self.walker.next_new()
@@ -116,8 +116,8 @@ impl<'t> Finder<'t> {
 
     /// Reads the next logical line, where nothing is left of the one read last.
     fn read_line(&mut self) -> Result<(), FindError>
-        requires is_open { phase_in self.old.stand ≡ Phase.Open }
-        requires none_left { left_in self.old.stand ≡ [] }
+        requires is_open { phase_in self.old.position ≡ Phase.Open }
+        requires none_left { left_in self.old.position ≡ [] }
         ensures { ReadsNextLine self.old result self.new }
     {
         known_laws();
@@ -150,7 +150,8 @@ impl<'t> Finder<'t> {
     /// The cursor from which another finder goes on. It takes no memory.
     pub fn stop(self) -> Cursor
         ensures cursor { result ≡ self.entry.cursor }
-        ensures stopped { (bounds : List Bound) → HasFound self.entry bounds → HasStopped (finder_text self.entry) result bounds }
+        ensures stopped { (bounds : List Bound) → HasFound self.entry bounds
+            → HasStopped (finder_text self.entry) result bounds }
     {
         let Finder { walker, .. } = self;
         walker.stop()
@@ -168,12 +169,14 @@ impl<'t> Finder<'t> {
         text: &'t [u8],
         cursor: Cursor,
     ) -> Result<Finder<'t>, (Cursor, ResumeError)>
-        ensures found { IfOk result (λ f. (bounds : List Bound) → HasStopped text.now cursor bounds → HasFound f bounds) }
+        ensures found { IfOk result (λ f. (bounds : List Bound) → HasStopped text.now cursor bounds
+            → HasFound f bounds) }
         ensures text { IfOk result (λ f. finder_text f ≡ text.now) }
         ensures cursor { IfOk result (λ f. f.cursor ≡ cursor) }
         ensures within { IfOk result (λ f. cursor.offset ≤ length text.now) }
         ensures back { IfErr result (λ e. e.0 ≡ cursor) }
-        ensures too_short { IfErr result (λ e. (e.1 ≡ ResumeError.TextTooShort) ↔ (length text.now < cursor.offset)) }
+        ensures too_short { IfErr result (λ e. (e.1 ≡ ResumeError.TextTooShort)
+            ↔ (length text.now < cursor.offset)) }
     {
         let start = cursor.start_of_line();
         if start.offset > text.len() as u64 {

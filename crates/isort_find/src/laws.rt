@@ -26,8 +26,10 @@ pub fn equal_keys(one: &KeyText, other: &KeyText) -> bool
 /// What a finder has given, with those that it goes on from, begins what is found in its text: the rest comes after
 /// it. So does what was given by then where a finder, over pieces or over the whole text, stops.
 pub fn given_begin_the_found()
-    ensures begin { (f : FinderState) (bounds : List Bound) → HasFound f bounds → BeginsFound (finder_text f) (options_of f) bounds }
-    ensures stopped { (text : List ℕ) (cursor : CursorState) (bounds : List Bound) → HasStopped text cursor bounds → BeginsFound text cursor.options bounds }
+    ensures begin { (f : FinderState) (bounds : List Bound) → HasFound f bounds
+        → BeginsFound (finder_text f) (options_of f) bounds }
+    ensures stopped { (text : List ℕ) (cursor : CursorState) (bounds : List Bound)
+        → HasStopped text cursor bounds → BeginsFound text cursor.options bounds }
 {
     given_lines_begin_the_text();
     binds_or_is_bad();
@@ -36,9 +38,14 @@ pub fn given_begin_the_found()
 /// Something is found in every text, and with the same options it is one list, and then the text's end, or one fault:
 /// of one kind, at one byte, on one line.
 pub fn one_found()
-    ensures some { (text : List ℕ) (options : FindOptions) → (bounds : List Bound) × (end : Option Fault) × IsFound text options bounds end }
-    ensures one_list { (text : List ℕ) (options : FindOptions) (bounds others : List Bound) (end other : Option Fault) → IsFound text options bounds end → IsFound text options others other → bounds ≡ others }
-    ensures one_end { (text : List ℕ) (options : FindOptions) (bounds others : List Bound) (end other : Option Fault) → IsFound text options bounds end → IsFound text options others other → end ≡ other }
+    ensures some { (text : List ℕ) (options : FindOptions)
+        → (bounds : List Bound) × (end : Option Fault) × IsFound text options bounds end }
+    ensures one_list { (text : List ℕ) (options : FindOptions) (bounds others : List Bound)
+        (end other : Option Fault) → IsFound text options bounds end
+        → IsFound text options others other → bounds ≡ others }
+    ensures one_end { (text : List ℕ) (options : FindOptions) (bounds others : List Bound)
+        (end other : Option Fault) → IsFound text options bounds end
+        → IsFound text options others other → end ≡ other }
 {
     one_lexing();
     given_lines_begin_the_text();
@@ -49,12 +56,23 @@ pub fn one_found()
 /// with these bytes. It is there for any bytes, and begins what more bytes settle. The fault of a bad one among these
 /// lines is decided. A fault that the known bytes decide is the one that each such text ends in, after the same imports.
 pub fn settled_found_is_final()
-    ensures some { (text : List ℕ) (options : FindOptions) → (bounds : List Bound) × (bad : Option Fault) × IsFoundSettled text options bounds bad }
-    ensures grow { (text more : List ℕ) (options : FindOptions) (bounds later : List Bound) (bad last : Option Fault) → IsFoundSettled text options bounds bad → IsFoundSettled (text ++ more) options later last → (rest : List Bound) × (later ≡ bounds ++ rest) }
-    ensures bad { (text : List ℕ) (options : FindOptions) (bounds : List Bound) (fault : Fault) → IsFoundSettled text options bounds (Some fault) → DecidesFound text options fault }
-    ensures bindings { (text more : List ℕ) (options : FindOptions) (bounds : List Bound) (bad : Option Fault) → IsFoundSettled text options bounds bad → BeginsFound (text ++ more) options bounds }
-    ensures fault { (text more : List ℕ) (options : FindOptions) (fault : Fault) (bounds : List Bound) (end : Option Fault) → DecidesFound text options fault → IsFound (text ++ more) options bounds end → end ≡ Some fault }
-    ensures all { (text more : List ℕ) (options : FindOptions) (bounds : List Bound) (fault : Fault) → DecidesFound text options fault → IsFound text options bounds (Some fault) → IsFound (text ++ more) options bounds (Some fault) }
+    ensures some { (text : List ℕ) (options : FindOptions)
+        → (bounds : List Bound) × (bad : Option Fault) × IsFoundSettled text options bounds bad }
+    ensures grow { (text more : List ℕ) (options : FindOptions) (bounds later : List Bound)
+        (bad last : Option Fault) → IsFoundSettled text options bounds bad
+        → IsFoundSettled (text ++ more) options later last
+        → (rest : List Bound) × (later ≡ bounds ++ rest) }
+    ensures bad { (text : List ℕ) (options : FindOptions) (bounds : List Bound) (fault : Fault)
+        → IsFoundSettled text options bounds (Some fault) → DecidesFound text options fault }
+    ensures bindings { (text more : List ℕ) (options : FindOptions) (bounds : List Bound)
+        (bad : Option Fault) → IsFoundSettled text options bounds bad
+        → BeginsFound (text ++ more) options bounds }
+    ensures fault { (text more : List ℕ) (options : FindOptions) (fault : Fault)
+        (bounds : List Bound) (end : Option Fault) → DecidesFound text options fault
+        → IsFound (text ++ more) options bounds end → end ≡ Some fault }
+    ensures all { (text more : List ℕ) (options : FindOptions) (bounds : List Bound) (fault : Fault)
+        → DecidesFound text options fault → IsFound text options bounds (Some fault)
+        → IsFound (text ++ more) options bounds (Some fault) }
 {
     one_lexing();
     given_lines_begin_the_text();
@@ -65,8 +83,12 @@ pub fn settled_found_is_final()
 /// In any bytes in whose characters neither `f` nor `t`, alone or followed by `r`, stands directly before a quote, the same
 /// imports are found, with the same options, whether strings hold fields or not, and then the same end or fault.
 pub fn fields_change_nothing_elsewhere()
-    ensures found_with { (text : List ℕ) (options : FindOptions) (bounds : List Bound) (end : Option Fault) → HasNoFields text → IsPlainFound text options bounds end → IsFound text options bounds end }
-    ensures found_without { (text : List ℕ) (options : FindOptions) (bounds : List Bound) (end : Option Fault) → HasNoFields text → IsFound text options bounds end → IsPlainFound text options bounds end }
+    ensures found_with { (text : List ℕ) (options : FindOptions) (bounds : List Bound)
+        (end : Option Fault) → HasNoFields text → IsPlainFound text options bounds end
+        → IsFound text options bounds end }
+    ensures found_without { (text : List ℕ) (options : FindOptions) (bounds : List Bound)
+        (end : Option Fault) → HasNoFields text → IsFound text options bounds end
+        → IsPlainFound text options bounds end }
 {
     py_lines::laws::fields_change_nothing_elsewhere();
 }

@@ -22,4 +22,4 @@ pub use key::{KeyText, key_of};
 pub use options::{FindOptions, ImportKey};
 pub use pending::{LineStart, Pending};
 pub use pieces::PieceFinder;
-pub use walker::{Phase, Stand};
+pub use walker::{Phase, Position};

@@ -83,14 +83,16 @@ impl Pending {
 
     /// The next binding to look at.
     pub(crate) fn front(&self) -> Option<&Binding>
-        ensures { MatchOption result (self.now.left ≡ []) (λ b. self.now.left ≡ bound_of b.now ∷ drop 1 self.now.left) }
+        ensures { MatchOption result (self.now.left ≡ [])
+            (λ b. self.now.left ≡ bound_of b.now ∷ drop 1 self.now.left) }
     {
         self.bindings.front()
     }
 
     /// Takes the next binding, which was looked at.
     pub(crate) fn take(&mut self) -> Option<Binding>
-        ensures { MatchOption result ((self.old.left ≡ []) × (self.new ≡ self.old)) (λ b. Looks self.old (bound_of b) self.new) }
+        ensures { MatchOption result ((self.old.left ≡ []) × (self.new ≡ self.old))
+            (λ b. Looks self.old (bound_of b) self.new) }
     {
         let binding = self.bindings.pop_front()?;
         self.taken += 1;

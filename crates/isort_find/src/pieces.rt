@@ -31,14 +31,14 @@ impl Model for PieceFinder {
 
     ghost Value = { PieceFinderState };
 
-    ghost view = { λ f. piece_finder_state f.scanner f.walker.stand f.walker.cursor };
+    ghost view = { λ f. piece_finder_state f.scanner f.walker.position f.walker.cursor };
 }
 
 impl PieceFinder {
     ghost use Rattle.isort_find.specs.Cursor.{first_cursor, HasStopped};
     ghost use Rattle.isort_find.specs.Pieces.{PieceFinderState, HasFoundIn, AreAllSettled, IsUndecided, IsOpenYet, FeedsPiece};
     ghost use Rattle.isort_find.specs.Pieces.{GivesReady, EndsFeeding, GoesOnFrom, fed_by, held_by, has_ready};
-    ghost use Rattle.isort_find.specs.Stand.{phase_in};
+    ghost use Rattle.isort_find.specs.Position.{phase_in};
     ghost use Rattle.isort_find.specs.Private.PieceSteps.{IsNextStart, LetsLineGo, TriesReady, TakesBytesOf, IsToGoOn, IsToStop};
     ghost use Rattle.isort_find.specs.Private.PieceSteps.{HasTakenAll, ReadsUnread, TakesReady, Rests, with_passed};
 
@@ -47,7 +47,7 @@ impl PieceFinder {
         ensures cursor { IfOk result (λ f. f.cursor ≡ first_cursor options) }
         ensures fed { IfOk result (λ f. fed_by f ≡ 0) }
         ensures open_yet { IfOk result (λ f. f.scanning.ended ≡ false) }
-        ensures is_open { IfOk result (λ f. phase_in f.stand ≡ Phase.Open) }
+        ensures is_open { IfOk result (λ f. phase_in f.position ≡ Phase.Open) }
         ensures none_ready { IfOk result (λ f. has_ready f ≡ false) }
         ensures found { IfOk result (λ f. (text : List ℕ) → HasFoundIn f text []) }
         ensures settled { IfOk result (λ f. (text : List ℕ) → AreAllSettled f text []) }
@@ -100,7 +100,7 @@ impl PieceFinder {
     fn take_line(&mut self, piece: &[u8]) -> Result<usize, FindError>
         requires fits { fed_by self.old + length piece.now ≤ 2 ^ 62 }
         requires open_yet { self.old.scanning.ended ≡ false }
-        requires is_open { phase_in self.old.stand ≡ Phase.Open }
+        requires is_open { phase_in self.old.position ≡ Phase.Open }
         requires none_ready { has_ready self.old ≡ false }
         ensures { TakesBytesOf self.old piece.now result self.new }
     {
@@ -122,10 +122,11 @@ impl PieceFinder {
     fn take_lines(&mut self, piece: &[u8]) -> Result<usize, FindError>
         requires fits { fed_by self.old + length piece.now ≤ 2 ^ 62 }
         requires open_yet { self.old.scanning.ended ≡ false }
-        requires is_open { phase_in self.old.stand ≡ Phase.Open }
+        requires is_open { phase_in self.old.position ≡ Phase.Open }
         requires none_ready { has_ready self.old ≡ false }
         ensures takes { TakesBytesOf self.old piece.now result self.new }
-        ensures done { (n : ℕ) → result ≡ Ok n → has_ready self.new ≡ false → HasTakenAll piece.now n self.new }
+        ensures done { (n : ℕ) → result ≡ Ok n → has_ready self.new ≡ false
+            → HasTakenAll piece.now n self.new }
     {
         let mut taken = 0;
         'lines: loop {
@@ -161,7 +162,7 @@ impl PieceFinder {
 
     /// Whether neither the end nor a fault was met.
     fn is_open(&self) -> bool
-        ensures { IsTrue result ↔ (phase_in self.now.stand ≡ Phase.Open) }
+        ensures { IsTrue result ↔ (phase_in self.now.position ≡ Phase.Open) }
     {
         self.walker.is_open()
     }
@@ -329,7 +330,8 @@ impl PieceFinder {
     /// The cursor from which another finder goes on, over pieces or over the whole text. It takes no memory.
     pub fn stop(self) -> Cursor
         ensures cursor { result ≡ self.cursor }
-        ensures stopped { (text : List ℕ) (bounds : List Bound) → HasFoundIn self text bounds → HasStopped text result bounds }
+        ensures stopped { (text : List ℕ) (bounds : List Bound) → HasFoundIn self text bounds
+            → HasStopped text result bounds }
     {
         let PieceFinder { walker, .. } = self;
         walker.stop()

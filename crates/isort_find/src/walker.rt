@@ -16,7 +16,7 @@ use std::marker::Model;
 
 /// Where a finder stands in its text.
 #[derive(Drop)]
-pub enum Stand {
+pub enum Position {
     /// Between two logical lines. So many bindings of the next one were looked at.
     Between { skip: usize },
     /// Before the logical line that begins at `start`, which was left unread, since memory ran out. So many of its bindings
@@ -47,7 +47,7 @@ pub struct Walker {
     /// Where its memory comes from.
     alloc: Global,
     /// Where it stands.
-    stand: Stand,
+    position: Position,
     /// Where another finder would go on.
     cursor: Cursor,
 }
@@ -57,23 +57,23 @@ impl Model for Walker {
 
     ghost Value = { WalkerState };
 
-    ghost view = { λ w. walker_state w.stand w.cursor };
+    ghost view = { λ w. walker_state w.position w.cursor };
 }
 
 impl Walker {
     ghost use Rattle.isort_find.specs.Pending.{pending_state};
-    ghost use Rattle.isort_find.specs.Stand.{passed_in, phase_in, ready_in, skip_in};
+    ghost use Rattle.isort_find.specs.Position.{passed_in, phase_in, ready_in, skip_in};
     ghost use Rattle.isort_find.specs.Private.CursorMoves.{cursor_before};
     ghost use Rattle.isort_find.specs.Private.Walks.{FollowsStep, LooksAhead, ReadsOrLosesLine, TakesOne, TriesLine, walker_state};
-    ghost use Rattle.isort_find.specs.Private.Walks.{with_fault, with_stand, after_line, passed_up_to, read_again, unread_in};
+    ghost use Rattle.isort_find.specs.Private.Walks.{with_fault, with_position, after_line, passed_up_to, read_again, unread_in};
 
     /// Where the cursor stands.
     pub fn at(alloc: Global, cursor: Cursor) -> Walker
-        ensures { result ≡ walker_state (Stand.Between cursor.taken) cursor }
+        ensures { result ≡ walker_state (Position.Between cursor.taken) cursor }
     {
         Walker {
             alloc,
-            stand: Stand::Between {
+            position: Position::Between {
                 skip: cursor.taken(),
             },
             cursor,
@@ -89,59 +89,59 @@ impl Walker {
 
     /// Whether it goes on, or has met the end or the fault.
     pub fn phase(&self) -> Phase
-        ensures { result ≡ phase_in self.now.stand }
+        ensures { result ≡ phase_in self.now.position }
     {
-        match &self.stand {
-            Stand::Between { .. } | Stand::Unread { .. } | Stand::Within(_) => Phase::Open,
-            Stand::End { .. } => Phase::End,
-            Stand::Fault(fault) => Phase::Fault(*fault),
+        match &self.position {
+            Position::Between { .. } | Position::Unread { .. } | Position::Within(_) => Phase::Open,
+            Position::End { .. } => Phase::End,
+            Position::Fault(fault) => Phase::Fault(*fault),
         }
     }
 
     /// Whether neither the end nor a fault was met.
     pub fn is_open(&self) -> bool
-        ensures { IsTrue result ↔ (phase_in self.now.stand ≡ Phase.Open) }
+        ensures { IsTrue result ↔ (phase_in self.now.position ≡ Phase.Open) }
     {
         matches!(self.phase(), Phase::Open)
     }
 
     /// Whether a binding is left, or a logical line was left unread.
     pub fn has_ready(&self) -> bool
-        ensures { result ≡ ready_in self.now.stand }
+        ensures { result ≡ ready_in self.now.position }
     {
-        match &self.stand {
-            Stand::Unread { .. } => true,
-            Stand::Within(pending) => pending.front().is_some(),
-            Stand::Between { .. } | Stand::End { .. } | Stand::Fault(_) => false,
+        match &self.position {
+            Position::Unread { .. } => true,
+            Position::Within(pending) => pending.front().is_some(),
+            Position::Between { .. } | Position::End { .. } | Position::Fault(_) => false,
         }
     }
 
     /// Where the logical line begins that was left unread, if one was.
     pub fn unread(&self) -> Option<LineStart>
-        ensures { result ≡ unread_in self.now.stand }
+        ensures { result ≡ unread_in self.now.position }
     {
-        match &self.stand {
-            Stand::Unread { start, .. } => Some(*start),
+        match &self.position {
+            Position::Unread { start, .. } => Some(*start),
             _ => None,
         }
     }
 
     /// How many bindings of the next logical line were looked at.
     pub fn skip(&self) -> usize
-        ensures { result ≡ skip_in self.now.stand }
+        ensures { result ≡ skip_in self.now.position }
     {
-        match &self.stand {
-            Stand::Between { skip } | Stand::Unread { skip, .. } => *skip,
+        match &self.position {
+            Position::Between { skip } | Position::Unread { skip, .. } => *skip,
             _ => 0,
         }
     }
 
     /// The byte up to which text was passed over after the end, or 0.
     pub fn passed(&self) -> u64
-        ensures { result ≡ passed_in self.now.stand }
+        ensures { result ≡ passed_in self.now.position }
     {
-        match &self.stand {
-            Stand::End { passed } => *passed,
+        match &self.position {
+            Position::End { passed } => *passed,
             _ => 0,
         }
     }
@@ -151,7 +151,7 @@ impl Walker {
         ensures answer { result ≡ FindError.Fault fault }
         ensures kept { self.new ≡ with_fault self.old start fault }
     {
-        self.stand = Stand::Fault(fault);
+        self.position = Position::Fault(fault);
         self.cursor.move_to(start);
         FindError::Fault(fault)
     }
@@ -163,10 +163,10 @@ impl Walker {
         match step {
             Step::Bindings(bindings) => {
                 let skip = self.skip();
-                self.stand = Stand::Within(Pending::new(bindings, start, skip));
+                self.position = Position::Within(Pending::new(bindings, start, skip));
             }
-            Step::Plain => self.stand = Stand::Between { skip: 0 },
-            Step::End => self.stand = Stand::End { passed: 0 },
+            Step::Plain => self.position = Position::Between { skip: 0 },
+            Step::End => self.position = Position::End { passed: 0 },
             Step::Fault(fault) => return Err(self.fail(start, fault)),
             Step::LineLost => {
                 self.lose(start);
@@ -200,9 +200,9 @@ impl Walker {
     /// The logical line that begins at `start` binds nothing.
     #[inline(always)]
     fn pass_by(&mut self, start: LineStart)
-        ensures { self.new ≡ with_stand self.old (Stand.Within (pending_state start 0 [])) }
+        ensures { self.new ≡ with_position self.old (Position.Within (pending_state start 0 [])) }
     {
-        self.stand = Stand::Within(Pending::none(self.alloc, start));
+        self.position = Position::Within(Pending::none(self.alloc, start));
     }
 
     /// The same, for a logical line that may bind something. It is apart so that other lines take few steps.
@@ -223,11 +223,12 @@ impl Walker {
     pub fn next_new(&mut self) -> Result<Option<Binding>, FindError>
         ensures { TakesOne self.old result self.new }
     {
-        match &mut self.stand {
-            Stand::Within(pending) => take_new(self.alloc, pending, &mut self.cursor),
-            Stand::Between { .. } | Stand::Unread { .. } | Stand::End { .. } | Stand::Fault(_) => {
-                Ok(None)
-            }
+        match &mut self.position {
+            Position::Within(pending) => take_new(self.alloc, pending, &mut self.cursor),
+            Position::Between { .. }
+            | Position::Unread { .. }
+            | Position::End { .. }
+            | Position::Fault(_) => { Ok(None) }
         }
     }
 
@@ -235,45 +236,50 @@ impl Walker {
     pub fn look_ahead(&mut self)
         ensures { LooksAhead self.old self.new }
     {
-        match &mut self.stand {
-            Stand::Within(pending) => {
+        match &mut self.position {
+            Position::Within(pending) => {
                 pass_known(self.alloc, pending, &self.cursor);
             }
-            Stand::Between { .. } | Stand::Unread { .. } | Stand::End { .. } | Stand::Fault(_) => {}
+            Position::Between { .. }
+            | Position::Unread { .. }
+            | Position::End { .. }
+            | Position::Fault(_) => {}
         }
     }
 
     /// Leaves the logical line read last.
     pub fn leave(&mut self)
-        ensures { self.new ≡ with_stand self.old (after_line self.old.stand) }
+        ensures { self.new ≡ with_position self.old (after_line self.old.position) }
     {
-        if let Stand::Within(_) = &self.stand {
-            self.stand = Stand::Between { skip: 0 };
+        if let Position::Within(_) = &self.position {
+            self.position = Position::Between { skip: 0 };
         }
     }
 
     /// Memory ran out for the logical line that begins at `start`.
     pub fn lose(&mut self, start: LineStart)
-        ensures { self.new ≡ with_stand self.old (Stand.Unread start (skip_in self.old.stand)) }
+        ensures { self.new
+            ≡ with_position self.old (Position.Unread start (skip_in self.old.position)) }
     {
         let skip = self.skip();
-        self.stand = Stand::Unread { start, skip };
+        self.position = Position::Unread { start, skip };
     }
 
     /// The logical line that was left unread comes next.
     pub fn go_back(&mut self)
-        ensures { self.new ≡ with_stand self.old (read_again self.old.stand) }
+        ensures { self.new ≡ with_position self.old (read_again self.old.position) }
     {
-        if let Stand::Unread { skip, .. } = &self.stand {
+        if let Position::Unread { skip, .. } = &self.position {
             let skip = *skip;
-            self.stand = Stand::Between { skip };
+            self.position = Position::Between { skip };
         }
     }
 
     /// What follows begins at `start`. The cursor goes there, except where some of the next line's bindings were looked at.
     pub fn rest(&mut self, start: LineStart)
-        ensures fresh { skip_in self.old.stand ≡ 0 → self.new ≡ walker_state self.old.stand (cursor_before self.old.cursor start) }
-        ensures stays { ¬ (skip_in self.old.stand ≡ 0) → self.new ≡ self.old }
+        ensures fresh { skip_in self.old.position ≡ 0
+            → self.new ≡ walker_state self.old.position (cursor_before self.old.cursor start) }
+        ensures stays { ¬ (skip_in self.old.position ≡ 0) → self.new ≡ self.old }
     {
         if self.skip() == 0 {
             self.cursor.move_to(start);
@@ -282,9 +288,9 @@ impl Walker {
 
     /// After the end text is passed over up to this byte.
     pub fn pass_to(&mut self, place: u64)
-        ensures { self.new ≡ with_stand self.old (passed_up_to self.old.stand place) }
+        ensures { self.new ≡ with_position self.old (passed_up_to self.old.position place) }
     {
-        if let Stand::End { passed } = &mut self.stand {
+        if let Position::End { passed } = &mut self.position {
             *passed = place;
         }
     }

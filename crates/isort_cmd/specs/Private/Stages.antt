@@ -4,7 +4,7 @@ use Rattle.std.specs.Io.KnownBytes.{Appends, IsAtEnd}
 use Rattle.std.specs.List.{list_any}
 use Rattle.isort_find.specs.Pieces.{PieceFinderState, IsOver, HasNoFault, options_for, due_by, fed_by, has_ready}
 use Rattle.isort_find.specs.declared.options.FindOptions.{FindOptions}
-use Rattle.isort_find.specs.Stand.{phase_in}
+use Rattle.isort_find.specs.Position.{phase_in}
 use Rattle.isort_find.specs.declared.walker.Phase.TheVariants as phase
 use Rattle.isort_sort.specs.Metered.{inner_of, last_of}
 use Rattle.isort_sort.specs.declared.metered.Last.{Last}
@@ -40,7 +40,7 @@ pub record KeepsListed (old new : ListingState) : Type 0 where
   pub fed : fed_by new.finder ≡ fed_by old.finder
   pub open_yet : new.finder.scanning.ended ≡ old.finder.scanning.ended
   pub no_fault : HasNoFault old.finder → HasNoFault new.finder
-  pub stays : phase_in old.finder.stand ≡ phase.End → phase_in new.finder.stand ≡ phase.End
+  pub stays : phase_in old.finder.position ≡ phase.End → phase_in new.finder.position ≡ phase.End
   pub listed : (text : List ℕ) (options : FindOptions) (start : Option (List ℕ))
       → GivenAreListed old.path text options old.finder start old.written
       → GivenAreListed old.path text options new.finder start new.written

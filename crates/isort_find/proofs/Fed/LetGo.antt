@@ -5,23 +5,23 @@ use Rattle.py_lines.specs.ScannerState.{ScannerState, fed_of, IsScanning, HasEnd
 use Rattle.py_imports.specs.Bound.{Bound}
 use Rattle.isort_find.specs.Cursor.{CursorState}
 use Rattle.isort_find.specs.Pending.{PendingState}
-use Rattle.isort_find.specs.Stand.{phase_in, skip_in, are_left, ready_in}
+use Rattle.isort_find.specs.Position.{phase_in, skip_in, are_left, ready_in}
 use Rattle.isort_find.specs.Pieces.{PieceFinderState, piece_finder_state, fed_by, has_ready, HasReleased, IsBetweenLines, IsWithinLine, HasFoundIn}
 use Rattle.isort_find.specs.Private.PieceSteps.{ReleasesAny, LetsLineGo}
 use Rattle.isort_find.specs.Private.Walks.{after_line}
-use Rattle.isort_find.specs.declared.walker.Stand.{Stand}
-use Rattle.isort_find.specs.declared.walker.Stand.TheVariants as stand
+use Rattle.isort_find.specs.declared.walker.Position.{Position}
+use Rattle.isort_find.specs.declared.walker.Position.TheVariants as position
 use Rattle.isort_find.specs.declared.walker.Phase.TheVariants as phase
 use Rattle.isort_find.proofs.Walks.Inside.{line_over}
 use Rattle.isort_find.proofs.Fed.Known.{given_of, none_or_some, still_scanning}
 
 -- a finder that goes on and has nothing ready, once its line was let go
 abbrev pub line_begun : PieceFinderState → ScannerState → PieceFinderState
-line_begun f s = piece_finder_state s (stand.Between (skip_in f.stand)) f.cursor
+line_begun f s = piece_finder_state s (position.Between (skip_in f.position)) f.cursor
 
 -- a finder of which nothing is ready lets its line go
 pub record BeginsLine (old : PieceFinderState) (t : ScannerState) : Type 0 where
-  pub opened : phase_in old.stand ≡ phase.Open
+  pub opened : phase_in old.position ≡ phase.Open
   pub none : has_ready old ≡ false
   pub yet : old.scanning.ended ≡ false
   pub scanner : ReleasesAny old.scanning t
@@ -32,34 +32,34 @@ pub none_are_left : (left : List Bound) → are_left left ≡ false → left ≡
 none_are_left [] h = refl
 none_are_left (b ∷ bs) h = absurd cc
 
-after_idle : (s : Stand) → phase_in s ≡ phase.Open → ready_in s ≡ false → after_line s ≡ stand.Between (skip_in s)
-after_idle (stand.Between skip) opened none = refl
-after_idle (stand.Unread start skip) opened none = absurd cc
-after_idle (stand.Within pending) opened none = refl
-after_idle (stand.End passed) opened none = absurd cc
-after_idle (stand.Fault fault) opened none = absurd cc
+after_idle : (s : Position) → phase_in s ≡ phase.Open → ready_in s ≡ false → after_line s ≡ position.Between (skip_in s)
+after_idle (position.Between skip) opened none = refl
+after_idle (position.Unread start skip) opened none = absurd cc
+after_idle (position.Within pending) opened none = refl
+after_idle (position.End passed) opened none = absurd cc
+after_idle (position.Fault fault) opened none = absurd cc
 
 -- where nothing is ready, nothing is left
-pub fed_open : (f : PieceFinderState) → phase_in f.stand ≡ phase.Open → fed_by f ≡ fed_of f.scanning
-fed_open f opened = by f.stand opened
+pub fed_open : (f : PieceFinderState) → phase_in f.position ≡ phase.Open → fed_by f ≡ fed_of f.scanning
+fed_open f opened = by f.position opened
   where
-    by : (s : Stand) → phase_in s ≡ phase.Open → fed_by (record f { stand = s }) ≡ fed_of f.scanning
-    by (stand.Between skip) here = refl
-    by (stand.Unread start skip) here = refl
-    by (stand.Within pending) here = refl
-    by (stand.End passed) here = absurd cc
-    by (stand.Fault fault) here = refl
+    by : (s : Position) → phase_in s ≡ phase.Open → fed_by (record f { position = s }) ≡ fed_of f.scanning
+    by (position.Between skip) here = refl
+    by (position.Unread start skip) here = refl
+    by (position.Within pending) here = refl
+    by (position.End passed) here = absurd cc
+    by (position.Fault fault) here = refl
 
 -- the finder then
-pub begun_is : (old a : PieceFinderState) → phase_in old.stand ≡ phase.Open → has_ready old ≡ false → LetsLineGo old a → a ≡ line_begun old a.scanning
-begun_is old a opened none l = l.same ∙ ap (λ (s : Stand). piece_finder_state a.scanning s old.cursor) (after_idle old.stand opened none)
+pub begun_is : (old a : PieceFinderState) → phase_in old.position ≡ phase.Open → has_ready old ≡ false → LetsLineGo old a → a ≡ line_begun old a.scanning
+begun_is old a opened none l = l.same ∙ ap (λ (s : Position). piece_finder_state a.scanning s old.cursor) (after_idle old.position opened none)
 
 -- a finder of which nothing is ready has let its line go
 pub record HasLetGo (old a : PieceFinderState) : Type 0 where
   pub begins : BeginsLine old a.scanning
   pub is : a ≡ line_begun old a.scanning
 
-pub has_let_go : (old a : PieceFinderState) → phase_in old.stand ≡ phase.Open → has_ready old ≡ false → old.scanning.ended ≡ false → LetsLineGo old a → HasLetGo old a
+pub has_let_go : (old a : PieceFinderState) → phase_in old.position ≡ phase.Open → has_ready old ≡ false → old.scanning.ended ≡ false → LetsLineGo old a → HasLetGo old a
 has_let_go old a opened none yet l = record {
   begins = record { opened = opened; none = none; yet = yet; scanner = l.scanner; none_ready = l.none_ready; some_text = l.some_text };
   is = begun_is old a opened none l;
@@ -81,17 +81,17 @@ within_gone s t cursor text p bounds none r w =
     gone lines line same (inr h) = inr (subst (λ (l : LogicalLine). HasEnded t text (lines ++ l ∷ [])) same (r.ends text lines h))
 
 -- the line was read, or none is ready: the finder is between two lines
-pub gone_between : (s t : ScannerState) (at : Stand) (cursor : CursorState) (text : List ℕ) (bounds : List Bound) → phase_in at ≡ phase.Open → ready_in at ≡ false → ReleasesAny s t → HasFoundIn (piece_finder_state s at cursor) text bounds → IsBetweenLines t cursor text (skip_in at) bounds
-gone_between s t (stand.Between skip) cursor text bounds opened none (inl same) h = subst (λ (x : ScannerState). IsBetweenLines x cursor text skip bounds) (sym same.1) h.reached.0
-gone_between s t (stand.Between skip) cursor text bounds opened none (inr r) h = absurd (none_or_some _ r.unit h.reached.1 r.was)
-gone_between s t (stand.Within p) cursor text bounds opened none (inl same) h = absurd (none_or_some _ h.reached.line same.0 h.reached.ready)
-gone_between s t (stand.Within p) cursor text bounds opened none (inr r) h = within_gone s t cursor text p bounds (none_are_left p.left none) r h.reached
-gone_between s t (stand.Unread start skip) cursor text bounds opened none goes h = absurd cc
-gone_between s t (stand.End passed) cursor text bounds opened none goes h = absurd cc
-gone_between s t (stand.Fault fault) cursor text bounds opened none goes h = absurd cc
+pub gone_between : (s t : ScannerState) (at : Position) (cursor : CursorState) (text : List ℕ) (bounds : List Bound) → phase_in at ≡ phase.Open → ready_in at ≡ false → ReleasesAny s t → HasFoundIn (piece_finder_state s at cursor) text bounds → IsBetweenLines t cursor text (skip_in at) bounds
+gone_between s t (position.Between skip) cursor text bounds opened none (inl same) h = subst (λ (x : ScannerState). IsBetweenLines x cursor text skip bounds) (sym same.1) h.reached.0
+gone_between s t (position.Between skip) cursor text bounds opened none (inr r) h = absurd (none_or_some _ r.unit h.reached.1 r.was)
+gone_between s t (position.Within p) cursor text bounds opened none (inl same) h = absurd (none_or_some _ h.reached.line same.0 h.reached.ready)
+gone_between s t (position.Within p) cursor text bounds opened none (inr r) h = within_gone s t cursor text p bounds (none_are_left p.left none) r h.reached
+gone_between s t (position.Unread start skip) cursor text bounds opened none goes h = absurd cc
+gone_between s t (position.End passed) cursor text bounds opened none goes h = absurd cc
+gone_between s t (position.Fault fault) cursor text bounds opened none goes h = absurd cc
 
-pub begun_between : (old : PieceFinderState) (t : ScannerState) → BeginsLine old t → (text : List ℕ) (bounds : List Bound) → HasFoundIn old text bounds → IsBetweenLines t old.cursor text (skip_in old.stand) bounds
-begun_between old t b text bounds h = gone_between old.scanning t old.stand old.cursor text bounds b.opened b.none b.scanner h
+pub begun_between : (old : PieceFinderState) (t : ScannerState) → BeginsLine old t → (text : List ℕ) (bounds : List Bound) → HasFoundIn old text bounds → IsBetweenLines t old.cursor text (skip_in old.position) bounds
+begun_between old t b text bounds h = gone_between old.scanning t old.position old.cursor text bounds b.opened b.none b.scanner h
 
 pub fed_gone : (s t : ScannerState) → ReleasesAny s t → fed_of t ≡ fed_of s
 fed_gone s t (inl same) = ap fed_of same.1

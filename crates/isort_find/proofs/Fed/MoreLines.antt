@@ -7,13 +7,13 @@ use Rattle.py_lines.specs.declared.fault.Fault.{Fault}
 use Rattle.py_imports.specs.Bound.{Bound}
 use Rattle.isort_find.specs.Settled.{DecidesFound}
 use Rattle.isort_find.specs.Cursor.{CursorState}
-use Rattle.isort_find.specs.Stand.{phase_in, skip_in}
+use Rattle.isort_find.specs.Position.{phase_in, skip_in}
 use Rattle.isort_find.specs.Pieces.{PieceFinderState, piece_finder_state, options_for, fed_by, has_ready, HasFoundIn, PieceFinderRunsOut, MeetsFaultIn}
 use Rattle.isort_find.specs.Private.PieceSteps.{TakesLines, TakesNothing}
 use Rattle.isort_find.specs.declared.options.FindOptions.{FindOptions}
 use Rattle.isort_find.specs.declared.pending.LineStart.{LineStart}
-use Rattle.isort_find.specs.declared.walker.Stand.{Stand}
-use Rattle.isort_find.specs.declared.walker.Stand.TheVariants as stand
+use Rattle.isort_find.specs.declared.walker.Position.{Position}
+use Rattle.isort_find.specs.declared.walker.Position.TheVariants as position
 use Rattle.isort_find.specs.declared.walker.Phase.TheVariants as phase
 use Rattle.isort_find.proofs.Fed.Known.{true_or_false, none_or_some}
 use Rattle.isort_find.proofs.Fed.LetGo.{fed_open}
@@ -52,7 +52,7 @@ takes_more old mid new piece t n first next =
     }
 
 -- bytes were taken, and then a fault was met
-fault_after : (old mid new : PieceFinderState) (piece : List ℕ) (t : ℕ) (fault : Fault) → phase_in old.stand ≡ phase.Open → has_ready old ≡ false → phase_in mid.stand ≡ phase.Open → TakesLines old piece t mid → MeetsFaultIn mid (drop t piece) fault new → MeetsFaultIn old piece fault new
+fault_after : (old mid new : PieceFinderState) (piece : List ℕ) (t : ℕ) (fault : Fault) → phase_in old.position ≡ phase.Open → has_ready old ≡ false → phase_in mid.position ≡ phase.Open → TakesLines old piece t mid → MeetsFaultIn mid (drop t piece) fault new → MeetsFaultIn old piece fault new
 fault_after old mid new piece t fault opened none going first next =
     let goes : (text : List ℕ) → GoesOnWith text (fed_by old) piece → GoesOnWith text (fed_by old) (take t piece) × GoesOnWith text (fed_by mid) (drop t piece) = λ text whole. let both = goes_on_with_both text (fed_by old) piece t first.within whole in (both.0, subst (λ (p : ℕ). GoesOnWith text p (drop t piece)) (sym first.fed) both.1) in
     let options : options_for mid ≡ options_for old = ap (λ (c : CursorState). c.options) first.cursor in
@@ -65,7 +65,7 @@ fault_after old mid new piece t fault opened none going first next =
           let place : fed_by mid + d.0 ≡ fed_by old + (t + d.0) = ap (λ k. k + d.0) first.fed ∙ omega arith in
           (t + d.0, (let k = first.within in let m = d.1 in omega (arith, size, k, m)), subst (λ (o : FindOptions). DecidesFound (take (fed_by old + (t + d.0)) text) o fault) options (subst (λ (p : ℕ). DecidesFound (take p text) (options_for mid) fault) place d.2));
       none_ready = none;
-      again = λ other was. absurd (open_or_fault old.stand other opened was);
+      again = λ other was. absurd (open_or_fault old.position other opened was);
       was_in_top = λ top. open_or_end _ opened top;
       options = next.options ∙ options;
       given = next.given ∙ ap (λ (c : CursorState). c.given) first.cursor;
@@ -76,15 +76,15 @@ fault_after old mid new piece t fault opened none going first next =
 
 -- memory ran out, and the next line is left unread
 abbrev pub lost : PieceFinderState → LineStart → PieceFinderState
-lost f start = record f { stand = stand.Unread start (skip_in f.stand) }
+lost f start = record f { position = position.Unread start (skip_in f.position) }
 
 -- where no line is ready, the finder is between two
-lost_found : (s : ScannerState) (at : Stand) (cursor : CursorState) (start : LineStart) (text : List ℕ) (bounds : List Bound) → phase_in at ≡ phase.Open → s.ready ≡ None → HasFoundIn (piece_finder_state s at cursor) text bounds → HasFoundIn (piece_finder_state s (stand.Unread start (skip_in at)) cursor) text bounds
-lost_found s (stand.Between skip) cursor start text bounds opened none h = record { stopped = h.stopped; reached = h.reached.0 }
-lost_found s (stand.Unread other skip) cursor start text bounds opened none h = record { stopped = h.stopped; reached = h.reached }
-lost_found s (stand.Within p) cursor start text bounds opened none h = absurd (none_or_some _ h.reached.line none h.reached.ready)
-lost_found s (stand.End passed) cursor start text bounds opened none h = absurd cc
-lost_found s (stand.Fault fault) cursor start text bounds opened none h = absurd cc
+lost_found : (s : ScannerState) (at : Position) (cursor : CursorState) (start : LineStart) (text : List ℕ) (bounds : List Bound) → phase_in at ≡ phase.Open → s.ready ≡ None → HasFoundIn (piece_finder_state s at cursor) text bounds → HasFoundIn (piece_finder_state s (position.Unread start (skip_in at)) cursor) text bounds
+lost_found s (position.Between skip) cursor start text bounds opened none h = record { stopped = h.stopped; reached = h.reached.0 }
+lost_found s (position.Unread other skip) cursor start text bounds opened none h = record { stopped = h.stopped; reached = h.reached }
+lost_found s (position.Within p) cursor start text bounds opened none h = absurd (none_or_some _ h.reached.line none h.reached.ready)
+lost_found s (position.End passed) cursor start text bounds opened none h = absurd cc
+lost_found s (position.Fault fault) cursor start text bounds opened none h = absurd cc
 
 -- bytes were taken, and then memory ran out
 lost_after : (old mid last : PieceFinderState) (piece : List ℕ) (t : ℕ) (start : LineStart) → TakesLines old piece t mid → TakesNothing mid last → TakesLines old piece t (lost last start)
@@ -93,7 +93,7 @@ lost_after old mid last piece t start first nothing =
     let shorter = nothing.held in
     record {
       within = first.within;
-      found = λ text bounds h goes. lost_found last.scanning last.stand last.cursor start text bounds keeps.is_open nothing.none_ready (keeps.found text bounds (first.found text bounds h goes));
+      found = λ text bounds h goes. lost_found last.scanning last.position last.cursor start text bounds keeps.is_open nothing.none_ready (keeps.found text bounds (first.found text bounds h goes));
       all = λ text bounds h goes none. absurd (true_or_false _ none refl);
       undecided = λ text bounds h goes none drained. absurd (true_or_false _ none refl);
       next_new = tt;
@@ -119,7 +119,7 @@ takes_next old mid new piece t n (inl line_begun) next =
 takes_next old mid new piece t n (inr first) next = takes_more old mid new piece t n first next
 
 -- a fault was met
-pub fault_next : (old mid new : PieceFinderState) (piece : List ℕ) (t : ℕ) (fault : Fault) → phase_in old.stand ≡ phase.Open → has_ready old ≡ false → phase_in mid.stand ≡ phase.Open → HasTakenBytes old piece t mid → MeetsFaultIn mid (drop t piece) fault new → MeetsFaultIn old piece fault new
+pub fault_next : (old mid new : PieceFinderState) (piece : List ℕ) (t : ℕ) (fault : Fault) → phase_in old.position ≡ phase.Open → has_ready old ≡ false → phase_in mid.position ≡ phase.Open → HasTakenBytes old piece t mid → MeetsFaultIn mid (drop t piece) fault new → MeetsFaultIn old piece fault new
 fault_next old mid new piece t fault opened none going (inl line_begun) next = subst (λ (f : PieceFinderState). MeetsFaultIn f piece fault new) line_begun.1 (subst (λ (k : ℕ). MeetsFaultIn mid (drop k piece) fault new) line_begun.0 next)
 fault_next old mid new piece t fault opened none going (inr first) next = fault_after old mid new piece t fault opened none going first next
 
@@ -129,7 +129,7 @@ lost_next old mid last piece t start some (inl line_begun) nothing = absurd (som
 lost_next old mid last piece t start some (inr first) nothing = lost_after old mid last piece t start first nothing
 
 -- memory ran out after lines of no byte of the piece
-keeps_after : (old mid last : PieceFinderState) (piece : List ℕ) → phase_in old.stand ≡ phase.Open → has_ready old ≡ false → has_ready mid ≡ false → TakesLines old piece 0 mid → PieceFinderRunsOut mid last → PieceFinderRunsOut old last
+keeps_after : (old mid last : PieceFinderState) (piece : List ℕ) → phase_in old.position ≡ phase.Open → has_ready old ≡ false → has_ready mid ≡ false → TakesLines old piece 0 mid → PieceFinderRunsOut mid last → PieceFinderRunsOut old last
 keeps_after old mid last piece opened none none_mid first keeps =
     let found : (text : List ℕ) (bounds : List Bound) → HasFoundIn old text bounds → HasFoundIn mid text bounds = λ text bounds h. first.found text bounds h refl in
     record {
@@ -145,7 +145,7 @@ keeps_after old mid last piece opened none none_mid first keeps =
     }
 
 -- memory ran out before the first byte
-pub keeps_next : (old mid last : PieceFinderState) (piece : List ℕ) (t : ℕ) → t ≡ 0 → phase_in old.stand ≡ phase.Open → has_ready old ≡ false → has_ready mid ≡ false → HasTakenBytes old piece t mid → TakesNothing mid last → TakesNothing old last
+pub keeps_next : (old mid last : PieceFinderState) (piece : List ℕ) (t : ℕ) → t ≡ 0 → phase_in old.position ≡ phase.Open → has_ready old ≡ false → has_ready mid ≡ false → HasTakenBytes old piece t mid → TakesNothing mid last → TakesNothing old last
 keeps_next old mid last piece t is opened none none_mid (inl line_begun) nothing = subst (λ (f : PieceFinderState). TakesNothing f last) line_begun.1 nothing
 keeps_next old mid last piece t is opened none none_mid (inr first) nothing =
     let taken = subst (λ (k : ℕ). TakesLines old piece k mid) is first in

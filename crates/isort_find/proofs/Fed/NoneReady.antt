@@ -11,7 +11,7 @@ use Rattle.py_imports.specs.declared.binding.Binding.{Binding}
 use Rattle.isort_find.specs.Found.{firsts, IsFound}
 use Rattle.isort_find.specs.Cursor.{CursorState, IsAfter, HasStopped, BeginsNew, knows_key}
 use Rattle.isort_find.specs.Pending.{PendingState}
-use Rattle.isort_find.specs.Stand.{phase_in, skip_in, left_in, is_unread, are_left, ready_in, MeetsEndAt}
+use Rattle.isort_find.specs.Position.{phase_in, skip_in, left_in, is_unread, are_left, ready_in, MeetsEndAt}
 use Rattle.isort_find.specs.Pieces.{PieceFinderState, piece_finder_state, options_for, fed_in, fed_by, has_ready, IsOver, IsUnsure, HasReleased, IsBetweenLines, IsAtTopEnd, HasFoundIn, FindsAll, GivesNone}
 use Rattle.isort_find.specs.Private.CursorMoves.{cursor_before}
 use Rattle.isort_find.specs.Private.KnownLaws.{SettledLaws, OneSettled, AscentLaws}
@@ -21,8 +21,8 @@ use Rattle.isort_find.specs.Private.Walks.{WalkerState, LooksAhead, walker_state
 use Rattle.isort_find.specs.declared.error.FindError.{FindError}
 use Rattle.isort_find.specs.declared.options.FindOptions.{FindOptions}
 use Rattle.isort_find.specs.declared.pending.LineStart.{LineStart}
-use Rattle.isort_find.specs.declared.walker.Stand.{Stand}
-use Rattle.isort_find.specs.declared.walker.Stand.TheVariants as stand
+use Rattle.isort_find.specs.declared.walker.Position.{Position}
+use Rattle.isort_find.specs.declared.walker.Position.TheVariants as position
 use Rattle.isort_find.specs.declared.walker.Phase.TheVariants as phase
 use Rattle.isort_find.proofs.Keys.TakenBindings.{first_known}
 use Rattle.isort_find.proofs.Finds.LinePlaces.{bytes_given, bytes_lexed}
@@ -73,12 +73,12 @@ stays_there s cursor text skip bounds some b stopped = record { between = b; sto
 -- where the finder stands then: at the same byte and line, with its cursor moved or not
 record RestsAt (t : ScannerState) (skip : ℕ) (cursor : CursorState) (new : PieceFinderState) : Type 0 where
   pub last : CursorState
-  pub same : new ≡ piece_finder_state t (stand.Between skip) last
+  pub same : new ≡ piece_finder_state t (position.Between skip) last
   pub options : last.options ≡ cursor.options
   pub given : last.given ≡ cursor.given
   pub rests : (text : List ℕ) (bounds : List Bound) → IsBetweenLines t cursor text skip bounds → HasStopped text cursor bounds → IsResting t last text skip bounds
 
-rests_at : (t : ScannerState) (skip : ℕ) (cursor : CursorState) (new : PieceFinderState) → MayStandNext (piece_finder_state t (stand.Between skip) cursor) new → RestsAt t skip cursor new
+rests_at : (t : ScannerState) (skip : ℕ) (cursor : CursorState) (new : PieceFinderState) → MayStandNext (piece_finder_state t (position.Between skip) cursor) new → RestsAt t skip cursor new
 rests_at t skip cursor new (inl s) = record { last = cursor_before cursor s.start; same = s.same; options = refl; given = refl; rests = λ text bounds b stopped. goes_next t cursor s.start text skip bounds s.here s.fresh b stopped }
 rests_at t skip cursor new (inr s) = record { last = cursor; same = s.1; options = refl; given = refl; rests = λ text bounds b stopped. stays_there t cursor text skip bounds s.0 b stopped }
 
@@ -89,22 +89,22 @@ record IsLeft (old f : PieceFinderState) : Type 0 where
   pub ended : f.scanning.ended ≡ old.scanning.ended
   pub options : options_for f ≡ options_for old
   pub given : f.cursor.given ≡ old.cursor.given
-  pub stays : phase_in old.stand ≡ phase.End → phase_in f.stand ≡ phase.End
-  pub was_fine : (fault : Fault) → old.stand ≡ stand.Fault fault → ⊥
+  pub stays : phase_in old.position ≡ phase.End → phase_in f.position ≡ phase.End
+  pub was_fine : (fault : Fault) → old.position ≡ position.Fault fault → ⊥
   pub unsure : has_ready old ≡ true → IsUnsure old
 
-not_over : (f : PieceFinderState) → phase_in f.stand ≡ phase.Open → IsOver f → f.scanning.ended ≡ true
+not_over : (f : PieceFinderState) → phase_in f.position ≡ phase.Open → IsOver f → f.scanning.ended ≡ true
 not_over f opened (inl over) = over
 not_over f opened (inr top) = absurd (open_or_end _ opened top)
 
 -- nothing is ready in a line or between two
-none_open : SettledLaws → OneSettled → AscentLaws → (old f : PieceFinderState) (t : ScannerState) (new : PieceFinderState) → IsLeft old f → phase_in f.stand ≡ phase.Open → has_ready f ≡ false → ReleasesAny f.scanning t → t.ready ≡ None → RestsAt t (skip_in f.stand) f.cursor new → GivesNone old new
+none_open : SettledLaws → OneSettled → AscentLaws → (old f : PieceFinderState) (t : ScannerState) (new : PieceFinderState) → IsLeft old f → phase_in f.position ≡ phase.Open → has_ready f ≡ false → ReleasesAny f.scanning t → t.ready ≡ None → RestsAt t (skip_in f.position) f.cursor new → GivesNone old new
 none_open laws one ascent old f t new left opened none gone nothing r =
-    let skip = skip_in f.stand in
-    let g = piece_finder_state t (stand.Between skip) r.last in
+    let skip = skip_in f.position in
+    let g = piece_finder_state t (position.Between skip) r.last in
     let options : r.last.options ≡ options_for old = r.options ∙ left.options in
     let ended : t.ended ≡ old.scanning.ended = ended_gone f.scanning t gone ∙ left.ended in
-    let resting : (text : List ℕ) (bounds : List Bound) → HasFoundIn old text bounds → IsResting t r.last text skip bounds = λ text bounds h. let q = left.found text bounds h in r.rests text bounds (gone_between f.scanning t f.stand f.cursor text bounds opened none gone q) q.stopped in
+    let resting : (text : List ℕ) (bounds : List Bound) → HasFoundIn old text bounds → IsResting t r.last text skip bounds = λ text bounds h. let q = left.found text bounds h in r.rests text bounds (gone_between f.scanning t f.position f.cursor text bounds opened none gone q) q.stopped in
     subst (GivesNone old) (sym r.same) (record {
       found = λ text bounds h. let q = resting text bounds h in record { stopped = q.stopped; reached = (q.between, nothing) };
       all = λ text bounds h yet fine. gap_settled laws one ascent t r.last text skip bounds (ended ∙ yet) nothing (resting text bounds h).between;
@@ -114,18 +114,18 @@ none_open laws one ascent old f t new left opened none gone nothing r =
       unsure = left.unsure;
       none_ready = refl;
       after_fault = λ fault was. absurd (left.was_fine fault was);
-      no_fault = λ fine fault is. open_or_fault g.stand fault refl is;
-      stays = λ top. absurd (open_or_end (phase_in f.stand) opened (left.stays top));
+      no_fault = λ fine fault is. open_or_fault g.position fault refl is;
+      stays = λ top. absurd (open_or_end (phase_in f.position) opened (left.stays top));
       options = options;
       given = r.given ∙ left.given;
       fed = fed_gone f.scanning t gone ∙ sym (fed_open f opened) ∙ left.fed;
       open_yet = ended;
     })
   where
-    whole : (g : PieceFinderState) → phase_in g.stand ≡ phase.Open → g.scanning.ready ≡ None → options_for g ≡ options_for old → g.scanning.ended ≡ true → (text : List ℕ) (bounds : List Bound) → IsResting g.scanning g.cursor text (skip_in f.stand) bounds → FindsAll old text bounds g.cursor.offset
+    whole : (g : PieceFinderState) → phase_in g.position ≡ phase.Open → g.scanning.ready ≡ None → options_for g ≡ options_for old → g.scanning.ended ≡ true → (text : List ℕ) (bounds : List Bound) → IsResting g.scanning g.cursor text (skip_in f.position) bounds → FindsAll old text bounds g.cursor.offset
     whole g here nothing options over text bounds q =
         let b = q.between.after in
-        let lexed = all_lexed g.scanning g.cursor text (skip_in f.stand) bounds over nothing q.between in
+        let lexed = all_lexed g.scanning g.cursor text (skip_in f.position) bounds over nothing q.between in
         let n = nothing_at_end laws.ends.laws b None lexed in
         let found = found_lexed text (options_for g) b.lines b.before bounds None lexed b.in_top b.binds n.found in
         (subst (λ (o : FindOptions). IsFound text o bounds None) options found, inl (q.stands ∙ sym (bytes_given _ b.lines b.given) ∙ bytes_lexed text b.lines lexed))
@@ -135,24 +135,24 @@ abbrev AllOf : List ℕ → List Bound → FindOptions → ℕ → Type 0
 AllOf text bounds options offset = IsFound text options bounds None × MeetsEndAt text options offset
 
 -- the top's end is no fault
-end_or_fault : (s : Stand) (fault : Fault) → phase_in s ≡ phase.End → s ≡ stand.Fault fault → ⊥
+end_or_fault : (s : Position) (fault : Fault) → phase_in s ≡ phase.End → s ≡ position.Fault fault → ⊥
 end_or_fault s fault h k = let both : phase_in s ≡ phase.Fault fault = ap phase_in k in cc
 
 -- nothing is ready after the top
-none_top : SettledLaws → AscentLaws → (old : PieceFinderState) (s : ScannerState) (passed : ℕ) (cursor : CursorState) (start : LineStart) → IsNextStart s start → IsLeft old (piece_finder_state s (stand.End passed) cursor) → GivesNone old (piece_finder_state s (stand.End passed) (cursor_before cursor start))
+none_top : SettledLaws → AscentLaws → (old : PieceFinderState) (s : ScannerState) (passed : ℕ) (cursor : CursorState) (start : LineStart) → IsNextStart s start → IsLeft old (piece_finder_state s (position.End passed) cursor) → GivesNone old (piece_finder_state s (position.End passed) (cursor_before cursor start))
 none_top laws ascent old s passed cursor start here left =
     let top : (text : List ℕ) (bounds : List Bound) → HasFoundIn old text bounds → IsAtTopEnd s cursor.options text bounds = λ text bounds h. (left.found text bounds h).reached in
     let is : start ≡ next_start s = (λ i. record { offset = here.offset i; line = here.line i }) in
     record {
       found = λ text bounds h. record { stopped = subst (λ (x : LineStart). HasStopped text (cursor_before cursor x) bounds) (sym is) (stops text bounds (top text bounds h) (left.found text bounds h).stopped); reached = top text bounds h };
-      all = λ text bounds h yet fine. top_settled laws ascent s cursor.options text (fed_in (stand.End passed) s) bounds (left.ended ∙ yet) (omega arith) (top text bounds h);
+      all = λ text bounds h yet fine. top_settled laws ascent s cursor.options text (fed_in (position.End passed) s) bounds (left.ended ∙ yet) (omega arith) (top text bounds h);
       whole = λ text bounds h over fine. subst (λ (o : FindOptions). AllOf text bounds o start.offset) left.options (subst (AllOf text bounds cursor.options) (sym here.offset) (top_found text bounds (top text bounds h)));
       rest = λ text bounds h yet going. absurd (open_or_end _ going refl);
       offset = λ fine text bounds h. here.offset;
       unsure = left.unsure;
       none_ready = refl;
       after_fault = λ fault was. absurd (left.was_fine fault was);
-      no_fault = λ fine fault is. end_or_fault (stand.End passed) fault refl is;
+      no_fault = λ fine fault is. end_or_fault (position.End passed) fault refl is;
       stays = λ was. refl;
       options = left.options;
       given = left.given;
@@ -165,45 +165,45 @@ none_top laws ascent old s passed cursor start here left =
         let after : IsAfter text cursor.options s.place s.line 0 bounds = record { lines = t.lines; before = t.before; part = []; given = t.given; binds = t.binds; in_top = t.in_top; is_part = (refl, inl refl); found = t.found ∙ ap (firsts cursor.options.unique []) (sym (append-nil t.before)) } in
         stops_before cursor (next_start s) after (record { none = refl; found = t.found }) stopped
 
-    top_found : (text : List ℕ) (bounds : List Bound) → IsAtTopEnd s cursor.options text bounds → FindsAll (piece_finder_state s (stand.End passed) cursor) text bounds s.place
+    top_found : (text : List ℕ) (bounds : List Bound) → IsAtTopEnd s cursor.options text bounds → FindsAll (piece_finder_state s (position.End passed) cursor) text bounds s.place
     top_found text bounds t =
         let begins = known_begins laws s text (t.lines ++ t.line ∷ []) t.known in
         (found_at_top text cursor.options t.lines t.line t.before bounds begins t.in_top t.ends t.binds t.found, inr (record { before = t.lines; line = t.line; begins = begins; place = bytes_given _ t.lines t.given; is = t.ends }))
 
 -- the line is let go, and the cursor goes to the next
-going : SettledLaws → OneSettled → AscentLaws → (old f : PieceFinderState) (mid new : PieceFinderState) → phase_in f.stand ≡ phase.Open → has_ready f ≡ false → IsLeft old f → MayLetLineGo f mid → MayStandNext mid new → GivesNone old new
+going : SettledLaws → OneSettled → AscentLaws → (old f : PieceFinderState) (mid new : PieceFinderState) → phase_in f.position ≡ phase.Open → has_ready f ≡ false → IsLeft old f → MayLetLineGo f mid → MayStandNext mid new → GivesNone old new
 going laws one ascent old f mid new opened none left (inl goes) stands =
     let l = goes.1 in
     let t = mid.scanning in
-    none_open laws one ascent old f t new left opened none l.scanner l.none_ready (rests_at t (skip_in f.stand) f.cursor new (subst (λ (m : PieceFinderState). MayStandNext m new) (begun_is f mid opened none l) stands))
+    none_open laws one ascent old f t new left opened none l.scanner l.none_ready (rests_at t (skip_in f.position) f.cursor new (subst (λ (m : PieceFinderState). MayStandNext m new) (begun_is f mid opened none l) stands))
 going laws one ascent old f mid new opened none left (inr stays) stands = absurd (stays.0 opened)
 
 -- where nothing is ready, or the top has ended
-none_at : SettledLaws → OneSettled → AscentLaws → (old : PieceFinderState) (s : ScannerState) (at : Stand) (cursor : CursorState) (new : PieceFinderState) → ready_in at ≡ false → ((fault : Fault) → at ≡ stand.Fault fault → ⊥) → IsLeft old (piece_finder_state s at cursor) → Rests (piece_finder_state s at cursor) new → GivesNone old new
-none_at laws one ascent old s (stand.End passed) cursor new none fine left r = by r.goes r.stands
+none_at : SettledLaws → OneSettled → AscentLaws → (old : PieceFinderState) (s : ScannerState) (at : Position) (cursor : CursorState) (new : PieceFinderState) → ready_in at ≡ false → ((fault : Fault) → at ≡ position.Fault fault → ⊥) → IsLeft old (piece_finder_state s at cursor) → Rests (piece_finder_state s at cursor) new → GivesNone old new
+none_at laws one ascent old s (position.End passed) cursor new none fine left r = by r.goes r.stands
   where
-    by_next : MayStandNext (piece_finder_state s (stand.End passed) cursor) new → GivesNone old new
+    by_next : MayStandNext (piece_finder_state s (position.End passed) cursor) new → GivesNone old new
     by_next (inl n) = subst (GivesNone old) (sym n.same) (none_top laws ascent old s passed cursor n.start n.here left)
     by_next (inr n) = absurd (n.0 refl)
 
-    by : MayLetLineGo (piece_finder_state s (stand.End passed) cursor) r.mid → MayStandNext r.mid new → GivesNone old new
+    by : MayLetLineGo (piece_finder_state s (position.End passed) cursor) r.mid → MayStandNext r.mid new → GivesNone old new
     by (inl goes) stands = absurd (open_or_end _ goes.0 refl)
     by (inr stays) stands = by_next (subst (λ (m : PieceFinderState). MayStandNext m new) stays.1 stands)
-none_at laws one ascent old s (stand.Fault fault) cursor new none fine left r = absurd (fine fault refl)
-none_at laws one ascent old s (stand.Unread start skip) cursor new none fine left r = absurd cc
-none_at laws one ascent old s (stand.Between skip) cursor new none fine left r = going laws one ascent old (piece_finder_state s (stand.Between skip) cursor) r.mid new refl refl left r.goes r.stands
-none_at laws one ascent old s (stand.Within p) cursor new none fine left r = going laws one ascent old (piece_finder_state s (stand.Within p) cursor) r.mid new refl none left r.goes r.stands
+none_at laws one ascent old s (position.Fault fault) cursor new none fine left r = absurd (fine fault refl)
+none_at laws one ascent old s (position.Unread start skip) cursor new none fine left r = absurd cc
+none_at laws one ascent old s (position.Between skip) cursor new none fine left r = going laws one ascent old (piece_finder_state s (position.Between skip) cursor) r.mid new refl refl left r.goes r.stands
+none_at laws one ascent old s (position.Within p) cursor new none fine left r = going laws one ascent old (piece_finder_state s (position.Within p) cursor) r.mid new refl none left r.goes r.stands
 
 -- a finder that is asked after the top
-left_same : (old : PieceFinderState) → phase_in old.stand ≡ phase.End → ready_in old.stand ≡ false → IsLeft old old
-left_same old at none = record { found = λ text bounds h. h; fed = refl; ended = refl; options = refl; given = refl; stays = λ top. top; was_fine = λ fault is. end_or_fault old.stand fault at is; unsure = λ e. absurd (true_or_false _ none e) }
+left_same : (old : PieceFinderState) → phase_in old.position ≡ phase.End → ready_in old.position ≡ false → IsLeft old old
+left_same old at none = record { found = λ text bounds h. h; fed = refl; ended = refl; options = refl; given = refl; stays = λ top. top; was_fine = λ fault is. end_or_fault old.position fault at is; unsure = λ e. absurd (true_or_false _ none e) }
 
-end_none : (s : Stand) → phase_in s ≡ phase.End → ready_in s ≡ false
-end_none (stand.End passed) at = refl
+end_none : (s : Position) → phase_in s ≡ phase.End → ready_in s ≡ false
+end_none (position.End passed) at = refl
 end_none other at = absurd cc
 
-pub gives_none_at_top : SettledLaws → OneSettled → AscentLaws → (old new : PieceFinderState) → phase_in old.stand ≡ phase.End → Rests old new → GivesNone old new
-gives_none_at_top laws one ascent old new at rests = none_at laws one ascent old old.scanning old.stand old.cursor new (end_none old.stand at) (λ fault is. end_or_fault old.stand fault at is) (left_same old at (end_none old.stand at)) rests
+pub gives_none_at_top : SettledLaws → OneSettled → AscentLaws → (old new : PieceFinderState) → phase_in old.position ≡ phase.End → Rests old new → GivesNone old new
+gives_none_at_top laws one ascent old new at rests = none_at laws one ascent old old.scanning old.position old.cursor new (end_none old.position at) (λ fault is. end_or_fault old.position fault at is) (left_same old at (end_none old.position at)) rests
 
 -- bindings whose keys are all known are none, or don't begin with a new one
 not_new : (s : CursorState) (left : List Bound) → list_all (knows_key s.options.unique s.keys) left ≡ true → are_left left ≡ true → ¬ (BeginsNew s left)
@@ -215,19 +215,19 @@ record IsThrough (mid f : PieceFinderState) : Type 0 where
   pub found : (text : List ℕ) (bounds : List Bound) → HasFoundIn mid text bounds → HasFoundIn f text bounds
   pub scanning : f.scanning ≡ mid.scanning
   pub cursor : f.cursor ≡ mid.cursor
-  pub none : ready_in f.stand ≡ false
-  pub fine : ((fault : Fault) → mid.stand ≡ stand.Fault fault → ⊥) → (fault : Fault) → f.stand ≡ stand.Fault fault → ⊥
+  pub none : ready_in f.position ≡ false
+  pub fine : ((fault : Fault) → mid.position ≡ position.Fault fault → ⊥) → (fault : Fault) → f.position ≡ position.Fault fault → ⊥
   pub fed : fed_by f ≡ fed_by mid
-  pub unsure : has_ready mid ≡ true → ¬ (BeginsNew mid.cursor (left_in mid.stand))
+  pub unsure : has_ready mid ≡ true → ¬ (BeginsNew mid.cursor (left_in mid.position))
 
-same_through : (s : ScannerState) (at : Stand) (cursor : CursorState) (f : PieceFinderState) → ready_in at ≡ false → f ≡ piece_finder_state s at cursor → IsThrough (piece_finder_state s at cursor) f
+same_through : (s : ScannerState) (at : Position) (cursor : CursorState) (f : PieceFinderState) → ready_in at ≡ false → f ≡ piece_finder_state s at cursor → IsThrough (piece_finder_state s at cursor) f
 same_through s at cursor f none is = subst (IsThrough (piece_finder_state s at cursor)) (sym is) (record { found = λ text bounds h. h; scanning = refl; cursor = refl; none = none; fine = λ fine. fine; fed = refl; unsure = λ ready. absurd (true_or_false _ none ready) })
 
-line_through : (s : ScannerState) (p q r : PendingState) (cursor : CursorState) (f : PieceFinderState) → PassesBindings cursor p q → q.left ≡ [] → PassesBindings cursor q r → f ≡ piece_finder_state s (stand.Within r) cursor → IsThrough (piece_finder_state s (stand.Within p) cursor) f
+line_through : (s : ScannerState) (p q r : PendingState) (cursor : CursorState) (f : PieceFinderState) → PassesBindings cursor p q → q.left ≡ [] → PassesBindings cursor q r → f ≡ piece_finder_state s (position.Within r) cursor → IsThrough (piece_finder_state s (position.Within p) cursor) f
 line_through s p q r cursor f first none next is =
     let nothing : r.left ≡ [] = nothing_dropped next.dropped r.left (sym none ∙ next.split) in
     let all : p.left ≡ first.dropped = first.split ∙ ap (λ l. first.dropped ++ l) none ∙ append-nil first.dropped in
-    subst (IsThrough (piece_finder_state s (stand.Within p) cursor)) (sym is) (record {
+    subst (IsThrough (piece_finder_state s (position.Within p) cursor)) (sym is) (record {
       found = λ text bounds h.
           let w = h.reached in
           let mid = inside_passed text cursor w.lines w.line p q bounds h.stopped first w.inside in
@@ -235,28 +235,28 @@ line_through s p q r cursor f first none next is =
       scanning = refl;
       cursor = refl;
       none = ap are_left nothing;
-      fine = λ fine fault e. open_or_fault (stand.Within r) fault refl e;
+      fine = λ fine fault e. open_or_fault (position.Within r) fault refl e;
       fed = refl;
       unsure = λ some. not_new cursor p.left (subst (λ (l : List Bound). list_all (knows_key cursor.options.unique cursor.keys) l ≡ true) (sym all) first.known) some;
     })
 
-through : (s : ScannerState) (at : Stand) (cursor : CursorState) (f : PieceFinderState) → is_unread at ≡ false → TakesRead (piece_finder_state s at cursor) (Ok None) f → IsThrough (piece_finder_state s at cursor) f
-through s (stand.Within p) cursor f read k =
-    let looks = subst (λ (w : WalkerState). LooksAhead w k.walker) (k.takes.same ∙ ap (λ (c : CursorState). walker_state (stand.Within k.takes.rest) c) k.takes.takes.2) k.looks in
-    line_through s p k.takes.rest looks.rest cursor f k.takes.takes.0 k.takes.takes.1 looks.passes (k.same ∙ ap (λ (w : WalkerState). piece_finder_state s w.stand w.cursor) looks.same)
-through s (stand.Unread start skip) cursor f read k = absurd cc
-through s (stand.Between skip) cursor f read k = same_through s (stand.Between skip) cursor f refl (k.same ∙ ap (λ (w : WalkerState). piece_finder_state s w.stand w.cursor) (subst (λ (w : WalkerState). LooksAhead w k.walker) k.takes.1 k.looks))
-through s (stand.End passed) cursor f read k = same_through s (stand.End passed) cursor f refl (k.same ∙ ap (λ (w : WalkerState). piece_finder_state s w.stand w.cursor) (subst (λ (w : WalkerState). LooksAhead w k.walker) k.takes.1 k.looks))
-through s (stand.Fault fault) cursor f read k = same_through s (stand.Fault fault) cursor f refl (k.same ∙ ap (λ (w : WalkerState). piece_finder_state s w.stand w.cursor) (subst (λ (w : WalkerState). LooksAhead w k.walker) k.takes.1 k.looks))
+through : (s : ScannerState) (at : Position) (cursor : CursorState) (f : PieceFinderState) → is_unread at ≡ false → TakesRead (piece_finder_state s at cursor) (Ok None) f → IsThrough (piece_finder_state s at cursor) f
+through s (position.Within p) cursor f read k =
+    let looks = subst (λ (w : WalkerState). LooksAhead w k.walker) (k.takes.same ∙ ap (λ (c : CursorState). walker_state (position.Within k.takes.rest) c) k.takes.takes.2) k.looks in
+    line_through s p k.takes.rest looks.rest cursor f k.takes.takes.0 k.takes.takes.1 looks.passes (k.same ∙ ap (λ (w : WalkerState). piece_finder_state s w.position w.cursor) looks.same)
+through s (position.Unread start skip) cursor f read k = absurd cc
+through s (position.Between skip) cursor f read k = same_through s (position.Between skip) cursor f refl (k.same ∙ ap (λ (w : WalkerState). piece_finder_state s w.position w.cursor) (subst (λ (w : WalkerState). LooksAhead w k.walker) k.takes.1 k.looks))
+through s (position.End passed) cursor f read k = same_through s (position.End passed) cursor f refl (k.same ∙ ap (λ (w : WalkerState). piece_finder_state s w.position w.cursor) (subst (λ (w : WalkerState). LooksAhead w k.walker) k.takes.1 k.looks))
+through s (position.Fault fault) cursor f read k = same_through s (position.Fault fault) cursor f refl (k.same ∙ ap (λ (w : WalkerState). piece_finder_state s w.position w.cursor) (subst (λ (w : WalkerState). LooksAhead w k.walker) k.takes.1 k.looks))
 
-was_unsure : (old mid : PieceFinderState) → ReadsUnread old (Ok tt) mid → (has_ready mid ≡ true → ¬ (BeginsNew mid.cursor (left_in mid.stand))) → has_ready old ≡ true → IsUnsure old
+was_unsure : (old mid : PieceFinderState) → ReadsUnread old (Ok tt) mid → (has_ready mid ≡ true → ¬ (BeginsNew mid.cursor (left_in mid.position))) → has_ready old ≡ true → IsUnsure old
 was_unsure old mid (inl read) unsure ready = inl read.0
-was_unsure old mid (inr here) unsure ready = inr (subst (λ (f : PieceFinderState). ¬ (BeginsNew f.cursor (left_in f.stand))) here.2 (unsure (ap has_ready here.2 ∙ ready)))
+was_unsure old mid (inr here) unsure ready = inr (subst (λ (f : PieceFinderState). ¬ (BeginsNew f.cursor (left_in f.position))) here.2 (unsure (ap has_ready here.2 ∙ ready)))
 
-none_by : SettledLaws → OneSettled → AscentLaws → (old mid f new : PieceFinderState) (r : Result (Unit {0}) FindError) → phase_in old.stand ≡ phase.Open → ReadsUnread old r mid → TakesAfter r mid (Ok None) f → Rests f new → GivesNone old new
+none_by : SettledLaws → OneSettled → AscentLaws → (old mid f new : PieceFinderState) (r : Result (Unit {0}) FindError) → phase_in old.position ≡ phase.Open → ReadsUnread old r mid → TakesAfter r mid (Ok None) f → Rests f new → GivesNone old new
 none_by laws one ascent old mid f new (Ok done) opened reads after rests =
     let so = unread_so old mid opened reads in
-    let t = through mid.scanning mid.stand mid.cursor f (unread_read old mid reads) after in
+    let t = through mid.scanning mid.position mid.cursor f (unread_read old mid reads) after in
     let left : IsLeft old f = record {
       found = λ text bounds h. t.found text bounds (unread_found laws old mid text bounds (Ok tt) reads h);
       fed = t.fed ∙ so.fed ∙ sym (fed_open old opened);
@@ -264,15 +264,15 @@ none_by laws one ascent old mid f new (Ok done) opened reads after rests =
       options = ap (λ (c : CursorState). c.options) (t.cursor ∙ so.cursor);
       given = ap (λ (c : CursorState). c.given) (t.cursor ∙ so.cursor);
       stays = λ top. absurd (open_or_end _ opened top);
-      was_fine = λ fault is. open_or_fault old.stand fault opened is;
+      was_fine = λ fault is. open_or_fault old.position fault opened is;
       unsure = was_unsure old mid reads t.unsure;
     } in
-    none_at laws one ascent old f.scanning f.stand f.cursor new t.none (t.fine so.fine) left rests
+    none_at laws one ascent old f.scanning f.position f.cursor new t.none (t.fine so.fine) left rests
 none_by laws one ascent old mid f new (Err e) opened reads after rests = absurd (differ (Ok None) e refl after.0)
   where
     differ : (a : Result (Option Binding) FindError) (x : FindError) → a ≡ Ok None → a ≡ Err x → ⊥
     differ a x h k = cc
 
 -- nothing was ready
-pub answers_none : SettledLaws → OneSettled → AscentLaws → (old f new : PieceFinderState) → phase_in old.stand ≡ phase.Open → TakesReady old (Ok None) f → Rests f new → GivesNone old new
+pub answers_none : SettledLaws → OneSettled → AscentLaws → (old f new : PieceFinderState) → phase_in old.position ≡ phase.Open → TakesReady old (Ok None) f → Rests f new → GivesNone old new
 answers_none laws one ascent old f new opened t rests = none_by laws one ascent old t.mid f new t.read opened t.reads t.takes rests

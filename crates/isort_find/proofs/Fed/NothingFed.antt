@@ -10,7 +10,7 @@ use Rattle.isort_find.specs.Cursor.{CursorState, first_cursor}
 use Rattle.isort_find.specs.Pieces.{piece_finder_state, AreAllSettled, IsUndecided}
 use Rattle.isort_find.specs.Private.KnownLaws.{SettledLaws, OneSettled, AscentLaws}
 use Rattle.isort_find.specs.declared.options.FindOptions.{FindOptions}
-use Rattle.isort_find.specs.declared.walker.Stand.TheVariants as stand
+use Rattle.isort_find.specs.declared.walker.Position.TheVariants as position
 use Rattle.isort_find.proofs.Fed.Settled.{gap_settled, gap_undecided}
 use Rattle.isort_find.proofs.Fed.Starts.{begins_between}
 
@@ -27,8 +27,8 @@ none_decided text fault empty d =
 fed_none : (s : ScannerState) (text : List ℕ) → s ≡ begun_at 0 1 → take (s.place + length s.held) text ≡ []
 fed_none s text start = ap (λ (x : ScannerState). take (x.place + length x.held) text) start
 
-pub new_settled : SettledLaws → OneSettled → AscentLaws → (s : ScannerState) (options : FindOptions) (cursor : CursorState) → s ≡ begun_at 0 1 → ((text : List ℕ) → IsScanning s text []) → cursor ≡ first_cursor options → (text : List ℕ) → AreAllSettled (piece_finder_state s (stand.Between cursor.taken) cursor) text []
+pub new_settled : SettledLaws → OneSettled → AscentLaws → (s : ScannerState) (options : FindOptions) (cursor : CursorState) → s ≡ begun_at 0 1 → ((text : List ℕ) → IsScanning s text []) → cursor ≡ first_cursor options → (text : List ℕ) → AreAllSettled (piece_finder_state s (position.Between cursor.taken) cursor) text []
 new_settled laws one ascent s options cursor start scans is text = gap_settled laws one ascent s cursor text cursor.taken [] (ap (λ (x : ScannerState). x.ended) start) (ap (λ (x : ScannerState). x.ready) start) (begins_between s options cursor scans is text)
 
-pub new_undecided : SettledLaws → OneSettled → AscentLaws → (s : ScannerState) (options : FindOptions) (cursor : CursorState) → s ≡ begun_at 0 1 → ((text : List ℕ) → IsScanning s text []) → cursor ≡ first_cursor options → (text : List ℕ) → IsUndecided (piece_finder_state s (stand.Between cursor.taken) cursor) text
+pub new_undecided : SettledLaws → OneSettled → AscentLaws → (s : ScannerState) (options : FindOptions) (cursor : CursorState) → s ≡ begun_at 0 1 → ((text : List ℕ) → IsScanning s text []) → cursor ≡ first_cursor options → (text : List ℕ) → IsUndecided (piece_finder_state s (position.Between cursor.taken) cursor) text
 new_undecided laws one ascent s options cursor start scans is text = gap_undecided laws one ascent s cursor text cursor.taken [] (ap (λ (x : ScannerState). x.ended) start) (ap (λ (x : ScannerState). x.ready) start) (λ fault. none_decided (take (s.place + length s.held) text) fault (fed_none s text start)) (begins_between s options cursor scans is text)

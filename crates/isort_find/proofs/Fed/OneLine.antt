@@ -10,15 +10,15 @@ use Rattle.py_lines.specs.declared.fault.Fault.{Fault}
 use Rattle.py_imports.specs.Bound.{Bound}
 use Rattle.isort_find.specs.Settled.{DecidesFound}
 use Rattle.isort_find.specs.Cursor.{CursorState, HasStopped}
-use Rattle.isort_find.specs.Stand.{phase_in, skip_in}
+use Rattle.isort_find.specs.Position.{phase_in, skip_in}
 use Rattle.isort_find.specs.Pieces.{PieceFinderState, piece_finder_state, options_for, fed_by, HasReleased, IsBetweenLines, HasFoundIn, DecidesWithin, MeetsFaultIn, FinishesText, EndsInFault, EndsFeeding}
 use Rattle.isort_find.specs.Private.CursorMoves.{cursor_before}
 use Rattle.isort_find.specs.Private.PieceSteps.{IsNextStart, TriesReady, TakesLines, TakesNothing, TakesBytesOf, walker_of, with_walker}
 use Rattle.isort_find.specs.Private.Walks.{WalkerState, with_fault}
 use Rattle.isort_find.specs.declared.error.FindError.{FindError}
 use Rattle.isort_find.specs.declared.pending.LineStart.{LineStart}
-use Rattle.isort_find.specs.declared.walker.Stand.{Stand}
-use Rattle.isort_find.specs.declared.walker.Stand.TheVariants as stand
+use Rattle.isort_find.specs.declared.walker.Position.{Position}
+use Rattle.isort_find.specs.declared.walker.Position.TheVariants as position
 use Rattle.isort_find.specs.declared.walker.Phase.{Phase}
 use Rattle.isort_find.specs.declared.walker.Phase.TheVariants as phase
 use Rattle.isort_find.specs.Private.KnownLaws.{AscentLaws, EachIsLexed, OneSettled, SettledLaws}
@@ -42,12 +42,12 @@ moved_on s t cursor text skip bounds b released place = record {
     moved (inr e) = inr (e ∙ sym place)
 
 -- bytes were taken, and the finder is between the same lines
-taken_between : (old : PieceFinderState) (t : ScannerState) → BeginsLine old t → (s : ScannerState) (piece : List ℕ) (n : ℕ) → TakesBytes t piece n s → (text : List ℕ) (bounds : List Bound) → HasFoundIn old text bounds → GoesOnWith text (fed_by old) (take n piece) → IsBetweenLines s old.cursor text (skip_in old.stand) bounds
+taken_between : (old : PieceFinderState) (t : ScannerState) → BeginsLine old t → (s : ScannerState) (piece : List ℕ) (n : ℕ) → TakesBytes t piece n s → (text : List ℕ) (bounds : List Bound) → HasFoundIn old text bounds → GoesOnWith text (fed_by old) (take n piece) → IsBetweenLines s old.cursor text (skip_in old.position) bounds
 taken_between old t b s piece n takes text bounds h goes =
     let between = begun_between old t b text bounds h in
     let lines = between.after.lines in
     let scanning = begun_scanning old t b text lines between.released in
-    moved_on t s old.cursor text (skip_in old.stand) bounds between (inl (takes.scans text lines scanning (subst (λ (p : ℕ). GoesOnWith text p (take n piece)) (begun_fed old t b) goes))) takes.place
+    moved_on t s old.cursor text (skip_in old.position) bounds between (inl (takes.scans text lines scanning (subst (λ (p : ℕ). GoesOnWith text p (take n piece)) (begun_fed old t b) goes))) takes.place
 
 taken_fed : (old : PieceFinderState) (t : ScannerState) → BeginsLine old t → (s : ScannerState) (piece : List ℕ) (n : ℕ) → TakesBytes t piece n s → fed_of s ≡ fed_by old + n
 taken_fed old t b s piece n takes = let len = ap length takes.held in let fed = begun_fed old t b in omega (arith, fed, takes.place, len, length-append t.held (take n piece), length-take-le n piece takes.within)
@@ -55,7 +55,7 @@ taken_fed old t b s piece n takes = let len = ap length takes.held in let fed = 
 -- bytes were taken up to a line's end or the piece's, and the line was tried
 pub takes_line : SettledLaws → OneSettled → AscentLaws → (old : PieceFinderState) (t : ScannerState) → BeginsLine old t → (s : ScannerState) (piece : List ℕ) (n : ℕ) → TakesBytes t piece n s → (new : PieceFinderState) (result : Result (Unit {0}) FindError) → result ≡ Ok tt → TriesReady (line_begun old s) result new → TakesLines old piece n new
 takes_line laws one ascent old t b s piece n takes new result ok tries =
-    let skip = skip_in old.stand in
+    let skip = skip_in old.position in
     let so = tried_so s skip old.cursor new result ok tries in
     let ended : new.scanning.ended ≡ old.scanning.ended = ap (λ (x : ScannerState). x.ended) so.scanning ∙ takes.open_yet ∙ ended_gone old.scanning t b.scanner in
     let size : length new.scanning.held ≡ length t.held + n = ap (λ (x : ScannerState). length x.held) so.scanning ∙ ap length takes.held ∙ length-append t.held (take n piece) ∙ ap (λ k. length t.held + k) (length-take-le n piece takes.within) in
@@ -63,8 +63,8 @@ takes_line laws one ascent old t b s piece n takes new result ok tries =
     record {
       within = takes.within;
       found = found;
-      all = λ text bounds h goes none. all_settled laws one ascent new.scanning new.stand new.cursor text bounds (ended ∙ b.yet) so.fine none (found text bounds h goes);
-      undecided = λ text bounds h goes none drained. all_undecided laws one ascent new.scanning new.stand new.cursor text bounds (ended ∙ b.yet) so.fine drained (λ ready. lexical new so.scanning text bounds h goes ready) (found text bounds h goes);
+      all = λ text bounds h goes none. all_settled laws one ascent new.scanning new.position new.cursor text bounds (ended ∙ b.yet) so.fine none (found text bounds h goes);
+      undecided = λ text bounds h goes none drained. all_undecided laws one ascent new.scanning new.position new.cursor text bounds (ended ∙ b.yet) so.fine drained (λ ready. lexical new so.scanning text bounds h goes ready) (found text bounds h goes);
       next_new = tried_new s skip old.cursor new result tries;
       some = λ zero. by_some (takes.some zero);
       held = let k = begun_held old t b in omega (arith, size, k);
@@ -85,7 +85,7 @@ takes_line laws one ascent old t b s piece n takes new result ok tries =
     by_some (inl nil) = nil
     by_some (inr u) = absurd (none_or_some _ u.0 b.none_ready u.1)
 
-pub open_or_fault : (s : Stand) (fault : Fault) → phase_in s ≡ phase.Open → s ≡ stand.Fault fault → ⊥
+pub open_or_fault : (s : Position) (fault : Fault) → phase_in s ≡ phase.Open → s ≡ position.Fault fault → ⊥
 open_or_fault s fault h k = let both : phase_in s ≡ phase.Fault fault = ap phase_in k in cc
 
 pub open_or_end : (p : Phase) → p ≡ phase.Open → p ≡ phase.End → ⊥
@@ -129,14 +129,14 @@ abbrev pub failed : PieceFinderState → ScannerState → LineStart → Fault �
 failed f s start fault = with_walker (line_begun f s) (with_fault (walker_of (line_begun f s)) start fault)
 
 -- so it is once its walker has met the fault
-pub failed_is : (old : PieceFinderState) (w new : WalkerState) (t s : ScannerState) (start : LineStart) (fault : Fault) → piece_finder_state t w.stand w.cursor ≡ line_begun old t → new ≡ with_fault w start fault → piece_finder_state s new.stand new.cursor ≡ failed old s start fault
-failed_is old w new t s start fault is kept = ap (λ (x : WalkerState). piece_finder_state s x.stand x.cursor) kept ∙ ap (λ (f : PieceFinderState). piece_finder_state s (stand.Fault fault) (cursor_before f.cursor start)) is
+pub failed_is : (old : PieceFinderState) (w new : WalkerState) (t s : ScannerState) (start : LineStart) (fault : Fault) → piece_finder_state t w.position w.cursor ≡ line_begun old t → new ≡ with_fault w start fault → piece_finder_state s new.position new.cursor ≡ failed old s start fault
+failed_is old w new t s start fault is kept = ap (λ (x : WalkerState). piece_finder_state s x.position x.cursor) kept ∙ ap (λ (f : PieceFinderState). piece_finder_state s (position.Fault fault) (cursor_before f.cursor start)) is
 
 -- what is found up to a lexical fault, which the finder then has
-lexical_found : SettledLaws → (t s : ScannerState) (cursor : CursorState) (text : List ℕ) (skip : ℕ) (bounds : List Bound) (start : LineStart) (fault : Fault) (b : IsBetweenLines t cursor text skip bounds) → IsNextStart t start → IsLexed text b.after.lines (Some fault) → HasStopped text cursor bounds → HasFoundIn (piece_finder_state s (stand.Fault fault) (cursor_before cursor start)) text bounds
+lexical_found : SettledLaws → (t s : ScannerState) (cursor : CursorState) (text : List ℕ) (skip : ℕ) (bounds : List Bound) (start : LineStart) (fault : Fault) (b : IsBetweenLines t cursor text skip bounds) → IsNextStart t start → IsLexed text b.after.lines (Some fault) → HasStopped text cursor bounds → HasFoundIn (piece_finder_state s (position.Fault fault) (cursor_before cursor start)) text bounds
 lexical_found laws t s cursor text skip bounds start fault b here lexed stopped =
     let is : start ≡ next_start t = (λ i. record { offset = here.offset i; line = here.line i }) in
-    subst (λ (x : LineStart). HasFoundIn (piece_finder_state s (stand.Fault fault) (cursor_before cursor x)) text bounds) (sym is) (record {
+    subst (λ (x : LineStart). HasFoundIn (piece_finder_state s (position.Fault fault) (cursor_before cursor x)) text bounds) (sym is) (record {
       stopped = stops_before cursor (next_start t) b.after (nothing_at_end laws.ends.laws b.after (Some fault) lexed) stopped;
       reached = meets_lexical laws.ends.laws b.after fault lexed;
     })
@@ -144,10 +144,10 @@ lexical_found laws t s cursor text skip bounds start fault b here lexed stopped 
 -- the scanner meets a fault
 pub meets_fault : SettledLaws → EachIsLexed → (old : PieceFinderState) (t : ScannerState) → BeginsLine old t → (s : ScannerState) (piece : List ℕ) (fault : Fault) (start : LineStart) → IsNextStart t start → MeetsFault t piece fault s → MeetsFaultIn old piece fault (failed old s start fault)
 meets_fault laws each old t b s piece fault start here meets = record {
-  found = λ text bounds h goes. lexical_found laws t s old.cursor text (skip_in old.stand) bounds start fault (begun_between old t b text bounds h) here (met text bounds h goes).3 h.stopped;
+  found = λ text bounds h goes. lexical_found laws t s old.cursor text (skip_in old.position) bounds start fault (begun_between old t b text bounds h) here (met text bounds h goes).3 h.stopped;
   decided = λ text bounds h goes opened. decided text bounds h goes;
   none_ready = b.none;
-  again = λ first was. absurd (open_or_fault old.stand first b.opened was);
+  again = λ first was. absurd (open_or_fault old.position first b.opened was);
   was_in_top = λ top. open_or_end _ b.opened top;
   options = refl;
   given = refl;
@@ -174,19 +174,19 @@ meets_fault laws each old t b s piece fault start here meets = record {
 -- the line that got ready is bad
 meets_bad_line : SettledLaws → (old : PieceFinderState) (t : ScannerState) → BeginsLine old t → (s : ScannerState) (piece : List ℕ) (n : ℕ) → TakesBytes t piece n s → (new : PieceFinderState) (result : Result (Unit {0}) FindError) (fault : Fault) → TriesReady (line_begun old s) result new → IsBadReady (line_begun old s) fault new → MeetsFaultIn old piece fault new
 meets_bad_line laws old t b s piece n takes new result fault tries bad = record {
-  found = λ text bounds h goes. tried_found laws s (skip_in old.stand) old.cursor new text bounds result (taken_between old t b s piece n takes text bounds h (goes_on_with_both text (fed_by old) piece n takes.within goes).0) h.stopped tries;
+  found = λ text bounds h goes. tried_found laws s (skip_in old.position) old.cursor new text bounds result (taken_between old t b s piece n takes text bounds h (goes_on_with_both text (fed_by old) piece n takes.within goes).0) h.stopped tries;
   decided = λ text bounds h goes was.
       let between = taken_between old t b s piece n takes text bounds h (goes_on_with_both text (fed_by old) piece n takes.within goes).0 in
-      let now = bad_decided laws (line_begun old s) new text (skip_in old.stand) bounds fault (takes.open_yet ∙ ended_gone old.scanning t b.scanner ∙ b.yet) bad between in
+      let now = bad_decided laws (line_begun old s) new text (skip_in old.position) bounds fault (takes.open_yet ∙ ended_gone old.scanning t b.scanner ∙ b.yet) bad between in
       (n, takes.within, subst (λ (p : ℕ). DecidesFound (take p text) (options_for old) fault) (taken_fed old t b s piece n takes) now);
   none_ready = b.none;
-  again = λ first was. absurd (open_or_fault old.stand first b.opened was);
+  again = λ first was. absurd (open_or_fault old.position first b.opened was);
   was_in_top = λ top. open_or_end _ b.opened top;
   options = ap options_for bad.kept;
   given = ap (λ (f : PieceFinderState). f.cursor.given) bad.kept;
   fed = let is = ap fed_by bad.kept in let fed = taken_fed old t b s piece n takes in let within = takes.within in omega (arith, is, fed, within);
   open_yet = ap (λ (f : PieceFinderState). f.scanning.ended) bad.kept ∙ takes.open_yet ∙ ended_gone old.scanning t b.scanner;
-  kept = ap (λ (f : PieceFinderState). f.stand) bad.kept;
+  kept = ap (λ (f : PieceFinderState). f.position) bad.kept;
 }
 
 pub tries_bad : SettledLaws → (old : PieceFinderState) (t : ScannerState) → BeginsLine old t → (s : ScannerState) (piece : List ℕ) (n : ℕ) → TakesBytes t piece n s → (new : PieceFinderState) (result : Result (Unit {0}) FindError) (e : FindError) (answer : Result ℕ FindError) → result ≡ Err e → answer ≡ Err e → TriesReady (line_begun old s) result new → TakesBytesOf old piece answer new
@@ -199,7 +199,7 @@ pub takes_no_byte : (old : PieceFinderState) (t : ScannerState) → BeginsLine o
 takes_no_byte old t b = record {
   keeps = record {
     found = λ text bounds h. record { stopped = h.stopped; reached = (begun_between old t b text bounds h, b.none_ready) };
-    rest = λ text bounds h yet none. between_rest t (skip_in old.stand) old.cursor text bounds (ended_gone old.scanning t b.scanner ∙ yet) b.none_ready (begun_between old t b text bounds h);
+    rest = λ text bounds h yet none. between_rest t (skip_in old.position) old.cursor text bounds (ended_gone old.scanning t b.scanner ∙ yet) b.none_ready (begun_between old t b text bounds h);
     scanning = λ ready. absurd (true_or_false _ b.none ready);
     fed = sym (begun_fed old t b);
     cursor = refl;
@@ -213,11 +213,11 @@ takes_no_byte old t b = record {
 }
 
 -- the scanner's text has ended
-ended_between : (old : PieceFinderState) (t : ScannerState) → BeginsLine old t → (s : ScannerState) → EndsScan t s → (text : List ℕ) (bounds : List Bound) → HasFoundIn old text bounds → length text ≡ fed_by old → IsBetweenLines s old.cursor text (skip_in old.stand) bounds
+ended_between : (old : PieceFinderState) (t : ScannerState) → BeginsLine old t → (s : ScannerState) → EndsScan t s → (text : List ℕ) (bounds : List Bound) → HasFoundIn old text bounds → length text ≡ fed_by old → IsBetweenLines s old.cursor text (skip_in old.position) bounds
 ended_between old t b s ends text bounds h all =
     let between = begun_between old t b text bounds h in
     let lines = between.after.lines in
-    moved_on t s old.cursor text (skip_in old.stand) bounds between (inr (ends.scans text lines (begun_scanning old t b text lines between.released) (all ∙ begun_fed old t b))) ends.place
+    moved_on t s old.cursor text (skip_in old.position) bounds between (inr (ends.scans text lines (begun_scanning old t b text lines between.released) (all ∙ begun_fed old t b))) ends.place
 
 ended_fed : (old : PieceFinderState) (t : ScannerState) → BeginsLine old t → (s : ScannerState) → EndsScan t s → fed_of s ≡ fed_by old
 ended_fed old t b s ends = let held = ap length ends.held in let start = begun_fed old t b in omega (arith, ends.place, held, start)
@@ -225,18 +225,18 @@ ended_fed old t b s ends = let held = ap length ends.held in let start = begun_f
 -- the text has ended, and its last line was tried
 ends_line : SettledLaws → (old : PieceFinderState) (t : ScannerState) → BeginsLine old t → (s : ScannerState) → EndsScan t s → (new : PieceFinderState) (result : Result (Unit {0}) FindError) → result ≡ Ok tt → TriesReady (line_begun old s) result new → FinishesText old new
 ends_line laws old t b s ends new result ok tries =
-    let so = tried_so s (skip_in old.stand) old.cursor new result ok tries in
-    let found : (text : List ℕ) (bounds : List Bound) → HasFoundIn old text bounds → length text ≡ fed_by old → HasFoundIn new text bounds = λ text bounds h all. tried_found laws s (skip_in old.stand) old.cursor new text bounds result (ended_between old t b s ends text bounds h all) h.stopped tries in
+    let so = tried_so s (skip_in old.position) old.cursor new result ok tries in
+    let found : (text : List ℕ) (bounds : List Bound) → HasFoundIn old text bounds → length text ≡ fed_by old → HasFoundIn new text bounds = λ text bounds h all. tried_found laws s (skip_in old.position) old.cursor new text bounds result (ended_between old t b s ends text bounds h all) h.stopped tries in
     record {
       found = found;
       line = λ text bounds h all ready.
           let line = tried_ready (line_begun old s) new result refl tries ready in
-          line_any new.scanning new.stand new.cursor text bounds line.0 (open_ready new.stand ready) (ap (λ (x : ScannerState). x.ready) so.scanning ∙ line.1) (found text bounds h all);
-      next_new = tried_new s (skip_in old.stand) old.cursor new result tries;
+          line_any new.scanning new.position new.cursor text bounds line.0 (open_ready new.position ready) (ap (λ (x : ScannerState). x.ready) so.scanning ∙ line.1) (found text bounds h all);
+      next_new = tried_new s (skip_in old.position) old.cursor new result tries;
       cursor = so.cursor;
       fed = so.fed ∙ ended_fed old t b s ends;
       ended = inl (ap (λ (x : ScannerState). x.ended) so.scanning ∙ ends.ended);
-      was_no_fault = λ fault at. open_or_fault old.stand fault b.opened at;
+      was_no_fault = λ fault at. open_or_fault old.position fault b.opened at;
       no_fault = so.fine;
     }
 
@@ -244,13 +244,13 @@ ends_bad : SettledLaws → (old : PieceFinderState) (t : ScannerState) → Begin
 ends_bad laws old t b s ends new result e err tries =
     let bad = tried_bad (line_begun old s) new result e err tries in
     subst (λ (x : FindError). EndsFeeding old (Err x) new) (sym bad.is) (record {
-      found = λ text bounds h all. tried_found laws s (skip_in old.stand) old.cursor new text bounds result (ended_between old t b s ends text bounds h all) h.stopped tries;
-      again = λ first was. absurd (open_or_fault old.stand first b.opened was);
+      found = λ text bounds h all. tried_found laws s (skip_in old.position) old.cursor new text bounds result (ended_between old t b s ends text bounds h all) h.stopped tries;
+      again = λ first was. absurd (open_or_fault old.position first b.opened was);
       was_in_top = λ top. open_or_end _ b.opened top;
       options = ap options_for bad.bad.kept;
       given = ap (λ (f : PieceFinderState). f.cursor.given) bad.bad.kept;
       fed = ap fed_by bad.bad.kept ∙ ended_fed old t b s ends;
-      kept = ap (λ (f : PieceFinderState). f.stand) bad.bad.kept;
+      kept = ap (λ (f : PieceFinderState). f.position) bad.bad.kept;
     })
 
 pub ends_tried : SettledLaws → (old : PieceFinderState) (t : ScannerState) → BeginsLine old t → (s : ScannerState) → EndsScan t s → (new : PieceFinderState) (result : Result (Unit {0}) FindError) → TriesReady (line_begun old s) result new → EndsFeeding old result new
@@ -262,8 +262,8 @@ pub ends_lexical : SettledLaws → (old : PieceFinderState) (t : ScannerState) �
 ends_lexical laws old t b s fault start here ends = record {
   found = λ text bounds h all.
       let r = begun_between old t b text bounds h in
-      lexical_found laws t s old.cursor text (skip_in old.stand) bounds start fault r here (ends.all text r.after.lines (begun_scanning old t b text r.after.lines r.released) (all ∙ begun_fed old t b)) h.stopped;
-  again = λ first was. absurd (open_or_fault old.stand first b.opened was);
+      lexical_found laws t s old.cursor text (skip_in old.position) bounds start fault r here (ends.all text r.after.lines (begun_scanning old t b text r.after.lines r.released) (all ∙ begun_fed old t b)) h.stopped;
+  again = λ first was. absurd (open_or_fault old.position first b.opened was);
   was_in_top = λ top. open_or_end _ b.opened top;
   options = refl;
   given = refl;

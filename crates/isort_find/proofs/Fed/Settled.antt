@@ -12,11 +12,11 @@ use Rattle.isort_find.specs.Settled.{IsFoundSettled, SettlesBadLine, DecidesFoun
 use Rattle.isort_find.specs.Cursor.{CursorState}
 use Rattle.isort_find.specs.Pending.{PendingState}
 use Rattle.isort_find.specs.Pieces.{piece_finder_state, fed_in, HasNoFault, HasReleased, IsBetweenLines, IsWithinLine, IsAtTopEnd, HasFoundIn, AreSettled, AreAllSettled, IsUndecided}
-use Rattle.isort_find.specs.Stand.{ready_in}
+use Rattle.isort_find.specs.Position.{ready_in}
 use Rattle.isort_find.specs.Private.PieceSteps.{IsDrained}
 use Rattle.isort_find.specs.declared.options.FindOptions.{FindOptions}
-use Rattle.isort_find.specs.declared.walker.Stand.{Stand}
-use Rattle.isort_find.specs.declared.walker.Stand.TheVariants as stand
+use Rattle.isort_find.specs.declared.walker.Position.{Position}
+use Rattle.isort_find.specs.declared.walker.Position.TheVariants as position
 use Rattle.isort_find.specs.Private.KnownLaws.{AscentLaws, OneSettled, SettledLaws}
 use Rattle.isort_find.proofs.Keys.TakenBindings.{list_all-snoc}
 use Rattle.isort_find.proofs.Finds.Beginnings.{firsts-append}
@@ -103,7 +103,7 @@ within_settled laws one s options text p bounds yet none w = λ found bad h.
     ([], i.found ∙ ap (λ l. firsts options.unique [] (i.before ++ l)) (sym whole) ∙ sym is ∙ sym (append-nil found))
 
 -- and what was given is settled
-pub given_settled : SettledLaws → OneSettled → (s : ScannerState) (cursor : CursorState) (text : List ℕ) (p : PendingState) (bounds : List Bound) → s.ended ≡ false → IsWithinLine s cursor.options text p bounds → AreSettled (piece_finder_state s (stand.Within p) cursor) text bounds
+pub given_settled : SettledLaws → OneSettled → (s : ScannerState) (cursor : CursorState) (text : List ℕ) (p : PendingState) (bounds : List Bound) → s.ended ≡ false → IsWithinLine s cursor.options text p bounds → AreSettled (piece_finder_state s (position.Within p) cursor) text bounds
 given_settled laws one s cursor text p bounds yet w = λ found bad h.
     let i = w.inside in
     let unique = cursor.options.unique in
@@ -125,12 +125,12 @@ top_settled laws ascent s options text n bounds yet within t = λ found bad h.
     ([], t.found ∙ sym is ∙ sym (append-nil found))
 
 -- where nothing is ready, all that is settled was given
-pub all_settled : SettledLaws → OneSettled → AscentLaws → (s : ScannerState) (at : Stand) (cursor : CursorState) (text : List ℕ) (bounds : List Bound) → s.ended ≡ false → HasNoFault (piece_finder_state s at cursor) → ready_in at ≡ false → HasFoundIn (piece_finder_state s at cursor) text bounds → AreAllSettled (piece_finder_state s at cursor) text bounds
-all_settled laws one ascent s (stand.Between skip) cursor text bounds yet fine none h = gap_settled laws one ascent s cursor text skip bounds yet h.reached.1 h.reached.0
-all_settled laws one ascent s (stand.Unread start skip) cursor text bounds yet fine none h = absurd cc
-all_settled laws one ascent s (stand.Within p) cursor text bounds yet fine none h = within_settled laws one s cursor.options text p bounds yet (none_are_left p.left none) h.reached
-all_settled laws one ascent s (stand.End passed) cursor text bounds yet fine none h = top_settled laws ascent s cursor.options text (fed_in (stand.End passed) s) bounds yet (omega arith) h.reached
-all_settled laws one ascent s (stand.Fault fault) cursor text bounds yet fine none h = absurd (fine fault refl)
+pub all_settled : SettledLaws → OneSettled → AscentLaws → (s : ScannerState) (at : Position) (cursor : CursorState) (text : List ℕ) (bounds : List Bound) → s.ended ≡ false → HasNoFault (piece_finder_state s at cursor) → ready_in at ≡ false → HasFoundIn (piece_finder_state s at cursor) text bounds → AreAllSettled (piece_finder_state s at cursor) text bounds
+all_settled laws one ascent s (position.Between skip) cursor text bounds yet fine none h = gap_settled laws one ascent s cursor text skip bounds yet h.reached.1 h.reached.0
+all_settled laws one ascent s (position.Unread start skip) cursor text bounds yet fine none h = absurd cc
+all_settled laws one ascent s (position.Within p) cursor text bounds yet fine none h = within_settled laws one s cursor.options text p bounds yet (none_are_left p.left none) h.reached
+all_settled laws one ascent s (position.End passed) cursor text bounds yet fine none h = top_settled laws ascent s cursor.options text (fed_in (position.End passed) s) bounds yet (omega arith) h.reached
+all_settled laws one ascent s (position.Fault fault) cursor text bounds yet fine none h = absurd (fine fault refl)
 
 -- lines that all bind have no bad one among those that are settled
 pub gap_undecided : SettledLaws → OneSettled → AscentLaws → (s : ScannerState) (cursor : CursorState) (text : List ℕ) (skip : ℕ) (bounds : List Bound) → s.ended ≡ false → s.ready ≡ None → ((fault : Fault) → ¬ (Decides (take (fed_of s) text) fault)) → IsBetweenLines s cursor text skip bounds → NoneIn text (fed_of s) cursor.options
@@ -158,12 +158,12 @@ top_undecided laws s options text n bounds yet within t = λ fault d.
     none_is_some fault (one_end_found laws.ends (take first text ++ take more (drop first text)) options bounds d.bounds None (Some fault) found (subst (λ (ks : List ℕ). IsFound ks options d.bounds (Some fault)) known d.found))
 
 -- no fault is decided where nothing is ready and no line is held that was read
-pub all_undecided : SettledLaws → OneSettled → AscentLaws → (s : ScannerState) (at : Stand) (cursor : CursorState) (text : List ℕ) (bounds : List Bound) → s.ended ≡ false → HasNoFault (piece_finder_state s at cursor) → IsDrained (piece_finder_state s at cursor) → (s.ready ≡ None → (fault : Fault) → ¬ (Decides (take (fed_of s) text) fault)) → HasFoundIn (piece_finder_state s at cursor) text bounds → IsUndecided (piece_finder_state s at cursor) text
-all_undecided laws one ascent s (stand.Between skip) cursor text bounds yet fine (inl none) lexical h = gap_undecided laws one ascent s cursor text skip bounds yet none (lexical none) h.reached.0
-all_undecided laws one ascent s (stand.Unread start skip) cursor text bounds yet fine (inl none) lexical h = gap_undecided laws one ascent s cursor text skip bounds yet none (lexical none) h.reached
-all_undecided laws one ascent s (stand.Within p) cursor text bounds yet fine (inl none) lexical h = absurd (none_or_some _ h.reached.line none h.reached.ready)
-all_undecided laws one ascent s (stand.Between skip) cursor text bounds yet fine (inr top) lexical h = absurd cc
-all_undecided laws one ascent s (stand.Unread start skip) cursor text bounds yet fine (inr top) lexical h = absurd cc
-all_undecided laws one ascent s (stand.Within p) cursor text bounds yet fine (inr top) lexical h = absurd cc
-all_undecided laws one ascent s (stand.End passed) cursor text bounds yet fine drained lexical h = top_undecided laws s cursor.options text (fed_in (stand.End passed) s) bounds yet (omega arith) h.reached
-all_undecided laws one ascent s (stand.Fault fault) cursor text bounds yet fine drained lexical h = absurd (fine fault refl)
+pub all_undecided : SettledLaws → OneSettled → AscentLaws → (s : ScannerState) (at : Position) (cursor : CursorState) (text : List ℕ) (bounds : List Bound) → s.ended ≡ false → HasNoFault (piece_finder_state s at cursor) → IsDrained (piece_finder_state s at cursor) → (s.ready ≡ None → (fault : Fault) → ¬ (Decides (take (fed_of s) text) fault)) → HasFoundIn (piece_finder_state s at cursor) text bounds → IsUndecided (piece_finder_state s at cursor) text
+all_undecided laws one ascent s (position.Between skip) cursor text bounds yet fine (inl none) lexical h = gap_undecided laws one ascent s cursor text skip bounds yet none (lexical none) h.reached.0
+all_undecided laws one ascent s (position.Unread start skip) cursor text bounds yet fine (inl none) lexical h = gap_undecided laws one ascent s cursor text skip bounds yet none (lexical none) h.reached
+all_undecided laws one ascent s (position.Within p) cursor text bounds yet fine (inl none) lexical h = absurd (none_or_some _ h.reached.line none h.reached.ready)
+all_undecided laws one ascent s (position.Between skip) cursor text bounds yet fine (inr top) lexical h = absurd cc
+all_undecided laws one ascent s (position.Unread start skip) cursor text bounds yet fine (inr top) lexical h = absurd cc
+all_undecided laws one ascent s (position.Within p) cursor text bounds yet fine (inr top) lexical h = absurd cc
+all_undecided laws one ascent s (position.End passed) cursor text bounds yet fine drained lexical h = top_undecided laws s cursor.options text (fed_in (position.End passed) s) bounds yet (omega arith) h.reached
+all_undecided laws one ascent s (position.Fault fault) cursor text bounds yet fine drained lexical h = absurd (fine fault refl)

@@ -10,7 +10,7 @@ use Rattle.py_lines.specs.ScannerState.{ScannerState, begun_at, ScansFrom, IsSca
 use Rattle.isort_find.specs.Cursor.{CursorState, first_cursor}
 use Rattle.isort_find.specs.Pieces.{piece_finder_state, IsBetweenLines, HasFoundIn, GoesOnFrom}
 use Rattle.isort_find.specs.declared.options.FindOptions.{FindOptions}
-use Rattle.isort_find.specs.declared.walker.Stand.TheVariants as stand
+use Rattle.isort_find.specs.declared.walker.Position.TheVariants as position
 use Rattle.isort_find.proofs.Walks.Starts.{after_none, stopped_first}
 use Rattle.isort_find.proofs.Fed.Known.{given_first}
 
@@ -35,7 +35,7 @@ begins_between s options cursor scans is text = subst (λ (c : CursorState). IsB
 })
 
 -- so nothing was given
-pub begins_pieces : (s : ScannerState) (options : FindOptions) (cursor : CursorState) → s ≡ begun_at 0 1 → ((text : List ℕ) → IsScanning s text []) → cursor ≡ first_cursor options → (text : List ℕ) → HasFoundIn (piece_finder_state s (stand.Between cursor.taken) cursor) text []
+pub begins_pieces : (s : ScannerState) (options : FindOptions) (cursor : CursorState) → s ≡ begun_at 0 1 → ((text : List ℕ) → IsScanning s text []) → cursor ≡ first_cursor options → (text : List ℕ) → HasFoundIn (piece_finder_state s (position.Between cursor.taken) cursor) text []
 begins_pieces s options cursor start scans is text = record {
   stopped = stopped_first text options cursor is (given_first text 0 1 [] (subst (λ (x : ScannerState). AreFirstLines text x.place x.line []) start (scans text).first));
   reached = (begins_between s options cursor scans is text, ap (λ (x : ScannerState). x.ready) start);
@@ -45,7 +45,7 @@ bounded : (n m : ℕ) → 1 ≤ n → n ≤ m + 1 → n ≡ min (max n 1) (m + 1
 bounded n m h k = omega (arith, h, k)
 
 -- a finder over pieces goes on from a cursor
-goes_on : (s : ScannerState) (cursor : CursorState) (line : ℕ) → line ≡ min (max cursor.line 1) (cursor.offset + 1) → s ≡ begun_at cursor.offset line → ScansFrom cursor.offset line s → GoesOnFrom cursor (piece_finder_state s (stand.Between cursor.taken) cursor)
+goes_on : (s : ScannerState) (cursor : CursorState) (line : ℕ) → line ≡ min (max cursor.line 1) (cursor.offset + 1) → s ≡ begun_at cursor.offset line → ScansFrom cursor.offset line s → GoesOnFrom cursor (piece_finder_state s (position.Between cursor.taken) cursor)
 goes_on s cursor line is start scans text bounds h =
     let b = h.after in
     let place = line_of_place text cursor.offset cursor.line b.lines b.given in
@@ -64,6 +64,6 @@ goes_on s cursor line is start scans text bounds h =
     }
 
 -- the same, with the cursor's place and line by themselves
-pub goes_on_from : (s : ScannerState) (cursor : CursorState) (offset number most line : ℕ) → offset ≡ cursor.offset → number ≡ cursor.line → most ≡ max number 1 → line ≡ min most (offset + 1) → s ≡ begun_at offset line → ScansFrom offset line s → GoesOnFrom cursor (piece_finder_state s (stand.Between cursor.taken) cursor)
+pub goes_on_from : (s : ScannerState) (cursor : CursorState) (offset number most line : ℕ) → offset ≡ cursor.offset → number ≡ cursor.line → most ≡ max number 1 → line ≡ min most (offset + 1) → s ≡ begun_at offset line → ScansFrom offset line s → GoesOnFrom cursor (piece_finder_state s (position.Between cursor.taken) cursor)
 goes_on_from s cursor offset number most line here there up down start scans =
     goes_on s cursor line (down ∙ (λ i. min ((up ∙ ap (λ n. max n 1) there) i) (here i + 1))) (start ∙ ap (λ n. begun_at n line) here) (subst (λ (n : ℕ). ScansFrom n line s) here scans)

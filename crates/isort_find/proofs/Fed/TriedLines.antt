@@ -10,7 +10,7 @@ use Rattle.isort_find.specs.Found.{ends_top}
 use Rattle.isort_find.specs.Settled.{DecidesFound}
 use Rattle.isort_find.specs.Cursor.{CursorState, HasStopped}
 use Rattle.isort_find.specs.Pending.{pending_after}
-use Rattle.isort_find.specs.Stand.{skip_in}
+use Rattle.isort_find.specs.Position.{skip_in}
 use Rattle.isort_find.specs.Pieces.{PieceFinderState, piece_finder_state, options_for, fed_by, has_ready, HasNoFault, IsNextNew, AreKnown, IsBetweenLines, HasFoundIn}
 use Rattle.isort_find.specs.Private.LineSteps.{Judges, Trial, TurnsOut, binding, ending, failing, lost}
 use Rattle.isort_find.specs.Private.PieceSteps.{HasReady, HandsLine, TriesReady, walker_of, with_walker}
@@ -20,8 +20,8 @@ use Rattle.isort_find.specs.declared.error.FindError.TheVariants as error
 use Rattle.isort_find.specs.declared.pending.LineStart.{LineStart}
 use Rattle.isort_find.specs.declared.step.Step.{Step}
 use Rattle.isort_find.specs.declared.step.Step.TheVariants as step
-use Rattle.isort_find.specs.declared.walker.Stand.{Stand}
-use Rattle.isort_find.specs.declared.walker.Stand.TheVariants as stand
+use Rattle.isort_find.specs.declared.walker.Position.{Position}
+use Rattle.isort_find.specs.declared.walker.Position.TheVariants as position
 use Rattle.isort_find.specs.Private.KnownLaws.{SettledLaws}
 use Rattle.isort_find.proofs.Walks.Inside.{inside_passed}
 use Rattle.isort_find.proofs.Walks.NextLine.{IsAtLine, nothing_at_top, nothing_at_bad, stops_before, reads_bindings, reads_bad, found_at_bad}
@@ -41,32 +41,32 @@ abbrev at_line : (laws : SettledLaws) (s : ScannerState) (cursor : CursorState) 
 at_line laws s cursor text skip line bounds a = record { after = a.between.after; begins = known_begins laws s text (a.between.after.lines ++ line ∷ []) a.known }
 
 -- what becomes of the finder, by what the line turns out to be
-by_trial : SettledLaws → (s : ScannerState) (at : Stand) (cursor : CursorState) (text : List ℕ) (line : LogicalLine) (bounds : List Bound) (t : Trial) (result : Result (Unit {0}) FindError) (w : WalkerState) → IsAtHeld s cursor text (skip_in at) line bounds → TurnsOut cursor.options line t → FollowsTrial (walker_state at cursor) (next_start s) t result w → HasFoundIn (piece_finder_state s w.stand w.cursor) text bounds
+by_trial : SettledLaws → (s : ScannerState) (at : Position) (cursor : CursorState) (text : List ℕ) (line : LogicalLine) (bounds : List Bound) (t : Trial) (result : Result (Unit {0}) FindError) (w : WalkerState) → IsAtHeld s cursor text (skip_in at) line bounds → TurnsOut cursor.options line t → FollowsTrial (walker_state at cursor) (next_start s) t result w → HasFoundIn (piece_finder_state s w.position w.cursor) text bounds
 by_trial laws s at cursor text line bounds (binding bs) result w a turns follows =
     let b = a.between.after in
     let looks = follows.1 in
     let first = pending_after (next_start s) (skip_in at) bs in
     let inside = reads_bindings laws.ends.laws text cursor.options (next_start s) (skip_in at) line bounds bs (at_line laws s cursor text (skip_in at) line bounds a) turns.0 turns.1 in
-    subst (λ (x : WalkerState). HasFoundIn (piece_finder_state s x.stand x.cursor) text bounds) (sym looks.same) (record {
+    subst (λ (x : WalkerState). HasFoundIn (piece_finder_state s x.position x.cursor) text bounds) (sym looks.same) (record {
       stopped = a.stopped;
       reached = record { lines = b.lines; line = line; released = a.between.released; ready = a.ready; known = a.known; inside = inside_passed text cursor b.lines line first looks.rest bounds a.stopped looks.passes inside };
     })
 by_trial laws s at cursor text line bounds ending result w a turns follows =
     let b = a.between.after in
-    subst (λ (x : WalkerState). HasFoundIn (piece_finder_state s x.stand x.cursor) text bounds) (sym follows.1) (record {
+    subst (λ (x : WalkerState). HasFoundIn (piece_finder_state s x.position x.cursor) text bounds) (sym follows.1) (record {
       stopped = a.stopped;
       reached = record { lines = b.lines; line = line; before = b.before; known = a.known; given = b.given; binds = b.binds; in_top = b.in_top; ends = turns; found = (nothing_at_top laws.ends.laws b line (at_line laws s cursor text (skip_in at) line bounds a).begins turns).found };
     })
 by_trial laws s at cursor text line bounds (failing fault) result w a turns follows =
     let here = at_line laws s cursor text (skip_in at) line bounds a in
-    subst (λ (x : WalkerState). HasFoundIn (piece_finder_state s x.stand x.cursor) text bounds) (sym follows.1) (record {
+    subst (λ (x : WalkerState). HasFoundIn (piece_finder_state s x.position x.cursor) text bounds) (sym follows.1) (record {
       stopped = stops_before cursor (next_start s) a.between.after (nothing_at_bad laws.ends.laws a.between.after line fault here.begins turns.0) a.stopped;
       reached = reads_bad laws.ends.laws text cursor.options (next_start s) (skip_in at) line bounds fault here turns.0 turns.1;
     })
-by_trial laws s at cursor text line bounds lost result w a turns follows = subst (λ (x : WalkerState). HasFoundIn (piece_finder_state s x.stand x.cursor) text bounds) (sym follows.1) (record { stopped = a.stopped; reached = a.between })
+by_trial laws s at cursor text line bounds lost result w a turns follows = subst (λ (x : WalkerState). HasFoundIn (piece_finder_state s x.position x.cursor) text bounds) (sym follows.1) (record { stopped = a.stopped; reached = a.between })
 
 -- the line that is ready was tried
-pub held_found : SettledLaws → (s : ScannerState) (at : Stand) (cursor : CursorState) (new : PieceFinderState) (text : List ℕ) (bounds : List Bound) (result : Result (Unit {0}) FindError) → IsBetweenLines s cursor text (skip_in at) bounds → HasStopped text cursor bounds → HandsLine LearnsLine (piece_finder_state s at cursor) result new → HasFoundIn new text bounds
+pub held_found : SettledLaws → (s : ScannerState) (at : Position) (cursor : CursorState) (new : PieceFinderState) (text : List ℕ) (bounds : List Bound) (result : Result (Unit {0}) FindError) → IsBetweenLines s cursor text (skip_in at) bounds → HasStopped text cursor bounds → HandsLine LearnsLine (piece_finder_state s at cursor) result new → HasFoundIn new text bounds
 held_found laws s at cursor new text bounds result b stopped h =
     let a : IsAtHeld s cursor text (skip_in at) h.line bounds = record { between = b; stopped = stopped; ready = h.at.ready; known = ready_known s text b.after.lines h.line b.released h.at.ready h.at.some_text } in
     subst (λ (f : PieceFinderState). HasFoundIn f text bounds) (sym h.same) (by_trial laws s at cursor text h.line bounds h.does.trial result h.walker a h.does.turns (subst (λ (x : LineStart). FollowsTrial (walker_state at cursor) x h.does.trial result h.walker) (start_is s h.line h.start h.at) h.does.follows))
@@ -75,9 +75,9 @@ learned : (f new : PieceFinderState) (result : Result (Unit {0}) FindError) → 
 learned f new result h = record { line = h.line; start = h.start; walker = h.walker; at = h.at; does = h.does.learns; same = h.same }
 
 -- the same, if one is
-pub tried_found : SettledLaws → (s : ScannerState) (skip : ℕ) (cursor : CursorState) (new : PieceFinderState) (text : List ℕ) (bounds : List Bound) (result : Result (Unit {0}) FindError) → IsBetweenLines s cursor text skip bounds → HasStopped text cursor bounds → TriesReady (piece_finder_state s (stand.Between skip) cursor) result new → HasFoundIn new text bounds
+pub tried_found : SettledLaws → (s : ScannerState) (skip : ℕ) (cursor : CursorState) (new : PieceFinderState) (text : List ℕ) (bounds : List Bound) (result : Result (Unit {0}) FindError) → IsBetweenLines s cursor text skip bounds → HasStopped text cursor bounds → TriesReady (piece_finder_state s (position.Between skip) cursor) result new → HasFoundIn new text bounds
 tried_found laws s skip cursor new text bounds result b stopped (inl none) = subst (λ (f : PieceFinderState). HasFoundIn f text bounds) (sym none.2) (record { stopped = stopped; reached = (b, none.0) })
-tried_found laws s skip cursor new text bounds result b stopped (inr h) = held_found laws s (stand.Between skip) cursor new text bounds result b stopped (learned _ new result h)
+tried_found laws s skip cursor new text bounds result b stopped (inr h) = held_found laws s (position.Between skip) cursor new text bounds result b stopped (learned _ new result h)
 
 -- what stays where a line is tried without a fault
 pub record TriedSo (f new : PieceFinderState) : Type 0 where
@@ -89,18 +89,18 @@ pub record TriedSo (f new : PieceFinderState) : Type 0 where
 not_err : (e : FindError) (r : Result (Unit {0}) FindError) → r ≡ Ok tt → r ≡ Err e → ⊥
 not_err e r h k = cc
 
-pub trial_so : (s : ScannerState) (at : Stand) (cursor : CursorState) (start : LineStart) (t : Trial) (result : Result (Unit {0}) FindError) (w : WalkerState) → result ≡ Ok tt → FollowsTrial (walker_state at cursor) start t result w → TriedSo (piece_finder_state s at cursor) (piece_finder_state s w.stand w.cursor)
-trial_so s at cursor start (binding bs) result w ok follows = subst (λ (x : WalkerState). TriedSo (piece_finder_state s at cursor) (piece_finder_state s x.stand x.cursor)) (sym follows.1.same) (record { scanning = refl; cursor = refl; fine = λ fault e. cc; fed = refl })
-trial_so s at cursor start ending result w ok follows = subst (λ (x : WalkerState). TriedSo (piece_finder_state s at cursor) (piece_finder_state s x.stand x.cursor)) (sym follows.1) (record { scanning = refl; cursor = refl; fine = λ fault e. cc; fed = omega arith })
+pub trial_so : (s : ScannerState) (at : Position) (cursor : CursorState) (start : LineStart) (t : Trial) (result : Result (Unit {0}) FindError) (w : WalkerState) → result ≡ Ok tt → FollowsTrial (walker_state at cursor) start t result w → TriedSo (piece_finder_state s at cursor) (piece_finder_state s w.position w.cursor)
+trial_so s at cursor start (binding bs) result w ok follows = subst (λ (x : WalkerState). TriedSo (piece_finder_state s at cursor) (piece_finder_state s x.position x.cursor)) (sym follows.1.same) (record { scanning = refl; cursor = refl; fine = λ fault e. cc; fed = refl })
+trial_so s at cursor start ending result w ok follows = subst (λ (x : WalkerState). TriedSo (piece_finder_state s at cursor) (piece_finder_state s x.position x.cursor)) (sym follows.1) (record { scanning = refl; cursor = refl; fine = λ fault e. cc; fed = omega arith })
 trial_so s at cursor start (failing fault) result w ok follows = absurd (not_err (error.Fault fault) result ok follows.0)
-trial_so s at cursor start lost result w ok follows = subst (λ (x : WalkerState). TriedSo (piece_finder_state s at cursor) (piece_finder_state s x.stand x.cursor)) (sym follows.1) (record { scanning = refl; cursor = refl; fine = λ fault e. cc; fed = refl })
+trial_so s at cursor start lost result w ok follows = subst (λ (x : WalkerState). TriedSo (piece_finder_state s at cursor) (piece_finder_state s x.position x.cursor)) (sym follows.1) (record { scanning = refl; cursor = refl; fine = λ fault e. cc; fed = refl })
 
-pub tried_so : (s : ScannerState) (skip : ℕ) (cursor : CursorState) (new : PieceFinderState) (result : Result (Unit {0}) FindError) → result ≡ Ok tt → TriesReady (piece_finder_state s (stand.Between skip) cursor) result new → TriedSo (piece_finder_state s (stand.Between skip) cursor) new
-tried_so s skip cursor new result ok (inl none) = subst (TriedSo (piece_finder_state s (stand.Between skip) cursor)) (sym none.2) (record { scanning = refl; cursor = refl; fine = λ fault e. cc; fed = refl })
-tried_so s skip cursor new result ok (inr h) = subst (TriedSo (piece_finder_state s (stand.Between skip) cursor)) (sym h.same) (trial_so s (stand.Between skip) cursor h.start h.does.learns.trial result h.walker ok h.does.learns.follows)
+pub tried_so : (s : ScannerState) (skip : ℕ) (cursor : CursorState) (new : PieceFinderState) (result : Result (Unit {0}) FindError) → result ≡ Ok tt → TriesReady (piece_finder_state s (position.Between skip) cursor) result new → TriedSo (piece_finder_state s (position.Between skip) cursor) new
+tried_so s skip cursor new result ok (inl none) = subst (TriedSo (piece_finder_state s (position.Between skip) cursor)) (sym none.2) (record { scanning = refl; cursor = refl; fine = λ fault e. cc; fed = refl })
+tried_so s skip cursor new result ok (inr h) = subst (TriedSo (piece_finder_state s (position.Between skip) cursor)) (sym h.same) (trial_so s (position.Between skip) cursor h.start h.does.learns.trial result h.walker ok h.does.learns.follows)
 
 -- what is left begins with a new key
-pub tried_new : (s : ScannerState) (skip : ℕ) (cursor : CursorState) (new : PieceFinderState) (result : Result (Unit {0}) FindError) → TriesReady (piece_finder_state s (stand.Between skip) cursor) result new → IsNextNew new
+pub tried_new : (s : ScannerState) (skip : ℕ) (cursor : CursorState) (new : PieceFinderState) (result : Result (Unit {0}) FindError) → TriesReady (piece_finder_state s (position.Between skip) cursor) result new → IsNextNew new
 tried_new s skip cursor new result (inl none) = subst IsNextNew (sym none.2) tt
 tried_new s skip cursor new result (inr h) = subst IsNextNew (sym h.same) h.does.next_new
 
@@ -166,7 +166,7 @@ step_tries : (old w : WalkerState) (line : LogicalLine) (start : LineStart) (s :
 step_tries old w line start (step.Bindings bindings) result judged follows = record {
   trial = binding (map bound_of bindings.items);
   turns = judged;
-  follows = (ap tried_result follows.0, record { rest = pending_after start (skip_in old.stand) (map bound_of bindings.items); passes = record { dropped = []; split = refl; known = refl; start = refl; taken = omega arith }; same = follows.1 });
+  follows = (ap tried_result follows.0, record { rest = pending_after start (skip_in old.position) (map bound_of bindings.items); passes = record { dropped = []; split = refl; known = refl; start = refl; taken = omega arith }; same = follows.1 });
 }
 step_tries old w line start step.Plain result judged follows = absurd judged
 step_tries old w line start step.End result judged follows = record { trial = ending; turns = judged; follows = (ap tried_result follows.0, follows.1) }

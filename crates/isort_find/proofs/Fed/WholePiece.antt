@@ -4,11 +4,11 @@ use Rattle.std.proofs.lemmas.List.{nil_from_length, length-drop}
 use Rattle.py_lines.specs.ScannerState.{ScannerState, GoesOnWith}
 use Rattle.py_lines.specs.declared.fault.Fault.{Fault}
 use Rattle.isort_find.specs.Cursor.{CursorState}
-use Rattle.isort_find.specs.Stand.{phase_in, ready_in}
+use Rattle.isort_find.specs.Position.{phase_in, ready_in}
 use Rattle.isort_find.specs.Pieces.{PieceFinderState, piece_finder_state, fed_by, has_ready, IsOpenYet, TakesFromPiece}
 use Rattle.isort_find.specs.Private.PieceSteps.{TakesLines, HasTakenAll, IsDrained, with_passed}
-use Rattle.isort_find.specs.declared.walker.Stand.{Stand}
-use Rattle.isort_find.specs.declared.walker.Stand.TheVariants as stand
+use Rattle.isort_find.specs.declared.walker.Position.{Position}
+use Rattle.isort_find.specs.declared.walker.Position.TheVariants as position
 use Rattle.isort_find.specs.declared.walker.Phase.TheVariants as phase
 use Rattle.isort_find.specs.Private.KnownLaws.{AscentLaws, OneSettled, SettledLaws}
 use Rattle.isort_find.proofs.Fed.Known.{true_or_false}
@@ -17,25 +17,25 @@ use Rattle.isort_find.proofs.Fed.Held.{rest_any, ready_any}
 use Rattle.isort_find.proofs.Fed.OneLine.{open_or_fault, open_or_end}
 use Rattle.isort_find.proofs.Fed.MoreLines.{goes_then}
 
-end_or_fault : (s : Stand) (fault : Fault) → phase_in s ≡ phase.End → s ≡ stand.Fault fault → ⊥
+end_or_fault : (s : Position) (fault : Fault) → phase_in s ≡ phase.End → s ≡ position.Fault fault → ⊥
 end_or_fault s fault h k = let both : phase_in s ≡ phase.Fault fault = ap phase_in k in cc
 
 -- before a fault the text hasn't ended
-pub yet_open : (f : PieceFinderState) → phase_in f.stand ≡ phase.Open → IsOpenYet f → f.scanning.ended ≡ false
-yet_open f here yet = yet (λ fault is. open_or_fault f.stand fault here is)
+pub yet_open : (f : PieceFinderState) → phase_in f.position ≡ phase.Open → IsOpenYet f → f.scanning.ended ≡ false
+yet_open f here yet = yet (λ fault is. open_or_fault f.position fault here is)
 
-pub yet_end : (f : PieceFinderState) → phase_in f.stand ≡ phase.End → IsOpenYet f → f.scanning.ended ≡ false
-yet_end f here yet = yet (λ fault is. end_or_fault f.stand fault here is)
+pub yet_end : (f : PieceFinderState) → phase_in f.position ≡ phase.End → IsOpenYet f → f.scanning.ended ≡ false
+yet_end f here yet = yet (λ fault is. end_or_fault f.position fault here is)
 
 -- after the top a piece is taken whole
-passes_at : SettledLaws → OneSettled → AscentLaws → (s : ScannerState) (at : Stand) (cursor : CursorState) (piece : List ℕ) → phase_in at ≡ phase.End → s.ended ≡ false → TakesFromPiece (piece_finder_state s at cursor) piece (length piece) (with_passed (piece_finder_state s at cursor) (length piece))
-passes_at laws one ascent s (stand.End passed) cursor piece top yet =
-    let g : PieceFinderState = with_passed (piece_finder_state s (stand.End passed) cursor) (length piece) in
-    let fine : (fault : Fault) → g.stand ≡ stand.Fault fault → ⊥ = λ fault is. end_or_fault g.stand fault refl is in
+passes_at : SettledLaws → OneSettled → AscentLaws → (s : ScannerState) (at : Position) (cursor : CursorState) (piece : List ℕ) → phase_in at ≡ phase.End → s.ended ≡ false → TakesFromPiece (piece_finder_state s at cursor) piece (length piece) (with_passed (piece_finder_state s at cursor) (length piece))
+passes_at laws one ascent s (position.End passed) cursor piece top yet =
+    let g : PieceFinderState = with_passed (piece_finder_state s (position.End passed) cursor) (length piece) in
+    let fine : (fault : Fault) → g.position ≡ position.Fault fault → ⊥ = λ fault is. end_or_fault g.position fault refl is in
     record {
       within = omega arith;
       found = λ text bounds h goes. record { stopped = h.stopped; reached = h.reached };
-      all = λ text bounds h goes none. all_settled laws one ascent s g.stand cursor text bounds yet fine refl (record { stopped = h.stopped; reached = h.reached });
+      all = λ text bounds h goes none. all_settled laws one ascent s g.position cursor text bounds yet fine refl (record { stopped = h.stopped; reached = h.reached });
       undecided = λ text bounds h goes none. top_undecided laws s cursor.options text (fed_by g) bounds yet (omega arith) h.reached;
       rest = λ text bounds h goes none going. absurd (open_or_end _ going refl);
       line = λ text bounds h goes ready. absurd (true_or_false _ refl ready);
@@ -47,19 +47,19 @@ passes_at laws one ascent s (stand.End passed) cursor piece top yet =
       fed = omega arith;
       cursor = refl;
       stays = λ was. refl;
-      was_no_fault = λ fault is. end_or_fault (stand.End passed) fault refl is;
+      was_no_fault = λ fault is. end_or_fault (position.End passed) fault refl is;
       no_fault = fine;
       open_yet = refl;
     }
-passes_at laws one ascent s (stand.Between skip) cursor piece top yet = absurd cc
-passes_at laws one ascent s (stand.Unread start skip) cursor piece top yet = absurd cc
-passes_at laws one ascent s (stand.Within p) cursor piece top yet = absurd cc
-passes_at laws one ascent s (stand.Fault fault) cursor piece top yet = absurd cc
+passes_at laws one ascent s (position.Between skip) cursor piece top yet = absurd cc
+passes_at laws one ascent s (position.Unread start skip) cursor piece top yet = absurd cc
+passes_at laws one ascent s (position.Within p) cursor piece top yet = absurd cc
+passes_at laws one ascent s (position.Fault fault) cursor piece top yet = absurd cc
 
-pub passes_piece : SettledLaws → OneSettled → AscentLaws → (f new : PieceFinderState) (piece : List ℕ) → phase_in f.stand ≡ phase.End → f.scanning.ended ≡ false → new ≡ with_passed f (length piece) → TakesFromPiece f piece (length piece) new
-passes_piece laws one ascent f new piece top yet is = subst (TakesFromPiece f piece (length piece)) (sym is) (passes_at laws one ascent f.scanning f.stand f.cursor piece top yet)
+pub passes_piece : SettledLaws → OneSettled → AscentLaws → (f new : PieceFinderState) (piece : List ℕ) → phase_in f.position ≡ phase.End → f.scanning.ended ≡ false → new ≡ with_passed f (length piece) → TakesFromPiece f piece (length piece) new
+passes_piece laws one ascent f new piece top yet is = subst (TakesFromPiece f piece (length piece)) (sym is) (passes_at laws one ascent f.scanning f.position f.cursor piece top yet)
 
-whole_piece : (piece : List ℕ) (n : ℕ) (f : PieceFinderState) → (phase_in f.stand ≡ phase.End → ⊥) → HasTakenAll piece n f → (n ≡ length piece) × (f.scanning.ready ≡ None)
+whole_piece : (piece : List ℕ) (n : ℕ) (f : PieceFinderState) → (phase_in f.position ≡ phase.End → ⊥) → HasTakenAll piece n f → (n ≡ length piece) × (f.scanning.ready ≡ None)
 whole_piece piece n f no_end (inl top) = absurd (no_end top)
 whole_piece piece n f no_end (inr all) = all
 
@@ -68,14 +68,14 @@ drained piece n f (inl top) = inr top
 drained piece n f (inr all) = inl all.1
 
 -- bytes were taken line by line, and the top has no end yet
-pub feeds_lines : (old new : PieceFinderState) (piece : List ℕ) (n : ℕ) → phase_in old.stand ≡ phase.Open → old.scanning.ended ≡ false → has_ready old ≡ false → (phase_in new.stand ≡ phase.End → ⊥) → TakesLines old piece n new → (has_ready new ≡ false → HasTakenAll piece n new) → TakesFromPiece old piece n new
+pub feeds_lines : (old new : PieceFinderState) (piece : List ℕ) (n : ℕ) → phase_in old.position ≡ phase.Open → old.scanning.ended ≡ false → has_ready old ≡ false → (phase_in new.position ≡ phase.End → ⊥) → TakesLines old piece n new → (has_ready new ≡ false → HasTakenAll piece n new) → TakesFromPiece old piece n new
 feeds_lines old new piece n opened yet none no_end t done = record {
   within = t.within;
   found = t.found;
   all = t.all;
   undecided = λ text bounds h goes nothing. t.undecided text bounds h goes nothing (drained piece n new (done nothing));
-  rest = λ text bounds h goes nothing going. rest_any new.scanning new.stand new.cursor text bounds going (t.open_yet ∙ yet) (whole_piece piece n new no_end (done nothing)).1 (t.found text bounds h goes);
-  line = λ text bounds h goes ready. ready_any new.scanning new.stand new.cursor text bounds (t.open_yet ∙ yet) ready (t.found text bounds h goes);
+  rest = λ text bounds h goes nothing going. rest_any new.scanning new.position new.cursor text bounds going (t.open_yet ∙ yet) (whole_piece piece n new no_end (done nothing)).1 (t.found text bounds h goes);
+  line = λ text bounds h goes ready. ready_any new.scanning new.position new.cursor text bounds (t.open_yet ∙ yet) ready (t.found text bounds h goes);
   some = λ zero. inl (t.some zero);
   waits = λ ready. absurd (true_or_false _ none ready);
   next_new = λ nothing. t.next_new;
@@ -84,17 +84,17 @@ feeds_lines old new piece n opened yet none no_end t done = record {
   fed = t.fed;
   cursor = t.cursor;
   stays = λ top. absurd (open_or_end _ opened top);
-  was_no_fault = λ fault failed. open_or_fault old.stand fault opened failed;
+  was_no_fault = λ fault failed. open_or_fault old.position fault opened failed;
   no_fault = t.no_fault;
   open_yet = t.open_yet;
 }
 
-end_not_ready : (s : Stand) → phase_in s ≡ phase.End → ready_in s ≡ false
-end_not_ready (stand.End passed) at = refl
+end_not_ready : (s : Position) → phase_in s ≡ phase.End → ready_in s ≡ false
+end_not_ready (position.End passed) at = refl
 end_not_ready other at = absurd cc
 
 -- bytes were taken up to the end of the top, and then the rest
-pub feeds_top : SettledLaws → OneSettled → AscentLaws → (old mid new : PieceFinderState) (piece : List ℕ) (t : ℕ) → phase_in old.stand ≡ phase.Open → old.scanning.ended ≡ false → has_ready old ≡ false → phase_in mid.stand ≡ phase.End → TakesLines old piece t mid → new ≡ with_passed mid (length (drop t piece)) → TakesFromPiece old piece (t + length (drop t piece)) new
+pub feeds_top : SettledLaws → OneSettled → AscentLaws → (old mid new : PieceFinderState) (piece : List ℕ) (t : ℕ) → phase_in old.position ≡ phase.Open → old.scanning.ended ≡ false → has_ready old ≡ false → phase_in mid.position ≡ phase.End → TakesLines old piece t mid → new ≡ with_passed mid (length (drop t piece)) → TakesFromPiece old piece (t + length (drop t piece)) new
 feeds_top laws one ascent old mid new piece t opened yet none at first is =
     let rest = drop t piece in
     let next = passes_piece laws one ascent mid new rest at (first.open_yet ∙ yet) is in
@@ -110,26 +110,26 @@ feeds_top laws one ascent old mid new piece t opened yet none at first is =
       line = λ text bounds h all ready. let g = goes text all in next.line text bounds (first.found text bounds h g.0) g.1 ready;
       some = λ zero. inl (nil_from_length piece (sym whole ∙ zero));
       waits = λ ready. absurd (true_or_false _ none ready);
-      next_new = λ nothing. next.next_new (end_not_ready mid.stand at);
+      next_new = λ nothing. next.next_new (end_not_ready mid.position at);
       whole = λ nothing. whole;
       top = λ top. whole;
       fed = (let k = next.fed in let m = first.fed in omega (arith, k, m));
       cursor = next.cursor ∙ first.cursor;
       stays = λ top. absurd (open_or_end _ opened top);
-      was_no_fault = λ fault failed. open_or_fault old.stand fault opened failed;
+      was_no_fault = λ fault failed. open_or_fault old.position fault opened failed;
       no_fault = next.no_fault;
       open_yet = next.open_yet ∙ first.open_yet;
     }
 
 -- nothing is taken where something is ready
-pub feeds_none : (f : PieceFinderState) (piece : List ℕ) → phase_in f.stand ≡ phase.Open → f.scanning.ended ≡ false → has_ready f ≡ true → TakesFromPiece f piece 0 f
+pub feeds_none : (f : PieceFinderState) (piece : List ℕ) → phase_in f.position ≡ phase.Open → f.scanning.ended ≡ false → has_ready f ≡ true → TakesFromPiece f piece 0 f
 feeds_none f piece opened yet ready = record {
   within = omega arith;
   found = λ text bounds h goes. h;
   all = λ text bounds h goes none. absurd (true_or_false _ none ready);
   undecided = λ text bounds h goes none. absurd (true_or_false _ none ready);
   rest = λ text bounds h goes none going. absurd (true_or_false _ none ready);
-  line = λ text bounds h goes some. ready_any f.scanning f.stand f.cursor text bounds yet some h;
+  line = λ text bounds h goes some. ready_any f.scanning f.position f.cursor text bounds yet some h;
   some = λ zero. inr ready;
   waits = λ was. (refl, refl);
   next_new = λ none. absurd (true_or_false _ none ready);
@@ -138,7 +138,7 @@ feeds_none f piece opened yet ready = record {
   fed = omega arith;
   cursor = refl;
   stays = λ top. top;
-  was_no_fault = λ fault failed. open_or_fault f.stand fault opened failed;
-  no_fault = λ fault failed. open_or_fault f.stand fault opened failed;
+  was_no_fault = λ fault failed. open_or_fault f.position fault opened failed;
+  no_fault = λ fault failed. open_or_fault f.position fault opened failed;
   open_yet = refl;
 }

@@ -9,7 +9,7 @@ use Rattle.isort_find.specs.Key.{Key}
 use Rattle.isort_find.specs.Found.{firsts, has_one_like, ends_top}
 use Rattle.isort_find.specs.Cursor.{CursorState, next_count, keys_of, IsAfter, HasStopped, knows_key}
 use Rattle.isort_find.specs.Pending.{PendingState}
-use Rattle.isort_find.specs.Stand.{IsInside, BindsFrom}
+use Rattle.isort_find.specs.Position.{IsInside, BindsFrom}
 use Rattle.isort_find.specs.Private.CursorMoves.{cursor_after}
 use Rattle.isort_find.specs.Private.LooksAtBindings.{Looks, PassesBindings, TakesNew}
 use Rattle.isort_find.specs.declared.options.FindOptions.{FindOptions}

@@ -9,7 +9,7 @@ use Rattle.isort_find.specs.Found.{firsts, ends_top, counted_lines, of_all, befo
 use Rattle.isort_find.specs.Lexing.{LineAt}
 use Rattle.isort_find.specs.Cursor.{CursorState, BeginsNext, IsAfter, HasStopped}
 use Rattle.isort_find.specs.Pending.{pending_after}
-use Rattle.isort_find.specs.Stand.{IsInside, EndsInFaultAt}
+use Rattle.isort_find.specs.Position.{IsInside, EndsInFaultAt}
 use Rattle.isort_find.specs.Private.CursorMoves.{cursor_before}
 use Rattle.isort_find.specs.declared.options.FindOptions.{FindOptions}
 use Rattle.isort_find.specs.declared.pending.LineStart.{LineStart}

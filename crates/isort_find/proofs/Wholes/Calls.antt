@@ -3,12 +3,12 @@ use Rattle.std.proofs.Common.{◌≡◌, ℕ, ◌+◌, ◌⊎◌, None, List, in
 use Rattle.py_lines.specs.declared.fault.Fault.{Fault}
 use Rattle.py_imports.specs.Bound.{Bound}
 use Rattle.isort_find.specs.Found.{IsFound}
-use Rattle.isort_find.specs.Stand.{phase_in, MeetsEndAt, EndsInFaultAt}
+use Rattle.isort_find.specs.Position.{phase_in, MeetsEndAt, EndsInFaultAt}
 use Rattle.isort_find.specs.Finder.{FinderState, HasFound, HasReached, FindsEnd, FindsFault, finder_text, options_of}
 use Rattle.isort_find.specs.Private.FinderSteps.{GoesThroughCall}
 use Rattle.isort_find.specs.declared.options.FindOptions.{FindOptions}
-use Rattle.isort_find.specs.declared.walker.Stand.{Stand}
-use Rattle.isort_find.specs.declared.walker.Stand.TheVariants as stand
+use Rattle.isort_find.specs.declared.walker.Position.{Position}
+use Rattle.isort_find.specs.declared.walker.Position.TheVariants as position
 use Rattle.isort_find.specs.declared.walker.Phase.{Phase}
 use Rattle.isort_find.specs.declared.walker.Phase.TheVariants as phase
 
@@ -28,31 +28,31 @@ goes_start i = record {
 }
 
 -- where a finder has got that has met the end
-at_end : (f : FinderState) (bounds : List Bound) (s : Stand) → phase_in s ≡ phase.End → HasReached f bounds s → IsFound (finder_text f) (options_of f) bounds None × MeetsEndAt (finder_text f) (options_of f) f.cursor.offset
-at_end f bounds (stand.End passed) at h = h
-at_end f bounds (stand.Between skip) at h = absurd cc
-at_end f bounds (stand.Unread start skip) at h = absurd cc
-at_end f bounds (stand.Within pending) at h = absurd cc
-at_end f bounds (stand.Fault fault) at h = absurd cc
+at_end : (f : FinderState) (bounds : List Bound) (s : Position) → phase_in s ≡ phase.End → HasReached f bounds s → IsFound (finder_text f) (options_of f) bounds None × MeetsEndAt (finder_text f) (options_of f) f.cursor.offset
+at_end f bounds (position.End passed) at h = h
+at_end f bounds (position.Between skip) at h = absurd cc
+at_end f bounds (position.Unread start skip) at h = absurd cc
+at_end f bounds (position.Within pending) at h = absurd cc
+at_end f bounds (position.Fault fault) at h = absurd cc
 
 -- a finder that has met a fault stands there
-pub at_fault : (s : Stand) (fault : Fault) → phase_in s ≡ phase.Fault fault → s ≡ stand.Fault fault
-at_fault (stand.Fault other) fault at = let same : other ≡ fault = cc in ap (λ (f : Fault). stand.Fault f) same
-at_fault (stand.Between skip) fault at = absurd cc
-at_fault (stand.Unread start skip) fault at = absurd cc
-at_fault (stand.Within pending) fault at = absurd cc
-at_fault (stand.End passed) fault at = absurd cc
+pub at_fault : (s : Position) (fault : Fault) → phase_in s ≡ phase.Fault fault → s ≡ position.Fault fault
+at_fault (position.Fault other) fault at = let same : other ≡ fault = cc in ap (λ (f : Fault). position.Fault f) same
+at_fault (position.Between skip) fault at = absurd cc
+at_fault (position.Unread start skip) fault at = absurd cc
+at_fault (position.Within pending) fault at = absurd cc
+at_fault (position.End passed) fault at = absurd cc
 
 -- a call that ends elsewhere than it began was open there
-not_met : (i f : FinderState) (met other : Phase) → (phase_in i.stand ≡ phase.Open) ⊎ (f ≡ i) → phase_in f.stand ≡ met → phase_in i.stand ≡ other → (phase.Open ≡ other → ⊥) → met ≡ other
+not_met : (i f : FinderState) (met other : Phase) → (phase_in i.position ≡ phase.Open) ⊎ (f ≡ i) → phase_in f.position ≡ met → phase_in i.position ≡ other → (phase.Open ≡ other → ⊥) → met ≡ other
 not_met i f met other (inl opened) at is differs = absurd (differs (sym opened ∙ is))
-not_met i f met other (inr same) at is differs = sym at ∙ ap (λ (x : FinderState). phase_in x.stand) same ∙ is
+not_met i f met other (inr same) at is differs = sym at ∙ ap (λ (x : FinderState). phase_in x.position) same ∙ is
 
 -- the end was met
-pub goes_to_end : (i f : FinderState) → GoesThroughCall i f → phase_in f.stand ≡ phase.End → FindsEnd i f
+pub goes_to_end : (i f : FinderState) → GoesThroughCall i f → phase_in f.position ≡ phase.End → FindsEnd i f
 goes_to_end i f goes at =
     let task = goes.keeps.task in
-    let met : (bounds : List Bound) → HasFound i bounds → IsFound (finder_text i) (options_of i) bounds None × MeetsEndAt (finder_text i) (options_of i) f.cursor.offset = λ bounds h. subst (λ (t : List ℕ). IsFound t (options_of i) bounds None × MeetsEndAt t (options_of i) f.cursor.offset) task.text (subst (λ (o : FindOptions). IsFound (finder_text f) o bounds None × MeetsEndAt (finder_text f) o f.cursor.offset) task.options (at_end f bounds f.stand at (goes.keeps.kept bounds h).reached)) in
+    let met : (bounds : List Bound) → HasFound i bounds → IsFound (finder_text i) (options_of i) bounds None × MeetsEndAt (finder_text i) (options_of i) f.cursor.offset = λ bounds h. subst (λ (t : List ℕ). IsFound t (options_of i) bounds None × MeetsEndAt t (options_of i) f.cursor.offset) task.text (subst (λ (o : FindOptions). IsFound (finder_text f) o bounds None × MeetsEndAt (finder_text f) o f.cursor.offset) task.options (at_end f bounds f.position at (goes.keeps.kept bounds h).reached)) in
     record {
       all = λ bounds h. (met bounds h).0;
       offset = λ bounds h. (met bounds h).1;
@@ -62,10 +62,10 @@ goes_to_end i f goes at =
     }
 
 -- the fault was met
-pub goes_to_fault : (i f : FinderState) (fault : Fault) → GoesThroughCall i f → phase_in f.stand ≡ phase.Fault fault → FindsFault i fault f
+pub goes_to_fault : (i f : FinderState) (fault : Fault) → GoesThroughCall i f → phase_in f.position ≡ phase.Fault fault → FindsFault i fault f
 goes_to_fault i f fault goes at =
     let task = goes.keeps.task in
-    let stands = at_fault f.stand fault at in
+    let stands = at_fault f.position fault at in
     let met : (bounds : List Bound) → HasFound i bounds → EndsInFaultAt (finder_text i) (options_of i) bounds f.cursor.offset fault = λ bounds h. subst (λ (t : List ℕ). EndsInFaultAt t (options_of i) bounds f.cursor.offset fault) task.text (subst (λ (o : FindOptions). EndsInFaultAt (finder_text f) o bounds f.cursor.offset fault) task.options (subst (HasReached f bounds) stands (goes.keeps.kept bounds h).reached)) in
     record {
       all = λ bounds h. (met bounds h).0;

@@ -4,7 +4,7 @@ use Rattle.py_lines.specs.LogicalLine.{LogicalLine}
 use Rattle.py_lines.specs.ScannerState.{ScannerState, Releases}
 use Rattle.py_imports.specs.declared.binding.Binding.{Binding}
 use Rattle.isort_find.specs.Pieces.{PieceFinderState, HasFoundIn, InEachText, HasNoFault, AreAllSettled, IsUndecided, IsNextNew, PieceFinderRunsOut, MeetsFaultIn, piece_finder_state, fed_by, has_ready}
-use Rattle.isort_find.specs.Stand.{phase_in, is_unread, skip_in}
+use Rattle.isort_find.specs.Position.{phase_in, is_unread, skip_in}
 use Rattle.isort_find.specs.Private.CursorMoves.{cursor_before}
 use Rattle.isort_find.specs.Private.Walks.{WalkerState, LooksAhead, ReadsOrLosesLine, TakesOne, TriesLine, after_line, passed_up_to, read_again, walker_state}
 use Rattle.isort_find.specs.declared.error.FindError.{FindError}
@@ -14,11 +14,11 @@ use Rattle.isort_find.specs.declared.walker.Phase.TheVariants as phase
 
 -- the walker of a finder
 abbrev pub walker_of : PieceFinderState → WalkerState
-walker_of f = walker_state f.stand f.cursor
+walker_of f = walker_state f.position f.cursor
 
 -- a finder with another walker
 abbrev pub with_walker : PieceFinderState → WalkerState → PieceFinderState
-with_walker f w = piece_finder_state f.scanning w.stand w.cursor
+with_walker f w = piece_finder_state f.scanning w.position w.cursor
 
 -- this is where the lines end that the scanner has released
 pub record IsNextStart (s : ScannerState) (start : LineStart) : Type 0 where
@@ -31,7 +31,7 @@ ReleasesAny old new = ((old.ready ≡ None) × (new ≡ old)) ⊎ Releases old n
 
 -- the line read last is let go
 pub record LetsLineGo (old new : PieceFinderState) : Type 0 where
-  pub same : new ≡ record old { scanning = new.scanning; stand = after_line old.stand }
+  pub same : new ≡ record old { scanning = new.scanning; position = after_line old.position }
   pub scanner : ReleasesAny old.scanning new.scanning
   pub none_ready : new.scanning.ready ≡ None
   pub some_text : (line : LogicalLine) → old.scanning.ready ≡ Some line → 0 < length line.text
@@ -59,7 +59,7 @@ TriesReady old result new =
 
 -- no line is held that was read, or it ends the top
 abbrev pub IsDrained : PieceFinderState → Type 0
-IsDrained f = (f.scanning.ready ≡ None) ⊎ (phase_in f.stand ≡ phase.End)
+IsDrained f = (f.scanning.ready ≡ None) ⊎ (phase_in f.position ≡ phase.End)
 
 -- Bytes were taken up to a line's end or the piece's, and that line was read. With a line that is ready one byte more may
 -- be held, which wasn't looked at yet.
@@ -91,37 +91,37 @@ TakesBytesOf old piece (Err error.Memory) new = TakesNothing old new
 
 -- the line that ends the top was read, or the whole piece was taken and no line is held that was read
 abbrev pub HasTakenAll : List ℕ → ℕ → PieceFinderState → Type 0
-HasTakenAll piece n f = (phase_in f.stand ≡ phase.End) ⊎ ((n ≡ length piece) × (f.scanning.ready ≡ None))
+HasTakenAll piece n f = (phase_in f.position ≡ phase.End) ⊎ ((n ≡ length piece) × (f.scanning.ready ≡ None))
 
 -- nothing is ready, and there is more to take, or a line is held that was read
 pub record IsToGoOn (f : PieceFinderState) (more : Bool) : Type 0 where
-  pub is_open : phase_in f.stand ≡ phase.Open
+  pub is_open : phase_in f.position ≡ phase.Open
   pub none_ready : has_ready f ≡ false
   pub either : (more ≡ true) ⊎ ((line : LogicalLine) × (f.scanning.ready ≡ Some line))
 
 -- the end or a fault was met, or there is no more to take and no line is held that was read
 abbrev pub IsToStop : PieceFinderState → Bool → Type 0
-IsToStop f more = ¬ (phase_in f.stand ≡ phase.Open) ⊎ ((more ≡ false) × (f.scanning.ready ≡ None))
+IsToStop f more = ¬ (phase_in f.position ≡ phase.Open) ⊎ ((more ≡ false) × (f.scanning.ready ≡ None))
 
 -- more was passed over after the top
 abbrev pub with_passed : PieceFinderState → ℕ → PieceFinderState
-with_passed f n = record f { stand = passed_up_to f.stand (fed_by f + n) }
+with_passed f n = record f { position = passed_up_to f.position (fed_by f + n) }
 
 -- the cursor goes to where the next line begins, of which nothing was looked at
 pub record StandsNext (old new : PieceFinderState) : Type 0 where
   pub start : LineStart
   pub here : IsNextStart old.scanning start
-  pub fresh : skip_in old.stand ≡ 0
+  pub fresh : skip_in old.position ≡ 0
   pub same : new ≡ record old { cursor = cursor_before old.cursor start }
 
 -- the same, or it stands there
 abbrev pub MayStandNext : PieceFinderState → PieceFinderState → Type 0
-MayStandNext old new = StandsNext old new ⊎ ((¬ (skip_in old.stand ≡ 0)) × (new ≡ old))
+MayStandNext old new = StandsNext old new ⊎ ((¬ (skip_in old.position ≡ 0)) × (new ≡ old))
 
 -- before the end and a fault, the line read last is let go
 abbrev pub MayLetLineGo : PieceFinderState → PieceFinderState → Type 0
 MayLetLineGo old new =
-    ((phase_in old.stand ≡ phase.Open) × LetsLineGo old new) ⊎ ((¬ (phase_in old.stand ≡ phase.Open)) × (new ≡ old))
+    ((phase_in old.position ≡ phase.Open) × LetsLineGo old new) ⊎ ((¬ (phase_in old.position ≡ phase.Open)) × (new ≡ old))
 
 -- nothing is ready: the line read last is let go, and the cursor goes to where the next line begins, or stands there
 pub record Rests (old new : PieceFinderState) : Type 0 where
@@ -132,14 +132,14 @@ pub record Rests (old new : PieceFinderState) : Type 0 where
 -- the line that is ready was read, or memory ran out for it; if none is, it comes next
 abbrev pub ReadsReady : PieceFinderState → Result (Unit {0}) FindError → PieceFinderState → Type 0
 ReadsReady old result new =
-    ((old.scanning.ready ≡ None) × (result ≡ Ok tt) × (new ≡ record old { stand = read_again old.stand }))
+    ((old.scanning.ready ≡ None) × (result ≡ Ok tt) × (new ≡ record old { position = read_again old.position }))
     ⊎ HandsLine ReadsOrLosesLine old result new
 
 -- the line that was left unread was read, if one was
 abbrev pub ReadsUnread : PieceFinderState → Result (Unit {0}) FindError → PieceFinderState → Type 0
 ReadsUnread old result new =
-    ((is_unread old.stand ≡ true) × ReadsReady old result new)
-    ⊎ ((is_unread old.stand ≡ false) × (result ≡ Ok tt) × (new ≡ old))
+    ((is_unread old.position ≡ true) × ReadsReady old result new)
+    ⊎ ((is_unread old.position ≡ false) × (result ≡ Ok tt) × (new ≡ old))
 
 -- after a binding, or where none is left, those are passed over whose keys were given
 abbrev pub LooksOn : WalkerState → Result (Option Binding) FindError → WalkerState → Type 0

@@ -2,7 +2,7 @@
 use Rattle.std.proofs.Common.{Option, Result, sym, ap, ◌∙◌, subst}
 use Rattle.py_imports.specs.declared.binding.Binding.{Binding}
 use Rattle.isort_find.specs.Finder.{FinderState, GivesNext}
-use Rattle.isort_find.specs.Stand.{phase_in}
+use Rattle.isort_find.specs.Position.{phase_in}
 use Rattle.isort_find.specs.declared.error.FindError.{FindError}
 use Rattle.isort_find.proofs.Wholes.Calls.{goes_start, is_end_phase, goes_to_end, goes_to_fault}
 use Rattle.isort_find.proofs.finder.Finder.next_import.Goals as goal
@@ -14,11 +14,11 @@ lines-init c = goes_start _
 pub returns : goal.returns
 returns c =
     let last = c.lines.self in
-    let at = ap (λ (f : FinderState). phase_in f.stand) (sym c.self-2.view_is) ∙ sym c.phase.ensures in
+    let at = ap (λ (f : FinderState). phase_in f.position) (sym c.self-2.view_is) ∙ sym c.phase.ensures in
     elim c.match-phase.branch [
       | in-Fault w ↦ record { next = subst (λ (r : Result (Option Binding) FindError). GivesNext c.args.self.now r last) (sym w.result-is) (goes_to_fault c.args.self.now last w.in-Fault.fault c.lines.invariant (at ∙ w.in-Fault.is)) }
       | in-Open w ↦
-          let before = ap (λ (f : FinderState). phase_in f.stand) (sym c.self.view_is) in
-          let ended = is_end_phase (phase_in last.stand) _ _ at before w.in-Open.is (λ e. let t = c.lines-test.ensures.1 e in cc) in
+          let before = ap (λ (f : FinderState). phase_in f.position) (sym c.self.view_is) in
+          let ended = is_end_phase (phase_in last.position) _ _ at before w.in-Open.is (λ e. let t = c.lines-test.ensures.1 e in cc) in
           record { next = subst (λ (r : Result (Option Binding) FindError). GivesNext c.args.self.now r last) (sym w.result-is) (goes_to_end c.args.self.now last c.lines.invariant ended) }
     ]

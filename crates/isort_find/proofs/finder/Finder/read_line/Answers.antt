@@ -8,12 +8,12 @@ use Rattle.isort_find.proofs.finder.Finder.read_line.Goals as goal
 pub returns : goal.returns
 returns c =
     let s = c.self.inside in
-    let f = finder_state s.lines s.walker.stand s.walker.cursor in
+    let f = finder_state s.lines s.walker.position s.walker.cursor in
     let old = c.args.self.now in
     let laws = c.known_laws.ensures.settled.ends.laws in
     let about : IsAbout old f c.start-start.result c.options.result = record {
       was_open = c.requires.is_open;
-      back = goes_back old.reader old.stand old.cursor f c.requires.is_open c.requires.none_left (subst (GoesBack old) (sym c.self.view_is) c.in_ok-go_back.ensures.ok);
+      back = goes_back old.reader old.position old.cursor f c.requires.is_open c.requires.none_left (subst (GoesBack old) (sym c.self.view_is) c.in_ok-go_back.ensures.ok);
       offset = c.start-start.ensures.offset ∙ ap (λ (x : FinderState). x.reader.place) (sym c.self.view_is);
       number = c.start-start.ensures.line ∙ ap (λ (x : FinderState). x.reader.line) (sym c.self.view_is);
       options_are = c.options.ensures;

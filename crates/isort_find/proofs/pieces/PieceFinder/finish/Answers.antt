@@ -2,7 +2,7 @@
 use Rattle.std.proofs.Common.{Err, sym, ap, ◌∙◌, subst}
 use Rattle.py_lines.specs.ScannerState.{ScannerState, Finishes}
 use Rattle.py_lines.specs.declared.fault.LexError.{LexError}
-use Rattle.isort_find.specs.Stand.{phase_in}
+use Rattle.isort_find.specs.Position.{phase_in}
 use Rattle.isort_find.specs.Pieces.{PieceFinderState, piece_finder_state, PieceFinderRunsOut, EndsInFault, EndsFeeding}
 use Rattle.isort_find.specs.Private.PieceSteps.{LetsLineGo, IsNextStart, TriesReady}
 use Rattle.isort_find.specs.declared.error.FindError.{FindError}
@@ -14,7 +14,7 @@ use Rattle.isort_find.proofs.pieces.PieceFinder.finish.Goals as goal
 pub returns-in-Ok : goal.returns-in-Ok
 returns-in-Ok c =
     let old = c.args.self.now in
-    let opened = ap (λ (f : PieceFinderState). phase_in f.stand) (sym c.self.view_is) ∙ sym c.phase.ensures ∙ c.in-Open.is in
+    let opened = ap (λ (f : PieceFinderState). phase_in f.position) (sym c.self.view_is) ∙ sym c.phase.ensures ∙ c.in-Open.is in
     let gone = has_let_go old _ opened c.requires.none_ready (yet_open old opened c.requires.open_yet) (subst (LetsLineGo old) (sym c.self-2.view_is) c.let_go.ensures) in
     let tries = subst (λ (g : PieceFinderState). TriesReady (record g { scanning = c.finish.new.self }) c.try_line.result c.try_line.new.self) gone.is c.try_line.ensures in
     record { finishes = ends_tried c.known_laws.ensures.settled old c.self-2.inside.scanner gone.begins c.finish.new.self c.in-Ok.ensures.finishes c.try_line.new.self c.try_line.result tries }
@@ -22,19 +22,19 @@ returns-in-Ok c =
 pub returns-in-Err-Fault : goal.returns-in-Err-Fault
 returns-in-Err-Fault c =
     let old = c.args.self.now in
-    let opened = ap (λ (f : PieceFinderState). phase_in f.stand) (sym c.self.view_is) ∙ sym c.phase.ensures ∙ c.in-Open.is in
+    let opened = ap (λ (f : PieceFinderState). phase_in f.position) (sym c.self.view_is) ∙ sym c.phase.ensures ∙ c.in-Open.is in
     let gone = has_let_go old _ opened c.requires.none_ready (yet_open old opened c.requires.open_yet) (subst (LetsLineGo old) (sym c.self-2.view_is) c.let_go.ensures) in
     let here = subst (λ (g : PieceFinderState). IsNextStart g.scanning c.start-start.result) (sym c.self-2.view_is) c.start-start.ensures in
     let ends = subst (λ (e : LexError). Finishes c.self-2.inside.scanner (Err e) c.finish.new.self) c.in-Err-Fault.field-0-is c.in-Err-Fault.ensures.finishes in
     let met = ends_lexical c.known_laws.ensures.settled old c.self-2.inside.scanner gone.begins c.finish.new.self c.in-Err-Fault.fault c.start-start.result here ends in
     let same = failed_is old c.self-2.inside.walker c.fail.new.self c.self-2.inside.scanner c.finish.new.self c.start-start.result c.in-Err-Fault.fault gone.is c.fail.ensures.kept in
-    record { finishes = subst (λ (e : FindError). EndsFeeding old (Err e) (piece_finder_state c.finish.new.self c.fail.new.self.stand c.fail.new.self.cursor)) (sym c.fail.ensures.answer) (subst (EndsInFault old c.in-Err-Fault.fault) (sym same) met) }
+    record { finishes = subst (λ (e : FindError). EndsFeeding old (Err e) (piece_finder_state c.finish.new.self c.fail.new.self.position c.fail.new.self.cursor)) (sym c.fail.ensures.answer) (subst (EndsInFault old c.in-Err-Fault.fault) (sym same) met) }
 
 pub returns-in-Err-Memory : goal.returns-in-Err-Memory
 returns-in-Err-Memory c =
     let old = c.args.self.now in
-    let opened = ap (λ (f : PieceFinderState). phase_in f.stand) (sym c.self.view_is) ∙ sym c.phase.ensures ∙ c.in-Open.is in
+    let opened = ap (λ (f : PieceFinderState). phase_in f.position) (sym c.self.view_is) ∙ sym c.phase.ensures ∙ c.in-Open.is in
     let gone = has_let_go old _ opened c.requires.none_ready (yet_open old opened c.requires.open_yet) (subst (LetsLineGo old) (sym c.self-2.view_is) c.let_go.ensures) in
     let short = subst (λ (e : LexError). Finishes c.self-2.inside.scanner (Err e) c.finish.new.self) c.in-Err-Memory.field-0-is c.in-Err-Memory.ensures.finishes in
     let w = c.self-2.inside.walker in
-    record { finishes = subst (PieceFinderRunsOut old) (sym (ap (λ (s : ScannerState). piece_finder_state s w.stand w.cursor) short.same ∙ gone.is)) (takes_no_byte old c.self-2.inside.scanner gone.begins).keeps }
+    record { finishes = subst (PieceFinderRunsOut old) (sym (ap (λ (s : ScannerState). piece_finder_state s w.position w.cursor) short.same ∙ gone.is)) (takes_no_byte old c.self-2.inside.scanner gone.begins).keeps }

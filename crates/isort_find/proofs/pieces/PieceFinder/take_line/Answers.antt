@@ -34,7 +34,7 @@ returns-in-Err-Fault c =
     let meets = subst (λ (e : LexError). Feeds c.self.inside.scanner c.args.piece.now (Err e) c.feed.new.self) c.in-Err-Fault.field-0-is c.in-Err-Fault.ensures.feeds in
     let met = meets_fault c.known_laws.ensures.settled c.known_laws.ensures.each_lexed old c.self.inside.scanner gone.begins c.feed.new.self c.args.piece.now c.in-Err-Fault.fault c.start-start.result here meets in
     let same = failed_is old c.self.inside.walker c.fail.new.self c.self.inside.scanner c.feed.new.self c.start-start.result c.in-Err-Fault.fault gone.is c.fail.ensures.kept in
-    subst (λ (e : FindError). TakesBytesOf old c.args.piece.now (Err e) (piece_finder_state c.feed.new.self c.fail.new.self.stand c.fail.new.self.cursor)) (sym c.fail.ensures.answer) (subst (MeetsFaultIn old c.args.piece.now c.in-Err-Fault.fault) (sym same) met)
+    subst (λ (e : FindError). TakesBytesOf old c.args.piece.now (Err e) (piece_finder_state c.feed.new.self c.fail.new.self.position c.fail.new.self.cursor)) (sym c.fail.ensures.answer) (subst (MeetsFaultIn old c.args.piece.now c.in-Err-Fault.fault) (sym same) met)
 
 pub returns-in-Err-Memory : goal.returns-in-Err-Memory
 returns-in-Err-Memory c =
@@ -42,4 +42,4 @@ returns-in-Err-Memory c =
     let gone = has_let_go old _ c.requires.is_open c.requires.none_ready c.requires.open_yet (subst (LetsLineGo old) (sym c.self.view_is) c.let_go.ensures) in
     let short = subst (λ (e : LexError). Feeds c.self.inside.scanner c.args.piece.now (Err e) c.feed.new.self) c.in-Err-Memory.field-0-is c.in-Err-Memory.ensures.feeds in
     let w = c.self.inside.walker in
-    subst (TakesNothing old) (sym (ap (λ (s : ScannerState). piece_finder_state s w.stand w.cursor) short.same ∙ gone.is)) (takes_no_byte old c.self.inside.scanner gone.begins)
+    subst (TakesNothing old) (sym (ap (λ (s : ScannerState). piece_finder_state s w.position w.cursor) short.same ∙ gone.is)) (takes_no_byte old c.self.inside.scanner gone.begins)

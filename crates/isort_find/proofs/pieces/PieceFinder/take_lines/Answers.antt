@@ -49,5 +49,5 @@ returns-in-Err-Memory-2-clause-takes c =
     let bytes = take (length c.args.piece.now - c.lines.taken) (drop c.lines.taken c.args.piece.now) in
     let keeps = subst (λ (e : FindError). TakesBytesOf c.lines.self bytes (Err e) last) c.in-Err-Memory.field-0-is c.in-Err-Memory.ensures in
     let all = lost_next c.args.self.now c.lines.self last c.args.piece.now c.lines.taken c.start-start.result c.if-taken-eq0.false c.lines.invariant.takes keeps in
-    let same = ap (λ (x : WalkerState). piece_finder_state c.self.inside.scanner x.stand x.cursor) c.lose.ensures ∙ ap (λ (f : PieceFinderState). lost f c.start-start.result) c.self.view_is in
+    let same = ap (λ (x : WalkerState). piece_finder_state c.self.inside.scanner x.position x.cursor) c.lose.ensures ∙ ap (λ (f : PieceFinderState). lost f c.start-start.result) c.self.view_is in
     subst (TakesLines c.args.self.now c.args.piece.now c.lines.taken) (sym same) all

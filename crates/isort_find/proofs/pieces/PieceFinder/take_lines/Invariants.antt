@@ -2,7 +2,7 @@
 use Rattle.std.proofs.Common.{◌≡◌, ◌+◌, ◌-◌, ◌*◌, ◌≤◌, false, length}
 use Rattle.py_lines.specs.ScannerState.{ready_lines}
 use Rattle.isort_find.specs.Pieces.{fed_by, has_ready}
-use Rattle.isort_find.specs.Stand.{phase_in}
+use Rattle.isort_find.specs.Position.{phase_in}
 use Rattle.isort_find.specs.declared.walker.Phase.TheVariants as phase
 use Rattle.isort_find.proofs.Fed.MoreLines.{HasTakenBytes}
 use Rattle.isort_find.proofs.pieces.PieceFinder.take_lines.Given as goal
@@ -12,7 +12,7 @@ invariant-lines l = record {
   takes : HasTakenBytes l.initial.self l.piece l.taken l.self;
   within : l.taken ≤ length l.piece;
   fed : fed_by l.self ≡ fed_by l.initial.self + l.taken;
-  is_open : phase_in l.self.stand ≡ phase.Open;
+  is_open : phase_in l.self.position ≡ phase.Open;
   none_ready : has_ready l.self ≡ false;
   open_yet : l.self.scanning.ended ≡ false;
 }

@@ -12,7 +12,7 @@ returns-in-Err c =
     let s = c.self.inside in
     let read = subst (λ (r : Result (Unit {0}) FindError). ReadsUnread c.args.self.now r c.read_unread.new.self) c.in_ok-read_unread.was c.read_unread.ensures in
     record {
-      mid = piece_finder_state s.scanner s.walker.stand s.walker.cursor;
+      mid = piece_finder_state s.scanner s.walker.position s.walker.cursor;
       read = Ok tt;
       reads = subst (ReadsUnread c.args.self.now (Ok tt)) (sym c.self.view_is) read;
       takes = record {

@@ -4,7 +4,7 @@ use Rattle.std.proofs.Math.Seq.{drop-nil}
 use Rattle.py_lines.specs.UnitLine.{line_in}
 use Rattle.isort_find.specs.Found.{ends_top}
 use Rattle.isort_find.specs.Pending.{pending_state}
-use Rattle.isort_find.specs.Stand.{skip_in}
+use Rattle.isort_find.specs.Position.{skip_in}
 use Rattle.isort_find.specs.Private.LineSteps.{binding}
 use Rattle.isort_find.specs.Private.Walks.{StandsAtNew}
 use Rattle.isort_find.specs.declared.options.FindOptions.{FindOptions}
@@ -19,7 +19,7 @@ returns-then-is_plain c = record {
       refl,
       record {
         rest = pending_state c.args.start 0 [];
-        passes = record { dropped = []; split = drop-nil (skip_in c.args.self.now.stand); known = refl; start = refl; taken = omega arith };
+        passes = record { dropped = []; split = drop-nil (skip_in c.args.self.now.position); known = refl; start = refl; taken = omega arith };
         same = c.pass_by.ensures;
       },
     );

@@ -11,36 +11,36 @@ use Rattle.isort_find.specs.Found.{firsts, ends_top, IsFound}
 use Rattle.isort_find.specs.Lexing.{byte_count, LineAt}
 use Rattle.isort_find.specs.Pending.{PendingState}
 use Rattle.isort_find.specs.declared.options.FindOptions.{FindOptions}
-use Rattle.isort_find.specs.declared.walker.Stand.{Stand}
-use Rattle.isort_find.specs.declared.walker.Stand.TheVariants as stand
+use Rattle.isort_find.specs.declared.walker.Position.{Position}
+use Rattle.isort_find.specs.declared.walker.Position.TheVariants as position
 use Rattle.isort_find.specs.declared.walker.Phase.{Phase}
 use Rattle.isort_find.specs.declared.walker.Phase.TheVariants as phase
 
 -- whether a finder goes on, or has met the end of what counts or the text's fault
-abbrev pub phase_in : Stand → Phase
-phase_in (stand.End passed) = phase.End
-phase_in (stand.Fault fault) = phase.Fault fault
+abbrev pub phase_in : Position → Phase
+phase_in (position.End passed) = phase.End
+phase_in (position.Fault fault) = phase.Fault fault
 phase_in other = phase.Open
 
 -- how many bindings of the next logical line were looked at
-abbrev pub skip_in : Stand → ℕ
-skip_in (stand.Between skip) = skip
-skip_in (stand.Unread start skip) = skip
+abbrev pub skip_in : Position → ℕ
+skip_in (position.Between skip) = skip
+skip_in (position.Unread start skip) = skip
 skip_in other = 0
 
 -- the bindings that are left of the logical line read last
-abbrev pub left_in : Stand → List Bound
-left_in (stand.Within pending) = pending.left
+abbrev pub left_in : Position → List Bound
+left_in (position.Within pending) = pending.left
 left_in other = []
 
 -- the byte up to which text was passed over after the end
-abbrev pub passed_in : Stand → ℕ
-passed_in (stand.End passed) = passed
+abbrev pub passed_in : Position → ℕ
+passed_in (position.End passed) = passed
 passed_in other = 0
 
 -- whether a logical line was left unread
-abbrev pub is_unread : Stand → Bool
-is_unread (stand.Unread start skip) = true
+abbrev pub is_unread : Position → Bool
+is_unread (position.Unread start skip) = true
 is_unread other = false
 
 -- whether any are left
@@ -49,9 +49,9 @@ are_left [] = false
 are_left (b ∷ bs) = true
 
 -- whether something is to be given: a line that was left unread, or bindings that are left
-abbrev pub ready_in : Stand → Bool
-ready_in (stand.Unread start skip) = true
-ready_in (stand.Within pending) = are_left pending.left
+abbrev pub ready_in : Position → Bool
+ready_in (position.Unread start skip) = true
+ready_in (position.Within pending) = are_left pending.left
 ready_in other = false
 
 -- Inside this logical line of the text, which comes after these lines: some of its bindings were looked at, and the others
