@@ -16,6 +16,8 @@ pub mod LineEnd
 pub mod Gathered
 pub mod GroupOrder
 pub mod Packing
+pub mod Writes
+pub mod LayoutTexts
 pub mod Wrap
 pub mod WrapMode
 pub mod Parts

@@ -5,6 +5,7 @@ ghost use Rattle.isort_sort.specs.Private.Arranged.{pieces_left, text_left, IsAr
 ghost use Rattle.isort_sort.specs.Private.Found.{blanks_of};
 ghost use Rattle.isort_sort.specs.Private.FoundValues.{found_value};
 ghost use Rattle.isort_sort.specs.Private.LineEnd.{end_bytes};
+ghost use Rattle.isort_sort.specs.Private.Writes.{Writes};
 
 use crate::finder::FoundBlock;
 use crate::group::{Group, group_members};
@@ -40,7 +41,8 @@ fn asked_lines(settings: &Settings, block: &FoundBlock) -> usize
 
 /// How many blank lines are written after a block: none where its last line has no line end.
 fn blank_lines(settings: &Settings, block: &FoundBlock) -> usize
-    ensures { result ≡ (if block.now.ended then blanks_of (values settings.now) (found_value block.now) else 0) }
+    ensures { result ≡ (if block.now.ended then blanks_of (values settings.now)
+        (found_value block.now) else 0) }
 {
     if block.ended {
         asked_lines(settings, block)
@@ -76,7 +78,8 @@ pub(crate) fn arrange<'t>(
     block: FoundBlock,
 ) -> Result<Arrangement<'t>, AllocError>
     ensures arranged { IfOk result (λ arrangement.
-        IsArranged (values settings.now) (end_bytes end) (found_value block) (text_left arrangement)) }
+        IsArranged (values settings.now) (end_bytes end) (found_value block)
+        (text_left arrangement)) }
     ensures ready { IfOk result (λ arrangement. IsReady arrangement) }
 {
     let blanks = blank_lines(settings, &block);
@@ -98,7 +101,7 @@ impl Arrangement<'_> {
     fn push_next(&mut self, out: &mut String) -> Result<bool, AllocError>
         requires { IsReady self.old }
         ensures ready { OnOk result (IsReady self.new) }
-        ensures piece { OnOk result ((piece : List ℕ) × (string_bytes out.new ≡ string_bytes out.old ++ piece)
+        ensures piece { OnOk result ((piece : List ℕ) × Writes out.old out.new piece
             × (text_left self.old ≡ piece ++ text_left self.new)) }
         ensures more { IfOk result (λ more. MatchBool more
             (pieces_left self.new < pieces_left self.old) (text_left self.old ≡ [])) }

@@ -66,7 +66,9 @@ pub(crate) fn says_nothing(unit: &Unit<'_>) -> bool
 
 /// Puts what a comment says after `comments`, if it says something.
 fn push_content(alloc: Global, comments: &mut Vec<String>, comment: &str) -> Result<(), AllocError>
-    ensures { OnOk result (map string_bytes comments.new.items ≡ map string_bytes comments.old.items ++ content_of comment.now) }
+    ensures { OnOk result
+        (map string_bytes comments.new.items
+        ≡ map string_bytes comments.old.items ++ content_of comment.now) }
 {
     let content = content(comment);
     if content.is_empty() {
@@ -77,7 +79,8 @@ fn push_content(alloc: Global, comments: &mut Vec<String>, comment: &str) -> Res
 
 /// The line's own comments: what each says, without the empty ones.
 pub(crate) fn own_comments(alloc: Global, unit: &Unit<'_>) -> Result<Vec<String>, AllocError>
-    ensures { IfOk result (λ comments. map string_bytes comments.items ≡ own_comments (line_in unit.now)) }
+    ensures { IfOk result
+        (λ comments. map string_bytes comments.items ≡ own_comments (line_in unit.now)) }
 {
     let mut comments = Vec::new(alloc);
     'tokens: for (place, token) in unit.tokens.iter().enumerate() {
@@ -90,7 +93,8 @@ pub(crate) fn own_comments(alloc: Global, unit: &Unit<'_>) -> Result<Vec<String>
 
 /// The line's comments as they are written, with `#`.
 pub(crate) fn comment_texts(alloc: Global, unit: &Unit<'_>) -> Result<Vec<String>, AllocError>
-    ensures { IfOk result (λ comments. map string_bytes comments.items ≡ comment_texts (line_in unit.now)) }
+    ensures { IfOk result
+        (λ comments. map string_bytes comments.items ≡ comment_texts (line_in unit.now)) }
 {
     let mut comments = Vec::new(alloc);
     'tokens: for (place, token) in unit.tokens.iter().enumerate() {

@@ -35,8 +35,10 @@ use py_lines::laws::{
 
 /// The statements of a block have one order.
 pub fn one_order_of_statements()
-    ensures some { (v : Values) (members : List Member) → (statements : List Statement) × AreStatements v members statements }
-    ensures one { (v : Values) (members : List Member) (a b : List Statement) → AreStatements v members a → AreStatements v members b → a ≡ b }
+    ensures some { (v : Values) (members : List Member)
+        → (statements : List Statement) × AreStatements v members statements }
+    ensures one { (v : Values) (members : List Member) (a b : List Statement)
+        → AreStatements v members a → AreStatements v members b → a ≡ b }
 {
     modules_are_totally_ordered();
     names_are_totally_ordered();
@@ -44,8 +46,10 @@ pub fn one_order_of_statements()
 
 /// The items of a statement have one order.
 pub fn one_order_of_items()
-    ensures some { (v : Values) (members : List Member) (s : Statement) → (items : List Item) × AreItemsOf v members s items }
-    ensures one { (v : Values) (members : List Member) (s : Statement) (a b : List Item) → AreItemsOf v members s a → AreItemsOf v members s b → a ≡ b }
+    ensures some { (v : Values) (members : List Member) (s : Statement)
+        → (items : List Item) × AreItemsOf v members s items }
+    ensures one { (v : Values) (members : List Member) (s : Statement) (a b : List Item)
+        → AreItemsOf v members s a → AreItemsOf v members s b → a ≡ b }
 {
     modules_are_totally_ordered();
     names_are_totally_ordered();
@@ -58,11 +62,14 @@ pub fn written_blocks_stay()
     ensures laid { (v : Values) (indentation : List ℕ) (members : List Member) (laid : List Laid)
         → AreLaid v indentation members laid
         → AreLaid v indentation (map as_member laid) (map with_joined_comments laid) }
-    ensures first { (v : Values) (indentation : List ℕ) (members : List Member) (s : Laid) (ss : List Laid)
+    ensures first { (v : Values) (indentation : List ℕ) (members : List Member) (s : Laid)
+        (ss : List Laid)
         → AreLaid v indentation members (s ∷ ss)
-        → AreLaid v indentation (map as_member (without_above s ∷ ss)) (map with_joined_comments (without_above s ∷ ss)) }
+        → AreLaid v indentation (map as_member (without_above s ∷ ss))
+        (map with_joined_comments (without_above s ∷ ss)) }
     ensures lines { (v : Values) (indentation : List ℕ) (laid : List Laid)
-        → block_lines v indentation (map with_joined_comments laid) ≡ block_lines v indentation laid }
+        → block_lines v indentation (map with_joined_comments laid)
+        ≡ block_lines v indentation laid }
 {
     modules_are_totally_ordered();
     names_are_totally_ordered();
@@ -76,7 +83,8 @@ pub fn blank_lines_after_a_block_stay()
         → blanks_after v new (blanks_after v run kept rows) others ≡ blanks_after v run kept rows }
     ensures as_many { (v : Values) (run new : Run) (kept : ℕ) (row : Row) (rows others : List Row)
         → new.first.indentation ≡ run.first.indentation → asked_by others ≡ Some as_many
-        → blanks_after v new (blanks_after v run kept (row ∷ rows)) others ≡ blanks_after v run kept (row ∷ rows) }
+        → blanks_after v new (blanks_after v run kept (row ∷ rows)) others
+        ≡ blanks_after v run kept (row ∷ rows) }
 {}
 
 /// The comments of a line are not empty and have no space at their ends. Such comments, joined and written, are read back as
@@ -92,7 +100,8 @@ pub fn joined_comments_are_read_back()
 /// spaces, tabs and form feeds, and its members have names that are words, and comments without line ends. So does the line
 /// end that is written.
 pub fn blocks_are_read()
-    ensures blocks { (text : List ℕ) (lines : List LogicalLine) (cut : Cut) → HasBlocks text lines cut → AreReadBlocks cut }
+    ensures blocks { (text : List ℕ) (lines : List LogicalLine) (cut : Cut)
+        → HasBlocks text lines cut → AreReadBlocks cut }
     ensures end { (text : List ℕ) → IsLineEnd (first_end text) }
 {
     lines_before_a_text();
@@ -106,7 +115,8 @@ pub fn blocks_are_read()
 /// sorted, and that imports what the statement imports, with its joined comments.
 pub fn written_statements_are_read_back()
     ensures { (v : Values) (indentation end : List ℕ) (members : List Member) (laid : List Laid)
-        → list_all is_space indentation ≡ true → IsLineEnd end → AreReadMembers members → AreLaid v indentation members laid
+        → list_all is_space indentation ≡ true → IsLineEnd end → AreReadMembers members
+        → AreLaid v indentation members laid
         → EachIsWritten v indentation end laid }
 {
     letters_are_words();
@@ -120,21 +130,26 @@ pub fn written_statements_are_read_back()
 
 /// Items have one cut into lines.
 pub fn one_cut()
-    ensures some { (v : Values) (indentation m : List ℕ) (items : List Item) → (lines : List (List Item)) × IsCut (fits_line v indentation m) items lines }
-    ensures one { (v : Values) (indentation m : List ℕ) (items : List Item) (a b : List (List Item)) → IsCut (fits_line v indentation m) items a → IsCut (fits_line v indentation m) items b → a ≡ b }
+    ensures some { (v : Values) (indentation m : List ℕ) (items : List Item)
+        → (lines : List (List Item)) × IsCut (fits_line v indentation m) items lines }
+    ensures one { (v : Values) (indentation m : List ℕ) (items : List Item) (a b : List (List Item))
+        → IsCut (fits_line v indentation m) items a → IsCut (fits_line v indentation m) items b
+        → a ≡ b }
 {}
 
 /// Lines that turn sorting neither off nor on, as those of a block, change nothing for the lines after them.
 pub fn silent_lines_switch_nothing()
     ensures { (before lines after : List LogicalLine)
-        → SwitchNothing lines → is_off_after (before ++ (lines ++ after)) ≡ is_off_after (before ++ after) }
+        → SwitchNothing lines
+        → is_off_after (before ++ (lines ++ after)) ≡ is_off_after (before ++ after) }
 {}
 
 /// A logical line imports the same, and is the same to sorting, wherever it stands.
 pub fn moved_lines_stay_the_same()
     ensures imports { (line other : LogicalLine) → IsMoved line other
         → (bounds : List Bound) → Binds line bounds
-        → (others : List Bound) × Binds other others × (map imported_of others ≡ map imported_of bounds) }
+        → (others : List Bound) × Binds other others
+        × (map imported_of others ≡ map imported_of bounds) }
     ensures role { (off : Bool) (line other : LogicalLine) (role : Role)
         → IsMoved line other → HasRole off line role → HasRole off other role }
 {}
@@ -142,7 +157,8 @@ pub fn moved_lines_stay_the_same()
 /// Rows have one cut at blocks.
 pub fn one_cut_at_blocks()
     ensures some { (rows : List Row) → (cut : Cut) × IsCutAtBlocks rows cut }
-    ensures one { (rows : List Row) (a b : Cut) → IsCutAtBlocks rows a → IsCutAtBlocks rows b → a ≡ b }
+    ensures one { (rows : List Row) (a b : Cut) → IsCutAtBlocks rows a → IsCutAtBlocks rows b
+        → a ≡ b }
 {}
 
 /// Where each block is replaced by another of the same indentation, those that come are the blocks.
@@ -152,8 +168,10 @@ pub fn replaced_blocks_are_blocks()
 
 /// A text that is accepted has a sorted text. No text has two.
 pub fn one_sorted_text()
-    ensures some { (text : List ℕ) (v : Values) (lines : List LogicalLine) → IsAccepted text lines → (sorted : List ℕ) × IsSorted text v sorted }
-    ensures one { (text : List ℕ) (v : Values) (a b : List ℕ) → IsSorted text v a → IsSorted text v b → a ≡ b }
+    ensures some { (text : List ℕ) (v : Values) (lines : List LogicalLine) → IsAccepted text lines
+        → (sorted : List ℕ) × IsSorted text v sorted }
+    ensures one { (text : List ℕ) (v : Values) (a b : List ℕ) → IsSorted text v a
+        → IsSorted text v b → a ≡ b }
 {
     one_lexing();
     binds_or_is_bad();
@@ -165,9 +183,12 @@ pub fn one_sorted_text()
 /// isn't skipped, neither is the sorted text. Read as any text is, the sorted text has the blocks of the text back, one for
 /// one and in order, each with the statements, items and comments of its layout.
 pub fn sorted_texts_stay()
-    ensures sorted { (text : List ℕ) (v : Values) (sorted : List ℕ) → IsSorted text v sorted → IsSorted sorted v sorted }
-    ensures laid { (text : List ℕ) (v : Values) (sorted : List ℕ) → IsLaidOut text v sorted → IsLaidOut sorted v sorted }
-    ensures read_back { (text : List ℕ) (v : Values) (sorted : List ℕ) → IsSorted text v sorted → HasBlocksBack text v sorted }
+    ensures sorted { (text : List ℕ) (v : Values) (sorted : List ℕ) → IsSorted text v sorted
+        → IsSorted sorted v sorted }
+    ensures laid { (text : List ℕ) (v : Values) (sorted : List ℕ) → IsLaidOut text v sorted
+        → IsLaidOut sorted v sorted }
+    ensures read_back { (text : List ℕ) (v : Values) (sorted : List ℕ) → IsSorted text v sorted
+        → HasBlocksBack text v sorted }
 {
     one_lexing();
     binds_or_is_bad();
@@ -185,8 +206,10 @@ pub fn sorted_texts_stay()
 
 /// A text that is accepted has a list of blocks. No text has two.
 pub fn one_list_of_blocks()
-    ensures some { (text : List ℕ) (lines : List LogicalLine) → IsAccepted text lines → (blocks : List Block) × AreBlocksOf text blocks }
-    ensures one { (text : List ℕ) (a b : List Block) → AreBlocksOf text a → AreBlocksOf text b → a ≡ b }
+    ensures some { (text : List ℕ) (lines : List LogicalLine) → IsAccepted text lines
+        → (blocks : List Block) × AreBlocksOf text blocks }
+    ensures one { (text : List ℕ) (a b : List Block) → AreBlocksOf text a → AreBlocksOf text b
+        → a ≡ b }
 {
     one_lexing();
     binds_or_is_bad();
@@ -195,8 +218,12 @@ pub fn one_list_of_blocks()
 /// Sorting changes nothing outside blocks. The spans of a text's blocks stand in the text one after another, and the
 /// sorted text is the text with each of these spans replaced by some text.
 pub fn only_blocks_change()
-    ensures apart { (text : List ℕ) (blocks : List Block) → AreBlocksOf text blocks → StandBetween 0 blocks (length text) }
-    ensures rest { (text : List ℕ) (v : Values) (sorted : List ℕ) (blocks : List Block) → IsSorted text v sorted → AreBlocksOf text blocks → (layouts : List (List ℕ)) × (length layouts ≡ length blocks) × (sorted ≡ with_layouts text 0 blocks layouts) }
+    ensures apart { (text : List ℕ) (blocks : List Block) → AreBlocksOf text blocks
+        → StandBetween 0 blocks (length text) }
+    ensures rest { (text : List ℕ) (v : Values) (sorted : List ℕ) (blocks : List Block)
+        → IsSorted text v sorted → AreBlocksOf text blocks
+        → (layouts : List (List ℕ)) × (length layouts ≡ length blocks)
+        × (sorted ≡ with_layouts text 0 blocks layouts) }
 {
     one_list_of_blocks();
 }

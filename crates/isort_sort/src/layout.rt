@@ -1,10 +1,9 @@
 //! The layout of a block.
-ghost use Rattle.std.specs.Prelude.{◌≡◌, ◌≢◌, ◌++◌, [], MatchOption, OnOk, codes, map, max, string_bytes};
-ghost use Rattle.std.specs.List.{join_by};
+ghost use Rattle.std.specs.Prelude.{◌≡◌, ◌≢◌, [], MatchOption, OnOk, map, max, string_bytes};
 ghost use Rattle.isort_settings.specs.Values.{values};
 ghost use Rattle.isort_sort.specs.Private.Group.{group_value};
 ghost use Rattle.isort_sort.specs.Layout.{gap_by_kind, gap_by_comment};
-ghost use Rattle.isort_sort.specs.Private.Packing.{text_with, HasSection};
+ghost use Rattle.isort_sort.specs.Private.Packing.{HasSection};
 ghost use Rattle.isort_sort.specs.Private.Values.{statement_value};
 
 use crate::group::Group;
@@ -84,36 +83,33 @@ pub(crate) struct Layout<'a> {
 
 impl Layout<'_> {
     ghost use Rattle.std.specs.Option.{option_map};
-    ghost use Rattle.isort_sort.specs.Private.Packing.{
-      line_room,
-      packed,
-      cut_texts,
-      wraps,
-      wrapped_text,
-      names_text,
+    ghost use Rattle.isort_sort.specs.Private.LayoutTexts.{
+      above_text,
+      closing_text,
+      further_text,
+      gap_text,
       group_text,
-      gap_lines,
-      next_lines,
+      hanging_in_brackets_text,
+      hanging_text,
+      in_brackets_text,
+      line_end_text,
+      names_text,
+      next_text,
+      one_line_text,
+      opening_text,
+      plain_text,
+      values_by,
+      wrapped_text,
     };
-    ghost use Rattle.isort_sort.specs.Statement.{straight, star};
+    ghost use Rattle.isort_sort.specs.Private.Packing.{line_room, wraps};
     ghost use Rattle.isort_sort.specs.Private.Values.{item_value};
-    ghost use Rattle.isort_sort.specs.Wrapping.{
-      flat,
-      four_spaces,
-      head,
-      hanging,
-      hanging_in_brackets,
-      in_brackets,
-      is_forced,
-      items_text,
-      remark,
-      statement_lines,
-      trailing_comma,
-    };
+    ghost use Rattle.isort_sort.specs.Private.Writes.{Writes};
+    ghost use Rattle.isort_sort.specs.Statement.{straight, star};
+    ghost use Rattle.isort_sort.specs.Wrapping.{is_forced, trailing_comma};
 
     /// How many characters the names on a line of a wrapped statement may have, where they are several.
     fn line_room(&self, module: &str) -> usize
-        ensures { result ≡ line_room (values self.now.settings.now) self.now.indentation.now module.now }
+        ensures { result ≡ line_room (values_by self.now) self.now.indentation.now module.now }
     {
         let room = (self.settings.line_length as usize).saturating_sub(width(
             self.indentation.as_bytes(),
@@ -129,8 +125,7 @@ impl Layout<'_> {
 
     /// Puts the comma after the last name of a wrapped statement after `out`, where the settings ask for it.
     fn push_trailing_comma(&self, out: &mut String) -> Result<(), AllocError>
-        ensures { OnOk result (string_bytes out.new ≡ string_bytes out.old
-            ++ trailing_comma (values self.now.settings.now)) }
+        ensures { OnOk result (Writes out.old out.new (trailing_comma (values_by self.now))) }
     {
         if self.settings.include_trailing_comma {
             out.push_str(",")?;
@@ -140,8 +135,8 @@ impl Layout<'_> {
 
     /// Puts the beginning of a `from` statement after `out`, and `opening`, which its names or its joined comment follow.
     fn push_opening(&self, out: &mut String, module: &str, opening: &str) -> Result<(), AllocError>
-        ensures { OnOk result (string_bytes out.new ≡ string_bytes out.old
-            ++ (self.now.indentation.now ++ (head module.now ++ opening.now))) }
+        ensures { OnOk result
+            (Writes out.old out.new (opening_text self.now module.now opening.now)) }
     {
         out.push_str(self.indentation)?;
         push_head(out, module)?;
@@ -150,8 +145,8 @@ impl Layout<'_> {
 
     /// Puts the joined comment after `out`, where there is one, and the line end.
     fn push_line_end(&self, out: &mut String, comments: &[String]) -> Result<(), AllocError>
-        ensures { OnOk result (string_bytes out.new ≡ string_bytes out.old
-            ++ (remark (map string_bytes comments.now) ++ self.now.end.now)) }
+        ensures { OnOk result
+            (Writes out.old out.new (line_end_text self.now (map string_bytes comments.now))) }
     {
         push_remark(out, comments)?;
         out.push_str(self.end)
@@ -159,12 +154,7 @@ impl Layout<'_> {
 
     /// Puts a statement in brackets from its first line on after `out`: the modes 0 (grid) and 1 (vertical).
     fn push_in_brackets(&self, out: &mut String, names: Names<'_>) -> Result<(), AllocError>
-        ensures { OnOk result (string_bytes out.new ≡ string_bytes out.old
-            ++ text_with self.now.end.now (in_brackets (values self.now.settings.now)
-            self.now.indentation.now names.entry.path.now
-            (remark (map string_bytes names.entry.comments.now))
-            (cut_texts (values self.now.settings.now) self.now.indentation.now names.entry.path.now
-            (map item_value names.entry.items.now)))) }
+        ensures { OnOk result (Writes out.old out.new (in_brackets_text self.now names.entry)) }
     {
         let wrap = Wrap {
             room: self.line_room(names.path),
@@ -188,10 +178,8 @@ impl Layout<'_> {
         between: &'static str,
         items: &[FromItem],
     ) -> Result<(), AllocError>
-        ensures { OnOk result (string_bytes out.new ≡ string_bytes out.old
-            ++ (self.now.indentation.now ++ (four_spaces ++ join_by items_text
-            (between.now ++ (self.now.end.now ++ (self.now.indentation.now ++ four_spaces)))
-            (packed room (map item_value items.now))))) }
+        ensures { OnOk result (Writes out.old out.new
+            (further_text self.now room between.now (map item_value items.now))) }
     {
         let wrap = Wrap {
             room,
@@ -207,11 +195,7 @@ impl Layout<'_> {
 
     /// Puts a statement after `out` whose names follow a backslash: the mode 2 (hanging indent).
     fn push_hanging(&self, out: &mut String, names: Names<'_>) -> Result<(), AllocError>
-        ensures { OnOk result (string_bytes out.new ≡ string_bytes out.old
-            ++ text_with self.now.end.now (hanging self.now.indentation.now names.entry.path.now
-            (remark (map string_bytes names.entry.comments.now))
-            (cut_texts (values self.now.settings.now) self.now.indentation.now names.entry.path.now
-            (map item_value names.entry.items.now)))) }
+        ensures { OnOk result (Writes out.old out.new (hanging_text self.now names.entry)) }
     {
         self.push_opening(out, names.path, "\\")?;
         out.push_str(self.end)?;
@@ -221,9 +205,7 @@ impl Layout<'_> {
 
     /// Puts the end of a statement after `out` whose closing bracket stands on a line of its own.
     fn push_closing(&self, out: &mut String) -> Result<(), AllocError>
-        ensures { OnOk result (string_bytes out.new ≡ string_bytes out.old
-            ++ (trailing_comma (values self.now.settings.now) ++ (self.now.end.now
-            ++ (self.now.indentation.now ++ (codes ")" ++ self.now.end.now))))) }
+        ensures { OnOk result (Writes out.old out.new (closing_text self.now)) }
     {
         self.push_trailing_comma(out)?;
         out.push_str(self.end)?;
@@ -235,12 +217,8 @@ impl Layout<'_> {
     /// Puts a statement after `out` whose names stand on lines between the brackets: the mode 3 (vertical hanging
     /// indent).
     fn push_hanging_in_brackets(&self, out: &mut String, names: Names<'_>) -> Result<(), AllocError>
-        ensures { OnOk result (string_bytes out.new ≡ string_bytes out.old
-            ++ text_with self.now.end.now (hanging_in_brackets (values self.now.settings.now)
-            self.now.indentation.now names.entry.path.now
-            (remark (map string_bytes names.entry.comments.now))
-            (cut_texts (values self.now.settings.now) self.now.indentation.now names.entry.path.now
-            (map item_value names.entry.items.now)))) }
+        ensures { OnOk result
+            (Writes out.old out.new (hanging_in_brackets_text self.now names.entry)) }
     {
         self.push_opening(out, names.path, "(")?;
         self.push_line_end(out, names.comments)?;
@@ -250,9 +228,7 @@ impl Layout<'_> {
 
     /// Puts the lines of a wrapped statement after `out`.
     fn push_wrapped(&self, out: &mut String, names: Names<'_>) -> Result<(), AllocError>
-        ensures { OnOk result (string_bytes out.new ≡ string_bytes out.old
-            ++ wrapped_text (values self.now.settings.now) self.now.indentation.now self.now.end.now names.entry.path.now
-            (map string_bytes names.entry.comments.now) (map item_value names.entry.items.now)) }
+        ensures { OnOk result (Writes out.old out.new (wrapped_text self.now names.entry)) }
     {
         match WrapMode::of(self.settings) {
             WrapMode::Grid | WrapMode::Vertical => self.push_in_brackets(out, names),
@@ -263,9 +239,7 @@ impl Layout<'_> {
 
     /// Puts names from a module after `out`, on one line without its line end.
     fn push_one_line(&self, out: &mut String, names: Names<'_>) -> Result<(), AllocError>
-        ensures { OnOk result (string_bytes out.new ≡ string_bytes out.old
-            ++ flat self.now.indentation.now names.entry.path.now (remark (map string_bytes names.entry.comments.now))
-            (map item_value names.entry.items.now)) }
+        ensures { OnOk result (Writes out.old out.new (one_line_text self.now names.entry)) }
     {
         out.push_str(self.indentation)?;
         push_head(out, names.path)?;
@@ -275,7 +249,7 @@ impl Layout<'_> {
 
     /// Whether the settings ask for more lines than one.
     fn is_forced(&self, items: &[FromItem]) -> bool
-        ensures { result ≡ is_forced (values self.now.settings.now) (map item_value items.now) }
+        ensures { result ≡ is_forced (values_by self.now) (map item_value items.now) }
     {
         let least = self.settings.force_grid_wrap as usize;
         least > 0 && least <= items.len()
@@ -283,7 +257,7 @@ impl Layout<'_> {
 
     /// Whether a statement of names is wrapped, which would be this on one line.
     fn wraps(&self, line: &[u8], items: &[FromItem]) -> bool
-        ensures { result ≡ wraps (values self.now.settings.now) line.now (map item_value items.now) }
+        ensures { result ≡ wraps (values_by self.now) line.now (map item_value items.now) }
     {
         let is_whole = match WrapMode::of(self.settings) {
             WrapMode::Grid | WrapMode::Vertical => items.len() == 1,
@@ -296,9 +270,7 @@ impl Layout<'_> {
     ///
     /// The one line is written first, and taken back where the statement has to be wrapped.
     fn push_names(&self, out: &mut String, names: Names<'_>) -> Result<(), AllocError>
-        ensures { OnOk result (string_bytes out.new ≡ string_bytes out.old
-            ++ names_text (values self.now.settings.now) self.now.indentation.now self.now.end.now names.entry.path.now
-            (map string_bytes names.entry.comments.now) (map item_value names.entry.items.now)) }
+        ensures { OnOk result (Writes out.old out.new (names_text self.now names.entry)) }
     {
         let start = out.len();
         self.push_one_line(out, names)?;
@@ -317,10 +289,9 @@ impl Layout<'_> {
         alias: &Option<String>,
         comments: &[String],
     ) -> Result<(), AllocError>
-        ensures { OnOk result (string_bytes out.new ≡ string_bytes out.old
-            ++ text_with self.now.end.now (statement_lines (values self.now.settings.now)
-            self.now.indentation.now (straight module.now (option_map string_bytes alias.now))
-            (remark (map string_bytes comments.now)) [] [])) }
+        ensures { OnOk result (Writes out.old out.new (plain_text self.now
+            (straight module.now (option_map string_bytes alias.now))
+            (map string_bytes comments.now))) }
     {
         out.push_str(self.indentation)?;
         out.push_str("import ")?;
@@ -336,10 +307,8 @@ impl Layout<'_> {
         module: &str,
         comments: &[String],
     ) -> Result<(), AllocError>
-        ensures { OnOk result (string_bytes out.new ≡ string_bytes out.old
-            ++ text_with self.now.end.now (statement_lines (values self.now.settings.now)
-            self.now.indentation.now (star module.now)
-            (remark (map string_bytes comments.now)) [] [])) }
+        ensures { OnOk result (Writes out.old out.new
+            (plain_text self.now (star module.now) (map string_bytes comments.now))) }
     {
         self.push_opening(out, module, "*")?;
         self.push_line_end(out, comments)
@@ -347,9 +316,8 @@ impl Layout<'_> {
 
     /// Puts the comments above a statement after `out`, each on a line.
     fn push_above(&self, out: &mut String, above: &[String]) -> Result<(), AllocError>
-        ensures { OnOk result (string_bytes out.new ≡ string_bytes out.old
-            ++ text_with self.now.end.now
-            (map (λ c. self.now.indentation.now ++ c) (map string_bytes above.now))) }
+        ensures { OnOk result
+            (Writes out.old out.new (above_text self.now (map string_bytes above.now))) }
     {
         for comment in above {
             out.push_str(self.indentation)?;
@@ -362,9 +330,8 @@ impl Layout<'_> {
     /// Puts a statement after `out`, with the comments above it.
     fn push_group(&self, out: &mut String, group: &Group) -> Result<(), AllocError>
         requires { (group_value group.now).items ≢ [] }
-        ensures { OnOk result (string_bytes out.new ≡ string_bytes out.old
-            ++ group_text (values self.now.settings.now) self.now.indentation.now self.now.end.now
-            (group_value group.now)) }
+        ensures { OnOk result
+            (Writes out.old out.new (group_text self.now (group_value group.now))) }
     {
         self.push_above(out, &group.above)?;
         match &group.statement {
@@ -398,11 +365,10 @@ impl Layout<'_> {
         before: &Option<Group>,
         group: &Group,
     ) -> Result<(), AllocError>
-        requires before { MatchOption before.now (Unit {0}) (HasSection (values self.now.settings.now)) }
-        requires section { HasSection (values self.now.settings.now) group.now }
-        ensures { OnOk result (string_bytes out.new ≡ string_bytes out.old
-            ++ text_with self.now.end.now (gap_lines (values self.now.settings.now)
-            (option_map group_value before.now) (group_value group.now))) }
+        requires before { MatchOption before.now (Unit {0}) (HasSection (values_by self.now)) }
+        requires section { HasSection (values_by self.now) group.now }
+        ensures { OnOk result (Writes out.old out.new
+            (gap_text self.now (option_map group_value before.now) (group_value group.now))) }
     {
         match before {
             Some(before) => push_times(out, self.end, gap(self.settings, before, group) as usize),
@@ -417,12 +383,11 @@ impl Layout<'_> {
         before: &Option<Group>,
         group: &Group,
     ) -> Result<(), AllocError>
-        requires before { MatchOption before.now (Unit {0}) (HasSection (values self.now.settings.now)) }
-        requires section { HasSection (values self.now.settings.now) group.now }
+        requires before { MatchOption before.now (Unit {0}) (HasSection (values_by self.now)) }
+        requires section { HasSection (values_by self.now) group.now }
         requires items { (group_value group.now).items ≢ [] }
-        ensures { OnOk result (string_bytes out.new ≡ string_bytes out.old
-            ++ text_with self.now.end.now (next_lines (values self.now.settings.now)
-            self.now.indentation.now (option_map group_value before.now) (group_value group.now))) }
+        ensures { OnOk result (Writes out.old out.new
+            (next_text self.now (option_map group_value before.now) (group_value group.now))) }
     {
         self.push_gap(out, before, group)?;
         self.push_group(out, group)

@@ -94,7 +94,8 @@ impl<R: Read> Read for Metered<R> {
     /// Reads, and notes how that ended: in `Fine`, in `Failed`, or in one more interruption.
     fn read(&mut self, buf: &mut [u8]) -> io::Result<usize>
         ensures bound { ReadsAtMost result buf.new }
-        ensures bytes { ReadConsumes (R.remaining (inner_of self.old)) (R.remaining (inner_of self.new)) result buf.new }
+        ensures bytes { ReadConsumes (R.remaining (inner_of self.old))
+            (R.remaining (inner_of self.new)) result buf.new }
         ensures last { last_of self.new ≡ end_of_read (last_of self.old) result }
     {
         match self.inner.read(buf) {
@@ -117,7 +118,8 @@ impl<W: Write> Write for Metered<W> {
     /// more interruption.
     fn write(&mut self, buf: &[u8]) -> io::Result<usize>
         ensures bound { WritesAtMost result buf.now }
-        ensures bytes { WriteAppends (W.contents (inner_of self.old)) (W.contents (inner_of self.new)) result buf.now }
+        ensures bytes { WriteAppends (W.contents (inner_of self.old))
+            (W.contents (inner_of self.new)) result buf.now }
         ensures last { last_of self.new ≡ end_of_write (last_of self.old) buf.now result }
     {
         match self.inner.write(buf) {

@@ -71,7 +71,8 @@ impl<'t> SortedText<'t> {
         blocks: Vec<FoundBlock>,
     ) -> Result<SortedText<'t>, AllocError>
         requires { IsFoundIn text.now (FoundText.Blocks blocks) }
-        ensures laid { IfOk result (λ sorted. IsLaidOut text.now (values settings.now) (sorted_bytes sorted)) }
+        ensures laid { IfOk result
+            (λ sorted. IsLaidOut text.now (values settings.now) (sorted_bytes sorted)) }
         ensures parts { IfOk result (λ sorted. AreTexts sorted.parts.items) }
         ensures rest { IfOk result (λ sorted. IsUtf8 sorted.rest.now) }
     {
@@ -89,7 +90,8 @@ impl<'t> SortedText<'t> {
 
     /// Whether it is this text.
     pub(crate) fn is(&self, text: &[u8]) -> bool
-        ensures { MatchBool result (sorted_bytes self.now ≡ text.now) (sorted_bytes self.now ≢ text.now) }
+        ensures { MatchBool result (sorted_bytes self.now ≡ text.now)
+            (sorted_bytes self.now ≢ text.now) }
     {
         let mut left = text;
         'parts: for part in &self.parts {
@@ -119,10 +121,12 @@ impl<'t> SortedText<'t> {
     /// Writes it whole, or a prefix of it where a write fails.
     pub(crate) fn write_to<W: Write>(&self, writer: &mut Metered<W>) -> Result<(), SortError>
         requires { last_of writer.old ≡ Last.Fine }
-        ensures ok { OnOk result (Appends (W.contents (inner_of writer.old)) (W.contents (inner_of writer.new))
+        ensures ok { OnOk result
+            (Appends (W.contents (inner_of writer.old)) (W.contents (inner_of writer.new))
             (sorted_bytes self.now)) }
         ensures fine { OnOk result (last_of writer.new ≡ Last.Fine) }
-        ensures front { OnErr result (AppendsPrefix (W.contents (inner_of writer.old)) (W.contents (inner_of writer.new))
+        ensures front { OnErr result
+            (AppendsPrefix (W.contents (inner_of writer.old)) (W.contents (inner_of writer.new))
             (sorted_bytes self.now)) }
         ensures err { IfErr result (λ e. e ≡ SortError.Write) }
         ensures stopped { OnErr result (IsGivenUp (last_of writer.new)) }

@@ -50,7 +50,8 @@ pub(crate) enum Statement {
 impl Statement {
     /// The statement that an import belongs to; and its item, if the statement is one of names.
     pub(crate) fn of_binding(settings: &Settings, binding: Binding) -> (Statement, Option<FromItem>)
-        ensures statement { statement_value result.0 ≡ statement_of (values settings.now) (imported_of (bound_of binding)) }
+        ensures statement { statement_value result.0
+            ≡ statement_of (values settings.now) (imported_of (bound_of binding)) }
         ensures item { option_to_list (option_map item_value result.1)
             ≡ listed_item (values settings.now) (imported_of (bound_of binding)) }
     {
@@ -142,7 +143,8 @@ impl Statement {
 
     /// The order among the statements of one section and module: by form, and then by name and alias.
     fn cmp_in_module(&self, settings: &Settings, other: &Statement) -> Ordering
-        ensures { result ≡ cmp_in_module (values settings.now) (statement_value self.now) (statement_value other.now) }
+        ensures { result ≡ cmp_in_module (values settings.now) (statement_value self.now)
+            (statement_value other.now) }
     {
         self.form_place()
             .cmp(&other.form_place())
@@ -153,7 +155,8 @@ impl Statement {
     /// The order among the statements of one section: straight statements come first, unless the settings say otherwise;
     /// then the modules decide.
     pub(crate) fn cmp_in_section(&self, settings: &Settings, other: &Statement) -> Ordering
-        ensures { result ≡ cmp_in_section (values settings.now) (statement_value self.now) (statement_value other.now) }
+        ensures { result ≡ cmp_in_section (values settings.now) (statement_value self.now)
+            (statement_value other.now) }
     {
         self.group_place(settings)
             .cmp(&other.group_place(settings))
@@ -174,7 +177,8 @@ fn text_of(text: &Option<String>) -> Option<&str>
 
 /// The order of two aliases: none comes first.
 fn alias_cmp(settings: &Settings, a: Option<&str>, b: Option<&str>) -> Ordering
-    ensures { result ≡ option_cmp (name_cmp (values settings.now)) (option_copied a.entry) (option_copied b.entry) }
+    ensures { result ≡ option_cmp (name_cmp (values settings.now)) (option_copied a.entry)
+        (option_copied b.entry) }
 {
     match (a, b) {
         (None, None) => Ordering::Equal,

@@ -1,5 +1,5 @@
 //! The lines of a statement.
-ghost use Rattle.std.specs.Prelude.{◌≡◌, ◌-◌, ◌+◌, ◌≤◌, ◌++◌, OnOk, map, string_bytes};
+ghost use Rattle.std.specs.Prelude.{◌≡◌, ◌-◌, ◌+◌, ◌≤◌, OnOk, map, string_bytes};
 ghost use Rattle.std.specs.List.{join_by};
 ghost use Rattle.std.specs.Option.{SomeIff, option_map};
 ghost use Rattle.py_imports.specs.Spelled.{alias_text};
@@ -7,6 +7,7 @@ ghost use Rattle.isort_sort.specs.Width as width;
 ghost use Rattle.isort_sort.specs.Private.Values.{item_value};
 ghost use Rattle.isort_sort.specs.Wrapping.{item_text, items_text, head, remark};
 ghost use Rattle.isort_sort.specs.Private.Packing.{packed};
+ghost use Rattle.isort_sort.specs.Private.Writes.{Writes};
 
 use crate::statement::FromItem;
 use crate::texts::push_times;
@@ -15,7 +16,8 @@ use std::alloc::AllocError;
 
 /// Puts ` as ALIAS` after `out`, where there is an alias.
 pub(crate) fn push_alias(out: &mut String, alias: &Option<String>) -> Result<(), AllocError>
-    ensures { OnOk result (string_bytes out.new ≡ string_bytes out.old ++ alias_text (option_map string_bytes alias.now)) }
+    ensures { OnOk result
+        (Writes out.old out.new (alias_text (option_map string_bytes alias.now))) }
 {
     if let Some(alias) = alias {
         out.push_str(" as ")?;
@@ -26,7 +28,7 @@ pub(crate) fn push_alias(out: &mut String, alias: &Option<String>) -> Result<(),
 
 /// Puts an item after `out`.
 fn push_item(out: &mut String, item: &FromItem) -> Result<(), AllocError>
-    ensures { OnOk result (string_bytes out.new ≡ string_bytes out.old ++ item_text (item_value item.now)) }
+    ensures { OnOk result (Writes out.old out.new (item_text (item_value item.now))) }
 {
     out.push_str(item.name.as_str())?;
     push_alias(out, &item.alias)
@@ -34,7 +36,7 @@ fn push_item(out: &mut String, item: &FromItem) -> Result<(), AllocError>
 
 /// Puts items after `out`, on one line.
 pub(crate) fn push_items(out: &mut String, items: &[FromItem]) -> Result<(), AllocError>
-    ensures { OnOk result (string_bytes out.new ≡ string_bytes out.old ++ items_text (map item_value items.now)) }
+    ensures { OnOk result (Writes out.old out.new (items_text (map item_value items.now))) }
 {
     let mut before = "";
     for item in items {
@@ -47,7 +49,7 @@ pub(crate) fn push_items(out: &mut String, items: &[FromItem]) -> Result<(), All
 
 /// Puts the joined comment after `out`, where there is one.
 pub(crate) fn push_remark(out: &mut String, comments: &[String]) -> Result<(), AllocError>
-    ensures { OnOk result (string_bytes out.new ≡ string_bytes out.old ++ remark (map string_bytes comments.now)) }
+    ensures { OnOk result (Writes out.old out.new (remark (map string_bytes comments.now))) }
 {
     let mut before = "  # ";
     for comment in comments {
@@ -60,7 +62,7 @@ pub(crate) fn push_remark(out: &mut String, comments: &[String]) -> Result<(), A
 
 /// Puts `from MODULE import ` after `out`.
 pub(crate) fn push_head(out: &mut String, module: &str) -> Result<(), AllocError>
-    ensures { OnOk result (string_bytes out.new ≡ string_bytes out.old ++ head module.now) }
+    ensures { OnOk result (Writes out.old out.new (head module.now)) }
 {
     out.push_str("from ")?;
     out.push_str(module)?;
@@ -116,7 +118,7 @@ impl Wrap<'_> {
 
     /// Puts the end of a line of items after `out`, and the beginning of the next line.
     fn push_break(&self, out: &mut String) -> Result<(), AllocError>
-        ensures { OnOk result (string_bytes out.new ≡ string_bytes out.old ++ next_line self.now) }
+        ensures { OnOk result (Writes out.old out.new (next_line self.now)) }
     {
         out.push_str(self.between)?;
         out.push_str(self.end)?;
@@ -126,9 +128,8 @@ impl Wrap<'_> {
 
     /// Puts items after `out`, as many on each line as fit.
     pub(crate) fn push_items(&self, out: &mut String, items: &[FromItem]) -> Result<(), AllocError>
-        ensures { OnOk result (string_bytes out.new ≡ string_bytes out.old
-            ++ join_by items_text (next_line self.now)
-            (packed self.now.room (map item_value items.now))) }
+        ensures { OnOk result (Writes out.old out.new (join_by items_text (next_line self.now)
+            (packed self.now.room (map item_value items.now)))) }
     {
         let Some((first, others)) = items.split_first() else {
             return Ok(());

@@ -14,9 +14,11 @@ fn write_some<W: Write>(writer: &mut Metered<W>, bytes: &[u8]) -> Result<usize, 
     requires some { 0 < length bytes.now }
     ensures bound { IfOk result (λ count. count ≤ length bytes.now) }
     ensures some { IfOk result (λ count. 0 < count) }
-    ensures bytes { IfOk result (λ count. Appends (W.contents (inner_of writer.old)) (W.contents (inner_of writer.new))
+    ensures bytes { IfOk result
+        (λ count. Appends (W.contents (inner_of writer.old)) (W.contents (inner_of writer.new))
         (take count bytes.now)) }
-    ensures kept { OnErr result (Keeps (W.contents (inner_of writer.old)) (W.contents (inner_of writer.new))) }
+    ensures kept { OnErr result
+        (Keeps (W.contents (inner_of writer.old)) (W.contents (inner_of writer.new))) }
     ensures fine { OnOk result (last_of writer.new ≡ Last.Fine) }
     ensures err { IfErr result (λ e. e ≡ SortError.Write) }
     ensures stopped { OnErr result (IsGivenUp (last_of writer.new)) }
@@ -39,9 +41,12 @@ fn write_some<W: Write>(writer: &mut Metered<W>, bytes: &[u8]) -> Result<usize, 
 /// The error is `Write`: a write failed, took no byte, or was interrupted 1000 times in a row.
 pub fn write_whole<W: Write>(writer: &mut Metered<W>, bytes: &[u8]) -> Result<(), SortError>
     requires { last_of writer.old ≡ Last.Fine }
-    ensures ok { OnOk result (Appends (W.contents (inner_of writer.old)) (W.contents (inner_of writer.new)) bytes.now) }
+    ensures ok { OnOk result
+        (Appends (W.contents (inner_of writer.old)) (W.contents (inner_of writer.new)) bytes.now) }
     ensures fine { OnOk result (last_of writer.new ≡ Last.Fine) }
-    ensures front { OnErr result (AppendsPrefix (W.contents (inner_of writer.old)) (W.contents (inner_of writer.new)) bytes.now) }
+    ensures front { OnErr result
+        (AppendsPrefix (W.contents (inner_of writer.old))
+        (W.contents (inner_of writer.new)) bytes.now) }
     ensures err { IfErr result (λ e. e ≡ SortError.Write) }
     ensures stopped { OnErr result (IsGivenUp (last_of writer.new)) }
 {

@@ -9,7 +9,7 @@ use Rattle.isort_sort.specs.Layout.{Laid, gap_by_kind, gap_by_comment, own_lines
 use Rattle.isort_sort.specs.Statement.{module_of, section_of}
 use Rattle.isort_sort.specs.Private.Values.{statement_value}
 use Rattle.isort_sort.specs.Width.{width}
-use Rattle.isort_sort.specs.Wrapping.{head, items_text, remark, is_forced, names_lines, wrapped}
+use Rattle.isort_sort.specs.Wrapping.{head, items_text, is_forced}
 
 -- how many characters the items on a line of a wrapped statement may have, where they are several
 abbrev pub line_room : Values → List ℕ → List ℕ → ℕ
@@ -51,19 +51,6 @@ wraps v line items =
 -- lines, each with a line end
 abbrev pub text_with : List ℕ → List (List ℕ) → List ℕ
 text_with end lines = flat_map (λ l. l ++ end) lines
-
--- a wrapped statement, and one of names
-abbrev pub wrapped_text : Values → List ℕ → List ℕ → List ℕ → List (List ℕ) → List Item → List ℕ
-wrapped_text v indentation end m comments items =
-    text_with end (wrapped v indentation m (remark comments) (cut_texts v indentation m items))
-
-abbrev pub names_text : Values → List ℕ → List ℕ → List ℕ → List (List ℕ) → List Item → List ℕ
-names_text v indentation end m comments items =
-    text_with end (names_lines v indentation m (remark comments) items (packed (line_room v indentation m) items))
-
--- a group
-abbrev pub group_text : Values → List ℕ → List ℕ → Group → List ℕ
-group_text v indentation end g = text_with end (own_lines v indentation (laid_of v indentation g))
 
 -- the blank lines between a group and the one before it, if there is one
 abbrev pub gap_lines : Values → Option Group → Group → List (List ℕ)
