@@ -39,22 +39,31 @@
 -- SortedCuts): by the laws of one lexing, one list of bindings, one order and one cut, a text has one list of rows,
 -- one cut at blocks, and one layout of each.
 --
--- Written statements are read back (proofs/Stable). The pieces of each layout are functions next to its text: a part is
--- pieces with the bytes that they spell, what they say to the import grammar, and their comments, and parts are put one
--- after another (Parts, Modules, Items). Names on lines of any layout are joined by what holds one comma (Bodies,
--- NamesPhrases; their text is in Texts). What stands after `import` or `from` is one logical line (OneLine) whose comment
--- stands well (Tokens, Phrases), and so the whole statement is a member that imports what it says (Lines, Remarks,
--- Statements, Imports). What the statements of a block say comes from its members (Sources, Written).
+-- Laws on lines (proofs/LineLaws): the pieces of logical lines (Parts, OneLine, Units, Joined), of modules (Modules) and
+-- tokens (Tokens), which pieces may stand beside others (Touching), and the laws of the crates below (Laws). They cite no
+-- definition of sorting.
 --
--- Sorted texts stay (proofs/Stable). A text is its logical lines, each as its pieces (Units), with a row that doesn't depend
+-- Written statements are read back (proofs/WrittenStatements). The pieces of each layout are functions next to its text: a
+-- part is pieces with the bytes that they spell, what they say to the import grammar, and their comments, and parts are put
+-- one after another (Items). Names on lines of any layout are joined by what holds one comma (Bodies, NamesPhrases; their
+-- text is in Texts). What stands after `import` or `from` is one logical line whose comment stands well (Phrases), and so
+-- the whole statement is a member that imports what it says (Lines, Remarks, Statements, Imports). What the statements of a
+-- block say comes from its members (Sources, Written).
+--
+-- The lines of a text (proofs/WrittenLines). A text is its logical lines, each as its pieces, with a row that doesn't depend
 -- on where the line stands (UnitRows, UnitBinds). A block that is written is lines too: comments above, statements, blank
--- lines (LineUnits, BlockUnits, Marked). The members of the old block say what its statements need (OldBlock, ReadComments,
--- Stripped, ReadImports, ReadMembers). So each block, put before the lines after it, is a block with the layout that it had
--- (WrittenBlocks), and so on through a text (Again); the first line end is what it was (FirstEnds, UnbrokenLines); and last
--- what the text begins with is looked at: another line (SortedAgain), or a block, perhaps after a byte order mark (AtStart).
--- Sorted has what all this rests on, from the laws. Each block that is written keeps its layout beside the run that it is
--- read as (WrittenBlocks, `read_back`), and so the blocks are read back through the text. ReadBlocks says what the members of
--- each block of a text are.
+-- lines (LineUnits, BlockUnits, Marked). The first line end of a sorted text is what it was (FirstEnds,
+-- FirstCharacters).
+--
+-- Members (proofs/ReadMembers). The members of a block that is read say what its statements need (OldBlock, ReadComments,
+-- Stripped, ReadImports, ReadMembers), and so its layout holds no other line ends (UnbrokenLines). ReadBlocks says what the
+-- members of each block of a text are.
+--
+-- Sorted texts stay (proofs/SortedAgain). Each block, put before the lines after it, is a block with the layout that it had
+-- (WrittenBlocks), and so on through a text (Again). Last what the text begins with is looked at: another line
+-- (SortedAgain), or a block, perhaps after a byte order mark (AtStart). Sorted has what all this rests on, from the laws.
+-- Each block that is written keeps its layout beside the run that it is read as (WrittenBlocks, `read_back`), and so the
+-- blocks are read back through the text.
 --
 -- Nothing else changes (proofs/SortedTexts/BlockSpans): the spans are those of the cut, and what a sorted text has
 -- between layouts are the texts of the other rows.
@@ -65,4 +74,8 @@ pub mod Rows
 pub mod Finding
 pub mod Readings
 pub mod SortedTexts
-pub mod Stable
+pub mod LineLaws
+pub mod WrittenStatements
+pub mod WrittenLines
+pub mod ReadMembers
+pub mod SortedAgain

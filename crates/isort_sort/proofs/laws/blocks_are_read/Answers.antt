@@ -1,5 +1,5 @@
-use Rattle.isort_sort.proofs.Stable.FirstEnds.{first_is_end}
-use Rattle.isort_sort.proofs.Stable.ReadBlocks.{read_blocks}
+use Rattle.isort_sort.proofs.WrittenLines.FirstEnds.{first_is_end}
+use Rattle.isort_sort.proofs.ReadMembers.ReadBlocks.{read_blocks}
 use Rattle.isort_sort.proofs.laws.blocks_are_read.Goals as goal
 
 pub returns : goal.returns

@@ -1,9 +1,9 @@
 use Rattle.isort_sort.proofs.Orders.Statements.{AreOrders}
-use Rattle.isort_sort.proofs.Stable.Again.{SortLaws}
-use Rattle.isort_sort.proofs.Stable.AtStart.{laid_again, sorted_again, blocks_back}
-use Rattle.isort_sort.proofs.Stable.ReadImports.{ImportLaws}
-use Rattle.isort_sort.proofs.Stable.Sorted.{reads_blocks}
-use Rattle.isort_sort.proofs.Stable.UnitRows.{TokenLaws}
+use Rattle.isort_sort.proofs.SortedAgain.Again.{SortLaws}
+use Rattle.isort_sort.proofs.SortedAgain.AtStart.{laid_again, sorted_again, blocks_back}
+use Rattle.isort_sort.proofs.ReadMembers.ReadImports.{ImportLaws}
+use Rattle.isort_sort.proofs.SortedAgain.Sorted.{reads_blocks}
+use Rattle.isort_sort.proofs.WrittenLines.UnitRows.{TokenLaws}
 use Rattle.isort_sort.proofs.laws.sorted_texts_stay.Goals as goal
 use Rattle.isort_settings.specs.Values.{Values}
 

@@ -1,6 +1,6 @@
 use Rattle.isort_sort.proofs.Orders.Statements.{AreOrders}
-use Rattle.isort_sort.proofs.Stable.Laws.{Laws}
-use Rattle.isort_sort.proofs.Stable.Written.{statements-written}
+use Rattle.isort_sort.proofs.LineLaws.Laws.{Laws}
+use Rattle.isort_sort.proofs.WrittenStatements.Written.{statements-written}
 use Rattle.isort_sort.proofs.laws.written_statements_are_read_back.Goals as goal
 
 pub returns : goal.returns

@@ -1,0 +1,8 @@
+-- The members of a block, as its logical lines are read.
+pub mod OldBlock
+pub mod Stripped
+pub mod ReadComments
+pub mod ReadImports
+pub mod ReadMembers
+pub mod UnbrokenLines
+pub mod ReadBlocks

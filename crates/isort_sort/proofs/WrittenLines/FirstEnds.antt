@@ -1,0 +1,178 @@
+-- The first line end of a text.
+use Rattle.std.proofs.Common.{◌≡◌, ℕ, ◌<◌, ◌==◌, suc, zero, Bool, true, false, cond, ◌&&◌, ◌||◌, ◌⊎◌, List, [], ◌∷◌, ◌++◌, flat_map, length, refl, sym, ap, ◌∙◌, subst, append_assoc, append-nil, inl, inr, arith}
+use Rattle.std.specs.Prelude.{encode_utf8_all, replicate}
+use Rattle.std.proofs.Math.Utf8.{encode}
+use Rattle.std.specs.List.{list_any}
+use Rattle.std.proofs.lemmas.Bool.{both_ways, eqb-true, or_parts}
+use Rattle.std.proofs.lemmas.Str.{encodes-append, char_from_byte}
+use Rattle.py_lines.specs.Character.{is_one_of, is_line_feed, is_return}
+use Rattle.py_lines.specs.PieceGrammar.{IsLineEnd, feed, return_feed, return}
+use Rattle.py_lines.specs.Fields.{InClass, AreReadBefore}
+use Rattle.py_lines.specs.Reading.{EndsLine}
+use Rattle.py_lines.specs.Piece.{Class, Piece, begins, ends, spelled}
+use Rattle.isort_sort.specs.Layout.{text_of_lines}
+use Rattle.isort_sort.specs.Sorted.{first_end}
+use Rattle.isort_sort.specs.WrittenLine.{end_pieces}
+use Rattle.isort_sort.proofs.LineLaws.Units.{IsUnit, MayFollowUnit, AreUnits, flat, begins-first, ends-last}
+use Rattle.isort_sort.proofs.WrittenLines.LineUnits.{end_encoded, are_some}
+use Rattle.isort_sort.proofs.LineLaws.Joined.{none-append, joined_lines, ended_lines, AreSome, bytes_of, bytes_of-cons}
+use Rattle.isort_sort.proofs.LineLaws.Parts.{spelled-append}
+
+-- bytes of line ends
+abbrev pub is_end_byte : ℕ → Bool
+is_end_byte b = (b == 10) || (b == 13)
+
+abbrev pub is_feed_byte : ℕ → Bool
+is_feed_byte b = b == 10
+
+-- texts without line ends
+abbrev pub AreUnbroken : List (List ℕ) → Type 0
+AreUnbroken [] = Unit {0}
+AreUnbroken (l ∷ ls) = (list_any is_end_byte l ≡ false) × AreUnbroken ls
+
+-- it is a line end
+pub first_is_end : (text : List ℕ) → IsLineEnd (first_end text)
+first_is_end [] = feed refl
+first_is_end (b ∷ text) = by (b == 10) (b == 13) (begins is_feed_byte text) (first_is_end text)
+  where
+    by : (x y z : Bool) → IsLineEnd (first_end text) → IsLineEnd (cond x (10 ∷ []) (cond y (cond z (13 ∷ 10 ∷ []) (13 ∷ [])) (first_end text)))
+    by true y z later = feed refl
+    by false true true later = return_feed refl
+    by false true false later = return refl
+    by false false z later = later
+
+-- that of a text up to its first line end
+pub first_end_is : (text end more : List ℕ) → list_any is_end_byte text ≡ false → IsLineEnd end → (end ≡ 13 ∷ [] → begins is_feed_byte more ≡ false) → first_end (text ++ (end ++ more)) ≡ end
+first_end_is [] end more none is apart = by end is apart
+  where
+    by : (e : List ℕ) → IsLineEnd e → (e ≡ 13 ∷ [] → begins is_feed_byte more ≡ false) → first_end (e ++ more) ≡ e
+    by e (feed same) h = ap (λ (t : List ℕ). first_end (t ++ more)) same ∙ sym same
+    by e (return_feed same) h = ap (λ (t : List ℕ). first_end (t ++ more)) same ∙ sym same
+    by e (return same) h = ap (λ (t : List ℕ). first_end (t ++ more)) same ∙ ap (λ (b : Bool). cond b (13 ∷ 10 ∷ []) (13 ∷ [])) (h same) ∙ sym same
+first_end_is (b ∷ text) end more none is apart =
+    let parts = or_parts (is_end_byte b) (list_any is_end_byte text) none in
+    let both = or_parts (b == 10) (b == 13) parts.0 in
+    (λ i. cond (both.0 i) (10 ∷ []) (cond (both.1 i) (cond (begins is_feed_byte (text ++ (end ++ more))) (13 ∷ 10 ∷ []) (13 ∷ [])) (first_end (text ++ (end ++ more)))))
+    ∙ first_end_is text end more parts.1 is apart
+
+-- texts that begin with the same line have the same
+pub first_end_alike : (text end more rest : List ℕ) → IsLineEnd end → (end ≡ 13 ∷ [] → begins is_feed_byte more ≡ false) → (end ≡ 13 ∷ [] → begins is_feed_byte rest ≡ false) → first_end (text ++ (end ++ more)) ≡ first_end (text ++ (end ++ rest))
+first_end_alike [] end more rest is h k = first_end_is [] end more refl is h ∙ sym (first_end_is [] end rest refl is k)
+first_end_alike (b ∷ text) end more rest is h k =
+    λ i. cond (b == 10) (10 ∷ []) (cond (b == 13) (cond (same text i) (13 ∷ 10 ∷ []) (13 ∷ [])) (first_end_alike text end more rest is h k i))
+  where
+    some : (e : List ℕ) → IsLineEnd e → begins is_feed_byte (e ++ more) ≡ begins is_feed_byte (e ++ rest)
+    some e (feed q) = ap (λ (t : List ℕ). begins is_feed_byte (t ++ more)) q ∙ sym (ap (λ (t : List ℕ). begins is_feed_byte (t ++ rest)) q)
+    some e (return_feed q) = ap (λ (t : List ℕ). begins is_feed_byte (t ++ more)) q ∙ sym (ap (λ (t : List ℕ). begins is_feed_byte (t ++ rest)) q)
+    some e (return q) = ap (λ (t : List ℕ). begins is_feed_byte (t ++ more)) q ∙ sym (ap (λ (t : List ℕ). begins is_feed_byte (t ++ rest)) q)
+
+    same : (t : List ℕ) → begins is_feed_byte (t ++ (end ++ more)) ≡ begins is_feed_byte (t ++ (end ++ rest))
+    same [] = some end is
+    same (c ∷ cs) = refl
+
+-- the line end of a logical line
+pub record IsClosed (u : List Piece) : Type 0 where
+  pub text : List ℕ
+  pub end : List ℕ
+  pub is : IsLineEnd end
+  pub bytes : encode_utf8_all (spelled u) ≡ text ++ end
+  pub last : ends is_return (spelled u) ≡ ends is_return end
+
+last_class : (body : List Piece) (last : Piece) → AreReadBefore (body ++ last ∷ []) [] → InClass last.class last.text
+last_class [] last fit = fit.0
+last_class (p ∷ ps) last fit = last_class ps last fit.3
+
+pub closed_unit : (u : List Piece) → IsUnit u → EndsLine u → IsClosed u
+closed_unit u is (inl none) = absurd (let e = is.whole in cc)
+closed_unit u is (inr (body, last, same, class, deep)) =
+    let good = last_class body last (subst (λ (l : List Piece). AreReadBefore l []) same is.reading.reads.fit) in
+    let closes : IsLineEnd last.text = subst (λ (c : Class). InClass c last.text) class good in
+    record {
+      text = encode_utf8_all (spelled body);
+      end = last.text;
+      is = closes;
+      bytes = ap (λ l. encode_utf8_all (spelled l)) same ∙ ap encode_utf8_all (spelled-append body (last ∷ [])) ∙ encodes-append (spelled body) (last.text ++ []) ∙ ap (λ (t : List ℕ). encode_utf8_all (spelled body) ++ t) (end_encoded last.text closes);
+      last = ap (λ l. ends is_return (spelled l)) same ∙ ends-last is_return body last good;
+    }
+
+-- what follows a line that ends in CR doesn't begin with LF
+feed_again : (c : ℕ) → c ≡ 10 → is_line_feed c ≡ true
+unfolding is_line_feed
+feed_again c e = ap (is_one_of (10 ∷ [])) e
+
+return_ends : (end : List ℕ) → end ≡ 13 ∷ [] → ends is_return end ≡ true
+unfolding is_return
+return_ends end e = ap (ends is_return) e
+
+encoded_begins : (cs : List ℕ) → begins is_line_feed cs ≡ false → begins is_feed_byte (encode_utf8_all cs) ≡ false
+encoded_begins [] h = refl
+encoded_begins (c ∷ cs) h = by (encode_utf8_all (c ∷ cs)) refl
+  where
+    low : (b : ℕ) (t : List ℕ) → b ∷ t ≡ encode c ++ encode_utf8_all cs → (x : Bool) → (b == 10) ≡ x → x ≡ false
+    low b t e false k = refl
+    low b t e true k =
+        let ten : b ≡ 10 = eqb-true b 10 k in
+        let long : 0 < length (b ∷ t) = omega arith in
+        let same = char_from_byte (b ∷ t) (encode_utf8_all cs) c e (omega arith) long in
+        absurd (both_ways _ h (feed_again c (same ∙ ten)))
+
+    by : (t : List ℕ) → t ≡ encode_utf8_all (c ∷ cs) → begins is_feed_byte t ≡ false
+    by [] e = refl
+    by (b ∷ t) e = low b t e (b == 10) refl
+
+pub follows_bytes : (u : List Piece) (us : List (List Piece)) → AreUnits us → MayFollowUnit u us → ends is_return (spelled u) ≡ true → begins is_feed_byte (bytes_of us) ≡ false
+follows_bytes u [] are h k = refl
+follows_bytes u (w ∷ us) are h k =
+    encoded_begins (spelled (flat (w ∷ us)))
+    (begins-first is_line_feed w (flat us) are.0 ∙ (ap (λ b. b && begins is_line_feed (spelled w)) (sym k) ∙ h.1.uncut))
+
+pub follows_end : (u : List Piece) (c : IsClosed u) (us : List (List Piece)) → AreUnits us → MayFollowUnit u us → c.end ≡ 13 ∷ [] → begins is_feed_byte (bytes_of us) ≡ false
+follows_end u c us are h e = follows_bytes u us are h (c.last ∙ return_ends c.end e)
+
+pub follows_blank : (end : List ℕ) (us : List (List Piece)) → AreUnits us → MayFollowUnit (end_pieces true end) us → end ≡ 13 ∷ [] → begins is_feed_byte (bytes_of us) ≡ false
+follows_blank end us are h e = follows_bytes (end_pieces true end) us are h (ap (ends is_return) (append-nil end) ∙ return_ends end e)
+
+-- the first line end of lines, or they are one line without one
+begins_line : (end m rest : List ℕ) → list_any is_end_byte m ≡ false → end ≡ 13 ∷ [] → begins is_feed_byte (m ++ (end ++ rest)) ≡ false
+begins_line end [] rest none e = ap (λ (t : List ℕ). begins is_feed_byte (t ++ rest)) e
+begins_line end (b ∷ m) rest none e = (or_parts (b == 10) (b == 13) (or_parts (is_end_byte b) (list_any is_end_byte m) none).0).0
+
+begins_blanks : (end others : List ℕ) (n : ℕ) → (end ≡ 13 ∷ [] → begins is_feed_byte others ≡ false) → end ≡ 13 ∷ [] → begins is_feed_byte (ended_lines end (replicate n []) ++ others) ≡ false
+begins_blanks end others zero h e = h e
+begins_blanks end others (suc n) h e = ap (λ (t : List ℕ). begins is_feed_byte ((t ++ ended_lines end (replicate n [])) ++ others)) e
+
+begins_last : (end m : List ℕ) (ms : List (List ℕ)) (others : List ℕ) → list_any is_end_byte m ≡ false → others ≡ [] → end ≡ 13 ∷ [] → begins is_feed_byte (joined_lines end (m ∷ ms) ++ others) ≡ false
+begins_last end [] [] others none empty e = ap (begins is_feed_byte) empty
+begins_last end [] (k ∷ ks) others none empty e = ap (λ (t : List ℕ). begins is_feed_byte (((t ++ k) ++ flat_map (λ y. end ++ y) ks) ++ others)) e
+begins_last end (b ∷ m) ms others none empty e = (or_parts (b == 10) (b == 13) (or_parts (is_end_byte b) (list_any is_end_byte m) none).0).0
+
+pulled : (p l end x others : List ℕ) → p ++ (((l ++ end) ++ x) ++ others) ≡ (p ++ l) ++ (end ++ (x ++ others))
+pulled p l end x others = simp append_assoc
+
+pushed : (p l end x others : List ℕ) → p ++ ((l ++ (end ++ x)) ++ others) ≡ (p ++ l) ++ (end ++ (x ++ others))
+pushed p l end x others = simp append_assoc
+
+pub first_lines : (p end : List ℕ) (ended : Bool) (n : ℕ) (lines : List (List ℕ)) (others : List ℕ) → list_any is_end_byte p ≡ false → AreSome lines → AreUnbroken lines → IsLineEnd end → (end ≡ 13 ∷ [] → begins is_feed_byte others ≡ false) → (ended ≡ false → others ≡ []) → (first_end (p ++ (text_of_lines end ended n lines ++ others)) ≡ end) ⊎ ((ended ≡ false) × ((e : List ℕ) → text_of_lines end ended n lines ≡ text_of_lines e ended n lines))
+first_lines p end ended n [] others none some all is h last = absurd (let e = some.2 in cc)
+first_lines p end true n (l ∷ []) others none some all is h last =
+    inl (ap first_end (pulled p l end (ended_lines end (replicate n [])) others) ∙ first_end_is (p ++ l) end (ended_lines end (replicate n []) ++ others) (none-append is_end_byte p l none all.0) is (begins_blanks end others n h))
+first_lines p end false n (l ∷ []) others none some all is h last = inr (refl, λ e. refl)
+first_lines p end true n (l ∷ m ∷ ms) others none some all is h last =
+    let rest : List ℕ = ended_lines end (ms ++ replicate n []) in
+    inl (ap first_end (pulled p l end ((m ++ end) ++ rest) others) ∙ first_end_is (p ++ l) end (((m ++ end) ++ rest) ++ others) (none-append is_end_byte p l none all.0) is (λ e. ap (begins is_feed_byte) (moved m rest) ∙ begins_line end m (rest ++ others) all.1.0 e))
+  where
+    moved : (a r : List ℕ) → ((a ++ end) ++ r) ++ others ≡ a ++ (end ++ (r ++ others))
+    moved a r = simp append_assoc
+first_lines p end false n (l ∷ m ∷ ms) others none some all is h last =
+    inl (ap (λ (t : List ℕ). first_end (p ++ ((l ++ t) ++ others))) (append_assoc end m (flat_map (λ y. end ++ y) ms)) ∙ ap first_end (pushed p l end (joined_lines end (m ∷ ms)) others) ∙ first_end_is (p ++ l) end (joined_lines end (m ∷ ms) ++ others) (none-append is_end_byte p l none all.0) is (begins_last end m ms others all.1.0 (last refl)))
+
+-- a text goes on after its first line
+pub first_end_stays : (u : List Piece) (us vs : List (List Piece)) (text sorted : List ℕ) → IsUnit u → MayFollowUnit u us → MayFollowUnit u vs → AreUnits us → AreUnits vs → (are_some us ≡ false → are_some vs ≡ false) → bytes_of (u ∷ us) ≡ text → bytes_of (u ∷ vs) ≡ sorted → first_end sorted ≡ first_end text
+first_end_stays u [] [] text sorted is f g are these none e k = ap first_end (sym k ∙ e)
+first_end_stays u [] (v ∷ vs) text sorted is f g are these none e k = absurd (let wrong = none refl in cc)
+first_end_stays u (w ∷ us) vs text sorted is f g are these none e k =
+    let c = closed_unit u is f.0 in
+    let spelled_out : (ls : List (List Piece)) → bytes_of (u ∷ ls) ≡ c.text ++ (c.end ++ bytes_of ls) = λ ls. bytes_of-cons u ls ∙ ap (λ (t : List ℕ). t ++ bytes_of ls) c.bytes ∙ append_assoc c.text c.end (bytes_of ls) in
+    ap first_end (sym k ∙ spelled_out vs)
+    ∙ first_end_alike c.text c.end (bytes_of vs) (bytes_of (w ∷ us)) c.is (follows_end u c vs these g) (follows_end u c (w ∷ us) are f)
+    ∙ ap first_end (sym (spelled_out (w ∷ us)) ∙ e)

@@ -1,0 +1,12 @@
+-- A written statement, read back: it is one logical line that imports what it says.
+pub mod Items
+pub mod Phrases
+pub mod Remarks
+pub mod Lines
+pub mod Statements
+pub mod Bodies
+pub mod NamesPhrases
+pub mod Texts
+pub mod Sources
+pub mod Imports
+pub mod Written
