@@ -85,5 +85,6 @@ pub mod LogicalLines
 pub mod Lexings
 pub mod Elsewhere
 pub mod LineScan
+pub mod SpecialBytes
 pub mod Readers
 pub mod Feeds

@@ -10,6 +10,7 @@ pub mod Scan
 pub mod LineState
 pub mod Source
 pub mod Run
+pub mod Marks
 pub mod WholeLines
 pub mod LongStrings
 pub mod Feed

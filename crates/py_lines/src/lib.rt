@@ -3,6 +3,7 @@
 
 mod brackets;
 mod character;
+mod class;
 mod count;
 mod fault;
 mod feed;
@@ -12,6 +13,7 @@ pub mod laws;
 mod line_state;
 mod lines;
 mod long_strings;
+mod marks;
 mod mode;
 mod run;
 mod scan;

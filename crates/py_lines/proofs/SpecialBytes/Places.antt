@@ -1,0 +1,224 @@
+-- The marks of a text after some of it is passed.
+use Rattle.std.proofs.Common.{◌≡◌, ℕ, ◌+◌, ◌-◌, ◌*◌, ◌%◌, ◌^◌, ◌<◌, ◌≤◌, true, false, not, ◌&&◌, ◌||◌, eqb, leb, ltb, List, length, slice_index, bit_and, bit_or, refl, sym, ap, ◌∙◌, inl, inr, arith, w64, ◌++◌, drop, replicate}
+use Rattle.std.specs.Int.{trailing_zeros}
+use Rattle.std.proofs.lemmas.Bool.{and_from, and_parts, cases_eq, cases_lt, eq-eqb, leb-true, le-leb, le-ltb, lt-leb, lt-ltb, ltb-true, ne_eqb, not-true, not-false}
+use Rattle.std.proofs.lemmas.List.{get_or_append_left, get_or-append_right, get_or-drop, get_or-replicate, length-drop}
+use Rattle.py_lines.specs.declared.marks.Marks.{Marks}
+use Rattle.py_lines.specs.Character.{is_space}
+use Rattle.py_lines.specs.Private.Run.{IsRunOf, is_ascii_word}
+use Rattle.py_lines.specs.Private.Marks.{FindsNext, HasMarks, is_mark, is_plain, is_set}
+use Rattle.py_lines.proofs.SpecialBytes.Bits.{HasLowest, cleared_below-is, lowest, set-is, unset}
+
+-- a byte of the text that isn't plain
+pub record IsMark (text : List ℕ) (from k : ℕ) : Type 0 where
+  pub unpassed : from ≤ k
+  pub within : k < length text
+  pub special : is_plain (slice_index text k) ≡ false
+
+pub mark_is : (text : List ℕ) (from k : ℕ) → is_mark text from k ≡ true → IsMark text from k
+mark_is text from k h =
+    let a = and_parts (leb from k) _ h in
+    let b = and_parts (ltb k (length text)) _ a.1 in
+    record { unpassed = leb-true from k a.0; within = ltb-true k (length text) b.0; special = not-true _ b.1 }
+
+mark_from : (text : List ℕ) (from k : ℕ) → from ≤ k → is_mark text from k ≡ (ltb k (length text) && not (is_plain (slice_index text k)))
+mark_from text from k le = ap (λ b. b && (ltb k (length text) && not (is_plain (slice_index text k)))) (le-leb from k le)
+
+no_mark_before : (text : List ℕ) (from k : ℕ) → k < from → is_mark text from k ≡ false
+no_mark_before text from k less = ap (λ b. b && (ltb k (length text) && not (is_plain (slice_index text k)))) (lt-leb from k less)
+
+-- the marks do not depend on where those before them were passed
+later_mark : (text : List ℕ) (from to k : ℕ) → from ≤ k → to ≤ k → is_mark text from k ≡ is_mark text to k
+later_mark text from to k a b = mark_from text from k a ∙ sym (mark_from text to k b)
+
+-- a byte without a mark is plain
+pub unmarked_plain : (text : List ℕ) (from k : ℕ) → is_mark text from k ≡ false → from ≤ k → k < length text → is_plain (slice_index text k) ≡ true
+unmarked_plain text from k none le within =
+    not-false _ (sym (ap (λ b. b && not (is_plain (slice_index text k))) (lt-ltb k (length text) within)) ∙ sym (mark_from text from k le) ∙ none)
+
+-- a place in the block of 64
+in_block : (base k : ℕ) → base ≤ k → base + (k - base) ≡ k
+in_block base k le = omega (arith, le)
+
+-- a byte between, whose bit is not set, is plain
+unset_plain : (text : List ℕ) (from : ℕ) (m : Marks) (k : ℕ) → HasMarks text from m → from ≤ k → k < m.base + 64 → k < length text → is_set m.bits (k - m.base) ≡ false
+    → is_plain (slice_index text k) ≡ true
+unset_plain text from m k has le near within none =
+    let base = has.base in
+    unmarked_plain text from k (ap (is_mark text from) (sym (in_block m.base k (omega (arith, le, base)))) ∙ sym (has.bits (k - m.base) (omega (arith, near, base, le))) ∙ none) le within
+
+-- the bytes are passed up to `to`, in the block
+pub passes_in_block : (text : List ℕ) (from to : ℕ) (m : Marks) → HasMarks text from m → from ≤ to → to ≤ length text → to - m.base < 64
+    → HasMarks text to (record { base = m.base; bits = bit_and m.bits ((2 ^ 64 - 1) * 2 ^ (to - m.base) % 2 ^ 64) })
+passes_in_block text from to m has le within near =
+    let base = has.base in
+    record {
+      base = omega (arith, base, le);
+      within = within;
+      reach = omega (arith, near);
+      bits = λ k less.
+          cleared_below-is m.bits (to - m.base) k near less
+          ∙ elim (cases_lt k (to - m.base)) [
+            | inl low ↦ ap (λ b. b && is_set m.bits k) (lt-leb (to - m.base) k low) ∙ sym (no_mark_before text to (m.base + k) (omega (arith, low)))
+            | inr high ↦ ap (λ b. b && is_set m.bits k) (le-leb (to - m.base) k high) ∙ has.bits k less ∙ later_mark text from to (m.base + k) (omega (arith, high, le)) (omega (arith, high))
+          ];
+    }
+
+-- the byte that was passed last is not passed
+pub keeps : (text : List ℕ) (place : ℕ) (m : Marks) → HasMarks text (place + 1) m → m.base ≤ place → place < m.base + 64 → is_plain (slice_index text place) ≡ false
+    → HasMarks text place (record { base = m.base; bits = bit_or m.bits (1 * 2 ^ (place - m.base) % 2 ^ 64) })
+keeps text place m has base near special =
+    record {
+      base = base;
+      within = omega (arith, has.within);
+      reach = omega (arith, near);
+      bits = λ k less.
+          set-is m.bits (place - m.base) k (omega (arith, near))
+          ∙ elim (cases_eq k (place - m.base)) [
+            | inl same ↦
+                let at : m.base + k ≡ place = omega (arith, same, base) in
+                ap (λ b. b || is_set m.bits k) (eq-eqb k (place - m.base) same) ∙ sym (ap (is_mark text place) at ∙ marked)
+            | inr other ↦
+                ap (λ b. b || is_set m.bits k) (ne_eqb k (place - m.base) other)
+                ∙ has.bits k less
+                ∙ elim (cases_lt (m.base + k) place) [
+                  | inl low ↦ no_mark_before text (place + 1) (m.base + k) (omega (arith, low)) ∙ sym (no_mark_before text place (m.base + k) low)
+                  | inr high ↦ later_mark text (place + 1) place (m.base + k) (omega (arith, high, other)) high
+                ]
+          ];
+    }
+  where
+    marked : is_mark text place place ≡ true
+    marked =
+        mark_from text place place (omega arith)
+        ∙ and_from (ltb place (length text)) _ (lt-ltb place (length text) (omega (arith, has.within))) (ap not special)
+
+-- plain bytes were passed, up to the block of the marks
+pub record HasPassed (text : List ℕ) (from : ℕ) (m : Marks) : Type 0 where
+  pub to : ℕ
+  pub after : from ≤ to
+  pub marks : HasMarks text to m
+  pub plain : (k : ℕ) → from ≤ k → k < to → is_plain (slice_index text k) ≡ true
+
+pub passed_none : (text : List ℕ) (from : ℕ) (m : Marks) → HasMarks text from m → HasPassed text from m
+passed_none text from m has = record { to = from; after = omega arith; marks = has; plain = λ k le less. absurd (omega (arith, le, less)) }
+
+-- where no bit is set, the block's bytes are plain
+plain_on : (text : List ℕ) (from : ℕ) (m : Marks) → HasPassed text from m → m.bits ≡ 0 → (k : ℕ) → from ≤ k → k < m.base + 64 → k < length text
+    → is_plain (slice_index text k) ≡ true
+plain_on text from m passed none k le near within =
+    elim (cases_lt k passed.to) [
+      | inl low ↦ passed.plain k le low
+      | inr high ↦ unset_plain text passed.to m k passed.marks high near within (ap (λ n. is_set n (k - m.base)) none ∙ unset (k - m.base))
+    ]
+
+-- the next block
+pub passes_block : (text : List ℕ) (from : ℕ) (m next : Marks) → HasPassed text from m → m.bits ≡ 0 → m.base + 64 < length text → HasMarks text (m.base + 64) next
+    → HasPassed text from next
+passes_block text from m next passed none more has =
+    record {
+      to = m.base + 64;
+      after = omega (arith, passed.after, passed.marks.reach);
+      marks = has;
+      plain = λ k le less. plain_on text from m passed none k le less (omega (arith, less, more));
+    }
+
+-- no byte that isn't plain is left
+pub finds_end : (text : List ℕ) (from : ℕ) (m : Marks) → HasPassed text from m → m.bits ≡ 0 → length text ≤ m.base + 64 → FindsNext text from (length text) m
+finds_end text from m passed none last =
+    record {
+      after = omega (arith, passed.after, passed.marks.within);
+      within = omega arith;
+      plain = λ k le less. plain_on text from m passed none k le (omega (arith, less, last)) less;
+      special = λ less. absurd (omega (arith, less));
+      rest = λ less. absurd (omega (arith, less));
+      held = λ less. absurd (omega (arith, less));
+    }
+
+-- the lowest bit that is set is the next byte that isn't plain
+pub finds_lowest : (text : List ℕ) (from : ℕ) (m : Marks) → HasPassed text from m → 0 < m.bits → m.bits < 2 ^ 64
+    → FindsNext text from (m.base + trailing_zeros w64 m.bits) (record { base = m.base; bits = bit_and m.bits (m.bits - 1) })
+finds_lowest text from m passed some fits =
+    record {
+      after = omega (arith, passed.after, mark.unpassed);
+      within = omega (arith, mark.within);
+      plain = λ k le less. elim (cases_lt k passed.to) [
+        | inl low ↦ passed.plain k le low
+        | inr high ↦ unset_plain text passed.to m k passed.marks high (omega (arith, less, first.within)) (omega (arith, less, mark.within)) (first.none (k - m.base) (omega (arith, less, high, base)))
+      ];
+      special = λ less. mark.special;
+      rest = λ less. record {
+        base = omega arith;
+        within = omega (arith, mark.within);
+        reach = omega (arith, first.within);
+        bits = λ k small. first.cleared k ∙ left k small;
+      };
+      held = λ less. (omega arith, omega (arith, first.within));
+    }
+  where
+    t : ℕ
+    t = trailing_zeros w64 m.bits
+
+    first : HasLowest m.bits t
+    first = lowest m.bits some fits
+
+    base : m.base ≤ passed.to
+    base = passed.marks.base
+
+    mark : IsMark text passed.to (m.base + t)
+    mark = mark_is text passed.to (m.base + t) (sym (passed.marks.bits t first.within) ∙ first.set)
+
+    left : (k : ℕ) → k < 64 → (not (eqb k t) && is_set m.bits k) ≡ is_mark text (m.base + t + 1) (m.base + k)
+    left k small =
+        elim (cases_lt t k) [
+          | inl later ↦
+              ap (λ b. not b && is_set m.bits k) (ne_eqb k t (λ same. absurd (omega (arith, same, later))))
+              ∙ passed.marks.bits k small
+              ∙ later_mark text passed.to (m.base + t + 1) (m.base + k) (omega (arith, later, mark.unpassed)) (omega (arith, later))
+          | inr not_later ↦ cleared k not_later ∙ sym (no_mark_before text (m.base + t + 1) (m.base + k) (omega (arith, not_later)))
+        ]
+      where
+        cleared : (k : ℕ) → k ≤ t → (not (eqb k t) && is_set m.bits k) ≡ false
+        cleared k le = elim (cases_eq k t) [
+          | inl same ↦ ap (λ b. not b && is_set m.bits k) (eq-eqb k t same)
+          | inr other ↦ ap (λ b. not b && is_set m.bits k) (ne_eqb k t other) ∙ first.none k (omega (arith, le, other))
+        ]
+
+space_plain : not (is_plain 32) ≡ false
+unfolding is_plain is_ascii_word is_space
+space_plain = refl
+
+-- the bytes of a text that has fewer than 64, with spaces after them
+pub filled : (text block : List ℕ) (k : ℕ) → block ≡ text → length text < 64 → k < 64
+    → not (is_plain (slice_index (block ++ drop (length text) (replicate 64 32)) k)) ≡ is_mark text 0 k
+filled text block k same few less =
+    ap (λ l. not (is_plain (slice_index (l ++ rest) k))) same
+    ∙ elim (cases_lt k (length text)) [
+      | inl within ↦ ap (λ c. not (is_plain c)) (get_or_append_left text rest 0 k within) ∙ sym (marked ∙ ap (λ b. b && not (is_plain (slice_index text k))) (lt-ltb k (length text) within))
+      | inr past ↦ ap (λ c. not (is_plain c)) (spaces past) ∙ space_plain ∙ sym (marked ∙ ap (λ b. b && not (is_plain (slice_index text k))) (le-ltb k (length text) past))
+    ]
+  where
+    rest : List ℕ
+    rest = drop (length text) (replicate 64 32)
+
+    marked : is_mark text 0 k ≡ (ltb k (length text) && not (is_plain (slice_index text k)))
+    marked = mark_from text 0 k (omega arith)
+
+    spaces : length text ≤ k → slice_index (text ++ rest) k ≡ 32
+    spaces past =
+        get_or-append_right text rest (length text) k 0 refl past
+        ∙ get_or-drop (length text) (replicate 64 32) (k - length text) 0
+        ∙ get_or-replicate 64 (length text + (k - length text)) 32 0 (omega (arith, less, past))
+
+-- the bytes up to the next that isn't plain are a run
+pub finds_run : (text : List ℕ) (from at : ℕ) (m : Marks) → FindsNext text from at m → IsRunOf is_plain (drop from text) (at - from)
+finds_run text from at m found =
+    record {
+      within = omega (arith, found.after, found.within, length-drop from text);
+      each = λ i less. ap is_plain (get_or-drop from text i 0) ∙ found.plain (from + i) (omega arith) (omega (arith, less));
+      ends = λ more.
+          ap is_plain (get_or-drop from text (at - from) 0 ∙ ap (λ k. slice_index text k) stops) ∙ found.special (omega (arith, more, found.after, length-drop from text));
+    }
+  where
+    stops : from + (at - from) ≡ at
+    stops = omega (arith, found.after)

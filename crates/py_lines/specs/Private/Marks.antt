@@ -1,0 +1,63 @@
+-- The bytes at which the outline of a text stops, and where they stand, in blocks of 64.
+use Rattle.std.specs.Prelude.{bit_and, ◌≡◌, ℕ, ◌+◌, ◌/◌, ◌<◌, ◌≤◌, Bool, true, false, ◌==◌, ◌&&◌, ◌||◌, not, nat_lt, nat_le, List, length, slice_index}
+use Rattle.std.specs.Int.{bit_at}
+use Rattle.py_lines.specs.Character.{is_backslash, is_hash, is_line_feed, is_operator, is_quote, is_return, is_space}
+use Rattle.py_lines.specs.Balance.{is_closing, is_opening}
+use Rattle.py_lines.specs.Private.Run.{is_apart, is_ascii_word}
+use Rattle.py_lines.specs.declared.class.Class.{Class}
+use Rattle.py_lines.specs.declared.class.Class.TheVariants as class
+use Rattle.py_lines.specs.declared.class.TheConstants.{PLAIN, UPPER}
+use Rattle.py_lines.specs.declared.marks.Marks.{Marks}
+
+-- what opens and closes nothing outside strings and comments: bytes of words, space, and operators that are no brackets
+unfoldable pub is_plain : ℕ → Bool
+is_plain c = is_ascii_word c || (is_space c || (is_operator c && not (is_opening c || is_closing c)))
+
+-- ASCII that begins no piece
+unfoldable pub begins_nothing : ℕ → Bool
+begins_nothing c = nat_lt c 128 && not (is_plain c || (is_operator c || (is_quote c || is_apart c)))
+
+-- whether a byte is of this class
+abbrev pub is_of_class : Class → ℕ → Bool
+is_of_class class.Plain b = is_plain b
+is_of_class class.LineFeed b = is_line_feed b
+is_of_class class.Return b = is_return b
+is_of_class class.Opening b = is_opening b
+is_of_class class.Closing b = is_closing b
+is_of_class class.Quote b = is_quote b
+is_of_class class.Hash b = is_hash b
+is_of_class class.Backslash b = is_backslash b
+is_of_class class.Wide b = nat_le 128 b
+is_of_class class.Other b = begins_nothing b
+
+-- the upper halves with which the lower half of a byte is plain, a bit for each
+unfoldable pub plain_uppers : ℕ → ℕ
+plain_uppers b = slice_index PLAIN (bit_and b 15)
+
+-- the bit of the upper half of a byte
+unfoldable pub upper_bit : ℕ → ℕ
+upper_bit b = slice_index UPPER (b / 16)
+
+-- whether this bit of a number is set
+unfoldable pub is_set : ℕ → ℕ → Bool
+is_set bits k = bit_at bits k == 1
+
+-- whether a byte that isn't plain stands at this place of the text, and the text is not passed so far
+abbrev pub is_mark : List ℕ → ℕ → ℕ → Bool
+is_mark text from k = nat_le from k && (nat_lt k (length text) && not (is_plain (slice_index text k)))
+
+-- the marks are those of the text that is passed up to this byte
+pub record HasMarks (text : List ℕ) (from : ℕ) (marks : Marks) : Type 0 where
+  pub base : marks.base ≤ from
+  pub within : from ≤ length text
+  pub reach : from ≤ marks.base + 64
+  pub bits : (k : ℕ) → k < 64 → is_set marks.bits k ≡ is_mark text from (marks.base + k)
+
+-- the next byte from there on that isn't plain stands at this place, or the text ends there; it is passed
+pub record FindsNext (text : List ℕ) (from at : ℕ) (marks : Marks) : Type 0 where
+  pub after : from ≤ at
+  pub within : at ≤ length text
+  pub plain : (i : ℕ) → from ≤ i → i < at → is_plain (slice_index text i) ≡ true
+  pub special : at < length text → is_plain (slice_index text at) ≡ false
+  pub rest : at < length text → HasMarks text (at + 1) marks
+  pub held : at < length text → (marks.base ≤ at) × (at < marks.base + 64)

@@ -1,0 +1,95 @@
+//! What bytes are outside strings and comments.
+
+ghost use Rattle.std.specs.Prelude.{◌≡◌, ◌<◌, ◌≤◌, ℕ, true, length, map, not, slice_index};
+ghost use Rattle.py_lines.specs.Private.Marks.{is_of_class, is_plain, is_set, plain_uppers, upper_bit};
+
+use crate::class::Class::{
+    Backslash as B, Closing as C, Hash as H, LineFeed as F, Opening as O, Other as X, Plain as P,
+    Quote as Q, Return as R, Wide as W,
+};
+use std::simd::prelude::*;
+
+/// What a byte is outside strings and comments.
+#[derive(Clone, Copy)]
+pub enum Class {
+    /// A byte of words, a space, or an operator that is no bracket.
+    Plain,
+    LineFeed,
+    Return,
+    /// `(`, `[` or `{`.
+    Opening,
+    /// `)`, `]` or `}`.
+    Closing,
+    Quote,
+    Hash,
+    Backslash,
+    /// A byte of a character that is no ASCII.
+    Wide,
+    /// ASCII that begins no piece.
+    Other,
+}
+
+impl Class {
+    /// What a byte is.
+    #[inline(always)]
+    pub fn of(byte: u8) -> Class
+        ensures { is_of_class result byte ≡ true }
+    {
+        CLASSES[byte as usize]
+    }
+}
+
+/// What each byte is.
+static CLASSES: [Class; 256] = [
+    X, X, X, X, X, X, X, X, X, P, F, X, P, R, X, X, X, X, X, X, X, X, X, X, X, X, X, X, X, X, X, X,
+    P, P, Q, H, X, P, P, Q, O, C, P, P, P, P, P, P, P, P, P, P, P, P, P, P, P, P, P, P, P, P, P, X,
+    P, P, P, P, P, P, P, P, P, P, P, P, P, P, P, P, P, P, P, P, P, P, P, P, P, P, P, O, B, C, P, P,
+    X, P, P, P, P, P, P, P, P, P, P, P, P, P, P, P, P, P, P, P, P, P, P, P, P, P, P, O, P, C, P, X,
+    W, W, W, W, W, W, W, W, W, W, W, W, W, W, W, W, W, W, W, W, W, W, W, W, W, W, W, W, W, W, W, W,
+    W, W, W, W, W, W, W, W, W, W, W, W, W, W, W, W, W, W, W, W, W, W, W, W, W, W, W, W, W, W, W, W,
+    W, W, W, W, W, W, W, W, W, W, W, W, W, W, W, W, W, W, W, W, W, W, W, W, W, W, W, W, W, W, W, W,
+    W, W, W, W, W, W, W, W, W, W, W, W, W, W, W, W, W, W, W, W, W, W, W, W, W, W, W, W, W, W, W, W,
+];
+
+/// For each lower half of a byte, the upper halves with which the byte is plain, a bit for each; four times.
+const PLAIN: [u8; 64] = [
+    188, 252, 248, 248, 248, 252, 252, 248, 248, 249, 252, 92, 221, 92, 252, 116, 188, 252, 248,
+    248, 248, 252, 252, 248, 248, 249, 252, 92, 221, 92, 252, 116, 188, 252, 248, 248, 248, 252,
+    252, 248, 248, 249, 252, 92, 221, 92, 252, 116, 188, 252, 248, 248, 248, 252, 252, 248, 248,
+    249, 252, 92, 221, 92, 252, 116,
+];
+
+/// The bit of each upper half that ASCII has; four times.
+const UPPER: [u8; 64] = [
+    1, 2, 4, 8, 16, 32, 64, 128, 0, 0, 0, 0, 0, 0, 0, 0, 1, 2, 4, 8, 16, 32, 64, 128, 0, 0, 0, 0,
+    0, 0, 0, 0, 1, 2, 4, 8, 16, 32, 64, 128, 0, 0, 0, 0, 0, 0, 0, 0, 1, 2, 4, 8, 16, 32, 64, 128,
+    0, 0, 0, 0, 0, 0, 0, 0,
+];
+
+/// For each lane, the upper halves with which its lower half is a plain byte, a bit for each.
+#[inline(always)]
+fn plain_uppers(lanes: u8x64) -> u8x64
+    ensures { result ≡ map plain_uppers lanes }
+{
+    u8x64::from_array(PLAIN).swizzle_dyn_within::<16>(lanes & u8x64::splat(15))
+}
+
+/// For each lane, the bit of its upper half.
+#[inline(always)]
+fn upper_bits(lanes: u8x64) -> u8x64
+    ensures { result ≡ map upper_bit lanes }
+{
+    u8x64::from_array(UPPER).swizzle_dyn_within::<16>(lanes >> u8x64::splat(4))
+}
+
+/// Which of the first 64 bytes are not plain, a bit for each.
+#[inline(always)]
+pub fn special64(bytes: &[u8]) -> u64
+    requires { 64 ≤ length bytes.now }
+    ensures { (k : ℕ) → k < 64 → is_set result k ≡ not (is_plain (slice_index bytes.now k)) }
+{
+    let lanes = u8x64::from_slice(bytes);
+    (plain_uppers(lanes) & upper_bits(lanes))
+        .simd_eq(u8x64::splat(0))
+        .to_bitmask()
+}
