@@ -4,9 +4,6 @@ use Rattle.std.specs.Simd.Lanes.{Each1, chunk, mask_l, top, zip2}
 use Rattle.std.proofs.lemmas.Bool.{agree_below, agree_below_at}
 use Rattle.std.proofs.lemmas.List.{ext_get_or, get_or-map, length-map}
 use Rattle.std.proofs.lemmas.Simd.{Each1-from_get_or, Each1-get_or, SwzOk, SwzOk-from_below, bit_mask_l, bitmask_splat, get_or-chunk, get_or-swz_l_below, length-chunk, length-swz_l, swz_l, zip2_of_maps}
-use Rattle.py_lines.specs.Character.{is_operator, is_space}
-use Rattle.py_lines.specs.Balance.{is_closing, is_opening}
-use Rattle.py_lines.specs.Private.Run.{is_ascii_word}
 use Rattle.py_lines.specs.Private.Marks.{is_plain, is_set, plain_uppers, upper_bit}
 
 -- sixty-four lanes that hold bytes
@@ -60,30 +57,26 @@ looked_up place_of lanes places table of copies =
         ∙ ap (λ j. slice_index table j) (half ∙ place_is of i less)
         ∙ sym (get_or-map (λ b. slice_index table (place_of b)) lanes i 0 0 (omega (arith, less, of.bytes.0)))
 
--- a byte is plain exactly if the upper halves that go with its lower half have its own
+-- whether the upper halves that go with the lower half of a byte are without its own
 abbrev pub is_special : ℕ → Bool
 is_special b = eqb (bit_and (plain_uppers b) (upper_bit b)) 0
-
-special_is : (b : ℕ) → b < 256 → is_special b ≡ not (is_plain b)
-unfolding plain_uppers upper_bit is_plain is_ascii_word is_space is_operator is_opening is_closing
-special_is b less = agree_below_at is_special (λ c. not (is_plain c)) 256 b refl less
 
 -- the mask of the lanes for which the two look-ups have no bit in common
 abbrev pub apart_mask : List ℕ → List ℕ → ℕ
 apart_mask uppers bits = mask_l (map (top 7) (zip2 (λ a b. cond (eqb a b) 255 0) (zip2 bit_and uppers bits) (replicate 64 0))) % 2 ^ 64
 
-pub special_bits : (bytes uppers bits : List ℕ) → 64 ≤ length bytes → ((i : ℕ) → slice_index bytes i < 256)
+pub special_bits : (bytes uppers bits : List ℕ) → agree_below is_special (λ b. not (is_plain b)) 256 ≡ true → 64 ≤ length bytes → ((i : ℕ) → slice_index bytes i < 256)
     → uppers ≡ map plain_uppers (chunk 0 64 bytes) → bits ≡ map upper_bit (chunk 0 64 bytes)
     → (k : ℕ) → k < 64 → is_set (apart_mask uppers bits) k ≡ not (is_plain (slice_index bytes k))
 unfolding is_set
-special_bits bytes uppers bits enough fits e f k less =
+special_bits bytes uppers bits agree enough fits e f k less =
     ap (λ n. eqb n 1) (ap (λ m. m / 2 ^ k % 2) (bitmask_splat w8 eqb both 64 0 both-length (omega arith)) ∙ bit_mask_l (map (λ x. eqb x 0) both) k)
     ∙ back (slice_index_or (map (λ x. eqb x 0) both) k false)
     ∙ get_or-map (λ x. eqb x 0) both k 0 false (omega (arith, less, both-length))
     ∙ ap (λ l. eqb (slice_index l k) 0) both_is
     ∙ ap (λ x. eqb x 0) (get_or-map _ (chunk 0 64 bytes) k 0 0 (omega (arith, less, length-chunk 0 64 bytes enough)))
     ∙ ap is_special (get_or-chunk 0 64 bytes k 0 less ∙ ap (λ i. slice_index bytes i) start)
-    ∙ special_is (slice_index bytes k) (fits k)
+    ∙ agree_below_at is_special (λ b. not (is_plain b)) 256 (slice_index bytes k) agree (fits k)
   where
     both : List ℕ
     both = zip2 bit_and uppers bits
