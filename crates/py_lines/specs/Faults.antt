@@ -1,7 +1,8 @@
 -- Where the fault of a text stands, and of what kind it is. A text is live up to a place if some text that begins with what
 -- stands before is read. The fault stands at the first character through which the text isn't live; else at the first
 -- bytes that begin no character; else at the text's end (`IsFaultAt`). What is open at a place is said by OpenFields. It is
--- said of any dialect; the names that have no `In` at their end speak of texts with fields.
+-- said of any dialect: where one of two names has `In` at its end, it takes a dialect, and the other speaks of texts with
+-- fields.
 use Rattle.std.specs.Prelude.{◌≡◌, ℕ, ◌+◌, ◌⊎◌, true, false, List, [], ◌∷◌, ◌++◌}
 use Rattle.std.specs.Str.{byte, all_scalars}
 use Rattle.py_lines.specs.Character.{is_break}

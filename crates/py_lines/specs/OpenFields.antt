@@ -1,6 +1,6 @@
 -- What is open at a place of a text with fields: strings in fields, and fields in strings, one in another. Python Language
--- Reference of Python 3.14, the sections on f-strings and t-strings. It is said of any dialect; the names that have no `In` at
--- their end speak of texts with fields.
+-- Reference of Python 3.14, the sections on f-strings and t-strings. It is said of any dialect: where one of two names has `In`
+-- at its end, it takes a dialect, and the other speaks of texts with fields.
 use Rattle.std.specs.Prelude.{◌≡◌, ℕ, ◌+◌, ◌<◌, Bool, true, false, ◌⊎◌, List, [], ◌∷◌, ◌++◌}
 use Rattle.std.specs.Str.{byte}
 use Rattle.std.specs.List.{list_all, list_any}
@@ -181,8 +181,8 @@ AreBegun = AreBegunIn fielded_dialect
 abbrev pub BeginsList : List ℕ → List ℕ → ℕ → Type 0
 BeginsList = BeginsListIn fielded_dialect
 
-abbrev pub StandsIn : (List ℕ → Type 0) → List ℕ → List ℕ → Type 0
-StandsIn = StandsOpenIn fielded_dialect
+abbrev pub StandsOpen : (List ℕ → Type 0) → List ℕ → List ℕ → Type 0
+StandsOpen = StandsOpenIn fielded_dialect
 
 abbrev pub IsOpenUpTo : Host → Spot → List ℕ → Type 0
 IsOpenUpTo = IsOpenUpToIn fielded_dialect

@@ -1,5 +1,6 @@
 -- What it is to read a text: its bytes as characters, and these as pieces whose brackets stand in pairs. Python Language
--- Reference, 2.1. It is said of any dialect; the names that have no `In` at their end speak of texts with fields.
+-- Reference, 2.1. It is said of any dialect: where one of two names has `In` at its end, it takes a dialect, and the other
+-- speaks of texts with fields.
 use Rattle.std.specs.Prelude.{◌≡◌, ℕ, ◌≤◌, ◌⊎◌, true, List, [], ◌∷◌, ◌++◌, length, encode_utf8_all}
 use Rattle.std.specs.Str.{all_scalars, StartsWithNoChar}
 use Rattle.py_lines.specs.Piece.{line_end, Piece, spelled}

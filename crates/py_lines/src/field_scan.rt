@@ -667,7 +667,7 @@ impl FieldScan {
         }
     }
 
-    /// How many bytes of ASCII leave the open piece as it is but for its text, and end no line.
+    /// How many bytes of ASCII leave all of the open piece as it is except its text, and end no line.
     fn keep(&self, depth: usize, bytes: &[u8]) -> usize
         ensures { HoldsField self.now depth bytes.now result }
     {
@@ -691,7 +691,7 @@ impl FieldScan {
     }
 
     /// How many bytes of ASCII leave the scan as it is, and end no line, where so many brackets are open round the string: those
-    /// that leave the open piece as it is but for its text, or simple text with whole fields.
+    /// that leave all of the open piece as it is except its text, or simple text with whole fields.
     pub fn hold(&self, depth: usize, bytes: &[u8]) -> usize
         ensures { HoldsField self.now depth bytes.now result }
     {

@@ -8,7 +8,7 @@ use Rattle.py_lines.specs.Piece.{operator, Piece, begins_marked, spelled}
 use Rattle.py_lines.specs.Balance.{IsBalanced, is_opening, is_closing, depth_after, depth_through}
 use Rattle.py_lines.specs.Fields.{HasNoColon, fielded}
 use Rattle.py_lines.specs.Faults.{IsLive, DiesAt, IsFieldDue, IsAtDepth, OpensBraceTooDeep, InShortSpecification, OpensTooDeep, Cause, brace_too_deep, breaks_string, breaks_join, closes_wrong, opens_too_deep, ends_specification, begins_nothing, kind_of_cause, Explains, causes_before, NoneExplains, IsCharacterFault}
-use Rattle.py_lines.specs.OpenFields.{BeginsList, StandsIn, IsPlainShortPrefix, IsOpenLiteral, InOpenShort, AfterOpenBackslash, InSpecification}
+use Rattle.py_lines.specs.OpenFields.{BeginsList, StandsOpen, IsPlainShortPrefix, IsOpenLiteral, InOpenShort, AfterOpenBackslash, InSpecification}
 use Rattle.py_lines.specs.LogicalLine.{byte_len}
 use Rattle.py_lines.specs.FieldStrings.{Host, Place, literal, specification}
 use Rattle.py_lines.specs.declared.fault.FaultKind.{FaultKind}
@@ -333,7 +333,7 @@ module _ (s : FieldScanned) (read : List ℕ) (c : ℕ) (sound : IsFieldSound tw
       let parts = and_parts (not (is_after_brace at)) (not host.is_long) is in
       let start : List ℕ = before literal s.outer ++ spelled s.done in
       stands_map (IsOpenLiteral false) (λ front. IsPlainShortPrefix front ⊎ IsOpenLiteral false front) read start (λ front x. inr x)
-      (subst (λ b. StandsIn (IsOpenLiteral b) read start) (not-true host.is_long parts.1)
+      (subst (λ b. StandsOpen (IsOpenLiteral b) read start) (not-true host.is_long parts.1)
       (literal_is_open two_hundred s.outer s.done s.openers host named at s.held read own (λ same. both_ways _ (not-true (is_after_brace at) parts.0) (ap is_after_brace same))))
   short_in (body host specification named at) is own = absurd (both_ways _ refl is)
 

@@ -6,7 +6,7 @@ use Rattle.py_lines.specs.Piece.{operator, Piece, spelled}
 use Rattle.py_lines.specs.Balance.{is_opener, depth_after, depth_through}
 use Rattle.py_lines.specs.Fields.{IsShallow}
 use Rattle.py_lines.specs.Faults.{IsFieldDue, OpensBraceTooDeep, InOpenBracket, Unfinished, open_brace, open_short, open_long, open_join, open_bracket, open_inside, IsOpenAtEnd}
-use Rattle.py_lines.specs.OpenFields.{AreBegun, BeginsList, StandsIn, IsPlainShortPrefix, IsPlainLongPrefix, IsOpenLiteral}
+use Rattle.py_lines.specs.OpenFields.{AreBegun, BeginsList, StandsOpen, IsPlainShortPrefix, IsPlainLongPrefix, IsOpenLiteral}
 use Rattle.py_lines.specs.LogicalLine.{byte_len}
 use Rattle.py_lines.specs.FieldStrings.{Host, Place, literal, specification, begins_open}
 use Rattle.py_lines.specs.declared.mode.Mode.{Mode}
@@ -206,7 +206,7 @@ literal_open outer done openers host named at held read sound other = go host.is
     start : List ℕ
     start = before literal outer ++ spelled done
 
-    go : (b : Bool) → StandsIn (IsOpenLiteral b) read start → (offset : ℕ) × IsOpenAtEnd (if b then open_long else open_short) read offset
+    go : (b : Bool) → StandsOpen (IsOpenLiteral b) read start → (offset : ℕ) × IsOpenAtEnd (if b then open_long else open_short) read offset
     go true own = (byte_len start, (start, stands_map (IsOpenLiteral true) (λ front. IsPlainLongPrefix front ⊎ IsOpenLiteral true front) read start (λ front is. inr is) own, refl))
     go false own = (byte_len start, (start, stands_map (IsOpenLiteral false) (λ front. IsPlainShortPrefix front ⊎ IsOpenLiteral false front) read start (λ front is. inr is) own, refl))
 

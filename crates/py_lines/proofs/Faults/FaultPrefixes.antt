@@ -4,7 +4,7 @@ use Rattle.std.specs.Str.{byte}
 use Rattle.py_lines.specs.Piece.{spelled}
 use Rattle.py_lines.specs.PieceGrammar.{joined}
 use Rattle.py_lines.specs.Faults.{InShortSpecification, InOpenBracket, Cause, brace_too_deep, breaks_string, breaks_join, closes_wrong, opens_too_deep, ends_specification, begins_nothing, kind_of_cause, Explains, kind_of_unfinished, IsUndecodable, Unfinished, open_brace, open_short, open_long, open_join, open_bracket, open_inside, IsOpenAtEnd, IsFaultAt, at_character, at_bytes, at_end}
-use Rattle.py_lines.specs.OpenFields.{Spot, IsOpenString, in_literal, in_specification, StandsIn, InOpenShort, InSpecification, InOpenField}
+use Rattle.py_lines.specs.OpenFields.{Spot, IsOpenString, in_literal, in_specification, StandsOpen, InOpenShort, InSpecification, InOpenField}
 use Rattle.py_lines.specs.LogicalLine.{byte_len}
 use Rattle.py_lines.specs.FieldStrings.{Host, literal, specification}
 use Rattle.py_lines.specs.declared.fault.FaultKind.{FaultKind}
@@ -22,7 +22,7 @@ pub record PrefixTo (characters : List ℕ) (offset : ℕ) : Type 0 where
 abbrev Begins : List ℕ → List ℕ → Type 0
 Begins start characters = (rest : List ℕ) × (start ++ rest ≡ characters)
 
-stands_begins : (IsOpen : List ℕ → Type 0) (characters start : List ℕ) → StandsIn IsOpen characters start → Begins start characters
+stands_begins : (IsOpen : List ℕ → Type 0) (characters start : List ℕ) → StandsOpen IsOpen characters start → Begins start characters
 stands_begins IsOpen characters start at = (at.front, at.spell)
 
 -- the text of a string up to the field whose specification is open

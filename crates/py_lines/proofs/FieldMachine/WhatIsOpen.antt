@@ -4,7 +4,7 @@ use Rattle.std.proofs.lemmas.Bool.{both_ways}
 use Rattle.py_lines.specs.Character.{is_mark, is_quote}
 use Rattle.py_lines.specs.Piece.{begins, spelled}
 use Rattle.py_lines.specs.PieceGrammar.{joined, IsPrefix}
-use Rattle.py_lines.specs.OpenFields.{IsSlash, Spot, StandsIn, IsOpenUpTo, IsOpenLiteral, IsPlainShortPrefix, IsPlainLongPrefix, InOpenShort, InOpenLong, AfterOpenBackslash, InSpecification}
+use Rattle.py_lines.specs.OpenFields.{IsSlash, Spot, StandsOpen, IsOpenUpTo, IsOpenLiteral, IsPlainShortPrefix, IsPlainLongPrefix, InOpenShort, InOpenLong, AfterOpenBackslash, InSpecification}
 use Rattle.py_lines.specs.FieldStrings.{is_field_prefix, Host, Place, literal, specification}
 use Rattle.py_lines.specs.declared.mode.Mode.{Mode}
 use Rattle.py_lines.specs.declared.mode.Mode.TheVariants as modes
@@ -46,7 +46,7 @@ pub record FrontAt (characters start front : List ℕ) : Type 0 where
   pub start_is : before literal from.outer ++ spelled (field_pieces from) ≡ start
   pub goes : (t : FieldScanned) (c : ℕ) (cs : List ℕ) → front ≡ c ∷ cs → Goes NoLimit from front t → Goes NoLimit field_text_start characters t
 
-front_at : (IsOpen : List ℕ → Type 0) (characters start : List ℕ) (at : StandsIn IsOpen characters start) → begins is_mark at.front ≡ false → FrontAt characters start at.front
+front_at : (IsOpen : List ℕ → Type 0) (characters start : List ℕ) (at : StandsOpen IsOpen characters start) → begins is_mark at.front ≡ false → FrontAt characters start at.front
 front_at IsOpen characters start at unmarked =
     let pieces_at = after_pieces at.outside at.depth at.pieces at.front (list_runs at.outside (spelled at.pieces ++ at.front) at.depth at.list) at.begun (string_begins at.pieces at.front unmarked) in
     record {
@@ -161,7 +161,7 @@ literal_unmarked : (is_long : Bool) (front : List ℕ) → IsOpenLiteral is_long
 literal_unmarked is_long front (host, spot, is, at_literal, long) = subst (λ t. begins is_mark t ≡ false) (sym is.spell) (open_unmarked host spot is.body is.last is.last is.string)
 
 -- a string that is open: one without fields, or the literal part of one with fields
-string_open_comes : (IsPlain : List ℕ → Type 0) (is_long : Bool) (characters start : List ℕ) → ((front : List ℕ) → IsPlain front → begins is_mark front ≡ false) → ((front : List ℕ) → FrontAt characters start front → IsPlain front → Comes characters (λ s. InLiteral is_long s.mode × StartsAfter literal start s)) → StandsIn (λ front. IsPlain front ⊎ IsOpenLiteral is_long front) characters start → Comes characters (λ s. InLiteral is_long s.mode × StartsAfter literal start s)
+string_open_comes : (IsPlain : List ℕ → Type 0) (is_long : Bool) (characters start : List ℕ) → ((front : List ℕ) → IsPlain front → begins is_mark front ≡ false) → ((front : List ℕ) → FrontAt characters start front → IsPlain front → Comes characters (λ s. InLiteral is_long s.mode × StartsAfter literal start s)) → StandsOpen (λ front. IsPlain front ⊎ IsOpenLiteral is_long front) characters start → Comes characters (λ s. InLiteral is_long s.mode × StartsAfter literal start s)
 string_open_comes IsPlain is_long characters start unmarked comes at =
     ⊎_elim (λ is. comes at.front (front_at _ characters start at (unmarked at.front is)) is)
     (λ is. literal_comes characters start at.front is_long (front_at _ characters start at (literal_unmarked is_long at.front is)) is) at.open_yet

@@ -4,7 +4,7 @@ use Rattle.std.proofs.lemmas.Bool.{both_ways, and_right}
 use Rattle.py_lines.specs.Character.{is_backslash, is_brace}
 use Rattle.py_lines.specs.Piece.{string, Piece, spelled}
 use Rattle.py_lines.specs.Balance as balance
-use Rattle.py_lines.specs.OpenFields.{IsUnescaped, IsShortPrefix, IsLongPrefix, IsSlash, Spot, AreBegun, BeginsList, StandsIn, IsOpenUpTo, IsPlainShortPrefix, IsPlainLongPrefix, IsOpenLiteral, InOpenShort, InOpenLong, AfterOpenBackslash, InSpecification, InFieldCode}
+use Rattle.py_lines.specs.OpenFields.{IsUnescaped, IsShortPrefix, IsLongPrefix, IsSlash, Spot, AreBegun, BeginsList, StandsOpen, IsOpenUpTo, IsPlainShortPrefix, IsPlainLongPrefix, IsOpenLiteral, InOpenShort, InOpenLong, AfterOpenBackslash, InSpecification, InFieldCode}
 use Rattle.py_lines.specs.FieldStrings.{Host, Place, literal, specification, may_be_escaped, escape}
 use Rattle.py_lines.specs.declared.mode.Mode.{Mode}
 use Rattle.py_lines.specs.declared.mode.Mode.TheVariants as modes
@@ -25,7 +25,7 @@ use Rattle.py_lines.proofs.FieldSoundness.HostSteps.{no_parts, short_opens}
 use Rattle.py_lines.proofs.FieldSoundness.ListEnds.{code_at_end, list_ends}
 use Rattle.py_lines.proofs.FieldSoundness.OpenTexts.{begun_before, are_begun, begins_in, parts_at, stands_open, list_begins}
 
-pub stands_map : (A B : List ℕ → Type 0) (characters start : List ℕ) → ((front : List ℕ) → A front → B front) → StandsIn A characters start → StandsIn B characters start
+pub stands_map : (A B : List ℕ → Type 0) (characters start : List ℕ) → ((front : List ℕ) → A front → B front) → StandsOpen A characters start → StandsOpen B characters start
 stands_map A B characters start f at = record {
   outside = at.outside;
   depth = at.depth;
@@ -90,7 +90,7 @@ at_open limit outer depth host place named after_brace held other h = absurd (ot
 -- a string with fields that is open up to a spot
 pub record BodyOpen (host : Host) (place : Place) (named : Bool) (characters start : List ℕ) : Type 0 where
   pub spot : Spot
-  pub stands : StandsIn (IsOpenUpTo host spot) characters start
+  pub stands : StandsOpen (IsOpenUpTo host spot) characters start
   pub place_is : spot.place ≡ place
   pub named_is : spot.named ≡ named
 
@@ -118,7 +118,7 @@ module _ (limit : Limit) (outer : List Level) (done : List Piece) (openers : Lis
       }
 
   -- a piece of the innermost list that is open
-  piece_open : (IsOpen : List ℕ → Type 0) → text_place m ≡ literal → IsOpen held → StandsIn IsOpen read (before literal outer ++ spelled done)
+  piece_open : (IsOpen : List ℕ → Type 0) → text_place m ≡ literal → IsOpen held → StandsOpen IsOpen read (before literal outer ++ spelled done)
   piece_open IsOpen at is =
       let list = subst (λ p. HoldsList limit outer p done openers held) at sound.list in
       let levels = subst (λ p. HoldsLevels limit p outer (spelled done ++ held)) at sound.levels in
@@ -135,17 +135,17 @@ module _ (limit : Limit) (outer : List Level) (done : List Piece) (openers : Lis
       }
 
 -- the literal part of a string, a short or a long one
-open_literal : (host : Host) (named : Bool) (characters start : List ℕ) (is_long : Bool) → host.is_long ≡ is_long → BodyOpen host literal named characters start → StandsIn (IsOpenLiteral is_long) characters start
+open_literal : (host : Host) (named : Bool) (characters start : List ℕ) (is_long : Bool) → host.is_long ≡ is_long → BodyOpen host literal named characters start → StandsOpen (IsOpenLiteral is_long) characters start
 open_literal host named characters start is_long long own = stands_map (IsOpenUpTo host own.spot) (IsOpenLiteral is_long) characters start (λ front up. (host, own.spot, up, own.place_is, long)) own.stands
 
 pub body_is_open : (limit : Limit) (outer : List Level) (done : List Piece) (openers : List ℕ) (host : Host) (place : Place) (named : Bool) (at : At) (held read : List ℕ) → IsFieldSound limit (field_state outer done openers (body host place named at) held) read → (at ≡ after_brace → ⊥) → BodyOpen host place named read (before place outer ++ spelled done)
 body_is_open limit outer done openers host place named at held read sound other =
     body_open limit outer done openers (body host place named at) held read sound host place named refl (at_open limit outer (length openers + levels_open outer) host place named at held other sound.mode)
 
-pub literal_is_open : (limit : Limit) (outer : List Level) (done : List Piece) (openers : List ℕ) (host : Host) (named : Bool) (at : At) (held read : List ℕ) → IsFieldSound limit (field_state outer done openers (body host literal named at) held) read → (at ≡ after_brace → ⊥) → StandsIn (IsOpenLiteral host.is_long) read (before literal outer ++ spelled done)
+pub literal_is_open : (limit : Limit) (outer : List Level) (done : List Piece) (openers : List ℕ) (host : Host) (named : Bool) (at : At) (held read : List ℕ) → IsFieldSound limit (field_state outer done openers (body host literal named at) held) read → (at ≡ after_brace → ⊥) → StandsOpen (IsOpenLiteral host.is_long) read (before literal outer ++ spelled done)
 literal_is_open limit outer done openers host named at held read sound other = open_literal host named read (before literal outer ++ spelled done) host.is_long refl (body_is_open limit outer done openers host literal named at held read sound other)
 
-pub opened_is_open : (limit : Limit) (outer : List Level) (done : List Piece) (openers : List ℕ) (host : Host) (held read : List ℕ) → IsFieldSound limit (field_state outer done openers (opened host) held) read → StandsIn (IsOpenLiteral false) read (before literal outer ++ spelled done)
+pub opened_is_open : (limit : Limit) (outer : List Level) (done : List Piece) (openers : List ℕ) (host : Host) (held read : List ℕ) → IsFieldSound limit (field_state outer done openers (opened host) held) read → StandsOpen (IsOpenLiteral false) read (before literal outer ++ spelled done)
 opened_is_open limit outer done openers host held read sound =
     let depth = length openers + levels_open outer in
     let parts = no_parts limit outer depth host held [] (short_opens host held sound.mode.2 sound.mode.0) sound.mode.1 in

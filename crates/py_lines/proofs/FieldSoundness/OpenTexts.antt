@@ -41,7 +41,7 @@ are_begun limit outer place done openers held more h = begun_before outer done o
 
 -- A string that is open up to `text`, before the rest: the list in which it stands, and the spot up to which it is open. `done`
 -- and `openers` are of the innermost list, in which a string stands whose literal part is open.
-pub record StandsOpen (place : Place) (outer : List Level) (done : List Piece) (openers : List ℕ) (host : Host) (named : Bool) (text rest : List ℕ) : Type 0 where
+pub record IsOpenBefore (place : Place) (outer : List Level) (done : List Piece) (openers : List ℕ) (host : Host) (named : Bool) (text rest : List ℕ) : Type 0 where
   pub outside : List ℕ
   pub base : ℕ
   pub pieces : List Piece
@@ -55,7 +55,7 @@ pub record StandsOpen (place : Place) (outer : List Level) (done : List Piece) (
   pub depth_is : base + depth_through 0 pieces + spot.specifications ≡ length openers + levels_open outer
 
 -- directly after the `{` of a field, a list begins
-pub begins_in : (l : Level) (ls : List Level) (text rest : List ℕ) → l.front ≡ text ++ byte "{" ∷ [] → (l.place ≡ literal → begins_open rest ≡ false) → StandsOpen l.place ls l.done l.openers l.host false text (byte "{" ∷ rest) → BeginsList (before literal (l ∷ ls)) rest (levels_open (l ∷ ls))
+pub begins_in : (l : Level) (ls : List Level) (text rest : List ℕ) → l.front ≡ text ++ byte "{" ∷ [] → (l.place ≡ literal → begins_open rest ≡ false) → IsOpenBefore l.place ls l.done l.openers l.host false text (byte "{" ∷ rest) → BeginsList (before literal (l ∷ ls)) rest (levels_open (l ∷ ls))
 begins_in l ls text rest front single inner =
     in_field (before literal (l ∷ ls)) rest (levels_open (l ∷ ls)) inner.outside inner.base inner.pieces text l.host inner.spot
     (ap (λ t. before l.place ls ++ (spelled l.done ++ t)) front
@@ -74,7 +74,7 @@ any_parts : (limit : Limit) (depth : ℕ) (host : Host) (place : Place) (parts :
 any_parts limit depth host place parts rest each = parts_map (limit.FieldsAt depth) Fields (limit.are_fields depth) host place false parts rest each
 
 -- a literal part is open in a list
-literal_open : (limit : Limit) (outer : List Level) (done : List Piece) (openers : List ℕ) (host : Host) (named : Bool) (text rest held more : List ℕ) → text ++ rest ≡ held ++ more → HoldsList limit outer literal done openers held → PartsAt limit outer (length openers + levels_open outer) host literal named text rest → BeginsList (before literal outer) (spelled done ++ (text ++ rest)) (levels_open outer) → StandsOpen literal outer done openers host named text rest
+literal_open : (limit : Limit) (outer : List Level) (done : List Piece) (openers : List ℕ) (host : Host) (named : Bool) (text rest held more : List ℕ) → text ++ rest ≡ held ++ more → HoldsList limit outer literal done openers held → PartsAt limit outer (length openers + levels_open outer) host literal named text rest → BeginsList (before literal outer) (spelled done ++ (text ++ rest)) (levels_open outer) → IsOpenBefore literal outer done openers host named text rest
 literal_open limit outer done openers host named text rest held more same list h begins = record {
   outside = before literal outer;
   base = levels_open outer;
@@ -94,7 +94,7 @@ literal_open limit outer done openers host named text rest held more same list h
 }
 
 -- and a specification
-specification_open : (limit : Limit) (l : Level) (ls : List Level) (done : List Piece) (openers : List ℕ) (host : Host) (named : Bool) (text rest : List ℕ) (own : HoldsLevel limit l ls) → done ≡ [] → openers ≡ [] → (h : PartsAt limit (l ∷ ls) (length openers + levels_open (l ∷ ls)) host specification named text rest) → StandsOpen l.place ls l.done l.openers l.host false own.text (byte "{" ∷ (spelled h.opens_with.inside ++ (byte ":" ∷ (joined h.parts ++ rest)))) → StandsOpen specification (l ∷ ls) done openers host named text rest
+specification_open : (limit : Limit) (l : Level) (ls : List Level) (done : List Piece) (openers : List ℕ) (host : Host) (named : Bool) (text rest : List ℕ) (own : HoldsLevel limit l ls) → done ≡ [] → openers ≡ [] → (h : PartsAt limit (l ∷ ls) (length openers + levels_open (l ∷ ls)) host specification named text rest) → IsOpenBefore l.place ls l.done l.openers l.host false own.text (byte "{" ∷ (spelled h.opens_with.inside ++ (byte ":" ∷ (joined h.parts ++ rest)))) → IsOpenBefore specification (l ∷ ls) done openers host named text rest
 specification_open limit l ls done openers host named text rest own no_done no_openers h inner =
     let opens = h.opens_with in
     let code = spelled opens.inside in
@@ -130,7 +130,7 @@ specification_open limit l ls done openers host named text rest own no_done no_o
     }
 
 -- so is any string that the machine holds
-pub stands_open : (limit : Limit) (place : Place) (outer : List Level) (done : List Piece) (openers : List ℕ) (host : Host) (named : Bool) (text rest held more : List ℕ) → text ++ rest ≡ held ++ more → HoldsList limit outer place done openers held → PartsAt limit outer (length openers + levels_open outer) host place named text rest → HoldsLevels limit place outer (spelled done ++ held) → StandsOpen place outer done openers host named text rest
+pub stands_open : (limit : Limit) (place : Place) (outer : List Level) (done : List Piece) (openers : List ℕ) (host : Host) (named : Bool) (text rest held more : List ℕ) → text ++ rest ≡ held ++ more → HoldsList limit outer place done openers held → PartsAt limit outer (length openers + levels_open outer) host place named text rest → HoldsLevels limit place outer (spelled done ++ held) → IsOpenBefore place outer done openers host named text rest
 stands_open limit literal [] done openers host named text rest held more same list h levels =
     literal_open limit [] done openers host named text rest held more same list h (at_start [] _ 0 refl refl)
 stands_open limit literal (l ∷ ls) done openers host named text rest held more same list h levels =

@@ -31,7 +31,7 @@ is_code_mode modes.Space = true
 is_code_mode (modes.Word s) = true
 is_code_mode other = false
 
--- the same, but for words
+-- the same without words
 abbrev pub is_apart_mode : Mode → Bool
 is_apart_mode modes.Free = true
 is_apart_mode modes.Space = true

@@ -1,4 +1,5 @@
--- The machine that reads for `Lines`, one character at a time. It serves the contracts of private functions; what a
+-- The machine that knows no fields in strings: it goes through a text, one character at a time. Those of ScanMachine, which
+-- reads for `Lines` and `Scanner`, and of FieldMachine are made from it. It serves the contracts of private functions; what a
 -- text reads to is said by Piece, Balance, LogicalLine and Lexed, and proofs tie the two.
 use Rattle.std.specs.Prelude.{◌≡◌, ℕ, Bool, true, false, ◌==◌, ◌||◌, ◌&&◌, Option, None, Some, List, [], ◌∷◌, ◌++◌, length, nat_lt, if◌then◌else◌}
 use Rattle.py_lines.specs.Character.{is_mark, is_space, is_word_character, is_word_start, is_digit, is_quote, is_operator, is_line_feed, is_return, is_break, is_hash, is_backslash, is_r, is_b, is_f, is_t, is_u}
