@@ -5,8 +5,8 @@
 
 PROGRAM is the built isort. Each text, or each whose name holds a NAME, is made of n parts. n begins at 500 and is doubled
 until sorting takes S (0.1) seconds, and then n, 2n and 4n parts are sorted. Each is sorted N times (3) from standard input,
-under settings of its own where it has some, and the least CPU time counts. The time on an empty text is taken off; the
-time that reading the settings takes is not.
+under settings of its own where it has some, and the least CPU time counts. A few texts are listed in place of sorting. The
+time on an empty text is taken off; the time that reading the settings takes is not.
 
 A row of a Markdown table is printed for each text: n, the bytes of text and settings at 4n, the three times, and the
 exponent e for which 4n parts take 4^e times as long as n. It is 1 where time grows with the size alone, and 2 where
@@ -14,6 +14,8 @@ twice the parts take four times as long. The status is 1 if one exponent is abov
 which n log n and a table that outgrows the cache stay below."""
 
 import argparse
+import functools
+import itertools
 import json
 import math
 import os
@@ -30,16 +32,44 @@ LARGEST = 100_000_000
 OWN = '[tool.isort]\nsections = ["FUTURE", "Own"]\nknown_own = %s\n'
 
 
+# The hash of the toolchain's maps, where they are given no other: 16 bytes at a time are multiplied as two numbers, and the
+# halves of the product are joined by xor. It begins with a fixed seed, so names can be chosen that have one hash.
+SEED, MULTIPLIER, WORD = 0x243F6A8885A308D3, 0x9E3779B97F4A7C15, (1 << 64) - 1
+# Its state after the number of an enum's first variant.
+FIRST_VARIANT = SEED * (MULTIPLIER ^ 16) & WORD ^ SEED * (MULTIPLIER ^ 16) >> 64
+
+
 class Growing(NamedTuple):
-    """A text of n parts, and settings for it."""
+    """A text of n parts, settings for it, and the options to list it by where it isn't sorted."""
 
     text: Callable[[int], str]
     settings: Callable[[int], str] = lambda n: ""
+    listing: tuple[str, ...] = ()
 
 
 def shuffled(lines: list[str]) -> str:
     random.Random(1).shuffle(lines)
     return "".join(lines)
+
+
+@functools.cache
+def common_start(state: int) -> str:
+    """24 letters and digits: the hash is the same of all names of 32 that begin with them, after this state of the hash.
+
+    The last eight are its state after the first 16, so the next product is 0 whatever the name's last eight are."""
+    for number in itertools.count():
+        start = f"a{number:015}".encode()
+        first, second = (int.from_bytes(start[place : place + 8], "little") for place in (0, 8))
+        product = (first ^ (state + 32) & WORD) * (second ^ MULTIPLIER)
+        after = (product & WORD ^ product >> 64).to_bytes(8, "little")
+        if after.isalnum():
+            return (start + after).decode()
+    raise AssertionError
+
+
+def colliding(n: int, state: int = SEED) -> list[str]:
+    """n names with one hash after this state."""
+    return [f"{common_start(state)}{i:08}" for i in range(n)]
 
 
 def imports(n: int) -> str:
@@ -84,6 +114,13 @@ TEXTS = {
     "n modules in `known_standard_library`": Growing(imports, table("known_standard_library")),
     "n modules in the list of an own section": Growing(imports, lambda n: OWN % modules(n)),
     "n modules in the lists of 64 own sections": Growing(imports, own_lists),
+    "n modules whose hashes would collide": Growing(
+        lambda n: shuffled([f"import {name}\n" for name in colliding(n, FIRST_VARIANT)])
+    ),
+    "n comments whose hashes would collide": Growing(lambda n: "".join(f"import a  # {name}\n" for name in colliding(n))),
+    "n modules whose hashes would collide, listed once each": Growing(
+        lambda n: shuffled([f"import {name}\n" for name in colliding(n)]), listing=("--identify", "--unique")
+    ),
     "one statement n times": Growing(lambda n: "import a\n" * n),
     "n statements of one module": Growing(lambda n: shuffled([f"from a import b{i}\n" for i in range(n)])),
     "n names in brackets": Growing(lambda n: f"from a import ({', '.join(f'b{i}' for i in range(n))})\n"),
@@ -123,9 +160,15 @@ class Bench:
 
     def __init__(self, program: str, folder: Path, rounds: int) -> None:
         self.text, self.settings, self.rounds = folder / "text.py", folder / "pyproject.toml", rounds
-        self.words = [program, "--settings-file", str(self.settings), "-"]
-        self.write(Growing(lambda n: ""), 0)
-        self.start = min(seconds(self.words, self.text) for _ in range(10))
+        self.program = program
+        empty = Growing(lambda n: "")
+        self.write(empty, 0)
+        self.start = min(seconds(self.words(empty), self.text) for _ in range(10))
+
+    def words(self, growing: Growing) -> list[str]:
+        """The command that sorts the text, or lists it."""
+        options = growing.listing or ("--settings-file", str(self.settings))
+        return [self.program, *options, "-"]
 
     def write(self, growing: Growing, n: int) -> int:
         """Writes the text of n parts and its settings, and answers how many bytes both have."""
@@ -134,7 +177,7 @@ class Bench:
     def sort(self, growing: Growing, n: int, rounds: int) -> tuple[int, float]:
         """The bytes of the text of n parts and its settings, and the seconds that sorting it takes."""
         size = self.write(growing, n)
-        return size, min(seconds(self.words, self.text) for _ in range(rounds)) - self.start
+        return size, min(seconds(self.words(growing), self.text) for _ in range(rounds)) - self.start
 
     def least_count(self, growing: Growing, enough: float) -> int:
         """The first n, doubled again and again, for which sorting takes long enough."""
