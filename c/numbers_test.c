@@ -1,4 +1,4 @@
-/* Meets each number of fihroste.h, by a call that answers or takes it, and each field of an answer at its place.
+/* Meets each number of fihroste.h, by a call that answers or takes it, and each field of an answer and a handle at its place.
 
        numbers_test
 
@@ -204,6 +204,26 @@ static void try_keys(void) {
     count(fihroste_key_name(FIHROSTE_OWN_LIST + 1, out, sizeof out) == 0, "no key has a number above that of own lists");
 }
 
+/* A handle has 16 bytes, and no call writes beside it. */
+static void try_handle(void) {
+    static const uint8_t blank[8] = {0xAA, 0xAA, 0xAA, 0xAA, 0xAA, 0xAA, 0xAA, 0xAA};
+    struct { uint8_t before[8]; fihroste_kept kept; uint8_t after[8]; } block = {.kept = {0}};
+    memcpy(block.before, blank, 8);
+    memcpy(block.after, blank, 8);
+    fihroste_kept *kept = &block.kept;
+    expect("nothing is kept", fihroste_check_kept(BYTES(""), kept), (fihroste_answer){.status = FIHROSTE_ARGUMENT});
+    expect("read", fihroste_settings_read(BYTES("[tool.isort]\nx = 1\n"), 0, kept), (fihroste_answer){0});
+    uint64_t pointer;
+    memcpy(&pointer, (uint8_t *)kept + 8, 8);
+    bool is_full = *(uint8_t *)kept == 1 && pointer != 0 && kept->full && (uint64_t)(uintptr_t)kept->settings == pointer;
+    count(sizeof *kept == 16 && is_full, "the fields of a handle");
+    expect("unknown", fihroste_settings_unknown(kept, out, sizeof out), (fihroste_answer){.size = 9});
+    fihroste_settings_free(kept);
+    memcpy(&pointer, (uint8_t *)kept + 8, 8);
+    count(*(uint8_t *)kept == 0 && pointer == 0, "the fields of a handle that keeps nothing");
+    count(memcmp(block.before, blank, 8) == 0 && memcmp(block.after, blank, 8) == 0, "bytes beside a handle");
+}
+
 int main(void) {
     try_statuses();
     try_faults();
@@ -212,6 +232,7 @@ int main(void) {
     try_unique();
     try_sections();
     try_keys();
+    try_handle();
     printf("%ld passed, %ld failed\n", passed, failed);
     return failed != 0;
 }

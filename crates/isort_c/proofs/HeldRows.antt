@@ -1,5 +1,5 @@
 -- A box at the types that a handle keeps, and what stands in one.
-use Rattle.std.proofs.Common.{◌≡◌, List, [], Option, Some, None, IsSome, refl}
+use Rattle.std.proofs.Common.{◌≡◌, [], Option, Some, None, IsSome, refl}
 use mir.Syntax.{impl, tnil, dnil}
 use denote.RattleType.{RattleType}
 use denote.Signature.{Slot, plain}

@@ -41,10 +41,14 @@ abbrev pub bad_key_name : SettingsError → List ℕ
 bad_key_name (refusal.BadValue k) = name_of k
 bad_key_name other = []
 
+-- the answer with the names of unknown keys, in the buffer
+abbrev pub TellsNames : List (List ℕ) → Answer → List ℕ → List ℕ → Type 0
+TellsNames names answer old new =
+    (answer ≡ record (plain_answer SAME) { size = length (name_records names) }) × (new ≡ filled (name_records names) old)
+
 -- the names of the unknown keys in the buffer; or why settings are refused, and the name of the key whose value is bad
 abbrev pub TellsOf : Result (Values × List (List ℕ)) SettingsError → Answer → List ℕ → List ℕ → Type 0
-TellsOf (Ok (v, unknown)) answer old new =
-    (answer ≡ record (plain_answer SAME) { size = length (name_records unknown) }) × (new ≡ filled (name_records unknown) old)
+TellsOf (Ok (v, unknown)) answer old new = TellsNames unknown answer old new
 TellsOf (Err e) answer old new = (answer ≡ record (refused_answer e) { size = length (bad_key_name e) }) × (new ≡ filled (bad_key_name e) old)
 
 -- what the text of settings says with this profile, or that memory ran out

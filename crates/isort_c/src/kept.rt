@@ -22,7 +22,7 @@ use std::str;
 use std::sync::Arc;
 
 /// A handle that keeps this reading.
-fn keep(reading: Arc<Reading>, alloc: Global) -> Result<KeptSettings, AllocError>
+fn keep(alloc: Global, reading: Arc<Reading>) -> Result<KeptSettings, AllocError>
     ensures { IfOk result (λ kept. kept_reading kept ≡ Ok (read_values (arc_value reading))) }
 {
     Ok(KeptSettings::of(Box::new(alloc, Stored { reading })?))
@@ -36,7 +36,7 @@ fn keep_new(
 ) -> Result<KeptSettings, AllocError>
     ensures { IfOk result (λ kept. kept_reading kept ≡ Ok (values settings, map string_bytes unknown.items)) }
 {
-    keep(Arc::new(alloc, Reading { settings, unknown })?, alloc)
+    keep(alloc, Arc::new(alloc, Reading { settings, unknown })?)
 }
 
 /// A handle that keeps what the text of a `pyproject.toml` stands for, with the profile of this number; or the answer where
@@ -95,7 +95,7 @@ pub extern "C" fn fihroste_settings_share(
     let Ok(reading) = reading else {
         return Answer::plain(MEMORY);
     };
-    match keep(reading, alloc) {
+    match keep(alloc, reading) {
         Ok(shared) => {
             *other = shared;
             Answer::plain(SAME)

@@ -2,7 +2,8 @@
 ghost use Rattle.std.specs.Prelude.{◌≡◌};
 ghost use Rattle.isort_settings.specs.Values.{values};
 ghost use Rattle.isort_c.specs.Readings.{reading};
-ghost use Rattle.isort_c.specs.Sorting.{sort_error_answer, sort_answer, left_by, SortsUnder, AnswersSort, ChecksUnder, AnswersCheck};
+ghost use Rattle.isort_c.specs.Sorting.{sort_error_answer, sort_answer, left_by, SortsUnder, AnswersSort};
+ghost use Rattle.isort_c.specs.Sorting.{ChecksUnder, AnswersCheck};
 
 use crate::answer::{Answer, CHANGED, MEMORY, SAME, SKIPPED};
 use crate::buffer::fill;

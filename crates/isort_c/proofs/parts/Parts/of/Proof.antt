@@ -3,33 +3,32 @@ use Rattle.std.proofs.Common.{◌≡◌, List, [], ◌∷◌, ◌++◌, refl, sy
 use mir.Syntax.{a_type, dcons, dnil}
 use mir.MapTy.{inst_fn}
 use mir.Raw.{raw as bare}
-use mir.Val.{Val, vptr, vstruct, of_list}
+use mir.Val.{Val, vstruct, of_list}
 use base.Logic.{SProp, ent, emp, id⊢, never, fst∗}
-use base.Fml.{Fml, ftrue, fsep, flft}
+use base.Fml.{ftrue, fsep, flft}
 use prog.Wp.{WpFn}
 use types.Logic.{sem}
-use types.Kit.{Item, ‵, raw, ◌⊛◌, some, later, at_ret, ◌$◌, ◌∵◌, !, qed, by, move, keep, drop, split, split3, join, fsplit, fjoin, fpick, feq_l, feq_i, pick, suffices, rewrite, use0, use1, await}
-use types.Run.{stop, fld, of_opd, no_more, and_then, first, blocks, exec, returns, enter}
-use types.ByLocal.{alloc_all, pass_all, free_all, look_at, get, get_in, sets, lands_as, lands_last, env}
+use types.Kit.{Item, ‵, raw, ◌⊛◌, some, later, ◌$◌, ◌∵◌, !, qed, by, move, keep, drop, split, split3, join, fsplit, fjoin, fpick, feq_l, pick, suffices, rewrite, use0, use1, await}
+use types.Run.{stop, fld, of_opd, no_more, and_then, returns, enter}
+use types.ByLocal.{alloc_all, pass_all, free_all, look_at, get, get_in, sets, lands_as}
 use types.Part.{agg, sub, whole}
 use contract.Monad.{fact, fact_i}
-use contract.BorrowLft.{◌⊑◌}
 use contract.Running.{tables}
 use denote.Exit.{no}
-use denote.RattleType.{RattleType, owns}
-use denote.Signature.{Slot, types_at, plain}
+use denote.RattleType.{RattleType}
+use denote.Signature.{Slot, plain}
 use denote.RawPtr.{Ptr, RawPtr, block_ptr, null_ptr, ptr_val, in_a_block}
 use denote.Param.{layout, bounded}
 use denote.Steps.{nothing, only, heard}
 use denote.Struct.Tuple.{Tuple}
-use denote.Triple.Call.{calls_at, calls_at_last}
+use denote.Triple.Call.{calls_at}
 use denote.Triple.Spec.{triple_of}
 use denote.Triple.Walked.{Stays, stay_dropped, walk_of}
 use Rattle.std.proofs.raw_atomic.Walks.{proved_at, leaves}
 use denote.Triple.Table.{framed}
-use Rattle.std.proofs.alloc.Calls.{Goes-blank, token, handle_tells, Fits}
+use Rattle.std.proofs.alloc.Calls.{Goes-blank, token, handle_tells}
 use Rattle.std.specs.Box.Ownership.{box_owns}
-use Rattle.std.proofs.BoxSteps.Form.{Bx, D, R, P, B, word, box_ty, box_typed}
+use Rattle.std.proofs.BoxSteps.Form.{Bx, D, R, P, B, word, box_typed}
 use Rattle.std.proofs.BoxSteps.Steps.{box_out, box_in}
 use Rattle.isort_c.specs.contracts.parts.Parts as parts
 use Rattle.std.specs.contracts.boxed.Box.into_raw_with_allocator as raw_parts
