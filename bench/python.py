@@ -7,11 +7,12 @@ WHEEL is the package's, which `python/build` makes. The Python that runs this ha
 its package `isort`. The texts are the `*.py` files of 8,000 to 12,000 bytes below FOLDER that both take, 60 at most and
 evenly drawn, and one of two lines. `code`, `check_code` and `find_imports_in_code` are called on each text, the package and
 isort 5 in turn, ROUNDS times (5), and the least CPU time of each counts. Both have their default settings. If isort 5 has no
-`find_imports_in_code`, as 5.6, then `ast.parse` and a walk over the tree stand in its place. The other rows are sorting with
-settings as keywords, eight threads at once, and starting Python with an import of the package.
+`find_imports_in_code`, as 5.6, then `ast.parse` and a walk over the tree stand in its place. The other rows are calls with a
+`Config` of settings files of 98 and 2,006 lines, and making one; sorting with settings as keywords; `file`, where it writes a
+file of two lines anew; eight threads at once; and starting Python with an import of the package.
 
-Prints a Markdown table, with the time of a text and how many times as long isort 5 takes, and the load. The rows of threads
-and of starting are by the clock."""
+Prints a Markdown table, with the time of a text and how many times as long isort 5 takes, and the load. The rows of `file`, of
+threads and of starting are by the clock."""
 
 import ast
 import io
@@ -30,6 +31,9 @@ SMALLEST, LARGEST, MOST = 8_000, 12_000, 60
 TWO_LINES = "import os\nimport abc\n"
 REPEATS = 200
 THREADS = 8
+# How many lines the settings files have.
+SETTINGS = (98, 2_006)
+MODULE = "os.path"
 
 
 def taken(call, text):
@@ -84,6 +88,46 @@ def walked(text):
 
 def row(name, what, times):
     print(f"| {name} | {what} | {times[0] * 1e6:.1f} | {times[1] * 1e6:.1f} | {times[1] / times[0]:.1f} |")
+
+
+def settings_of(lines):
+    """The text of a settings file with so many lines."""
+    keys = ["[tool.isort]", 'profile = "black"', "line_length = 100", "known_first_party = ["]
+    modules = [f'    "package_{number}",' for number in range(lines - len(keys) - 1)]
+    return "\n".join([*keys, *modules, "]", ""])
+
+
+def rewritten(call, rounds):
+    """The least time by the clock of a call that writes a file anew, in seconds."""
+    least = float("inf")
+    with tempfile.TemporaryDirectory() as folder:
+        path = Path(folder, "two.py")
+        for _ in range(10 * rounds):
+            path.write_text(TWO_LINES)
+            with redirect_stdout(io.StringIO()):
+                begun = time.perf_counter()
+                call(str(path))
+                least = min(least, time.perf_counter() - begun)
+    return least
+
+
+def measure_configs(fihroste, isort, rounds):
+    """Prints the rows of calls with a Config."""
+    both, two = (fihroste, isort), [TWO_LINES]
+    row("`place_module`", "one module", beside(*[package.place_module for package in both], [MODULE], rounds, REPEATS))
+    for lines in SETTINGS:
+        with tempfile.TemporaryDirectory() as folder:
+            file = Path(folder, "pyproject.toml")
+            file.write_text(settings_of(lines))
+            configs = [package.Config(settings_file=str(file)) for package in both]
+            with_config = f"with a `Config` of {lines:,} lines"
+            pair = [lambda name, of=of, config=config: of.place_module(name, config=config) for of, config in zip(both, configs)]
+            row(f"`place_module` {with_config}", "one module", beside(*pair, [MODULE], rounds, REPEATS))
+            pair = [lambda text, of=of, config=config: of.code(text, config=config) for of, config in zip(both, configs)]
+            row(f"`code` {with_config}", "two lines", beside(*pair, two, rounds, REPEATS))
+            pair = [lambda path, of=of: of.Config(settings_file=path) for of in both]
+            row(f"making a `Config` of {lines:,} lines", "", beside(*pair, [str(file)], rounds, 10))
+    row("`file`, written anew", "two lines", [rewritten(package.file, rounds) for package in both])
 
 
 def in_threads(call, texts):
@@ -141,6 +185,7 @@ def measure(fihroste, isort, folder, rounds):
     keywords = {"line_length": 100, "known_first_party": ["shop"]}
     pair = [lambda text, call=call: call(text, **keywords) for call in (fihroste.code, isort.code)]
     row("`code` with keywords", "two lines", beside(*pair, two, rounds, REPEATS))
+    measure_configs(fihroste, isort, rounds)
     alone, at_once = in_threads(fihroste.code, [text * 20 for text in texts])
     print(f"\n{THREADS} threads at once sort {alone / at_once:.1f} times as fast as one, over texts of {20 * size:,.0f} bytes.")
 
@@ -151,6 +196,8 @@ def main():
     warnings.simplefilter("ignore")
     with tempfile.TemporaryDirectory() as unpacked:
         zipfile.ZipFile(wheel).extractall(unpacked)
+        # An archive that is unpacked so loses the mode of the program, which `file` starts.
+        Path(unpacked, "fihroste", "isort").chmod(0o755)
         sys.path.insert(0, unpacked)
         import fihroste
         import isort

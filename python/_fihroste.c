@@ -1,7 +1,9 @@
 /* The module fihroste._fihroste: the functions of fihroste.h for the package's Python code. It keeps to the limited API
    of Python 3.8, so one wheel serves that and all later ones. No proof covers it.
 
-   Each function answers (status, label, offset, line, value). A text is a str, or bytes in UTF-8. */
+   Each function answers (status, label, offset, line, value). A text is a str, or bytes in UTF-8. Settings that were read are
+   a capsule, which gives them back when it is collected. A handle to them is for one call at a time: a short call keeps the
+   interpreter's lock, and so has the capsule's for itself, and a long one gives the lock up and shares it first. */
 #define Py_LIMITED_API 0x03080000
 #define PY_SSIZE_T_CLEAN
 #include <Python.h>
@@ -14,11 +16,14 @@
 #define LONGEST (1 << 30)
 /* Room for the names of most sections. */
 #define NAME_ROOM 64
+/* The name of capsules. */
+#define KEPT "fihroste.kept"
 
 typedef struct call {
     fihroste_answer (*run)(const struct call *, size_t room);
-    const char *text, *settings;
-    Py_ssize_t text_size, settings_size;
+    const char *text;
+    Py_ssize_t text_size;
+    fihroste_kept *kept;
     unsigned int number; /* the profile; of a listing, by what imports count as one */
     int top_only;
     fihroste_answer answer;
@@ -26,15 +31,14 @@ typedef struct call {
 } call;
 
 #define TEXT(c) (const uint8_t *)(c)->text, (size_t)(c)->text_size
-#define SETTINGS(c) (const uint8_t *)(c)->settings, (size_t)(c)->settings_size, (c)->number
 
 static fihroste_answer run_sort(const call *c, size_t room) {
-    return fihroste_sort(TEXT(c), SETTINGS(c), c->out, room);
+    return fihroste_sort_kept(TEXT(c), c->kept, c->out, room);
 }
 
 static fihroste_answer run_check(const call *c, size_t room) {
     (void)room;
-    return fihroste_check(TEXT(c), SETTINGS(c));
+    return fihroste_check_kept(TEXT(c), c->kept);
 }
 
 static fihroste_answer run_find(const call *c, size_t room) {
@@ -42,11 +46,16 @@ static fihroste_answer run_find(const call *c, size_t room) {
 }
 
 static fihroste_answer run_place(const call *c, size_t room) {
-    return fihroste_place(TEXT(c), SETTINGS(c), c->out, room);
+    return fihroste_place_kept(TEXT(c), c->kept, c->out, room);
 }
 
-static fihroste_answer run_settings(const call *c, size_t room) {
-    return fihroste_settings(TEXT(c), c->number, c->out, room);
+/* Reads settings, and answers the names of their unknown keys, or why they are refused. */
+static fihroste_answer run_read(const call *c, size_t room) {
+    fihroste_answer answer = {.status = FIHROSTE_SAME};
+    if (!c->kept->full) answer = fihroste_settings_read(TEXT(c), c->number, c->kept);
+    if (answer.status == FIHROSTE_SAME) return fihroste_settings_unknown(c->kept, c->out, room);
+    if (answer.status == FIHROSTE_SETTINGS) return fihroste_settings(TEXT(c), c->number, c->out, room);
+    return answer;
 }
 
 /* Runs the call with a buffer of its own, and once more where that was too small. */
@@ -61,6 +70,20 @@ static void fill(call *c, size_t room) {
     } while (c->out && c->answer.size > room);
 }
 
+/* Runs the call without the interpreter's lock, with a handle of its own if it has settings. */
+static void fill_unlocked(call *c, size_t room) {
+    fihroste_kept own = {0};
+    if (c->kept && c->kept->full) {
+        c->answer = fihroste_settings_share(c->kept, &own);
+        if (c->answer.status != FIHROSTE_SAME) return;
+        c->kept = &own;
+    }
+    Py_BEGIN_ALLOW_THREADS
+    fill(c, room);
+    Py_END_ALLOW_THREADS
+    fihroste_settings_free(&own);
+}
+
 /* Runs the call. Answers 0, and sets an exception, if the text is too long or memory ran out. */
 static int make(call *c, size_t room) {
     if (c->text_size > LONGEST) {
@@ -70,9 +93,7 @@ static int make(call *c, size_t room) {
     if (c->text_size < SHORT) {
         fill(c, room);
     } else {
-        Py_BEGIN_ALLOW_THREADS
-        fill(c, room);
-        Py_END_ALLOW_THREADS
+        fill_unlocked(c, room);
     }
     if (c->answer.status != FIHROSTE_MEMORY) return 1;
     free(c->out);
@@ -132,11 +153,18 @@ static PyObject *list(const call *c, PyObject *(*read)(const uint8_t **)) {
     return items;
 }
 
+/* Takes a text and settings that were read. */
+static int take(call *c, PyObject *args) {
+    PyObject *capsule;
+    if (!PyArg_ParseTuple(args, "s#O", &c->text, &c->text_size, &capsule)) return 0;
+    c->kept = PyCapsule_GetPointer(capsule, KEPT);
+    return c->kept != NULL;
+}
+
 static PyObject *py_sort(PyObject *self, PyObject *args) {
     (void)self;
     call c = {.run = run_sort};
-    if (!PyArg_ParseTuple(args, "s#y#I", &c.text, &c.text_size, &c.settings, &c.settings_size, &c.number)) return NULL;
-    if (!make(&c, (size_t)c.text_size + (size_t)c.text_size / 8 + SHORT)) return NULL;
+    if (!take(&c, args) || !make(&c, (size_t)c.text_size + (size_t)c.text_size / 8 + SHORT)) return NULL;
     if (c.answer.status != FIHROSTE_CHANGED) return answer(&c, none());
     return answer(&c, whole(&c));
 }
@@ -144,8 +172,7 @@ static PyObject *py_sort(PyObject *self, PyObject *args) {
 static PyObject *py_check(PyObject *self, PyObject *args) {
     (void)self;
     call c = {.run = run_check};
-    if (!PyArg_ParseTuple(args, "s#y#I", &c.text, &c.text_size, &c.settings, &c.settings_size, &c.number)) return NULL;
-    return make(&c, 1) ? answer(&c, none()) : NULL;
+    return take(&c, args) && make(&c, 1) ? answer(&c, none()) : NULL;
 }
 
 static PyObject *py_find(PyObject *self, PyObject *args) {
@@ -158,24 +185,51 @@ static PyObject *py_find(PyObject *self, PyObject *args) {
 static PyObject *py_place(PyObject *self, PyObject *args) {
     (void)self;
     call c = {.run = run_place};
-    if (!PyArg_ParseTuple(args, "s#y#I", &c.text, &c.text_size, &c.settings, &c.settings_size, &c.number)) return NULL;
-    return make(&c, NAME_ROOM) ? answer(&c, whole(&c)) : NULL;
+    return take(&c, args) && make(&c, NAME_ROOM) ? answer(&c, whole(&c)) : NULL;
 }
 
-static PyObject *py_settings(PyObject *self, PyObject *args) {
+static void free_kept(PyObject *capsule) {
+    fihroste_kept *kept = PyCapsule_GetPointer(capsule, KEPT);
+    fihroste_settings_free(kept);
+    free(kept);
+}
+
+/* A capsule with a handle that keeps nothing. */
+static PyObject *capsule_of_none(void) {
+    fihroste_kept *kept = calloc(1, sizeof *kept);
+    if (!kept) return PyErr_NoMemory();
+    PyObject *capsule = PyCapsule_New(kept, KEPT, free_kept);
+    if (!capsule) free(kept);
+    return capsule;
+}
+
+static PyObject *py_read(PyObject *self, PyObject *args) {
     (void)self;
-    call c = {.run = run_settings};
+    call c = {.run = run_read};
     if (!PyArg_ParseTuple(args, "y#I", &c.text, &c.text_size, &c.number)) return NULL;
-    if (!make(&c, SHORT)) return NULL;
-    return answer(&c, c.answer.status == FIHROSTE_SAME ? list(&c, read_text) : whole(&c));
+    PyObject *value = NULL, *capsule = capsule_of_none();
+    if (!capsule) return NULL;
+    c.kept = PyCapsule_GetPointer(capsule, KEPT);
+    if (!make(&c, SHORT)) {
+        Py_DECREF(capsule);
+        return NULL;
+    }
+    if (c.answer.status != FIHROSTE_SAME) {
+        value = whole(&c);
+    } else {
+        PyObject *names = list(&c, read_text);
+        if (names) value = Py_BuildValue("(ON)", capsule, names);
+    }
+    Py_DECREF(capsule);
+    return answer(&c, value);
 }
 
 static PyMethodDef methods[] = {
-    {"sort", py_sort, METH_VARARGS, "sort(text, settings, profile): the sorted text, where it differs"},
-    {"check", py_check, METH_VARARGS, "check(text, settings, profile): no value"},
+    {"sort", py_sort, METH_VARARGS, "sort(text, kept): the sorted text, where it differs"},
+    {"check", py_check, METH_VARARGS, "check(text, kept): no value"},
     {"find", py_find, METH_VARARGS, "find(text, unique, top_only): the list of imports"},
-    {"place", py_place, METH_VARARGS, "place(module, settings, profile): the name of the section"},
-    {"settings", py_settings, METH_VARARGS, "settings(settings, profile): the unknown keys, or the key that is refused"},
+    {"place", py_place, METH_VARARGS, "place(module, kept): the name of the section"},
+    {"read", py_read, METH_VARARGS, "read(settings, profile): what is kept and the unknown keys, or the key that is refused"},
     {NULL, NULL, 0, NULL}};
 
 static PyModuleDef_Slot slots[] = {{0, NULL}};

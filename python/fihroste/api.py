@@ -338,7 +338,7 @@ def _expect_no_fault(answer: _Answer, file_path: Optional[_Path]) -> None:
 
 def _sorted(text: _Text, config: Config, file_path: Optional[_Path]) -> Optional[str]:
     """The sorted text, if it differs."""
-    answer = _answered(_fihroste.sort, file_path, text, config._toml, config._profile)
+    answer = _answered(_fihroste.sort, file_path, text, config._kept)
     _expect_no_fault(answer, file_path)
     if answer[0] == _SKIPPED:
         raise FileSkipComment(file_path)
@@ -356,7 +356,7 @@ def _checked(
             before = text.decode("utf-8") if isinstance(text, bytes) else text
             write_diff(before, sorted_text, file_path, stream_of(show_diff))
         return sorted_text is None
-    answer = _answered(_fihroste.check, file_path, text, config._toml, config._profile)
+    answer = _answered(_fihroste.check, file_path, text, config._kept)
     _expect_no_fault(answer, file_path)
     if answer[0] == _SKIPPED:
         raise FileSkipComment(file_path)
@@ -364,7 +364,7 @@ def _checked(
 
 
 def _place(name: str, config: Config) -> str:
-    answer = _answered(_fihroste.place, None, _expect_text(name), config._toml, config._profile)
+    answer = _answered(_fihroste.place, None, _expect_text(name), config._kept)
     if answer[0] == _ARGUMENT:
         raise ValueError("the module's name is not UTF-8")
     section: str = answer[4]

@@ -3,6 +3,8 @@
 import errno
 import os
 import re
+from contextlib import contextmanager
+from typing import Iterator
 
 PROGRAM = os.path.join(os.path.dirname(os.path.abspath(__file__)), "isort")
 
@@ -20,17 +22,18 @@ def rewrite(path: str, settings: bytes, profile: int) -> bool:
     import subprocess
     import tempfile
 
-    with tempfile.TemporaryDirectory() as folder:
-        settings_file = os.path.join(folder, "settings.toml")
-        with open(settings_file, "wb") as written:
-            written.write(settings)
-        name = os.path.abspath(path)
-        if not _is_utf8(name):
-            name = os.path.join(folder, "file")
-            os.symlink(os.path.abspath(path), name)
-        words = ["--settings-file", settings_file, *_PROFILES[profile], "--", name]
+    # A file without a name is the quickest to make and to be rid of.
+    with tempfile.TemporaryFile() as settings_file, _name_of(path) as name:
+        settings_file.write(settings)
+        settings_file.flush()
+        number = settings_file.fileno()
+        words = ["--settings-file", f"/proc/self/fd/{number}", *_PROFILES[profile], "--", name]
         run = subprocess.run(
-            [PROGRAM, *words], stdin=subprocess.DEVNULL, stdout=subprocess.PIPE, stderr=subprocess.PIPE
+            [PROGRAM, *words],
+            stdin=subprocess.DEVNULL,
+            stdout=subprocess.PIPE,
+            stderr=subprocess.PIPE,
+            pass_fds=(number,),
         )
     if run.returncode == 0:
         return run.stdout.startswith(b"Fixing ")
@@ -38,6 +41,21 @@ def rewrite(path: str, settings: bytes, profile: int) -> bool:
         raise MemoryError
     said = os.fsdecode(run.stderr).strip() or f"the program ended with status {run.returncode}"
     raise OSError(_reason(path), said.replace(name, path), path)
+
+
+@contextmanager
+def _name_of(path: str) -> Iterator[str]:
+    """A name of the file in UTF-8: its own, or one of a link that is there for the time of the call."""
+    import tempfile
+
+    name = os.path.abspath(path)
+    if _is_utf8(name):
+        yield name
+        return
+    with tempfile.TemporaryDirectory() as folder:
+        link = os.path.join(folder, "file")
+        os.symlink(name, link)
+        yield link
 
 
 def _is_utf8(name: str) -> bool:

@@ -74,7 +74,7 @@ class Config:
     It raises UnsupportedSettings, ProfileDoesNotExist and InvalidSettingsPath; OSError if `settings_file` can't be read;
     TypeError for a value of another type than its key's; ValueError for `config` beside a file or path."""
 
-    __slots__ = ("_text", "_path", "_keywords", "_other", "_toml", "_profile", "_values")
+    __slots__ = ("_text", "_path", "_keywords", "_other", "_toml", "_profile", "_kept", "_values")
 
     _text: bytes
     _path: str
@@ -82,6 +82,7 @@ class Config:
     _other: Dict[str, Any]
     _toml: bytes
     _profile: int
+    _kept: object
     _values: Optional[Dict[str, Any]]
 
     def __init__(
@@ -101,8 +102,8 @@ class Config:
         keywords = {**(config._keywords if config else {}), **known(config_overrides)}
         other = {**(config._other if config else {}), **without_effect(config_overrides)}
         toml, profile = _whole(text, keywords, path)
-        unknown = _expect_accepted(toml, profile, text, keywords, path)
-        self._set(text, path, keywords, other, toml, profile)
+        kept, unknown = _read(toml, profile, text, keywords, path)
+        self._set(text, path, keywords, other, toml, profile, kept)
         for key in unknown:
             if key in keywords:
                 raise UnsupportedSettings(f"unknown setting {key}", key, value=keywords[key])
@@ -180,8 +181,10 @@ class Config:
 
 def _made(*values: Any) -> Config:
     """The Config of a pickle."""
+    text, path, keywords, _, toml, profile = values
+    kept, _ = _read(toml, profile, text, keywords, path)
     config = object.__new__(Config)
-    config._set(*values)
+    config._set(*values, kept)
     return config
 
 
@@ -221,20 +224,23 @@ def _table(text: bytes, key: str, path: str) -> Dict[str, Any]:
     if table is not None:
         return table
     # What is no TOML, or no table, is refused by the same rules as without keywords.
-    _expect_accepted(text, _NO_PROFILE, text, {}, path)
+    _read(text, _NO_PROFILE, text, {}, path)
     raise UnsupportedSettings("the settings are not TOML", None, f"S{_NOT_TOML}", None, path)
 
 
-def _expect_accepted(toml: bytes, profile: int, text: bytes, keywords: Mapping[str, Any], path: str) -> List[str]:
-    """Refuses settings as the program does. Answers the keys that it doesn't know.
+def _read(
+    toml: bytes, profile: int, text: bytes, keywords: Mapping[str, Any], path: str
+) -> Tuple[object, List[str]]:
+    """Reads settings, for all calls with them, and refuses them as the program does. Answers them, and the unknown keys.
 
     `toml` stands for `text`, which the file at `path` has, under the keywords."""
     try:
-        status, label, _, _, value = _fihroste.settings(toml, profile)
+        status, label, _, _, value = _fihroste.read(toml, profile)
     except OverflowError:
         raise TextTooLong(path or "the settings") from None
     if status != _REFUSED:
-        return list(value)
+        kept, unknown = value
+        return kept, unknown
     if label == _NOT_TOML:
         raise UnsupportedSettings("the settings are not TOML", None, f"S{label}", None, path or RUNTIME_SOURCE)
     table = (toml_text.table_of(text) or {}) if text else {}
