@@ -3,3 +3,4 @@ pub mod Lines
 pub mod LinesRead
 pub mod ReadSoFar
 pub mod Passing
+pub mod PassedLines

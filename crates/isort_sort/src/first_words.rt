@@ -1,10 +1,10 @@
-//! Where the first words of import statements stand in a text.
+//! Where the first words of import statements stand in a text, and what begins an action comment.
 ghost use Rattle.std.specs.Prelude.{◌≡◌, ◌+◌, ◌<◌, ◌≤◌, ℕ, false, IsTrue, List, codes, length};
 ghost use Rattle.memchr.specs.Find.{OccursAt};
 ghost use Rattle.py_lines.specs.Lines.{line_in};
-ghost use Rattle.isort_sort.specs.Private.FirstWords.{BeginNowhere, IsPlain, HoldsLineAt};
+ghost use Rattle.isort_sort.specs.Private.FirstWords.{BeginNowhere, IsPlain, IsSilentBetween, HoldsLineAt};
 
-use memchr::memchr;
+use memchr::{memchr, memmem};
 use py_imports::has_first_word;
 use py_imports::laws::lines_without_first_words_bind_nothing;
 use py_lines::Unit;
@@ -75,14 +75,44 @@ fn gap_at(text: &[u8], known: Gap, start: usize) -> Gap
     }
 }
 
-/// Where `import` and `from` stand in a text, as words or parts of words. The text is searched once, from left to right,
-/// as far as is asked. Contracts see it as the text.
+/// The first byte, from `start` on, at which `isort:` begins, or the text's end.
+fn next_action(text: &[u8], start: usize) -> usize
+    requires { start ≤ length text.now }
+    ensures { IsSilentBetween text.now start result }
+{
+    match memmem::find(&text[start..], b"isort:") {
+        Some(len) => start + len,
+        None => text.len(),
+    }
+}
+
+/// The same for `isort:`.
+#[inline(always)]
+fn silence_at(text: &[u8], known: Gap, start: usize) -> Gap
+    requires within { start ≤ length text.now }
+    requires known { IsSilentBetween text.now known.start known.stop }
+    ensures gap { IsSilentBetween text.now result.start result.stop }
+    ensures start { result.start ≤ start }
+{
+    if known.start <= start && start <= known.stop {
+        return known;
+    }
+    Gap {
+        start,
+        stop: next_action(text, start),
+    }
+}
+
+/// Where `import` and `from` stand in a text, as words or parts of words, and `isort:`. The text is searched once for each, from left
+/// to right, as far as is asked. Contracts see it as the text.
 #[derive(Drop)]
 pub(crate) struct FirstWords<'t> {
     /// The text.
     text: &'t [u8],
     /// The gap that was found last.
     gap: Gap,
+    /// The bytes without `isort:` that were found last.
+    silence: Gap,
 }
 
 impl<'t> Model for FirstWords<'t> {
@@ -90,7 +120,8 @@ impl<'t> Model for FirstWords<'t> {
 
     ghost view = { λ f. f.text.now };
 
-    ghost invariant = { λ f. BeginNowhere f.text.now f.gap.start f.gap.stop };
+    ghost invariant = { λ f. BeginNowhere f.text.now f.gap.start f.gap.stop
+        × IsSilentBetween f.text.now f.silence.start f.silence.stop };
 }
 
 impl<'t> FirstWords<'t> {
@@ -101,6 +132,7 @@ impl<'t> FirstWords<'t> {
         FirstWords {
             text,
             gap: Gap { start: 0, stop: 0 },
+            silence: Gap { start: 0, stop: 0 },
         }
     }
 
@@ -113,6 +145,17 @@ impl<'t> FirstWords<'t> {
     {
         self.gap = gap_at(self.text, self.gap, start);
         self.gap.stop
+    }
+
+    /// A byte, from `start` on, before which `isort:` does not begin.
+    #[inline(always)]
+    pub(crate) fn silent_up_to(&mut self, start: usize) -> usize
+        requires { start ≤ length self.old }
+        ensures silent { IsSilentBetween self.old start result }
+        ensures same { self.new ≡ self.old }
+    {
+        self.silence = silence_at(self.text, self.silence, start);
+        self.silence.stop
     }
 
     /// Whether no token of a line of the text is spelled as either word. Most lines hold neither in any way.

@@ -73,9 +73,7 @@ impl LineReader {
         let mut words = FirstWords::new(text);
         let mut lines = Lines::new(alloc, text)?;
         'lines: loop {
-            if self.pass_line(&mut lines, &mut words)? {
-                continue;
-            }
+            self.pass_lines(&mut lines, &mut words);
             if !self.read_line(alloc, &mut lines, &mut words)? {
                 return Ok(());
             }
@@ -109,33 +107,28 @@ impl LineReader {
         Ok(true)
     }
 
-    /// Passes over the next line without its tokens, where it is simple, neither `import` nor `from` stands in it, and no block may go
-    /// on. The result is whether it was passed over, as most lines are.
+    /// Passes over the next lines without their tokens, as long as they are simple, neither `import`, `from` nor `isort:` stands in them,
+    /// and no block may go on. Most lines are passed over so.
     #[inline(always)]
-    fn pass_line(
-        &mut self,
-        lines: &mut Lines<'_>,
-        words: &mut FirstWords<'_>,
-    ) -> Result<bool, AllocError>
+    fn pass_lines(&mut self, lines: &mut Lines<'_>, words: &mut FirstWords<'_>)
         requires text { words.old ≡ lines.old.text }
         requires within { lines.old.place ≤ length lines.old.text }
         requires counted { IsCounted (finding_value self.old.blocks) }
         requires place { (finding_value self.old.blocks).place ≤ lines.old.place }
-        ensures passes { PassesOver lines.old self.old result lines.new self.new }
+        ensures passes { PassesOver lines.old self.old lines.new self.new }
+        ensures further { lines.old.place ≤ lines.new.place }
         ensures counted { IsCounted (finding_value self.new.blocks) }
         ensures place { (finding_value self.new.blocks).place ≤ lines.new.place }
         ensures text { words.new ≡ words.old }
     {
         if !self.begun || !self.skip.begun || self.blocks.is_open() {
-            return Ok(false);
+            return;
         }
         lines_without_first_words_bind_nothing();
-        let clear = words.clear_up_to(lines.offset() as usize);
-        let Some(len) = lines.pass_line(clear)? else {
-            return Ok(false);
-        };
+        let start = lines.offset() as usize;
+        let before = words.clear_up_to(start).min(words.silent_up_to(start));
+        let len = lines.pass_lines(before);
         self.blocks.pass(len);
-        Ok(true)
     }
 
     /// Reads one more line, which binds `bindings`.

@@ -51,6 +51,13 @@
 -- one place of a string to another (`Leads`, specs/Private/FieldText; FieldScans/Texts and TextLengths), whatever was open before: so a
 -- string is taken whole (LineScan/WholeStrings), and a part of one as a run (FieldScans/Runs).
 --
+-- Bytes that open or close something (proofs/SpecialBytes) are found by masks of 64 bytes.
+--
+-- Simple lines (proofs/SimpleLines) are passed over from one such byte to the next. After each step the machine of the scan has gone
+-- through the line so far, and a piece is open that goes on or ends there; the word that the bytes end with is known from the bytes
+-- alone. What closes the open brackets is kept in an array. After an LF outside brackets the line is whole, and the machine begins
+-- the next one (Lines). That such lines are the text's next is in Readers/PassedLines.
+--
 -- The reader (proofs/Readers) puts these together for one call: a line, a fault or the end.
 --
 -- Pieces (proofs/Feeds, over Lexings): from the state of the scan, the theorems over plain lists say which lines the
@@ -86,5 +93,6 @@ pub mod Lexings
 pub mod Elsewhere
 pub mod LineScan
 pub mod SpecialBytes
+pub mod SimpleLines
 pub mod Readers
 pub mod Feeds

@@ -19,6 +19,4 @@ pub mod Comments
 pub mod CarriageReturns
 pub mod TokenRuns
 pub mod NextPieces
-pub mod WholeLines
-pub mod LongStrings
 pub mod LineStops

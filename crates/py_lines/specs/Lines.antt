@@ -1,10 +1,10 @@
 -- What a `Lines` is to its callers, and what each call of `next_unit` leaves.
-use Rattle.std.specs.Prelude.{◌≡◌, ℕ, ◌≤◌, Option, None, Some, Result, Ok, Err, [], ⊤}
-use Rattle.std.specs.declared.alloc.AllocError.{AllocError}
+use Rattle.std.specs.Prelude.{◌≡◌, ℕ, ◌+◌, ◌<◌, ◌≤◌, Option, None, Some, Result, Ok, Err, List, [], ⊤}
 use Rattle.std.specs.Borrow.{follows_so, MutBor, Fml}
 use mathlib.Core.Option.{none}
 use mir.Syntax.{named}
-use Rattle.py_lines.specs.Reader.{Reader, Continues, PassesLine, Ends, Fails, ReaderRunsOut}
+use Rattle.py_lines.specs.Reader.{Reader, Continues, PassesLines, Ends, Fails, ReaderRunsOut}
+use Rattle.py_lines.specs.LogicalLine.{LogicalLine}
 use Rattle.py_lines.specs.declared.fault.LexError.{LexError}
 use Rattle.py_lines.specs.declared.fault.LexError.TheVariants as lex
 use Rattle.py_lines.specs.declared.unit.Unit as unit
@@ -20,12 +20,14 @@ ReadsNext old (Ok None) new = Ends old new
 ReadsNext old (Err (lex.Fault f)) new = Fails old f new
 ReadsNext old (Err lex.Memory) new = ReaderRunsOut old new
 
--- What a call that passes over the next unit answers: so many bytes, which end no later than this byte, are the next line; or
--- nothing was passed, and nothing changed.
-abbrev pub PassesNext : Reader → ℕ → Result (Option ℕ) AllocError → Reader → Type 0
-PassesNext old before (Ok (Some len)) new = PassesLine old len new × (new.place ≤ before)
-PassesNext old before (Ok None) new = new ≡ old
-PassesNext old before (Err e) new = new ≡ old
+-- What a call that passes over lines answers: so many bytes, which are these logical lines, one after another, and end no later than
+-- this byte; or none, and nothing changed.
+pub record PassesUpTo (old : Reader) (before len : ℕ) (new : Reader) : Type 0 where
+  pub lines : List LogicalLine
+  pub passes : PassesLines old lines new
+  pub place : new.place ≡ old.place + len
+  pub within : 0 < len → new.place ≤ before
+  pub same : len ≡ 0 → new ≡ old
 
 -- what `next_unit` answers, and the reader that it leaves once the unit is given back
 abbrev pub LeavesNext : MutBor lines.Lines → Result (Option unit.Unit) LexError → Fml

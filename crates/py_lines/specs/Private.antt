@@ -11,6 +11,5 @@ pub mod LineState
 pub mod Source
 pub mod Run
 pub mod Marks
-pub mod WholeLines
-pub mod LongStrings
+pub mod Outline
 pub mod Feed

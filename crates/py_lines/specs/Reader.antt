@@ -1,9 +1,7 @@
 -- The state of a reader of logical lines: the text, how far it has been given, on which line, and its fault once met.
 pub mod View
-use Rattle.std.specs.Prelude.{◌≡◌, ℕ, ◌+◌, ◌<◌, ◌≤◌, false, Option, None, Some, List, [], ◌∷◌, ◌++◌, length, slice_range}
-use Rattle.std.specs.List.{list_any}
+use Rattle.std.specs.Prelude.{◌≡◌, ℕ, ◌+◌, ◌<◌, ◌≤◌, Option, None, Some, List, [], ◌∷◌, ◌++◌, length, slice_range}
 use Rattle.std.specs.Str.{IsUtf8}
-use Rattle.py_lines.specs.Token.{is_comment}
 use Rattle.py_lines.specs.LogicalLine.{LogicalLine}
 use Rattle.py_lines.specs.Lexed.{IsLexed, BeginsLexing}
 use Rattle.py_lines.specs.Given.{AreFirstLines}
@@ -45,15 +43,16 @@ pub record Continues (old : Reader) (line : LogicalLine) (new : Reader) : Type 0
   pub fault : old.fault ≡ None
   pub no_fault : new.fault ≡ None
 
--- One more logical line is given, of so many bytes, which are the text's from the place before to the place after. None of its
--- tokens is a comment.
-pub record PassesLine (old : Reader) (len : ℕ) (new : Reader) : Type 0 where
-  pub line : LogicalLine
+-- one more logical line is given, and its bytes are the text's from the place before to the place after
+pub record PassesLine (old : Reader) (line : LogicalLine) (new : Reader) : Type 0 where
   pub continues : Continues old line new
-  pub size : length line.text ≡ len
   pub text : line.text ≡ slice_range old.text old.place new.place
-  pub bare : list_any (λ t. is_comment t.kind) line.tokens ≡ false
   pub utf8 : IsUtf8 line.text
+
+-- these logical lines are given so, one after another
+abbrev pub PassesLines : Reader → List LogicalLine → Reader → Type 0
+PassesLines old [] new = new ≡ old
+PassesLines old (line ∷ lines) new = (mid : Reader) × PassesLine old line mid × PassesLines mid lines new
 
 -- all logical lines were given, and the text has no fault
 pub record Ends (old new : Reader) : Type 0 where

@@ -4,6 +4,7 @@
 mod brackets;
 mod character;
 mod class;
+mod closers;
 mod count;
 mod fault;
 mod feed;
@@ -12,9 +13,10 @@ mod host;
 pub mod laws;
 mod line_state;
 mod lines;
-mod long_strings;
 mod marks;
 mod mode;
+mod outline;
+mod plain_strings;
 mod run;
 mod scan;
 mod scanner;
@@ -22,7 +24,6 @@ mod source;
 mod token;
 mod unit;
 mod utf8;
-mod whole_lines;
 mod whole_pieces;
 mod whole_strings;
 

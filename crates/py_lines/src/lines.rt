@@ -7,7 +7,7 @@ ghost use Rattle.py_lines.specs.Reader.View.{reader_of};
 use crate::fault::LexError;
 use crate::source::Source;
 use crate::unit::Unit;
-use std::alloc::{AllocError, Global};
+use std::alloc::Global;
 use std::marker::Model;
 
 /// Reads a text into its logical lines (Python Language Reference, 2.1), one at a time. Contracts see it as a
@@ -25,7 +25,7 @@ impl<'t> Model for Lines<'t> {
 }
 
 impl<'t> Lines<'t> {
-    ghost use Rattle.py_lines.specs.Lines.{LeavesNext, PassesNext};
+    ghost use Rattle.py_lines.specs.Lines.{LeavesNext, PassesUpTo};
 
     /// A reader at the start of a text, which is any bytes. The only error is `Memory`, and then there is no reader.
     pub fn new(alloc: Global, text: &'t [u8]) -> Result<Lines<'t>, LexError>
@@ -86,17 +86,14 @@ impl<'t> Lines<'t> {
         }
     }
 
-    /// Passes over the next logical line (2.1.1) without its tokens, and answers how many bytes it has; `None` where it isn't
-    /// passed over, and then nothing changed. It is quicker than [`Lines::next_unit`].
+    /// Passes over the next logical lines (2.1.1) without their tokens, one after another, and answers how many bytes they have; 0
+    /// where none is passed over, and then nothing changed. It takes no memory, and is quicker than [`Lines::next_unit`].
     ///
-    /// A line is passed over where it ends at byte `before` of the text or before it, isn't the text's first, and is simple: its
-    /// pieces are ASCII and no comments, its strings have no prefix and no escape, and its line ends are LF. Which lines are
-    /// simple is not promised.
-    ///
-    /// Where a growth was refused, the reader is as it was.
-    pub fn pass_line(&mut self, before: usize) -> Result<Option<usize>, AllocError>
-        ensures passes { PassesNext self.old before result self.new }
+    /// A line is passed over where it ends at byte `before` of the text or before it, isn't the text's first, and is simple: it is
+    /// ASCII, its strings have no fields, and its line ends are LF. Which lines are simple is not promised.
+    pub fn pass_lines(&mut self, before: usize) -> usize
+        ensures passes { PassesUpTo self.old before result self.new }
     {
-        self.source.pass_line(before)
+        self.source.pass_lines(before)
     }
 }

@@ -6,7 +6,7 @@ ghost use Rattle.py_lines.specs.declared.mode.Mode.TheVariants.{Word};
 ghost use Rattle.py_lines.specs.Private.Run.{BeginsSo, CountsSet, HasAsciiQuote, HasRun, IsRunOf, IsWholeComment};
 ghost use Rattle.py_lines.specs.Private.Run.{IsWordBeforeMore, Marks, Spans, is_between, is_in_run, is_ascii_word};
 ghost use Rattle.py_lines.specs.Private.Run.{is_comment_byte, is_body_byte, is_text_byte, is_literal_byte};
-ghost use Rattle.py_lines.specs.Private.Run.{is_code_byte, is_code_sign, is_remark_byte, is_statement_byte, stays};
+ghost use Rattle.py_lines.specs.Private.Run.{is_code_byte, is_code_sign, is_remark_byte, stays};
 
 use crate::character::{is_brace, is_break};
 use crate::mode::{Mode, Spelling};
@@ -110,14 +110,6 @@ fn is_code_byte(b: u8) -> bool
     is_ascii_word(b) || is_code_sign(b)
 }
 
-/// Whether the byte is one of words, a space, `@`, or one of the operators from `*` to `>`, which code has mostly.
-#[tactic(auto, unfolding(crate::specs::Private::Run::is_statement_byte))]
-fn is_statement_byte(b: u8) -> bool
-    ensures { result ≡ is_statement_byte b }
-{
-    matches!(b, b'a'..=b'z' | b' ' | b'*'..=b'>' | b'@'..=b'Z' | b'_')
-}
-
 /// Whether the byte is ASCII, and ends no line.
 fn is_remark_byte(b: u8) -> bool
     ensures { result ≡ is_remark_byte b }
@@ -210,16 +202,6 @@ fn code(lanes: u8x16) -> u8x16
     words(lanes) | code_signs(lanes)
 }
 
-/// The lanes of statements, without their brackets, strings and comments.
-#[inline(always)]
-fn statement(lanes: u8x16) -> u8x16
-    ensures { Marks is_statement_byte lanes result }
-{
-    let others = equal(lanes, b' ') | equal(lanes, b'_');
-    let capital = between(lanes, b'*', b'>') | between(lanes, b'@', b'Z');
-    (capital | between(lanes, b'a', b'z')) | others
-}
-
 /// The lanes of a comment, where it is ASCII.
 #[inline(always)]
 fn remark(lanes: u8x16) -> u8x16
@@ -259,8 +241,6 @@ pub enum ByteRun {
     Literal(u8),
     /// Code in a field: words, spaces and the operators that it has mostly.
     Code,
-    /// Statements: words, spaces and the operators that they have mostly, without brackets, strings and comments.
-    Statement,
     /// A comment, as far as it is ASCII.
     Remark,
 }
@@ -277,7 +257,6 @@ impl ByteRun {
             ByteRun::Text(quote) => is_text_byte(quote, b),
             ByteRun::Literal(quote) => is_literal_byte(quote, b),
             ByteRun::Code => is_code_byte(b),
-            ByteRun::Statement => is_statement_byte(b),
             ByteRun::Remark => is_remark_byte(b),
         }
     }
@@ -294,7 +273,6 @@ impl ByteRun {
             ByteRun::Text(quote) => text(quote, lanes),
             ByteRun::Literal(quote) => literal(quote, lanes),
             ByteRun::Code => code(lanes),
-            ByteRun::Statement => statement(lanes),
             ByteRun::Remark => remark(lanes),
         }
     }

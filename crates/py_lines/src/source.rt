@@ -5,11 +5,11 @@ ghost use Rattle.std.specs.Str.{IsCharBoundary, StartsWithNoChar};
 
 use crate::fault::{FaultKind, LexError};
 use crate::line_state::LineState;
+use crate::outline::simple_lines;
 use crate::scan::Stop;
 use crate::unit::Unit;
 use crate::utf8::utf8_prefix;
-use crate::whole_lines::whole_line;
-use std::alloc::{AllocError, Global};
+use std::alloc::Global;
 
 /// A text and how far it has been read. The tokens of the line read last are kept until the next one.
 #[derive(Drop)]
@@ -40,7 +40,7 @@ impl<'t> Source<'t> {
     ghost use Rattle.py_lines.specs.Reader.{GoesOnAt, at_start};
     ghost use Rattle.py_lines.specs.Token.{EachLiesIn};
     ghost use Rattle.py_lines.specs.UnitLine.{line_in};
-    ghost use Rattle.py_lines.specs.Lines.{PassesNext};
+    ghost use Rattle.py_lines.specs.Lines.{PassesUpTo};
 
     /// The text's start.
     pub fn new(alloc: Global, bytes: &'t [u8]) -> Source<'t>
@@ -162,10 +162,10 @@ impl<'t> Source<'t> {
         }
     }
 
-    /// Passes over the next logical line, where it is simple and ends at this byte or before it: how many bytes it has. The text's first
-    /// line is not passed over.
-    pub fn pass_line(&mut self, before: usize) -> Result<Option<usize>, AllocError>
-        ensures { PassesNext (reader_of self.old) before result (reader_of self.new) }
+    /// Passes over the next logical lines, as long as they are simple and end at this byte or before it: how many bytes they have. The
+    /// text's first line is not passed over.
+    pub fn pass_lines(&mut self, before: usize) -> usize
+        ensures { PassesUpTo (reader_of self.old) before result (reader_of self.new) }
     {
         let place = self.state.place as usize;
         if place == 0
@@ -173,17 +173,12 @@ impl<'t> Source<'t> {
             || before > self.characters.len()
             || self.state.fault.is_some()
         {
-            return Ok(None);
+            return 0;
         }
-        let brackets = &mut self.state.scan.brackets;
-        brackets.clear();
-        let Some(line) = whole_line(brackets, &self.characters.as_bytes()[place..before])? else {
-            return Ok(None);
-        };
-        self.start = place;
-        self.state.place += line.len as u64;
-        self.state.line += line.line_ends;
-        Ok(Some(line.len))
+        let lines = simple_lines(&self.characters.as_bytes()[place..before]);
+        self.state.place += lines.len as u64;
+        self.state.line += lines.line_ends;
+        lines.len
     }
 
     /// The line that was read last.

@@ -1,9 +1,9 @@
 -- What is known of the lines of a text as they are read, one after another.
-use Rattle.std.proofs.Common.{◌≡◌, ℕ, ◌≤◌, Bool, true, false, length, Option, None, Some, Result, Ok, Err, List, [], ◌∷◌, ◌++◌, map, append-nil, append_assoc, inl, inr, refl, sym, ap, ◌∙◌, subst}
+use Rattle.std.proofs.Common.{◌≡◌, ℕ, true, false, Option, None, Some, Result, Ok, Err, List, [], ◌∷◌, ◌++◌, map, append-nil, append_assoc, inl, inr, refl, sym, ap, ◌∙◌, subst}
 use Rattle.py_lines.specs.LogicalLine.{LogicalLine}
 use Rattle.py_lines.specs.Lexed.{IsLexed}
 use Rattle.py_lines.specs.Lines.{line_in, ReadsNext}
-use Rattle.py_lines.specs.Reader.{Reader, HasGiven, Continues}
+use Rattle.py_lines.specs.Reader.{Reader, Continues}
 use Rattle.py_lines.specs.declared.fault.LexError.{LexError}
 use Rattle.py_lines.specs.declared.fault.LexError.TheVariants as lex
 use Rattle.py_lines.specs.declared.unit.Unit as unit
@@ -12,7 +12,7 @@ use Rattle.py_imports.specs.Bound.{Bound, bound_of}
 use Rattle.py_imports.specs.declared.binding.Binding.{Binding}
 use Rattle.py_imports.specs.declared.error.ImportError.{ImportError}
 use Rattle.py_imports.specs.declared.error.ImportError.TheVariants as import
-use Rattle.isort_sort.specs.Private.Reading.{IsReadSoFar, IsWholeRead, PassesOver, ReadsLine, ReadsOver, RefusesNext}
+use Rattle.isort_sort.specs.Private.Reading.{IsKnown, IsReadSoFar, IsWholeRead, ReadsLine, ReadsOver, RefusesNext}
 use Rattle.isort_sort.specs.declared.read.LineReader.{LineReader}
 use Rattle.isort_sort.specs.Errors.{sort_error_of, sort_error_of_import}
 use Rattle.isort_sort.specs.Line.{imported_of}
@@ -30,17 +30,7 @@ BindAll-snoc (l ∷ ls) line bounds more h b = (h.0, h.1 ++ more, ap (λ x. x ++
 pub continues : (old new : Reader) (result : Result (Option unit.Unit) LexError) (found : Option unit.Unit) (u : unit.Unit) → ReadsNext old result new → result ≡ Ok found → found ≡ Some u → Continues old (line_in u) new
 continues old new result found u reads is some = subst (λ r. ReadsNext old r new) (is ∙ ap Ok some) reads
 
--- lines of the text were given and bind something, and the blocks of their rows are found
-pub record IsKnown (text : List ℕ) (reader : Reader) (r : LineReader) : Type 0 where
-  pub given : List LogicalLine
-  pub bounds : List Bound
-  pub same : reader.text ≡ text
-  pub within : reader.place ≤ length reader.text
-  pub are_given : HasGiven reader given
-  pub bind : BindAll given bounds
-  pub so_far : IsReadSoFar given r
-
--- so they are with one line more
+-- what is known of a text is known with one line more
 pub known_on : (text : List ℕ) (old new : Reader) (r next : LineReader) (line : LogicalLine) (more : List Bound) → Continues old line new → Binds line more → ReadsLine line r next → IsKnown text old r → IsKnown text new next
 known_on text old new r next line more on binds reads known = record {
   given = known.given ++ line ∷ [];
@@ -51,11 +41,6 @@ known_on text old new r next line more on binds reads known = record {
   bind = BindAll-snoc known.given line known.bounds more known.bind binds;
   so_far = reads known.given known.so_far;
 }
-
--- the next line was passed over, or not
-pub known_passed : (text : List ℕ) (old new : Reader) (r next : LineReader) (passed : Bool) → PassesOver old r (Ok passed) new next → IsKnown text old r → IsKnown text new next
-known_passed text old new r next true (line, on, binds, reads) known = known_on text old new r next line [] on binds reads known
-known_passed text old new r next false (same_lines, same) known = subst (λ (x : LineReader). IsKnown text new x) (sym same) (subst (λ (x : Reader). IsKnown text x r) (sym same_lines) known)
 
 -- the next line was read
 pub known_read : (text : List ℕ) (old new : Reader) (r next : LineReader) → ReadsOver old r (Ok true) new next → IsKnown text old r → IsKnown text new next

@@ -7,10 +7,10 @@ use Rattle.std.proofs.lemmas.Bool.{eq-eqb, ltb-true, ltb-false}
 use Rattle.std.proofs.lemmas.Slice.Eq.{bytes_eq-Decides}
 use Rattle.std.specs.Prelude.{nat_eq, slice_index}
 use Rattle.std.specs.List.{starts_with}
-use Rattle.memchr.specs.Find.{OccursAt, Nowhere, IsFirstByte, is_byte}
+use Rattle.memchr.specs.Find.{FindsNeedle, OccursAt, Nowhere, IsFirstByte, is_byte}
 use Rattle.memchr.proofs.lemmas.MatchLemmas.{OccursAt-part, OccursAt-from_part}
 use Rattle.py_imports.specs.FirstWords.{Lacks, LacksFirstWords}
-use Rattle.isort_sort.specs.Private.FirstWords.{BeginNowhere, HoldsBytesAt}
+use Rattle.isort_sort.specs.Private.FirstWords.{BeginNowhere, HoldsBytesAt, IsSilentBetween}
 
 -- the rest of a text
 rest_is : (text : List ℕ) (start : ℕ) → slice_range text start (length text) ≡ drop start text
@@ -50,6 +50,9 @@ past first place low other = by (nat_lt first place) refl
 pub later_start : (text : List ℕ) (start stop from : ℕ) → BeginNowhere text start stop → start ≤ from → BeginNowhere text from stop
 later_start text start stop from nowhere low = (λ k above below. nowhere.0 k (omega (arith, low, above)) below, λ k above below. nowhere.1 k (omega (arith, low, above)) below)
 
+pub later_silence : (text : List ℕ) (start stop from : ℕ) → IsSilentBetween text start stop → start ≤ from → IsSilentBetween text from stop
+later_silence text start stop from silent low = λ k above below. silent k (omega (arith, low, above)) below
+
 -- a word doesn't stand where the text goes on otherwise
 pub other_word : (text word : List ℕ) (place : ℕ) → starts_with nat_eq (slice_range text place (length text)) word ≡ false → ¬ (OccursAt text word place)
 other_word text word place differs h =
@@ -66,7 +69,7 @@ between before word after =
     (ap (take (length word)) (drop-append_seam before (word ++ after)) ∙ take-append_seam word after)
 
 -- bytes that end before the next place of the word lack it
-lacks : (word text bytes : List ℕ) (start stop : ℕ) → 0 < length word → HoldsBytesAt text bytes start → Nowhere (OccursAt text word) start stop → start + length bytes ≤ stop → Lacks word bytes
+pub lacks : (word text bytes : List ℕ) (start stop : ℕ) → 0 < length word → HoldsBytesAt text bytes start → Nowhere (OccursAt text word) start stop → start + length bytes ≤ stop → Lacks word bytes
 lacks word text bytes start stop some stands nowhere within = λ a b e.
     let rest = b ++ stands.after in
     let split : text ≡ (stands.before ++ a) ++ (word ++ rest) =
@@ -94,3 +97,22 @@ slice_stands text start stop ordered within = record {
   whole = sym (take-append-drop start text) ∙ ap (λ t. take start text ++ t) (drop_split text start stop ordered);
   place = length-take-le start text (omega (arith, ordered, within));
 }
+
+-- the bytes of a text from one place on up to the first place of a word, or to the text's end, where it begins nowhere
+in_part : (text word : List ℕ) (start place : ℕ) → start ≤ place → OccursAt text word place → OccursAt (slice_range text start (length text)) word (place - start)
+in_part text word start place low h =
+    let same : start + (place - start) ≡ place = omega (arith, low) in
+    record {
+      fits = omega (arith, low, h.fits, ap (λ (rest : List ℕ). length rest) (rest_is text start), length-drop start text);
+      reads = λ j less.
+          let there : place - start + j ≡ (place + j) - start = omega (arith, low) in
+          ap (slice_index (slice_range text start (length text))) there ∙ in_rest text start (place + j) (omega (arith, low)) ∙ h.reads j less;
+    }
+
+pub none_found : (text word : List ℕ) (start : ℕ) → start ≤ length text → FindsNeedle (slice_range text start (length text)) word 0 None → Nowhere (OccursAt text word) start (length text)
+none_found text word start within none place low less h =
+    none (place - start) (omega arith) (omega (arith, low, less, within, ap (λ (rest : List ℕ). length rest) (rest_is text start), length-drop start text)) (in_part text word start place low h)
+
+pub first_found : (text word : List ℕ) (start len : ℕ) → FindsNeedle (slice_range text start (length text)) word 0 (Some len) → Nowhere (OccursAt text word) start (start + len)
+first_found text word start len found place low less h =
+    found.0.before (place - start) (omega arith) (omega (arith, low, less)) (in_part text word start place low h)

@@ -10,6 +10,10 @@ use Rattle.py_imports.specs.Grammar.{begins_import}
 abbrev pub BeginNowhere : List ℕ → ℕ → ℕ → Type 0
 BeginNowhere text start stop = Nowhere (OccursAt text (codes "import")) start stop × Nowhere (OccursAt text (codes "from")) start stop
 
+-- nor `isort:`
+abbrev pub IsSilentBetween : List ℕ → ℕ → ℕ → Type 0
+IsSilentBetween text start stop = Nowhere (OccursAt text (codes "isort:")) start stop
+
 -- these bytes stand in the text at that byte
 pub record HoldsBytesAt (text bytes : List ℕ) (start : ℕ) : Type 0 where
   pub before : List ℕ

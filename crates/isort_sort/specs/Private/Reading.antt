@@ -1,8 +1,7 @@
 -- What the program knows of the lines of a text that it has read.
-use Rattle.std.specs.Prelude.{◌≡◌, ℕ, Bool, true, false, not, nat_lt, Result, Ok, Err, List, [], ◌∷◌, ◌++◌, length, map, drop}
+use Rattle.std.specs.Prelude.{◌≡◌, ◌≤◌, ℕ, Bool, true, false, not, nat_lt, Result, Ok, Err, List, [], ◌∷◌, ◌++◌, length, map, drop}
 use Rattle.std.specs.List.{list_any}
 use Rattle.std.specs.Str.{IsUtf8}
-use Rattle.std.specs.declared.alloc.AllocError.{AllocError}
 use Rattle.py_lines.specs.LogicalLine.{LogicalLine}
 use Rattle.py_lines.specs.Reader.{Reader, HasGiven, Continues, Ends}
 use Rattle.py_imports.specs.Binds.{Binds, BindAll}
@@ -64,12 +63,19 @@ pub record IsReadSoFar (lines : List LogicalLine) (r : LineReader) : Type 0 wher
 abbrev pub ReadsLine : LogicalLine → LineReader → LineReader → Type 0
 ReadsLine line old new = (lines : List LogicalLine) → IsReadSoFar lines old → IsReadSoFar (lines ++ line ∷ []) new
 
--- what a call that passes over the next line answers: the line has no import statement, and is read; or nothing changed
-abbrev pub PassesOver : Reader → LineReader → Result Bool AllocError → Reader → LineReader → Type 0
-PassesOver before old (Ok true) after new =
-    (line : LogicalLine) × Continues before line after × Binds line [] × ReadsLine line old new
-PassesOver before old (Ok false) after new = (after ≡ before) × (new ≡ old)
-PassesOver before old (Err e) after new = Unit {0}
+-- lines of the text were given and bind something, and the blocks of their rows are found
+pub record IsKnown (text : List ℕ) (reader : Reader) (r : LineReader) : Type 0 where
+  pub given : List LogicalLine
+  pub bounds : List Bound
+  pub same : reader.text ≡ text
+  pub within : reader.place ≤ length reader.text
+  pub are_given : HasGiven reader given
+  pub bind : BindAll given bounds
+  pub so_far : IsReadSoFar given r
+
+-- what a call that passes over the next lines leaves: what was known of the text is known of more of it
+abbrev pub PassesOver : Reader → LineReader → Reader → LineReader → Type 0
+PassesOver before old after new = (text : List ℕ) → IsKnown text before old → IsKnown text after new
 
 -- Why the next line can't be read, whatever lines were given and whatever they bind: what the text is refused for.
 abbrev pub RefusesNext : Reader → SortError → Type 0

@@ -4,19 +4,13 @@ use std::alloc::Global;
 use std::test::Fail;
 use test_harness::cases::{Case, each_holds_again};
 
-/// Lines after the text's first, the byte before which they have to end, the bytes of each that is passed over, and where the reader
+/// Lines after the text's first, the byte before which they have to end, how many of their bytes are passed over, and where the reader
 /// then stands.
-struct Passing(&'static str, usize, &'static [usize], (u64, u64));
+struct Passing(&'static str, usize, usize, (u64, u64));
 
-/// Whether the reader passes over lines of so many bytes, and then over none.
-fn passes(lines: &mut Lines<'_>, before: usize, sizes: &[usize]) -> bool {
-    for size in sizes {
-        match lines.pass_line(before) {
-            Ok(Some(len)) if len == *size => {}
-            _ => return false,
-        }
-    }
-    matches!(lines.pass_line(before), Ok(None))
+/// Whether the reader passes over so many bytes of lines, and then over none.
+fn passes(lines: &mut Lines<'_>, before: usize, len: usize) -> bool {
+    lines.pass_lines(before) == len && lines.pass_lines(before) == 0
 }
 
 /// Whether the reader gives a line.
@@ -29,7 +23,7 @@ impl Case for Passing {
         let Ok(mut lines) = Lines::new(alloc, self.0.as_bytes()) else {
             return false;
         };
-        passes(&mut lines, self.1, &[])
+        passes(&mut lines, self.1, 0)
             && gives(&mut lines)
             && passes(&mut lines, self.1, self.2)
             && (lines.offset(), lines.line()) == self.3
@@ -38,40 +32,89 @@ impl Case for Passing {
 
 const PASSING: &[Passing] = &[
     // Words, operators, spaces, brackets and strings, and a line without any.
-    Passing("a\nb = c\n\n\td(e, 'f')\n", 20, &[6, 1, 11], (20, 5)),
+    Passing("a\nb = c\n\n\td(e, 'f')\n", 20, 18, (20, 5)),
     // Brackets over several lines.
-    Passing("a\nb = [\n    'd', {e: 1},\n]\n", 27, &[25], (27, 5)),
+    Passing("a\nb = [\n    'd', {e: 1},\n]\n", 27, 25, (27, 5)),
+    // Comments: after code, alone, and in brackets.
+    Passing("a\nb  # c\n", 9, 7, (9, 3)),
+    Passing("a\n# b\n\n  # '\n", 13, 11, (13, 5)),
+    Passing("a\n(  # (\n)\n", 11, 9, (11, 4)),
     // Strings of three quotes: on one line, over several, and with a quote in them, also before a line end.
-    Passing("a\nb = '''c'''\n", 14, &[12], (14, 3)),
-    Passing("a\n\"\"\"b\n\nc\"\"\"\nd\n", 15, &[11, 2], (15, 6)),
-    Passing("a\n'''b'c'\nd'''\n", 15, &[13], (15, 4)),
-    Passing("a\nb(\"\"\"c\"\"\", '''d\n''')\n", 23, &[21], (23, 4)),
+    Passing("a\nb = '''c'''\n", 14, 12, (14, 3)),
+    Passing("a\n\"\"\"b\n\nc\"\"\"\nd\n", 15, 13, (15, 6)),
+    Passing("a\n'''b'c'\nd'''\n", 15, 13, (15, 4)),
+    Passing("a\nb(\"\"\"c\"\"\", '''d\n''')\n", 23, 21, (23, 4)),
+    // Prefixes, escapes, empty strings, and joins.
+    Passing("a\nb = r'c'\n", 11, 9, (11, 3)),
+    Passing("a\nb = 'c\\n'\n", 12, 10, (12, 3)),
+    Passing("a\nb = Rb\"c\\\"d\", '', \"\"\n", 23, 21, (23, 3)),
+    Passing("a\nb'''c'''\n", 11, 9, (11, 3)),
+    Passing("a\n'''b\\\n'''\n", 12, 10, (12, 4)),
+    Passing("a\n'b\\\n'\n", 8, 6, (8, 4)),
+    Passing("a\nb = \\\n c\n", 11, 9, (11, 4)),
     // A line that goes past the byte, and one without a line end.
-    Passing("a\nb\nc = d\n", 9, &[2], (4, 3)),
-    Passing("a\nb\nc = d", 9, &[2], (4, 3)),
-    // What is left to the scan: a comment, a prefix, an escape, two quotes in a string of three, a backslash, CR, and a character
-    // outside ASCII.
-    Passing("a\nb  # c\n", 9, &[], (2, 2)),
-    Passing("a\nb = r'c'\n", 11, &[], (2, 2)),
-    Passing("a\nb = 'c\\n'\n", 12, &[], (2, 2)),
-    Passing("a\nb'''c'''\n", 11, &[], (2, 2)),
-    Passing("a\nr'''c'''\n", 11, &[], (2, 2)),
-    Passing("a\n'''b\\\n'''\n", 12, &[], (2, 2)),
-    Passing("a\n'''b'\\''''\n", 13, &[], (2, 2)),
-    Passing("a\n'''b''c'''\n", 13, &[], (2, 2)),
-    Passing("a\n'''b\r\n'''\n", 13, &[], (2, 2)),
-    Passing("a\nb = \\\n c\n", 11, &[], (2, 2)),
-    Passing("a\nb = c\r\n", 9, &[], (2, 2)),
-    Passing("a\nb = \u{e4}\n", 9, &[], (2, 2)),
+    Passing("a\nb\nc = d\n", 9, 2, (4, 3)),
+    Passing("a\nb\nc = d", 9, 2, (4, 3)),
+    // What is left to the scan: fields, a word before a string, two quotes in a string of three, a quote before a backslash, a backslash
+    // before a space, CR, and a character outside ASCII.
+    Passing("a\nf'{b}'\n", 9, 0, (2, 2)),
+    Passing("a\nRT\"\"\n", 7, 0, (2, 2)),
+    Passing("a\nbar'c'\n", 9, 0, (2, 2)),
+    Passing("a\n'''b''c'''\n", 13, 0, (2, 2)),
+    Passing("a\n'''b'\\''''\n", 13, 0, (2, 2)),
+    Passing("a\nb = \\ \n", 9, 0, (2, 2)),
+    Passing("a\n'''b\r\n'''\n", 13, 0, (2, 2)),
+    Passing("a\nb = c\r\n", 9, 0, (2, 2)),
+    Passing("a\nb = \u{e4}\n", 9, 0, (2, 2)),
+    Passing("a\nb  # \u{e4}\n", 10, 0, (2, 2)),
     // A fault: a bracket that closes none, a character that begins nothing, and strings that aren't closed.
-    Passing("a\nb = (c]\n", 10, &[], (2, 2)),
-    Passing("a\nb = c?\n", 9, &[], (2, 2)),
-    Passing("a\nb = 'c\n", 9, &[], (2, 2)),
-    Passing("a\n'''b\n", 7, &[], (2, 2)),
-    Passing("a\n'''b''\n", 9, &[], (2, 2)),
+    Passing("a\nb = (c]\n", 10, 0, (2, 2)),
+    Passing("a\nb = c?\n", 9, 0, (2, 2)),
+    Passing("a\nb = 'c\n", 9, 0, (2, 2)),
+    Passing("a\n'''b\n", 7, 0, (2, 2)),
+    Passing("a\n'''b''\n", 9, 0, (2, 2)),
+];
+
+/// A text whose lines are passed over up to each of its bytes.
+struct Cut(&'static str);
+
+/// Whether one reader passes over lines up to this byte and stands where another stands after lines that it gave.
+fn stands_alike(alloc: Global, text: &str, before: usize) -> bool {
+    let Ok(mut passing) = Lines::new(alloc, text.as_bytes()) else {
+        return false;
+    };
+    let Ok(mut giving) = Lines::new(alloc, text.as_bytes()) else {
+        return false;
+    };
+    let first = gives(&mut passing);
+    passing.pass_lines(before);
+    for _ in 0..text.len() {
+        if giving.offset() >= passing.offset() || !gives(&mut giving) {
+            break;
+        }
+    }
+    first && (giving.offset(), giving.line()) == (passing.offset(), passing.line())
+}
+
+impl Case for Cut {
+    fn holds(&self, alloc: Global) -> bool {
+        for before in 0..self.0.len() + 2 {
+            if !stands_alike(alloc, self.0, before) {
+                return false;
+            }
+        }
+        true
+    }
+}
+
+const CUT: &[Cut] = &[
+    Cut("a\nb = c\n\n\td(e, 'f')\n'''g\n'''; h = \\\n  i  # j\n\nk = [\n# l\n]\n"),
+    Cut("a\nb = 'c\\\\'\nd = r\"e\\\"\" '' \"\"\nf'{g}'\nh = \"\"\"i\n\\\"\"\"\"\nj(((k))[{}])\n"),
+    Cut("a\r\nb\nc = \u{e4}\nd\n# \u{e4}\n# e\nf = '''g\r\n'''\nh\n"),
 ];
 
 #[test]
 fn simple_lines_are_passed_over(rt: HostRuntime) -> Result<(), Fail> {
-    each_holds_again(rt.alloc(), "PASSING", PASSING)
+    each_holds_again(rt.alloc(), "PASSING", PASSING)?;
+    each_holds_again(rt.alloc(), "CUT", CUT)
 }

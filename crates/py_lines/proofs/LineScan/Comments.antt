@@ -19,7 +19,7 @@ use Rattle.py_lines.proofs.LineScan.FirstBytes.{or_more}
 use Rattle.py_lines.proofs.LineScan.Runs.{held_in, holds_run, reached_run}
 use Rattle.py_lines.proofs.LineScan.ShortPieces.{Goes, follows_begin, meets, none_begins, opens_reached}
 
-hash_is : (c : ℕ) → is_hash c ≡ true → c ≡ 35
+pub hash_is : (c : ℕ) → is_hash c ≡ true → c ≡ 35
 unfolding is_hash
 hash_is c h = the_one 35 c h
 

@@ -1,28 +1,26 @@
--- A line that was passed over whole is the text's next.
-use Rattle.std.proofs.Common.{◌≡◌, ℕ, zero, suc, ◌+◌, ◌-◌, ◌<◌, ◌≤◌, Bool, true, false, ◌||◌, None, List, [], ◌∷◌, ◌++◌, length, take, drop, slice_index, refl, sym, ap, ◌∙◌, subst, append-nil, arith}
-use Rattle.std.specs.Prelude.{encode_utf8_all, if◌then◌else◌, slice_range}
+-- Lines that were passed over are the text's next.
+use Rattle.std.proofs.Common.{◌≡◌, ℕ, zero, suc, ◌+◌, ◌-◌, ◌<◌, ◌≤◌, true, None, List, [], ◌∷◌, ◌++◌, length, take, drop, slice_index, refl, sym, ap, ◌∙◌, subst, append-nil, arith}
+use Rattle.std.specs.Prelude.{encode_utf8_all, slice_range}
 use Rattle.std.specs.Str.{all_scalars, IsCharBoundary}
-use Rattle.std.specs.List.{list_all, list_any}
-use Rattle.std.proofs.lemmas.Bool.{and_parts, both_ways, or_parts}
-use Rattle.std.proofs.lemmas.List.{drop-take, get_or-drop, length-take, length-take-le, length-drop, take-append-drop, take-append-le}
+use Rattle.std.specs.List.{list_all}
+use Rattle.std.proofs.lemmas.Bool.{and_parts}
+use Rattle.std.proofs.lemmas.List.{drop-drop, drop-take, get_or-drop, length-append, length-take, length-take-le, length-drop, take-append-drop, take-append-le, take_all}
 use Rattle.std.proofs.lemmas.Str.{IsCharBoundary-after_ascii, IsUtf8-had}
-use Rattle.py_lines.specs.Character.{is_digit}
-use Rattle.py_lines.specs.Piece.{Class, mark, space, word, string, operator, comment, join, line_end, Piece, begins, spelled}
-use Rattle.py_lines.specs.Token.{is_comment}
-use Rattle.py_lines.specs.declared.token.Token.{Token}
-use Rattle.py_lines.specs.declared.token.TokKind.TheVariants as kind
-use Rattle.py_lines.specs.LogicalLine.{byte_len, line_of, is_comment_class, line_ends, tokens_from, tokens_of_piece}
-use Rattle.py_lines.specs.Reader.{Reader, PassesLine}
+use Rattle.std.proofs.Math.Seq.{drop-append_seam, take-append_seam}
+use Rattle.py_lines.specs.Piece.{Piece, spelled}
+use Rattle.py_lines.specs.LogicalLine.{LogicalLine, line_of}
+use Rattle.py_lines.specs.Lines.{PassesUpTo}
+use Rattle.py_lines.specs.Reader.{Reader, PassesLine, PassesLines}
 use Rattle.py_lines.specs.Reader.View.{reader_of}
 use Rattle.py_lines.specs.declared.mode.Mode.{Mode}
 use Rattle.py_lines.specs.declared.mode.Mode.TheVariants as modes
+use Rattle.py_lines.specs.declared.plain_strings.Passed.{Passed}
 use Rattle.py_lines.specs.declared.source.Source.{Source}
-use Rattle.py_lines.specs.declared.whole_lines.WholeLine.{WholeLine}
 use Rattle.py_lines.specs.Private.LineState.{first_mode}
 use Rattle.py_lines.specs.Private.Machine.{fresh}
 use Rattle.py_lines.specs.Private.ScanMachine.{IsScanSound}
 use Rattle.py_lines.specs.Private.Scan.{line_start}
-use Rattle.py_lines.specs.Private.WholeLines.{BeginsWithLine, HasNoComment, IsWholeLine}
+use Rattle.py_lines.specs.Private.Outline.{AreWholeLines, BeginWithLines, IsWholeLine}
 use Rattle.py_lines.proofs.Lexings.GivenLines.{IsEnded}
 use Rattle.py_lines.proofs.LineScan.LineCount.{line_ends-le}
 use Rattle.py_lines.proofs.LineScan.LineSteps.{sound_steps}
@@ -30,7 +28,7 @@ use Rattle.py_lines.proofs.LineScan.PieceEnd.{no_class_bracket}
 use Rattle.py_lines.proofs.LineScan.ShortPieces.{is_low, low_encodes, low_is}
 use Rattle.py_lines.proofs.LineScan.TextSteps.{begun_sound}
 use Rattle.py_lines.proofs.LogicalLines.Cuts.{one_line}
-use Rattle.py_lines.proofs.LineScan.WholeLines.{bare_more}
+use Rattle.py_lines.proofs.SimpleLines.Lines.{lines_few, lines_low}
 use Rattle.py_lines.proofs.Readers.LineAnswers.{IsReadLine, continues_as}
 
 -- the machine's pieces are the line's
@@ -49,30 +47,6 @@ whole_read read n some line =
       strings = sound.strings;
       some = omega (arith, some, ap length (low_encodes is_low read low_is line.holds.low).0);
     }
-
--- pieces without a comment have no token that is one
-no_remark : (class : Class) (text : List ℕ) (start stop line : ℕ) (rest : List Token) → is_comment_class class ≡ false → list_any (λ (t : Token). is_comment t.kind) (tokens_of_piece start stop line class text ++ rest) ≡ list_any (λ (t : Token). is_comment t.kind) rest
-no_remark word text start stop line rest other = by (begins is_digit text)
-  where
-    by : (b : Bool) → is_comment (if b then kind.Number else kind.Name) || list_any (λ (t : Token). is_comment t.kind) rest ≡ list_any (λ (t : Token). is_comment t.kind) rest
-    by true = refl
-    by false = refl
-no_remark string text start stop line rest other = refl
-no_remark operator text start stop line rest other = refl
-no_remark comment text start stop line rest other = absurd (both_ways _ other refl)
-no_remark mark text start stop line rest other = refl
-no_remark space text start stop line rest other = refl
-no_remark join text start stop line rest other = refl
-no_remark line_end text start stop line rest other = refl
-
-bare_line : (body : List Piece) (last : Piece) → last.class ≡ line_end → HasNoComment body → HasNoComment (body ++ last ∷ [])
-bare_line body last class bare = bare_more body last bare (ap is_comment_class class)
-
-no_comment : (start line : ℕ) (ps : List Piece) → HasNoComment ps → list_any (λ (t : Token). is_comment t.kind) (tokens_from start line ps) ≡ false
-no_comment start line [] bare = refl
-no_comment start line (p ∷ ps) bare =
-    let parts = or_parts (is_comment_class p.class) (list_any (λ q. is_comment_class q.class) ps) bare in
-    no_remark p.class p.text start (start + byte_len p.text) line _ parts.0 ∙ no_comment (start + byte_len p.text) (line + line_ends p.text) ps parts.1
 
 -- no mark may stand after the text's start
 first_free : (n : ℕ) → (n ≡ 0 → ⊥) → first_mode n ≡ modes.Free
@@ -98,87 +72,174 @@ place_slice text place len all within whole =
     ∙ ap (take len) (drop-take place more text)
     ∙ take_slice (drop place text) len more (omega (arith, within, whole, parts, length-take-le more (drop place text) (omega (arith, whole, parts, length-drop place text))))
 
--- the line that the bytes after the reader's place begin with
-module _ (old : Source) (later : old.state.place ≡ 0 → ⊥) (no_fault : old.state.fault ≡ None) (before : ℕ) (ordered : old.state.place < before) (within : before ≤ length old.characters.now)
-    (line : WholeLine) (whole : BeginsWithLine (take (before - old.state.place) (drop old.state.place old.characters.now)) line) where
-  abbrev rest : List ℕ
-  rest = drop old.state.place old.characters.now
+-- a character begins after bytes of ASCII
+low_boundary : (s : Source) (len : ℕ) → s.state.place + len ≤ length s.characters.now → list_all is_low (take len (drop s.state.place s.characters.now)) ≡ true → IsCharBoundary s.characters.now (s.state.place + len)
+low_boundary s zero room low = subst (IsCharBoundary s.characters.now) (omega arith) s.boundary
+low_boundary s (suc k) room low =
+    let rest = drop s.state.place s.characters.now in
+    let last : s.state.place + k + 1 ≡ s.state.place + suc k = omega arith in
+    let in_rest = last_low rest k (omega (arith, room, length-drop s.state.place s.characters.now)) low in
+    let byte = subst (λ (b : ℕ). b < 128) (get_or-drop s.state.place s.characters.now k 0) in_rest in
+    subst (IsCharBoundary s.characters.now) last (IsCharBoundary-after_ascii s.characters.now (s.state.place + k) (IsUtf8-had _ s.text) (omega (arith, room)) byte)
 
-  read : List ℕ
-  read = take line.len (take (before - old.state.place) rest)
+-- the reader after so many bytes and line ends
+abbrev pub further : Source → ℕ → ℕ → Reader
+further s len feeds = record { text = s.bytes.now; place = s.state.place + len; line = s.state.line + feeds; fault = s.state.fault }
 
-  read_is : read ≡ take line.len rest
-  unfolding read
-  read_is = take_slice rest line.len (before - old.state.place) whole.within
+-- the same as a `Source`
+abbrev source_after : (s : Source) (len feeds : ℕ) → s.state.place + len ≤ length s.characters.now → feeds ≤ len → list_all is_low (take len (drop s.state.place s.characters.now)) ≡ true → Source
+source_after s len feeds room few low = record {
+  bytes = s.bytes;
+  characters = s.characters;
+  start = s.state.place;
+  end_len = s.end_len;
+  state = record s.state { place = s.state.place + len; line = s.state.line + feeds };
+  text = s.text;
+  prefix = s.prefix;
+  bad = s.bad;
+  ordered = omega arith;
+  within = room;
+  boundary = low_boundary s len room low;
+  start_boundary = s.boundary;
+  few_lines = omega (arith, few, s.few_lines);
+}
 
-  -- how far it reaches
-  pub place_room : old.state.place + line.len ≤ before
-  place_room = omega (arith, whole.within, length-take-le (before - old.state.place) rest (omega (arith, length-drop old.state.place old.characters.now, within, ordered)), ordered)
-
-  size : length read ≡ line.len
-  unfolding read
-  size = length-take-le line.len (take (before - old.state.place) rest) whole.within
-
-  is_whole : IsWholeLine read line.line_ends
-  unfolding read
-  is_whole = whole.whole
-
+-- a line that the bytes after the reader's place begin with
+module _ (s : Source) (later : s.state.place ≡ 0 → ⊥) (no_fault : s.state.fault ≡ None) (read : List ℕ) (n : ℕ) (some : 0 < length read) (room : s.state.place + length read ≤ length s.characters.now)
+    (spell : take (length read) (drop s.state.place s.characters.now) ≡ read) (line : IsWholeLine read n) where
   low : (encode_utf8_all read ≡ read) × (all_scalars read ≡ true)
-  low = low_encodes is_low read low_is is_whole.holds.low
+  low = low_encodes is_low read low_is line.holds.low
 
-  -- its line ends are no more than its bytes
-  pub few_ends : line.line_ends ≤ line.len
-  few_ends = omega (arith, is_whole.holds.count, line_ends-le read, size)
+  prefix_long : length s.characters.now ≤ length s.bytes.now
+  prefix_long = omega (arith, ap length s.prefix, length-take (length s.characters.now) s.bytes.now)
 
-  pub place_boundary : IsCharBoundary old.characters.now (old.state.place + line.len)
-  place_boundary =
-      let last : old.state.place + (line.len - 1) + 1 ≡ old.state.place + line.len = omega (arith, whole.some) in
-      subst (IsCharBoundary old.characters.now) last (IsCharBoundary-after_ascii old.characters.now (old.state.place + (line.len - 1)) (IsUtf8-had _ old.text) (omega (arith, place_room, within, whole.some)) low_byte)
-    where
-      some_less : suc (line.len - 1) ≡ line.len
-      some_less = omega (arith, whole.some)
-
-      in_rest : slice_index rest (line.len - 1) < 128
-      in_rest = last_low rest (line.len - 1) (omega (arith, place_room, within, whole.some, length-drop old.state.place old.characters.now)) (ap (λ (k : ℕ). list_all is_low (take k rest)) some_less ∙ ap (list_all is_low) (sym read_is) ∙ is_whole.holds.low)
-
-      low_byte : slice_index old.characters.now (old.state.place + (line.len - 1)) < 128
-      low_byte = subst (λ (b : ℕ). b < 128) (get_or-drop old.state.place old.characters.now (line.len - 1) 0) in_rest
-
-  prefix_long : length old.characters.now ≤ length old.bytes.now
-  prefix_long = omega (arith, ap length old.prefix, length-take (length old.characters.now) old.bytes.now)
-
-  -- the pieces of the line
   abbrev pieces : List Piece
-  pieces = is_whole.body ++ is_whole.last ∷ []
+  pieces = line.body ++ line.last ∷ []
 
-  as_line : IsReadLine (line_start (first_mode old.state.place)) read pieces
-  as_line = subst (λ (m : Mode). IsReadLine (line_start m) read pieces) (sym (first_free old.state.place later)) (whole_read read line.line_ends (omega (arith, size, whole.some)) is_whole)
+  as_line : IsReadLine (line_start (first_mode s.state.place)) read pieces
+  as_line = subst (λ (m : Mode). IsReadLine (line_start m) read pieces) (sym (first_free s.state.place later)) (whole_read read n some line)
 
-  split : encode_utf8_all read ++ drop line.len rest ≡ rest
-  split = ap (λ t. t ++ drop line.len rest) (low.0 ∙ read_is) ∙ take-append-drop line.len rest
+  split : encode_utf8_all read ++ drop (length read) (drop s.state.place s.characters.now) ≡ drop s.state.place s.characters.now
+  split = ap (λ t. t ++ drop (length read) (drop s.state.place s.characters.now)) (low.0 ∙ sym spell) ∙ take-append-drop (length read) (drop s.state.place s.characters.now)
 
-  -- the reader after it
-  abbrev new : Reader
-  new = record { text = old.bytes.now; place = old.state.place + line.len; line = old.state.line + line.line_ends; fault = old.state.fault }
+  abbrev pub line_is : LogicalLine
+  line_is = line_of s.state.place s.state.line pieces
 
-  text : encode_utf8_all (spelled pieces) ≡ slice_range old.bytes.now old.state.place new.place
+  text : encode_utf8_all (spelled pieces) ≡ slice_range s.bytes.now s.state.place (s.state.place + length read)
   text =
-      let long : line.len ≡ new.place - old.state.place = omega arith in
+      let long : length read ≡ s.state.place + length read - s.state.place = omega arith in
       ap encode_utf8_all as_line.spell
       ∙ low.0
-      ∙ read_is
-      ∙ ap (λ t. take line.len (drop old.state.place t)) old.prefix
-      ∙ place_slice old.bytes.now old.state.place line.len (length old.characters.now) (omega (arith, place_room, within)) prefix_long
-      ∙ ap (λ (k : ℕ). take k (drop old.state.place old.bytes.now)) long
+      ∙ sym spell
+      ∙ ap (λ t. take (length read) (drop s.state.place t)) s.prefix
+      ∙ place_slice s.bytes.now s.state.place (length read) (length s.characters.now) room prefix_long
+      ∙ ap (λ (k : ℕ). take k (drop s.state.place s.bytes.now)) long
 
-  pub passes : PassesLine (reader_of old) line.len new
-  passes = record {
-    line = line_of old.state.place old.state.line pieces;
-    continues = continues_as old new read (drop line.len rest) pieces low.1 split (omega (arith, ordered, within, prefix_long)) no_fault as_line refl (ap (λ (k : ℕ). old.state.place + k) (sym size ∙ ap length (sym low.0))) (omega (arith, place_room, within, prefix_long)) (ap (λ (k : ℕ). old.state.line + k) (sym is_whole.holds.count)) no_fault
-        (λ lines s. (whole_sound read line.line_ends is_whole).fit s.after)
-        (λ lines s. IsEnded.by_line is_whole.body is_whole.last refl is_whole.are.class is_whole.are.level);
-    size = ap byte_len as_line.spell ∙ ap length low.0 ∙ size;
+  pub passes_line : PassesLine (reader_of s) line_is (further s (length read) n)
+  passes_line = record {
+    continues = continues_as s (further s (length read) n) read (drop (length read) (drop s.state.place s.characters.now)) pieces low.1 split (omega (arith, some, room, prefix_long)) no_fault as_line refl (ap (λ (k : ℕ). s.state.place + k) (ap length (sym low.0))) (omega (arith, room, prefix_long)) (ap (λ (k : ℕ). s.state.line + k) (sym line.holds.count)) no_fault
+        (λ lines t. (whole_sound read n line).fit t.after)
+        (λ lines t. IsEnded.by_line line.body line.last refl line.are.class line.are.level);
     text = text;
-    bare = no_comment 0 old.state.line pieces (bare_line is_whole.body is_whole.last is_whole.are.class is_whole.bare);
     utf8 = (spelled pieces, (ap all_scalars as_line.spell ∙ low.1, refl));
   }
+
+-- lines that they begin with
+pub record PassesAll (s : Source) (len n : ℕ) : Type 0 where
+  pub lines : List LogicalLine
+  pub passes : PassesLines (reader_of s) lines (further s len n)
+
+pub passes_all : (texts : List (List ℕ)) (s : Source) (read : List ℕ) (n : ℕ) → (s.state.place ≡ 0 → ⊥) → s.state.fault ≡ None → s.state.place + length read ≤ length s.characters.now → take (length read) (drop s.state.place s.characters.now) ≡ read → AreWholeLines texts read n → PassesAll s (length read) n
+passes_all [] s read n later no_fault room spell are =
+    let size : length read ≡ 0 = ap length are.0 in
+    let place : s.state.place + length read ≡ s.state.place = omega (arith, size) in
+    let line : s.state.line + n ≡ s.state.line = omega (arith, are.1) in
+    record {
+      lines = [];
+      passes = λ i. record { text = s.bytes.now; place = place i; line = line i; fault = s.state.fault };
+    }
+passes_all (t ∷ texts) s read n later no_fault room spell are =
+    let rest = drop s.state.place s.characters.now in
+    let sizes : length read ≡ length t + length are.later = ap length are.spell ∙ length-append t are.later in
+    let own_room : s.state.place + length t ≤ length s.characters.now = omega (arith, room, sizes) in
+    let within : length t ≤ length read = omega (arith, sizes) in
+    let size : length (take (length read) rest) ≡ length read = ap length spell in
+    let own : take (length t) rest ≡ t = sym (take_slice rest (length t) (length read) (omega (arith, within, size))) ∙ ap (take (length t)) (spell ∙ are.spell) ∙ take-append_seam t are.later in
+    let few : are.own ≤ length t = omega (arith, are.whole.holds.count, line_ends-le t) in
+    let mid = source_after s (length t) are.own own_room few (ap (list_all is_low) own ∙ are.whole.holds.low) in
+    let later_spell : take (length are.later) (drop (s.state.place + length t) s.characters.now) ≡ are.later =
+    ap (take (length are.later)) (sym (drop-drop (length t) s.state.place s.characters.now))
+    ∙ sym (take_slice (drop (length t) rest) (length are.later) (length read - length t) (omega (arith, sizes, length-take-le (length read - length t) (drop (length t) rest) (omega (arith, room, sizes, length-drop (length t) rest, length-drop s.state.place s.characters.now)))))
+    ∙ ap (take (length are.later)) (sym (drop-take (length t) (length read - length t) rest) ∙ ap (λ (k : ℕ). drop (length t) (take k rest)) (omega (arith, sizes)) ∙ ap (drop (length t)) (spell ∙ are.spell) ∙ drop-append_seam t are.later)
+    ∙ take_all (length are.later) are.later (omega arith) in
+    let others = passes_all texts mid are.later are.more (λ (none : s.state.place + length t ≡ 0). omega (arith, none, are.some)) no_fault (omega (arith, room, sizes)) later_spell are.lines in
+    let place : s.state.place + length read ≡ s.state.place + length t + length are.later = omega (arith, sizes) in
+    let line : s.state.line + n ≡ s.state.line + are.own + are.more = omega (arith, are.count) in
+    record {
+      lines = line_is s later no_fault t are.own are.some own_room own are.whole ∷ others.lines;
+      passes = (
+        further s (length t) are.own,
+        passes_line s later no_fault t are.own are.some own_room own are.whole,
+        subst (λ (r : Reader). PassesLines (further s (length t) are.own) others.lines r) (sym (λ i. record { text = s.bytes.now; place = place i; line = line i; fault = s.state.fault })) others.passes,
+      );
+    }
+
+-- the lines that the code has found
+module _ (s : Source) (later : s.state.place ≡ 0 → ⊥) (no_fault : s.state.fault ≡ None) (before : ℕ) (ordered : s.state.place < before) (within : before ≤ length s.characters.now)
+    (p : Passed) (found : BeginWithLines (take (before - s.state.place) (drop s.state.place s.characters.now)) p) where
+  rest : List ℕ
+  rest = drop s.state.place s.characters.now
+
+  read : List ℕ
+  read = take p.len (take (before - s.state.place) (drop s.state.place s.characters.now))
+
+  size : length read ≡ p.len
+  unfolding read
+  size = length-take-le p.len (take (before - s.state.place) (drop s.state.place s.characters.now)) found.within
+
+  slice_size : length (take (before - s.state.place) (drop s.state.place s.characters.now)) ≡ before - s.state.place
+  slice_size = length-take-le (before - s.state.place) (drop s.state.place s.characters.now) (omega (arith, length-drop s.state.place s.characters.now, within, ordered))
+
+  pub room : s.state.place + p.len ≤ before
+  room = omega (arith, found.within, slice_size, ordered)
+
+  are : AreWholeLines found.texts read p.line_ends
+  unfolding read
+  are = found.whole
+
+  spell : take p.len (drop s.state.place s.characters.now) ≡ read
+  unfolding read
+  spell = sym (take_slice (drop s.state.place s.characters.now) p.len (before - s.state.place) found.within)
+
+  pub few : p.line_ends ≤ p.len
+  few = omega (arith, lines_few found.texts read p.line_ends are, size)
+
+  pub boundary : IsCharBoundary s.characters.now (s.state.place + p.len)
+  boundary = low_boundary s p.len (omega (arith, room, within)) (ap (list_all is_low) spell ∙ lines_low found.texts read p.line_ends are)
+
+  all : PassesAll s p.len p.line_ends
+  all =
+      subst (λ (k : ℕ). PassesAll s k p.line_ends) size
+      (passes_all found.texts s read p.line_ends later no_fault (omega (arith, size, room, within)) (ap (λ (k : ℕ). take k (drop s.state.place s.characters.now)) size ∙ spell) are)
+
+  pub passes_up_to : PassesUpTo (reader_of s) before p.len (further s p.len p.line_ends)
+  passes_up_to = record {
+    lines = all.lines;
+    passes = all.passes;
+    place = refl;
+    within = λ some. room;
+    same = λ none.
+        let place : s.state.place + p.len ≡ s.state.place = omega (arith, none) in
+        let line : s.state.line + p.line_ends ≡ s.state.line = omega (arith, none, few) in
+        λ i. record { text = s.bytes.now; place = place i; line = line i; fault = s.state.fault };
+  }
+
+-- no line was passed
+pub passes_none : (r : Reader) (before : ℕ) → PassesUpTo r before 0 r
+passes_none r before = record {
+  lines = [];
+  passes = refl;
+  place = omega arith;
+  within = λ some. absurd (omega (arith, some));
+  same = λ none. refl;
+}

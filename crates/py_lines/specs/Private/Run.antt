@@ -89,10 +89,6 @@ is_code_sign c = is_between 42 47 c || (is_between 32 33 c || (c == byte "="))
 abbrev pub is_code_byte : ℕ → Bool
 is_code_byte c = is_ascii_word c || is_code_sign c
 
--- the same with `@` and the operators from `*` to `>`: what statements have mostly
-unfoldable pub is_statement_byte : ℕ → Bool
-is_statement_byte c = ((is_between 42 62 c || is_between 64 90 c) || is_between 97 122 c) || ((c == byte " ") || (c == byte "_"))
-
 -- what stands in a comment
 abbrev pub is_comment_byte : ℕ → Bool
 is_comment_byte c = not (is_break c)
@@ -114,7 +110,6 @@ is_in_run (runs.Body q) = is_body_byte q
 is_in_run (runs.Text q) = is_text_byte q
 is_in_run (runs.Literal q) = is_literal_byte q
 is_in_run runs.Code = is_code_byte
-is_in_run runs.Statement = is_statement_byte
 is_in_run runs.Remark = is_remark_byte
 
 -- whether a byte, or a character, leaves the open piece as it is, and ends no line

@@ -1,6 +1,6 @@
 use Rattle.std.proofs.Common.{◌≡◌, ◌-◌, ◌≤◌, length}
 use Rattle.isort_sort.specs.Private.FoundValues.{finding_value, IsCounted}
-use Rattle.isort_sort.proofs.Readings.ReadSoFar.{IsKnown}
+use Rattle.isort_sort.specs.Private.Reading.{IsKnown}
 use Rattle.isort_sort.proofs.read.LineReader.read.Given as goal
 
 abbrev pub invariant-lines : goal.invariant-lines

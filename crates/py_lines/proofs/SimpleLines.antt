@@ -1,0 +1,7 @@
+-- Simple lines are passed over: the machine goes through them.
+pub mod Code
+pub mod Prefixes
+pub mod Strings
+pub mod Comments
+pub mod Joins
+pub mod Lines

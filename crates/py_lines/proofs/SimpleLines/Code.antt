@@ -1,0 +1,397 @@
+-- Code is passed over: the machine goes through its words, spaces, operators and brackets, up to LF.
+use Rattle.std.proofs.Common.{◌≡◌, ℕ, ◌+◌, ◌<◌, ◌⊎◌, inl, inr, Bool, true, false, not, Option, None, Some, List, [], ◌∷◌, ◌++◌, length, refl, sym, ap, ◌∙◌, subst, append_assoc, append-nil, arith, lit<}
+use Rattle.std.specs.Prelude.{codes}
+use Rattle.std.specs.List.{list_all}
+use Rattle.std.proofs.lemmas.Bool.{and_from, and_parts, both_ways}
+use Rattle.std.proofs.lemmas.Bool.Decides.{nat_tests}
+use Rattle.std.proofs.lemmas.List.Folds.{list_all-append}
+use Rattle.std.proofs.lemmas.Str.{len_utf8_ascii}
+use Rattle.py_lines.specs.Character.{is_break, is_line_feed, is_operator, is_quote, is_return, is_space, is_word_character}
+use Rattle.py_lines.specs.Piece.{operator, line_end, Piece, ends, spelled}
+use Rattle.py_lines.specs.Balance.{depth_through, is_opening, is_closing}
+use Rattle.py_lines.specs.LogicalLine.{byte_len}
+use Rattle.py_lines.specs.declared.mode.Spelling.{Spelling}
+use Rattle.py_lines.specs.declared.mode.Mode.{Mode}
+use Rattle.py_lines.specs.declared.mode.Mode.TheVariants as modes
+use Rattle.py_lines.specs.declared.mode.Move.TheVariants as moves
+use Rattle.py_lines.specs.declared.mode.Start.{Start}
+use Rattle.py_lines.specs.declared.mode.Start.TheVariants as starts
+use Rattle.py_lines.specs.Private.Machine.{Scanned, fresh, moved, started, start_of, first_spelling, spelling_with, IsFull, Bracket, brackets_after, brackets_of, move_of}
+use Rattle.py_lines.specs.Private.ScanMachine.{IsScanSound, meet_of, scan_step, scan_steps}
+use Rattle.py_lines.specs.Private.Scan.{EndsNoLine, counts_after, line_start}
+use Rattle.py_lines.specs.Private.Run.{is_ascii_word}
+use Rattle.py_lines.specs.Private.FieldText.{is_apart_mode, is_code_mode}
+use Rattle.py_lines.specs.Private.Outline.{HoldsFeeds, HasCome, GoesOnAfter, EndsBefore, StandsBefore, IsAfterFeed, IsTail, tail_of, tail_on, tail_with}
+use Rattle.py_lines.proofs.Pieces.PieceLists.{piece}
+use Rattle.py_lines.proofs.Machine.Starts.{start-word, start-space, start-operator, start-feed}
+use Rattle.py_lines.proofs.Machine.PieceSteps.{scanned, pieces_at}
+use Rattle.py_lines.proofs.Machine.LiveTexts.{keeps, stack_closed}
+use Rattle.py_lines.proofs.ScanMachine.Steps.{breaks_in}
+use Rattle.py_lines.proofs.LineScan.BracketStack.{keeps_at}
+use Rattle.py_lines.proofs.LineScan.Increments.{EndsNoLine-push, line_ends-step, stack_push}
+use Rattle.py_lines.proofs.LineScan.LineCount.{byte_len-one, ends-last}
+use Rattle.py_lines.proofs.LineScan.LineSteps.{sound_steps, steps_push}
+use Rattle.py_lines.proofs.LineScan.NextCharacter.{closed_one_line, depth_none, none_level}
+use Rattle.py_lines.proofs.LineScan.PieceEnd.{closed_text}
+use Rattle.py_lines.proofs.LineScan.Runs.{ends-run, line_ends-run, space_low, word_byte_continues, word_byte_low}
+use Rattle.py_lines.proofs.LineScan.ShortPieces.{free_breaks, is_low, is_low_from, low_encodes, low_is, operator-no_break, operator-not-quote, word_starts, word_whole, space-not-quote, space_whole}
+use Rattle.py_lines.proofs.LineScan.TextSteps.{begun_sound}
+use Rattle.py_lines.proofs.Text.CharacterTests.{excluded, feed_from, none_of, operator_ascii}
+
+-- what is no space, and no word
+word-not-space : (c : ℕ) → is_ascii_word c ≡ true → is_space c ≡ false
+unfolding is_ascii_word is_space
+word-not-space c h = grind (arith, nat_tests)
+
+operator-not-space : (c : ℕ) → is_operator c ≡ true → is_space c ≡ false
+unfolding is_operator is_space
+operator-not-space c h = none_of is_space (codes "+-*/%@&|^~<>=!()[]{},:.;") c refl h
+
+pub quote-not-space : (c : ℕ) → is_quote c ≡ true → is_space c ≡ false
+unfolding is_quote is_space
+quote-not-space c h = none_of is_space (codes "'\"") c refl h
+
+pub quote-no-word : (c : ℕ) → is_quote c ≡ true → is_ascii_word c ≡ false
+unfolding is_quote is_ascii_word
+quote-no-word c h = none_of is_ascii_word (codes "'\"") c refl h
+
+space-no-word : (c : ℕ) → is_space c ≡ true → is_ascii_word c ≡ false
+space-no-word c is = excluded is_space is_ascii_word c (word-not-space c) is
+
+operator-no-word : (c : ℕ) → is_operator c ≡ true → is_ascii_word c ≡ false
+unfolding is_operator is_ascii_word
+operator-no-word c is = none_of is_ascii_word (codes "+-*/%@&|^~<>=!()[]{},:.;") c refl is
+
+pub feed-no-word : is_ascii_word 10 ≡ false
+unfolding is_ascii_word
+feed-no-word = refl
+
+feed-not-quote : is_quote 10 ≡ false
+unfolding is_quote
+feed-not-quote = refl
+
+feed-not-space : is_space 10 ≡ false
+unfolding is_space
+feed-not-space = refl
+
+-- more bytes, which end no line
+pub holds_more : (read run : List ℕ) (n : ℕ) → HoldsFeeds read n → IsFull run → list_all is_low run ≡ true → list_all (λ d. not (is_break d)) run ≡ true → HoldsFeeds (read ++ run) n
+holds_more read run n holds full low whole = record {
+  low = list_all-append is_low read run ∙ and_from _ _ holds.low low;
+  count = line_ends-run read run whole ∙ holds.count;
+  unreturned = ends-run read run full whole;
+}
+
+pub holds_one : (read : List ℕ) (c n : ℕ) → HoldsFeeds read n → c < 128 → is_break c ≡ false → HoldsFeeds (read ++ c ∷ []) n
+holds_one read c n holds low none = holds_more read (c ∷ []) n holds tt (and_from _ _ (is_low_from c low) refl) (and_from _ _ (ap not none) refl)
+
+-- LF counts as one more line end
+feed_counts : counts_after false 10 ≡ 1
+unfolding counts_after is_return is_line_feed
+feed_counts = refl
+
+feed_unreturned : is_return 10 ≡ false
+unfolding is_return
+feed_unreturned = refl
+
+pub holds_feed : (read : List ℕ) (n : ℕ) → HoldsFeeds read n → HoldsFeeds (read ++ 10 ∷ []) (n + 1)
+holds_feed read n holds =
+    let one : counts_after (ends is_return read) 10 ≡ 1 = ap (λ (b : Bool). counts_after b 10) holds.unreturned ∙ feed_counts in
+    record {
+      low = list_all-append is_low read (10 ∷ []) ∙ and_from _ _ holds.low refl;
+      count = omega (arith, line_ends-step read 10, one, holds.count);
+      unreturned = ends-last is_return read 10 ∙ feed_unreturned;
+    }
+
+-- where the machine has come, it is sound
+come_sound : (read : List ℕ) (n : ℕ) (st : List Bracket) (s : Scanned) → HasCome read n st s → IsScanSound s read
+come_sound read n st s come = sound_steps modes.Free read s (begun_sound 1) come.steps
+
+-- the pieces where the open one is closed
+closed_spells : (read : List ℕ) (n : ℕ) (st : List Bracket) (s : Scanned) → HasCome read n st s → spelled (pieces_at s) ≡ read
+closed_spells read n st s come =
+    let sound = come_sound read n st s come in
+    closed_text s.mode s.done s.held sound.holds ∙ sound.spell
+
+closed_place : (read : List ℕ) (n : ℕ) (st : List Bracket) (s : Scanned) → HasCome read n st s → byte_len (spelled (pieces_at s)) ≡ length read
+closed_place read n st s come = ap byte_len (closed_spells read n st s come) ∙ ap length (low_encodes is_low read low_is come.holds.low).0
+
+-- the word that bytes end with
+pub tail_on-append : (t : Option Spelling) (xs ys : List ℕ) → tail_on t (xs ++ ys) ≡ tail_on (tail_on t xs) ys
+tail_on-append t [] ys = refl
+tail_on-append t (x ∷ xs) ys = tail_on-append (tail_with t x) xs ys
+
+pub tail_push : (read : List ℕ) (c : ℕ) → tail_of (read ++ c ∷ []) ≡ tail_with (tail_of read) c
+tail_push read c = tail_on-append None read (c ∷ [])
+
+pub no_tail_with : (t : Option Spelling) (c : ℕ) → is_ascii_word c ≡ false → tail_with t c ≡ None
+no_tail_with None c none = rw none refl
+no_tail_with (Some s) c none = rw none refl
+
+pub no_tail : (read : List ℕ) (c : ℕ) → is_ascii_word c ≡ false → tail_of (read ++ c ∷ []) ≡ None
+no_tail read c none = tail_push read c ∙ no_tail_with (tail_of read) c none
+
+-- whether it is open
+pub apart_tail : (t : Option Spelling) (m : Mode) → is_apart_mode m ≡ true → t ≡ None → IsTail t m
+apart_tail t m apart none = subst (λ (u : Option Spelling). IsTail u m) (sym none) apart
+
+apart_code : (m : Mode) → is_apart_mode m ≡ true → is_code_mode m ≡ true
+apart_code modes.Free h = refl
+apart_code modes.Space h = refl
+apart_code m h = absurd (both_ways _ refl h)
+
+pub tail_code : (t : Option Spelling) (m : Mode) → IsTail t m → is_code_mode m ≡ true
+tail_code None m apart = apart_code m apart
+tail_code (Some s) m is = ap is_code_mode is
+
+-- no CR is open in code
+pub code_other : (m : Mode) → is_code_mode m ≡ true → m ≡ modes.Return → ⊥
+code_other m code is = let stuck : false ≡ true = sym (ap is_code_mode is) ∙ code in cc
+
+-- the mode breaks before such characters
+pub apart_breaks : (m : Mode) (c : ℕ) → is_apart_mode m ≡ true → is_space c ≡ false → meet_of m c ≡ moves.Breaks
+unfolding meet_of move_of
+apart_breaks modes.Free c apart space = refl
+apart_breaks modes.Space c apart space = rw space refl
+apart_breaks m c apart space = absurd (both_ways _ refl apart)
+
+code_breaks : (m : Mode) (c : ℕ) → is_code_mode m ≡ true → is_word_character c ≡ false → is_quote c ≡ false → is_space c ≡ false → meet_of m c ≡ moves.Breaks
+unfolding meet_of move_of
+code_breaks modes.Free c code word quote space = refl
+code_breaks modes.Space c code word quote space = rw space refl
+code_breaks (modes.Word s) c code word quote space = rw (word, quote) refl
+code_breaks m c code word quote space = absurd (both_ways _ refl code)
+
+begin : (s : Scanned) (c : ℕ) (start : Start) → meet_of s.mode c ≡ moves.Breaks → start_of c ≡ start → scan_step s c ≡ started (pieces_at s) c start
+begin s c start breaks is = ap (moved s c) (breaks_in s.mode (depth_through 0 s.done) s.held c breaks) ∙ ap (started (pieces_at s) c) is
+
+-- a character begins a piece, after one that ends before it
+module _ (read : List ℕ) (n : ℕ) (st : List Bracket) (c : ℕ) (on : EndsBefore c read n st) where
+  abbrev pub pieces : List Piece
+  pieces = pieces_at on.state
+
+  pub closed_stack : brackets_of pieces ≡ Some st
+  closed_stack = stack_closed on.state.mode on.state.done on.state.held st on.come.stacked
+
+  pub closed_line : EndsNoLine 0 pieces
+  closed_line = closed_one_line on.state.mode on.state.done on.state.held st on.come.stacked on.come.one_line (λ is. absurd (on.other is))
+
+  begins_as : (start : Start) → start_of c ≡ start → scan_steps (Some (line_start modes.Free)) (read ++ c ∷ []) ≡ started pieces c start
+  begins_as start is = steps_push (line_start modes.Free) read on.state c on.come.steps ∙ begin on.state c start on.breaks is
+
+  -- it stays open
+  pub opens : (m : Mode) → start_of c ≡ starts.Open m → HoldsFeeds (read ++ c ∷ []) n → HasCome (read ++ c ∷ []) n st (scanned pieces m (c ∷ []))
+  opens m is holds = record { steps = begins_as (starts.Open m) is; stacked = closed_stack; one_line = closed_line; holds = holds }
+
+  -- it is an operator, which the brackets allow
+  pub operator_passed : (after : List Bracket) → is_operator c ≡ true → brackets_after st (length read) (piece operator (c ∷ [])) ≡ Some after → GoesOnAfter (read ++ c ∷ []) n after
+  operator_passed after is stands = record {
+    state = fresh (pieces ++ piece operator (c ∷ []) ∷ []);
+    come = record {
+      steps = begins_as starts.Operator (start-operator c is);
+      stacked = stack_push pieces (piece operator (c ∷ [])) st closed_stack ∙ ap (λ (k : ℕ). brackets_after st k (piece operator (c ∷ []))) (closed_place read n st on.state on.come) ∙ stands;
+      one_line = EndsNoLine-push 0 pieces (piece operator (c ∷ [])) closed_line refl;
+      holds = holds_one read c n on.come.holds (operator_ascii c is) (operator-no_break c is);
+    };
+    tail = apart_tail (tail_of (read ++ c ∷ [])) modes.Free refl (no_tail read c (operator-no-word c is));
+  }
+
+-- LF
+feed_is_feed : is_line_feed 10 ≡ true
+feed_is_feed = feed_from 10 refl
+
+pub feed_passed : (read : List ℕ) (n : ℕ) (st : List Bracket) → EndsBefore 10 read n st → IsAfterFeed st (read ++ 10 ∷ []) (n + 1)
+feed_passed read n [] on = record {
+  body = pieces read n [] 10 on;
+  last = piece line_end (10 ∷ []);
+  are = record {
+    one_line = closed_line read n [] 10 on;
+    class = refl;
+    level = none_level (pieces read n [] 10 on) [] (closed_stack read n [] 10 on) refl;
+    paired = closed_stack read n [] 10 on;
+    size = sym (byte_len-one 10 ∙ len_utf8_ascii 10 (lit< tt));
+  };
+  steps = begins_as read n [] 10 on starts.LineEnd (start-feed 10 feed_is_feed);
+  holds = holds_feed read n on.come.holds;
+  tail = no_tail read 10 feed-no-word;
+}
+feed_passed read n (b ∷ bs) on =
+    let stack = closed_stack read n (b ∷ bs) 10 on in
+    let done = pieces read n (b ∷ bs) 10 on in
+    record {
+      state = fresh (done ++ piece line_end (10 ∷ []) ∷ []);
+      come = record {
+        steps = begins_as read n (b ∷ bs) 10 on starts.LineEnd (start-feed 10 feed_is_feed);
+        stacked = keeps done (piece line_end (10 ∷ [])) (b ∷ bs) refl refl stack;
+        one_line = EndsNoLine-push 0 done (piece line_end (10 ∷ [])) (closed_line read n (b ∷ bs) 10 on) (depth_none done (b ∷ bs) stack);
+        holds = holds_feed read n on.come.holds;
+      };
+      tail = apart_tail (tail_of (read ++ 10 ∷ [])) modes.Free refl (no_tail read 10 feed-no-word);
+    }
+
+-- what code ends before
+pub code_ends : (read : List ℕ) (n : ℕ) (st : List Bracket) (c : ℕ) → GoesOnAfter read n st → is_word_character c ≡ false → is_quote c ≡ false → is_space c ≡ false → is_ascii_word c ≡ false → EndsBefore c read n st
+code_ends read n st c on word quote space none =
+    let code = tail_code (tail_of read) on.state.mode on.tail in
+    record {
+      state = on.state;
+      come = on.come;
+      breaks = code_breaks on.state.mode c code word quote space;
+      other = code_other on.state.mode code;
+      tail = λ is. absurd (both_ways _ none is);
+    }
+
+feed-not-word : is_word_character 10 ≡ false
+feed-not-word = word_byte_continues 10 (lit< tt) ∙ feed-no-word
+
+pub feed_ends : (read : List ℕ) (n : ℕ) (st : List Bracket) → GoesOnAfter read n st → EndsBefore 10 read n st
+feed_ends read n st on = code_ends read n st 10 on feed-not-word feed-not-quote feed-not-space feed-no-word
+
+operator-not-word : (c : ℕ) → is_operator c ≡ true → is_word_character c ≡ false
+operator-not-word c is = word_byte_continues c (operator_ascii c is) ∙ operator-no-word c is
+
+pub operator_ends : (read : List ℕ) (n : ℕ) (st : List Bracket) (c : ℕ) → is_operator c ≡ true → GoesOnAfter read n st → EndsBefore c read n st
+operator_ends read n st c is on = code_ends read n st c on (operator-not-word c is) (operator-not-quote c is) (operator-not-space c is) (operator-no-word c is)
+
+-- a letter, digit or underscore
+word_grows : (s : Spelling) (c : ℕ) → is_ascii_word c ≡ true → meet_of (modes.Word s) c ≡ moves.Grows (modes.Word (spelling_with s c))
+unfolding meet_of
+word_grows s c is = rw (word_byte_continues c (word_byte_low c is) ∙ is) refl
+
+no_break_from : (c : ℕ) → not (is_break c) ≡ true → is_break c ≡ false
+no_break_from c h = go (is_break c) h
+  where
+    go : (b : Bool) → not b ≡ true → b ≡ false
+    go false e = refl
+    go true e = sym e
+
+word_holds : (read : List ℕ) (n c : ℕ) → HoldsFeeds read n → is_ascii_word c ≡ true → HoldsFeeds (read ++ c ∷ []) n
+word_holds read n c holds is = holds_one read c n holds (word_byte_low c is) (no_break_from c (word_whole c is))
+
+one_tail : (read : List ℕ) (c : ℕ) → tail_of read ≡ None → is_ascii_word c ≡ true → tail_of (read ++ c ∷ []) ≡ Some (first_spelling c)
+one_tail read c none is = tail_push read c ∙ ap (λ t. tail_with t c) none ∙ rw is refl
+
+more_tail : (read : List ℕ) (s : Spelling) (c : ℕ) → tail_of read ≡ Some s → is_ascii_word c ≡ true → tail_of (read ++ c ∷ []) ≡ Some (spelling_with s c)
+more_tail read s c some is = tail_push read c ∙ ap (λ t. tail_with t c) some ∙ rw is refl
+
+word_opens : (read : List ℕ) (n : ℕ) (st : List Bracket) (c : ℕ) → is_ascii_word c ≡ true → tail_of read ≡ None → EndsBefore c read n st → GoesOnAfter (read ++ c ∷ []) n st
+word_opens read n st c is none on = record {
+  state = scanned (pieces read n st c on) (modes.Word (first_spelling c)) (c ∷ []);
+  come = opens read n st c on (modes.Word (first_spelling c)) (start-word c (word_starts c is)) (word_holds read n c on.come.holds is);
+  tail = subst (λ t. IsTail t (modes.Word (first_spelling c))) (sym (one_tail read c none is)) refl;
+}
+
+word_goes_on : (read : List ℕ) (n : ℕ) (st : List Bracket) (done : List Piece) (s : Spelling) (held : List ℕ) → tail_of read ≡ Some s → HasCome read n st (scanned done (modes.Word s) held) → (c : ℕ) → is_ascii_word c ≡ true → GoesOnAfter (read ++ c ∷ []) n st
+word_goes_on read n st done s held some come c is = record {
+  state = scanned done (modes.Word (spelling_with s c)) (held ++ c ∷ []);
+  come = record {
+    steps = steps_push (line_start modes.Free) read (scanned done (modes.Word s) held) c come.steps ∙ ap (moved (scanned done (modes.Word s) held) c) (word_grows s c is);
+    stacked = come.stacked;
+    one_line = come.one_line;
+    holds = word_holds read n c come.holds is;
+  };
+  tail = subst (λ t. IsTail t (modes.Word (spelling_with s c))) (sym (more_tail read s c some is)) refl;
+}
+
+word_passed : (read : List ℕ) (n : ℕ) (st : List Bracket) (t : Option Spelling) (s : Scanned) → tail_of read ≡ t → HasCome read n st s → IsTail t s.mode → (c : ℕ) → is_ascii_word c ≡ true → GoesOnAfter (read ++ c ∷ []) n st
+word_passed read n st None s none come apart c is = word_opens read n st c is none (record {
+  state = s;
+  come = come;
+  breaks = apart_breaks s.mode c apart (word-not-space c is);
+  other = code_other s.mode (apart_code s.mode apart);
+  tail = λ _. none;
+})
+word_passed read n st (Some w) s some come tail c is =
+    word_goes_on read n st s.done w s.held some (subst (λ (m : Mode). HasCome read n st (scanned s.done m s.held)) tail come) c is
+
+-- a space
+space_grows : (c : ℕ) → is_space c ≡ true → meet_of modes.Space c ≡ moves.Grows modes.Space
+unfolding meet_of move_of
+space_grows c is = rw is refl
+
+space-not-word : (c : ℕ) → is_space c ≡ true → is_word_character c ≡ false
+space-not-word c is = word_byte_continues c (space_low c is) ∙ space-no-word c is
+
+space_holds : (read : List ℕ) (n c : ℕ) → HoldsFeeds read n → is_space c ≡ true → HoldsFeeds (read ++ c ∷ []) n
+space_holds read n c holds is = holds_one read c n holds (space_low c is) (no_break_from c (space_whole c is))
+
+space_opens : (read : List ℕ) (n : ℕ) (st : List Bracket) (c : ℕ) → is_space c ≡ true → EndsBefore c read n st → GoesOnAfter (read ++ c ∷ []) n st
+space_opens read n st c is on = record {
+  state = scanned (pieces read n st c on) modes.Space (c ∷ []);
+  come = opens read n st c on modes.Space (start-space c is) (space_holds read n c on.come.holds is);
+  tail = apart_tail (tail_of (read ++ c ∷ [])) modes.Space refl (no_tail read c (space-no-word c is));
+}
+
+word_ends : (s : Spelling) (c : ℕ) → is_word_character c ≡ false → is_quote c ≡ false → meet_of (modes.Word s) c ≡ moves.Breaks
+unfolding meet_of
+word_ends s c word quote = rw (word, quote) refl
+
+space_begins : (read : List ℕ) (n : ℕ) (st : List Bracket) (done : List Piece) (m : Mode) (held : List ℕ) → HasCome read n st (scanned done m held) → is_code_mode m ≡ true → (c : ℕ) → is_space c ≡ true → meet_of m c ≡ moves.Breaks → GoesOnAfter (read ++ c ∷ []) n st
+space_begins read n st done m held come code c is breaks = space_opens read n st c is (record {
+  state = scanned done m held;
+  come = come;
+  breaks = breaks;
+  other = code_other m code;
+  tail = λ word. absurd (both_ways _ (space-no-word c is) word);
+})
+
+space_passed : (read : List ℕ) (n : ℕ) (st : List Bracket) (done : List Piece) (m : Mode) (held : List ℕ) → HasCome read n st (scanned done m held) → is_code_mode m ≡ true → (c : ℕ) → is_space c ≡ true → GoesOnAfter (read ++ c ∷ []) n st
+space_passed read n st done modes.Space held come code c is = record {
+  state = scanned done modes.Space (held ++ c ∷ []);
+  come = record {
+    steps = steps_push (line_start modes.Free) read (scanned done modes.Space held) c come.steps ∙ ap (moved (scanned done modes.Space held) c) (space_grows c is);
+    stacked = come.stacked;
+    one_line = come.one_line;
+    holds = space_holds read n c come.holds is;
+  };
+  tail = apart_tail (tail_of (read ++ c ∷ [])) modes.Space refl (no_tail read c (space-no-word c is));
+}
+space_passed read n st done modes.Free held come code c is = space_begins read n st done modes.Free held come refl c is (free_breaks modes.Free c refl)
+space_passed read n st done (modes.Word s) held come code c is = space_begins read n st done (modes.Word s) held come refl c is (word_ends s c (space-not-word c is) (space-not-quote c is))
+space_passed read n st done m held come code c is = absurd (both_ways _ refl code)
+
+-- a byte of words, a space, or an operator that is no bracket
+abbrev pub IsCodeByte : ℕ → Type 0
+IsCodeByte c = (is_ascii_word c ≡ true) ⊎ ((is_space c ≡ true) ⊎ ((is_operator c ≡ true) × (is_opening c ≡ false) × (is_closing c ≡ false)))
+
+code_passed : (read : List ℕ) (n : ℕ) (st : List Bracket) (c : ℕ) → IsCodeByte c → GoesOnAfter read n st → GoesOnAfter (read ++ c ∷ []) n st
+code_passed read n st c (inl word) on = word_passed read n st (tail_of read) on.state refl on.come on.tail c word
+code_passed read n st c (inr (inl space)) on = space_passed read n st on.state.done on.state.mode on.state.held on.come (tail_code (tail_of read) on.state.mode on.tail) c space
+code_passed read n st c (inr (inr (stands, opens, closes))) on = operator_passed read n st c (operator_ends read n st c stands on) st stands (keeps_at st (length read) c opens closes)
+
+code_begins : (read : List ℕ) (n : ℕ) (st : List Bracket) (c : ℕ) → IsCodeByte c → EndsBefore c read n st → GoesOnAfter (read ++ c ∷ []) n st
+code_begins read n st c (inl word) on = word_opens read n st c word (on.tail word) on
+code_begins read n st c (inr (inl space)) on = space_opens read n st c space on
+code_begins read n st c (inr (inr (stands, opens, closes))) on = operator_passed read n st c on st stands (keeps_at st (length read) c opens closes)
+
+-- a run of them
+run_passed : (passes : ℕ → Bool) (read run : List ℕ) (n : ℕ) (st : List Bracket) → ((c : ℕ) → passes c ≡ true → IsCodeByte c) → list_all passes run ≡ true → GoesOnAfter read n st → GoesOnAfter (read ++ run) n st
+run_passed passes read [] n st each all on = subst (λ (t : List ℕ). GoesOnAfter t n st) (sym (append-nil read)) on
+run_passed passes read (c ∷ cs) n st each all on =
+    let parts = and_parts (passes c) (list_all passes cs) all in
+    subst (λ (t : List ℕ). GoesOnAfter t n st) (append_assoc read (c ∷ []) cs) (run_passed passes (read ++ c ∷ []) cs n st each parts.1 (code_passed read n st c (each c parts.0) on))
+
+-- a line that goes on, before whatever follows
+pub stands : (rest read : List ℕ) (n : ℕ) (st : List Bracket) → GoesOnAfter read n st → StandsBefore rest read n st
+stands [] read n st on = on
+stands (c ∷ rest) read n st on = inl on
+
+pub code_run : (passes : ℕ → Bool) (read run rest : List ℕ) (n : ℕ) (st : List Bracket) → ((c : ℕ) → passes c ≡ true → IsCodeByte c) → list_all passes run ≡ true → StandsBefore (run ++ rest) read n st → StandsBefore rest (read ++ run) n st
+code_run passes read [] rest n st each all on = subst (λ (t : List ℕ). StandsBefore rest t n st) (sym (append-nil read)) on
+code_run passes read (c ∷ cs) rest n st each all (inl on) = stands rest (read ++ c ∷ cs) n st (run_passed passes read (c ∷ cs) n st each all on)
+code_run passes read (c ∷ cs) rest n st each all (inr on) =
+    let parts = and_parts (passes c) (list_all passes cs) all in
+    stands rest (read ++ c ∷ cs) n st (subst (λ (t : List ℕ). GoesOnAfter t n st) (append_assoc read (c ∷ []) cs) (run_passed passes (read ++ c ∷ []) cs n st each parts.1 (code_begins read n st c (each c parts.0) on)))
+
+-- before a character that code ends before
+pub ends_so : (read rest : List ℕ) (n : ℕ) (st : List Bracket) (c : ℕ) → (GoesOnAfter read n st → EndsBefore c read n st) → StandsBefore (c ∷ rest) read n st → EndsBefore c read n st
+ends_so read rest n st c ends (inl on) = ends on
+ends_so read rest n st c ends (inr on) = on
+
+-- a line has begun
+pub begun : GoesOnAfter [] 0 []
+begun = record {
+  state = line_start modes.Free;
+  come = record { steps = refl; stacked = refl; one_line = tt; holds = record { low = refl; count = refl; unreturned = refl } };
+  tail = refl;
+}

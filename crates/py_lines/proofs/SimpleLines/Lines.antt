@@ -1,0 +1,398 @@
+-- Simple lines follow one another: from one byte that is not plain to the next, and from line end to line end.
+use Rattle.std.proofs.Common.{◌≡◌, ℕ, ◌+◌, ◌-◌, ◌<◌, ◌≤◌, ◌⊎◌, inl, inr, Bool, true, false, not, ◌&&◌, ◌==◌, ◌||◌, Option, None, Some, List, [], ◌∷◌, ◌++◌, length, take, drop, slice_index, refl, sym, ap, ◌∙◌, subst, append_assoc, append-nil, arith, length-append, length-drop}
+use Rattle.std.specs.List.{list_all}
+use Rattle.std.proofs.lemmas.Bool.{and_from, and_parts, both_ways, eq-eqb, or_cases}
+use Rattle.std.proofs.lemmas.List.{drop-drop, drop_more, get_or-drop, get_or-set_other, get_or-set_same, length-set, length-take-le, take-append-drop}
+use Rattle.std.proofs.lemmas.List.Folds.{list_all-append}
+use Rattle.std.proofs.Math.Seq.{take-add}
+use Rattle.std.specs.Prelude.{codes, slice_set}
+use Rattle.py_lines.specs.Balance.{closing_of, is_closing, is_opening}
+use Rattle.py_lines.specs.Character.{is_operator, is_space}
+use Rattle.py_lines.specs.LogicalLine.{line_ends}
+use Rattle.py_lines.specs.Piece.{operator, ends}
+use Rattle.py_lines.specs.declared.closers.Closers.{Closers}
+use Rattle.py_lines.specs.declared.marks.Marks.{Marks}
+use Rattle.py_lines.specs.declared.mode.Spelling.{Spelling}
+use Rattle.py_lines.specs.declared.outline.Outline.{Outline}
+use Rattle.py_lines.specs.declared.plain_strings.Passed.{Passed}
+use Rattle.py_lines.specs.Private.Machine.{Bracket, brackets_after}
+use Rattle.py_lines.specs.Private.Marks.{FindsNext, HasMarks, is_plain}
+use Rattle.py_lines.specs.Private.Run.{is_ascii_word}
+use Rattle.py_lines.specs.Private.Scan.{none_open}
+use Rattle.py_lines.specs.Private.Outline.{AreClosers, AreWholeLines, Close, ClosesInnermost, HasComeTo, IsAfter, IsAfterFeed, IsAt, IsFurther, IsWholeLine, Opens, PassesPiece, StandsBefore, line_up_to, tail_of, tail_on}
+use Rattle.py_lines.proofs.Pieces.PieceLists.{piece}
+use Rattle.py_lines.proofs.LineScan.BracketStack.{closes_top, none_length, opens_at}
+use Rattle.py_lines.proofs.LineScan.LineCount.{line_ends-le}
+use Rattle.py_lines.proofs.LineScan.ShortPieces.{all_pass, is_low}
+use Rattle.py_lines.proofs.Text.CharacterTests.{none_of}
+use Rattle.py_lines.proofs.SimpleLines.Code.{IsCodeByte, begun, code_run, ends_so, feed_ends, feed_passed, operator_ends, operator_passed, stands, tail_on-append}
+
+-- a plain byte is one of code
+plain_code : (c : ℕ) → is_plain c ≡ true → IsCodeByte c
+unfolding is_plain
+plain_code c h = by (or_cases (is_ascii_word c) (is_space c || (is_operator c && not (is_opening c || is_closing c))) h)
+  where
+    not_from : (b : Bool) → not b ≡ true → b ≡ false
+    not_from true e = sym e
+    not_from false e = refl
+
+    neither : (o k : Bool) → not (o || k) ≡ true → (o ≡ false) × (k ≡ false)
+    neither true k e = absurd (both_ways _ refl e)
+    neither false k e = (refl, not_from k e)
+
+    sign : is_operator c && not (is_opening c || is_closing c) ≡ true → IsCodeByte c
+    sign e =
+        let parts = and_parts (is_operator c) (not (is_opening c || is_closing c)) e in
+        let none = neither (is_opening c) (is_closing c) parts.1 in
+        inr (inr (parts.0, none.0, none.1))
+
+    by_rest : (is_space c ≡ true) ⊎ (is_operator c && not (is_opening c || is_closing c) ≡ true) → IsCodeByte c
+    by_rest (inl space) = inr (inl space)
+    by_rest (inr e) = sign e
+
+    by : (is_ascii_word c ≡ true) ⊎ (is_space c || (is_operator c && not (is_opening c || is_closing c)) ≡ true) → IsCodeByte c
+    by (inl word) = inl word
+    by (inr rest) = by_rest (or_cases (is_space c) (is_operator c && not (is_opening c || is_closing c)) rest)
+
+-- one more line after others
+line_push : (texts : List (List ℕ)) (read line : List ℕ) (n k : ℕ) → AreWholeLines texts read n → 0 < length line → IsWholeLine line k → AreWholeLines (texts ++ line ∷ []) (read ++ line) (n + k)
+line_push [] read line n k are some whole = record {
+  later = [];
+  own = k;
+  more = 0;
+  some = some;
+  spell = ap (λ t. t ++ line) are.0 ∙ sym (append-nil line);
+  count = omega (arith, are.1);
+  whole = whole;
+  lines = (refl, refl);
+}
+line_push (t ∷ texts) read line n k are some whole = record {
+  later = are.later ++ line;
+  own = are.own;
+  more = are.more + k;
+  some = are.some;
+  spell = ap (λ u. u ++ line) are.spell ∙ append_assoc t are.later line;
+  count = omega (arith, are.count);
+  whole = are.whole;
+  lines = line_push texts are.later line are.more k are.lines some whole;
+}
+
+-- lines end with no word, are ASCII, and have no more line ends than bytes
+lines_tail : (texts : List (List ℕ)) (read : List ℕ) (n : ℕ) → AreWholeLines texts read n → tail_of read ≡ None
+lines_tail [] read n are = ap tail_of are.0
+lines_tail (t ∷ texts) read n are =
+    ap tail_of are.spell ∙ tail_on-append None t are.later ∙ ap (λ (o : Option Spelling). tail_on o are.later) are.whole.tail ∙ lines_tail texts are.later are.more are.lines
+
+pub lines_low : (texts : List (List ℕ)) (read : List ℕ) (n : ℕ) → AreWholeLines texts read n → list_all is_low read ≡ true
+lines_low [] read n are = ap (list_all is_low) are.0
+lines_low (t ∷ texts) read n are =
+    ap (list_all is_low) are.spell ∙ list_all-append is_low t are.later ∙ and_from _ _ are.whole.holds.low (lines_low texts are.later are.more are.lines)
+
+pub lines_few : (texts : List (List ℕ)) (read : List ℕ) (n : ℕ) → AreWholeLines texts read n → n ≤ length read
+lines_few [] read n are = omega (arith, are.1)
+lines_few (t ∷ texts) read n are =
+    omega (arith, are.count, lines_few texts are.later are.more are.lines, are.whole.holds.count, line_ends-le t, ap length are.spell, length-append t are.later)
+
+module _ (bytes : List ℕ) where
+  -- no line has begun
+  pub first_come : HasComeTo bytes (record { len = 0; line_ends = 0 }) 0 0 []
+  first_come = record {
+    within = omega arith;
+    ordered = omega arith;
+    lines_are = record { within = omega arith; texts = []; whole = (refl, refl) };
+    more = 0;
+    count = omega arith;
+    stands = stands bytes [] 0 [] begun;
+  }
+
+  -- the line with so many more bytes
+  longer : (lines : Passed) (at len : ℕ) → lines.len ≤ at → line_up_to bytes lines (at + len) ≡ line_up_to bytes lines at ++ take len (drop at bytes)
+  longer lines at len ordered =
+      let parts : at + len - lines.len ≡ (at - lines.len) + len = omega (arith, ordered) in
+      let there : lines.len + (at - lines.len) ≡ at = omega (arith, ordered) in
+      ap (λ (k : ℕ). take k (drop lines.len bytes)) parts
+      ∙ take-add (at - lines.len) len (drop lines.len bytes)
+      ∙ ap (λ t. line_up_to bytes lines at ++ take len t) (drop-drop (at - lines.len) lines.len bytes ∙ ap (λ (k : ℕ). drop k bytes) there)
+
+  line_size : (lines : Passed) (at : ℕ) → lines.len ≤ at → at ≤ length bytes → length (line_up_to bytes lines at) ≡ at - lines.len
+  line_size lines at ordered within = length-take-le (at - lines.len) (drop lines.len bytes) (omega (arith, ordered, within, length-drop lines.len bytes))
+
+  -- what it ends with is what the bytes end with
+  same_tail : (lines : Passed) (at n : ℕ) (st : List Bracket) → HasComeTo bytes lines at n st → tail_of (line_up_to bytes lines at) ≡ tail_of (take at bytes)
+  same_tail lines at n st come =
+      let all : lines.len + (at - lines.len) ≡ at = omega (arith, come.ordered) in
+      sym (ap (λ (k : ℕ). tail_of (take k bytes)) (sym all)
+      ∙ ap tail_of (take-add lines.len (at - lines.len) bytes)
+      ∙ tail_on-append None (take lines.len bytes) (line_up_to bytes lines at)
+      ∙ ap (λ (o : Option Spelling). tail_on o (line_up_to bytes lines at)) (lines_tail come.lines_are.texts (take lines.len bytes) lines.line_ends come.lines_are.whole))
+
+  -- it comes so many bytes further
+  step : (lines : Passed) (at n len feeds : ℕ) (st after : List Bracket) → (come : HasComeTo bytes lines at n st) → at + len ≤ length bytes
+      → ((more : ℕ) → StandsBefore (drop at bytes) (line_up_to bytes lines at) more st → StandsBefore (drop (at + len) bytes) (line_up_to bytes lines at ++ take len (drop at bytes)) (more + feeds) after)
+      → HasComeTo bytes lines (at + len) (n + feeds) after
+  step lines at n len feeds st after come room leads = record {
+    within = room;
+    ordered = omega (arith, come.ordered);
+    lines_are = come.lines_are;
+    more = come.more + feeds;
+    count = omega (arith, come.count);
+    stands = subst (λ (t : List ℕ). StandsBefore (drop (at + len) bytes) t (come.more + feeds) after) (sym (longer lines at len come.ordered)) (leads come.more come.stands);
+  }
+
+  -- over plain bytes
+  pub plain_on : (lines : Passed) (from at n : ℕ) (st : List Bracket) (marks : Marks) → HasComeTo bytes lines from n st → FindsNext bytes from at marks → HasComeTo bytes lines at n st
+  plain_on lines from at n st marks come next =
+      let len = at - from in
+      let there : from + len ≡ at = omega (arith, next.after) in
+      let run = take len (drop from bytes) in
+      let size : len ≤ length (drop from bytes) = omega (arith, next.within, next.after, length-drop from bytes) in
+      let all : list_all is_plain run ≡ true = all_pass is_plain (drop from bytes) len size (λ i less. ap is_plain (later_byte from i) ∙ next.plain (from + i) (omega arith) (omega (arith, less))) in
+      let split : drop from bytes ≡ run ++ drop (from + len) bytes = sym (take-append-drop len (drop from bytes)) ∙ ap (λ t. run ++ t) (drop-drop len from bytes) in
+      let none : n + 0 ≡ n = omega arith in
+      subst (λ (k : ℕ). HasComeTo bytes lines at k st) none
+      (subst (λ (k : ℕ). HasComeTo bytes lines k (n + 0) st) there
+      (step lines from n len 0 st st come (omega (arith, next.within, next.after)) (λ more on.
+      subst (λ (k : ℕ). StandsBefore (drop (from + len) bytes) (line_up_to bytes lines from ++ run) k st) (omega arith)
+      (code_run is_plain (line_up_to bytes lines from) run (drop (from + len) bytes) more st plain_code all (subst (λ (t : List ℕ). StandsBefore t (line_up_to bytes lines from) more st) split on)))))
+    where
+      later_byte : (from i : ℕ) → slice_index (drop from bytes) i ≡ slice_index bytes (from + i)
+      later_byte from i = get_or-drop from bytes i 0
+
+  one_more : (at : ℕ) → at < length bytes → take 1 (drop at bytes) ≡ slice_index bytes at ∷ []
+  one_more at within = ap (take 1) (drop_more bytes at 0 within)
+
+  here : (lines : Passed) (at more : ℕ) (st : List Bracket) → at < length bytes → StandsBefore (drop at bytes) (line_up_to bytes lines at) more st → StandsBefore (slice_index bytes at ∷ drop (at + 1) bytes) (line_up_to bytes lines at) more st
+  here lines at more st within on = subst (λ (t : List ℕ). StandsBefore t (line_up_to bytes lines at) more st) (drop_more bytes at 0 within) on
+
+  -- over a bracket
+  pub bracket_on : (lines : Passed) (at n : ℕ) (st after : List Bracket) → HasComeTo bytes lines at n st → at < length bytes → is_operator (slice_index bytes at) ≡ true → brackets_after st (length (line_up_to bytes lines at)) (piece operator (slice_index bytes at ∷ [])) ≡ Some after → HasComeTo bytes lines (at + 1) n after
+  bracket_on lines at n st after come within is stands_so =
+      let c = slice_index bytes at in
+      let read = line_up_to bytes lines at in
+      let none : n + 0 ≡ n = omega arith in
+      subst (λ (k : ℕ). HasComeTo bytes lines (at + 1) k after) none
+      (step lines at n 1 0 st after come (omega (arith, within)) (λ more on.
+      subst (λ (k : ℕ). StandsBefore (drop (at + 1) bytes) (read ++ take 1 (drop at bytes)) k after) (omega arith)
+      (subst (λ (t : List ℕ). StandsBefore (drop (at + 1) bytes) (read ++ t) more after) (sym (one_more at within))
+      (stands (drop (at + 1) bytes) (read ++ c ∷ []) more after
+      (operator_passed read more st c (ends_so read (drop (at + 1) bytes) more st c (operator_ends read more st c is) (here lines at more st within on)) after is stands_so)))))
+
+  -- over a piece
+  pub piece_on : (lines : Passed) (at n : ℕ) (st : List Bracket) (p : Passed) → HasComeTo bytes lines at n st → PassesPiece bytes at (Some p) → HasComeTo bytes lines (at + p.len) (n + p.line_ends) st
+  piece_on lines at n st p come (room, passes) = step lines at n p.len p.line_ends st st come room (λ more on. passes.part.leads (line_up_to bytes lines at) more st (same_tail lines at n st come, on))
+
+  -- over LF: the line goes on where a bracket is open, and ends where none is
+  feed_step : (lines : Passed) (at n : ℕ) (st : List Bracket) (come : HasComeTo bytes lines at n st) → at < length bytes → slice_index bytes at ≡ 10 → IsAfterFeed st (line_up_to bytes lines (at + 1)) (come.more + 1)
+  feed_step lines at n st come within is =
+      let read = line_up_to bytes lines at in
+      let on : StandsBefore (10 ∷ drop (at + 1) bytes) read come.more st = subst (λ (c : ℕ). StandsBefore (c ∷ drop (at + 1) bytes) read come.more st) is (here lines at come.more st within come.stands) in
+      subst (λ (t : List ℕ). IsAfterFeed st t (come.more + 1)) (sym (longer lines at 1 come.ordered ∙ ap (λ t. read ++ t) (one_more at within ∙ ap (λ (c : ℕ). c ∷ []) is)))
+      (feed_passed read come.more st (ends_so read (drop (at + 1) bytes) come.more st 10 (feed_ends read come.more st) on))
+
+  pub feed_in_brackets : (lines : Passed) (at n : ℕ) (st : List Bracket) → HasComeTo bytes lines at n st → at < length bytes → slice_index bytes at ≡ 10 → none_open st ≡ false → HasComeTo bytes lines (at + 1) (n + 1) st
+  feed_in_brackets lines at n [] come within is some = absurd (both_ways _ some refl)
+  feed_in_brackets lines at n (b ∷ bs) come within is some = record {
+    within = omega (arith, within);
+    ordered = omega (arith, come.ordered);
+    lines_are = come.lines_are;
+    more = come.more + 1;
+    count = omega (arith, come.count);
+    stands = stands (drop (at + 1) bytes) (line_up_to bytes lines (at + 1)) (come.more + 1) (b ∷ bs) (feed_step lines at n (b ∷ bs) come within is);
+  }
+
+  pub feed_ends_line : (lines : Passed) (at n : ℕ) (st : List Bracket) → HasComeTo bytes lines at n st → at < length bytes → slice_index bytes at ≡ 10 → none_open st ≡ true → HasComeTo bytes (record { len = at + 1; line_ends = n + 1 }) (at + 1) (n + 1) st
+  feed_ends_line lines at n (b ∷ bs) come within is none = absurd (both_ways _ refl none)
+  feed_ends_line lines at n [] come within is none =
+      let line = line_up_to bytes lines (at + 1) in
+      let whole : IsWholeLine line (come.more + 1) = feed_step lines at n [] come within is in
+      let size = line_size lines (at + 1) (omega (arith, come.ordered)) (omega (arith, within)) in
+      let all : take lines.len bytes ++ line ≡ take (at + 1) bytes =
+      sym (take-add lines.len (at + 1 - lines.len) bytes) ∙ ap (λ (k : ℕ). take k bytes) (omega (arith, come.ordered)) in
+      let count : lines.line_ends + (come.more + 1) ≡ n + 1 = omega (arith, come.count) in
+      let pushed = line_push come.lines_are.texts (take lines.len bytes) line lines.line_ends (come.more + 1) come.lines_are.whole (omega (arith, size, come.ordered)) whole in
+      record {
+        within = omega (arith, within);
+        ordered = omega arith;
+        lines_are = record {
+          within = omega (arith, within);
+          texts = come.lines_are.texts ++ line ∷ [];
+          whole = subst (λ (k : ℕ). AreWholeLines (come.lines_are.texts ++ line ∷ []) (take (at + 1) bytes) k) count (subst (λ (t : List ℕ). AreWholeLines (come.lines_are.texts ++ line ∷ []) t (lines.line_ends + (come.more + 1))) all pushed);
+        };
+        more = 0;
+        count = omega arith;
+        stands = subst (λ (t : List ℕ). StandsBefore (drop (at + 1) bytes) t 0 []) (sym nothing) (stands (drop (at + 1) bytes) [] 0 [] begun);
+      }
+    where
+      nothing : line_up_to bytes (record { len = at + 1; line_ends = n + 1 }) (at + 1) ≡ []
+      nothing = ap (λ (k : ℕ). take k (drop (at + 1) bytes)) none_left
+        where
+          none_left : at + 1 - (at + 1) ≡ 0
+          none_left = omega arith
+
+  -- the line ends are no more than the bytes
+  pub few_ends : (lines : Passed) (at n : ℕ) (st : List Bracket) → HasComeTo bytes lines at n st → n ≤ at
+  few_ends lines at n st come =
+      let past = lines_few come.lines_are.texts (take lines.len bytes) lines.line_ends come.lines_are.whole in
+      omega (arith, come.count, past, length-take-le lines.len bytes (omega (arith, come.ordered, come.within)), own come.stands, line_size lines at come.ordered come.within, come.ordered)
+    where
+      by_holds : (read : List ℕ) (k : ℕ) → line_ends read ≡ k → k ≤ length read
+      by_holds read k is = omega (arith, is, line_ends-le read)
+
+      in_line : (rest read : List ℕ) (k : ℕ) → StandsBefore rest read k st → k ≤ length read
+      in_line [] read k on = by_holds read k on.come.holds.count
+      in_line (c ∷ rest) read k (inl on) = by_holds read k on.come.holds.count
+      in_line (c ∷ rest) read k (inr on) = by_holds read k on.come.holds.count
+
+      own : StandsBefore (drop at bytes) (line_up_to bytes lines at) come.more st → come.more ≤ length (line_up_to bytes lines at)
+      own on = in_line (drop at bytes) (line_up_to bytes lines at) come.more on
+
+-- what closes the open brackets
+others_close : (closers : List ℕ) (st : List Bracket) (k c : ℕ) → length st < k → AreClosers closers st → AreClosers (slice_set closers k c) st
+others_close closers [] k c less are = tt
+others_close closers (b ∷ bs) k c less are = (
+  get_or-set_other closers k (length bs + 1) c 0 (λ same. omega (arith, same, less)) ∙ are.0,
+  others_close closers bs k c (omega (arith, less)) are.1,
+)
+
+pub closer_opens : (old new : Closers) (opener : ℕ) → old.depth < 200 → new.depth ≡ old.depth + 1 → new.closers ≡ slice_set old.closers (old.depth + 1) (closing_of opener) → Opens opener old new
+closer_opens old new opener room deeper set_so st close =
+    let depth = close.depth in (
+      omega (arith, room, depth),
+      λ place. record {
+        depth = omega (arith, deeper, depth);
+        size = ap length set_so ∙ length-set old.closers (old.depth + 1) (closing_of opener) ∙ close.size;
+        room = omega (arith, room, depth);
+        each = (
+          ap (λ (cs : List ℕ). slice_index cs (length st + 1)) set_so
+              ∙ ap (λ (k : ℕ). slice_index (slice_set old.closers k (closing_of opener)) (length st + 1)) (ap (λ (n : ℕ). n + 1) depth)
+              ∙ get_or-set_same old.closers (length st + 1) (closing_of opener) 0 (omega (arith, room, depth, close.size)),
+          subst (λ (cs : List ℕ). AreClosers cs st) (sym set_so) (others_close old.closers st (old.depth + 1) (closing_of opener) (omega (arith, depth)) close.each),
+        );
+      },
+    )
+
+pub closer_closes : (old new : Closers) (closer : ℕ) → (old.depth ≡ 0 → ⊥) → slice_index old.closers old.depth ≡ closer → new.depth ≡ old.depth - 1 → new.closers ≡ old.closers → ClosesInnermost closer old new
+closer_closes old new closer some is less same [] close = absurd (some close.depth)
+closer_closes old new closer some is less same (b ∷ bs) close =
+    let depth = close.depth in
+    let here : old.depth ≡ length bs + 1 = omega (arith, depth) in
+    record {
+      last = b;
+      others = bs;
+      are = refl;
+      fits = sym is ∙ ap (λ (k : ℕ). slice_index old.closers k) here ∙ close.each.0;
+      rest = record {
+        depth = omega (arith, depth, less);
+        size = ap length same ∙ close.size;
+        room = omega (arith, close.room);
+        each = subst (λ (cs : List ℕ). AreClosers cs bs) (sym same) close.each.1;
+      };
+    }
+
+pub none_closes : (c : Closers) (st : List Bracket) → Close c st → c.depth == 0 ≡ none_open st
+none_closes c st close = none_length st c.depth (sym close.depth)
+
+pub next_is : (bytes : List ℕ) (from at : ℕ) (old new : Outline) → IsAfter bytes from old → new ≡ record old { marks = new.marks } → FindsNext bytes from at new.marks → IsAt bytes at new
+next_is bytes from at old new on same next =
+    let come = plain_on bytes old.lines from at old.line_ends on.st new.marks on.come next in
+    subst (λ (o : Outline). IsAt bytes at o) (sym same) (record { st = on.st; close = on.close; come = come; special = next.special; marked = next.rest })
+
+pub begins_at : (bytes : List ℕ) (at : ℕ) (new : Outline) (marks : Marks) → Close new.closers [] → new.lines ≡ record { len = 0; line_ends = 0 } → new.line_ends ≡ 0 → HasMarks bytes 0 marks → FindsNext bytes 0 at new.marks → IsAt bytes at new
+begins_at bytes at new marks close lines ends marked next = record {
+  st = [];
+  close = close;
+  come = subst (λ (p : Passed). HasComeTo bytes p at new.line_ends []) (sym lines) (subst (λ (n : ℕ). HasComeTo bytes (record { len = 0; line_ends = 0 }) at n []) (sym ends) (plain_on bytes (record { len = 0; line_ends = 0 }) 0 at 0 [] new.marks (first_come bytes) next));
+  special = next.special;
+  marked = next.rest;
+}
+
+-- brackets
+yes : (b : Bool) → not b ≡ false → b ≡ true
+yes true e = refl
+yes false e = sym e
+
+opening_operator : (c : ℕ) → is_opening c ≡ true → is_operator c ≡ true
+unfolding is_opening is_operator
+opening_operator c is = yes (is_operator c) (none_of (λ d. not (is_operator d)) (codes "([{") c refl is)
+
+closing_operator : (c : ℕ) → is_closing c ≡ true → is_operator c ≡ true
+unfolding is_closing is_operator
+closing_operator c is = yes (is_operator c) (none_of (λ d. not (is_operator d)) (codes ")]}") c refl is)
+
+closing-not-opening : (c : ℕ) → is_closing c ≡ true → is_opening c ≡ false
+unfolding is_closing is_opening
+closing-not-opening c is = none_of is_opening (codes ")]}") c refl is
+
+-- the outline comes further
+module _ (bytes : List ℕ) (at : ℕ) (o : Outline) (on : IsAt bytes at o) (within : at < length bytes) where
+  pub line_ended : (new : Outline) → new ≡ record o { lines = record { len = at + 1; line_ends = o.line_ends + 1 }; line_ends = o.line_ends + 1 } → slice_index bytes at ≡ 10 → none_open on.st ≡ true → IsFurther bytes at new
+  line_ended new same is none = subst (λ (x : Outline). IsFurther bytes at x) (sym same) (record {
+    from = at + 1;
+    further = omega arith;
+    on = record { st = on.st; close = on.close; come = feed_ends_line bytes o.lines at o.line_ends on.st on.come within is none; marked = on.marked within };
+  })
+
+  pub line_goes_on : (new : Outline) → new ≡ record o { line_ends = o.line_ends + 1 } → slice_index bytes at ≡ 10 → none_open on.st ≡ false → IsFurther bytes at new
+  line_goes_on new same is some = subst (λ (x : Outline). IsFurther bytes at x) (sym same) (record {
+    from = at + 1;
+    further = omega arith;
+    on = record { st = on.st; close = on.close; come = feed_in_brackets bytes o.lines at o.line_ends on.st on.come within is some; marked = on.marked within };
+  })
+
+  pub opened : (new : Closers) → is_opening (slice_index bytes at) ≡ true → Opens (slice_index bytes at) o.closers new → IsFurther bytes at (record o { closers = new })
+  opened new is opens =
+      let c = slice_index bytes at in
+      let room = opens on.st on.close in
+      let place = length (line_up_to bytes o.lines at) in
+      let after : List Bracket = record { opener = c; place = place } ∷ on.st in
+      record {
+        from = at + 1;
+        further = omega arith;
+        on = record {
+          st = after;
+          close = room.1 place;
+          come = bracket_on bytes o.lines at o.line_ends on.st after on.come within (opening_operator c is) (opens_at on.st place c is room.0);
+          marked = on.marked within;
+        };
+      }
+
+  pub closed : (new : Closers) → is_closing (slice_index bytes at) ≡ true → ClosesInnermost (slice_index bytes at) o.closers new → IsFurther bytes at (record o { closers = new })
+  closed new is closes =
+      let c = slice_index bytes at in
+      let close = closes on.st on.close in
+      let place = length (line_up_to bytes o.lines at) in
+      record {
+        from = at + 1;
+        further = omega arith;
+        on = record {
+          st = close.others;
+          close = close.rest;
+          come = bracket_on bytes o.lines at o.line_ends on.st close.others on.come within (closing_operator c is) (closes_top on.st place c close.last close.others close.are (closing-not-opening c is) is (eq-eqb c (closing_of close.last.opener) close.fits));
+          marked = on.marked within;
+        };
+      }
+
+  pub piece_passed : (new : Marks) (p : Passed) → PassesPiece bytes at (Some p) → ((from : ℕ) → HasMarks bytes from o.marks → from ≤ at + p.len → HasMarks bytes (at + p.len) new) → IsFurther bytes at (record o { line_ends = o.line_ends + p.line_ends; marks = new })
+  piece_passed new p passes pass =
+      let some = passes.1.some in
+      record {
+        from = at + p.len;
+        further = omega (arith, some);
+        on = record { st = on.st; close = on.close; come = piece_on bytes o.lines at o.line_ends on.st p on.come passes; marked = pass (at + 1) (on.marked within) (omega (arith, some)) };
+      }
+
+  pub piece_few : (p : Passed) → PassesPiece bytes at (Some p) → o.line_ends + p.line_ends ≤ length bytes
+  piece_few p passes =
+      let few = few_ends bytes o.lines (at + p.len) (o.line_ends + p.line_ends) on.st (piece_on bytes o.lines at o.line_ends on.st p on.come passes) in
+      omega (arith, few, passes.0)
+
+  pub own_few : o.line_ends ≤ at
+  own_few = few_ends bytes o.lines at o.line_ends on.st on.come
+
+  -- what `pass` of the marks requires
+  pub base_before : (p : Passed) → PassesPiece bytes at (Some p) → o.marks.base ≤ at + p.len
+  base_before p passes = omega (arith, passes.1.some, (on.marked within).base)
+
+-- what `next` of the marks requires
+pub base_within : (bytes : List ℕ) (at : ℕ) (o : Outline) → IsFurther bytes at o → o.marks.base ≤ length bytes
+base_within bytes at o far = let marked = far.on.marked in omega (arith, marked.base, marked.within)

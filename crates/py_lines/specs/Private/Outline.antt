@@ -1,0 +1,245 @@
+-- Simple lines that bytes begin with, which are passed over: what the machine has come to in such a line, after the text's first.
+use Rattle.std.specs.Prelude.{◌≡◌, ℕ, ◌+◌, ◌-◌, ◌<◌, ◌≤◌, ◌⊎◌, ◌==◌, Bool, true, false, if◌then◌else◌, Option, None, Some, List, [], ◌∷◌, ◌++◌, nat_lt, length, take, drop, slice_index}
+use Rattle.std.specs.List.{list_all}
+use Rattle.py_lines.specs.Balance.{closing_of}
+use Rattle.py_lines.specs.Character.{is_return}
+use Rattle.py_lines.specs.Piece.{Piece, ends}
+use Rattle.py_lines.specs.LogicalLine.{line_ends}
+use Rattle.py_lines.specs.Private.Machine.{Scanned, fresh, Bracket, brackets_of, first_spelling, spelling_with}
+use Rattle.py_lines.specs.Private.ScanMachine.{begins_string, is_field_spelling, meet_of, scan_steps}
+use Rattle.py_lines.specs.Private.Scan.{AreLine, EndsNoLine, line_start}
+use Rattle.py_lines.specs.Private.Run.{is_ascii_word}
+use Rattle.py_lines.specs.Private.FieldText.{is_apart_mode}
+use Rattle.py_lines.specs.declared.closers.Closers.{Closers}
+use Rattle.py_lines.specs.declared.mode.Mode.{Mode}
+use Rattle.py_lines.specs.declared.mode.Mode.TheVariants as modes
+use Rattle.py_lines.specs.declared.mode.Move.TheVariants as moves
+use Rattle.py_lines.specs.declared.mode.Spelling.{Spelling}
+use Rattle.py_lines.specs.declared.outline.Outline.{Outline}
+use Rattle.py_lines.specs.declared.plain_strings.Passed.{Passed}
+use Rattle.py_lines.specs.Private.Marks.{HasMarks, is_plain}
+
+-- the bytes are ASCII, and hold so many line ends, each of them LF
+pub record HoldsFeeds (read : List ℕ) (n : ℕ) : Type 0 where
+  pub low : list_all (λ c. nat_lt c 128) read ≡ true
+  pub count : line_ends read ≡ n
+  pub unreturned : ends is_return read ≡ false
+
+-- the machine has gone through such bytes of a line, and stands so, where these brackets are open
+pub record HasCome (read : List ℕ) (n : ℕ) (st : List Bracket) (s : Scanned) : Type 0 where
+  pub steps : scan_steps (Some (line_start modes.Free)) read ≡ Some s
+  pub stacked : brackets_of s.done ≡ Some st
+  pub one_line : EndsNoLine 0 s.done
+  pub holds : HoldsFeeds read n
+
+-- the spelling of the word that bytes end with, if they end with a word: with one more byte, and with more of them
+abbrev pub tail_with : Option Spelling → ℕ → Option Spelling
+tail_with None c = if is_ascii_word c then Some (first_spelling c) else None
+tail_with (Some s) c = if is_ascii_word c then Some (spelling_with s c) else None
+
+abbrev pub tail_on : Option Spelling → List ℕ → Option Spelling
+tail_on tail [] = tail
+tail_on tail (c ∷ cs) = tail_on (tail_with tail c) cs
+
+abbrev pub tail_of : List ℕ → Option Spelling
+tail_of bytes = tail_on None bytes
+
+-- whether a quote after such a word begins a string without fields
+abbrev pub is_plain_prefix : Option Spelling → Bool
+is_plain_prefix None = true
+is_plain_prefix (Some s) = if is_field_spelling s then false else begins_string s
+
+-- such a word is open; or where there is none, space, or no piece
+abbrev pub IsTail : Option Spelling → Mode → Type 0
+IsTail None m = is_apart_mode m ≡ true
+IsTail (Some s) m = m ≡ modes.Word s
+
+-- the line goes on after these bytes, and the word is open that they end with
+pub record GoesOnAfter (read : List ℕ) (n : ℕ) (st : List Bracket) : Type 0 where
+  pub state : Scanned
+  pub come : HasCome read n st state
+  pub tail : IsTail (tail_of read) state.mode
+
+-- the piece that is open after these bytes ends before this character
+pub record EndsBefore (c : ℕ) (read : List ℕ) (n : ℕ) (st : List Bracket) : Type 0 where
+  pub state : Scanned
+  pub come : HasCome read n st state
+  pub breaks : meet_of state.mode c ≡ moves.Breaks
+  pub other : state.mode ≡ modes.Return → ⊥
+  pub tail : is_ascii_word c ≡ true → tail_of read ≡ None
+
+-- so before the bytes that follow: one of both
+abbrev pub StandsBefore : List ℕ → List ℕ → ℕ → List Bracket → Type 0
+StandsBefore [] read n st = GoesOnAfter read n st
+StandsBefore (c ∷ rest) read n st = GoesOnAfter read n st ⊎ EndsBefore c read n st
+
+-- after these bytes of a line such a piece is open
+pub record IsInPiece (m : Mode) (read : List ℕ) (n : ℕ) (st : List Bracket) : Type 0 where
+  pub done : List Piece
+  pub held : List ℕ
+  pub come : HasCome read n st (record { done = done; mode = m; held = held })
+
+-- with this quote after them a string without fields is open, which holds nothing yet
+abbrev pub StringBegins : ℕ → List ℕ → ℕ → List Bracket → Type 0
+StringBegins q read = IsInPiece (modes.Opened q) (read ++ q ∷ [])
+
+-- wherever a line stands so, it comes to stand so after so many of the bytes, which hold so many line ends
+pub record PassesPart (bytes : List ℕ) (len feeds : ℕ) (stands comes : List ℕ → ℕ → List Bracket → Type 0) : Type 0 where
+  pub within : len ≤ length bytes
+  pub leads : (read : List ℕ) (n : ℕ) (st : List Bracket) → stands read n st → comes (read ++ take len bytes) (n + feeds) st
+
+-- a part that isn't empty
+pub record Passes (bytes : List ℕ) (p : Passed) (stands comes : List ℕ → ℕ → List Bracket → Type 0) : Type 0 where
+  pub some : 0 < p.len
+  pub few : p.line_ends ≤ p.len
+  pub part : PassesPart bytes p.len p.line_ends stands comes
+
+-- the part that was passed leads there, if one was passed
+abbrev pub PassesOrNot : List ℕ → Option Passed → (stands comes : List ℕ → ℕ → List Bracket → Type 0) → Type 0
+PassesOrNot bytes None stands comes = Unit {0}
+PassesOrNot bytes (Some p) stands comes = Passes bytes p stands comes
+
+-- what is open in a short string of this quote after so many bytes of it
+abbrev pub short_mode : ℕ → ℕ → Mode
+short_mode q len = if len == 1 then modes.Opened q else modes.Inside q
+
+abbrev pub IsInShort : ℕ → ℕ → List ℕ → ℕ → List Bracket → Type 0
+IsInShort q len = IsInPiece (short_mode q len)
+
+-- a string of three such quotes is open, which ends with none of these bytes
+abbrev pub IsInLong : ℕ → List ℕ → ℕ → List Bracket → Type 0
+IsInLong q = IsInPiece (modes.Long q)
+
+-- the bytes begin with three such quotes
+pub record BeginsLong (q : ℕ) (bytes : List ℕ) : Type 0 where
+  pub within : 3 ≤ length bytes
+  pub spell : take 3 bytes ≡ q ∷ q ∷ q ∷ []
+
+-- the bytes begin with a backslash and this byte, which it escapes
+pub record BeginsEscape (bytes : List ℕ) (c feeds : ℕ) : Type 0 where
+  pub within : 2 ≤ length bytes
+  pub spell : take 2 bytes ≡ 92 ∷ c ∷ []
+  pub low : c < 128
+  pub unreturned : is_return c ≡ false
+  pub count : feeds ≡ (if c == 10 then 1 else 0)
+
+abbrev pub HasEscape : List ℕ → Option Passed → Type 0
+HasEscape bytes None = Unit {0}
+HasEscape bytes (Some p) = (p.len ≡ 2) × ((c : ℕ) × BeginsEscape bytes c p.line_ends)
+
+-- the piece at a byte of a line, which stands there so; it is known how the bytes up to it end
+abbrev pub StandsAt : List ℕ → ℕ → List ℕ → ℕ → List Bracket → Type 0
+StandsAt bytes at read n st = (tail_of read ≡ tail_of (take at bytes)) × StandsBefore (drop at bytes) read n st
+
+abbrev pub PassesPiece : List ℕ → ℕ → Option Passed → Type 0
+PassesPiece bytes at None = Unit {0}
+PassesPiece bytes at (Some p) =
+    (at + p.len ≤ length bytes) × Passes (drop at bytes) p (StandsAt bytes at) (StandsBefore (drop (at + p.len) bytes))
+
+-- the comment or the join that the bytes begin with was passed, or nothing
+abbrev pub PassesFirst : List ℕ → Option Passed → Type 0
+PassesFirst bytes None = Unit {0}
+PassesFirst bytes (Some p) = Passes bytes p (StandsBefore bytes) (StandsBefore (drop p.len bytes))
+
+-- so the string, where it begins
+abbrev pub HasString : List ℕ → Option Passed → Type 0
+HasString bytes None = Unit {0}
+HasString bytes (Some p) = Passes bytes p (StringBegins (slice_index bytes 0)) (StandsBefore (drop p.len bytes))
+
+-- the bytes are a line, which its line end, LF, has ended
+pub record IsWholeLine (read : List ℕ) (n : ℕ) : Type 0 where
+  pub body : List Piece
+  pub last : Piece
+  pub are : AreLine body last 1
+  pub steps : scan_steps (Some (line_start modes.Free)) read ≡ Some (fresh (body ++ last ∷ []))
+  pub holds : HoldsFeeds read n
+  pub tail : tail_of read ≡ None
+
+-- the bytes up to an LF, and with it, are a line where no bracket is open; else the line goes on
+abbrev pub IsAfterFeed : List Bracket → List ℕ → ℕ → Type 0
+IsAfterFeed [] read n = IsWholeLine read n
+IsAfterFeed (b ∷ bs) read n = GoesOnAfter read n (b ∷ bs)
+
+-- bytes that are a line come before bytes that are lines, and so are these together
+pub record IsLineBefore (rest : List ℕ → ℕ → Type 0) (line read : List ℕ) (n : ℕ) : Type 0 where
+  pub later : List ℕ
+  pub own : ℕ
+  pub more : ℕ
+  pub some : 0 < length line
+  pub spell : read ≡ line ++ later
+  pub count : n ≡ own + more
+  pub whole : IsWholeLine line own
+  pub lines : rest later more
+
+-- the bytes are these lines, one after another
+abbrev pub AreWholeLines : List (List ℕ) → List ℕ → ℕ → Type 0
+AreWholeLines [] read n = (read ≡ []) × (n ≡ 0)
+AreWholeLines (line ∷ lines) read n = IsLineBefore (AreWholeLines lines) line read n
+
+-- the bytes begin with such lines
+pub record BeginWithLines (bytes : List ℕ) (lines : Passed) : Type 0 where
+  pub within : lines.len ≤ length bytes
+  pub texts : List (List ℕ)
+  pub whole : AreWholeLines texts (take lines.len bytes) lines.line_ends
+
+-- the bytes of the line that begins after these lines, up to this byte
+abbrev pub line_up_to : List ℕ → Passed → ℕ → List ℕ
+line_up_to bytes lines at = take (at - lines.len) (drop lines.len bytes)
+
+-- after such lines the next has come to this byte; so many line ends stand before it, and these brackets are open
+pub record HasComeTo (bytes : List ℕ) (lines : Passed) (at n : ℕ) (st : List Bracket) : Type 0 where
+  pub within : at ≤ length bytes
+  pub ordered : lines.len ≤ at
+  pub lines_are : BeginWithLines bytes lines
+  pub more : ℕ
+  pub count : n ≡ lines.line_ends + more
+  pub stands : StandsBefore (drop at bytes) (line_up_to bytes lines at) more st
+
+-- these bytes close the open brackets, the innermost last, from place 1 on
+abbrev pub AreClosers : List ℕ → List Bracket → Type 0
+AreClosers closers [] = Unit {0}
+AreClosers closers (b ∷ bs) = (slice_index closers (length bs + 1) ≡ closing_of b.opener) × AreClosers closers bs
+
+pub record Close (c : Closers) (st : List Bracket) : Type 0 where
+  pub depth : c.depth ≡ length st
+  pub size : length c.closers ≡ 256
+  pub room : length st ≤ 200
+  pub each : AreClosers c.closers st
+
+-- a bracket was opened
+abbrev pub Opens : ℕ → Closers → Closers → Type 0
+Opens opener old new =
+    (st : List Bracket) → Close old st
+    → (length st < 200) × ((place : ℕ) → Close new (record { opener = opener; place = place } ∷ st))
+
+-- the innermost bracket was closed
+pub record ClosesLast (closer : ℕ) (new : Closers) (st : List Bracket) : Type 0 where
+  pub last : Bracket
+  pub others : List Bracket
+  pub are : st ≡ last ∷ others
+  pub fits : closer ≡ closing_of last.opener
+  pub rest : Close new others
+
+abbrev pub ClosesInnermost : ℕ → Closers → Closers → Type 0
+ClosesInnermost closer old new = (st : List Bracket) → Close old st → ClosesLast closer new st
+
+-- the outline stands at a byte that isn't plain, or at the end of the bytes
+pub record IsAt (bytes : List ℕ) (at : ℕ) (o : Outline) : Type 0 where
+  pub st : List Bracket
+  pub close : Close o.closers st
+  pub come : HasComeTo bytes o.lines at o.line_ends st
+  pub special : at < length bytes → is_plain (slice_index bytes at) ≡ false
+  pub marked : at < length bytes → HasMarks bytes (at + 1) o.marks
+
+-- or after such a byte
+pub record IsAfter (bytes : List ℕ) (from : ℕ) (o : Outline) : Type 0 where
+  pub st : List Bracket
+  pub close : Close o.closers st
+  pub come : HasComeTo bytes o.lines from o.line_ends st
+  pub marked : HasMarks bytes from o.marks
+
+-- it has come further than this byte
+pub record IsFurther (bytes : List ℕ) (at : ℕ) (o : Outline) : Type 0 where
+  pub from : ℕ
+  pub further : at < from
+  pub on : IsAfter bytes from o

@@ -1,0 +1,148 @@
+//! The outline of simple lines: where each of them ends, told by what opens and closes alone. No token is made.
+
+ghost use Rattle.std.specs.Prelude.{◌≡◌, ◌<◌, true, IsTrue, length, slice_index};
+ghost use Rattle.py_lines.specs.Character.{is_backslash, is_hash, is_line_feed};
+ghost use Rattle.py_lines.specs.Private.Marks.{is_of_class};
+ghost use Rattle.py_lines.specs.Private.Outline.{BeginWithLines, IsAt, IsFurther, PassesFirst, PassesPiece};
+
+use crate::class::Class;
+use crate::closers::Closers;
+use crate::marks::Marks;
+use crate::plain_strings::{Passed, plain_string};
+use crate::run::ByteRun;
+
+/// Passes the comment that the bytes begin with, up to LF, where it is ASCII.
+fn comment(bytes: &[u8]) -> Option<Passed>
+    requires some { 0 < length bytes.now }
+    requires hash { is_hash (slice_index bytes.now 0) ≡ true }
+    ensures { PassesFirst bytes.now result }
+{
+    let len = 1 + ByteRun::Remark.len_in(&bytes[1..]);
+    if len < bytes.len() && bytes[len] == b'\n' {
+        Some(Passed { len, line_ends: 0 })
+    } else {
+        None
+    }
+}
+
+/// Passes the join of two lines by LF that the bytes begin with (Python Language Reference, 2.1.5).
+fn join(bytes: &[u8]) -> Option<Passed>
+    requires some { 0 < length bytes.now }
+    requires backslash { is_backslash (slice_index bytes.now 0) ≡ true }
+    ensures { PassesFirst bytes.now result }
+{
+    if bytes.len() > 1 && bytes[1] == b'\n' {
+        Some(Passed {
+            len: 2,
+            line_ends: 1,
+        })
+    } else {
+        None
+    }
+}
+
+/// Passes the comment, the join or the string that begins at this byte.
+fn piece(bytes: &[u8], class: Class, at: usize) -> Option<Passed>
+    requires within { at < length bytes.now }
+    requires class { is_of_class class (slice_index bytes.now at) ≡ true }
+    ensures { PassesPiece bytes.now at result }
+{
+    match class {
+        Class::Hash => comment(&bytes[at..]),
+        Class::Backslash => join(&bytes[at..]),
+        Class::Quote => plain_string(bytes, at),
+        _ => None,
+    }
+}
+
+/// Lines that were passed, and what is known of the next one as far as it was passed.
+#[derive(Drop)]
+struct Outline {
+    /// The lines.
+    lines: Passed,
+    /// How many line ends they and the next one have so far.
+    line_ends: u64,
+    /// The brackets that are open in the next line.
+    closers: Closers,
+    /// The bytes after it that are not plain.
+    marks: Marks,
+}
+
+impl Outline {
+    /// Passes LF at this byte: where no bracket is open it ends the line.
+    #[inline(always)]
+    fn pass_line_feed(&mut self, bytes: &[u8], at: usize)
+        requires within { at < length bytes.now }
+        requires stands { IsAt bytes.now at self.old }
+        requires feed { is_line_feed (slice_index bytes.now at) ≡ true }
+        ensures { IsFurther bytes.now at self.new }
+    {
+        self.line_ends += 1;
+        if self.closers.is_empty() {
+            self.lines = Passed {
+                len: at + 1,
+                line_ends: self.line_ends,
+            };
+        }
+    }
+
+    /// Passes the piece that begins at this byte. The result is whether it was passed.
+    #[inline(always)]
+    fn pass_piece(&mut self, bytes: &[u8], class: Class, at: usize) -> bool
+        requires within { at < length bytes.now }
+        requires stands { IsAt bytes.now at self.old }
+        requires class { is_of_class class (slice_index bytes.now at) ≡ true }
+        ensures further { IsTrue result → IsFurther bytes.now at self.new }
+        ensures lines { self.new.lines ≡ self.old.lines }
+    {
+        let Some(piece) = piece(bytes, class, at) else {
+            return false;
+        };
+        self.line_ends += piece.line_ends;
+        self.marks.pass(bytes, at + piece.len);
+        true
+    }
+
+    /// Passes the byte at this place, which is not plain, or the piece that it begins. The result is whether it was passed.
+    #[inline(always)]
+    fn pass(&mut self, bytes: &[u8], at: usize) -> bool
+        requires within { at < length bytes.now }
+        requires stands { IsAt bytes.now at self.old }
+        ensures further { IsTrue result → IsFurther bytes.now at self.new }
+        ensures lines { BeginWithLines bytes.now self.new.lines }
+    {
+        match Class::of(bytes[at]) {
+            Class::LineFeed => {
+                self.pass_line_feed(bytes, at);
+                true
+            }
+            Class::Opening => self.closers.open(bytes[at]),
+            Class::Closing => self.closers.close(bytes[at]),
+            class => self.pass_piece(bytes, class, at),
+        }
+    }
+}
+
+/// The logical lines that the bytes begin with, as long as they are simple: words, operators, comments, joins, and strings without
+/// fields, of ASCII, and LF. No line is open before the bytes, and no bracket.
+pub fn simple_lines(bytes: &[u8]) -> Passed
+    ensures { BeginWithLines bytes.now result }
+{
+    let mut outline = Outline {
+        lines: Passed {
+            len: 0,
+            line_ends: 0,
+        },
+        line_ends: 0,
+        closers: Closers::new(),
+        marks: Marks::at(bytes, 0),
+    };
+    let mut at = outline.marks.next(bytes);
+    'specials: while at < bytes.len() {
+        if !outline.pass(bytes, at) {
+            return outline.lines;
+        }
+        at = outline.marks.next(bytes);
+    }
+    outline.lines
+}
