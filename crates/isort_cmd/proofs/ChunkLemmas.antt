@@ -24,7 +24,7 @@ use Rattle.isort_cmd.specs.Private.Steps.{GivenAreListed, HasListedSettled, HasL
 use Rattle.isort_cmd.specs.Written.{ListsFound, ListsPrefix}
 use Rattle.isort_cmd.specs.declared.error.RunError.{RunError}
 use Rattle.isort_cmd.specs.declared.error.RunError.TheVariants as run
-use Rattle.isort_cmd.proofs.ListingLemmas.{GivenBegin, found_fault, lists_front}
+use Rattle.isort_cmd.proofs.ListingLemmas.{GivenBegin, found_fault, lists_prefix}
 
 -- laws of `isort_find`
 pub record FoundLaws : Type 0 where
@@ -113,7 +113,7 @@ is_open other top fault = refl
 
 -- a prefix of the lines was written, whatever follows the known bytes
 pub front_each : GivenBegin → (path known : List ℕ) (options : FindOptions) (finder : PieceFinderState) (start now : Option (List ℕ)) → ((text : List ℕ) → GoesOnWith text 0 known → GivenAreListed path text options finder start now) → (more : List ℕ) → ListsPrefix path (known ++ more) options start now
-front_each begin path known options finder start now listed more = lists_front begin path (known ++ more) options finder start now (listed (known ++ more) (goes_begin known more))
+front_each begin path known options finder start now listed more = lists_prefix begin path (known ++ more) options finder start now (listed (known ++ more) (goes_begin known more))
 
 -- the chunk decides a fault
 fed_fault : FoundLaws → (path known chunk : List ℕ) (options : FindOptions) (old : PieceFinderState) (fault : Fault) (new : PieceFinderState) (start now : Option (List ℕ)) → MeetsFaultIn old chunk fault new → HasListedGiven path known options old start now → MeetsFaultAfter path (known ++ chunk) options fault start now

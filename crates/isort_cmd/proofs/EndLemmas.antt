@@ -15,7 +15,7 @@ use Rattle.isort_cmd.specs.Private.Steps.{GivenAreListed, HasListedSettled, Leav
 use Rattle.isort_cmd.specs.Written.{ListsFound, LeavesAtError}
 use Rattle.isort_cmd.specs.declared.error.RunError.{RunError}
 use Rattle.isort_cmd.specs.declared.error.RunError.TheVariants as run
-use Rattle.isort_cmd.proofs.ListingLemmas.{GivenBegin, found_fault, lists_front}
+use Rattle.isort_cmd.proofs.ListingLemmas.{GivenBegin, found_fault, lists_prefix}
 
 -- what was listed of the very bytes that were fed
 pub listed_of : (path text : List ℕ) (options : FindOptions) (finder : PieceFinderState) (start now : Option (List ℕ)) → HasListedSettled path text options finder start now → GivenAreListed path text options finder start now
@@ -53,7 +53,7 @@ ends_in_fault path text options finder next fault start now h ends =
 -- what an error of ending the text leaves
 pub leaves_at_end : GivenBegin → (path text : List ℕ) (options : FindOptions) (finder next : PieceFinderState) (e : FindError) (start now : Option (List ℕ)) → EndsFeeding finder (Err e) next → HasListedSettled path text options finder start now → LeavesAtError path text options (run_error_of e) start now
 leaves_at_end begin path text options finder next (find.Fault f) start now ends h = ends_in_fault path text options finder next f start now h ends
-leaves_at_end begin path text options finder next find.Memory start now ends h = lists_front begin path text options finder start now (listed_of path text options finder start now h)
+leaves_at_end begin path text options finder next find.Memory start now ends h = lists_prefix begin path text options finder start now (listed_of path text options finder start now h)
 
 -- what an error of listing leaves
 pub leaves_ready : (path text : List ℕ) (options : FindOptions) (finder : PieceFinderState) (e : RunError) (start now : Option (List ℕ)) → LeavesReady path text options finder e start now → LeavesAtError path text options e start now

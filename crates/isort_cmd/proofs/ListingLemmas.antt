@@ -41,7 +41,7 @@ lists_nothing some path text options contents =
       bounds = all.0;
       end = all.1;
       found = all.2;
-      written = record { front = []; rest = printed path all.0; split = refl; appended = Appends-nil contents };
+      written = record { prefix = []; rest = printed path all.0; split = refl; appended = Appends-nil contents };
     }
 
 -- a finder that met a fault has found all before it
@@ -76,12 +76,12 @@ prefix_of_found path text options bounds start now begins written = record {
   bounds = bounds ++ begins.more;
   end = begins.end;
   found = begins.found;
-  written = record { front = printed path bounds; rest = printed path begins.more; split = sym (printed-append path bounds begins.more); appended = written };
+  written = record { prefix = printed path bounds; rest = printed path begins.more; split = sym (printed-append path bounds begins.more); appended = written };
 }
 
 -- the run gave up between two bindings
-pub lists_front : GivenBegin → (path text : List ℕ) (options : FindOptions) (finder : PieceFinderState) (start now : Option (List ℕ)) → GivenAreListed path text options finder start now → ListsPrefix path text options start now
-lists_front begin path text options finder start now listed = prefix_of_found path text options listed.bounds start now (subst (λ (o : FindOptions). BeginsFound text o listed.bounds) listed.same_options (begin text finder.cursor listed.bounds listed.found.stopped)) listed.written
+pub lists_prefix : GivenBegin → (path text : List ℕ) (options : FindOptions) (finder : PieceFinderState) (start now : Option (List ℕ)) → GivenAreListed path text options finder start now → ListsPrefix path text options start now
+lists_prefix begin path text options finder start now listed = prefix_of_found path text options listed.bounds start now (subst (λ (o : FindOptions). BeginsFound text o listed.bounds) listed.same_options (begin text finder.cursor listed.bounds listed.found.stopped)) listed.written
 
 -- the run gave up while it wrote the line of one more binding
 pub lists_stopped : GivenBegin → (path text : List ℕ) (options : FindOptions) (finder next : PieceFinderState) (b : Bound) (out : List ℕ) (start mid now : Option (List ℕ)) → GivesBinding finder b next → out ≡ line_text path b → AppendsPrefix mid now out → GivenAreListed path text options finder start mid → ListsPrefix path text options start now
@@ -90,16 +90,16 @@ lists_stopped begin path text options finder next b out start mid now gives put 
     let bounds = listed.bounds ++ b ∷ [] in
     let begins = begin text next.cursor bounds (gives.found text listed.bounds listed.found).stopped in
     let after = printed path begins.more in
-    let line : (before ++ wrote.front) ++ wrote.rest ≡ printed path bounds = append_assoc before wrote.front wrote.rest ∙ ap (λ x. before ++ x) (wrote.split ∙ put) ∙ sym (printed-snoc path listed.bounds b) in
+    let line : (before ++ wrote.prefix) ++ wrote.rest ≡ printed path bounds = append_assoc before wrote.prefix wrote.rest ∙ ap (λ x. before ++ x) (wrote.split ∙ put) ∙ sym (printed-snoc path listed.bounds b) in
     record {
       bounds = bounds ++ begins.more;
       end = begins.end;
       found = subst (λ (o : FindOptions). IsFound text o (bounds ++ begins.more) begins.end) (gives.options ∙ listed.same_options) begins.found;
       written = record {
-        front = before ++ wrote.front;
+        prefix = before ++ wrote.prefix;
         rest = wrote.rest ++ after;
-        split = sym (append_assoc (before ++ wrote.front) wrote.rest after) ∙ ap (λ x. x ++ after) line ∙ sym (printed-append path bounds begins.more);
-        appended = Appends-trans start mid now before wrote.front listed.written wrote.appended;
+        split = sym (append_assoc (before ++ wrote.prefix) wrote.rest after) ∙ ap (λ x. x ++ after) line ∙ sym (printed-append path bounds begins.more);
+        appended = Appends-trans start mid now before wrote.prefix listed.written wrote.appended;
       };
     }
 
@@ -135,7 +135,7 @@ leaves_at_find_error begin path text options finder next (find.Fault f) start no
       },
       λ open_yet. subst (λ (o : FindOptions). DecidesFound (take (fed_by finder) text) o f) listed.same_options (gives.decided text listed.bounds listed.found open_yet),
     )
-leaves_at_find_error begin path text options finder next find.Memory start now gives listed = lists_front begin path text options finder start now listed
+leaves_at_find_error begin path text options finder next find.Memory start now gives listed = lists_prefix begin path text options finder start now listed
 
 -- what is left by an error at a finder is left at each one before it that was fed as much
 pub leaves_from : (path text : List ℕ) (options : FindOptions) (old mid : PieceFinderState) (e : RunError) (start now : Option (List ℕ)) → fed_by mid ≡ fed_by old → mid.scanning.ended ≡ old.scanning.ended → LeavesReady path text options mid e start now → LeavesReady path text options old e start now

@@ -26,7 +26,7 @@ use Rattle.isort_cmd.specs.Written.{ListsFound}
 use Rattle.isort_cmd.specs.declared.error.RunError.{RunError}
 use Rattle.isort_cmd.specs.declared.error.RunError.TheVariants as run
 use Rattle.isort_cmd.proofs.EndLemmas.{ends_listed, leaves_at_end, leaves_ready, still_ended}
-use Rattle.isort_cmd.proofs.ListingLemmas.{GivenBegin, leaves_at_find_error, leaves_from, listed_one_more, listed_none, lists_front, lists_stopped, not_after_top}
+use Rattle.isort_cmd.proofs.ListingLemmas.{GivenBegin, leaves_at_find_error, leaves_from, listed_one_more, listed_none, lists_prefix, lists_stopped, not_after_top}
 
 -- the errors of a finder are those of listing
 pub error_of_find : (e : FindError) (l : Last) → l ≡ last.Fine → IsOutputError (run_error_of e) l
@@ -84,7 +84,7 @@ stops_at_find begin old e next fine gives = record {
 pub stops_at_memory : GivenBegin → (old : ListingState) (next : PieceFinderState) → old.last ≡ last.Fine → StopsReady old run.Memory (record old { finder = next })
 stops_at_memory begin old next fine = record {
   error = fine;
-  leaves = λ text options start h. lists_front begin old.path text options old.finder start old.written h;
+  leaves = λ text options start h. lists_prefix begin old.path text options old.finder start old.written h;
 }
 
 -- a write failed

@@ -11,10 +11,10 @@ use Rattle.isort_sort.specs.declared.answer.SortError.TheVariants as error
 
 -- known bytes grow by a prefix of these
 pub record AppendsPrefix (old new : Option (List ℕ)) (bytes : List ℕ) : Type 0 where
-  pub front : List ℕ
+  pub prefix : List ℕ
   pub rest : List ℕ
-  pub split : front ++ rest ≡ bytes
-  pub appended : Appends old new front
+  pub split : prefix ++ rest ≡ bytes
+  pub appended : Appends old new prefix
 
 -- the sorted text was written whole; sorted again under the same settings, it stays as it is, and it has the blocks of the
 -- text back

@@ -125,7 +125,7 @@ impl<'t> SortedText<'t> {
             (Appends (W.contents (inner_of writer.old)) (W.contents (inner_of writer.new))
             (sorted_bytes self.now)) }
         ensures fine { OnOk result (last_of writer.new ≡ Last.Fine) }
-        ensures front { OnErr result
+        ensures prefix { OnErr result
             (AppendsPrefix (W.contents (inner_of writer.old)) (W.contents (inner_of writer.new))
             (sorted_bytes self.now)) }
         ensures err { IfErr result (λ e. e ≡ SortError.Write) }

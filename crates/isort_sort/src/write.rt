@@ -44,7 +44,7 @@ pub fn write_whole<W: Write>(writer: &mut Metered<W>, bytes: &[u8]) -> Result<()
     ensures ok { OnOk result
         (Appends (W.contents (inner_of writer.old)) (W.contents (inner_of writer.new)) bytes.now) }
     ensures fine { OnOk result (last_of writer.new ≡ Last.Fine) }
-    ensures front { OnErr result
+    ensures prefix { OnErr result
         (AppendsPrefix (W.contents (inner_of writer.old))
         (W.contents (inner_of writer.new)) bytes.now) }
     ensures err { IfErr result (λ e. e ≡ SortError.Write) }

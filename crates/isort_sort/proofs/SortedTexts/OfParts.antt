@@ -66,16 +66,16 @@ changed_is_unsorted text v outcome.Same is told = absurd (cc)
 changed_is_unsorted text v outcome.Skipped is told = absurd (cc)
 
 -- a prefix of what is left was written
-pub appends_front : (old mid new : Option (List ℕ)) (all done bytes more : List ℕ) → Appends old mid done → AppendsPrefix mid new bytes → all ≡ done ++ (bytes ++ more) → AppendsPrefix old new all
-appends_front old mid new all done bytes more before f is = record {
-  front = done ++ f.front;
+pub appends_prefix : (old mid new : Option (List ℕ)) (all done bytes more : List ℕ) → Appends old mid done → AppendsPrefix mid new bytes → all ≡ done ++ (bytes ++ more) → AppendsPrefix old new all
+appends_prefix old mid new all done bytes more before f is = record {
+  prefix = done ++ f.prefix;
   rest = f.rest ++ more;
-  split = regroup f.front f.rest ∙ ap (λ (t : List ℕ). done ++ (t ++ more)) f.split ∙ sym is;
+  split = regroup f.prefix f.rest ∙ ap (λ (t : List ℕ). done ++ (t ++ more)) f.split ∙ sym is;
   appended = Appends-trans _ _ _ _ _ before f.appended;
 }
   where
-    regroup : (front rest : List ℕ) → (done ++ front) ++ (rest ++ more) ≡ done ++ ((front ++ rest) ++ more)
-    regroup front rest = simp append_assoc
+    regroup : (prefix rest : List ℕ) → (done ++ prefix) ++ (rest ++ more) ≡ done ++ ((prefix ++ rest) ++ more)
+    regroup prefix rest = simp append_assoc
 
 pub on_err : {T : Type 0} (r : Result T SortError) (P : Type 0) → P → OnErr r P
 on_err (Ok x) P h = tt

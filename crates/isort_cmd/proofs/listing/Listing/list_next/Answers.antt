@@ -26,7 +26,7 @@ pub returns-in_err-write_whole : goal.returns-in_err-write_whole
 returns-in_err-write_whole g c =
     let p = err_from_is_err_and c.from_residual-in_err-write_whole.result c.from_residual-in_err-write_whole.ensures.1 in
     let put = rw c.clear.ensures.bytes at c.in_ok-push_line.ensures.ok in
-    let wrote = rw c.as_bytes.ensures.value at c.in_err-write_whole.ensures.front in
+    let wrote = rw c.as_bytes.ensures.value at c.in_err-write_whole.ensures.prefix in
     let gives = gave_one _ c.next_ready.result c.in-Some.binding c.next_ready.new.self c.next_ready.ensures.next (c.in_ok-binding.was ∙ ap Ok c.in-Some.is) in
     rw (p.1, p.2, c.in_err-write_whole.ensures.err) (record { lists = stops_at_write c.given_begin_the_found.ensures.stopped _ _ (bound_of c.in-Some.binding) (string_bytes c.push_line.new.out) c.in_err-write_whole.ensures.stopped gives put wrote; some = tt })
 
