@@ -1,5 +1,6 @@
 -- What the program writes into a text.
-use Rattle.std.specs.Prelude.{◌≡◌, ℕ, List, ◌++◌, Global, String, string_bytes}
+use Rattle.std.specs.Prelude.{◌≡◌, ℕ, List, ◌++◌, String, string_bytes}
+use Rattle.std.specs.declared.alloc.Global.{Global}
 
 -- these bytes were put after a text
 abbrev pub Writes : String Global → String Global → List ℕ → Type 0
