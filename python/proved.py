@@ -54,7 +54,8 @@ def is_current(built: Path, crate: str) -> bool:
 
 
 def kept(crate: str) -> Path:
-    """Where `rt ci` leaves a proved library."""
+    """Where `rt ci` leaves a proved library: a folder. Its time is when the library was put there. The files in it can be older than
+    a new clone: where an earlier run proved the same sources, by their checksums, `rt ci` links what that run made."""
     return CRATES / crate / "out" / "rlib" / f"{crate}.rlib"
 
 
@@ -64,7 +65,7 @@ class Build:
     def __init__(self, work: Path, targets: List[str]) -> None:
         self.work = work
         below = [crate for crate in crates_below(targets) if crate not in targets]
-        self.takes_kept = all(is_current(kept(crate) / "format", crate) for crate in below)
+        self.takes_kept = all(is_current(kept(crate), crate) for crate in below)
         self.crates = targets if self.takes_kept else [*below, *targets]
         # Two crates or three are proved at once, except for the last, or where there is only one.
         self.jobs = max(1, len(os.sched_getaffinity(0)) // min(2, len(self.crates)))
