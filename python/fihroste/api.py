@@ -24,6 +24,7 @@ from .diff import expect_stream, stream_of, write_diff
 from .exceptions import ExistingSyntaxErrors, FileSkipComment, TextTooLong, UnsupportedSettings, shown
 from .identify import Import, ImportKey, key_of
 from .paths import files_of
+from .replace import replaced
 from .settings import DEFAULT_CONFIG, Config
 
 _Path = Union[str, "os.PathLike[str]"]
@@ -153,7 +154,7 @@ def file(
     output: Optional[TextIO] = None,
     **config_kwargs: Any,
 ) -> bool:
-    """Sorts a file where it stands, and answers whether that changed it. The program writes it, so no text is lost.
+    """Sorts a file where it stands, and answers whether that changed it. It is replaced whole, so no text is lost.
 
     With `write_to_stdout` or `output` the sorted text goes there, the file stays as it is, and the answer is whether the two
     differ. With `show_diff` the difference goes to the stream, or to standard output for True; the file stays as it is, and the
@@ -163,7 +164,7 @@ def file(
         _refuse_parameters(show_diff, extension=extension, ask_to_apply=ask_to_apply)
     if show_diff and (write_to_stdout or output is not None):
         raise ValueError("give show_diff, or write_to_stdout or output, not both")
-    text = _read(filename)
+    text, seen = _read_and_seen(filename)
     actual_path = file_path or filename
     config = _config(config, file_path, config_kwargs, filename)
     sorted_text = _sorted(text, config, actual_path)
@@ -176,9 +177,12 @@ def file(
     if show_diff:
         write_diff(text.decode("utf-8"), sorted_text, actual_path, stream_of(show_diff))
         return False
+    name = os.fspath(filename)
+    if replaced(name, seen, text, sorted_text.encode("utf-8")):
+        return True
     from .program import rewrite
 
-    return rewrite(os.fspath(filename), config._toml, config._profile)
+    return rewrite(name, config._toml, config._profile)
 
 
 def check_file(
@@ -404,6 +408,12 @@ def _in_paths(files: Iterator[str], key: Optional[ImportKey], top_only: bool) ->
 
 
 def _read(path: _Path) -> bytes:
+    return _read_and_seen(path)[0]
+
+
+def _read_and_seen(path: _Path) -> Tuple[bytes, os.stat_result]:
+    """The bytes of a file, and what the system said of it before they were read."""
     # A number would be a file that is open already.
     with open(Path(path), "rb") as source_file:
-        return source_file.read(_MOST_BYTES)
+        seen = os.fstat(source_file.fileno())
+        return source_file.read(_MOST_BYTES), seen

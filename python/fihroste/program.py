@@ -17,8 +17,7 @@ _MEMORY = re.compile(rb"\bR5 out of memory$", re.M)
 def rewrite(path: str, settings: bytes, profile: int) -> bool:
     """Has the program sort the file under the text of a settings file and a profile. Answers whether it was written.
 
-    The program writes so that no file is lost, so nothing is written here. It takes only names in UTF-8: a file of another
-    name it gets by a link, and writes it in place."""
+    The program takes only names in UTF-8: a file of another name it gets by a link, and writes it in place."""
     import subprocess
     import tempfile
 
@@ -48,7 +47,8 @@ def _name_of(path: str) -> Iterator[str]:
     """A name of the file in UTF-8: its own, or one of a link that is there for the time of the call."""
     import tempfile
 
-    name = os.path.abspath(path)
+    # The name `-` would be standard input. No `..` is taken away, since the name before it may be one of a link.
+    name = os.path.join(os.getcwd(), path)
     if _is_utf8(name):
         yield name
         return
@@ -68,7 +68,7 @@ def _is_utf8(name: str) -> bool:
 
 def _reason(path: str) -> int:
     """The number of the system's error for which a file was most likely not written."""
-    folder = os.path.dirname(os.path.abspath(path))
+    folder = os.path.dirname(path) or os.curdir
     if not os.path.exists(path):
         return errno.ENOENT
     return errno.EACCES if not os.access(path, os.W_OK) or not os.access(folder, os.W_OK) else errno.EIO
