@@ -97,17 +97,17 @@ def settings_of(lines):
     return "\n".join([*keys, *modules, "]", ""])
 
 
-def rewritten(call, rounds):
-    """The least time by the clock of a call that writes a file anew, in seconds."""
-    least = float("inf")
+def rewritten(calls, rounds):
+    """The least times by the clock of calls that write a file anew, in turn, in seconds."""
+    least = [float("inf")] * len(calls)
     with tempfile.TemporaryDirectory() as folder:
         path = Path(folder, "two.py")
-        for _ in range(10 * rounds):
+        for place, call in [*enumerate(calls)] * (10 * rounds):
             path.write_text(TWO_LINES)
             with redirect_stdout(io.StringIO()):
                 begun = time.perf_counter()
                 call(str(path))
-                least = min(least, time.perf_counter() - begun)
+                least[place] = min(least[place], time.perf_counter() - begun)
     return least
 
 
@@ -127,7 +127,7 @@ def measure_configs(fihroste, isort, rounds):
             row(f"`code` {with_config}", "two lines", beside(*pair, two, rounds, REPEATS))
             pair = [lambda path, of=of: of.Config(settings_file=path) for of in both]
             row(f"making a `Config` of {lines:,} lines", "", beside(*pair, [str(file)], rounds, 10))
-    row("`file`, written anew", "two lines", [rewritten(package.file, rounds) for package in both])
+    row("`file`, written anew", "two lines", rewritten([package.file for package in both], rounds))
 
 
 def in_threads(call, texts):
