@@ -31,7 +31,7 @@
 --
 -- A line without an import (proofs/FirstWordLemmas): where no token is spelled `import` or `from`, no statement is an
 -- import statement, and the line binds nothing. A token is a part of the text, so none is spelled so where the text has no
--- such part.
+-- such part. A part of a text that lies where neither word begins has none (proofs/WordPlaces): each `m` was looked at.
 --
 -- Laws (proofs/OneListLemmas, DecidingLemmas, OneFaultLemmas): a statement binds one list. Parsing decides of every
 -- statement whether the grammar has it, so each logical line binds a list or has a fault. Two ways to find a first bad
@@ -45,6 +45,7 @@ pub mod NamesLemmas
 pub mod BindingLemmas
 pub mod StatementLemmas
 pub mod FirstWordLemmas
+pub mod WordPlaces
 pub mod EndLemmas
 pub mod OneListLemmas
 pub mod DecidingLemmas

@@ -1,7 +1,7 @@
 //! Laws of the definitions, which the checker proves as contracts of functions that do nothing.
 
-ghost use Rattle.std.specs.Prelude.{◌≡◌, ◌∷◌, ◌++◌, ◌⊎◌, ℕ, List, [], true, false, codes, map, nat_lt};
-ghost use Rattle.std.specs.List.{list_any};
+ghost use Rattle.std.specs.Prelude.{◌≡◌, ◌∷◌, ◌++◌, ◌⊎◌, ◌≤◌, ℕ, List, [], true, false, codes, map, nat_lt, slice_range};
+ghost use Rattle.std.specs.List.{flat_map, list_any};
 ghost use Rattle.std.specs.Str.{all_scalars};
 ghost use Rattle.py_lines.specs.LogicalLine.{LogicalLine, line_of};
 ghost use Rattle.py_lines.specs.Piece.{Piece, spelled};
@@ -15,8 +15,8 @@ ghost use Rattle.py_imports.specs.Names.{AreNamed, HaveNames, terminals_in};
 ghost use Rattle.py_imports.specs.Shape.{terminals_of};
 ghost use Rattle.py_imports.specs.Statement.{is_divider, significant};
 ghost use Rattle.py_imports.specs.ActionComment.{says};
-ghost use Rattle.py_imports.specs.Binds.{terminal_in, Binds, IsBadAt, BindsOrIsBad};
-ghost use Rattle.py_imports.specs.FirstWords.{LacksFirstWords};
+ghost use Rattle.py_imports.specs.Binds.{terminal_in, Binds, BindAll, IsBadAt, BindsOrIsBad};
+ghost use Rattle.py_imports.specs.FirstWords.{BeginNowhere, LacksFirstWords};
 ghost use Rattle.py_imports.specs.declared.action_comment.ActionComment.{ActionComment};
 
 use py_lines::laws::tokens_are_words;
@@ -72,6 +72,16 @@ pub fn lines_without_first_words_bind_nothing()
     ensures word { (line : LogicalLine) → LacksFirstWords line.text
         → list_any (λ t. begins_import (terminal_in line.text t ∷ [])) line.tokens ≡ false }
     ensures none { (line : LogicalLine) → LacksFirstWords line.text → Binds line [] }
+{}
+
+/// A part of a text that lies where neither `import` nor `from` begins lacks both, so the logical lines whose texts it is bind
+/// nothing.
+pub fn lines_between_first_words_bind_nothing()
+    ensures part { (text : List ℕ) (start stop from to : ℕ) → BeginNowhere text start stop
+        → start ≤ from → to ≤ stop → LacksFirstWords (slice_range text from to) }
+    ensures none { (text : List ℕ) (start stop from to : ℕ) (lines : List LogicalLine)
+        → BeginNowhere text start stop → start ≤ from → to ≤ stop
+        → flat_map (λ line. line.text) lines ≡ slice_range text from to → BindAll lines [] }
 {}
 
 /// Two texts with `; ` between them say no action that neither of them says. So what comments say when they are joined, one
