@@ -1,5 +1,7 @@
 //! Tests of py_lines.
+mod made;
 mod passing;
 mod reader;
 mod rows;
 mod scanner;
+mod trial;

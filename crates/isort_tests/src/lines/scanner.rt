@@ -13,7 +13,7 @@ use test_harness::cases::{Case, each_holds_again, page, was_refused};
 const MOST: u64 = 1000;
 
 /// Feeds a short piece. It is fed again where a growth was refused.
-fn feed(alloc: Global, scanner: &mut Scanner, piece: &[u8]) -> Result<usize, LexError>
+pub(crate) fn feed(alloc: Global, scanner: &mut Scanner, piece: &[u8]) -> Result<usize, LexError>
     requires { scanner.old.ended ≡ false }
     ensures taken { IfOk result (λ n. n ≤ length piece.now) }
     ensures ended { scanner.new.ended ≡ scanner.old.ended }
@@ -28,7 +28,7 @@ fn feed(alloc: Global, scanner: &mut Scanner, piece: &[u8]) -> Result<usize, Lex
 }
 
 /// A scanner at the start of a text. It is begun again where a growth was refused.
-fn begun(alloc: Global) -> Result<Scanner, LexError>
+pub(crate) fn begun(alloc: Global) -> Result<Scanner, LexError>
     ensures { IfOk result (λ s. s.ended ≡ false) }
 {
     match Scanner::new(alloc) {
@@ -68,7 +68,7 @@ fn tell_piece(alloc: Global, told: &mut String, scanner: &mut Scanner, piece: &[
 }
 
 /// Ends the text. It is ended again where a growth was refused.
-fn finish(alloc: Global, scanner: &mut Scanner) -> Result<(), LexError>
+pub(crate) fn finish(alloc: Global, scanner: &mut Scanner) -> Result<(), LexError>
     requires { scanner.old.ended ≡ false }
 {
     if scanner.ready().is_some() {
