@@ -19,3 +19,4 @@ pub mod FedHeld
 pub mod FedScanner
 pub mod FinishedHeld
 pub mod ReleasedHeld
+pub mod PassedLines

@@ -3,7 +3,7 @@
 -- these lines. A record of a call (`TakesBytes`, `Releases` ..) says of each such text and lines what is so after the call
 -- (`WhereScans`, `WhereFed`, `WhereWhole`), and then what the state itself has become.
 pub mod View
-use Rattle.std.specs.Prelude.{◌≡◌, ℕ, ◌+◌, ◌<◌, ◌≤◌, ◌⊎◌, Bool, true, false, Option, None, Some, Result, Ok, Err, List, [], ◌∷◌, ◌++◌, length, take, drop}
+use Rattle.std.specs.Prelude.{◌≡◌, ℕ, ◌+◌, ◌<◌, ◌≤◌, ◌⊎◌, Bool, true, false, Option, None, Some, Result, Ok, Err, List, [], ◌∷◌, ◌++◌, flat_map, length, take, drop}
 use Rattle.py_lines.specs.Character.{is_return}
 use Rattle.py_lines.specs.Piece.{ends}
 use Rattle.py_lines.specs.LogicalLine.{LogicalLine}
@@ -155,6 +155,27 @@ pub record Releases (old new : ScannerState) : Type 0 where
   pub none_ready : new.ready ≡ None
   pub ended : new.ended ≡ old.ended
   pub fault : new.fault ≡ old.fault
+
+-- the scanner stands after a line that was released: it holds nothing, and the text goes on
+pub record StandsBetweenLines (s : ScannerState) : Type 0 where
+  pub later : 0 < s.place
+  pub held : s.held ≡ []
+  pub ready : s.ready ≡ None
+  pub open_yet : s.ended ≡ false
+  pub no_fault : s.fault ≡ None
+
+-- Lines were passed over: so many bytes of a piece, which are these logical lines, one after another, and end at this byte of it or
+-- before it. Or none were, and nothing changed.
+pub record PassesPieceLines (old : ScannerState) (piece : List ℕ) (before len : ℕ) (new : ScannerState) : Type 0 where
+  pub lines : List LogicalLine
+  pub texts : flat_map (λ line. line.text) lines ≡ take len piece
+  pub within : len ≤ length piece
+  pub ends : len ≤ before
+  pub between : 0 < len → StandsBetweenLines old
+  pub scans : 0 < len → WhereFed old (take len piece) (λ text given. HasSettled new text (given ++ lines))
+  pub place : new.place ≡ old.place + len
+  pub others : new ≡ record old { place = new.place; line = new.line }
+  pub same : len ≡ 0 → new ≡ old
 
 -- the text ends here: what is left is its last line, if anything is left
 pub record EndsScan (old new : ScannerState) : Type 0 where

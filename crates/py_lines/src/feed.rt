@@ -6,6 +6,7 @@ ghost use Rattle.py_lines.specs.Private.Feed.{TellsHopeless};
 
 use crate::fault::{Fault, FaultKind, LexError};
 use crate::line_state::LineState;
+use crate::outline::simple_lines;
 use crate::scan::Stop;
 use crate::unit::Unit;
 use std::alloc::{AllocError, Global};
@@ -78,8 +79,8 @@ pub struct Feed {
 }
 
 impl Feed {
-    ghost use Rattle.std.specs.Prelude.{◌&&◌, not, true, false, None, Some, Ok, Err, List, [], IsUtf8};
-    ghost use Rattle.py_lines.specs.ScannerState.{begun_at, Finishes};
+    ghost use Rattle.std.specs.Prelude.{◌&&◌, not, IsTrue, true, false, None, Some, Ok, Err, List, [], IsUtf8};
+    ghost use Rattle.py_lines.specs.ScannerState.{begun_at, Finishes, PassesPieceLines, StandsBetweenLines};
     ghost use Rattle.py_lines.specs.ScannerState.View.{ready_of, scanning_of};
     ghost use Rattle.py_lines.specs.UnitLine.{line_in};
     ghost use Rattle.py_lines.specs.Private.Scan.{is_returned};
@@ -379,6 +380,40 @@ impl Feed {
             drop_first(&mut self.held, stop);
         }
         self.state.restart();
+    }
+
+    /// Whether the last line was released, nothing is held since, and the text goes on.
+    fn stands_between_lines(&self) -> bool
+        ensures { IsTrue result → StandsBetweenLines (scanning_of self.now) }
+    {
+        self.state.place > 0
+            && self.held.is_empty()
+            && self.ready.is_none()
+            && !self.ended
+            && self.state.fault.is_none()
+    }
+
+    /// Passes over the logical lines that a piece begins with, as long as they are simple and end at this byte of it or before it: how
+    /// many bytes they have. The text's first line is not passed over, and none is where bytes are held.
+    pub fn pass_lines(&mut self, piece: &[u8], before: usize) -> usize
+        requires sound { IsSoundFeed self.old }
+        requires fits { self.old.state.place + length self.old.held.items + length piece.now
+            ≤ 2 ^ 62 }
+        ensures passes { PassesPieceLines (scanning_of self.old) piece.now before result
+            (scanning_of self.new) }
+        ensures sound { IsSoundFeed self.new }
+    {
+        if !self.stands_between_lines() {
+            return 0;
+        }
+        let lines = simple_lines(&piece[..before.min(piece.len())]);
+        if lines.len == 0 {
+            return 0;
+        }
+        self.state.place += lines.len as u64;
+        self.state.line += lines.line_ends;
+        self.state.restart();
+        lines.len
     }
 
     /// The line that ends where the text does, or the fault that stands there.

@@ -1,6 +1,6 @@
 //! The logical lines of a text that comes in pieces.
 ghost use Rattle.std.specs.Prelude.{◌≡◌, ℕ, ◌+◌, ◌<◌, ◌≤◌, ◌^◌, false, None, Some, IsSome, List, [], length, IfOk, IfErr};
-ghost use Rattle.py_lines.specs.ScannerState.{ScannerState, IsScanning, ScansFrom, begun_at, fed_of, Feeds, Releases, Finishes};
+ghost use Rattle.py_lines.specs.ScannerState.{ScannerState, IsScanning, ScansFrom, begun_at, fed_of, Feeds, Releases, PassesPieceLines, Finishes};
 ghost use Rattle.py_lines.specs.ScannerState.View.{scanning_of};
 ghost use Rattle.py_lines.specs.UnitLine.{line_in};
 ghost use Rattle.py_lines.specs.Private.Feed.{IsSoundFeed};
@@ -88,6 +88,20 @@ impl Scanner {
         ensures releases { Releases self.old self.new }
     {
         self.feed.release();
+    }
+
+    /// Passes over the logical lines (2.1.1) that a piece begins with, without their tokens, one after another, and answers how many
+    /// bytes they have. These are fed and released then. It answers 0 where no line is passed over, and then nothing changed. It takes
+    /// no memory, and is quicker than [`Scanner::feed`].
+    ///
+    /// A line is passed over where it ends at byte `before` of the piece or before it, and is simple: it is ASCII, its strings have no
+    /// fields, and its line ends are LF. Which lines are simple is not promised. None is passed over at the text's start, where bytes
+    /// are held, or once the text has ended or its fault is known.
+    pub fn pass_lines(&mut self, piece: &[u8], before: usize) -> usize
+        requires fits { fed_of self.old + length piece.now ≤ 2 ^ 62 }
+        ensures passes { PassesPieceLines self.old piece.now before result self.new }
+    {
+        self.feed.pass_lines(piece, before)
     }
 
     /// Ends the text: what is left of it is its last line, if anything is left. No line is ready, and `finish` hasn't

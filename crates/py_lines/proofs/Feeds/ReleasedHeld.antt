@@ -25,7 +25,7 @@ ready_from f sound some = go f.ready refl sound.state some
     go (Some n) is stands some = (n, is, stands)
 
 -- what the text goes on with after the first of these bytes
-goes_after : (text : List ℕ) (place : ℕ) (first later : List ℕ) → GoesOnWith text place (first ++ later) → GoesOnWith text (place + length first) later
+pub goes_after : (text : List ℕ) (place : ℕ) (first later : List ℕ) → GoesOnWith text place (first ++ later) → GoesOnWith text (place + length first) later
 goes_after text place first later goes =
     let from_there : first ++ (later ++ drop (length (first ++ later)) (drop place text)) ≡ drop place text = sym (append_assoc first later (drop (length (first ++ later)) (drop place text))) ∙ ap (λ t. t ++ drop (length (first ++ later)) (drop place text)) (sym goes) ∙ take-append-drop (length (first ++ later)) (drop place text) in
     let left : drop (place + length first) text ≡ later ++ drop (length (first ++ later)) (drop place text) = sym (drop-drop (length first) place text) ∙ ap (drop (length first)) (sym from_there) ∙ drop-append_seam first (later ++ drop (length (first ++ later)) (drop place text)) in

@@ -32,10 +32,10 @@ use Rattle.py_lines.proofs.SimpleLines.Lines.{lines_few, lines_low}
 use Rattle.py_lines.proofs.Readers.LineAnswers.{IsReadLine, continues_as}
 
 -- the machine's pieces are the line's
-whole_sound : (read : List ℕ) (n : ℕ) (line : IsWholeLine read n) → IsScanSound (fresh (line.body ++ line.last ∷ [])) read
+pub whole_sound : (read : List ℕ) (n : ℕ) (line : IsWholeLine read n) → IsScanSound (fresh (line.body ++ line.last ∷ [])) read
 whole_sound read n line = sound_steps modes.Free read (fresh (line.body ++ line.last ∷ [])) (begun_sound 1) line.steps
 
-whole_read : (read : List ℕ) (n : ℕ) → 0 < length read → (line : IsWholeLine read n) → IsReadLine (line_start modes.Free) read (line.body ++ line.last ∷ [])
+pub whole_read : (read : List ℕ) (n : ℕ) → 0 < length read → (line : IsWholeLine read n) → IsReadLine (line_start modes.Free) read (line.body ++ line.last ∷ [])
 whole_read read n some line =
     let sound = whole_sound read n line in
     record {
@@ -49,7 +49,7 @@ whole_read read n some line =
     }
 
 -- no mark may stand after the text's start
-first_free : (n : ℕ) → (n ≡ 0 → ⊥) → first_mode n ≡ modes.Free
+pub first_free : (n : ℕ) → (n ≡ 0 → ⊥) → first_mode n ≡ modes.Free
 first_free zero later = absurd (later refl)
 first_free (suc n) later = refl
 
@@ -60,7 +60,7 @@ last_low (b ∷ bs) zero within low = low_is b (and_parts (is_low b) true low).0
 last_low (b ∷ bs) (suc n) within low = last_low bs n (omega (arith, within)) (and_parts (is_low b) (list_all is_low (take (suc n) bs)) low).1
 
 -- the first bytes of a slice
-take_slice : (bytes : List ℕ) (n k : ℕ) → n ≤ length (take k bytes) → take n (take k bytes) ≡ take n bytes
+pub take_slice : (bytes : List ℕ) (n k : ℕ) → n ≤ length (take k bytes) → take n (take k bytes) ≡ take n bytes
 take_slice bytes n k within = sym (take-append-le n (take k bytes) (drop k bytes) within) ∙ ap (take n) (take-append-drop k bytes)
 
 -- bytes after a place are those of the text from there on
