@@ -2,6 +2,7 @@
 pub mod Code
 pub mod Prefixes
 pub mod Strings
+pub mod FieldStrings
 pub mod Comments
 pub mod Joins
 pub mod Lines

@@ -6,8 +6,9 @@ ghost use Rattle.py_lines.specs.Private.Machine.{Bracket};
 ghost use Rattle.py_lines.specs.Private.Outline.{Close, ClosesInnermost, Opens};
 ghost use Rattle.py_lines.specs.Private.Scan.{none_open};
 
-/// How many brackets may be open at once.
-const DEPTH: u8 = 200;
+/// How many brackets may be open at once in a line that is passed over. It is half of what a text may have, so that there is room for
+/// all that a string with fields opens.
+const MAX_DEPTH: u8 = 100;
 
 /// The bracket that closes an opening one.
 fn closer_of(opener: u8) -> u8
@@ -55,7 +56,7 @@ impl Closers {
         ensures opened { IsTrue result → Opens opener self.old self.new }
         ensures same { result ≡ false → self.new ≡ self.old }
     {
-        if self.depth >= DEPTH {
+        if self.depth >= MAX_DEPTH {
             return false;
         }
         self.depth += 1;

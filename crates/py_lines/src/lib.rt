@@ -17,6 +17,7 @@ mod marks;
 mod mode;
 mod outline;
 mod plain_strings;
+mod prefix;
 mod run;
 mod scan;
 mod scanner;

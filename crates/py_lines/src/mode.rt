@@ -150,7 +150,7 @@ impl Spelling {
     }
 
     /// Whether the word spells the prefix of a string.
-    fn is_prefix(self) -> bool
+    pub fn is_prefix(self) -> bool
         ensures { result ≡ begins_string self }
     {
         !matches!(self, Spelling::Number | Spelling::Name)

@@ -1,7 +1,7 @@
 //! The outline of simple lines: where each of them ends, told by what opens and closes alone. No token is made.
 
 ghost use Rattle.std.specs.Prelude.{◌≡◌, ◌<◌, true, IsTrue, length, slice_index};
-ghost use Rattle.py_lines.specs.Character.{is_backslash, is_hash, is_line_feed};
+ghost use Rattle.py_lines.specs.Character.{is_backslash, is_hash, is_line_feed, is_quote};
 ghost use Rattle.py_lines.specs.Private.Marks.{is_of_class};
 ghost use Rattle.py_lines.specs.Private.Outline.{BeginWithLines, IsAt, IsFurther, PassesFirst, PassesPiece};
 
@@ -9,7 +9,9 @@ use crate::class::Class;
 use crate::closers::Closers;
 use crate::marks::Marks;
 use crate::plain_strings::{Passed, plain_string};
+use crate::prefix::Prefix;
 use crate::run::ByteRun;
+use crate::whole_strings::quoted_text_len;
 
 /// Passes the comment that the bytes begin with, up to LF, where it is ASCII.
 fn comment(bytes: &[u8]) -> Option<Passed>
@@ -41,6 +43,23 @@ fn join(bytes: &[u8]) -> Option<Passed>
     }
 }
 
+/// Passes the string whose first quote stands at this byte, where it is simple: one with fields is short.
+fn string(bytes: &[u8], at: usize) -> Option<Passed>
+    requires within { at < length bytes.now }
+    requires quote { is_quote (slice_index bytes.now at) ≡ true }
+    ensures { PassesPiece bytes.now at result }
+{
+    let rest = &bytes[at..];
+    match Prefix::before(bytes, at) {
+        Prefix::Plain => plain_string(rest),
+        Prefix::Fields => {
+            let len = quoted_text_len(rest)?;
+            Some(Passed { len, line_ends: 0 })
+        }
+        Prefix::Other => None,
+    }
+}
+
 /// Passes the comment, the join or the string that begins at this byte.
 fn piece(bytes: &[u8], class: Class, at: usize) -> Option<Passed>
     requires within { at < length bytes.now }
@@ -50,7 +69,7 @@ fn piece(bytes: &[u8], class: Class, at: usize) -> Option<Passed>
     match class {
         Class::Hash => comment(&bytes[at..]),
         Class::Backslash => join(&bytes[at..]),
-        Class::Quote => plain_string(bytes, at),
+        Class::Quote => string(bytes, at),
         _ => None,
     }
 }
@@ -123,8 +142,8 @@ impl Outline {
     }
 }
 
-/// The logical lines that the bytes begin with, as long as they are simple: words, operators, comments, joins, and strings without
-/// fields, of ASCII, and LF. No line is open before the bytes, and no bracket.
+/// The logical lines that the bytes begin with, as long as they are simple: words, operators, comments, joins and strings, of ASCII,
+/// and LF. No line is open before the bytes, and no bracket.
 pub fn simple_lines(bytes: &[u8]) -> Passed
     ensures { BeginWithLines bytes.now result }
 {

@@ -1,12 +1,10 @@
 //! Strings without fields that bytes hold whole, where they are simple: they are passed over.
 
-ghost use Rattle.std.specs.Prelude.{◌≡◌, ◌<◌, true, IsTrue, Some, length, slice_index, take};
+ghost use Rattle.std.specs.Prelude.{◌≡◌, ◌<◌, true, IsTrue, length, slice_index};
 ghost use Rattle.py_lines.specs.Character.{is_quote};
-ghost use Rattle.py_lines.specs.Private.Machine.{first_spelling, spelling_with};
-ghost use Rattle.py_lines.specs.Private.Outline.{BeginsLong, HasEscape, HasString, IsInLong, PassesOrNot, PassesPiece};
-ghost use Rattle.py_lines.specs.Private.Outline.{is_plain_prefix, tail_of};
+ghost use Rattle.py_lines.specs.Private.Outline.{BeginsLong, HasEscape, HasString, IsInLong, PassesOrNot};
 
-use crate::run::{ByteRun, is_ascii_word, is_text_byte};
+use crate::run::{ByteRun, is_text_byte};
 
 /// Bytes that were passed.
 #[derive(Clone, Copy)]
@@ -15,40 +13,6 @@ pub struct Passed {
     pub len: usize,
     /// How many line ends they hold.
     pub line_ends: u64,
-}
-
-/// Whether the byte alone is the prefix of a string without fields (Python Language Reference, 2.4.1).
-#[tactic(auto, unfolding(crate::specs::Private::Machine::first_spelling, crate::specs::Private::Machine::spelling_with, crate::specs::Character::is_digit, crate::specs::Character::is_r, crate::specs::Character::is_b, crate::specs::Character::is_f, crate::specs::Character::is_t, crate::specs::Character::is_u))]
-fn is_prefix(b: u8) -> bool
-    ensures { IsTrue result → is_plain_prefix (Some (first_spelling b)) ≡ true }
-{
-    matches!(b, b'r' | b'R' | b'b' | b'B' | b'u' | b'U')
-}
-
-/// Whether the two bytes are such a prefix.
-#[tactic(auto, unfolding(crate::specs::Private::Machine::first_spelling, crate::specs::Private::Machine::spelling_with, crate::specs::Character::is_digit, crate::specs::Character::is_r, crate::specs::Character::is_b, crate::specs::Character::is_f, crate::specs::Character::is_t, crate::specs::Character::is_u))]
-fn are_prefix(first: u8, second: u8) -> bool
-    ensures { IsTrue result → is_plain_prefix (Some (spelling_with (first_spelling first) second)) ≡ true }
-{
-    match first {
-        b'r' | b'R' => matches!(second, b'b' | b'B'),
-        b'b' | b'B' => matches!(second, b'r' | b'R'),
-        _ => false,
-    }
-}
-
-/// Whether the word that ends at this byte, if there is one, is the prefix of a string without fields.
-fn follows_prefix(bytes: &[u8], at: usize) -> bool
-    requires { at < length bytes.now }
-    ensures { IsTrue result → is_plain_prefix (tail_of (take at bytes.now)) ≡ true }
-{
-    if at == 0 || !is_ascii_word(bytes[at - 1]) {
-        return true;
-    }
-    if at == 1 || !is_ascii_word(bytes[at - 2]) {
-        return is_prefix(bytes[at - 1]);
-    }
-    (at == 2 || !is_ascii_word(bytes[at - 3])) && are_prefix(bytes[at - 2], bytes[at - 1])
 }
 
 /// Passes the backslash that the bytes begin with, and the byte that it escapes.
@@ -145,28 +109,24 @@ fn long_string(bytes: &[u8]) -> Option<Passed>
     }
 }
 
-/// The string whose first quote stands at this byte, where it has no fields, and is ASCII without CR.
-pub fn plain_string(bytes: &[u8], at: usize) -> Option<Passed>
-    requires within { at < length bytes.now }
-    requires quote { is_quote (slice_index bytes.now at) ≡ true }
-    ensures { PassesPiece bytes.now at result }
+/// The string that the bytes begin with by its first quote, where it has no fields, and is ASCII without CR.
+pub fn plain_string(bytes: &[u8]) -> Option<Passed>
+    requires some { 0 < length bytes.now }
+    requires quote { is_quote (slice_index bytes.now 0) ≡ true }
+    ensures { HasString bytes.now result }
 {
-    if !follows_prefix(bytes, at) {
+    if bytes.len() < 3 {
         return None;
     }
-    let rest = &bytes[at..];
-    if rest.len() < 3 {
-        return None;
-    }
-    let quote = rest[0];
-    if rest[1] != quote {
-        short_string(rest)
-    } else if rest[2] != quote {
+    let quote = bytes[0];
+    if bytes[1] != quote {
+        short_string(bytes)
+    } else if bytes[2] != quote {
         Some(Passed {
             len: 2,
             line_ends: 0,
         })
     } else {
-        long_string(rest)
+        long_string(bytes)
     }
 }

@@ -1,13 +1,13 @@
 //! Strings that bytes hold whole, where they are short and simple: the machine need not go through them.
 
-ghost use Rattle.std.specs.Prelude.{◌≡◌, ◌==◌, false, true};
+ghost use Rattle.std.specs.Prelude.{◌≡◌, ◌<◌, ◌==◌, false, true, length, slice_index};
 ghost use Rattle.std.specs.Str.{byte};
 ghost use Rattle.py_lines.specs.FieldStrings.{begins_open};
 ghost use Rattle.py_lines.specs.Character.{is_quote};
 ghost use Rattle.py_lines.specs.Piece.{begins};
 ghost use Rattle.py_lines.specs.Private.Run.{BeginsPlainString, HasWholePlainString};
 ghost use Rattle.py_lines.specs.Private.FieldText.{HasSimpleCode, HasBracketed, HasCode, HasField, HasPart};
-ghost use Rattle.py_lines.specs.Private.FieldText.{HasPrefixOrNot, HasSpecification, HasText, HasWholeStringWithFields};
+ghost use Rattle.py_lines.specs.Private.FieldText.{HasPrefixOrNot, HasQuotedText, HasSpecification, HasText, HasWholeStringWithFields};
 ghost use Rattle.py_lines.specs.Private.FieldText.{is_code_bracket, is_escaped};
 
 use crate::brackets::closing_of;
@@ -163,6 +163,22 @@ pub fn text_len(quote: u8, bytes: &[u8]) -> usize
     len
 }
 
+/// How many bytes a short string with fields has from its first quote on, with which the bytes begin, where it holds something and its
+/// text is simple.
+pub fn quoted_text_len(bytes: &[u8]) -> Option<usize>
+    requires some { 0 < length bytes.now }
+    requires quote { is_quote (slice_index bytes.now 0) ≡ true }
+    ensures { HasQuotedText bytes.now result }
+{
+    let quote = bytes[0];
+    let text = &bytes[1..];
+    let len = text_len(quote, text);
+    if len == 0 || len == text.len() || text[len] != quote {
+        return None;
+    }
+    Some(len + 2)
+}
+
 /// How many bytes the prefix has that a string with fields begins with.
 #[inline(always)]
 fn prefix_len(bytes: &[u8]) -> Option<usize>
@@ -189,11 +205,6 @@ pub fn whole_string_with_fields(bytes: &[u8]) -> Option<usize>
     ensures { HasWholeStringWithFields bytes.now result }
 {
     let prefix = prefix_len(bytes)?;
-    let quote = bytes[prefix];
-    let text = &bytes[prefix + 1..];
-    let len = text_len(quote, text);
-    if len == 0 || len == text.len() || text[len] != quote {
-        return None;
-    }
-    Some(prefix + len + 2)
+    let len = quoted_text_len(&bytes[prefix..])?;
+    Some(prefix + len)
 }

@@ -2,7 +2,7 @@
 use Rattle.std.proofs.Common.{◌≡◌, ℕ, zero, suc, ◌+◌, ◌-◌, ◌<◌, ◌≤◌, ◌⊎◌, inl, inr, ⊎_elim, append_assoc, length-append, Bool, true, false, ◌==◌, List, [], ◌∷◌, ◌++◌, length, take, drop, slice_index, refl, sym, ap, ◌∙◌, subst, arith, take_all, length-drop}
 use Rattle.std.specs.List.{list_all}
 use Rattle.std.proofs.lemmas.Bool.{both_ways, eqb-true, or_cases}
-use Rattle.std.proofs.lemmas.List.{length-take-le, get_or-drop}
+use Rattle.std.proofs.lemmas.List.{length-take-le, get_or-drop, take-append-drop}
 use Rattle.std.proofs.Math.Seq.{take-add, take-append_seam}
 use Rattle.py_lines.specs.Piece.{begins}
 use Rattle.py_lines.specs.Balance.{closing_of}
@@ -12,7 +12,7 @@ use Rattle.py_lines.specs.Private.Machine.{IsFull}
 use Rattle.py_lines.specs.Private.ScanMachine.{is_field_spelling}
 use Rattle.py_lines.proofs.ScanMachine.Spellings.{word_tells}
 use Rattle.py_lines.specs.Private.FieldMachine.{Level, FieldScanned}
-use Rattle.py_lines.specs.Private.FieldText.{AtBrace, AtCode, HasSimpleCode, InCode, AtSpecification, InText, IsWholeStringWithFields, HasPrefix, HasText, Leads, LeadsAlways, LeadsBy, is_code_bracket, is_escaped}
+use Rattle.py_lines.specs.Private.FieldText.{AtBrace, AtCode, HasSimpleCode, InCode, AtSpecification, InText, IsQuotedText, IsWholeStringWithFields, HasPrefix, HasText, Leads, LeadsAlways, LeadsBy, is_code_bracket, is_escaped}
 use Rattle.py_lines.specs.Private.Run.{BeginsPlainString, IsRunOf, IsWholePlainString, is_ascii_word, is_code_byte, is_code_sign, is_literal_byte, word_spelling}
 use Rattle.py_lines.proofs.LineScan.ShortPieces.{all_pass, full_take, split_at, text_size}
 use Rattle.py_lines.proofs.FieldScans.Texts.{escape_leads, leads_from_code, sign_leads, string_leads, brace_leads, closing_leads, code_after, codes_lead, field_ends, leads-append, leads-none, open_leads, opening_leads, specification_begins, specification_ends, specifications_lead, texts_lead, two_lead}
@@ -287,25 +287,34 @@ prefix_of bytes n some within spells quotes = record {
   quote = quotes;
 }
 
--- a whole string
-pub whole_fields : (bytes : List ℕ) (prefix n : ℕ) → HasPrefix bytes prefix → HasText (slice_index bytes prefix) (drop (prefix + 1) bytes) n → 0 < n → prefix + 1 + n < length bytes → slice_index bytes (prefix + 1 + n) ≡ slice_index bytes prefix → IsWholeStringWithFields bytes (prefix + n + 2)
-whole_fields bytes prefix n is text some within closes =
-    let q = slice_index bytes prefix in
-    let body = drop (prefix + 1) bytes in
-    let size : length body ≡ length bytes - (prefix + 1) = length-drop (prefix + 1) bytes in
-    let inner : n < length body = omega (arith, within, size) in
-    let place : prefix + 1 ≡ suc prefix = omega arith in
-    let next : take prefix bytes ++ q ∷ drop (prefix + 1) bytes ≡ take prefix bytes ++ q ∷ drop (suc prefix) bytes = ap (λ (k : ℕ). take prefix bytes ++ q ∷ drop k bytes) place in
+-- a whole string from its first quote on
+pub quoted_text : (bytes : List ℕ) (n : ℕ) → is_quote (slice_index bytes 0) ≡ true → HasText (slice_index bytes 0) (drop 1 bytes) n → 0 < n → 1 + n < length bytes → slice_index bytes (1 + n) ≡ slice_index bytes 0 → IsQuotedText bytes (n + 2)
+quoted_text [] n quotes text some within closes = absurd (omega (arith, within))
+quoted_text (q ∷ body) n quotes text some within closes =
+    let inner : n < length body = omega (arith, within) in
+    let last : slice_index body n ≡ q = later (q ∷ body) 1 n ∙ closes in
     record {
-      prefix = take prefix bytes;
       q = q;
       run = take n body;
       after = drop (suc n) body;
-      spell = ap (λ (c : ℕ). take prefix bytes ++ q ∷ (take n body ++ c ∷ drop (suc n) body)) (sym closes ∙ sym (later bytes (prefix + 1) n))
-          ∙ ap (λ t. take prefix bytes ++ q ∷ t) (split_at body n inner) ∙ next ∙ split_at bytes prefix (omega (arith, is.within));
-      size = omega (arith, length-take-le prefix bytes (omega (arith, is.within)), length-take-le n body text.0);
-      begun = is.begun;
-      quote = is.quote;
+      spell = ap (λ (c : ℕ). q ∷ (take n body ++ c ∷ drop (suc n) body)) (sym last) ∙ ap (λ t. q ∷ t) (split_at body n inner);
+      size = omega (arith, length-take-le n body text.0);
+      quote = quotes;
       full = full_take body n some inner;
       text = text.1;
     }
+
+-- and with its prefix
+pub whole_fields : (bytes : List ℕ) (prefix len : ℕ) → HasPrefix bytes prefix → IsQuotedText (drop prefix bytes) len → IsWholeStringWithFields bytes (prefix + len)
+whole_fields bytes prefix len is quoted = record {
+  prefix = take prefix bytes;
+  q = quoted.q;
+  run = quoted.run;
+  after = quoted.after;
+  spell = ap (λ t. take prefix bytes ++ t) quoted.spell ∙ take-append-drop prefix bytes;
+  size = omega (arith, length-take-le prefix bytes (omega (arith, is.within)), quoted.size);
+  begun = is.begun;
+  quote = quoted.quote;
+  full = quoted.full;
+  text = quoted.text;
+}

@@ -86,7 +86,7 @@ unfolding field_move body_move between_move
 quote_closes host held short = rw (eq-eqb host.quote host.quote refl, short) refl
 
 -- the string's own state where nothing is read of its body
-abbrev at_body : Host → List ℕ → FieldScanned
+abbrev pub at_body : Host → List ℕ → FieldScanned
 at_body host held = field_state [] [] [] (body host literal false between) held
 
 -- the machine goes through a string from its first character, after finished pieces
@@ -106,12 +106,14 @@ module _ (done : List Piece) (few : depth_through 0 done ≤ 100) (c : ℕ) (cs 
   field : is_field_spelling s ≡ true
   field = sym (word_tells c cs).0 ∙ begun
 
-  to_quote : (after : List ℕ) → scan_steps (Some (scanned done (modes.Word (first_spelling c)) (c ∷ []))) (cs ++ q ∷ after) ≡ scan_steps (Some (scanned done (modes.FieldOpened h) opening)) after
+  to_quote : (after : List ℕ) → scan_steps (Some (scanned done (modes.Word (first_spelling c)) (c ∷ []))) (cs ++ after) ≡ scan_steps (Some (scanned done (modes.Word s) prefix)) after
   to_quote after =
       let letters_are = and_parts (is_word_character c) (list_all is_word_character cs) (field_letters prefix begun).all in
-      steps_by-append move_at (Some (scanned done (modes.Word (first_spelling c)) (c ∷ []))) cs (q ∷ after)
-      ∙ ap (λ o. scan_steps o (q ∷ after)) (word_by move_at done (λ t held. grow-word t) (first_spelling c) (c ∷ []) cs letters_are.1)
-      ∙ grown_by move_at done (modes.Word s) (modes.FieldOpened h) prefix q after (quote_opens s q field quotes)
+      steps_by-append move_at (Some (scanned done (modes.Word (first_spelling c)) (c ∷ []))) cs after
+      ∙ ap (λ o. scan_steps o after) (word_by move_at done (λ t held. grow-word t) (first_spelling c) (c ∷ []) cs letters_are.1)
+
+  over_quote : (after : List ℕ) → scan_steps (Some (scanned done (modes.Word s) prefix)) (q ∷ after) ≡ scan_steps (Some (scanned done (modes.FieldOpened h) opening)) after
+  over_quote after = grown_by move_at done (modes.Word s) (modes.FieldOpened h) prefix q after (quote_opens s q field quotes)
 
   opened_state : string_state opening ≡ Some (field_state [] [] [] (spots.opened (host_in h)) opening)
   opened_state =
@@ -159,8 +161,12 @@ module _ (done : List Piece) (few : depth_through 0 done ≤ 100) (c : ℕ) (cs 
         (comes_closed 0 depth (at_body (host_in h) text) q closes (quote_closes (host_in h) text refl) refl refl (room_closes (depth + frames (at_body (host_in h) text)) q)) in
         ap (moved (scanned done modes.Fielded held) q) (ap (λ o. fielded_move depth o q) (to_end []).1 ∙ closed_so)
 
-    pub string_steps : scan_steps (Some (scanned done (modes.Word (first_spelling c)) (c ∷ []))) (cs ++ q ∷ ((d ∷ ds) ++ q ∷ [])) ≡ Some (fresh (done ++ piece string (held ++ q ∷ []) ∷ []))
-    string_steps = to_quote ((d ∷ ds) ++ q ∷ []) ∙ (to_end (q ∷ [])).0 ∙ ap (λ o. scan_steps o []) closes_string
+    -- from the end of its prefix
+    pub quoted_steps : scan_steps (Some (scanned done (modes.Word s) prefix)) (q ∷ ((d ∷ ds) ++ q ∷ [])) ≡ Some (fresh (done ++ piece string (held ++ q ∷ []) ∷ []))
+    quoted_steps = over_quote ((d ∷ ds) ++ q ∷ []) ∙ (to_end (q ∷ [])).0 ∙ ap (λ o. scan_steps o []) closes_string
+
+    string_steps : scan_steps (Some (scanned done (modes.Word (first_spelling c)) (c ∷ []))) (cs ++ q ∷ ((d ∷ ds) ++ q ∷ [])) ≡ Some (fresh (done ++ piece string (held ++ q ∷ []) ∷ []))
+    string_steps = to_quote (q ∷ ((d ∷ ds) ++ q ∷ [])) ∙ quoted_steps
 
 -- it is a piece after the closed ones
 module _ (m : Mode) (at : ℕ) (text : List ℕ) (scan new : Scan) (c : ℕ) (cs : List ℕ) (q : ℕ) (run after : List ℕ) (len : ℕ) (start : IsScanSound (line_start m) []) (meet : MeetsPiece m at text scan c (cs ++ q ∷ (run ++ q ∷ after))) (begun : is_field_prefix (c ∷ cs) ≡ true) (quotes : is_quote q ≡ true) (few : depth_of scan.brackets ≤ 100) (adds : AddsToken scan kind.Str len new) where

@@ -1,5 +1,5 @@
 -- Code is passed over: the machine goes through its words, spaces, operators and brackets, up to LF.
-use Rattle.std.proofs.Common.{◌≡◌, ℕ, ◌+◌, ◌<◌, ◌⊎◌, inl, inr, Bool, true, false, not, Option, None, Some, List, [], ◌∷◌, ◌++◌, length, refl, sym, ap, ◌∙◌, subst, append_assoc, append-nil, arith, lit<}
+use Rattle.std.proofs.Common.{◌≡◌, ℕ, ◌+◌, ◌<◌, ◌⊎◌, inl, inr, Bool, true, false, not, ◌||◌, Option, None, Some, List, [], ◌∷◌, ◌++◌, length, refl, sym, ap, ◌∙◌, subst, append_assoc, append-nil, arith, lit<}
 use Rattle.std.specs.Prelude.{codes}
 use Rattle.std.specs.List.{list_all}
 use Rattle.std.proofs.lemmas.Bool.{and_from, and_parts, both_ways}
@@ -66,7 +66,7 @@ pub feed-no-word : is_ascii_word 10 ≡ false
 unfolding is_ascii_word
 feed-no-word = refl
 
-feed-not-quote : is_quote 10 ≡ false
+pub feed-not-quote : is_quote 10 ≡ false
 unfolding is_quote
 feed-not-quote = refl
 
@@ -104,7 +104,7 @@ holds_feed read n holds =
     }
 
 -- where the machine has come, it is sound
-come_sound : (read : List ℕ) (n : ℕ) (st : List Bracket) (s : Scanned) → HasCome read n st s → IsScanSound s read
+pub come_sound : (read : List ℕ) (n : ℕ) (st : List Bracket) (s : Scanned) → HasCome read n st s → IsScanSound s read
 come_sound read n st s come = sound_steps modes.Free read s (begun_sound 1) come.steps
 
 -- the pieces where the open one is closed
@@ -229,6 +229,11 @@ feed_passed read n (b ∷ bs) on =
       tail = apart_tail (tail_of (read ++ 10 ∷ [])) modes.Free refl (no_tail read 10 feed-no-word);
     }
 
+-- a byte that begins neither a word nor a string
+pub neither : (a b : Bool) → a ≡ false → b ≡ false → a || b ≡ false
+neither true b none other = absurd (both_ways _ none refl)
+neither false b none other = other
+
 -- what code ends before
 pub code_ends : (read : List ℕ) (n : ℕ) (st : List Bracket) (c : ℕ) → GoesOnAfter read n st → is_word_character c ≡ false → is_quote c ≡ false → is_space c ≡ false → is_ascii_word c ≡ false → EndsBefore c read n st
 code_ends read n st c on word quote space none =
@@ -238,7 +243,7 @@ code_ends read n st c on word quote space none =
       come = on.come;
       breaks = code_breaks on.state.mode c code word quote space;
       other = code_other on.state.mode code;
-      tail = λ is. absurd (both_ways _ none is);
+      tail = λ is. absurd (both_ways _ (neither _ _ none quote) is);
     }
 
 feed-not-word : is_word_character 10 ≡ false
@@ -332,7 +337,7 @@ space_begins read n st done m held come code c is breaks = space_opens read n st
   come = come;
   breaks = breaks;
   other = code_other m code;
-  tail = λ word. absurd (both_ways _ (space-no-word c is) word);
+  tail = λ begins. absurd (both_ways _ (neither _ _ (space-no-word c is) (space-not-quote c is)) begins);
 })
 
 space_passed : (read : List ℕ) (n : ℕ) (st : List Bracket) (done : List Piece) (m : Mode) (held : List ℕ) → HasCome read n st (scanned done m held) → is_code_mode m ≡ true → (c : ℕ) → is_space c ≡ true → GoesOnAfter (read ++ c ∷ []) n st
@@ -360,7 +365,7 @@ code_passed read n st c (inr (inl space)) on = space_passed read n st on.state.d
 code_passed read n st c (inr (inr (stands, opens, closes))) on = operator_passed read n st c (operator_ends read n st c stands on) st stands (keeps_at st (length read) c opens closes)
 
 code_begins : (read : List ℕ) (n : ℕ) (st : List Bracket) (c : ℕ) → IsCodeByte c → EndsBefore c read n st → GoesOnAfter (read ++ c ∷ []) n st
-code_begins read n st c (inl word) on = word_opens read n st c word (on.tail word) on
+code_begins read n st c (inl word) on = word_opens read n st c word (on.tail (rw word refl)) on
 code_begins read n st c (inr (inl space)) on = space_opens read n st c space on
 code_begins read n st c (inr (inr (stands, opens, closes))) on = operator_passed read n st c on st stands (keeps_at st (length read) c opens closes)
 

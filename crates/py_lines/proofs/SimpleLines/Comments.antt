@@ -15,7 +15,7 @@ use Rattle.py_lines.proofs.LineScan.Comments.{hash_is}
 use Rattle.py_lines.proofs.LineScan.LineSteps.{steps_push}
 use Rattle.py_lines.proofs.LineScan.Runs.{word_byte_continues}
 use Rattle.py_lines.proofs.LineScan.ShortPieces.{all_pass}
-use Rattle.py_lines.proofs.SimpleLines.Code.{code_ends, ends_so, feed-no-word, holds_one, opens, pieces}
+use Rattle.py_lines.proofs.SimpleLines.Code.{code_ends, ends_so, feed-no-word, feed-not-quote, holds_one, neither, opens, pieces}
 
 hash-no-word : is_ascii_word 35 ≡ false
 unfolding is_ascii_word
@@ -89,7 +89,7 @@ comment_ends read n st on = record {
   come = on.come;
   breaks = comment_breaks;
   other = λ is. cc;
-  tail = λ word. absurd (both_ways _ feed-no-word word);
+  tail = λ begins. absurd (both_ways _ (neither _ _ feed-no-word feed-not-quote) begins);
 }
 
 comment_leads : (cs : List ℕ) (k : ℕ) (read : List ℕ) (n : ℕ) (st : List Bracket) → list_all is_remark_byte (take k cs) ≡ true → k < length cs → slice_index cs k ≡ 10

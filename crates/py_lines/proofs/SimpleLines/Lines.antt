@@ -178,8 +178,8 @@ module _ (bytes : List ℕ) where
       (operator_passed read more st c (ends_so read (drop (at + 1) bytes) more st c (operator_ends read more st c is) (here lines at more st within on)) after is stands_so)))))
 
   -- over a piece
-  pub piece_on : (lines : Passed) (at n : ℕ) (st : List Bracket) (p : Passed) → HasComeTo bytes lines at n st → PassesPiece bytes at (Some p) → HasComeTo bytes lines (at + p.len) (n + p.line_ends) st
-  piece_on lines at n st p come (room, passes) = step lines at n p.len p.line_ends st st come room (λ more on. passes.part.leads (line_up_to bytes lines at) more st (same_tail lines at n st come, on))
+  pub piece_on : (lines : Passed) (at n : ℕ) (st : List Bracket) (p : Passed) → length st ≤ 100 → HasComeTo bytes lines at n st → PassesPiece bytes at (Some p) → HasComeTo bytes lines (at + p.len) (n + p.line_ends) st
+  piece_on lines at n st p few come (room, passes) = step lines at n p.len p.line_ends st st come room (λ more on. passes.part.leads (line_up_to bytes lines at) more st (same_tail lines at n st come, few, on))
 
   -- over LF: the line goes on where a bracket is open, and ends where none is
   feed_step : (lines : Passed) (at n : ℕ) (st : List Bracket) (come : HasComeTo bytes lines at n st) → at < length bytes → slice_index bytes at ≡ 10 → IsAfterFeed st (line_up_to bytes lines (at + 1)) (come.more + 1)
@@ -254,7 +254,7 @@ others_close closers (b ∷ bs) k c less are = (
   others_close closers bs k c (omega (arith, less)) are.1,
 )
 
-pub closer_opens : (old new : Closers) (opener : ℕ) → old.depth < 200 → new.depth ≡ old.depth + 1 → new.closers ≡ slice_set old.closers (old.depth + 1) (closing_of opener) → Opens opener old new
+pub closer_opens : (old new : Closers) (opener : ℕ) → old.depth < 100 → new.depth ≡ old.depth + 1 → new.closers ≡ slice_set old.closers (old.depth + 1) (closing_of opener) → Opens opener old new
 closer_opens old new opener room deeper set_so st close =
     let depth = close.depth in (
       omega (arith, room, depth),
@@ -351,7 +351,7 @@ module _ (bytes : List ℕ) (at : ℕ) (o : Outline) (on : IsAt bytes at o) (wit
         on = record {
           st = after;
           close = room.1 place;
-          come = bracket_on bytes o.lines at o.line_ends on.st after on.come within (opening_operator c is) (opens_at on.st place c is room.0);
+          come = bracket_on bytes o.lines at o.line_ends on.st after on.come within (opening_operator c is) (opens_at on.st place c is (omega (arith, room.0)));
           marked = on.marked within;
         };
       }
@@ -378,12 +378,12 @@ module _ (bytes : List ℕ) (at : ℕ) (o : Outline) (on : IsAt bytes at o) (wit
       record {
         from = at + p.len;
         further = omega (arith, some);
-        on = record { st = on.st; close = on.close; come = piece_on bytes o.lines at o.line_ends on.st p on.come passes; marked = pass (at + 1) (on.marked within) (omega (arith, some)) };
+        on = record { st = on.st; close = on.close; come = piece_on bytes o.lines at o.line_ends on.st p on.close.room on.come passes; marked = pass (at + 1) (on.marked within) (omega (arith, some)) };
       }
 
   pub piece_few : (p : Passed) → PassesPiece bytes at (Some p) → o.line_ends + p.line_ends ≤ length bytes
   piece_few p passes =
-      let few = few_ends bytes o.lines (at + p.len) (o.line_ends + p.line_ends) on.st (piece_on bytes o.lines at o.line_ends on.st p on.come passes) in
+      let few = few_ends bytes o.lines (at + p.len) (o.line_ends + p.line_ends) on.st (piece_on bytes o.lines at o.line_ends on.st p on.close.room on.come passes) in
       omega (arith, few, passes.0)
 
   pub own_few : o.line_ends ≤ at

@@ -1,10 +1,12 @@
 -- The word that bytes end with, told by the last three of them.
-use Rattle.std.proofs.Common.{take-suc, ◌≡◌, ℕ, suc, ◌-◌, ◌<◌, ◌≤◌, true, false, None, Some, List, length, take, slice_index, refl, sym, ap, ◌∙◌, arith, zero, ◌⊎◌, inl, inr, ⊎_elim}
+use Rattle.std.proofs.Common.{take-suc, ◌≡◌, ℕ, suc, ◌+◌, ◌-◌, ◌<◌, ◌≤◌, true, false, None, Some, List, length, take, drop, slice_index, refl, sym, ap, ◌∙◌, arith, zero, ◌⊎◌, inl, inr, ⊎_elim, length-drop}
 use Rattle.py_lines.specs.declared.mode.Spelling.{Spelling}
 use Rattle.py_lines.specs.Private.Machine.{first_spelling, spelling_with}
-use Rattle.py_lines.specs.Private.Run.{is_ascii_word}
+use Rattle.py_lines.specs.Private.Run.{is_ascii_word, word_spelling}
 use Rattle.py_lines.specs.Private.Outline.{tail_of, tail_with}
+use Rattle.py_lines.proofs.FieldScans.TextLengths.{later}
 use Rattle.py_lines.proofs.SimpleLines.Code.{no_tail_with, tail_push}
+use Rattle.py_lines.proofs.SimpleLines.Strings.{taken_one, taken_two}
 
 tail_after : (bytes : List ℕ) (at : ℕ) → 0 < at → at ≤ length bytes → tail_of (take at bytes) ≡ tail_with (tail_of (take (at - 1) bytes)) (slice_index bytes (at - 1))
 tail_after bytes at some within =
@@ -55,3 +57,22 @@ second_before bytes at j k within some word is before is_third none =
   where
     same : at - 1 - 1 ≡ j
     same = omega (arith, is)
+
+-- what is spelled by the one byte before this byte, as a slice has it, and by the two
+pub one_byte : (bytes : List ℕ) (at : ℕ) → 0 < at → at < length bytes → word_spelling (take (at - (at - 1)) (drop (at - 1) bytes)) ≡ first_spelling (slice_index bytes (at - 1))
+one_byte bytes at some within =
+    let k = at - 1 in
+    let one : at - k ≡ 1 = omega (arith, some) in
+    let here : k + 0 ≡ k = omega arith in
+    ap word_spelling (ap (λ (n : ℕ). take n (drop k bytes)) one ∙ taken_one (drop k bytes) (omega (arith, within, some, length-drop k bytes)))
+    ∙ ap first_spelling (later bytes k 0 ∙ ap (λ (i : ℕ). slice_index bytes i) here)
+
+pub two_bytes : (bytes : List ℕ) (at : ℕ) → 1 < at → at < length bytes → word_spelling (take (at - (at - 2)) (drop (at - 2) bytes)) ≡ spelling_with (first_spelling (slice_index bytes (at - 2))) (slice_index bytes (at - 1))
+two_bytes bytes at some within =
+    let k = at - 2 in
+    let two : at - k ≡ 2 = omega (arith, some) in
+    let here : k + 0 ≡ k = omega arith in
+    let next : k + 1 ≡ at - 1 = omega (arith, some) in
+    ap word_spelling (ap (λ (n : ℕ). take n (drop k bytes)) two ∙ taken_two (drop k bytes) (omega (arith, within, some, length-drop k bytes)))
+    ∙ ap (λ (a : ℕ). spelling_with (first_spelling a) (slice_index (drop k bytes) 1)) (later bytes k 0 ∙ ap (λ (i : ℕ). slice_index bytes i) here)
+    ∙ ap (λ (b : ℕ). spelling_with (first_spelling (slice_index bytes k)) b) (later bytes k 1 ∙ ap (λ (i : ℕ). slice_index bytes i) next)

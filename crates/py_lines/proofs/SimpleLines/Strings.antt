@@ -229,21 +229,21 @@ module _ (q : ℕ) (quote : is_quote q ≡ true) where
     come = opens read n st q on (modes.Opened q) (start-quote q quote) (quote_held read n on.come.holds);
   }
 
-  after_tail : (read : List ℕ) (n : ℕ) (st : List Bracket) (t : Option Spelling) → (on : GoesOnAfter read n st) → IsTail t on.state.mode → is_plain_prefix t ≡ true → StringBegins q read n st
-  after_tail read n st None on apart plain =
+  after_tail : (read : List ℕ) (n : ℕ) (st : List Bracket) (t : Option Spelling) → tail_of read ≡ t → (on : GoesOnAfter read n st) → IsTail t on.state.mode → is_plain_prefix t ≡ true → StringBegins q read n st
+  after_tail read n st None none on apart plain =
       opened read n st (record {
         state = on.state;
         come = on.come;
         breaks = apart_breaks on.state.mode q apart (quote-not-space q quote);
         other = code_other on.state.mode (tail_code None on.state.mode apart);
-        tail = λ is. absurd (both_ways _ (quote-no-word q quote) is);
+        tail = λ _. none;
       })
-  after_tail read n st (Some s) on is plain =
+  after_tail read n st (Some s) some on is plain =
       let in_word : IsInPiece (modes.Word s) read n st = subst (λ (m : Mode). IsInPiece m read n st) is (record { done = on.state.done; held = on.state.held; come = on.come }) in
       grows (modes.Word s) (modes.Opened q) q n read n st (λ w. ap (moved (scanned w.done (modes.Word s) w.held) q) (prefix_quote s q quote plain)) (quote_held read n on.come.holds) in_word
 
   pub string_begins : (rest read : List ℕ) (n : ℕ) (st : List Bracket) → is_plain_prefix (tail_of read) ≡ true → StandsBefore (q ∷ rest) read n st → StringBegins q read n st
-  string_begins rest read n st plain (inl on) = after_tail read n st (tail_of read) on on.tail plain
+  string_begins rest read n st plain (inl on) = after_tail read n st (tail_of read) refl on on.tail plain
   string_begins rest read n st plain (inr on) = opened read n st on
 
   -- it is closed
@@ -526,19 +526,9 @@ string_at bytes at (Some p) within quote plain has =
           within = room;
           leads = λ read n st on.
               let q = slice_index bytes at in
-              let before : StandsBefore (q ∷ drop (at + 1) bytes) read n st = subst (λ (t : List ℕ). StandsBefore t read n st) (drop_more bytes at 0 within) on.1 in
+              let before : StandsBefore (q ∷ drop (at + 1) bytes) read n st = subst (λ (t : List ℕ). StandsBefore t read n st) (drop_more bytes at 0 within) on.2 in
               let begins : StringBegins (slice_index rest 0) read n st = subst (λ (c : ℕ). StringBegins c read n st) (sym first) (string_begins q quote (drop (at + 1) bytes) read n st (ap is_plain_prefix on.0 ∙ plain) before) in
               subst (λ (t : List ℕ). StandsBefore t (read ++ take p.len rest) (n + p.line_ends) st) (drop-drop p.len at bytes) (is.part.leads read n st begins);
         };
       },
     )
-
--- what a slice from a place on begins with
-pub rest_first : (bytes : List ℕ) (place : ℕ) → slice_index (take (length bytes - place) (drop place bytes)) 0 ≡ slice_index bytes place
-rest_first bytes place =
-    let here : place + 0 ≡ place = omega arith in
-    ap (λ t. slice_index t 0) (rest_is bytes place) ∙ later bytes place 0 ∙ ap (λ (k : ℕ). slice_index bytes k) here
-
-pub empty_at : (bytes : List ℕ) (at : ℕ) → is_quote (slice_index bytes at) ≡ true → (rest : List ℕ) → rest ≡ take (length bytes - at) (drop at bytes) → 2 < length rest → slice_index rest 1 ≡ slice_index rest 0 → (slice_index rest 2 ≡ slice_index rest 0 → ⊥) → HasString rest (Some (record { len = 2; line_ends = 0 }))
-empty_at bytes at quote rest is within second third =
-    empty_is rest (ap (λ t. is_quote (slice_index t 0)) is ∙ ap is_quote (rest_first bytes at) ∙ quote) within second third

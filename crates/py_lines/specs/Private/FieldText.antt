@@ -122,7 +122,22 @@ abbrev pub HasPrefixOrNot : List ℕ → Option ℕ → Type 0
 HasPrefixOrNot bytes None = Unit {0}
 HasPrefixOrNot bytes (Some len) = HasPrefix bytes len
 
--- a short string with fields whose text is simple, with so many bytes
+-- a short string with fields from its first quote on, where its text is simple, with so many bytes
+pub record IsQuotedText (bytes : List ℕ) (len : ℕ) : Type 0 where
+  pub q : ℕ
+  pub run : List ℕ
+  pub after : List ℕ
+  pub spell : q ∷ (run ++ q ∷ after) ≡ bytes
+  pub size : length run + 2 ≡ len
+  pub quote : is_quote q ≡ true
+  pub full : IsFull run
+  pub text : Leads q InText run InText
+
+abbrev pub HasQuotedText : List ℕ → Option ℕ → Type 0
+HasQuotedText bytes None = Unit {0}
+HasQuotedText bytes (Some len) = IsQuotedText bytes len
+
+-- and with its prefix
 pub record IsWholeStringWithFields (bytes : List ℕ) (len : ℕ) : Type 0 where
   pub prefix : List ℕ
   pub q : ℕ

@@ -1,8 +1,8 @@
 -- Simple lines that bytes begin with, which are passed over: what the machine has come to in such a line, after the text's first.
-use Rattle.std.specs.Prelude.{◌≡◌, ℕ, ◌+◌, ◌-◌, ◌<◌, ◌≤◌, ◌⊎◌, ◌==◌, Bool, true, false, if◌then◌else◌, Option, None, Some, List, [], ◌∷◌, ◌++◌, nat_lt, length, take, drop, slice_index}
+use Rattle.std.specs.Prelude.{◌≡◌, ℕ, ◌+◌, ◌-◌, ◌<◌, ◌≤◌, ◌⊎◌, ◌==◌, ◌||◌, Bool, true, false, if◌then◌else◌, Option, None, Some, List, [], ◌∷◌, ◌++◌, nat_lt, length, take, drop, slice_index}
 use Rattle.std.specs.List.{list_all}
 use Rattle.py_lines.specs.Balance.{closing_of}
-use Rattle.py_lines.specs.Character.{is_return}
+use Rattle.py_lines.specs.Character.{is_quote, is_return}
 use Rattle.py_lines.specs.Piece.{Piece, ends}
 use Rattle.py_lines.specs.LogicalLine.{line_ends}
 use Rattle.py_lines.specs.Private.Machine.{Scanned, fresh, Bracket, brackets_of, first_spelling, spelling_with}
@@ -17,6 +17,8 @@ use Rattle.py_lines.specs.declared.mode.Move.TheVariants as moves
 use Rattle.py_lines.specs.declared.mode.Spelling.{Spelling}
 use Rattle.py_lines.specs.declared.outline.Outline.{Outline}
 use Rattle.py_lines.specs.declared.plain_strings.Passed.{Passed}
+use Rattle.py_lines.specs.declared.prefix.Prefix.{Prefix}
+use Rattle.py_lines.specs.declared.prefix.Prefix.TheVariants as prefixes
 use Rattle.py_lines.specs.Private.Marks.{HasMarks, is_plain}
 
 -- the bytes are ASCII, and hold so many line ends, each of them LF
@@ -49,6 +51,12 @@ abbrev pub is_plain_prefix : Option Spelling → Bool
 is_plain_prefix None = true
 is_plain_prefix (Some s) = if is_field_spelling s then false else begins_string s
 
+-- what such a word makes of a string that begins after it
+abbrev pub IsPrefix : Prefix → Option Spelling → Type 0
+IsPrefix prefixes.Plain tail = is_plain_prefix tail ≡ true
+IsPrefix prefixes.Fields tail = (s : Spelling) × (tail ≡ Some s) × (is_field_spelling s ≡ true)
+IsPrefix prefixes.Other tail = Unit {0}
+
 -- such a word is open; or where there is none, space, or no piece
 abbrev pub IsTail : Option Spelling → Mode → Type 0
 IsTail None m = is_apart_mode m ≡ true
@@ -66,7 +74,7 @@ pub record EndsBefore (c : ℕ) (read : List ℕ) (n : ℕ) (st : List Bracket) 
   pub come : HasCome read n st state
   pub breaks : meet_of state.mode c ≡ moves.Breaks
   pub other : state.mode ≡ modes.Return → ⊥
-  pub tail : is_ascii_word c ≡ true → tail_of read ≡ None
+  pub tail : is_ascii_word c || is_quote c ≡ true → tail_of read ≡ None
 
 -- so before the bytes that follow: one of both
 abbrev pub StandsBefore : List ℕ → List ℕ → ℕ → List Bracket → Type 0
@@ -127,9 +135,10 @@ abbrev pub HasEscape : List ℕ → Option Passed → Type 0
 HasEscape bytes None = Unit {0}
 HasEscape bytes (Some p) = (p.len ≡ 2) × ((c : ℕ) × BeginsEscape bytes c p.line_ends)
 
--- the piece at a byte of a line, which stands there so; it is known how the bytes up to it end
+-- the piece at a byte of a line, which stands there so; it is known how the bytes up to it end, and that few brackets are open
 abbrev pub StandsAt : List ℕ → ℕ → List ℕ → ℕ → List Bracket → Type 0
-StandsAt bytes at read n st = (tail_of read ≡ tail_of (take at bytes)) × StandsBefore (drop at bytes) read n st
+StandsAt bytes at read n st =
+    (tail_of read ≡ tail_of (take at bytes)) × (length st ≤ 100) × StandsBefore (drop at bytes) read n st
 
 abbrev pub PassesPiece : List ℕ → ℕ → Option Passed → Type 0
 PassesPiece bytes at None = Unit {0}
@@ -203,14 +212,14 @@ AreClosers closers (b ∷ bs) = (slice_index closers (length bs + 1) ≡ closing
 pub record Close (c : Closers) (st : List Bracket) : Type 0 where
   pub depth : c.depth ≡ length st
   pub size : length c.closers ≡ 256
-  pub room : length st ≤ 200
+  pub room : length st ≤ 100
   pub each : AreClosers c.closers st
 
 -- a bracket was opened
 abbrev pub Opens : ℕ → Closers → Closers → Type 0
 Opens opener old new =
     (st : List Bracket) → Close old st
-    → (length st < 200) × ((place : ℕ) → Close new (record { opener = opener; place = place } ∷ st))
+    → (length st < 100) × ((place : ℕ) → Close new (record { opener = opener; place = place } ∷ st))
 
 -- the innermost bracket was closed
 pub record ClosesLast (closer : ℕ) (new : Closers) (st : List Bracket) : Type 0 where
