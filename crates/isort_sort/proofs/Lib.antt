@@ -11,11 +11,12 @@
 --
 -- Reading (proofs/Rows, proofs/Readings): the rows so far are those of the lines read, and the finder is as far in
 -- these. A line that is passed over has a row that changes nothing but the place (Readings/Passing), since a line that ends
--- before the next `import` and `from` holds neither (Rows/FirstWords), and a line without comments, or without `isort:`, says no
--- action (Rows/Silence). So it is with many lines that are passed over in one call (Readings/PassedLines). A row's text is what the line has after a byte order mark, so that the mark and the rows' texts are the text
--- (Rows/Texts).
+-- before the next `import` and `from` holds neither (Rows/FirstWords), and a line without `isort:` says no action
+-- (Rows/Silence). So it is with many lines that are passed over in one call (Readings/PassedLines). A row's text is what the line
+-- has after a byte order mark, so that the mark and the rows' texts are the text (Rows/Texts).
 --
--- Blocks (proofs/Finding: Steps, Rows): a finder holds the blocks that are settled, and one that may go on. Whatever
+-- Blocks (proofs/Finding: Steps, Rows): a finder holds the blocks that are settled, and one that may go on; it is seen as a
+-- `Finding`, and its invariant is that no more blank lines are counted than there are bytes. Whatever
 -- cut the rows to come have makes a cut of all. So at the end its blocks are those of a cut, which is the only one
 -- (Finding/OneBlocks).
 --

@@ -4,14 +4,11 @@
 pub mod Values
 pub mod Group
 pub mod Found
-pub mod Finding
-pub mod FoundValues
 pub mod LineRole
-pub mod Silence
+pub mod Actions
 pub mod FirstWords
 pub mod Reading
 pub mod Arranged
-pub mod Arranging
 pub mod LineEnd
 pub mod Gathered
 pub mod GroupOrder

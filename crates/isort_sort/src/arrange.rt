@@ -2,8 +2,7 @@
 ghost use Rattle.std.specs.Prelude.{◌≡◌, ◌<◌, ◌++◌, ℕ, List, [], IfOk, OnOk, MatchBool, string_bytes, if◌then◌else◌};
 ghost use Rattle.isort_settings.specs.Values.{values};
 ghost use Rattle.isort_sort.specs.Private.Arranged.{pieces_left, text_left, IsArranged, IsCutOff, IsReady};
-ghost use Rattle.isort_sort.specs.Private.Found.{blanks_of};
-ghost use Rattle.isort_sort.specs.Private.FoundValues.{found_value};
+ghost use Rattle.isort_sort.specs.Private.Found.{blanks_of, found_value};
 ghost use Rattle.isort_sort.specs.Private.LineEnd.{end_bytes};
 ghost use Rattle.isort_sort.specs.Private.Writes.{Writes};
 

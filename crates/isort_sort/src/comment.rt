@@ -1,14 +1,12 @@
 //! The comments of a logical line.
-ghost use Rattle.std.specs.Prelude.{◌≡◌, ◌++◌, IfOk, IsTrue, OnOk, map, string_bytes};
+ghost use Rattle.std.specs.Prelude.{◌≡◌, ◌++◌, IfOk, OnOk, map, string_bytes};
 ghost use Rattle.std.specs.List.{list_any};
 ghost use Rattle.py_lines.specs.Lines.{line_in};
 ghost use Rattle.py_imports.specs.ActionComment.{says};
-ghost use Rattle.py_imports.specs.Statement.{is_comment};
 ghost use Rattle.isort_sort.specs.Line.{comment_texts, own_comments, stripped, without_hash};
-ghost use Rattle.isort_sort.specs.Private.Silence.{IsSilent, SaysNothing, content_of};
+ghost use Rattle.isort_sort.specs.Private.Actions.{content_of};
 
 use crate::texts::push_copy;
-use memchr::memmem;
 use py_imports::{ActionComment, says};
 use py_lines::Unit;
 use std::alloc::{AllocError, Global};
@@ -24,44 +22,16 @@ fn content(comment: &str) -> &str
     text.trim_start_matches(SPACE).trim_end_matches(SPACE)
 }
 
-/// Whether `isort:` stands nowhere in the text. Most texts are so, and no part of one says an action.
-pub(crate) fn is_silent(text: &[u8]) -> bool
-    ensures { IsTrue result → IsSilent text.now }
-{
-    memmem::find(text, b"isort:").is_none()
-}
-
-/// Whether a comment or a string with this text says the action.
-pub(crate) fn text_says(text: &str, action: ActionComment) -> bool
-    ensures { result ≡ says action text.now }
-{
-    !is_silent(text.as_bytes()) && says(text, action)
-}
-
 /// Whether a comment of the line says the action.
 pub(crate) fn comments_say(unit: &Unit<'_>, action: ActionComment) -> bool
     ensures { result ≡ list_any (says action) (comment_texts (line_in unit.now)) }
 {
     'tokens: for (place, token) in unit.tokens.iter().enumerate() {
-        if token.kind.is_comment() && text_says(unit.word(place), action) {
+        if token.kind.is_comment() && says(unit.word(place), action) {
             return true;
         }
     }
     false
-}
-
-/// Whether the line has a comment.
-fn has_comment(unit: &Unit<'_>) -> bool
-    ensures { result ≡ list_any (λ t. is_comment t.kind) (line_in unit.now).tokens }
-{
-    unit.tokens.iter().any(|token| token.kind.is_comment())
-}
-
-/// Whether no comment of the line says an action, since it has none, or `isort:` stands nowhere in it.
-pub(crate) fn says_nothing(unit: &Unit<'_>) -> bool
-    ensures { IsTrue result → SaysNothing (line_in unit.now) }
-{
-    !has_comment(unit) || is_silent(unit.text.as_bytes())
 }
 
 /// Puts what a comment says after `comments`, if it says something.

@@ -1,16 +1,17 @@
 //! Finding the blocks of a text, line by line.
 ghost use Rattle.std.specs.Prelude.{◌≡◌, ◌+◌, ◌<◌, ◌≤◌, ◌^◌, [], None, MatchOption, is_some, map, option_map};
 ghost use Rattle.std.specs.Prelude.{string_bytes, IfOk, OnOk};
-ghost use Rattle.isort_sort.specs.Private.Finding.{after_blank, after_comments, after_member, after_other};
-ghost use Rattle.isort_sort.specs.Private.Finding.{begun_with, closed_before, closed_found, closed_block};
-ghost use Rattle.isort_sort.specs.Private.Finding.{with_blank, with_comments, with_member};
-ghost use Rattle.isort_sort.specs.Private.FoundValues.{before_value, finding_value, found_value, open_value, IsCounted};
+ghost use Rattle.isort_sort.specs.Private.Found.{after_blank, after_comments, after_member, after_other};
+ghost use Rattle.isort_sort.specs.Private.Found.{before_value, begun_with, closed_before, closed_found, closed_block};
+ghost use Rattle.isort_sort.specs.Private.Found.{found_value, open_value, with_blank, with_comments, with_member, IsFurther};
 ghost use Rattle.isort_sort.specs.Private.LineRole.{before_of};
 ghost use Rattle.isort_sort.specs.Private.Values.{member_value};
 
 use crate::member::Member;
 use crate::row::BlankLines;
+use py_lines::Unit;
 use std::alloc::{AllocError, Global};
+use std::marker::Model;
 use std::mem;
 
 /// Where a line ends.
@@ -20,6 +21,25 @@ pub(crate) struct LineStop {
     pub(crate) stop: usize,
     /// Whether it has a line end.
     pub(crate) ended: bool,
+}
+
+impl LineStop {
+    ghost use Rattle.py_lines.specs.Lines.{line_in};
+    ghost use Rattle.isort_sort.specs.Private.Reading.{stop_of};
+    ghost use Rattle.std.specs.Prelude.{nat_lt};
+    ghost use Rattle.std.specs.Str.{IsUtf8};
+
+    /// Where a line of the text ends. The line is UTF-8.
+    pub(crate) fn of(unit: &Unit<'_>) -> LineStop
+        ensures stop { result.stop ≡ stop_of (line_in unit.now) }
+        ensures ended { result.ended ≡ nat_lt 0 (line_in unit.now).end_len }
+        ensures utf8 { IsUtf8 (line_in unit.now).text }
+    {
+        LineStop {
+            stop: unit.offset as usize + unit.text.len(),
+            ended: unit.end_len > 0,
+        }
+    }
 }
 
 /// A block of a text, with what its layout needs.
@@ -61,7 +81,8 @@ impl OpenBlock {
         indentation: &str,
         member: Member,
     ) -> Result<OpenBlock, AllocError>
-        ensures { IfOk result (λ o. open_value o ≡ begun_with start line.stop line.ended indentation.now (member_value member)) }
+        ensures { IfOk result (λ o. open_value o
+            ≡ begun_with start line.stop line.ended indentation.now (member_value member)) }
     {
         let mut members = Vec::new(alloc);
         members.push(member)?;
@@ -80,20 +101,22 @@ impl OpenBlock {
         })
     }
 
-    /// Takes in a member, with the comments before it.
+    /// Takes in a member, with the comments before it. No blank line is counted after it, also where memory runs out.
     fn push_member(
         &mut self,
         alloc: Global,
         line: LineStop,
         mut member: Member,
     ) -> Result<(), AllocError>
-        ensures { OnOk result (open_value self.new ≡ with_member line.stop line.ended (member_value member) (open_value self.old)) }
+        ensures value { OnOk result (open_value self.new
+            ≡ with_member line.stop line.ended (member_value member) (open_value self.old)) }
+        ensures blanks { self.new.block.blanks ≡ 0 }
     {
+        self.block.blanks = 0;
         member.above = mem::replace(&mut self.above, Vec::new(alloc));
         self.block.members.push(member)?;
         self.block.stop = line.stop;
         self.block.ended = line.ended;
-        self.block.blanks = 0;
         self.commented = false;
         Ok(())
     }
@@ -114,7 +137,9 @@ impl OpenBlock {
 
     /// Takes in comments.
     fn push_comments(&mut self, mut comments: Vec<String>) -> Result<(), AllocError>
-        ensures { OnOk result (open_value self.new ≡ with_comments (map string_bytes comments.items) (open_value self.old)) }
+        ensures value { OnOk result (open_value self.new
+            ≡ with_comments (map string_bytes comments.items) (open_value self.old)) }
+        ensures blanks { self.new.block.blanks ≡ self.old.block.blanks }
     {
         self.above.append(&mut comments)?;
         self.commented = true;
@@ -135,61 +160,65 @@ impl OpenBlock {
     }
 }
 
-/// Finds the blocks of a text whose lines are handed in one after another.
+/// Finds the blocks of a text whose lines are handed in one after another. Contracts see it as a `Finding`.
 #[derive(Drop)]
 pub(crate) struct BlockFinder {
     /// The blocks that were found, in source order.
     found: Vec<FoundBlock>,
     /// The block that may go on.
-    open: Option<OpenBlock>,
+    opened: Option<OpenBlock>,
     /// The byte after the last line.
     place: usize,
+}
+
+impl Model for BlockFinder {
+    ghost use Rattle.std.specs.Prelude.{◌≤◌, MatchOption, map, option_map};
+    ghost use Rattle.isort_sort.specs.Private.Found.{Finding, found_value, open_value};
+
+    ghost Value = { Finding };
+
+    ghost view = { λ f. record {
+      found = map found_value f.found.items;
+      opened = option_map open_value f.opened;
+      place = f.place;
+    } };
+
+    ghost invariant = { λ f. MatchOption f.opened (Unit {0}) (λ o. o.block.blanks ≤ f.place) };
 }
 
 impl BlockFinder {
     /// A finder for lines the first of which begins at this byte.
     pub(crate) fn new(alloc: Global, start: usize) -> BlockFinder
-        ensures start { finding_value result ≡ record { found = []; opened = None; place = start } }
-        ensures counted { IsCounted (finding_value result) }
+        ensures { result ≡ record { found = []; opened = None; place = start } }
     {
         BlockFinder {
             found: Vec::new(alloc),
-            open: None,
+            opened: None,
             place: start,
         }
     }
 
     /// Whether a block may go on.
     pub(crate) fn is_open(&self) -> bool
-        ensures { result ≡ is_some (finding_value self.now).opened }
+        ensures { result ≡ is_some self.now.opened }
     {
-        self.open.is_some()
+        self.opened.is_some()
     }
 
-    /// The byte after the last line.
-    pub(crate) fn place(&self) -> usize
-        ensures { result ≡ (finding_value self.now).place }
+    /// Takes in the lines up to this byte, whatever they are, where no block may go on.
+    pub(crate) fn pass(&mut self, stop: usize)
+        requires { self.old.opened ≡ None }
+        ensures { self.new ≡ record self.old { place = stop } }
     {
-        self.place
-    }
-
-    /// Takes in a line of so many bytes, whatever it is, where no block may go on.
-    pub(crate) fn pass(&mut self, len: usize)
-        requires closed { (finding_value self.old).opened ≡ None }
-        requires fits { (finding_value self.old).place + len < 2 ^ 64 }
-        ensures value { finding_value self.new ≡ record (finding_value self.old) { place = (finding_value self.old).place + len } }
-    {
-        self.place += len;
+        self.place = stop;
     }
 
     /// Takes in a line without tokens.
     pub(crate) fn push_blank(&mut self, line: LineStop)
-        requires counted { IsCounted (finding_value self.old) }
-        requires further { MatchOption (finding_value self.old).opened (Unit {0}) (λ o. (finding_value self.old).place < line.stop) }
-        ensures value { finding_value self.new ≡ after_blank line.stop line.ended (finding_value self.old) }
-        ensures counted { IsCounted (finding_value self.new) }
+        requires { IsFurther line.stop self.old }
+        ensures { self.new ≡ after_blank line.stop line.ended self.old }
     {
-        if let Some(open) = &mut self.open {
+        if let Some(open) = &mut self.opened {
             open.push_blank(line);
         }
         self.place = line.stop;
@@ -201,13 +230,11 @@ impl BlockFinder {
         line: LineStop,
         comments: Vec<String>,
     ) -> Result<(), AllocError>
-        requires counted { IsCounted (finding_value self.old) }
-        requires further { (finding_value self.old).place ≤ line.stop }
-        ensures value { OnOk result (finding_value self.new
-            ≡ after_comments line.stop (map string_bytes comments.items) (finding_value self.old)) }
-        ensures counted { OnOk result (IsCounted (finding_value self.new)) }
+        requires { IsFurther line.stop self.old }
+        ensures { OnOk result (self.new
+            ≡ after_comments line.stop (map string_bytes comments.items) self.old) }
     {
-        if let Some(open) = &mut self.open {
+        if let Some(open) = &mut self.opened {
             open.push_comments(comments)?;
         }
         self.place = line.stop;
@@ -222,35 +249,35 @@ impl BlockFinder {
         indentation: &str,
         member: Member,
     ) -> Result<(), AllocError>
-        ensures value { OnOk result (finding_value self.new
-            ≡ after_member line.stop line.ended indentation.now (member_value member) (finding_value self.old)) }
-        ensures counted { OnOk result (IsCounted (finding_value self.new)) }
+        ensures { OnOk result (self.new
+            ≡ after_member line.stop line.ended indentation.now (member_value member) self.old) }
     {
-        let start = mem::replace(&mut self.place, line.stop);
-        match &mut self.open {
+        match &mut self.opened {
             Some(open) if open.block.indentation.as_str() == indentation => {
-                open.push_member(alloc, line, member)
+                open.push_member(alloc, line, member)?
             }
             _ => {
                 self.close(Some(BlankLines::One))?;
-                self.open = Some(OpenBlock::begin(alloc, start, line, indentation, member)?);
-                Ok(())
+                let open = OpenBlock::begin(alloc, self.place, line, indentation, member)?;
+                self.opened = Some(open);
             }
         }
+        self.place = line.stop;
+        Ok(())
     }
 
     /// Takes in a line that no block takes in.
     pub(crate) fn push_other(&mut self, line: LineStop, next: BlankLines) -> Result<(), AllocError>
-        ensures value { OnOk result (finding_value self.new ≡ after_other line.stop (before_of next) (finding_value self.old)) }
-        ensures counted { OnOk result (IsCounted (finding_value self.new)) }
+        ensures { OnOk result (self.new ≡ after_other line.stop (before_of next) self.old) }
     {
+        self.close(Some(next))?;
         self.place = line.stop;
-        self.close(Some(next))
+        Ok(())
     }
 
     /// All blocks of the lines.
     pub(crate) fn finish(mut self) -> Result<Vec<FoundBlock>, AllocError>
-        ensures { IfOk result (λ found. map found_value found.items ≡ closed_found None (finding_value self)) }
+        ensures { IfOk result (λ found. map found_value found.items ≡ closed_found None self) }
     {
         self.close(None)?;
         Ok(self.found)
@@ -258,9 +285,9 @@ impl BlockFinder {
 
     /// Puts the block that may go on, if there is one, among those found: it ends before such a line.
     fn close(&mut self, next: Option<BlankLines>) -> Result<(), AllocError>
-        ensures { OnOk result (finding_value self.new ≡ closed_before (before_value next) (finding_value self.old)) }
+        ensures { OnOk result (self.new ≡ closed_before (before_value next) self.old) }
     {
-        if let Some(open) = self.open.take() {
+        if let Some(open) = self.opened.take() {
             self.found.push(open.close(next))?;
         }
         Ok(())

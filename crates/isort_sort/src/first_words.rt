@@ -2,11 +2,10 @@
 ghost use Rattle.std.specs.Prelude.{◌≡◌, ◌+◌, ◌<◌, ◌≤◌, ℕ, false, IsTrue, List, codes, length};
 ghost use Rattle.memchr.specs.Find.{OccursAt};
 ghost use Rattle.py_lines.specs.Lines.{line_in};
-ghost use Rattle.isort_sort.specs.Private.FirstWords.{BeginNowhere, IsPlain, IsSilentBetween, HoldsLineAt};
+ghost use Rattle.isort_sort.specs.Private.FirstWords.{BeginNowhere, IsFree, IsSilentBetween, HoldsLineAt};
+ghost use Rattle.isort_sort.specs.Private.Actions.{IsSilent};
 
 use memchr::{memchr, memmem};
-use py_imports::has_first_word;
-use py_imports::laws::lines_without_first_words_bind_nothing;
 use py_lines::Unit;
 use std::marker::Model;
 
@@ -26,8 +25,10 @@ fn stands_at(text: &[u8], word: &[u8], place: usize) -> bool
 #[inline(always)]
 fn is_in_word(text: &[u8], place: usize) -> bool
     requires { place < length text.now }
-    ensures import { result ≡ false → (k : ℕ) → k + 1 ≡ place → ¬ (OccursAt text.now (codes "import") k) }
-    ensures from { result ≡ false → (k : ℕ) → k + 3 ≡ place → ¬ (OccursAt text.now (codes "from") k) }
+    ensures import { result ≡ false → (k : ℕ) → k + 1 ≡ place
+        → ¬ (OccursAt text.now (codes "import") k) }
+    ensures from { result ≡ false → (k : ℕ) → k + 3 ≡ place
+        → ¬ (OccursAt text.now (codes "from") k) }
 {
     (place >= 1 && stands_at(text, b"import", place - 1))
         || (place >= 3 && stands_at(text, b"from", place - 3))
@@ -138,7 +139,7 @@ impl<'t> FirstWords<'t> {
 
     /// A byte, from `start` on, before which neither word begins.
     #[inline(always)]
-    pub(crate) fn clear_up_to(&mut self, start: usize) -> usize
+    fn clear_up_to(&mut self, start: usize) -> usize
         requires { start ≤ length self.old }
         ensures clear { BeginNowhere self.old start result }
         ensures same { self.new ≡ self.old }
@@ -149,7 +150,7 @@ impl<'t> FirstWords<'t> {
 
     /// A byte, from `start` on, before which `isort:` does not begin.
     #[inline(always)]
-    pub(crate) fn silent_up_to(&mut self, start: usize) -> usize
+    fn silent_up_to(&mut self, start: usize) -> usize
         requires { start ≤ length self.old }
         ensures silent { IsSilentBetween self.old start result }
         ensures same { self.new ≡ self.old }
@@ -158,15 +159,24 @@ impl<'t> FirstWords<'t> {
         self.silence.stop
     }
 
-    /// Whether no token of a line of the text is spelled as either word. Most lines hold neither in any way.
+    /// A byte, from `start` on, before which neither word begins, nor `isort:`.
     #[inline(always)]
-    pub(crate) fn none_in(&mut self, unit: &Unit<'_>) -> bool
-        requires { HoldsLineAt self.old (line_in unit.now) }
-        ensures plain { IsTrue result → IsPlain (line_in unit.now) }
+    pub(crate) fn free_up_to(&mut self, start: usize) -> usize
+        requires { start ≤ length self.old }
+        ensures free { IsFree self.old start result }
         ensures same { self.new ≡ self.old }
     {
-        lines_without_first_words_bind_nothing();
+        let clear = self.clear_up_to(start);
+        clear.min(self.silent_up_to(start))
+    }
+
+    /// Whether `isort:` begins nowhere in a line of the text.
+    pub(crate) fn is_silent(&mut self, unit: &Unit<'_>) -> bool
+        requires { HoldsLineAt self.old (line_in unit.now) }
+        ensures silent { IsTrue result → IsSilent (line_in unit.now).text }
+        ensures same { self.new ≡ self.old }
+    {
         let start = unit.offset as usize;
-        start + unit.text.len() <= self.clear_up_to(start) || !has_first_word(unit)
+        start + unit.text.len() <= self.silent_up_to(start)
     }
 }

@@ -112,7 +112,8 @@ impl Gathered {
 
 /// The texts, each once, where it stands first.
 fn each_once(alloc: Global, texts: Vec<String>) -> Result<Vec<String>, AllocError>
-    ensures { IfOk result (λ kept. map string_bytes kept.items ≡ first_texts (map string_bytes texts.items)) }
+    ensures { IfOk result (λ kept. map string_bytes kept.items
+        ≡ first_texts (map string_bytes texts.items)) }
 {
     // Most statements have no comment, or one.
     if texts.len() < 2 {
@@ -131,7 +132,8 @@ fn each_once(alloc: Global, texts: Vec<String>) -> Result<Vec<String>, AllocErro
 
 /// Puts items in order, each once.
 fn order_items(settings: &Settings, items: &mut Vec<FromItem>) -> Result<(), AllocError>
-    ensures { OnOk result (AreInOrder (item_cmp (values settings.now)) (map item_value items.old.items) (map item_value items.new.items)) }
+    ensures { OnOk result (AreInOrder (item_cmp (values settings.now))
+        (map item_value items.old.items) (map item_value items.new.items)) }
 {
     names_are_totally_ordered();
     items.sort_by(|a, b| item_cmp(settings, a, b))?;
@@ -166,7 +168,8 @@ struct Import {
 
 /// Adds what an import brings to its statement.
 fn gather(alloc: Global, statements: &mut Statements, import: Import) -> Result<(), AllocError>
-    ensures { OnOk result (Gathers statements.old.entries (brought_value import ∷ []) statements.new.entries) }
+    ensures { OnOk result (Gathers statements.old.entries (brought_value import ∷ [])
+        statements.new.entries) }
 {
     let Import {
         statement,
@@ -186,8 +189,8 @@ fn gather_member(
     statements: &mut Statements,
     member: Member,
 ) -> Result<(), AllocError>
-    ensures { OnOk result (Gathers statements.old.entries (brought_by (values settings.now) (member_value member))
-        statements.new.entries) }
+    ensures { OnOk result (Gathers statements.old.entries
+        (brought_by (values settings.now) (member_value member)) statements.new.entries) }
 {
     let Member {
         bindings,
@@ -213,8 +216,8 @@ fn gather_members(
     settings: &Settings,
     members: Vec<Member>,
 ) -> Result<Statements, AllocError>
-    ensures { IfOk result (λ statements. Gathers [] (brought (values settings.now) (map member_value members.items))
-        statements.entries) }
+    ensures { IfOk result (λ statements. Gathers []
+        (brought (values settings.now) (map member_value members.items)) statements.entries) }
 {
     let mut statements = BTreeMap::new(alloc);
     for member in members {
@@ -229,7 +232,8 @@ fn groups_of(
     settings: &Settings,
     statements: Statements,
 ) -> Result<Vec<Group>, AllocError>
-    ensures made { IfOk result (λ groups. AreMade (values settings.now) statements.entries groups.items) }
+    ensures made { IfOk result (λ groups.
+        AreMade (values settings.now) statements.entries groups.items) }
     ensures distinct { OnOk result (AreDistinct (keys statements)) }
 {
     let mut groups = Vec::with_capacity(alloc, statements.len())?;
@@ -245,7 +249,8 @@ pub(crate) fn group_members(
     settings: &Settings,
     members: Vec<Member>,
 ) -> Result<Vec<Group>, AllocError>
-    ensures { IfOk result (λ groups. AreGrouped (values settings.now) (map member_value members.items) (map group_value groups.items)) }
+    ensures { IfOk result (λ groups. AreGrouped (values settings.now)
+        (map member_value members.items) (map group_value groups.items)) }
 {
     modules_are_totally_ordered();
     names_are_totally_ordered();

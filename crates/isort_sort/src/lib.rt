@@ -1,6 +1,7 @@
 //! Sorting of import statements: the sorted text of a Python text, as isort's settings define it.
 #![tactic(auto)]
 
+mod actions;
 mod answer;
 mod arrange;
 mod comment;

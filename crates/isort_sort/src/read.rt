@@ -1,24 +1,24 @@
 //! Reading a text that is to be sorted, and finding its blocks.
-ghost use Rattle.std.specs.Prelude.{◌≡◌, ℕ, ◌+◌, ◌-◌, ◌<◌, ◌≤◌, ◌^◌, MatchOption, ⊤, List, [], false, length, map};
+ghost use Rattle.std.specs.Prelude.{◌≡◌, ◌≤◌, ℕ, List, [], false, map};
 ghost use Rattle.std.specs.Prelude.{IsTrue, IfOk, IfErr, OnOk};
 ghost use Rattle.py_lines.specs.Lines.{line_in};
 ghost use Rattle.py_lines.specs.LogicalLine.{LogicalLine};
-ghost use Rattle.py_lines.specs.Reader.{HasGiven};
 ghost use Rattle.py_imports.specs.Binds.{Binds};
 ghost use Rattle.py_imports.specs.Bound.{bound_of};
 ghost use Rattle.isort_sort.specs.Answers.{IsRefused};
+ghost use Rattle.isort_sort.specs.Private.Actions.{AreActions};
 ghost use Rattle.isort_sort.specs.Private.FirstWords.{HoldsLineAt};
-ghost use Rattle.isort_sort.specs.Private.FoundValues.{finding_value, IsCounted};
-ghost use Rattle.isort_sort.specs.Private.Reading.{FindsLine, IsReadSoFar, ReadsLine, PassesOver, ReadsOver};
-ghost use Rattle.isort_sort.specs.Private.Reading.{IsReadBefore, IsWholeRead, IsFoundIn};
-ghost use Rattle.isort_sort.specs.Row.{mark_after};
+ghost use Rattle.isort_sort.specs.Private.Found.{IsFurther};
+ghost use Rattle.isort_sort.specs.Private.Reading.{stop_of, FindsLine, IsFoundIn, IsKnown, IsReadBefore, IsReadSoFar};
+ghost use Rattle.isort_sort.specs.Private.Reading.{IsWholeRead, MayPass, ReadsLine, ReadsOver};
 
+use crate::actions::Actions;
 use crate::answer::SortError;
-use crate::comment::{comment_texts, own_comments, says_nothing};
+use crate::comment::{comment_texts, own_comments};
 use crate::finder::{BlockFinder, FoundBlock, LineStop};
 use crate::first_words::FirstWords;
 use crate::member::Member;
-use crate::row::{Role, indentation, is_off_after, role_of};
+use crate::row::{Role, indentation, role_of};
 use crate::skip::SkipReader;
 use py_imports::laws::lines_without_first_words_bind_nothing;
 use py_imports::{Binding, bindings_of, mark_len};
@@ -50,9 +50,7 @@ pub(crate) struct LineReader {
 impl LineReader {
     /// A reader of no lines.
     fn new(alloc: Global) -> LineReader
-        ensures start { IsReadSoFar [] result }
-        ensures counted { IsCounted (finding_value result.blocks) }
-        ensures place { (finding_value result.blocks).place ≡ 0 }
+        ensures { IsReadSoFar [] result }
     {
         LineReader {
             begun: false,
@@ -64,9 +62,7 @@ impl LineReader {
 
     /// Reads the lines of a text, of which none was read.
     fn read(&mut self, alloc: Global, text: &[u8]) -> Result<(), SortError>
-        requires start { IsReadSoFar [] self.old }
-        requires counted { IsCounted (finding_value self.old.blocks) }
-        requires place { (finding_value self.old.blocks).place ≡ 0 }
+        requires { IsReadSoFar [] self.old }
         ensures ok { OnOk result (IsWholeRead text.now self.new) }
         ensures err { IfErr result (λ e. IsRefused text.now e) }
     {
@@ -80,6 +76,34 @@ impl LineReader {
         }
     }
 
+    /// Whether no block may go on, and the string was read that the text may begin with.
+    #[inline(always)]
+    fn may_pass(&self) -> bool
+        ensures { IsTrue result → MayPass self.now }
+    {
+        self.skip.begun && !self.blocks.is_open()
+    }
+
+    /// Passes over the next lines without their tokens, as long as they are simple, neither `import`, `from` nor `isort:` stands in them,
+    /// and no block may go on. Most lines are passed over so.
+    #[inline(always)]
+    fn pass_lines(&mut self, lines: &mut Lines<'_>, words: &mut FirstWords<'_>)
+        requires text { words.old ≡ lines.old.text }
+        requires known { IsKnown lines.old self.old }
+        ensures known { IsKnown lines.new self.new }
+        ensures same { lines.new.text ≡ lines.old.text }
+        ensures further { lines.old.place ≤ lines.new.place }
+        ensures words { words.new ≡ words.old }
+    {
+        if !self.may_pass() {
+            return;
+        }
+        lines_without_first_words_bind_nothing();
+        let start = lines.offset() as usize;
+        lines.pass_lines(words.free_up_to(start));
+        self.blocks.pass(lines.offset() as usize);
+    }
+
     /// Reads the next line. The result is whether there is one.
     fn read_line(
         &mut self,
@@ -88,121 +112,76 @@ impl LineReader {
         words: &mut FirstWords<'_>,
     ) -> Result<bool, SortError>
         requires text { words.old ≡ lines.old.text }
-        requires fits { length lines.old.text < 2 ^ 64 }
-        requires given { (given : List LogicalLine) × HasGiven lines.old given }
-        requires counted { IsCounted (finding_value self.old.blocks) }
-        requires place { (finding_value self.old.blocks).place ≤ lines.old.place }
-        ensures reads { ReadsOver lines.old self.old result lines.new self.new }
-        ensures counted { OnOk result (IsCounted (finding_value self.new.blocks)) }
-        ensures place { OnOk result ((finding_value self.new.blocks).place ≤ lines.new.place) }
-        ensures text { words.new ≡ words.old }
+        requires known { IsKnown lines.old self.old }
+        ensures reads { ReadsOver lines.old result lines.new self.new }
+        ensures words { words.new ≡ words.old }
     {
         let Some(unit) = lines.next_unit()? else {
             return Ok(false);
         };
         if !self.pass(&unit, words) {
             let bindings = bindings_of(alloc, &unit)?;
-            self.push(alloc, &unit, bindings)?;
+            self.push(alloc, &unit, Actions::of(&unit, words), bindings)?;
         }
         Ok(true)
     }
 
-    /// Passes over the next lines without their tokens, as long as they are simple, neither `import`, `from` nor `isort:` stands in them,
-    /// and no block may go on. Most lines are passed over so.
+    /// Passes over the line, where no block needs it: neither `import`, `from` nor `isort:` stands in it, and no block may go on.
+    /// The result is whether it was passed over.
     #[inline(always)]
-    fn pass_lines(&mut self, lines: &mut Lines<'_>, words: &mut FirstWords<'_>)
-        requires text { words.old ≡ lines.old.text }
-        requires within { lines.old.place ≤ length lines.old.text }
-        requires counted { IsCounted (finding_value self.old.blocks) }
-        requires place { (finding_value self.old.blocks).place ≤ lines.old.place }
-        ensures passes { PassesOver lines.old self.old lines.new self.new }
-        ensures further { lines.old.place ≤ lines.new.place }
-        ensures counted { IsCounted (finding_value self.new.blocks) }
-        ensures place { (finding_value self.new.blocks).place ≤ lines.new.place }
-        ensures text { words.new ≡ words.old }
+    fn pass(&mut self, unit: &Unit<'_>, words: &mut FirstWords<'_>) -> bool
+        requires { HoldsLineAt words.old (line_in unit.now) }
+        ensures on { IsTrue result → ReadsLine (line_in unit.now) self.old self.new }
+        ensures binds { IsTrue result → Binds (line_in unit.now) [] }
+        ensures same { result ≡ false → self.new ≡ self.old }
+        ensures words { words.new ≡ words.old }
     {
-        if !self.begun || !self.skip.begun || self.blocks.is_open() {
-            return;
-        }
         lines_without_first_words_bind_nothing();
-        let start = lines.offset() as usize;
-        let before = words.clear_up_to(start).min(words.silent_up_to(start));
-        let len = lines.pass_lines(before);
-        self.blocks.pass(len);
+        let line = LineStop::of(unit);
+        if !self.may_pass() || words.free_up_to(unit.offset as usize) < line.stop {
+            return false;
+        }
+        self.blocks.pass(line.stop);
+        true
     }
 
-    /// Reads one more line, which binds `bindings`.
+    /// Reads one more line, which says these actions and binds `bindings`.
     fn push(
         &mut self,
         alloc: Global,
         unit: &Unit<'_>,
+        actions: Actions,
         bindings: Vec<Binding>,
     ) -> Result<(), AllocError>
+        requires actions { AreActions (line_in unit.now) actions }
         requires binds { Binds (line_in unit.now) (map bound_of bindings.items) }
-        requires some_text { 0 < length (line_in unit.now).text }
-        requires counted { IsCounted (finding_value self.old.blocks) }
-        requires fits { (finding_value self.old.blocks).place + length (line_in unit.now).text < 2 ^ 64 }
-        ensures on { OnOk result (ReadsLine (line_in unit.now) self.old self.new) }
-        ensures counted { OnOk result (IsCounted (finding_value self.new.blocks)) }
-        ensures place { OnOk result ((finding_value self.new.blocks).place
-            ≤ (finding_value self.old.blocks).place + length (line_in unit.now).text) }
+        requires further { IsFurther (stop_of (line_in unit.now)) self.old.blocks }
+        ensures { OnOk result (ReadsLine (line_in unit.now) self.old self.new) }
     {
-        let mark = self.begin(alloc, unit);
-        find_line(&mut self.blocks, alloc, unit, bindings, self.off, mark)?;
-        self.off = is_off_after(unit, self.off);
-        self.skip.push(unit);
+        self.begin(alloc, unit);
+        find_line(&mut self.blocks, alloc, unit, actions, self.off, bindings)?;
+        self.off = actions.is_off_after(self.off);
+        self.skip.push(unit, actions);
         Ok(())
     }
 
-    /// Passes over the line, where no block needs it: it has no import statement, no comment says an action, and no block may go on.
-    /// The text's first line and the string that the text may begin with are read. The result is whether it was passed over.
-    #[inline(always)]
-    fn pass(&mut self, unit: &Unit<'_>, words: &mut FirstWords<'_>) -> bool
-        requires stands { HoldsLineAt words.old (line_in unit.now) }
-        requires counted { IsCounted (finding_value self.old.blocks) }
-        requires fits { (finding_value self.old.blocks).place + length (line_in unit.now).text < 2 ^ 64 }
-        ensures on { IsTrue result → ReadsLine (line_in unit.now) self.old self.new }
-        ensures binds { IsTrue result → Binds (line_in unit.now) [] }
-        ensures counted { IsCounted (finding_value self.new.blocks) }
-        ensures place { IsTrue result → (finding_value self.new.blocks).place
-            ≤ (finding_value self.old.blocks).place + length (line_in unit.now).text }
-        ensures same { result ≡ false → self.new ≡ self.old }
-        ensures same_text { words.new ≡ words.old }
+    /// Begins the text where this line is its first: its blocks stand after a byte order mark.
+    fn begin(&mut self, alloc: Global, unit: &Unit<'_>)
+        ensures before { (lines : List LogicalLine) → IsReadSoFar lines self.old
+            → IsReadBefore lines (line_in unit.now) self.new }
+        ensures further { (stop : ℕ) → IsFurther stop self.old.blocks
+            → IsFurther stop self.new.blocks }
     {
-        if !self.begun
-            || self.blocks.is_open()
-            || self.skip.begins_by(unit)
-            || !words.none_in(unit)
-            || !says_nothing(unit)
-        {
-            return false;
+        if !self.begun {
+            self.begun = true;
+            self.blocks = BlockFinder::new(alloc, mark_len(unit));
         }
-        self.blocks.pass(unit.text.as_bytes().len());
-        true
-    }
-
-    /// Begins the text where this line is its first. The result is how many bytes of a byte order mark the line has.
-    fn begin(&mut self, alloc: Global, unit: &Unit<'_>) -> usize
-        requires counted { IsCounted (finding_value self.old.blocks) }
-        ensures mark { (lines : List LogicalLine) → IsReadSoFar lines self.old → result ≡ mark_after lines (line_in unit.now) }
-        ensures before { (lines : List LogicalLine) → IsReadSoFar lines self.old → IsReadBefore lines (line_in unit.now) self.new }
-        ensures within { result ≤ length (line_in unit.now).text }
-        ensures further { MatchOption (finding_value self.new.blocks).opened ⊤ (λ o. result ≡ 0) }
-        ensures counted { IsCounted (finding_value self.new.blocks) }
-        ensures place { (finding_value self.new.blocks).place ≤ (finding_value self.old.blocks).place + result }
-    {
-        if self.begun {
-            return 0;
-        }
-        let mark = mark_len(unit);
-        self.begun = true;
-        self.blocks = BlockFinder::new(alloc, mark);
-        mark
     }
 
     /// What was found in the text of the lines.
     fn finish(self) -> Result<FoundText, AllocError>
-        ensures { IfOk result (λ found. (text : List ℕ) → IsWholeRead text self → IsFoundIn text found) }
+        ensures { IfOk result (λ found. (text : List ℕ) → IsWholeRead text self
+            → IsFoundIn text found) }
     {
         if self.skip.skips {
             return Ok(FoundText::Skipped);
@@ -211,30 +190,22 @@ impl LineReader {
     }
 }
 
-/// Hands a line that begins with so many bytes of a byte order mark to the finder; `off` says whether sorting is off.
+/// Hands a line, which says these actions and binds `bindings`, to the finder; `off` says whether sorting is off before it.
 fn find_line(
     blocks: &mut BlockFinder,
     alloc: Global,
     unit: &Unit<'_>,
-    bindings: Vec<Binding>,
+    actions: Actions,
     off: bool,
-    mark: usize,
+    bindings: Vec<Binding>,
 ) -> Result<(), AllocError>
+    requires actions { AreActions (line_in unit.now) actions }
     requires binds { Binds (line_in unit.now) (map bound_of bindings.items) }
-    requires mark { mark ≤ length (line_in unit.now).text }
-    requires counted { IsCounted (finding_value blocks.old) }
-    requires further { MatchOption (finding_value blocks.old).opened ⊤ (λ o. mark < length (line_in unit.now).text) }
-    requires fits { (finding_value blocks.old).place + (length (line_in unit.now).text - mark) < 2 ^ 64 }
-    ensures on { OnOk result (FindsLine off mark (line_in unit.now) (finding_value blocks.old) (finding_value blocks.new)) }
-    ensures counted { OnOk result (IsCounted (finding_value blocks.new)) }
-    ensures place { OnOk result ((finding_value blocks.new).place
-        ≡ (finding_value blocks.old).place + (length (line_in unit.now).text - mark)) }
+    requires further { IsFurther (stop_of (line_in unit.now)) blocks.old }
+    ensures { OnOk result (FindsLine off (line_in unit.now) blocks.old blocks.new) }
 {
-    let line = LineStop {
-        stop: blocks.place() + (unit.text.len() - mark),
-        ended: unit.end_len > 0,
-    };
-    match role_of(unit, off) {
+    let line = LineStop::of(unit);
+    match role_of(unit, actions, off) {
         Role::Blank => blocks.push_blank(line),
         Role::Comments => {
             let comments = if blocks.is_open() {

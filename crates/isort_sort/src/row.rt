@@ -5,11 +5,12 @@ ghost use Rattle.py_lines.specs.declared.unit.UnitKind.TheVariants as unit_kind;
 ghost use Rattle.py_imports.specs.Binds.{Binds};
 ghost use Rattle.py_imports.specs.Bound.{Bound};
 ghost use Rattle.py_imports.specs.Shape.{IsSortable};
-ghost use Rattle.isort_sort.specs.Private.LineRole.{before_of, IsOfRole, turned};
-ghost use Rattle.isort_sort.specs.Row.{before_line, indentation_of, is_comment_kind, parts_blocks, says_alone};
+ghost use Rattle.isort_sort.specs.Private.Actions.{AreActions};
+ghost use Rattle.isort_sort.specs.Private.LineRole.{before_of, IsOfRole};
+ghost use Rattle.isort_sort.specs.Row.{before_line, indentation_of};
 
-use crate::comment::comments_say;
-use py_imports::{ActionComment, Shape, is_declaration, mark_len, shape_of_bound};
+use crate::actions::Actions;
+use py_imports::{Shape, is_declaration, mark_len, shape_of_bound};
 use py_lines::{Unit, UnitKind};
 
 /// What a line asks of the blank lines between a block and itself.
@@ -45,36 +46,6 @@ pub(crate) fn indentation<'s>(unit: &Unit<'s>) -> &'s str
     &unit.text[start..start + unit.indent]
 }
 
-/// Whether a logical line holds comments alone.
-fn is_comment_kind(kind: UnitKind) -> bool
-    ensures { result ≡ is_comment_kind kind }
-{
-    matches!(kind, UnitKind::Comment)
-}
-
-/// Whether the line holds comments alone, one of which says the action.
-fn says_alone(unit: &Unit<'_>, action: ActionComment) -> bool
-    ensures { result ≡ says_alone action (line_in unit.now) }
-{
-    is_comment_kind(unit.kind) && comments_say(unit, action)
-}
-
-/// Whether sorting is off after the line, where it was off before it or not.
-pub(crate) fn is_off_after(unit: &Unit<'_>, off: bool) -> bool
-    ensures { result ≡ turned off (line_in unit.now) }
-{
-    says_alone(unit, ActionComment::Off) || (off && !says_alone(unit, ActionComment::On))
-}
-
-/// Whether the line parts blocks.
-fn parts_blocks(unit: &Unit<'_>) -> bool
-    ensures { result ≡ parts_blocks (line_in unit.now) }
-{
-    says_alone(unit, ActionComment::Off)
-        || says_alone(unit, ActionComment::On)
-        || says_alone(unit, ActionComment::Split)
-}
-
 /// What a line of code asks of the blank lines between a block and itself, where it is no member.
 fn blank_lines_before(unit: &Unit<'_>, shape: Shape) -> BlankLines
     requires { unit.now.kind ≡ unit_kind.Code }
@@ -103,14 +74,15 @@ fn role_of_code(unit: &Unit<'_>, off: bool) -> Role
     }
 }
 
-/// What the line is to sorting; `off` says whether sorting is off before it.
-pub(crate) fn role_of(unit: &Unit<'_>, off: bool) -> Role
-    requires { (bounds : List Bound) × Binds (line_in unit.now) bounds }
+/// What the line, which says these actions, is to sorting; `off` says whether sorting is off before it.
+pub(crate) fn role_of(unit: &Unit<'_>, actions: Actions, off: bool) -> Role
+    requires binds { (bounds : List Bound) × Binds (line_in unit.now) bounds }
+    requires actions { AreActions (line_in unit.now) actions }
     ensures { IsOfRole off (line_in unit.now) result }
 {
     match unit.kind {
         UnitKind::Blank => Role::Blank,
-        UnitKind::Comment if !parts_blocks(unit) => Role::Comments,
+        UnitKind::Comment if !actions.parts_blocks() => Role::Comments,
         UnitKind::Comment => Role::Other(BlankLines::AsMany),
         UnitKind::Code => role_of_code(unit, off),
     }

@@ -2,8 +2,7 @@
 ghost use Rattle.std.specs.Prelude.{◌≡◌, ◌≢◌, IfOk, IfErr, map};
 ghost use Rattle.isort_settings.specs.Values.{values};
 ghost use Rattle.isort_sort.specs.Answers.{AreBlocksOf, Checks, IsRefused, ReadsBack, Sorts, StaysSorted, TellsOutcome};
-ghost use Rattle.isort_sort.specs.Private.Found.{span_of};
-ghost use Rattle.isort_sort.specs.Private.FoundValues.{found_value};
+ghost use Rattle.isort_sort.specs.Private.Found.{span_of, found_value};
 ghost use Rattle.isort_sort.specs.Metered.{inner_of, last_of, IsGivenUp};
 ghost use Rattle.isort_sort.specs.Written.{LeavesUnwritten, WritesSorted};
 

@@ -5,8 +5,7 @@ use Rattle.std.specs.List.{list_any}
 use Rattle.std.specs.Option.{option_map_or}
 use Rattle.std.proofs.lemmas.List.Folds.{list_any-append}
 use Rattle.isort_sort.specs.Blocks.{is_member, begins_blank, Cut, rest, block, IsCutAtBlocks, member_of, role_is_member, role_stands_between}
-use Rattle.isort_sort.specs.Private.Found.{Found, found_from}
-use Rattle.isort_sort.specs.Private.Finding.{Open, Finding, EndInOpenRun, IsClosed, IsFinding, with_blank, with_comments, with_member, begun_with, closed_block, closed_found, after_blank, after_comments, after_other, after_member, goes_on_at}
+use Rattle.isort_sort.specs.Private.Found.{Found, found_from, Open, Finding, EndInOpenRun, IsClosed, IsFinding, with_blank, with_comments, with_member, begun_with, closed_block, closed_found, after_blank, after_comments, after_other, after_member, goes_on_at}
 use Rattle.isort_sort.specs.Member.{Member}
 use Rattle.isort_sort.specs.Row.{Before, one, Row, comments, blank, other}
 use Rattle.isort_sort.specs.Sorted.{texts_of, before_role}

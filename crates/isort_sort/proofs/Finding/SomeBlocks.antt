@@ -1,7 +1,7 @@
 -- Rows have a cut at blocks: the one that the program finds row by row.
 use Rattle.std.proofs.Common.{◌≡◌, ℕ, ◌+◌, Option, None, Some, List, [], ◌∷◌, ◌++◌, length, MatchOption, refl, sym, ap, subst, append_assoc, append-nil}
 use Rattle.isort_sort.specs.Blocks.{Cut, IsCutAtBlocks, member_of, role_is_member}
-use Rattle.isort_sort.specs.Private.Finding.{Open, Finding, IsFinding, after_blank, after_comments, after_other, after_member}
+use Rattle.isort_sort.specs.Private.Found.{Open, Finding, IsFinding, after_blank, after_comments, after_other, after_member}
 use Rattle.isort_sort.specs.Row.{Role, member, comments, blank, other, Row}
 use Rattle.isort_sort.proofs.Finding.Rows.{nothing_found, found_blank, found_comments, found_other, found_member, all_found}
 

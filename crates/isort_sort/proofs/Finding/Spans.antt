@@ -3,8 +3,7 @@ use Rattle.std.proofs.Common.{Vec, Global, ◌≡◌, ℕ, ◌+◌, List, [], �
 use Rattle.std.proofs.lemmas.List.{drop_all}
 use Rattle.isort_sort.specs.Answers.{spans_from, AreBlocksOf}
 use Rattle.isort_sort.specs.Blocks.{Cut, rest, block, cut_rows}
-use Rattle.isort_sort.specs.Private.Found.{found_of, found_from, span_of}
-use Rattle.isort_sort.specs.Private.FoundValues.{found_value}
+use Rattle.isort_sort.specs.Private.Found.{found_of, found_from, span_of, found_value}
 use Rattle.isort_sort.specs.Private.Reading.{IsFoundIn}
 use Rattle.isort_sort.specs.Sorted.{mark_of, texts_of}
 use Rattle.isort_sort.specs.declared.answer.Block.{Block}

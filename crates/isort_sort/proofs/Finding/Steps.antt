@@ -8,8 +8,7 @@ use Rattle.std.proofs.lemmas.List.{map-append}
 use Rattle.std.proofs.lemmas.List.Concat.{flat_map-append}
 use Rattle.std.proofs.lemmas.List.Sums.{sum_by-append}
 use Rattle.isort_sort.specs.Blocks.{is_member, stands_between, is_blank, Run, Further, further_rows, run_rows, is_run, goes_on, begins_blank, comments_in, member_of, members_of, leads_to, Cut, block, cut_rows, IsCutAtBlocks, role_is_blank, role_stands_between, role_comments}
-use Rattle.isort_sort.specs.Private.Found.{Found, found_from, next_of, ended_among}
-use Rattle.isort_sort.specs.Private.Finding.{Open, EndInOpenRun, is_some_row, with_blank, with_comments, with_member, begun_with, closed_block}
+use Rattle.isort_sort.specs.Private.Found.{Found, found_from, next_of, ended_among, Open, EndInOpenRun, is_some_row, with_blank, with_comments, with_member, begun_with, closed_block}
 use Rattle.isort_sort.specs.Member.{Member}
 use Rattle.isort_sort.specs.Row.{Before, as_many, Row, Role, comments, blank}
 use Rattle.isort_sort.specs.Sorted.{texts_of, last_row, before_role}

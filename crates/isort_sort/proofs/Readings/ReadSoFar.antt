@@ -1,9 +1,9 @@
 -- What is known of the lines of a text as they are read, one after another.
-use Rattle.std.proofs.Common.{◌≡◌, ℕ, true, false, Option, None, Some, Result, Ok, Err, List, [], ◌∷◌, ◌++◌, map, append-nil, append_assoc, inl, inr, refl, sym, ap, ◌∙◌, subst}
+use Rattle.std.proofs.Common.{◌≡◌, ℕ, true, false, Option, None, Some, Result, Ok, Err, List, [], ◌∷◌, ◌++◌, map, append-nil, append_assoc, inl, inr, refl, sym, ap, ◌∙◌, subst, arith}
 use Rattle.py_lines.specs.LogicalLine.{LogicalLine}
 use Rattle.py_lines.specs.Lexed.{IsLexed}
 use Rattle.py_lines.specs.Lines.{line_in, ReadsNext}
-use Rattle.py_lines.specs.Reader.{Reader, Continues}
+use Rattle.py_lines.specs.Reader.{Reader, Continues, Ends, HasGiven}
 use Rattle.py_lines.specs.declared.fault.LexError.{LexError}
 use Rattle.py_lines.specs.declared.fault.LexError.TheVariants as lex
 use Rattle.py_lines.specs.declared.unit.Unit as unit
@@ -12,10 +12,14 @@ use Rattle.py_imports.specs.Bound.{Bound, bound_of}
 use Rattle.py_imports.specs.declared.binding.Binding.{Binding}
 use Rattle.py_imports.specs.declared.error.ImportError.{ImportError}
 use Rattle.py_imports.specs.declared.error.ImportError.TheVariants as import
-use Rattle.isort_sort.specs.Private.Reading.{IsKnown, IsReadSoFar, IsWholeRead, ReadsLine, ReadsOver, RefusesNext}
+use Rattle.isort_sort.specs.Answers.{IsRefused}
+use Rattle.isort_sort.specs.Private.Found.{IsFurther}
+use Rattle.isort_sort.specs.Private.Reading.{stop_of, IsKnown, ReadsLine, ReadsOver, StandsAfter}
 use Rattle.isort_sort.specs.declared.read.LineReader.{LineReader}
 use Rattle.isort_sort.specs.Errors.{sort_error_of, sort_error_of_import}
 use Rattle.isort_sort.specs.Line.{imported_of}
+use Rattle.isort_sort.proofs.Readings.Lines.{any_match}
+use Rattle.isort_sort.proofs.Rows.Texts.{given_after}
 
 pub imports_of_bindings : (bindings : List Binding) → map (λ b. imported_of (bound_of b)) bindings ≡ map imported_of (map bound_of bindings)
 imports_of_bindings [] = refl
@@ -30,56 +34,66 @@ BindAll-snoc (l ∷ ls) line bounds more h b = (h.0, h.1 ++ more, ap (λ x. x ++
 pub continues : (old new : Reader) (result : Result (Option unit.Unit) LexError) (found : Option unit.Unit) (u : unit.Unit) → ReadsNext old result new → result ≡ Ok found → found ≡ Some u → Continues old (line_in u) new
 continues old new result found u reads is some = subst (λ r. ReadsNext old r new) (is ∙ ap Ok some) reads
 
--- what is known of a text is known with one line more
-pub known_on : (text : List ℕ) (old new : Reader) (r next : LineReader) (line : LogicalLine) (more : List Bound) → Continues old line new → Binds line more → ReadsLine line r next → IsKnown text old r → IsKnown text new next
-known_on text old new r next line more on binds reads known = record {
+-- no line is left
+pub ends : (old new : Reader) (result : Result (Option unit.Unit) LexError) (found : Option unit.Unit) → ReadsNext old result new → result ≡ Ok found → found ≡ None → Ends old new
+ends old new result found reads is none = subst (λ r. ReadsNext old r new) (is ∙ ap Ok none) reads
+
+-- a line that was read stands directly after those before it
+pub stands_after : (old new : Reader) (given : List LogicalLine) (line : LogicalLine) → Continues old line new → HasGiven old given → StandsAfter given line
+stands_after old new given line on are_given = given_after new given line (on.given given are_given)
+
+-- and after all bytes that were read
+pub further_on : (old new : Reader) (r : LineReader) (line : LogicalLine) → Continues old line new → IsKnown old r → IsFurther (stop_of line) r.blocks
+further_on old new r line on known =
+    let stands = stands_after old new known.given line on known.are_given in
+    any_match r.blocks.opened (omega (arith, on.some_text, stands, known.so_far.place))
+
+-- what is known is known with one line more
+pub known_on : (old new : Reader) (r next : LineReader) (line : LogicalLine) (more : List Bound) → Continues old line new → Binds line more → ReadsLine line r next → IsKnown old r → IsKnown new next
+known_on old new r next line more on binds reads known = record {
   given = known.given ++ line ∷ [];
   bounds = known.bounds ++ more;
-  same = on.text ∙ known.same;
   within = on.within;
   are_given = on.given known.given known.are_given;
   bind = BindAll-snoc known.given line known.bounds more known.bind binds;
-  so_far = reads known.given known.so_far;
+  so_far = reads known.given (stands_after old new known.given line on known.are_given) known.so_far;
 }
 
 -- the next line was read
-pub known_read : (text : List ℕ) (old new : Reader) (r next : LineReader) → ReadsOver old r (Ok true) new next → IsKnown text old r → IsKnown text new next
-known_read text old new r next (line, bounds, on, binds, reads) known = known_on text old new r next line bounds on binds reads known
+pub reads_line : (old new : Reader) (r next : LineReader) (line : LogicalLine) (more : List Bound) → Continues old line new → Binds line more → ReadsLine line r next → IsKnown old r → ReadsOver old (Ok true) new next
+reads_line old new r next line more on binds reads known = (known_on old new r next line more on binds reads known, on.text, omega (arith, on.place, on.some_text))
 
 -- no line is left
-pub read_whole : (text : List ℕ) (old new : Reader) (r next : LineReader) → ReadsOver old r (Ok false) new next → IsKnown text old r → IsWholeRead text next
-read_whole text old new r next (ends, same) known = record {
+pub reads_end : (old new : Reader) (r : LineReader) → Ends old new → IsKnown old r → ReadsOver old (Ok false) new r
+reads_end old new r ends known = record {
   lines = known.given;
-  accepted = record {
-    bounds = known.bounds;
-    lexed = subst (λ t. IsLexed t known.given None) known.same (ends.all known.given known.are_given);
-    good = known.bind;
-  };
-  so_far = subst (IsReadSoFar known.given) (sym same) known.so_far;
+  accepted = record { bounds = known.bounds; lexed = ends.all known.given known.are_given; good = known.bind };
+  so_far = known.so_far;
 }
 
 -- the fault of a text whose next line can't be read
-pub refuses_text : (old new : Reader) (e : LexError) → ReadsNext old (Err e) new → RefusesNext old (sort_error_of e)
-refuses_text old new lex.Memory reads = λ lines bounds given bind. tt
-refuses_text old new (lex.Fault fault) reads = λ lines bounds given bind. inr (record {
-  lines = lines;
-  bounds = bounds;
-  lexed = reads.all lines given;
-  good = bind;
+pub refuses_text : (old new : Reader) (r : LineReader) (e : LexError) → ReadsNext old (Err e) new → IsKnown old r → IsRefused old.text (sort_error_of e)
+refuses_text old new r lex.Memory reads known = tt
+refuses_text old new r (lex.Fault fault) reads known = inr (record {
+  lines = known.given;
+  bounds = known.bounds;
+  lexed = reads.all known.given known.are_given;
+  good = known.bind;
 })
 
 -- the fault of a text whose next line is bad
-pub refuses_line : (old new : Reader) (line : LogicalLine) (e : ImportError) → Continues old line new → Refuses line e → RefusesNext old (sort_error_of_import e)
-refuses_line old new line import.Memory continues bad = λ lines bounds given bind. tt
-refuses_line old new line (import.Fault fault) continues bad = λ lines bounds given bind.
-    let begins = continues.begins lines given in
+pub refuses_line : (old new : Reader) (r : LineReader) (line : LogicalLine) (e : ImportError) → Continues old line new → Refuses line e → IsKnown old r → IsRefused old.text (sort_error_of_import e)
+refuses_line old new r line import.Memory on bad known = tt
+refuses_line old new r line (import.Fault fault) on bad known =
+    let lines = known.given in
+    let begins = on.begins lines known.are_given in
     inl (record {
       before = lines;
       line = line;
       after = begins.more;
       end = begins.end;
-      bounds = bounds;
-      lexed = subst (λ t. IsLexed t (lines ++ line ∷ begins.more) begins.end) continues.text (subst (λ ls. IsLexed new.text ls begins.end) (append_assoc lines (line ∷ []) begins.more) begins.lexed);
-      good = bind;
+      bounds = known.bounds;
+      lexed = subst (λ t. IsLexed t (lines ++ line ∷ begins.more) begins.end) on.text (subst (λ ls. IsLexed new.text ls begins.end) (append_assoc lines (line ∷ []) begins.more) begins.lexed);
+      good = known.bind;
       bad = bad;
     })

@@ -21,7 +21,7 @@ use Rattle.isort_sort.specs.Line.{without_hash, without_start, without_end, stri
 use Rattle.std.proofs.Math.Bool.{and-false}
 use Rattle.isort_sort.proofs.Rows.Spaces.{space_low}
 use Rattle.std.proofs.lemmas.Option.{slice_get-get_or}
-use Rattle.isort_sort.specs.Private.Silence.{content_of}
+use Rattle.isort_sort.specs.Private.Actions.{content_of}
 
 -- space, tab and form feed
 abbrev pub spaces : List ℕ

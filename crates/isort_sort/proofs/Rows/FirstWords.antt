@@ -10,7 +10,7 @@ use Rattle.std.specs.List.{starts_with}
 use Rattle.memchr.specs.Find.{FindsNeedle, OccursAt, Nowhere, IsFirstByte, is_byte}
 use Rattle.memchr.proofs.lemmas.MatchLemmas.{OccursAt-part, OccursAt-from_part}
 use Rattle.py_imports.specs.FirstWords.{Lacks, LacksFirstWords}
-use Rattle.isort_sort.specs.Private.FirstWords.{BeginNowhere, HoldsBytesAt, IsSilentBetween}
+use Rattle.isort_sort.specs.Private.FirstWords.{BeginNowhere, HoldsBytesAt, IsFree, IsSilentBetween}
 
 -- the rest of a text
 rest_is : (text : List ℕ) (start : ℕ) → slice_range text start (length text) ≡ drop start text
@@ -52,6 +52,16 @@ later_start text start stop from nowhere low = (λ k above below. nowhere.0 k (o
 
 pub later_silence : (text : List ℕ) (start stop from : ℕ) → IsSilentBetween text start stop → start ≤ from → IsSilentBetween text from stop
 later_silence text start stop from silent low = λ k above below. silent k (omega (arith, low, above)) below
+
+pub later_free : (text : List ℕ) (start stop from : ℕ) → IsFree text start stop → start ≤ from → IsFree text from stop
+later_free text start stop from free low = (later_start text start stop from free.0 low, later_silence text start stop from free.1 low)
+
+-- as much as is free of both words and of `isort:`
+pub both_free : (text : List ℕ) (start words actions before : ℕ) → BeginNowhere text start words → IsSilentBetween text start actions → before ≤ words → before ≤ actions → IsFree text start before
+both_free text start words actions before nowhere silent less few = (
+  (λ k above below. nowhere.0 k above (omega (arith, below, less)), λ k above below. nowhere.1 k above (omega (arith, below, less))),
+  λ k above below. silent k above (omega (arith, below, few)),
+)
 
 -- a word doesn't stand where the text goes on otherwise
 pub other_word : (text word : List ℕ) (place : ℕ) → starts_with nat_eq (slice_range text place (length text)) word ≡ false → ¬ (OccursAt text word place)

@@ -1,31 +1,20 @@
 -- Texts in which `isort:` stands nowhere: they say no action, and so does no part of them.
-use Rattle.std.proofs.Common.{◌≡◌, ℕ, ◌+◌, Bool, true, false, cond, ◌||◌, None, List, [], ◌∷◌, ◌++◌, length, take, drop, map, ◌-◌, refl, sym, ap, ◌∙◌, append_assoc, arith, length-append}
-use Rattle.std.specs.Prelude.{IsTrue, codes, is_some, not, Option, Some, filter, nat_eq, slice_range}
+use Rattle.std.proofs.Common.{◌≡◌, ℕ, ◌+◌, Bool, true, false, cond, ◌||◌, ◌&&◌, Option, None, Some, List, [], ◌∷◌, ◌++◌, length, take, drop, map, ◌-◌, refl, sym, ap, ◌∙◌, append_assoc}
+use Rattle.std.specs.Prelude.{codes, filter, nat_eq, slice_get, slice_range}
 use Rattle.std.specs.List.{list_any, starts_with}
-use Rattle.std.proofs.Math.Seq.{drop-append_seam}
+use Rattle.std.proofs.Math.Bool.{and-false}
 use Rattle.std.proofs.lemmas.List.{take-append-drop}
 use Rattle.std.proofs.lemmas.Slice.Eq.{bytes_eq-Decides}
-use Rattle.memchr.specs.Find.{FindsNeedle}
-use Rattle.memchr.proofs.lemmas.MatchLemmas.{OccursAt-from_part}
 use Rattle.py_lines.specs.LogicalLine.{LogicalLine}
 use Rattle.py_lines.specs.declared.token.Token.{Token}
 use Rattle.py_imports.specs.ActionComment.{begins_with_phrase, begins_with_action, action_word, says}
-use Rattle.py_imports.specs.Statement.{is_comment}
+use Rattle.py_imports.specs.Statement.{is_comment, significant}
 use Rattle.py_imports.specs.declared.action_comment.ActionComment.{ActionComment}
-use Rattle.isort_sort.specs.Private.Silence.{IsSilent, SaysNothing}
+use Rattle.py_imports.specs.declared.action_comment.ActionComment.TheVariants as action
+use Rattle.isort_sort.specs.Line.{word_of}
+use Rattle.isort_sort.specs.Private.Actions.{no_actions, AreActions, IsSilent}
+use Rattle.isort_sort.specs.Row.{is_comment_kind, is_string, says_alone, string_skips}
 use Rattle.isort_sort.proofs.Rows.Comments.{comments_say}
-
-silent_unfound : (text : List ℕ) → FindsNeedle text (codes "isort:") 0 None → IsSilent text
-silent_unfound text none = λ before after e.
-    let len : length text ≡ length before + length (codes "isort:" ++ after) = ap length e ∙ length-append before (codes "isort:" ++ after) in
-    let part : take 6 (drop (length before) text) ≡ codes "isort:" = ap (λ t. take 6 (drop (length before) t)) e ∙ ap (take 6) (drop-append_seam before (codes "isort:" ++ after)) in
-    none (length before) (omega arith) (omega (arith, len)) (OccursAt-from_part text (codes "isort:") (length before) (omega (arith, len)) part)
-
--- a search for `isort:` found nothing
-pub silent_text : (text : List ℕ) (found : Option ℕ) (none : Bool) → is_some found ≡ not none → FindsNeedle text (codes "isort:") 0 found → IsTrue none → IsSilent text
-silent_text text None none told finds is = silent_unfound text finds
-silent_text text (Some place) true told finds is = absurd (cc)
-silent_text text (Some place) false told finds is = absurd (cc)
 
 -- a part of a silent text
 pub silent_part : (text before part after : List ℕ) → text ≡ before ++ (part ++ after) → IsSilent text → IsSilent part
@@ -74,21 +63,19 @@ silent_among a text silent (t ∷ ts) = by (is_comment t.kind) (silent_among a t
     by true later = λ i. silent_says a (slice_range text t.start t.stop) (silent_slice text t.start t.stop silent) i || later i
     by false later = later
 
--- no comment of a silent line says an action
-pub silent_comments : (line : LogicalLine) → IsSilent line.text → SaysNothing line
-silent_comments line silent a = silent_among a line.text silent line.tokens
+silent_alone : (a : ActionComment) (line : LogicalLine) → IsSilent line.text → says_alone a line ≡ false
+silent_alone a line silent = (λ i. is_comment_kind line.kind && silent_among a line.text silent line.tokens i) ∙ and-false (is_comment_kind line.kind)
 
--- nor does a line without comments
-no_comment_among : (a : ActionComment) (text : List ℕ) (tokens : List Token) → list_any (λ t. is_comment t.kind) tokens ≡ false → comments_say a text tokens ≡ false
-no_comment_among a text [] none = refl
-no_comment_among a text (t ∷ ts) none = by (is_comment t.kind) none (no_comment_among a text ts)
-  where
-    others : List Token
-    others = filter (λ t. is_comment t.kind) ts
+silent_string : (line : LogicalLine) → IsSilent line.text → (found : Option Token) → string_skips line found ≡ false
+silent_string line silent None = refl
+silent_string line silent (Some t) = (λ i. is_string t.kind && silent_says action.SkipFile (word_of line t) (silent_slice line.text t.start t.stop silent) i) ∙ and-false (is_string t.kind)
 
-    by : (b : Bool) → b || list_any (λ t. is_comment t.kind) ts ≡ false → (list_any (λ t. is_comment t.kind) ts ≡ false → comments_say a text ts ≡ false) → list_any (says a) (map (λ t. slice_range text t.start t.stop) (cond b (t ∷ others) others)) ≡ false
-    by true h later = absurd (cc)
-    by false h later = later h
-
-pub bare_comments : (line : LogicalLine) → list_any (λ t. is_comment t.kind) line.tokens ≡ false → SaysNothing line
-bare_comments line none a = no_comment_among a line.text line.tokens none
+-- a silent line says no action
+pub silent_actions : (line : LogicalLine) → IsSilent line.text → AreActions line no_actions
+silent_actions line silent = record {
+  skip_file = sym (silent_among action.SkipFile line.text silent line.tokens);
+  string = sym (silent_string line silent (slice_get (significant line.tokens) 0));
+  off = sym (silent_alone action.Off line silent);
+  on = sym (silent_alone action.On line silent);
+  split = sym (silent_alone action.Split line silent);
+}

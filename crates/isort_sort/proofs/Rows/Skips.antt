@@ -14,7 +14,8 @@ use Rattle.py_imports.specs.Shape.{is_nothing}
 use Rattle.py_imports.specs.Statement.{is_comment, significant}
 use Rattle.py_imports.specs.declared.action_comment.ActionComment.TheVariants as action
 use Rattle.isort_sort.specs.Line.{comment_texts}
-use Rattle.isort_sort.specs.Private.Reading.{has_code, IsSkipSoFar}
+use Rattle.isort_sort.specs.Private.Actions.{asks_to_skip}
+use Rattle.isort_sort.specs.Private.Reading.{has_code, ReadsSkip}
 use Rattle.isort_sort.specs.Row.{is_string, string_skips, first_string_skips}
 use Rattle.isort_sort.specs.declared.skip.SkipReader.{SkipReader}
 use Rattle.isort_sort.proofs.Rows.Comments.{token_at, word_at, token_is_at}
@@ -88,11 +89,11 @@ string_snoc (x ∷ xs) l = by (is_nothing (significant x.tokens)) (string_snoc x
     by false later = sym (or-false (string_skips x (slice_get (significant x.tokens) 0)))
 
 -- one more line
-pub skip_pushed : (lines : List LogicalLine) (line : LogicalLine) (old new : SkipReader) → new.skips ≡ old.skips || list_any (says action.SkipFile) (comment_texts line) || (not old.begun && string_skips line (slice_get (significant line.tokens) 0)) → new.begun ≡ old.begun || has_code line → IsSkipSoFar lines old → IsSkipSoFar (lines ++ line ∷ []) new
-skip_pushed lines line old new skips begun h = record {
+pub skip_pushed : (line : LogicalLine) (old new : SkipReader) → new.skips ≡ old.skips || asks_to_skip old.begun line → new.begun ≡ old.begun || has_code line → ReadsSkip line old new
+skip_pushed line old new skips begun lines h = record {
   skips =
       skips
-      ∙ (λ i. h.skips i || list_any (says action.SkipFile) (comment_texts line) || (not (h.begun i) && string))
+      ∙ (λ i. h.skips i || (says_so line || (not (h.begun i) && string)))
       ∙ mixed (list_any says_so lines) (first_string_skips lines) (says_so line) (not (list_any has_code lines) && string)
       ∙ sym (λ i. any_push says_so lines line i || string_snoc lines line i);
   begun = begun ∙ ap (λ b. b || has_code line) h.begun ∙ sym (any_push has_code lines line);
@@ -104,7 +105,7 @@ skip_pushed lines line old new skips begun h = record {
     string : Bool
     string = string_skips line (slice_get (significant line.tokens) 0)
 
-    mixed : (a b c d : Bool) → (a || b) || c || d ≡ (a || c) || (b || d)
+    mixed : (a b c d : Bool) → (a || b) || (c || d) ≡ (a || c) || (b || d)
     mixed true b c d = refl
     mixed false true true d = refl
     mixed false true false d = refl

@@ -5,11 +5,12 @@ use Rattle.std.proofs.lemmas.Str.{encodes-append}
 use Rattle.std.proofs.lemmas.List.{take-append-drop, length-append}
 use Rattle.py_lines.specs.Balance.{depth_after}
 use Rattle.py_lines.specs.Lexed.{IsLexed}
-use Rattle.py_lines.specs.LogicalLine.{LogicalLine, line_of, is_line_end_class, put_first, cut, byte_len, line_ends, lines_from}
+use Rattle.py_lines.specs.LogicalLine.{LogicalLine, line_of, is_line_end_class, put_first, cut, byte_len, line_ends, lines_from, lines_of}
 use Rattle.py_lines.specs.Piece.{Piece, spelled}
 use Rattle.py_lines.specs.Reader.{Reader, HasGiven}
 use Rattle.py_imports.specs.Shape.{mark_len}
 use Rattle.isort_sort.specs.Private.FirstWords.{HoldsLineAt}
+use Rattle.isort_sort.specs.Private.Reading.{texts_of_lines, StandsAfter}
 use Rattle.isort_sort.specs.Row.{Row, AreRows}
 use Rattle.isort_sort.specs.Sorted.{texts_of, mark_of}
 
@@ -25,10 +26,6 @@ cut_spelled depth (p ∷ ps) = by (is_line_end_class p.class && (depth == 0)) (c
     by : (b : Bool) → flat_map spelled (cut depth ps) ≡ spelled ps → flat_map spelled (cut (depth_after depth p) ps) ≡ spelled ps → flat_map spelled (cond b ((p ∷ []) ∷ cut depth ps) (put_first p (cut (depth_after depth p) ps))) ≡ p.text ++ spelled ps
     by true ended goes_on = (λ i. append-nil p.text i ++ ended i)
     by false ended goes_on = put_spelled p (cut (depth_after depth p) ps) ∙ ap (λ (t : List ℕ). p.text ++ t) goes_on
-
--- the texts of lines
-abbrev pub texts_of_lines : List LogicalLine → List ℕ
-texts_of_lines lines = flat_map (λ line. line.text) lines
 
 pub lines_spelled : (offset line : ℕ) (us : List (List Piece)) → texts_of_lines (lines_from offset line us) ≡ encode_utf8_all (flat_map spelled us)
 lines_spelled offset line [] = refl
@@ -46,9 +43,21 @@ line_place offset number (u ∷ us) (l ∷ ls) line e =
     let others : lines_from (offset + byte_len (spelled u)) (number + line_ends (spelled u)) us ≡ ls ++ line ∷ [] = cc in
     omega (arith, length-append l.text (texts_of_lines ls), ap (λ (m : LogicalLine). length m.text) same, line_place (offset + byte_len (spelled u)) (number + line_ends (spelled u)) us ls line others)
 
-texts_snoc : (before : List LogicalLine) (line : LogicalLine) → texts_of_lines (before ++ line ∷ []) ≡ texts_of_lines before ++ line.text
+pub texts_snoc : (before : List LogicalLine) (line : LogicalLine) → texts_of_lines (before ++ line ∷ []) ≡ texts_of_lines before ++ line.text
 texts_snoc [] line = append-nil line.text
 texts_snoc (l ∷ ls) line = ap (λ t. l.text ++ t) (texts_snoc ls line) ∙ sym (append_assoc l.text (texts_of_lines ls) line.text)
+
+-- the texts of the lines of pieces
+texts_are : (pieces : List Piece) (lines : List LogicalLine) → lines ≡ lines_of pieces → encode_utf8_all (spelled pieces) ≡ texts_of_lines lines
+texts_are pieces lines are = ap encode_utf8_all (sym (cut_spelled 0 pieces)) ∙ sym (lines_spelled 0 1 (cut 0 pieces)) ∙ ap texts_of_lines (sym are)
+
+-- lines that were given end where the reader stands
+pub given_place : (r : Reader) (lines : List LogicalLine) → HasGiven r lines → r.place ≡ length (texts_of_lines lines)
+given_place r lines given = given.first.here ∙ ap length (texts_are given.first.pieces lines given.first.cut)
+
+-- a line that was given stands directly after those before it
+pub given_after : (r : Reader) (before : List LogicalLine) (line : LogicalLine) → HasGiven r (before ++ line ∷ []) → StandsAfter before line
+given_after r before line given = omega (arith, line_place 0 1 (cut 0 given.first.pieces) before line (sym given.first.cut))
 
 -- a line that was given stands in the text, after those before it
 pub line_stands : (r : Reader) (before : List LogicalLine) (line : LogicalLine) → HasGiven r (before ++ line ∷ []) → HoldsLineAt r.text line
@@ -62,7 +71,7 @@ line_stands r before line given =
           sym first.decodes.spell
           ∙ ap (λ t. t ++ first.tail) (ap encode_utf8_all (sym first.spell) ∙ encodes-append (spelled first.pieces) first.rest)
           ∙ append_assoc (encode_utf8_all (spelled first.pieces)) rest first.tail
-          ∙ ap (λ t. t ++ (rest ++ first.tail)) (ap encode_utf8_all (sym (cut_spelled 0 first.pieces)) ∙ sym (lines_spelled 0 1 (cut 0 first.pieces)) ∙ ap texts_of_lines (sym first.cut) ∙ texts_snoc before line)
+          ∙ ap (λ t. t ++ (rest ++ first.tail)) (texts_are first.pieces (before ++ line ∷ []) first.cut ∙ texts_snoc before line)
           ∙ append_assoc (texts_of_lines before) line.text (rest ++ first.tail);
       place = omega (arith, line_place 0 1 (cut 0 first.pieces) before line (sym first.cut));
     }
@@ -70,8 +79,7 @@ line_stands r before line given =
 -- a text is the texts of its lines
 pub text_of_lines : (text : List ℕ) (lines : List LogicalLine) → IsLexed text lines None → text ≡ texts_of_lines lines
 text_of_lines text lines is =
-    sym is.decodes.spell ∙ append-nil (encode_utf8_all is.characters) ∙ ap encode_utf8_all (sym is.reading.reads.spell ∙ sym (cut_spelled 0 is.pieces))
-    ∙ sym (lines_spelled 0 1 (cut 0 is.pieces)) ∙ ap texts_of_lines (sym is.cut)
+    sym is.decodes.spell ∙ append-nil (encode_utf8_all is.characters) ∙ ap encode_utf8_all (sym is.reading.reads.spell) ∙ texts_are is.pieces lines is.cut
 
 -- rows after the first line have the texts of their lines
 later_rows : (first : LogicalLine) (others lines : List LogicalLine) (rows : List Row) → AreRows (first ∷ others) lines rows → texts_of_lines lines ≡ texts_of rows

@@ -5,8 +5,7 @@ use Rattle.std.specs.Str.{IsUtf8}
 use Rattle.std.proofs.lemmas.Str.{IsUtf8-nil, IsUtf8-append}
 use Rattle.std.proofs.Math.Seq.{drop-append_seam, take-append_seam}
 use Rattle.isort_settings.specs.Values.{Values}
-use Rattle.isort_sort.specs.Private.Arranged.{IsArranged}
-use Rattle.isort_sort.specs.Private.Arranging.{AreUtf8, IsCutText, IsArranging}
+use Rattle.isort_sort.specs.Private.Arranged.{IsArranged, AreUtf8, IsCutText, IsArranging}
 use Rattle.isort_sort.specs.Blocks.{Run, run_rows, Cut, rest, block, cut_rows}
 use Rattle.isort_sort.specs.Private.Found.{Found, found_of, found_from}
 use Rattle.isort_sort.specs.Row.{Row}

@@ -6,11 +6,9 @@ use Rattle.std.proofs.lemmas.List.{drop-drop}
 use Rattle.std.proofs.lemmas.Str.{IsUtf8-nil, IsUtf8-append}
 use Rattle.std.proofs.Math.Seq.{take-add}
 use Rattle.isort_settings.specs.Values.{Values, values}
-use Rattle.isort_sort.specs.Private.Arranged.{IsArranged}
-use Rattle.isort_sort.specs.Private.Arranging.{IsArranging}
+use Rattle.isort_sort.specs.Private.Arranged.{IsArranged, IsArranging}
 use Rattle.isort_sort.specs.Blocks.{cut_rows}
-use Rattle.isort_sort.specs.Private.Found.{Found}
-use Rattle.isort_sort.specs.Private.FoundValues.{found_value}
+use Rattle.isort_sort.specs.Private.Found.{Found, found_value}
 use Rattle.isort_sort.specs.Private.LineEnd.{end_bytes}
 use Rattle.isort_sort.specs.Private.Parts.{parts_left, HasMade}
 use Rattle.isort_sort.specs.Private.Reading.{IsFoundIn}

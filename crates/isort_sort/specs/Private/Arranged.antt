@@ -1,14 +1,18 @@
--- The layout of a block that was found, and what is left of it to be written.
+-- The layout of a block that was found, with what is left of it to be written, and how far the program is in a sorted text.
 use Rattle.std.specs.Prelude.{◌≡◌, ◌≢◌, ℕ, ◌+◌, false, List, [], ◌++◌, Option, None, Some, MatchOption, option_map}
-use Rattle.std.specs.Prelude.{length, map, string_bytes}
+use Rattle.std.specs.Prelude.{◌∷◌, length, map, string_bytes}
 use Rattle.std.specs.Borrow.{Bor}
 use Rattle.std.specs.List.{AllByRecursion}
+use Rattle.std.specs.Str.{IsUtf8}
 use Rattle.isort_settings.specs.Values.{Values, values}
-use Rattle.isort_sort.specs.Private.Found.{Found, blanks_of}
+use Rattle.isort_sort.specs.Blocks.{Cut, cut_rows}
+use Rattle.isort_sort.specs.Private.Found.{Found, blanks_of, found_from}
 use Rattle.isort_sort.specs.Private.Group.{group_value}
 use Rattle.isort_sort.specs.Private.LineEnd.{end_bytes}
 use Rattle.isort_sort.specs.Private.Packing.{lines_left, HasSection}
 use Rattle.isort_sort.specs.Layout.{Laid, AreLaid, block_lines, text_of_lines}
+use Rattle.isort_sort.specs.Row.{Row}
+use Rattle.isort_sort.specs.Sorted.{texts_of, IsSortedCut}
 use Rattle.isort_sort.specs.declared.arrange.Arrangement.{Arrangement}
 
 -- the text is a layout of the block, with the blank lines after it
@@ -39,3 +43,28 @@ pub record IsReady (a : Arrangement) : Type 0 where
 abbrev pub IsCutOff : List ℕ → List ℕ → Option (Bor (List ℕ)) → Type 0
 IsCutOff bytes text None = (rest : List ℕ) → bytes ≡ text ++ rest → ⊥
 IsCutOff bytes text (Some rest) = bytes ≡ text ++ rest.now
+
+-- the texts of rows are UTF-8
+abbrev pub AreUtf8 : List Row → Type 0
+AreUtf8 [] = Unit {0}
+AreUtf8 (row ∷ rows) = IsUtf8 row.text × AreUtf8 rows
+
+-- the text is a byte order mark or nothing, and rows cut at blocks, which these are
+pub record IsCutText (text mark : List ℕ) (cut : Cut) (found : List Found) : Type 0 where
+  pub split : text ≡ mark ++ texts_of (cut_rows cut)
+  pub spans : found ≡ found_from (length mark) cut
+  pub utf8_mark : IsUtf8 mark
+  pub utf8 : AreUtf8 (cut_rows cut)
+
+-- the text up to the byte `at` was passed, and what is written is sorted whatever sorts the rest; these blocks are left
+pub record IsArranging (text : List ℕ) (v : Values) (end mark : List ℕ) (cut : Cut) (left : List Found) (at : ℕ)
+    (out : List ℕ) : Type 0 where
+  pub passed : List ℕ
+  pub rest : Cut
+  pub done : List ℕ
+  pub split : text ≡ passed ++ texts_of (cut_rows rest)
+  pub place : at ≡ length passed
+  pub spans : left ≡ found_from at rest
+  pub utf8 : AreUtf8 (cut_rows rest)
+  pub written : out ≡ mark ++ done
+  pub goes_on : (others : List ℕ) → IsSortedCut v end rest others → IsSortedCut v end cut (done ++ others)

@@ -4,11 +4,9 @@ use Rattle.std.specs.Prelude.{slice_range, string_bytes, Option, None, Some}
 use Rattle.std.specs.Str.{IsUtf8}
 use Rattle.py_lines.specs.LogicalLine.{LogicalLine}
 use Rattle.isort_settings.specs.Values.{Values, values}
-use Rattle.isort_sort.specs.Private.Arranged.{text_left}
-use Rattle.isort_sort.specs.Private.Arranging.{IsArranging}
+use Rattle.isort_sort.specs.Private.Arranged.{text_left, IsArranging}
 use Rattle.isort_sort.specs.Blocks.{Cut}
-use Rattle.isort_sort.specs.Private.Found.{Found}
-use Rattle.isort_sort.specs.Private.FoundValues.{found_value}
+use Rattle.isort_sort.specs.Private.Found.{Found, found_value}
 use Rattle.isort_sort.specs.Private.LineEnd.{end_bytes}
 use Rattle.isort_sort.specs.Sorted.{first_end, mark_of, HasBlocks}
 use Rattle.isort_sort.specs.declared.parts.Part.{Part}

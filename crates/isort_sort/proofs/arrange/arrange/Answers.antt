@@ -3,8 +3,7 @@ use Rattle.std.specs.List.{AllByRecursion}
 use Rattle.isort_settings.specs.Values.{values}
 use Rattle.isort_sort.specs.Layout.{block_lines, text_of_lines}
 use Rattle.isort_sort.specs.Private.Arranged.{IsArranged}
-use Rattle.isort_sort.specs.Private.Found.{blanks_of}
-use Rattle.isort_sort.specs.Private.FoundValues.{found_value}
+use Rattle.isort_sort.specs.Private.Found.{blanks_of, found_value}
 use Rattle.isort_sort.specs.Private.Group.{group_value}
 use Rattle.isort_sort.specs.Private.LineEnd.{end_bytes}
 use Rattle.isort_sort.specs.Private.Packing.{laid_of, HasSection}

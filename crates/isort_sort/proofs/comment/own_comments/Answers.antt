@@ -1,5 +1,5 @@
 use Rattle.std.proofs.Common.{◌++◌, [], map, string_bytes, if◌then◌else◌, append-nil, sym, ap, ◌∙◌}
-use Rattle.isort_sort.specs.Private.Silence.{content_of}
+use Rattle.isort_sort.specs.Private.Actions.{content_of}
 use Rattle.isort_sort.proofs.Rows.Comments.{contents_on, token_is_at, word_at}
 use Rattle.isort_sort.proofs.comment.own_comments.Goals as goal
 use Rattle.isort_sort.proofs.comment.own_comments.Goals.{then-is_comment+in_ok-push_content, else-is_comment}

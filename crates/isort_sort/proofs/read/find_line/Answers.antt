@@ -1,40 +1,36 @@
-use Rattle.std.proofs.Common.{rules, [], ◌≡◌, ◌+◌, ◌-◌, length, map, string_bytes, refl, sym, ap, ◌∙◌, MatchOption}
+use Rattle.std.proofs.Common.{[], ◌≡◌, map, string_bytes, refl, sym, ap, ◌∙◌, MatchOption}
 use Rattle.py_lines.specs.Lines.{line_in}
 use Rattle.py_imports.specs.Bound.{bound_of}
-use Rattle.isort_sort.specs.Private.FoundValues.{finding_value}
 use Rattle.isort_sort.specs.Line.{comment_texts, own_comments, imported_of}
+use Rattle.isort_sort.specs.Private.LineRole.{before_of}
 use Rattle.isort_sort.specs.Private.Values.{member_value}
 use Rattle.isort_sort.proofs.Readings.Lines.{finds_blank, finds_comments, finds_member, finds_other, any_match, none_match}
 use Rattle.isort_sort.proofs.Readings.ReadSoFar.{imports_of_bindings}
 use Rattle.isort_sort.proofs.read.find_line.Goals as goal
 use Rattle.isort_sort.proofs.read.find_line.Goals.{then-is_open+in_ok-comments-in-Comments, else-is_open}
 
-pub returns-in-Blank-clause-on : goal.returns-in-Blank-clause-on
-returns-in-Blank-clause-on c =
-    let stop = ap (λ n. n + (length c.args.unit.now.text.now - c.args.mark)) c.place.ensures in
-    finds_blank c.args.off c.args.mark (line_in c.args.unit.now) (search rules) (finding_value c.args.blocks.now) _ _ _ c.push_blank.ensures.value c.in-Blank.ensures stop refl
+pub returns-in-Blank : goal.returns-in-Blank
+returns-in-Blank c = finds_blank c.args.off (line_in c.args.unit.now) c.of-line.ensures.utf8 c.args.blocks.now _ _ c.of-line.ensures.stop _ c.push_blank.ensures c.in-Blank.ensures c.of-line.ensures.ended
 
 -- the comments that were copied, where a block may go on
-pub returns-in_ok-push_comments-in-Comments-clause-on : goal.returns-in_ok-push_comments-in-Comments-clause-on
-returns-in_ok-push_comments-in-Comments-clause-on c =
+pub returns-in_ok-push_comments-in-Comments : goal.returns-in_ok-push_comments-in-Comments
+returns-in_ok-push_comments-in-Comments c =
     let line = line_in c.args.unit.now in
-    let old = finding_value c.args.blocks.now in
+    let old = c.args.blocks.now in
     let same : MatchOption old.opened (Unit {0}) (λ o. map string_bytes c.if-is_open.comments.items ≡ comment_texts line) =
     elim c.if-is_open.branch [
       | then-is_open+in_ok-comments-in-Comments w ↦ any_match old.opened (ap (λ v. map string_bytes v.items) w.comments-is ∙ w.in_ok-comments-in-Comments.ensures)
       | else-is_open w ↦ none_match _ old.opened (sym c.is_open.ensures ∙ w.if-is_open.false)
     ] in
-    finds_comments c.args.off c.args.mark line (search rules) old _ _ _ c.in_ok-push_comments-in-Comments.ensures.value c.in-Comments.ensures same (ap (λ n. n + (length line.text - c.args.mark)) c.place.ensures)
+    finds_comments c.args.off line c.of-line.ensures.utf8 old _ _ c.of-line.ensures.stop _ c.in_ok-push_comments-in-Comments.ensures c.in-Comments.ensures same
 
-pub returns-in_ok-push_member-in-Member-clause-on : goal.returns-in_ok-push_member-in-Member-clause-on
-returns-in_ok-push_member-in-Member-clause-on c =
+pub returns-in_ok-push_member-in-Member : goal.returns-in_ok-push_member-in-Member
+returns-in_ok-push_member-in-Member c =
     let line = line_in c.args.unit.now in
     let value : member_value (record { bindings = c.args.bindings; comments = c.in_ok-own_comments-in-Member.field-0; above = c.new.result }) ≡ record { imports = map imported_of (map bound_of c.args.bindings.items); comments = own_comments line; above = [] } =
     λ i. record { imports = imports_of_bindings c.args.bindings.items i; comments = c.in_ok-own_comments-in-Member.ensures i; above = map string_bytes (c.new.ensures.items i) } in
-    finds_member c.args.off c.args.mark line (search rules) (finding_value c.args.blocks.now) _ _ _ _ _ (map bound_of c.args.bindings.items)
-    c.in_ok-push_member-in-Member.ensures.value c.in-Member.ensures c.requires.binds value c.indentation.ensures (ap (λ n. n + (length line.text - c.args.mark)) c.place.ensures) refl
+    finds_member c.args.off line c.of-line.ensures.utf8 c.args.blocks.now _ _ c.of-line.ensures.stop _ _ _ (map bound_of c.args.bindings.items)
+    c.in_ok-push_member-in-Member.ensures c.in-Member.ensures c.requires.binds value c.indentation.ensures c.of-line.ensures.ended
 
-pub returns-in_ok-push_other-in-Other-clause-on : goal.returns-in_ok-push_other-in-Other-clause-on
-returns-in_ok-push_other-in-Other-clause-on c =
-    let stop = ap (λ n. n + (length c.args.unit.now.text.now - c.args.mark)) c.place.ensures in
-    finds_other c.args.off c.args.mark (line_in c.args.unit.now) (search rules) (finding_value c.args.blocks.now) _ _ c.in-Other.blank_lines c.in_ok-push_other-in-Other.ensures.value c.in-Other.ensures stop
+pub returns-in_ok-push_other-in-Other : goal.returns-in_ok-push_other-in-Other
+returns-in_ok-push_other-in-Other c = finds_other c.args.off (line_in c.args.unit.now) c.of-line.ensures.utf8 c.args.blocks.now _ _ c.of-line.ensures.stop (before_of c.in-Other.blank_lines) c.in_ok-push_other-in-Other.ensures c.in-Other.ensures

@@ -1,6 +1,6 @@
 use Rattle.std.proofs.Common.{refl, ap, map}
 use Rattle.isort_settings.specs.Values.{values}
-use Rattle.isort_sort.specs.Private.FoundValues.{found_value}
+use Rattle.isort_sort.specs.Private.Found.{found_value}
 use Rattle.isort_sort.proofs.SortedTexts.Parts.{begin_made}
 use Rattle.isort_sort.proofs.parts.Parts.new.Goals as goal
 

@@ -3,7 +3,7 @@ use Rattle.std.specs.Prelude.{slice_range}
 use Rattle.std.specs.Str.{IsUtf8}
 use Rattle.std.specs.Vec.Iter.{into_iter_items}
 use Rattle.isort_sort.specs.Private.Arranged.{text_left, IsArranged}
-use Rattle.isort_sort.specs.Private.FoundValues.{found_value}
+use Rattle.isort_sort.specs.Private.Found.{found_value}
 use Rattle.isort_sort.specs.Private.LineEnd.{end_bytes}
 use Rattle.isort_sort.proofs.SortedTexts.Parts.{made_gap, next_made, same_made}
 use Rattle.isort_sort.proofs.parts.Parts.next.Goals as goal

@@ -1,32 +1,19 @@
-use Rattle.std.proofs.Common.{length, refl, sym, ap, subst, ◌∙◌}
-use Rattle.std.specs.Str.{IsUtf8}
+use Rattle.std.proofs.Common.{sym, ap, ◌∙◌, subst, arith}
 use Rattle.py_lines.specs.Lines.{line_in}
-use Rattle.isort_sort.specs.Private.FoundValues.{finding_value}
-use Rattle.isort_sort.proofs.Readings.Passing.{passed_to, passed_on, begins_none, none_open}
+use Rattle.isort_sort.specs.Private.Reading.{ReadsLine}
+use Rattle.isort_sort.specs.declared.read.LineReader.{LineReader}
+use Rattle.isort_sort.proofs.Readings.Passing.{free_passed}
+use Rattle.isort_sort.proofs.Rows.FirstWords.{lacks_first_words}
 use Rattle.isort_sort.proofs.read.LineReader.pass.Goals as goal
 
 pub returns-clause-on : goal.returns-clause-on
-returns-clause-on c = λ is lines h.
+returns-clause-on c = λ is.
     let line = line_in c.args.unit.now in
-    let utf8 = subst IsUtf8 c.as_bytes.ensures.value c.as_bytes.ensures.utf8 in
     let old = c.args.self.now in
-    let plain = c.none_in.ensures.plain c.if-not-none_in.false in
-    passed_on
-    lines
-    line
-    old
-    (record { begun = old.begun; off = old.off; skip = old.skip; blocks = c.pass.new.self })
-    utf8
-    (c.says_nothing.ensures c.if-not-says_nothing.false)
-    (begins_none line plain.unspelled)
-    c.if-not-self.false
-    (sym c.begins_by.ensures ∙ c.if-begins_by.false)
-    (none_open _ (sym c.is_open.ensures ∙ c.if-is_open.false))
-    (c.pass.ensures.value ∙ ap (λ t. passed_to (length t) (finding_value old.blocks)) c.as_bytes.ensures.value)
-    refl
-    refl
-    refl
-    h
+    subst (λ (r : LineReader). ReadsLine line old r) (λ i. record old { blocks = sym (c.pass.ensures ∙ ap (λ n. record old.blocks { place = n }) c.of-line.ensures.stop) i })
+    (free_passed c.args.words.now line line.offset c.free_up_to.result old c.lines_without_first_words_bind_nothing.ensures.word c.requires c.free_up_to.ensures.free (omega (arith, c.if-free_up_to-line.false, c.of-line.ensures.stop)) c.of-line.ensures.utf8 (c.may_pass.ensures c.if-not-may_pass.false))
 
 pub returns-clause-binds : goal.returns-clause-binds
-returns-clause-binds c = λ is. (c.none_in.ensures.plain c.if-not-none_in.false).nothing
+returns-clause-binds c = λ is.
+    let line = line_in c.args.unit.now in
+    c.lines_without_first_words_bind_nothing.ensures.none line (lacks_first_words c.args.words.now line.text line.offset c.free_up_to.result c.requires c.free_up_to.ensures.free.0 (omega (arith, c.if-free_up_to-line.false, c.of-line.ensures.stop)))

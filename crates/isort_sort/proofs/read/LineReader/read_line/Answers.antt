@@ -1,10 +1,12 @@
-use Rattle.std.proofs.Common.{length, sym, ap, ◌∙◌, subst, arith}
+use Rattle.std.proofs.Common.{[], sym, ◌∙◌, subst}
 use Rattle.std.proofs.lemmas.Result.{err_from_is_err_and}
 use Rattle.py_lines.specs.Lines.{line_in, ReadsNext}
 use Rattle.py_lines.specs.Reader.{Continues}
 use Rattle.isort_sort.specs.Private.FirstWords.{HoldsLineAt}
-use Rattle.isort_sort.specs.Private.FoundValues.{finding_value}
-use Rattle.isort_sort.proofs.Readings.ReadSoFar.{continues, refuses_text, refuses_line}
+use Rattle.isort_sort.specs.Private.Found.{IsFurther}
+use Rattle.isort_sort.specs.Private.Reading.{stop_of, IsKnown}
+use Rattle.isort_sort.specs.declared.read.LineReader.{LineReader}
+use Rattle.isort_sort.proofs.Readings.ReadSoFar.{continues, ends, further_on, reads_end, reads_line, refuses_text, refuses_line}
 use Rattle.isort_sort.proofs.Rows.Texts.{line_stands}
 use Rattle.isort_sort.proofs.read.LineReader.read_line.Goals.{In-Some}
 use Rattle.isort_sort.proofs.read.LineReader.read_line.Goals as goal
@@ -13,29 +15,42 @@ use Rattle.isort_sort.proofs.read.LineReader.read_line.Goals as goal
 on : (c : In-Some) → Continues c.args.lines.now (line_in c.in-Some.unit) c.next_unit.follows.lender-at-none
 on c = continues _ _ _ _ _ c.next_unit.follows.holds-at-none c.in_ok-unit.was c.in-Some.is
 
+-- and stands in the text
+stands : (c : In-Some) → HoldsLineAt c.args.words.now (line_in c.in-Some.unit)
+stands c =
+    let next = on c in
+    let given = c.requires.known.given in
+    subst (λ t. HoldsLineAt t (line_in c.in-Some.unit)) (next.text ∙ sym c.requires.text) (line_stands _ given (line_in c.in-Some.unit) (next.given given c.requires.known.are_given))
+
 pub returns-in_err-unit-clause-reads : goal.returns-in_err-unit-clause-reads
 returns-in_err-unit-clause-reads c =
     let p = err_from_is_err_and c.from_residual.result c.from_residual.ensures.1 in
-    rw (p.1, p.2) (refuses_text c.args.lines.now _ c.in_err-unit.field-0.0 (subst (λ r. ReadsNext c.args.lines.now r c.next_unit.follows.lender-at-none) c.in_err-unit.was c.next_unit.follows.holds-at-none))
+    rw (p.1, p.2) (refuses_text c.args.lines.now _ c.args.self.now c.in_err-unit.field-0.0 (subst (λ r. ReadsNext c.args.lines.now r c.next_unit.follows.lender-at-none) c.in_err-unit.was c.next_unit.follows.holds-at-none) c.requires.known)
 
-pub pass-requires-clause-stands : goal.pass-requires-clause-stands
-pass-requires-clause-stands c =
-    let next = on (goal.at.pass-requires-clause-stands c).In-Some in
+pub pass-requires : goal.pass-requires
+pass-requires c = stands (goal.at.pass-requires c).In-Some
+
+pub returns-in_default-clause-reads : goal.returns-in_default-clause-reads
+returns-in_default-clause-reads c = reads_end _ _ c.args.self.now (ends _ _ _ _ c.next_unit.follows.holds-at-none c.in_ok-unit.was c.in_default.is) c.requires.known
+
+pub of-requires : goal.of-requires
+of-requires c = subst (λ t. HoldsLineAt t (line_in c.in-Some.unit)) (sym c.pass.ensures.words) (stands (goal.at.of-requires c).In-Some)
+
+pub push-requires-clause-further : goal.push-requires-clause-further
+push-requires-clause-further c =
     let line = line_in c.in-Some.unit in
-    subst (λ t. HoldsLineAt t line) (next.text ∙ sym c.requires.text) (line_stands _ c.requires.given.0 line (next.given c.requires.given.0 c.requires.given.1))
+    subst (λ (r : LineReader). IsFurther (stop_of line) r.blocks) (sym (c.pass.ensures.same c.if-not-pass.true)) (further_on _ _ c.args.self.now line (on (goal.at.push-requires-clause-further c).In-Some) c.requires.known)
 
-pub pass-requires-clause-fits : goal.pass-requires-clause-fits
-pass-requires-clause-fits c =
-    let next = on (goal.at.pass-requires-clause-fits c).In-Some in
-    omega (arith, c.requires.place, c.requires.fits, next.place, next.within, ap length next.text)
+pub returns-in_ok-push-clause-reads : goal.returns-in_ok-push-clause-reads
+returns-in_ok-push-clause-reads c =
+    let known = subst (λ (r : LineReader). IsKnown c.args.lines.now r) (sym (c.pass.ensures.same c.if-not-pass.true)) c.requires.known in
+    reads_line _ _ c.pass.new.self _ (line_in c.in-Some.unit) _ (on (goal.at.returns-in_ok-push-clause-reads c).In-Some) c.in_ok-bindings.ensures.ok c.in_ok-push.ensures known
+
+pub returns-else-not-pass-clause-reads : goal.returns-else-not-pass-clause-reads
+returns-else-not-pass-clause-reads c =
+    reads_line _ _ c.args.self.now _ (line_in c.in-Some.unit) [] (on (goal.at.returns-else-not-pass-clause-reads c).In-Some) (c.pass.ensures.binds c.if-not-pass.false) (c.pass.ensures.on c.if-not-pass.false) c.requires.known
 
 pub returns-in_err-bindings-clause-reads : goal.returns-in_err-bindings-clause-reads
 returns-in_err-bindings-clause-reads c =
     let p = err_from_is_err_and c.from_residual-in_err-bindings.result c.from_residual-in_err-bindings.ensures.1 in
-    rw (p.1, p.2) (refuses_line c.args.lines.now _ (line_in c.in-Some.unit) c.in_err-bindings.field-0.0 (on (goal.at.returns-in_err-bindings-clause-reads c).In-Some) c.in_err-bindings.ensures.err)
-
-pub push-requires-clause-fits : goal.push-requires-clause-fits
-push-requires-clause-fits c =
-    let next = on (goal.at.push-requires-clause-fits c).In-Some in
-    let same_place = ap (λ r. (finding_value r.blocks).place) (c.pass.ensures.same c.if-not-pass.true) in
-    omega (arith, c.requires.place, c.requires.fits, next.place, next.within, ap length next.text, same_place)
+    rw (p.1, p.2) (refuses_line c.args.lines.now _ c.args.self.now (line_in c.in-Some.unit) c.in_err-bindings.field-0.0 (on (goal.at.returns-in_err-bindings-clause-reads c).In-Some) c.in_err-bindings.ensures.err c.requires.known)

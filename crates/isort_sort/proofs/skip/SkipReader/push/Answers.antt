@@ -5,11 +5,11 @@ use Rattle.isort_sort.proofs.Rows.Skips.{skip_pushed}
 use Rattle.isort_sort.proofs.skip.SkipReader.push.Goals as goal
 
 pub returns-then-self : goal.returns-then-self
-returns-then-self c = λ lines h.
+returns-then-self c =
     let line = line_in c.args.unit.now in
-    skip_pushed lines line c.args.self.now _ c.skips_with.ensures (c.if-self.true ∙ sym (ap (λ b. b || has_code line) c.if-self.true)) h
+    skip_pushed line c.args.self.now _ (c.skips_with.ensures line c.requires) (c.if-self.true ∙ sym (ap (λ b. b || has_code line) c.if-self.true))
 
 pub returns-else-self : goal.returns-else-self
-returns-else-self c = λ lines h.
+returns-else-self c =
     let line = line_in c.args.unit.now in
-    skip_pushed lines line c.args.self.now _ c.skips_with.ensures (c.has_code.ensures ∙ sym (ap (λ b. b || has_code line) c.if-self.false)) h
+    skip_pushed line c.args.self.now _ (c.skips_with.ensures line c.requires) (c.has_code.ensures ∙ sym (ap (λ b. b || has_code line) c.if-self.false))

@@ -3,13 +3,13 @@ use Rattle.py_lines.specs.Lines.{line_in}
 use Rattle.py_imports.specs.ActionComment.{says}
 use Rattle.py_imports.specs.declared.action_comment.ActionComment.TheVariants as action
 use Rattle.isort_sort.proofs.Rows.Skips.{place_within, string_missing, string_at}
-use Rattle.isort_sort.proofs.skip.string_skips.Goals as goal
+use Rattle.isort_sort.proofs.actions.string_skips.Goals as goal
 use Rattle.isort_sort.proofs.Rows.Comments.{token_is_at}
 
 pub returns-then-is_string : goal.returns-then-is_string
 returns-then-is_string c =
     let line = line_in c.args.unit.now in
-    c.text_says.ensures
+    c.says.ensures
     ∙ ap (says action.SkipFile) (c.word.ensures _ (token_is_at line.tokens c.in-Some.place (place_within line.tokens c.in-Some.place c.in-Some.ensures)))
     ∙ string_at line c.in-Some.place true c.in-Some.ensures (sym c.if-is_string.true ∙ c.is_string.ensures)
 
