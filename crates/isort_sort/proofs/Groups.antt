@@ -5,4 +5,3 @@ pub mod Firsts
 pub mod Brought
 pub mod Grouped
 pub mod Ordered
-pub mod Named

@@ -41,15 +41,15 @@
 -- one cut at blocks, and one layout of each.
 --
 -- Laws on lines (proofs/LineLaws): the pieces of logical lines (Parts, OneLine, Units, Joined), of modules (Modules) and
--- tokens (Tokens), which pieces may stand beside others (Touching), and the laws of the crates below (Laws). They cite no
--- definition of sorting.
+-- tokens (Tokens), which pieces may stand beside others (Touching), what stands after a byte order mark and indentation
+-- (Indented), and the laws of the crates below (Laws).
 --
--- Written statements are read back (proofs/WrittenStatements). The pieces of each layout are functions next to its text: a
--- part is pieces with the bytes that they spell, what they say to the import grammar, and their comments, and parts are put
--- one after another (Items). Names on lines of any layout are joined by what holds one comma (Bodies, NamesPhrases; their
--- text is in Texts). What stands after `import` or `from` is one logical line whose comment stands well (Phrases), and so
--- the whole statement is a member that imports what it says (Lines, Remarks, Statements, Imports). What the statements of a
--- block say comes from its members (Sources, Written).
+-- Written statements are read back (proofs/WrittenStatements). A layout's text is in the order of its pieces. A part is
+-- pieces with the bytes that they spell, what they say to the import grammar, and their comments. Names on lines of any
+-- layout are joined by what holds one comma (Items). What stands after `import` or `from` is put together from its end, part
+-- before part, and is one logical line whose comment stands well (Phrases, NamesPhrases); and so the whole statement is a
+-- member that imports what it says (Lines, Remarks, Statements). What the statements of a block say comes from its members
+-- (Sources, Written).
 --
 -- The lines of a text (proofs/WrittenLines). A text is its logical lines, each as its pieces, with a row that doesn't depend
 -- on where the line stands (UnitRows, UnitBinds). A block that is written is lines too: comments above, statements, blank
@@ -57,8 +57,8 @@
 -- FirstCharacters).
 --
 -- Members (proofs/ReadMembers). The members of a block that is read say what its statements need (OldBlock, ReadComments,
--- Stripped, ReadImports, ReadMembers), and so its layout holds no other line ends (UnbrokenLines). ReadBlocks says what the
--- members of each block of a text are.
+-- Stripped, ReadImports, ReadMembers), and so its layout has no other line end in its first line (FirstLines). ReadBlocks says
+-- what the members of each block of a text are.
 --
 -- Sorted texts stay (proofs/SortedAgain). Each block, put before the lines after it, is a block with the layout that it had
 -- (WrittenBlocks), and so on through a text (Again). Last what the text begins with is looked at: another line

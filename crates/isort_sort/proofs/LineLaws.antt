@@ -7,3 +7,4 @@ pub mod Tokens
 pub mod Laws
 pub mod Units
 pub mod Joined
+pub mod Indented

@@ -4,5 +4,5 @@ pub mod Stripped
 pub mod ReadComments
 pub mod ReadImports
 pub mod ReadMembers
-pub mod UnbrokenLines
+pub mod FirstLines
 pub mod ReadBlocks

@@ -4,9 +4,6 @@ pub mod Phrases
 pub mod Remarks
 pub mod Lines
 pub mod Statements
-pub mod Bodies
 pub mod NamesPhrases
-pub mod Texts
 pub mod Sources
-pub mod Imports
 pub mod Written

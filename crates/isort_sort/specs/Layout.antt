@@ -6,7 +6,7 @@ use Rattle.isort_settings.specs.FiveSections.{same_section}
 use Rattle.isort_settings.specs.Values.{Values}
 use Rattle.isort_sort.specs.Statement.{Statement, module_of, is_from, section_of}
 use Rattle.isort_sort.specs.Member.{Member, AreStatements, AreItemsOf, comments_of, above_of}
-use Rattle.isort_sort.specs.Wrapping.{IsCut, fits_line, remark, statement_lines}
+use Rattle.isort_sort.specs.Wrapping.{IsCut, fits_line, remark, statement_text}
 
 -- a statement as it is laid out: its items in order and cut into lines, the comments that it joins, those above it
 pub record Laid : Type 0 where
@@ -43,22 +43,28 @@ abbrev pub gap_by_comment : Values → List (List ℕ) → ℕ
 gap_by_comment v [] = 0
 gap_by_comment v (c ∷ cs) = if v.ensure_newline_before_comments then 1 else 0
 
--- the lines of one statement, with the comments above it
-abbrev pub own_lines : Values → List ℕ → Laid → List (List ℕ)
-own_lines v indentation s =
-    map (λ c. indentation ++ c) s.above ++ statement_lines v indentation s.statement (remark s.comments) s.items s.cut
+-- a statement's own text, with its joined comment
+abbrev pub own_text : Values → List ℕ → List ℕ → Laid → List ℕ
+own_text v indentation end s = statement_text v indentation end s.statement (remark s.comments) s.items s.cut
 
--- the lines of the statements after one
-abbrev pub lines_after : Values → List ℕ → Laid → List Laid → List (List ℕ)
-lines_after v indentation a [] = []
-lines_after v indentation a (b ∷ ss) =
-    replicate (max (gap_by_kind v a.statement b.statement) (gap_by_comment v b.above)) []
-    ++ (own_lines v indentation b ++ lines_after v indentation b ss)
+-- the logical lines of one statement, with the comments above it
+abbrev pub own_lines : Values → List ℕ → List ℕ → Laid → List (List ℕ)
+own_lines v indentation end s = map (λ c. indentation ++ c) s.above ++ own_text v indentation end s ∷ []
 
--- the lines of a block
-abbrev pub block_lines : Values → List ℕ → List Laid → List (List ℕ)
-block_lines v indentation [] = []
-block_lines v indentation (s ∷ ss) = own_lines v indentation s ++ lines_after v indentation s ss
+-- how many blank lines stand between two statements
+abbrev pub gap : Values → Laid → Laid → ℕ
+gap v a b = max (gap_by_kind v a.statement b.statement) (gap_by_comment v b.above)
+
+-- the logical lines of the statements after one
+abbrev pub lines_after : Values → List ℕ → List ℕ → Laid → List Laid → List (List ℕ)
+lines_after v indentation end a [] = []
+lines_after v indentation end a (b ∷ ss) =
+    replicate (gap v a b) [] ++ (own_lines v indentation end b ++ lines_after v indentation end b ss)
+
+-- the logical lines of a block
+abbrev pub block_lines : Values → List ℕ → List ℕ → List Laid → List (List ℕ)
+block_lines v indentation end [] = []
+block_lines v indentation end (s ∷ ss) = own_lines v indentation end s ++ lines_after v indentation end s ss
 
 -- lines, each with a line end, and then blank ones; or, where the last has no line end, with line ends between them
 abbrev pub text_of_lines : List ℕ → Bool → ℕ → List (List ℕ) → List ℕ

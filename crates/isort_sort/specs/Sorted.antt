@@ -56,7 +56,7 @@ abbrev pub IsLayout : Values → List ℕ → Run → List Row → List Row → 
 IsLayout v end run blanks after text =
     (laid : List Laid) × AreLaid v run.first.indentation (members_of run) laid
     × (text ≡ text_of_lines end (last_row run.first run.others).ended
-    (blanks_after v run (count_by (λ row. row.ended) blanks) after) (block_lines v run.first.indentation laid))
+    (blanks_after v run (count_by (λ row. row.ended) blanks) after) (block_lines v run.first.indentation end laid))
 
 -- the text of rows
 abbrev pub texts_of : List Row → List ℕ

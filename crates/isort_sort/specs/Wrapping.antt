@@ -1,4 +1,4 @@
--- The lines of a statement.
+-- The text of a statement.
 use Rattle.std.specs.Prelude.{◌≡◌, ℕ, ◌+◌, ◌==◌, Bool, true, false, not, ◌&&◌, ◌||◌, List, [], ◌∷◌, ◌++◌}
 use Rattle.std.specs.Prelude.{map, flat_map, length, replicate, codes, if◌then◌else◌, nat_le, nat_lt}
 use Rattle.isort_sort.specs.Width.{width}
@@ -54,37 +54,33 @@ abbrev pub remark : List (List ℕ) → List ℕ
 remark [] = []
 remark (c ∷ cs) = codes "  # " ++ join_by (λ (t : List ℕ). t) (codes "; ") (c ∷ cs)
 
--- texts as lines: the first after `first`, each other after `next`; `between` follows each but the last, which `last` follows
-abbrev pub framed : List ℕ → List ℕ → List ℕ → List ℕ → List (List ℕ) → List (List ℕ)
-framed first next between last [] = []
-framed first next between last (t ∷ []) = (first ++ (t ++ last)) ∷ []
-framed first next between last (t ∷ u ∷ ts) = (first ++ (t ++ between)) ∷ framed next next between last (u ∷ ts)
-
 abbrev pub trailing_comma : Values → List ℕ
 trailing_comma v = if v.include_trailing_comma then codes "," else []
 
--- the lines of a wrapped statement, whose items have this cut into texts: in brackets from the first line on (modes 0
--- and 1), after a backslash (mode 2), or in brackets of their own (mode 3)
-abbrev pub in_brackets : Values → List ℕ → List ℕ → List ℕ → List (List ℕ) → List (List ℕ)
-in_brackets v indentation m comment texts =
-    framed (indentation ++ (head m ++ codes "(")) (indentation ++ replicate (width (head m) + 1) 32) (codes ",")
-    (trailing_comma v ++ (codes ")" ++ comment)) texts
+-- Names from a module, wrapped, with these items on each line: in brackets from the first line on (modes 0 and 1), after a
+-- backslash (mode 2), or in brackets of their own (mode 3).
+abbrev pub in_brackets : Values → List ℕ → List ℕ → List ℕ → List ℕ → List (List Item) → List ℕ
+in_brackets v indentation end m comment cut =
+    let next : List ℕ = end ++ (indentation ++ replicate (width (head m) + 1) 32) in
+    indentation ++ (head m ++ (codes "(" ++ (join_by items_text (codes "," ++ next) cut
+    ++ (trailing_comma v ++ (codes ")" ++ comment)))))
 
-abbrev pub hanging : List ℕ → List ℕ → List ℕ → List (List ℕ) → List (List ℕ)
-hanging indentation m comment texts =
-    (indentation ++ (head m ++ (92 ∷ [])))
-    ∷ framed (indentation ++ four_spaces) (indentation ++ four_spaces) (codes ", " ++ 92 ∷ []) comment texts
+abbrev pub hanging : List ℕ → List ℕ → List ℕ → List ℕ → List (List Item) → List ℕ
+hanging indentation end m comment cut =
+    let next : List ℕ = 92 ∷ (end ++ (indentation ++ four_spaces)) in
+    indentation ++ (head m ++ (next ++ (join_by items_text (codes ", " ++ next) cut ++ comment)))
 
-abbrev pub hanging_in_brackets : Values → List ℕ → List ℕ → List ℕ → List (List ℕ) → List (List ℕ)
-hanging_in_brackets v indentation m comment texts =
-    (indentation ++ (head m ++ (codes "(" ++ comment)))
-    ∷ (framed (indentation ++ four_spaces) (indentation ++ four_spaces) (codes ",") (trailing_comma v) texts
-    ++ (indentation ++ codes ")") ∷ [])
+abbrev pub hanging_in_brackets : Values → List ℕ → List ℕ → List ℕ → List ℕ → List (List Item) → List ℕ
+hanging_in_brackets v indentation end m comment cut =
+    let next : List ℕ = end ++ (indentation ++ four_spaces) in
+    indentation ++ (head m ++ (codes "(" ++ (comment ++ (next ++ (join_by items_text (codes "," ++ next) cut
+    ++ (trailing_comma v ++ (end ++ (indentation ++ codes ")"))))))))
 
-abbrev pub wrapped : Values → List ℕ → List ℕ → List ℕ → List (List ℕ) → List (List ℕ)
-wrapped v indentation m comment texts =
-    if nat_le v.multi_line_output 1 then in_brackets v indentation m comment texts
-    else (if v.multi_line_output == 2 then hanging indentation m comment texts else hanging_in_brackets v indentation m comment texts)
+abbrev pub wrapped : Values → List ℕ → List ℕ → List ℕ → List ℕ → List (List Item) → List ℕ
+wrapped v indentation end m comment cut =
+    if nat_le v.multi_line_output 1 then in_brackets v indentation end m comment cut
+    else (if v.multi_line_output == 2 then hanging indentation end m comment cut
+    else hanging_in_brackets v indentation end m comment cut)
 
 -- names from a module, on one line
 abbrev pub flat : List ℕ → List ℕ → List ℕ → List Item → List ℕ
@@ -100,16 +96,16 @@ is_wrapped v indentation m comment items =
     not (nat_le v.multi_line_output 1 && (length items == 1))
     && (is_forced v items || not (nat_le (width (flat indentation m comment items)) v.line_length))
 
--- the lines of names from a module, with this cut of them
-abbrev pub names_lines : Values → List ℕ → List ℕ → List ℕ → List Item → List (List Item) → List (List ℕ)
-names_lines v indentation m comment items cut =
-    if is_wrapped v indentation m comment items then wrapped v indentation m comment (map items_text cut)
-    else flat indentation m comment items ∷ []
+-- names from a module, with this cut of them
+abbrev pub names_text : Values → List ℕ → List ℕ → List ℕ → List ℕ → List Item → List (List Item) → List ℕ
+names_text v indentation end m comment items cut =
+    if is_wrapped v indentation m comment items then wrapped v indentation end m comment cut
+    else flat indentation m comment items
 
--- the lines of a statement, with its joined comment, its items, and a cut of them
-abbrev pub statement_lines : Values → List ℕ → Statement → List ℕ → List Item → List (List Item) → List (List ℕ)
-statement_lines v indentation (straight m alias) comment items cut =
-    (indentation ++ (codes "import " ++ (m ++ (alias_text alias ++ comment)))) ∷ []
-statement_lines v indentation (star m) comment items cut = (indentation ++ (head m ++ (codes "*" ++ comment))) ∷ []
-statement_lines v indentation (names m) comment items cut = names_lines v indentation m comment items cut
-statement_lines v indentation (single m i) comment items cut = names_lines v indentation m comment items cut
+-- a statement without its last line end, with its joined comment, its items, and a cut of them
+abbrev pub statement_text : Values → List ℕ → List ℕ → Statement → List ℕ → List Item → List (List Item) → List ℕ
+statement_text v indentation end (straight m alias) comment items cut =
+    indentation ++ (codes "import " ++ (m ++ (alias_text alias ++ comment)))
+statement_text v indentation end (star m) comment items cut = indentation ++ (head m ++ (codes "*" ++ comment))
+statement_text v indentation end (names m) comment items cut = names_text v indentation end m comment items cut
+statement_text v indentation end (single m i) comment items cut = names_text v indentation end m comment items cut

@@ -1,6 +1,6 @@
 -- A statement that sorting has written, read back: the pieces of its lines, and the one logical line that they are.
 use Rattle.std.specs.Prelude.{◌≡◌, ℕ, Bool, true, false, nat_lt, List, [], ◌∷◌, ◌++◌, map, encode_utf8_all}
-use Rattle.std.specs.List.{join_by, list_any, list_all}
+use Rattle.std.specs.List.{list_any, list_all}
 use Rattle.std.specs.Str.{all_scalars}
 use Rattle.py_lines.specs.Balance.{IsBalanced, depth_through}
 use Rattle.py_lines.specs.Fields.{IsShallow}
@@ -17,11 +17,10 @@ use Rattle.py_imports.specs.declared.action_comment.ActionComment.TheVariants as
 use Rattle.isort_settings.specs.Values.{Values}
 use Rattle.isort_sort.specs.Blocks.{Run, members_of, Cut, rest, block}
 use Rattle.isort_sort.specs.LaidAgain.{import_of, joined_comments}
-use Rattle.isort_sort.specs.Layout.{Laid}
+use Rattle.isort_sort.specs.Layout.{Laid, own_text}
 use Rattle.isort_sort.specs.Line.{comment_texts, IsOwnComment}
 use Rattle.isort_sort.specs.Member.{Member}
 use Rattle.isort_sort.specs.Row.{member, HasRole, indentation_of, first_string_skips}
-use Rattle.isort_sort.specs.Wrapping.{remark, statement_lines}
 
 -- the byte order mark, where there is one
 abbrev pub mark_pieces : Bool → List Piece
@@ -82,14 +81,14 @@ pub record IsWrittenLine (space : List ℕ) (s : Laid) (marked closed : Bool) (l
   pub says_no_more : (a : ActionComment) → list_any (says a) s.comments ≡ false → list_any (says a) (comment_texts line) ≡ false
   pub no_string : (lines : List LogicalLine) → first_string_skips (line ∷ lines) ≡ false
 
--- The pieces are those of a written statement, whose lines are these, with this line end between them: they are read,
--- alone and before a line end, as one logical line.
-pub record IsWritten (indentation end : List ℕ) (s : Laid) (lines : List (List ℕ)) (pieces : List Piece) : Type 0 where
+-- The pieces are those of a written statement, which has this text: they are read, alone and before a line end, as one
+-- logical line.
+pub record IsWritten (indentation end : List ℕ) (s : Laid) (text : List ℕ) (pieces : List Piece) : Type 0 where
   pub simple : AreSimple pieces
   pub touch : MayTouch (pieces ++ end_pieces true end)
   pub unbroken : begins is_line_feed (spelled pieces) ≡ false
   pub scalars : all_scalars (spelled pieces) ≡ true
-  pub spell : encode_utf8_all (spelled pieces) ≡ join_by (λ (l : List ℕ). l) end lines
+  pub spell : encode_utf8_all (spelled pieces) ≡ text
   pub balanced : IsBalanced pieces
   pub shallow : IsShallow 0 pieces
   pub deep : depth_through 0 pieces ≡ 0
@@ -102,6 +101,5 @@ pub record IsWritten (indentation end : List ℕ) (s : Laid) (lines : List (List
 abbrev pub EachIsWritten : Values → List ℕ → List ℕ → List Laid → Type 0
 EachIsWritten v indentation end [] = Unit {0}
 EachIsWritten v indentation end (s ∷ ss) =
-    ((pieces : List Piece)
-    × IsWritten indentation end s (statement_lines v indentation s.statement (remark s.comments) s.items s.cut) pieces)
+    ((pieces : List Piece) × IsWritten indentation end s (own_text v indentation end s) pieces)
     × EachIsWritten v indentation end ss

@@ -67,9 +67,9 @@ pub fn written_blocks_stay()
         → AreLaid v indentation members (s ∷ ss)
         → AreLaid v indentation (map as_member (without_above s ∷ ss))
         (map with_joined_comments (without_above s ∷ ss)) }
-    ensures lines { (v : Values) (indentation : List ℕ) (laid : List Laid)
-        → block_lines v indentation (map with_joined_comments laid)
-        ≡ block_lines v indentation laid }
+    ensures lines { (v : Values) (indentation end : List ℕ) (laid : List Laid)
+        → block_lines v indentation end (map with_joined_comments laid)
+        ≡ block_lines v indentation end laid }
 {
     modules_are_totally_ordered();
     names_are_totally_ordered();

@@ -1,5 +1,5 @@
 //! The layout of a block.
-ghost use Rattle.std.specs.Prelude.{◌≡◌, ◌≢◌, [], MatchOption, OnOk, map, max, string_bytes};
+ghost use Rattle.std.specs.Prelude.{◌≡◌, MatchOption, OnOk, map, max, string_bytes};
 ghost use Rattle.isort_settings.specs.Values.{values};
 ghost use Rattle.isort_sort.specs.Private.Group.{group_value};
 ghost use Rattle.isort_sort.specs.Layout.{gap_by_kind, gap_by_comment};
@@ -63,11 +63,10 @@ fn gap(settings: &Settings, before: &Group, group: &Group) -> u32
 struct Names<'a> {
     /// The module.
     path: &'a str,
-    /// The names, in order; there is one.
+    /// The names, in order.
     items: &'a [FromItem],
     /// What its joined comments say.
     comments: &'a [String],
-    ghost some: { items.now ≢ [] },
 }
 
 /// How the statements of a block are laid out.
@@ -329,7 +328,6 @@ impl Layout<'_> {
 
     /// Puts a statement after `out`, with the comments above it.
     fn push_group(&self, out: &mut String, group: &Group) -> Result<(), AllocError>
-        requires { (group_value group.now).items ≢ [] }
         ensures { OnOk result
             (Writes out.old out.new (group_text self.now (group_value group.now))) }
     {
@@ -385,7 +383,6 @@ impl Layout<'_> {
     ) -> Result<(), AllocError>
         requires before { MatchOption before.now (Unit {0}) (HasSection (values_by self.now)) }
         requires section { HasSection (values_by self.now) group.now }
-        requires items { (group_value group.now).items ≢ [] }
         ensures { OnOk result (Writes out.old out.new
             (next_text self.now (option_map group_value before.now) (group_value group.now))) }
     {

@@ -47,6 +47,6 @@ same_blanks end true blanks n lines e = ap (λ k. text_of_lines end true k lines
 same_blanks end false blanks n lines e = refl
 
 -- the layout of a block from its groups
-pub arranged : (v : Values) (end : List ℕ) (f : Found) (groups : List Group) (n : ℕ) → AreGrouped v f.members groups → n ≡ cond f.ended (blanks_of v f) 0 → IsArranged v end f (text_of_lines end f.ended n (block_lines v f.indentation (map (laid_of v f.indentation) groups)))
+pub arranged : (v : Values) (end : List ℕ) (f : Found) (groups : List Group) (n : ℕ) → AreGrouped v f.members groups → n ≡ cond f.ended (blanks_of v f) 0 → IsArranged v end f (text_of_lines end f.ended n (block_lines v f.indentation end (map (laid_of v f.indentation) groups)))
 arranged v end f groups n grouped count =
     (map (laid_of v f.indentation) groups, are_laid v f.indentation f.members groups grouped, same_blanks end f.ended (blanks_of v f) n _ count)

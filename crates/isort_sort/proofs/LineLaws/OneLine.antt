@@ -1,7 +1,8 @@
 -- Pieces that are one logical line: their brackets are in pairs, and no line end stands outside them.
-use Rattle.std.proofs.Common.{◌≡◌, ℕ, ◌+◌, ◌-◌, ◌==◌, Bool, true, false, cond, not, lit<, ◌||◌, ◌&&◌, List, [], ◌∷◌, ◌++◌, refl, sym, ap, ◌∙◌, subst}
+use Rattle.std.proofs.Common.{◌≡◌, ℕ, ◌+◌, ◌-◌, ◌==◌, Bool, true, false, cond, not, lit<, ◌||◌, ◌&&◌, List, [], ◌∷◌, ◌++◌, refl, sym, ap, ◌∙◌, subst, append_assoc}
 use Rattle.std.specs.List.{list_any}
 use Rattle.std.proofs.lemmas.Bool.{and_parts, and_from, or_parts, both_ways}
+use Rattle.std.proofs.lemmas.List.Folds.{list_any-append}
 use Rattle.py_lines.specs.Balance.{is_opening, is_closing, is_opener, is_closer, IsBalanced, none, one, pair, both, depth_after, depth_through}
 use Rattle.py_lines.specs.Fields.{IsShallow}
 use Rattle.py_lines.specs.LogicalLine.{is_line_end_class, put_first, cut, byte_len, end_len_of}
@@ -102,7 +103,7 @@ opening_piece = piece operator (40 ∷ [])
 abbrev pub closing_piece : Piece
 closing_piece = piece operator (41 ∷ [])
 
-pub bracketed-line : (inner : List Piece) → list_any is_bracket_or_string inner ≡ false → IsOneLine (opening_piece ∷ (inner ++ closing_piece ∷ []))
+bracketed-line : (inner : List Piece) → list_any is_bracket_or_string inner ≡ false → IsOneLine (opening_piece ∷ (inner ++ closing_piece ∷ []))
 unfolding is_opening is_closing
 bracketed-line inner h =
     let depth = bare-depth 1 inner h in
@@ -112,6 +113,27 @@ bracketed-line inner h =
       deep = depth-append 1 inner (closing_piece ∷ []) ∙ ap (λ (d : ℕ). depth_through d (closing_piece ∷ [])) depth;
       kept = kept-append 1 inner (closing_piece ∷ []) (inside-kept inner h) (subst (λ (d : ℕ). keeps d (closing_piece ∷ []) ≡ true) (sym depth) refl);
     }
+
+-- pieces after an opening parenthesis: the closing one, and one line after it
+pub record Closes (pieces : List Piece) : Type 0 where
+  pub inner : List Piece
+  pub rest : List Piece
+  pub is : pieces ≡ inner ++ closing_piece ∷ rest
+  pub bare : list_any is_bracket_or_string inner ≡ false
+  pub line : IsOneLine rest
+
+pub closes-after : (ps qs : List Piece) → list_any is_bracket_or_string ps ≡ false → Closes qs → Closes (ps ++ qs)
+closes-after ps qs h c = record {
+  inner = ps ++ c.inner;
+  rest = c.rest;
+  is = ap (λ l. ps ++ l) c.is ∙ sym (append_assoc ps c.inner (closing_piece ∷ c.rest));
+  bare = list_any-append is_bracket_or_string ps c.inner ∙ (λ i. h i || c.bare i);
+  line = c.line;
+}
+
+pub opened-line : (pieces : List Piece) → Closes pieces → IsOneLine (opening_piece ∷ pieces)
+opened-line pieces c =
+    subst IsOneLine (ap (λ l. opening_piece ∷ l) (append_assoc c.inner (closing_piece ∷ []) c.rest ∙ sym c.is)) (line-append (bracketed-line c.inner c.bare) c.line)
 
 -- one logical line, alone and before a line end
 cut-alone : (d : ℕ) (p : Piece) (ps : List Piece) → keeps d (p ∷ ps) ≡ true → cut d (p ∷ ps) ≡ (p ∷ ps) ∷ []

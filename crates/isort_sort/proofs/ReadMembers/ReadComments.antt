@@ -21,7 +21,8 @@ use Rattle.isort_sort.specs.Line.{word_of, comment_texts, own_comments, is_text,
 use Rattle.isort_sort.specs.Row.{says_alone, comments, HasRole}
 use Rattle.isort_sort.specs.WrittenLine.{IsRemark, AreRemarks}
 use Rattle.isort_sort.proofs.LineLaws.Units.{IsUnit, scalars-parts}
-use Rattle.isort_sort.proofs.WrittenLines.UnitRows.{TokenLaws, unit_line, remarks, comments_of_unit}
+use Rattle.isort_sort.proofs.WrittenLines.UnitRows.{TokenLaws, unit_line, comments_of_unit}
+use Rattle.isort_sort.proofs.LineLaws.Parts.{remarks_in}
 use Rattle.isort_sort.proofs.WrittenLines.LineUnits.{says_skip_file, AreAbove}
 use Rattle.isort_sort.proofs.ReadMembers.Stripped.{IsUnbrokenText, stripped_text, bare_comment, stripped_says}
 
@@ -36,16 +37,16 @@ abbrev pub AreCommentTexts : List (List ℕ) → Type 0
 AreCommentTexts [] = Unit {0}
 AreCommentTexts (c ∷ cs) = IsCommentText c × AreCommentTexts cs
 
-piece_comments : (class : Class) (text : List ℕ) (ws : List Word) → InClass class text → all_scalars text ≡ true → AreCommentTexts (remarks ws) → AreCommentTexts (remarks (words_of_piece class text ++ ws))
+piece_comments : (class : Class) (text : List ℕ) (ws : List Word) → InClass class text → all_scalars text ≡ true → AreCommentTexts (remarks_in ws) → AreCommentTexts (remarks_in (words_of_piece class text ++ ws))
 piece_comments word text ws is fine h = by (begins is_digit text)
   where
-    by : (b : Bool) → AreCommentTexts (remarks (record { kind = if b then kind.Number else kind.Name; bytes = encode_utf8_all text } ∷ ws))
+    by : (b : Bool) → AreCommentTexts (remarks_in (record { kind = if b then kind.Number else kind.Name; bytes = encode_utf8_all text } ∷ ws))
     by true = h
     by false = h
 piece_comments comment text ws is fine h = (record { characters = text; spell = refl; is = is; scalars = fine }, h)
 piece_comments _ text ws is fine h = h
 
-words_comments : (ps : List Piece) (rest : List ℕ) → AreReadBefore ps rest → all_scalars (spelled ps) ≡ true → AreCommentTexts (remarks (words_of ps))
+words_comments : (ps : List Piece) (rest : List ℕ) → AreReadBefore ps rest → all_scalars (spelled ps) ≡ true → AreCommentTexts (remarks_in (words_of ps))
 words_comments [] rest fit fine = tt
 words_comments (p ∷ ps) rest fit fine =
     let parts = scalars-parts p.text (spelled ps) fine in

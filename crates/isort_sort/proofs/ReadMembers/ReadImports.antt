@@ -25,7 +25,7 @@ use Rattle.isort_sort.proofs.LineLaws.Units.{IsUnit}
 use Rattle.isort_sort.proofs.WrittenLines.UnitRows.{unit_line}
 use Rattle.isort_sort.proofs.WrittenLines.LineUnits.{indentation_encoded}
 use Rattle.isort_sort.proofs.LineLaws.Joined.{AreSome, some_first}
-use Rattle.isort_sort.proofs.WrittenLines.Marked.{low_start, sliced}
+use Rattle.isort_sort.proofs.LineLaws.Indented.{low_start, sliced}
 use Rattle.isort_sort.proofs.Rows.Spaces.{space_low}
 use Rattle.isort_sort.proofs.Rows.Roles.{import_begins}
 

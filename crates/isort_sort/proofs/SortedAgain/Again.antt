@@ -27,11 +27,11 @@ use Rattle.isort_sort.proofs.WrittenLines.UnitRows.{TokenLaws, unit_line, AreUni
 use Rattle.isort_sort.proofs.WrittenLines.LineUnits.{NeighbourLaw, are_some, says_skip_file}
 use Rattle.isort_sort.proofs.LineLaws.Joined.{AreSome, some_first, some_append, bytes_of, bytes_of-append, none-append}
 use Rattle.isort_sort.proofs.WrittenLines.BlockUnits.{AreWritable}
-use Rattle.isort_sort.proofs.WrittenLines.FirstEnds.{AreUnbroken}
+use Rattle.isort_sort.proofs.WrittenLines.FirstEnds.{IsFirstLine}
 use Rattle.isort_sort.proofs.ReadMembers.OldBlock.{AreSeen, run_in_block, blanks_in_block, through_block, seen_rows, member_off, run_ended}
 use Rattle.isort_sort.proofs.WrittenLines.FirstCharacters.{WordsLaw, first_feed}
 use Rattle.isort_sort.proofs.WrittenLines.UnitBinds.{EachBinds, binds_append, binds_first}
-use Rattle.isort_sort.proofs.SortedAgain.WrittenBlocks.{IsWrittenBlock, read_back, written_block}
+use Rattle.isort_sort.proofs.SortedAgain.WrittenBlocks.{first_line, IsWrittenBlock, read_back, written_block}
 use Rattle.isort_sort.proofs.Finding.Replaced.{run_member}
 use Rattle.isort_sort.proofs.Finding.RoleTests.{of_member, of_comments}
 use Rattle.std.proofs.Math.Bool.{and-false}
@@ -46,7 +46,7 @@ pub record IsReadable (v : Values) (end : List ℕ) (run : Run) (laid : List Lai
   pub spaces : list_all is_space run.first.indentation ≡ true
   pub some : AreSome laid
   pub ready : AreWritable v run.first.indentation end laid
-  pub unbroken : AreUnbroken (block_lines v run.first.indentation laid)
+  pub first : IsFirstLine end (λ e. first_line v run.first.indentation e laid)
 
 abbrev pub ReadsBlocks : Values → Type 0
 ReadsBlocks v = (end : List ℕ) (us : List (List Piece)) (run : Run) (laid : List Laid) → IsLineEnd end → EachIsUnit us → AreSeen us (run_rows run) → is_run run ≡ true → list_any says_skip_file us ≡ false → AreLaid v run.first.indentation (members_of run) laid → IsReadable v end run laid
@@ -137,7 +137,7 @@ block_again v laws end is rs bs cs run blanks cut own others run_is unblank are 
     (written_block laws.neighbours laws.tokens v laws.orders end run n s ss own z.units (cut_rows z.cut) is read.spaces
     (subst (AreWritable v run.first.indentation end) same read.ready)
     (subst (AreLaid v run.first.indentation (members_of run)) same layout.1)
-    (layout.2 ∙ ap (λ l. text_of_lines end (last_row run.first run.others).ended n (block_lines v run.first.indentation l)) same)
+    (layout.2 ∙ ap (λ l. text_of_lines end (last_row run.first run.others).ended n (block_lines v run.first.indentation end l)) same)
     (λ new indented ended. kept_again v run new (count_by (λ (row : Row). row.ended) blanks) (cut_rows cut) (cut_rows z.cut) indented z.asked)
     (λ some. closed some (are_some cs) refl)
     (z.follow (end_pieces true end) (can_follow laws.words end (rs ++ bs) cs (cut_rows cut) (some_first rs bs (seen_some rs run seen)) (subst AreUnits (sym (append_assoc rs bs cs)) are) rows unblank))

@@ -21,7 +21,7 @@ use Rattle.py_imports.specs.declared.action_comment.ActionComment.TheVariants as
 use Rattle.isort_settings.specs.Values.{Values}
 use Rattle.isort_sort.specs.Blocks.{is_blank, is_member, Run, run_rows, further_rows, is_run, Cut, rest, block, cut_rows, begins_blank, AreBlocks}
 use Rattle.isort_sort.specs.BlocksReplaced.{one_more}
-use Rattle.isort_sort.specs.Layout.{Laid, lines_after, block_lines, text_of_lines}
+use Rattle.isort_sort.specs.Layout.{block_lines, text_of_lines}
 use Rattle.isort_sort.specs.ReadBack.{AreReadBack, HasBlocksBack}
 use Rattle.isort_sort.specs.Row.{Row, IsRow, AreRows, first_string_skips}
 use Rattle.isort_sort.specs.Sorted.{HasBlocks, first_end, last_row, blanks_after, texts_of, mark_of, IsLayout, IsSortedCut, IsSkipped, IsLaidOut, IsSorted}
@@ -33,12 +33,12 @@ use Rattle.isort_sort.proofs.SortedTexts.OneSorted.{HasOneLexing, never_both, sa
 use Rattle.isort_sort.proofs.LineLaws.Units.{IsUnit, MayFollowUnit, AreUnits, first_character, units_after}
 use Rattle.isort_sort.proofs.WrittenLines.UnitRows.{TokenLaws, unit_line, comments_of_unit, off_past, AreUnitRows, off_through, rows_apart, silent}
 use Rattle.isort_sort.proofs.WrittenLines.LineUnits.{are_some, says_skip_file}
-use Rattle.isort_sort.proofs.LineLaws.Joined.{AreSome, some_first, some_append, bytes_of, bytes_of-cons, bytes_of-append, none-append}
-use Rattle.isort_sort.proofs.WrittenLines.BlockUnits.{lines_of_statement, IsWritable, AreWritable, statement_some}
+use Rattle.isort_sort.proofs.LineLaws.Joined.{some_append, bytes_of, bytes_of-cons, bytes_of-append, none-append}
+use Rattle.isort_sort.proofs.WrittenLines.BlockUnits.{closing}
 use Rattle.isort_sort.proofs.WrittenLines.UnitBinds.{EachBinds, binds_append, binds_first, role_binds}
 use Rattle.isort_sort.proofs.ReadMembers.OldBlock.{AreSeen, in_block, run_in_block, blanks_in_block, through_block, seen_rows, run_ended}
-use Rattle.isort_sort.proofs.WrittenLines.FirstEnds.{is_end_byte, is_feed_byte, first_is_end, first_lines, follows_blank}
-use Rattle.isort_sort.proofs.SortedAgain.WrittenBlocks.{IsWrittenBlock, read_back}
+use Rattle.isort_sort.proofs.WrittenLines.FirstEnds.{is_end_byte, Breaks, first_is_end, breaks_first, ends_first}
+use Rattle.isort_sort.proofs.SortedAgain.WrittenBlocks.{first_line, IsWrittenBlock, read_back}
 use Rattle.isort_sort.proofs.SortedAgain.Again.{SortLaws, IsReadable, IsAgain, each_unit, first_units, none_first, some_from, can_follow, seen_some, block_again, again}
 use Rattle.isort_sort.proofs.SortedAgain.SortedAgain.{IsCutText, first_seen, text_again, cut_text, IsLaidBack, ahead}
 use Rattle.isort_sort.proofs.LineLaws.Parts.{spelled-append}
@@ -169,7 +169,7 @@ rest_again v laws us run blanks later f end others is sorted =
 
 -- such a text is its own sorted text, as soon as its first line end is the one that was written; its layouts may have been
 -- found with another
-laid_first : (v : Values) (laws : SortLaws v) (sorted : List ℕ) (us : List (List Piece)) (run : Run) (blanks : List Row) (later : Cut) (f : IsFirstBlock v laws us run blanks later) (marked : Bool) (end wanted own others : List ℕ) → IsLineEnd end → (layout : IsLayout v end run blanks (cut_rows later) own) → own ≡ text_of_lines wanted (last_row run.first run.others).ended (blanks_after v run (count_by (λ (row : Row). row.ended) blanks) (cut_rows later)) (block_lines v run.first.indentation layout.0) → IsSortedCut v end later others → ((new : Cut) → AreReadBack v end later new → AreReadBack v wanted later new) → sorted ≡ encode_utf8_all (spelled (mark_pieces marked)) ++ (own ++ others) → first_end sorted ≡ end → StartsWithNoChar [] → IsLaidBack v wanted (block [] run blanks later) sorted sorted
+laid_first : (v : Values) (laws : SortLaws v) (sorted : List ℕ) (us : List (List Piece)) (run : Run) (blanks : List Row) (later : Cut) (f : IsFirstBlock v laws us run blanks later) (marked : Bool) (end wanted own others : List ℕ) → IsLineEnd end → (layout : IsLayout v end run blanks (cut_rows later) own) → own ≡ text_of_lines wanted (last_row run.first run.others).ended (blanks_after v run (count_by (λ (row : Row). row.ended) blanks) (cut_rows later)) (block_lines v run.first.indentation wanted layout.0) → IsSortedCut v end later others → ((new : Cut) → AreReadBack v end later new → AreReadBack v wanted later new) → sorted ≡ encode_utf8_all (spelled (mark_pieces marked)) ++ (own ++ others) → first_end sorted ≡ end → StartsWithNoChar [] → IsLaidBack v wanted (block [] run blanks later) sorted sorted
 laid_first v laws sorted us run blanks later f marked end wanted own others is layout spelled_so layouts turned text same done =
     let z = rest_again v laws us run blanks later f end others is layouts in
     let w = block_again v laws end is f.split.rs f.split.bs f.split.cs run blanks later own others f.run_is f.unblank f.are f.split.seen f.split.rows f.unskipped_run layout z in
@@ -234,21 +234,12 @@ last_run v laws us run blanks later f open_yet = by (are_some f.split.cs) refl
     by true e = absurd (both_ways _ open_yet (run_ended f.split.rs (f.split.bs ++ f.split.cs) run (some_append f.split.bs f.split.cs (some_from f.split.cs e)) f.are f.split.seen))
     by false e = no_lists f.split.cs e
 
-lines_some : (v : Values) (laws : SortLaws v) (space end : List ℕ) (s : Laid) (ss : List Laid) → IsWritable v space end s → AreSome (block_lines v space (s ∷ ss))
-lines_some v laws space end s ss r =
-    some_first (map (λ c. space ++ c) s.above ++ lines_of_statement v space s) (lines_after v space s ss)
-    (some_append (map (λ c. space ++ c) s.above) (lines_of_statement v space s) (statement_some laws.neighbours space end s (lines_of_statement v space s) r.pieces r.written))
-
 at_start : (v : Values) (laws : SortLaws v) (sorted : List ℕ) (us : List (List Piece)) (run : Run) (blanks : List Row) (later : Cut) (f : IsFirstBlock v laws us run blanks later) (marked : Bool) (end own others : List ℕ) → IsLineEnd end → IsLayout v end run blanks (cut_rows later) own → IsSortedCut v end later others → sorted ≡ encode_utf8_all (spelled (mark_pieces marked)) ++ (own ++ others) → StartsWithNoChar [] → IsLaidBack v end (block [] run blanks later) sorted sorted
 at_start v laws sorted us run blanks later f marked end own others is layout layouts text done =
     ⊎_elim
-    (λ (e : first_end (p ++ (text_of_lines end ended n lines ++ others)) ≡ end). laid_first v laws sorted us run blanks later f marked end end own others is layout layout.2 layouts (λ new h. h) text (ap first_end (text ∙ ap (λ (t : List ℕ). p ++ (t ++ others)) layout.2) ∙ e) done)
-    (λ (h : (ended ≡ false) × ((e : List ℕ) → text_of_lines end ended n lines ≡ text_of_lines e ended n lines)).
-    let none : AreUnitRows false [] (cut_rows later) = subst (λ (l : List (List Piece)). AreUnitRows false l (cut_rows later)) (last_run v laws us run blanks later f h.0) f.split.rows in
-    laid_first v laws sorted us run blanks later f marked (first_end sorted) end own others (first_is_end sorted) (layout.0, layout.1, layout.2 ∙ h.1 (first_end sorted)) layout.2
-    (nothing_later v end (first_end sorted) others later none layouts) (λ new. nothing_back v (first_end sorted) end later new none)
-    text refl done)
-    (first_lines p end ended n lines others (mark_unbroken marked) some read.unbroken is follows (λ e. sym z.text ∙ ap bytes_of (no_lists z.units (z.none (ap are_some (last_run v laws us run blanks later f e))))))
+    (λ (b : Breaks end (line end)). as_written (found_so (ap (λ (t : List ℕ). first_end (p ++ (t ++ rest))) w.top.bytes ∙ ap (λ (t : List ℕ). first_end (p ++ t)) (append_assoc (line end) (closing w.top.ends end) rest) ∙ breaks_first p end (line end) (closing w.top.ends end ++ rest) (mark_unbroken marked) is b)))
+    (λ (whole : (list_any is_end_byte (line end) ≡ false) × ((e : List ℕ) → line e ≡ line end)). unbroken whole w.top.ends refl)
+    read.first
   where
     p : List ℕ
     p = encode_utf8_all (spelled (mark_pieces marked))
@@ -259,24 +250,41 @@ at_start v laws sorted us run blanks later f marked end own others is layout lay
     n : ℕ
     n = blanks_after v run (count_by (λ (row : Row). row.ended) blanks) (cut_rows later)
 
-    lines : List (List ℕ)
-    lines = block_lines v run.first.indentation layout.0
+    line : List ℕ → List ℕ
+    line e = first_line v run.first.indentation e layout.0
 
     z : IsAgain v end false f.split.cs later others
     z = rest_again v laws us run blanks later f end others is layouts
 
+    w : IsWrittenBlock v end run layout.0 own z.units (cut_rows z.cut)
+    w = block_again v laws end is f.split.rs f.split.bs f.split.cs run blanks later own others f.run_is f.unblank f.are f.split.seen f.split.rows f.unskipped_run layout z
+
     read : IsReadable v end run layout.0
     read = laws.reads end f.split.rs run layout.0 is (first_units f.split.rs (f.split.bs ++ f.split.cs) (each_unit (f.split.rs ++ (f.split.bs ++ f.split.cs)) f.are)) f.split.seen f.run_is f.unskipped_run layout.1
 
-    some : AreSome lines
-    some =
-        subst (λ (l : List Laid). AreSome (block_lines v run.first.indentation l)) (sym read.some.2)
-        (lines_some v laws run.first.indentation end read.some.0 read.some.1 (subst (AreWritable v run.first.indentation end) read.some.2 read.ready).0)
+    rest : List ℕ
+    rest = bytes_of (w.later ++ z.units)
 
-    follows : end ≡ 13 ∷ [] → begins is_feed_byte others ≡ false
-    follows e =
-        ap (begins is_feed_byte) (sym z.text)
-        ∙ follows_blank end z.units z.are (z.follow (end_pieces true end) (can_follow laws.words end (f.split.rs ++ f.split.bs) f.split.cs (cut_rows later) (some_first f.split.rs f.split.bs (seen_some f.split.rs run f.split.seen)) (subst AreUnits (sym (append_assoc f.split.rs f.split.bs f.split.cs)) f.are) f.split.rows f.unblank)) e
+    found_so : first_end (p ++ (encode_utf8_all (spelled w.first) ++ rest)) ≡ end → first_end sorted ≡ end
+    found_so e = ap first_end (text ∙ ap (λ (t : List ℕ). p ++ t) ((λ i. sym w.text i ++ sym z.text i) ∙ sym (bytes_of-append (w.first ∷ w.later) z.units) ∙ bytes_of-cons w.first (w.later ++ z.units))) ∙ e
+
+    as_written : first_end sorted ≡ end → IsLaidBack v end (block [] run blanks later) sorted sorted
+    as_written e = laid_first v laws sorted us run blanks later f marked end end own others is layout layout.2 layouts (λ new h. h) text e done
+
+    alone : (ended ≡ false) × ((e : List ℕ) → block_lines v run.first.indentation e layout.0 ≡ line e ∷ []) → ((e : List ℕ) → line e ≡ line end) → IsLaidBack v end (block [] run blanks later) sorted sorted
+    alone one same =
+        let none : AreUnitRows false [] (cut_rows later) = subst (λ (l : List (List Piece)). AreUnitRows false l (cut_rows later)) (last_run v laws us run blanks later f one.0) f.split.rows in
+        let e : List ℕ = first_end sorted in
+        let other : own ≡ text_of_lines e ended n (block_lines v run.first.indentation e layout.0) =
+        layout.2 ∙ (λ i. text_of_lines end (one.0 i) n (one.1 end i)) ∙ ap (λ (t : List ℕ). t ++ []) (sym (same e)) ∙ (λ i. text_of_lines e (sym one.0 i) n (sym (one.1 e) i)) in
+        laid_first v laws sorted us run blanks later f marked e end own others (first_is_end sorted) (layout.0, layout.1, other) layout.2
+        (nothing_later v end e others later none layouts) (λ new. nothing_back v e end later new none) text refl done
+
+    unbroken : (list_any is_end_byte (line end) ≡ false) × ((e : List ℕ) → line e ≡ line end) → (b : Bool) → w.top.ends ≡ b → IsLaidBack v end (block [] run blanks later) sorted sorted
+    unbroken whole true e =
+        as_written (found_so (ap (λ (t : List ℕ). first_end (p ++ (t ++ rest))) (w.top.bytes ∙ ap (λ x. line end ++ closing x end) e)
+        ∙ ends_first p end (line end) w.first (w.later ++ z.units) (mark_unbroken marked) is whole.0 (w.top.ended e) w.are.1 w.are.2))
+    unbroken whole false e = alone (w.top.alone e) whole.1
 
 -- by what the text begins with
 starts_with_row : (v : Values) → SortLaws v → (text sorted : List ℕ) (us : List (List Piece)) (row : Row) (before : List Row) (run : Run) (blanks : List Row) (later : Cut) (body : List ℕ) → IsCutText text us (block (row ∷ before) run blanks later) → IsSortedCut v (first_end text) (block (row ∷ before) run blanks later) body → sorted ≡ mark_of (lines_from 0 1 us) ++ body → IsLaidBack v (first_end text) (block (row ∷ before) run blanks later) sorted sorted

@@ -1,5 +1,5 @@
 -- What sorting rests on, by the laws; and so a sorted text is its own sorted text.
-use Rattle.std.proofs.Common.{◌≡◌, ℕ, true, false, List, [], ◌∷◌}
+use Rattle.std.proofs.Common.{◌≡◌, ℕ, true, false, List, [], ◌∷◌, sym, subst}
 use Rattle.std.specs.List.{list_any, list_all}
 use Rattle.py_lines.specs.Character.{is_space}
 use Rattle.py_lines.specs.Piece.{Piece}
@@ -17,7 +17,9 @@ use Rattle.isort_sort.proofs.WrittenLines.FirstCharacters.{WordsLaw}
 use Rattle.isort_sort.proofs.SortedAgain.Again.{EachIsUnit, ReadsBlocks}
 use Rattle.isort_sort.proofs.ReadMembers.ReadImports.{ImportLaws}
 use Rattle.isort_sort.proofs.ReadMembers.ReadMembers.{OwnLaw, AreReadLines, fine_run, read_members, each_ready, some_laid}
-use Rattle.isort_sort.proofs.ReadMembers.UnbrokenLines.{lines_unbroken}
+use Rattle.isort_sort.proofs.ReadMembers.FirstLines.{first_of_block}
+use Rattle.isort_sort.proofs.SortedAgain.WrittenBlocks.{first_line}
+use Rattle.isort_sort.proofs.WrittenLines.FirstEnds.{IsFirstLine}
 
 -- each statement of a block is written so
 abbrev pub WrittenLaw : Values → Type 0
@@ -31,9 +33,11 @@ pub reads_blocks : TokenLaws → ImportLaws → OwnLaw → WordsLaw → (v : Val
 reads_blocks tokens imports own words v o written end us run laid is units seen run_is skips laid_is =
     let fine = fine_run tokens imports own us run (read_lines us units skips) seen run_is in
     let w = written run.first.indentation end (members_of run) laid fine.spaces is (read_members (members_of run) fine.members) laid_is in
+    let some = some_laid v run.first.indentation (members_of run) laid fine.some laid_is in
     record {
       spaces = fine.spaces;
-      some = some_laid v run.first.indentation (members_of run) laid fine.some laid_is;
+      some = some;
       ready = each_ready v run.first.indentation end (members_of run) laid fine.members laid_is.each w;
-      unbroken = lines_unbroken words v o run.first.indentation (members_of run) laid fine.spaces fine.members laid_is;
+      first = subst (λ (l : List Laid). IsFirstLine end (λ e. first_line v run.first.indentation e l)) (sym some.2)
+          (first_of_block words v o run.first.indentation end (members_of run) some.0 some.1 fine.spaces fine.members (subst (AreLaid v run.first.indentation (members_of run)) some.2 laid_is));
     }

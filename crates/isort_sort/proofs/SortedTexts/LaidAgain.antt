@@ -8,14 +8,14 @@ use Rattle.std.proofs.lemmas.List.Elements.{Contains-append_cases, Contains-appe
 use Rattle.std.proofs.lemmas.Slice.Eq.{bytes_eq-Decides}
 use Rattle.py_imports.specs.Grammar.{Imported, Item}
 use Rattle.isort_settings.specs.Values.{Values}
-use Rattle.isort_sort.specs.Layout.{Laid, IsLaid, EachIsLaid, AreLaid, gap_by_kind, gap_by_comment, own_lines, lines_after, block_lines}
+use Rattle.isort_sort.specs.Layout.{Laid, IsLaid, EachIsLaid, AreLaid, gap, own_lines, lines_after, block_lines}
 use Rattle.isort_sort.specs.Member.{Member, imports_of, item_of, belongs, begins_with, owned, first_texts, AreStatements, AreItemsOf}
 use Rattle.isort_sort.specs.Order.{AreInOrder}
 use Rattle.isort_sort.specs.Blocks.{Run}
 use Rattle.isort_sort.specs.Row.{Before, two, as_many, one, Row}
 use Rattle.isort_sort.specs.Sorted.{before_role, number_before, asked, is_indented, blanks_after}
 use Rattle.isort_sort.specs.Statement.{Statement, star, names, single, stands_alone, statement_of, statement_with, statement_cmp, item_cmp, same_statement}
-use Rattle.isort_sort.specs.Wrapping.{remark, statement_lines}
+use Rattle.isort_sort.specs.Wrapping.{remark, statement_text}
 use Rattle.isort_sort.specs.LaidAgain.{asked_by, import_of, joined_comments, as_member, with_joined_comments, without_above}
 use Rattle.isort_sort.proofs.Orders.Contained.{in_map, map_in, in_filter, filter_in}
 use Rattle.isort_sort.proofs.Orders.Equality.{is_same, itself}
@@ -192,18 +192,18 @@ same_remark : (cs : List (List ℕ)) → remark (joined_comments cs) ≡ remark 
 same_remark [] = refl
 same_remark (c ∷ cs) = ap (λ (t : List ℕ). codes "  # " ++ t) (append-nil (join_by (λ (t : List ℕ). t) (codes "; ") (c ∷ cs)))
 
-same_own_lines : (v : Values) (indentation : List ℕ) (s : Laid) → own_lines v indentation (with_joined_comments s) ≡ own_lines v indentation s
-same_own_lines v indentation s = ap (λ r. map (λ c. indentation ++ c) s.above ++ statement_lines v indentation s.statement r s.items s.cut) (same_remark s.comments)
+same_own_lines : (v : Values) (indentation end : List ℕ) (s : Laid) → own_lines v indentation end (with_joined_comments s) ≡ own_lines v indentation end s
+same_own_lines v indentation end s = ap (λ r. map (λ c. indentation ++ c) s.above ++ statement_text v indentation end s.statement r s.items s.cut ∷ []) (same_remark s.comments)
 
-same_lines_after : (v : Values) (indentation : List ℕ) (a : Laid) (ss : List Laid) → lines_after v indentation (with_joined_comments a) (map with_joined_comments ss) ≡ lines_after v indentation a ss
-same_lines_after v indentation a [] = refl
-same_lines_after v indentation a (b ∷ ss) =
-    λ i. replicate (max (gap_by_kind v a.statement b.statement) (gap_by_comment v b.above)) [] ++ (same_own_lines v indentation b i ++ same_lines_after v indentation b ss i)
+same_lines_after : (v : Values) (indentation end : List ℕ) (a : Laid) (ss : List Laid) → lines_after v indentation end (with_joined_comments a) (map with_joined_comments ss) ≡ lines_after v indentation end a ss
+same_lines_after v indentation end a [] = refl
+same_lines_after v indentation end a (b ∷ ss) =
+    λ i. replicate (gap v a b) [] ++ (same_own_lines v indentation end b i ++ same_lines_after v indentation end b ss i)
 
 -- the written block has the lines that it had
-pub lines_again : (v : Values) (indentation : List ℕ) (laid : List Laid) → block_lines v indentation (map with_joined_comments laid) ≡ block_lines v indentation laid
-lines_again v indentation [] = refl
-lines_again v indentation (s ∷ ss) = λ i. same_own_lines v indentation s i ++ same_lines_after v indentation s ss i
+pub lines_again : (v : Values) (indentation end : List ℕ) (laid : List Laid) → block_lines v indentation end (map with_joined_comments laid) ≡ block_lines v indentation end laid
+lines_again v indentation end [] = refl
+lines_again v indentation end (s ∷ ss) = λ i. same_own_lines v indentation end s i ++ same_lines_after v indentation end s ss i
 
 -- the blank lines that are written after a block are those that would be written again
 same_number : (kept : ℕ) (b : Before) → number_before (number_before kept b) b ≡ number_before kept b

@@ -30,7 +30,7 @@ some_layout : (v : Values) → AreOrders v → (end : List ℕ) (run : Run) (bla
 some_layout v o end run blanks after =
     let statements = in_order (statement_cmp v) (map (statement_of v) (imports_of (members_of run))) in
     let each = each_laid v o run.first.indentation (members_of run) statements in (
-      text_of_lines end (last_row run.first run.others).ended (blanks_after v run (count_by (λ (row : Row). row.ended) blanks) after) (block_lines v run.first.indentation each.0),
+      text_of_lines end (last_row run.first run.others).ended (blanks_after v run (count_by (λ (row : Row). row.ended) blanks) after) (block_lines v run.first.indentation end each.0),
       (each.0, record { statements = subst (AreStatements v (members_of run)) (sym each.1) (some_list_in_order (statement_cmp_total v o) (exact_statements v o) _); each = each.2 }, refl),
     )
 
@@ -66,7 +66,7 @@ each_same v o indentation members (s ∷ ss) (t ∷ ts) same a b =
 one_layout : (v : Values) → AreOrders v → (end : List ℕ) (run : Run) (blanks after : List Row) (a b : List ℕ) → IsLayout v end run blanks after a → IsLayout v end run blanks after b → a ≡ b
 one_layout v o end run blanks after a b x y =
     let statements = one_list_in_order (statement_cmp_total v o) _ _ _ x.1.statements y.1.statements in
-    x.2 ∙ ap (λ laid. text_of_lines end (last_row run.first run.others).ended (blanks_after v run (count_by (λ (row : Row). row.ended) blanks) after) (block_lines v run.first.indentation laid)) (each_same v o run.first.indentation (members_of run) x.0 y.0 statements x.1.each y.1.each) ∙ sym y.2
+    x.2 ∙ ap (λ laid. text_of_lines end (last_row run.first run.others).ended (blanks_after v run (count_by (λ (row : Row). row.ended) blanks) after) (block_lines v run.first.indentation end laid)) (each_same v o run.first.indentation (members_of run) x.0 y.0 statements x.1.each y.1.each) ∙ sym y.2
 
 pub one_sorted_cut : (v : Values) → AreOrders v → (end : List ℕ) (cut : Cut) (a b : List ℕ) → IsSortedCut v end cut a → IsSortedCut v end cut b → a ≡ b
 one_sorted_cut v o end (rest rows) a b x y = x ∙ sym y

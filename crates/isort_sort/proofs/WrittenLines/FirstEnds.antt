@@ -9,13 +9,12 @@ use Rattle.py_lines.specs.Character.{is_one_of, is_line_feed, is_return}
 use Rattle.py_lines.specs.PieceGrammar.{IsLineEnd, feed, return_feed, return}
 use Rattle.py_lines.specs.Fields.{InClass, AreReadBefore}
 use Rattle.py_lines.specs.Reading.{EndsLine}
-use Rattle.py_lines.specs.Piece.{Class, Piece, begins, ends, spelled}
-use Rattle.isort_sort.specs.Layout.{text_of_lines}
+use Rattle.py_lines.specs.Piece.{Class, line_end, Piece, begins, ends, spelled}
 use Rattle.isort_sort.specs.Sorted.{first_end}
 use Rattle.isort_sort.specs.WrittenLine.{end_pieces}
 use Rattle.isort_sort.proofs.LineLaws.Units.{IsUnit, MayFollowUnit, AreUnits, flat, begins-first, ends-last}
-use Rattle.isort_sort.proofs.WrittenLines.LineUnits.{end_encoded, are_some}
-use Rattle.isort_sort.proofs.LineLaws.Joined.{none-append, joined_lines, ended_lines, AreSome, bytes_of, bytes_of-cons}
+use Rattle.isort_sort.proofs.WrittenLines.LineUnits.{end_encoded, are_some, IsEndedUnit}
+use Rattle.isort_sort.proofs.LineLaws.Joined.{none-append, bytes_of, bytes_of-cons}
 use Rattle.isort_sort.proofs.LineLaws.Parts.{spelled-append}
 
 -- bytes of line ends
@@ -25,10 +24,18 @@ is_end_byte b = (b == 10) || (b == 13)
 abbrev pub is_feed_byte : ℕ → Bool
 is_feed_byte b = b == 10
 
--- texts without line ends
-abbrev pub AreUnbroken : List (List ℕ) → Type 0
-AreUnbroken [] = Unit {0}
-AreUnbroken (l ∷ ls) = (list_any is_end_byte l ≡ false) × AreUnbroken ls
+-- text that has this line end first, and then no LF
+pub record Breaks (end text : List ℕ) : Type 0 where
+  pub before : List ℕ
+  pub next : ℕ
+  pub rest : List ℕ
+  pub is : text ≡ before ++ (end ++ next ∷ rest)
+  pub whole : list_any is_end_byte before ≡ false
+  pub apart : is_feed_byte next ≡ false
+
+-- text by its line end: that is the first in it, or none is in it, whatever the line end
+abbrev pub IsFirstLine : List ℕ → (List ℕ → List ℕ) → Type 0
+IsFirstLine end text = Breaks end (text end) ⊎ ((list_any is_end_byte (text end) ≡ false) × ((e : List ℕ) → text e ≡ text end))
 
 -- it is a line end
 pub first_is_end : (text : List ℕ) → IsLineEnd (first_end text)
@@ -132,39 +139,20 @@ follows_end u c us are h e = follows_bytes u us are h (c.last ∙ return_ends c.
 pub follows_blank : (end : List ℕ) (us : List (List Piece)) → AreUnits us → MayFollowUnit (end_pieces true end) us → end ≡ 13 ∷ [] → begins is_feed_byte (bytes_of us) ≡ false
 follows_blank end us are h e = follows_bytes (end_pieces true end) us are h (ap (ends is_return) (append-nil end) ∙ return_ends end e)
 
--- the first line end of lines, or they are one line without one
-begins_line : (end m rest : List ℕ) → list_any is_end_byte m ≡ false → end ≡ 13 ∷ [] → begins is_feed_byte (m ++ (end ++ rest)) ≡ false
-begins_line end [] rest none e = ap (λ (t : List ℕ). begins is_feed_byte (t ++ rest)) e
-begins_line end (b ∷ m) rest none e = (or_parts (b == 10) (b == 13) (or_parts (is_end_byte b) (list_any is_end_byte m) none).0).0
+-- the first line end of lines after a text without any
+regroup_first : (p a e r x : List ℕ) → p ++ ((a ++ (e ++ r)) ++ x) ≡ (p ++ a) ++ (e ++ (r ++ x))
+regroup_first p a e r x = simp append_assoc
 
-begins_blanks : (end others : List ℕ) (n : ℕ) → (end ≡ 13 ∷ [] → begins is_feed_byte others ≡ false) → end ≡ 13 ∷ [] → begins is_feed_byte (ended_lines end (replicate n []) ++ others) ≡ false
-begins_blanks end others zero h e = h e
-begins_blanks end others (suc n) h e = ap (λ (t : List ℕ). begins is_feed_byte ((t ++ ended_lines end (replicate n [])) ++ others)) e
+pub breaks_first : (p end text rest : List ℕ) → list_any is_end_byte p ≡ false → IsLineEnd end → Breaks end text → first_end (p ++ (text ++ rest)) ≡ end
+breaks_first p end text rest none is b =
+    ap (λ (t : List ℕ). first_end (p ++ (t ++ rest))) b.is ∙ ap first_end (regroup_first p b.before end (b.next ∷ b.rest) rest)
+    ∙ first_end_is (p ++ b.before) end ((b.next ∷ b.rest) ++ rest) (none-append is_end_byte p b.before none b.whole) is (λ e. b.apart)
 
-begins_last : (end m : List ℕ) (ms : List (List ℕ)) (others : List ℕ) → list_any is_end_byte m ≡ false → others ≡ [] → end ≡ 13 ∷ [] → begins is_feed_byte (joined_lines end (m ∷ ms) ++ others) ≡ false
-begins_last end [] [] others none empty e = ap (begins is_feed_byte) empty
-begins_last end [] (k ∷ ks) others none empty e = ap (λ (t : List ℕ). begins is_feed_byte (((t ++ k) ++ flat_map (λ y. end ++ y) ks) ++ others)) e
-begins_last end (b ∷ m) ms others none empty e = (or_parts (b == 10) (b == 13) (or_parts (is_end_byte b) (list_any is_end_byte m) none).0).0
-
-pulled : (p l end x others : List ℕ) → p ++ (((l ++ end) ++ x) ++ others) ≡ (p ++ l) ++ (end ++ (x ++ others))
-pulled p l end x others = simp append_assoc
-
-pushed : (p l end x others : List ℕ) → p ++ ((l ++ (end ++ x)) ++ others) ≡ (p ++ l) ++ (end ++ (x ++ others))
-pushed p l end x others = simp append_assoc
-
-pub first_lines : (p end : List ℕ) (ended : Bool) (n : ℕ) (lines : List (List ℕ)) (others : List ℕ) → list_any is_end_byte p ≡ false → AreSome lines → AreUnbroken lines → IsLineEnd end → (end ≡ 13 ∷ [] → begins is_feed_byte others ≡ false) → (ended ≡ false → others ≡ []) → (first_end (p ++ (text_of_lines end ended n lines ++ others)) ≡ end) ⊎ ((ended ≡ false) × ((e : List ℕ) → text_of_lines end ended n lines ≡ text_of_lines e ended n lines))
-first_lines p end ended n [] others none some all is h last = absurd (let e = some.2 in cc)
-first_lines p end true n (l ∷ []) others none some all is h last =
-    inl (ap first_end (pulled p l end (ended_lines end (replicate n [])) others) ∙ first_end_is (p ++ l) end (ended_lines end (replicate n []) ++ others) (none-append is_end_byte p l none all.0) is (begins_blanks end others n h))
-first_lines p end false n (l ∷ []) others none some all is h last = inr (refl, λ e. refl)
-first_lines p end true n (l ∷ m ∷ ms) others none some all is h last =
-    let rest : List ℕ = ended_lines end (ms ++ replicate n []) in
-    inl (ap first_end (pulled p l end ((m ++ end) ++ rest) others) ∙ first_end_is (p ++ l) end (((m ++ end) ++ rest) ++ others) (none-append is_end_byte p l none all.0) is (λ e. ap (begins is_feed_byte) (moved m rest) ∙ begins_line end m (rest ++ others) all.1.0 e))
-  where
-    moved : (a r : List ℕ) → ((a ++ end) ++ r) ++ others ≡ a ++ (end ++ (r ++ others))
-    moved a r = simp append_assoc
-first_lines p end false n (l ∷ m ∷ ms) others none some all is h last =
-    inl (ap (λ (t : List ℕ). first_end (p ++ ((l ++ t) ++ others))) (append_assoc end m (flat_map (λ y. end ++ y) ms)) ∙ ap first_end (pushed p l end (joined_lines end (m ∷ ms)) others) ∙ first_end_is (p ++ l) end (joined_lines end (m ∷ ms) ++ others) (none-append is_end_byte p l none all.0) is (begins_last end m ms others all.1.0 (last refl)))
+pub ends_first : (p end line : List ℕ) (u : List Piece) (us : List (List Piece)) → list_any is_end_byte p ≡ false → IsLineEnd end → list_any is_end_byte line ≡ false → IsEndedUnit end u → MayFollowUnit u us → AreUnits us → first_end (p ++ ((line ++ end) ++ bytes_of us)) ≡ end
+ends_first p end line u us none is whole ended follow are =
+    ap (λ (t : List ℕ). first_end (p ++ t)) (append_assoc line end (bytes_of us)) ∙ ap first_end (sym (append_assoc p line (end ++ bytes_of us)))
+    ∙ first_end_is (p ++ line) end (bytes_of us) (none-append is_end_byte p line none whole) is
+    (λ e. follows_bytes u us are follow (ap (λ l. ends is_return (spelled l)) ended.is ∙ ends-last is_return ended.body (record { class = line_end; text = end }) is ∙ return_ends end e))
 
 -- a text goes on after its first line
 pub first_end_stays : (u : List Piece) (us vs : List (List Piece)) (text sorted : List ℕ) → IsUnit u → MayFollowUnit u us → MayFollowUnit u vs → AreUnits us → AreUnits vs → (are_some us ≡ false → are_some vs ≡ false) → bytes_of (u ∷ us) ≡ text → bytes_of (u ∷ vs) ≡ sorted → first_end sorted ≡ first_end text

@@ -18,7 +18,7 @@ use Rattle.isort_sort.specs.Line.{comment_texts}
 use Rattle.isort_sort.specs.Row.{is_comment_kind, Role, member, comments, blank, other, Row, HasRole, is_string, string_skips, first_string_skips}
 use Rattle.isort_sort.proofs.Rows.Moved.{DifferInLinesAlone, alike, significant_alike, moved}
 use Rattle.isort_sort.proofs.WrittenLines.UnitRows.{TokenLaws, unit_line, comments_of_unit, role_in_block}
-use Rattle.isort_sort.proofs.WrittenLines.LineUnits.{AreInner, says_skip_file}
+use Rattle.isort_sort.proofs.WrittenLines.LineUnits.{AreLines, says_skip_file}
 
 -- a line binds something, or nothing, and has no fault
 abbrev pub HasBounds : LogicalLine → Type 0
@@ -83,11 +83,10 @@ role_binds off offset line u (comments cs) h k = nothing_binds (line_of offset l
 role_binds off offset line u blank h k = nothing_binds (line_of offset line u) (nothing_said offset line u (ap is_code_kind h))
 role_binds off offset line u (other b) h k = absurd (cc)
 
-pub inner_binds : (us : List (List Piece)) (rows : List Row) → AreInner us rows → EachBinds us
-inner_binds [] [] h = tt
-inner_binds [] (row ∷ rows) h = absurd h
-inner_binds (u ∷ us) [] h = absurd h
-inner_binds (u ∷ us) (row ∷ rows) h = (role_binds false 0 1 u row.role h.0.role h.1, inner_binds us rows h.2)
+pub lines_bind : (end : List ℕ) (ended : Bool) (us : List (List Piece)) (rows : List Row) → AreLines end ended us rows → EachBinds us
+lines_bind end ended [] rows h = tt
+lines_bind end ended (u ∷ us) [] h = absurd h
+lines_bind end ended (u ∷ us) (row ∷ rows) h = (role_binds false 0 1 u row.role h.0.is.role h.0.inside, lines_bind end ended us rows h.1)
 
 -- what lines bind elsewhere
 pub binds_from : TokenLaws → (offset line : ℕ) (us : List (List Piece)) → EachBinds us → (bounds : List Bound) × BindAll (lines_from offset line us) bounds

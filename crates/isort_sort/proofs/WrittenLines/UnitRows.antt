@@ -18,7 +18,8 @@ use Rattle.isort_sort.specs.Row.{is_comment_kind, says_alone, says_off, says_on,
 use Rattle.isort_sort.specs.Sorted.{texts_of}
 use Rattle.isort_sort.proofs.Rows.MovedRoles.{role_moved}
 use Rattle.isort_sort.proofs.LineLaws.Units.{flat}
-use Rattle.isort_sort.proofs.LineLaws.Parts.{spelled-append}
+use Rattle.isort_sort.proofs.LineLaws.Parts.{remarks_in, spelled-append}
+use Rattle.isort_sort.proofs.LineLaws.Tokens.{remarks-of}
 
 -- what the tokens of pieces are, as the lexer's law says
 pub record TokenLaws : Type 0 where
@@ -29,20 +30,8 @@ pub record TokenLaws : Type 0 where
 abbrev pub unit_line : List Piece → LogicalLine
 unit_line u = line_of 0 1 u
 
--- the comments among words
-abbrev pub remarks : List Word → List (List ℕ)
-remarks ws = map (λ w. w.bytes) (filter (λ w. is_comment w.kind) ws)
-
-remarks_of : (line : LogicalLine) (ts : List Token) → map (word_of line) (filter (λ t. is_comment t.kind) ts) ≡ remarks (map (word_in line.text) ts)
-remarks_of line [] = refl
-remarks_of line (t ∷ ts) = by (is_comment t.kind) (remarks_of line ts)
-  where
-    by : (b : Bool) → map (word_of line) (filter (λ t. is_comment t.kind) ts) ≡ remarks (map (word_in line.text) ts) → map (word_of line) (cond b (t ∷ filter (λ u. is_comment u.kind) ts) (filter (λ u. is_comment u.kind) ts)) ≡ map (λ (w : Word). w.bytes) (cond b (word_in line.text t ∷ filter (λ w. is_comment w.kind) (map (word_in line.text) ts)) (filter (λ w. is_comment w.kind) (map (word_in line.text) ts)))
-    by true later = ap (λ l. word_of line t ∷ l) later
-    by false later = later
-
-pub comments_of_unit : TokenLaws → (offset line : ℕ) (u : List Piece) → comment_texts (line_of offset line u) ≡ remarks (words_of u)
-comments_of_unit laws offset line u = remarks_of (line_of offset line u) (line_of offset line u).tokens ∙ ap remarks (laws.words offset line u)
+pub comments_of_unit : TokenLaws → (offset line : ℕ) (u : List Piece) → comment_texts (line_of offset line u) ≡ remarks_in (words_of u)
+comments_of_unit laws offset line u = remarks-of (line_of offset line u).text (line_of offset line u).tokens ∙ ap remarks_in (laws.words offset line u)
 
 pub alone_anywhere : TokenLaws → (a : ActionComment) (offset line : ℕ) (u : List Piece) → says_alone a (line_of offset line u) ≡ says_alone a (unit_line u)
 alone_anywhere laws a offset line u = ap (λ cs. is_comment_kind (unit_line u).kind && list_any (says a) cs) (comments_of_unit laws offset line u ∙ sym (comments_of_unit laws 0 1 u))

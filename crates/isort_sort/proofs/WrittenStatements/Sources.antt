@@ -17,8 +17,7 @@ use Rattle.isort_sort.proofs.Orders.Equality.{is_same}
 use Rattle.isort_sort.proofs.Orders.InOrder.{nothing_in, in_cons, head_in, tail_in, never_less}
 use Rattle.isort_sort.proofs.Orders.Statements.{AreOrders, item_cmp_total}
 use Rattle.isort_sort.proofs.SortedTexts.LaidAgain.{import_again, in_flat_map, laid_at, item_import, some_item}
-use Rattle.isort_sort.proofs.WrittenStatements.Bodies.{AreNameItems, AreLines}
-use Rattle.isort_sort.proofs.WrittenStatements.Items.{HasItem}
+use Rattle.isort_sort.proofs.WrittenStatements.Items.{HasItem, AreNameItems, AreLines}
 
 -- each import of the members has names
 named_at : (is : List Imported) (x : Imported) → AreNamed is → Contains is x → IsNamed x

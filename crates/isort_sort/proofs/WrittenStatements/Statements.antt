@@ -1,7 +1,7 @@
 -- A written statement is one logical line that imports what its words import.
 use Rattle.std.proofs.Common.{◌≡◌, ℕ, Bool, true, false, ◌&&◌, List, [], ◌∷◌, ◌++◌, map, nat_lt, slice_get, if◌then◌else◌, refl, sym, ap, ◌∙◌, subst, append_assoc, append-nil}
 use Rattle.std.specs.Prelude.{filter}
-use Rattle.std.specs.List.{list_any, list_all, join_by}
+use Rattle.std.specs.List.{list_any, list_all}
 use Rattle.std.proofs.lemmas.Bool.{and_parts}
 use Rattle.py_lines.specs.Character.{is_space, is_digit, is_line_feed}
 use Rattle.py_lines.specs.LogicalLine.{byte_len, cut, end_len_of}
@@ -23,13 +23,14 @@ use Rattle.isort_sort.specs.Row.{is_string, string_skips, first_string_skips}
 use Rattle.isort_sort.specs.WrittenLine.{mark_pieces, end_pieces, AreRemarks, IsWrittenLine, IsWritten}
 use Rattle.isort_sort.proofs.WrittenStatements.Items.{a_space, part-a_space}
 use Rattle.isort_sort.proofs.LineLaws.Laws.{Laws}
-use Rattle.isort_sort.proofs.WrittenStatements.Lines.{first_word, statement_pieces, line_pieces, written_line, line-code, line-mark, line-first, line-indentation, line-stands}
+use Rattle.isort_sort.proofs.WrittenStatements.Lines.{first_word, statement_pieces, line_pieces, written_line, line-code, line-first, statement-indented, line-stands}
+use Rattle.isort_sort.proofs.LineLaws.Indented.{line-mark, line-indentation}
 use Rattle.isort_sort.proofs.LineLaws.OneLine.{IsOneLine, plain-line, line-append, one-cut, ended-cut, no-end, some-end}
 use Rattle.isort_sort.proofs.LineLaws.Parts.{piece, remarks_in, divides, IsStatementPart, words-append, part-append, part-space, space_pieces, LettersAreWords, part-letters}
 use Rattle.isort_sort.proofs.WrittenStatements.Phrases.{IsPhrase, remark_said}
 use Rattle.isort_sort.proofs.WrittenStatements.Remarks.{own-again, said-silent, unskipped}
 use Rattle.isort_sort.proofs.LineLaws.Tokens.{remarks-of, skips-of, undivided-of, alone-of, are_well, well-of}
-use Rattle.isort_sort.proofs.LineLaws.Touching.{touch-space}
+use Rattle.isort_sort.proofs.LineLaws.Touching.{after_space, touch-space}
 use Rattle.isort_sort.proofs.Rows.Spaces.{space_no_feed}
 
 abbrev pub first_terminal : Bool → Terminal
@@ -46,7 +47,7 @@ pub record IsGiven (indentation end : List ℕ) (s : Laid) (from : Bool) (phrase
   pub spaces : list_all is_space indentation ≡ true
   pub is_end : IsLineEnd end
   pub remarks : AreRemarks s.comments
-  pub phrase_is : IsPhrase end phrase bytes terminals (remark_said s.comments)
+  pub phrase_is : IsPhrase after_space false end phrase bytes terminals (remark_said s.comments)
   pub imported : IsImport (first_terminal from ∷ terminals) (map (import_of s.statement) s.items)
 
 part-statement : Laws → (indentation end : List ℕ) (s : Laid) (from : Bool) (phrase : List Piece) (bytes : List ℕ) (terminals : List Terminal) → IsGiven indentation end s from phrase bytes terminals → IsStatementPart (statement_pieces indentation from phrase) (indentation ++ (first_word from ++ (32 ∷ bytes))) (first_terminal from ∷ terminals) (remark_said s.comments)
@@ -132,8 +133,8 @@ line-read laws indentation end s from phrase bytes terminals g marked closed off
         (sortable, (map (bound_at first.token.line (nat_lt 0 l.indent)) is, bound, imports-back first.token.line (nat_lt 0 l.indent) is)),
         own-again s.comments g.remarks ∙ ap (λ ts. filter is_text (map (λ t. stripped (without_hash t)) ts)) (sym comments),
       );
-      indentation = line-indentation offset row marked indentation from phrase ends g.spaces;
-      mark = line-mark offset row marked indentation from phrase ends g.spaces;
+      indentation = line-indentation offset row marked indentation (ps ++ ends) (statement-indented indentation from phrase ends g.spaces);
+      mark = line-mark offset row marked indentation (ps ++ ends) (statement-indented indentation from phrase ends g.spaces);
       ended = line-ended marked ps closed end g.is_end (statement-line indentation from phrase g.phrase_is.line);
       code = line-code marked indentation from phrase ends;
       says_no_more = λ a silent. ap (list_any (says a)) comments ∙ said-silent laws a s.comments silent;
@@ -157,8 +158,8 @@ statement-cut : (indentation : List ℕ) (from : Bool) (phrase : List Piece) →
 statement-cut [] from phrase l = one-cut (piece word (first_word from)) (a_space ∷ phrase) l
 statement-cut (c ∷ cs) from phrase l = one-cut (piece space (c ∷ cs)) (piece word (first_word from) ∷ a_space ∷ phrase) l
 
-pub written : Laws → (indentation end : List ℕ) (s : Laid) (from : Bool) (phrase : List Piece) (bytes : List ℕ) (terminals : List Terminal) (lines : List (List ℕ)) → IsGiven indentation end s from phrase bytes terminals → indentation ++ (first_word from ++ (32 ∷ bytes)) ≡ join_by (λ (l : List ℕ). l) end lines → IsWritten indentation end s lines (statement_pieces indentation from phrase)
-written laws indentation end s from phrase bytes terminals lines g text =
+pub written : Laws → (indentation end : List ℕ) (s : Laid) (from : Bool) (phrase : List Piece) (bytes : List ℕ) (terminals : List Terminal) (text : List ℕ) → IsGiven indentation end s from phrase bytes terminals → indentation ++ (first_word from ++ (32 ∷ bytes)) ≡ text → IsWritten indentation end s text (statement_pieces indentation from phrase)
+written laws indentation end s from phrase bytes terminals text g spelled_so =
     let ps = statement_pieces indentation from phrase in
     let part = part-statement laws indentation end s from phrase bytes terminals g in
     let one = statement-line indentation from phrase g.phrase_is.line in
@@ -167,7 +168,7 @@ written laws indentation end s from phrase bytes terminals lines g text =
       touch = statement-touch indentation from phrase (end_pieces true end) (refl, touch-space (32 ∷ []) (phrase ++ end_pieces true end) g.phrase_is.start g.phrase_is.touch);
       unbroken = statement-unbroken indentation from phrase g.spaces;
       scalars = part.scalars;
-      spell = part.spell ∙ text;
+      spell = part.spell ∙ spelled_so;
       balanced = one.balanced;
       shallow = one.shallow;
       deep = one.deep;

@@ -29,10 +29,6 @@ abbrev pub packed : ℕ → List Item → List (List Item)
 packed room [] = []
 packed room (i ∷ items) = packed_after room items (i ∷ [])
 
--- the items' texts on each line of a wrapped statement
-abbrev pub cut_texts : Values → List ℕ → List ℕ → List Item → List (List ℕ)
-cut_texts v indentation m items = map items_text (packed (line_room v indentation m) items)
-
 -- how the program lays out a group
 abbrev pub laid_of : Values → List ℕ → Group → Laid
 laid_of v indentation g = record {
@@ -58,14 +54,14 @@ gap_lines v None g = []
 gap_lines v (Some before) g = replicate (max (gap_by_kind v before.statement g.statement) (gap_by_comment v g.above)) []
 
 -- the lines of a group after the one before it
-abbrev pub next_lines : Values → List ℕ → Option Group → Group → List (List ℕ)
-next_lines v indentation before g = gap_lines v before g ++ own_lines v indentation (laid_of v indentation g)
+abbrev pub next_lines : Values → List ℕ → List ℕ → Option Group → Group → List (List ℕ)
+next_lines v indentation end before g = gap_lines v before g ++ own_lines v indentation end (laid_of v indentation g)
 
 -- the lines of the groups that are left, after the group before them, if there is one
-abbrev pub lines_left : Values → List ℕ → Option Group → List Group → List (List ℕ)
-lines_left v indentation None groups = block_lines v indentation (map (laid_of v indentation) groups)
-lines_left v indentation (Some before) groups =
-    lines_after v indentation (laid_of v indentation before) (map (laid_of v indentation) groups)
+abbrev pub lines_left : Values → List ℕ → List ℕ → Option Group → List Group → List (List ℕ)
+lines_left v indentation end None groups = block_lines v indentation end (map (laid_of v indentation) groups)
+lines_left v indentation end (Some before) groups =
+    lines_after v indentation end (laid_of v indentation before) (map (laid_of v indentation) groups)
 
 -- the group's section is that of its statement
 abbrev pub HasSection : Values → code.Group → Type 0

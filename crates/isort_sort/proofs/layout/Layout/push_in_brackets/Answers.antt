@@ -3,8 +3,8 @@ use Rattle.std.specs.List.{join_by}
 use Rattle.isort_settings.specs.Values.{values}
 use Rattle.isort_sort.specs.Private.Packing.{line_room, packed}
 use Rattle.isort_sort.specs.Private.Values.{item_value}
-use Rattle.isort_sort.specs.Wrapping.{items_text}
-use Rattle.isort_sort.proofs.Layouts.Framed.{in_brackets-written, some_values}
+use Rattle.isort_sort.specs.Wrapping.{items_text, head, remark, trailing_comma}
+use Rattle.isort_sort.proofs.Layouts.Framed.{bracketed}
 use Rattle.isort_sort.proofs.Layouts.Writing.{extend, last_extended}
 use Rattle.isort_sort.proofs.layout.Layout.push_in_brackets.Goals as goal
 
@@ -19,4 +19,4 @@ returns c =
     last_extended _ _ _ _ _ _ _
     (extend _ _ _ _ _ (extend _ _ _ _ _ (extend _ _ _ _ _ c.in_ok-push_opening.ensures packed_text) c.in_ok-push_trailing_comma.ensures) c.in_ok-push_str.ensures.bytes)
     c.push_line_end.ensures
-    (in_brackets-written v indentation end c.args.names.path.now _ _ items (some_values item_value c.args.names.items.now c.args.names.some))
+    (bracketed indentation (head c.args.names.path.now) (codes "(") _ (trailing_comma v) (codes ")") (remark (map string_bytes c.args.names.comments.now)) end)
