@@ -44,7 +44,7 @@ pub struct Brackets {
 }
 
 impl Brackets {
-    ghost use Rattle.py_lines.specs.Private.Run.{may_stand};
+    ghost use Rattle.py_lines.specs.Private.Run.{operator_may_stand};
     ghost use Rattle.py_lines.specs.Private.Scan.{stack_of, depth_of, none_open, IsInnermost, Meets};
 
     /// No bracket is open.
@@ -87,7 +87,7 @@ impl Brackets {
 
     /// Whether an operator may stand next.
     pub fn allows(&self, c: char) -> bool
-        ensures { result ≡ may_stand (stack_of self.now) c }
+        ensures { result ≡ operator_may_stand (stack_of self.now) c }
     {
         if is_opening(c) {
             self.open.len() < DEPTH

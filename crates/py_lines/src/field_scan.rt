@@ -8,7 +8,7 @@ ghost use Rattle.py_lines.specs.Private.FieldMachine.{opening_move, ending_move,
 ghost use Rattle.py_lines.specs.Balance.{is_opening};
 ghost use Rattle.py_lines.specs.Private.FieldFlaws.{is_waiting, quotes_specification};
 ghost use Rattle.py_lines.specs.Private.FieldMachine.{after_open_backslash};
-ghost use Rattle.py_lines.specs.Private.FieldScan.{at_in, region_in, mode_from, move_from, code_moved, code_move};
+ghost use Rattle.py_lines.specs.Private.FieldScan.{at_in, region_in, mode_from, field_move_from, code_moved, code_move};
 ghost use Rattle.py_lines.specs.Private.FieldScan.{keeps_byte, meets_field, opened_with, stays_field};
 ghost use Rattle.py_lines.specs.Private.ScanMachine.{host_in};
 
@@ -18,7 +18,7 @@ use crate::character::{
     is_space, is_word_character,
 };
 use crate::fault::FaultKind;
-use crate::host::Host;
+use crate::host::StringWithFields;
 use crate::mode::{Mode, Move, Spelling, Start};
 use crate::scan::Flaw;
 use crate::whole_strings::text_len;
@@ -59,7 +59,7 @@ pub enum FieldMode {
     /// In a field's code: this piece is open.
     Code(Mode),
     /// In the text of a string. The flag says whether each brace stands for itself, up to the next `}`.
-    Body(Host, Region, bool, At),
+    Body(StringWithFields, Region, bool, At),
 }
 
 /// What a character does in a string with fields.
@@ -69,9 +69,9 @@ pub enum FieldMove {
     Closes,
     Breaks,
     /// The `{` before it opens a field of this string, whose code it begins.
-    BeginsCode(Host),
+    BeginsCode(StringWithFields),
     /// It opens a field of this string, in a specification.
-    OpensField(Host),
+    OpensField(StringWithFields),
     /// It ends the field whose specification is open.
     EndsField,
     Refused,
@@ -92,7 +92,7 @@ pub struct OpenField {
     /// The byte where its `{` stands.
     pub place: usize,
     /// The string round it.
-    pub host: Host,
+    pub host: StringWithFields,
     /// Where in that string it stands.
     pub region: Region,
     /// The byte at which that string begins.
@@ -131,7 +131,7 @@ impl At {
 
 /// What a quote that would close the string does: in a specification it may not stand.
 fn closing_move(region: Region) -> FieldMove
-    ensures { move_from result ≡ closing_move (region_in region) }
+    ensures { field_move_from result ≡ closing_move (region_in region) }
 {
     match region {
         Region::Literal => FieldMove::Closes,
@@ -140,8 +140,8 @@ fn closing_move(region: Region) -> FieldMove
 }
 
 /// What a `{` does that doesn't stand for itself.
-fn opening_move(host: Host, region: Region) -> FieldMove
-    ensures { move_from result ≡ opening_move (host_in host) (region_in region) }
+fn opening_move(host: StringWithFields, region: Region) -> FieldMove
+    ensures { field_move_from result ≡ opening_move (host_in host) (region_in region) }
 {
     match region {
         Region::Literal => FieldMove::Grows(FieldMode::Body(host, region, false, At::AfterBrace)),
@@ -150,8 +150,8 @@ fn opening_move(host: Host, region: Region) -> FieldMove
 }
 
 /// What a `}` does.
-fn ending_move(host: Host, region: Region, named: bool) -> FieldMove
-    ensures { move_from result ≡ ending_move (host_in host) (region_in region) named }
+fn ending_move(host: StringWithFields, region: Region, named: bool) -> FieldMove
+    ensures { field_move_from result ≡ ending_move (host_in host) (region_in region) named }
 {
     match region {
         Region::Specification if !named => FieldMove::EndsField,
@@ -161,8 +161,8 @@ fn ending_move(host: Host, region: Region, named: bool) -> FieldMove
 
 /// What a character does between two parts of a string, or after a quote of its own.
 #[tactic(auto, unfolding(crate::specs::Private::FieldMachine::between_move))]
-fn between_move(host: Host, region: Region, named: bool, at: At, c: char) -> FieldMove
-    ensures { move_from result ≡ between_move (host_in host) (region_in region) named (at_in at) c }
+fn between_move(host: StringWithFields, region: Region, named: bool, at: At, c: char) -> FieldMove
+    ensures { field_move_from result ≡ between_move (host_in host) (region_in region) named (at_in at) c }
 {
     if c == host.quote {
         if host.is_long && !at.is_after_two() {
@@ -184,7 +184,7 @@ fn between_move(host: Host, region: Region, named: bool, at: At, c: char) -> Fie
 }
 
 /// Whether a character may not stand after a backslash: a line end in a specification of a short string.
-fn is_barred_escape(host: Host, region: Region, c: char) -> bool
+fn is_barred_escape(host: StringWithFields, region: Region, c: char) -> bool
     ensures { result ≡ is_barred_escape (host_in host) (region_in region) c }
 {
     match region {
@@ -194,7 +194,7 @@ fn is_barred_escape(host: Host, region: Region, c: char) -> bool
 }
 
 /// Whether a name in braces may follow this character after a backslash.
-fn names(host: Host, c: char) -> bool
+fn names(host: StringWithFields, c: char) -> bool
     ensures { result ≡ names (host_in host) c }
 {
     c == 'N' && !host.is_raw
@@ -202,8 +202,8 @@ fn names(host: Host, c: char) -> bool
 
 /// What a character does after a backslash: a brace keeps its meaning.
 #[tactic(auto, unfolding(crate::specs::Private::FieldMachine::escape_move))]
-fn escape_move(host: Host, region: Region, named: bool, c: char) -> FieldMove
-    ensures { move_from result ≡ escape_move (host_in host) (region_in region) named c }
+fn escape_move(host: StringWithFields, region: Region, named: bool, c: char) -> FieldMove
+    ensures { field_move_from result ≡ escape_move (host_in host) (region_in region) named c }
 {
     if is_brace(c) {
         between_move(host, region, named, At::Between, c)
@@ -220,8 +220,8 @@ fn escape_move(host: Host, region: Region, named: bool, c: char) -> FieldMove
 
 /// What a character does in the body of a string with fields.
 #[tactic(auto, unfolding(crate::specs::Private::FieldMachine::body_move))]
-fn body_move(host: Host, region: Region, named: bool, at: At, c: char) -> FieldMove
-    ensures { move_from result ≡ body_move (host_in host) (region_in region) named (at_in at) c }
+fn body_move(host: StringWithFields, region: Region, named: bool, at: At, c: char) -> FieldMove
+    ensures { field_move_from result ≡ body_move (host_in host) (region_in region) named (at_in at) c }
 {
     match at {
         At::AfterSlash => escape_move(host, region, named, c),
@@ -243,7 +243,7 @@ fn body_move(host: Host, region: Region, named: bool, at: At, c: char) -> FieldM
 
 /// A move of a piece of code.
 fn code_moved(step: Move) -> FieldMove
-    ensures { move_from result ≡ code_moved step }
+    ensures { field_move_from result ≡ code_moved step }
 {
     match step {
         Move::Grows(mode) => FieldMove::Grows(FieldMode::Code(mode)),
@@ -256,7 +256,7 @@ fn code_moved(step: Move) -> FieldMove
 /// What a character does to the piece of code that is open.
 #[tactic(auto, unfolding(crate::specs::Private::FieldScan::code_move))]
 fn code_move(mode: Mode, c: char) -> FieldMove
-    ensures { move_from result ≡ code_move mode c }
+    ensures { field_move_from result ≡ code_move mode c }
 {
     match mode {
         Mode::FieldOpened(host) if c == host.quote => {
@@ -264,7 +264,7 @@ fn code_move(mode: Mode, c: char) -> FieldMove
         }
         Mode::FieldOpened(host) => between_move(host, Region::Literal, false, At::Between, c),
         Mode::FieldEmpty(host) if c == host.quote => {
-            let long = Host {
+            let long = StringWithFields {
                 quote: host.quote,
                 is_long: true,
                 is_raw: host.is_raw,
@@ -328,7 +328,7 @@ impl FieldMode {
 
     /// What a character does to the piece that is open.
     fn meet(self, c: char) -> FieldMove
-        ensures { move_from result ≡ meets_field self c }
+        ensures { field_move_from result ≡ meets_field self c }
     {
         match self {
             FieldMode::Code(mode) => code_move(mode, c),
@@ -380,7 +380,7 @@ impl FieldScan {
     }
 
     /// In the body of a string that starts at this byte, of which nothing is read.
-    pub fn begin(&mut self, host: Host, start: usize)
+    pub fn begin(&mut self, host: StringWithFields, start: usize)
         ensures { FollowsBody self.new host start }
     {
         self.mode = FieldMode::Body(host, Region::Literal, false, At::Between);
@@ -578,7 +578,7 @@ impl FieldScan {
     /// Takes the character with which the code of a field begins, whose `{` stands directly before.
     fn begin_code(
         &mut self,
-        host: Host,
+        host: StringWithFields,
         c: char,
         place: usize,
         depth: usize,
@@ -615,7 +615,7 @@ impl FieldScan {
     /// Opens a field in a specification, by its `{` at this byte.
     fn open_field(
         &mut self,
-        host: Host,
+        host: StringWithFields,
         c: char,
         place: usize,
         depth: usize,

@@ -2,7 +2,7 @@
 
 /// A string with fields (Python Language Reference of Python 3.14, the sections on f-strings and t-strings).
 #[derive(Clone, Copy)]
-pub struct Host {
+pub struct StringWithFields {
     /// Its quote.
     pub quote: char,
     /// Whether three quotes stand at each end, as far as it is known.

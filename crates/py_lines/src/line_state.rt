@@ -25,11 +25,11 @@ pub struct LineState {
 impl LineState {
     ghost use Rattle.py_lines.specs.Token.{EachLiesIn};
     ghost use Rattle.py_lines.specs.UnitLine.{line_in};
-    ghost use Rattle.py_lines.specs.Private.LineState.{BeginsAnew, IsEndFlaw, KeepsFault, StandsAt, first_mode, scanned_line};
+    ghost use Rattle.py_lines.specs.Private.LineState.{BeginsAnew, IsEndFlaw, KeepsFault, BeginsAt, first_mode, scanned_line};
 
     /// At this byte of a text, which is on this line. Nothing of the next line is read.
     pub fn at(alloc: Global, place: u64, line: u64) -> LineState
-        ensures { StandsAt place line result }
+        ensures { BeginsAt place line result }
     {
         let mut state = LineState {
             place,

@@ -11,7 +11,7 @@ use crate::character::{
     is_b, is_backslash, is_break, is_digit, is_f, is_hash, is_line_feed, is_mark, is_operator,
     is_quote, is_r, is_return, is_space, is_t, is_u, is_word_character, is_word_start,
 };
-use crate::host::Host;
+use crate::host::StringWithFields;
 use crate::token::TokKind;
 
 /// Whether a word may be the prefix of a string, as far as it goes.
@@ -66,9 +66,9 @@ pub enum Mode {
     /// After a backslash in a long string.
     LongEscape(char),
     /// After one quote of a string with fields.
-    FieldOpened(Host),
+    FieldOpened(StringWithFields),
     /// After two quotes of a string with fields.
-    FieldEmpty(Host),
+    FieldEmpty(StringWithFields),
     /// In a string with fields that holds something, or that three quotes begin. How far it has come, its `FieldScan` says.
     Fielded,
     /// After a backslash outside strings and comments.
@@ -180,7 +180,7 @@ fn quote_move(spelling: Spelling, quote: char) -> Move
     ensures { result ≡ quote_move spelling quote }
 {
     if spelling.has_fields() {
-        Move::Grows(Mode::FieldOpened(Host {
+        Move::Grows(Mode::FieldOpened(StringWithFields {
             quote,
             is_long: false,
             is_raw: spelling.is_raw(),
@@ -194,7 +194,7 @@ fn quote_move(spelling: Spelling, quote: char) -> Move
 
 /// What a character does after one quote of a string with fields.
 #[tactic(auto, unfolding(crate::specs::Private::ScanMachine::opened_move))]
-fn opened_move(host: Host, c: char) -> Move
+fn opened_move(host: StringWithFields, c: char) -> Move
     ensures { result ≡ opened_move host c }
 {
     if c == host.quote {

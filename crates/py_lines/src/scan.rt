@@ -11,7 +11,7 @@ ghost use Rattle.py_lines.specs.Private.Scan.{TakesNext, AddsTo, Emits, Closes, 
 ghost use Rattle.py_lines.specs.Private.Scan.{IsStacked, Scans, ScansIn, line_start, is_returned, none_open, stack_of};
 ghost use Rattle.py_lines.specs.Private.Scan.{line_end_progress, ClosesAndAdds, freed, refused_place, IsRefusal};
 ghost use Rattle.py_lines.specs.Private.Scan.{IsUnfinished, IsPlainUnfinished, StandsInString, TakesInString, in_mode};
-ghost use Rattle.py_lines.specs.Private.Run.{WhereverReached, is_free, Holds, HeldIn, HasAsciiQuote, StandsBefore};
+ghost use Rattle.py_lines.specs.Private.Run.{WhereverReached, is_free, HoldsRun, HeldIn, HasAsciiQuote, ReachedInSomeLine};
 ghost use Rattle.py_lines.specs.declared.token.TokKind.TheVariants.{Op};
 ghost use Rattle.py_lines.specs.declared.mode.Mode.{Mode};
 ghost use Rattle.py_lines.specs.declared.mode.Mode.TheVariants.{Fielded};
@@ -22,7 +22,7 @@ use crate::character::{is_closing, is_line_feed, is_opening};
 use crate::count::Count;
 use crate::fault::FaultKind;
 use crate::field_scan::{FieldProgress, FieldScan};
-use crate::host::Host;
+use crate::host::StringWithFields;
 use crate::mode::{Mode, Move, Start};
 use crate::run::characters_in;
 use crate::token::{TokKind, Token};
@@ -343,7 +343,7 @@ impl Scan {
                 self.push_in_string(c)
             }
             Mode::FieldEmpty(host) => {
-                let long = Host {
+                let long = StringWithFields {
                     quote: host.quote,
                     is_long: true,
                     is_raw: host.is_raw,
@@ -497,7 +497,7 @@ impl Scan {
     fn hold<'s>(&mut self, bytes: &'s [u8]) -> &'s [u8]
         requires bytes { self.old.stop + length bytes.now < 2 ^ 64 }
         requires quote { HasAsciiQuote self.old.piece.mode }
-        ensures { Holds self.old bytes.now result.now self.new }
+        ensures { HoldsRun self.old bytes.now result.now self.new }
     {
         let len = self.run_len(bytes);
         if len > 0 {
@@ -510,7 +510,7 @@ impl Scan {
     /// Takes characters that go on in the line, up to its end, bytes that begin no character, or a character that is
     /// refused. A CR at the end of the bytes stays open.
     pub fn extend(&mut self, bytes: &[u8]) -> Result<Stop, AllocError>
-        requires way { StandsBefore self.old bytes.now }
+        requires way { ReachedInSomeLine self.old bytes.now }
         requires bytes { self.old.stop + length bytes.now < 2 ^ 64 }
         requires lines { self.old.line + self.old.stop + length bytes.now + 1 < 2 ^ 64 }
         ensures stops { WhereverReached self.old bytes.now (λ m line whole. IfOk result (ScansIn m line whole self.new)) }

@@ -36,7 +36,7 @@ pub struct Source<'t> {
 
 impl<'t> Source<'t> {
     ghost use Rattle.py_lines.specs.Reader.View.{reader_of};
-    ghost use Rattle.py_lines.specs.Private.Source.{line_of_source, PassesLine, FailsAfter, HasScanned, Advances};
+    ghost use Rattle.py_lines.specs.Private.Source.{line_of_source, GivesLine, FailsAfter, HasScanned, Advances};
     ghost use Rattle.py_lines.specs.Reader.{GoesOnAt, at_start};
     ghost use Rattle.py_lines.specs.Token.{EachLiesIn};
     ghost use Rattle.py_lines.specs.UnitLine.{line_in};
@@ -87,7 +87,7 @@ impl<'t> Source<'t> {
         requires within { self.old.state.place + self.old.state.scan.stop ≤ length self.old.characters.now }
         requires boundary { IsCharBoundary self.old.characters.now (self.old.state.place + self.old.state.scan.stop) }
         requires lines { self.old.state.scan.count.line ≤ self.old.state.place + self.old.state.scan.stop + 1 }
-        ensures { PassesLine self.old end_len self.new }
+        ensures { GivesLine self.old end_len self.new }
     {
         self.start = self.state.place as usize;
         self.state.place += self.state.scan.stop as u64;

@@ -22,7 +22,7 @@ use Rattle.py_lines.specs.declared.scan.Flaw.{Flaw}
 use Rattle.py_lines.specs.Private.Machine.{Bracket, is_final, fresh}
 use Rattle.py_lines.specs.Private.Scan.{Closes, Tallies, is_returned, is_return_mode, none_open, stack_of, line_start, IsUnfinished}
 use Rattle.py_lines.specs.Private.LineState.{first_mode}
-use Rattle.py_lines.specs.Private.Feed.{KeepsText, IsOpen, IsPart, FailsAt, ClosesLine, EndsWith, IsLastLine, IsEndFault, EndsHeld}
+use Rattle.py_lines.specs.Private.Feed.{KeepsText, IsOpen, IsPartOfCharacter, FailsAt, ClosesLine, EndsWith, IsLastLine, HasEndFault, EndsHeld}
 use Rattle.py_lines.proofs.Machine.PieceSteps.{pieces_at}
 use Rattle.py_lines.proofs.ScanMachine.Advance.{GoesTo}
 use Rattle.py_lines.proofs.LineScan.PieceEnd.{closes_shut}
@@ -48,7 +48,7 @@ module _ (f : Feed) (read rest : List ℕ) (o : IsOpen f read rest) where
   open_yet not_yet = end_return o.way.state.mode (stack_of f.state.scan.brackets) (ap (λ (m : Mode). is_return_mode m && none_open (stack_of f.state.scan.brackets)) (sym o.way.tallies.counts.mode) ∙ not_yet)
 
   -- bytes that begin no character are left
-  pub ends_in_bytes : (new : Feed) (fault : Fault) → StartsWithNoChar rest → 0 < length rest → is_returned f.state.scan ≡ false → FailsAt f BadUtf8 f.state.scan.stop (lex.Fault fault) new → f.ready ≡ None → IsEndFault f fault new
+  pub ends_in_bytes : (new : Feed) (fault : Fault) → StartsWithNoChar rest → 0 < length rest → is_returned f.state.scan ≡ false → FailsAt f BadUtf8 f.state.scan.stop (lex.Fault fault) new → f.ready ≡ None → HasEndFault f fault new
   ends_in_bytes new fault bad some not_yet fails not_ready = record {
     text = fails_keep f new _ _ _ fails;
     none_ready = ap (λ (g : Feed). g.ready) fails.same ∙ not_ready;
@@ -78,7 +78,7 @@ module _ (f : Feed) (read rest : List ℕ) (o : IsOpen f read rest) where
   open_flaw_within none some flaw is = unfinished_within f.state.place f.state.scan read o.way (read_some none some) flaw is
 
   -- something is open
-  pub ends_open : (new : Feed) (fault : Fault) (flaw : Flaw) → rest ≡ [] → 0 < length f.held.items → is_returned f.state.scan ≡ false → IsUnfinished f.state.scan (Some flaw) → FailsAt f flaw.kind flaw.place (lex.Fault fault) new → f.ready ≡ None → IsEndFault f fault new
+  pub ends_open : (new : Feed) (fault : Fault) (flaw : Flaw) → rest ≡ [] → 0 < length f.held.items → is_returned f.state.scan ≡ false → IsUnfinished f.state.scan (Some flaw) → FailsAt f flaw.kind flaw.place (lex.Fault fault) new → f.ready ≡ None → HasEndFault f fault new
   ends_open new fault flaw none some not_yet is_flaw fails not_ready =
       let same : fault ≡ fails.keeps.fault = (let x = fails.keeps.error_is in cc) in
       record {
@@ -146,7 +146,7 @@ module _ (f : Feed) (read rest : List ℕ) (o : IsOpen f read rest) where
   pub all_scanned : length f.held.items ≤ f.state.scan.stop → rest ≡ []
   all_scanned full = nil_from_length rest (omega (arith, full, open_stop f read rest o, open_size f read rest o))
 
-  pub ends_so_bytes : (new : Feed) (error : LexError) → IsPart f rest → 0 < length rest → FailsAt f BadUtf8 f.state.scan.stop error new → f.ready ≡ None → EndsHeld f (Err error) new
+  pub ends_so_bytes : (new : Feed) (error : LexError) → IsPartOfCharacter f rest → 0 < length rest → FailsAt f BadUtf8 f.state.scan.stop error new → f.ready ≡ None → EndsHeld f (Err error) new
   ends_so_bytes new error part some fails not_ready =
       subst (λ (e : LexError). EndsHeld f (Err e) new) (sym fails.keeps.error_is)
       (ends_in_bytes new fails.keeps.fault part.none some (false_from_ne_true _ (λ returned. omega (arith, some, ap length (part.last returned)))) (subst (λ (e : LexError). FailsAt f BadUtf8 f.state.scan.stop e new) fails.keeps.error_is fails) not_ready)

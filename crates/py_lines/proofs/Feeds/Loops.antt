@@ -14,7 +14,7 @@ use Rattle.py_lines.specs.declared.scan.Stop.TheVariants as stops
 use Rattle.py_lines.specs.declared.scan.Flaw.{Flaw}
 use Rattle.py_lines.specs.Private.Scan.{Tallies, IsStacked, IsUnderWay, line_start, is_returned, IsRefusal}
 use Rattle.py_lines.specs.Private.LineState.{first_mode}
-use Rattle.py_lines.specs.Private.Feed.{KeepsText, Restarts, IsOpen, IsPart, FailsAt, FailsNext, StopsHeld, ClosesLine, IsScanned, ScansHeld}
+use Rattle.py_lines.specs.Private.Feed.{KeepsText, Restarts, IsOpen, IsPartOfCharacter, FailsAt, FailsNext, StopsHeld, ClosesLine, IsScanned, ScansHeld}
 use Rattle.py_lines.proofs.Text.Utf8Prefixes.{nothing_bad}
 use Rattle.py_lines.proofs.Text.Incomplete.{part_none}
 use Rattle.py_lines.proofs.Feeds.Steps.{open_stop, open_size, ends_returned}
@@ -81,7 +81,7 @@ restarts_on old mid new keeps ready fault r =
 pub part_all : (f : Feed) (read rest : List ℕ) → IsOpen f read rest → f.ready ≡ None → f.state.scan.stop ≡ length f.held.items → IsScanned f.ready f
 part_all f read rest o ready done =
     let none : rest ≡ [] = nil_from_length rest (omega (arith, open_stop f read rest o, open_size f read rest o, done)) in
-    let part : IsPart f [] = record { none = nothing_bad; more = part_none; last = λ returned. refl } in
+    let part : IsPartOfCharacter f [] = record { none = nothing_bad; more = part_none; last = λ returned. refl } in
     subst (λ r. IsScanned r f) (sym ready) (read, [], subst (IsOpen f read) none o, part)
 
 -- all except a part of a character

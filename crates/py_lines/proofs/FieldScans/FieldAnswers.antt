@@ -12,7 +12,7 @@ use Rattle.py_lines.specs.Balance.{is_opening, is_closing}
 use Rattle.py_lines.specs.FieldStrings.{Host, literal, specification}
 use Rattle.py_lines.specs.declared.mode.Mode.{Mode}
 use Rattle.py_lines.specs.declared.mode.Start.TheVariants as starts
-use Rattle.py_lines.specs.declared.host.Host as known
+use Rattle.py_lines.specs.declared.host.StringWithFields.{StringWithFields}
 use Rattle.py_lines.specs.declared.field_scan.Region.TheVariants as regions
 use Rattle.py_lines.specs.declared.field_scan.At.TheVariants as ats
 use Rattle.py_lines.specs.declared.field_scan.FieldMode.TheVariants as field_modes
@@ -67,14 +67,14 @@ by_mode old new base depth t c place r v m e lemma follow at is =
     (lemma (subst (λ (x : FieldMode). Follows old base (In t x)) e follow) (at ∙ ap (λ (x : FieldMode). base + here (In t x)) e) (subst (λ (x : FieldMode). field_move x t.held c ≡ v) e is))
 
 -- a field opens in a specification
-pub opens_there : (old mid : FieldScan) (base depth c place : ℕ) (host : known.Host) → innermost_first mid.frames.items ≡ frame.Field (inner_field old host place) ∷ innermost_first old.frames.items → nat_lt (depth + length old.frames.items + 1) 201 ≡ true → (t : FieldScanned) → Follows old base t → place ≡ base + here t → field_move t.mode t.held c ≡ opens_field (host_in host) → ComesTo base depth t c old (Ok progress.Going) (freed_at mid (place + 1))
+pub opens_there : (old mid : FieldScan) (base depth c place : ℕ) (host : StringWithFields) → innermost_first mid.frames.items ≡ frame.Field (inner_field old host place) ∷ innermost_first old.frames.items → nat_lt (depth + length old.frames.items + 1) 201 ≡ true → (t : FieldScanned) → Follows old base t → place ≡ base + here t → field_move t.mode t.held c ≡ opens_field (host_in host) → ComesTo base depth t c old (Ok progress.Going) (freed_at mid (place + 1))
 opens_there old mid base depth c place host pushed room t follow at is =
     let e = opens_specification t.mode t.held c (host_in host) is in
     let low : depth + length old.frames.items < 200 = omega (arith, ltb-true (depth + length old.frames.items + 1) 201 room) in
     by_mode old (freed_at mid (place + 1)) base depth t c place (Ok progress.Going) (opens_field (host_in host)) (body (host_in host) specification false e.0) e.1
     (λ f a i. opens_in_specification old base depth t.outer t.done t.openers t.held e.0 host c place f a i mid low pushed) follow at is
 
-pub shut_there : (old : FieldScan) (base depth c place : ℕ) (host : known.Host) → nat_lt (depth + length old.frames.items + 1) 201 ≡ false → (t : FieldScanned) → Follows old base t → place ≡ base + here t → field_move t.mode t.held c ≡ opens_field (host_in host) → ComesTo base depth t c old (Ok progress.Refused) old
+pub shut_there : (old : FieldScan) (base depth c place : ℕ) (host : StringWithFields) → nat_lt (depth + length old.frames.items + 1) 201 ≡ false → (t : FieldScanned) → Follows old base t → place ≡ base + here t → field_move t.mode t.held c ≡ opens_field (host_in host) → ComesTo base depth t c old (Ok progress.Refused) old
 shut_there old base depth c place host room t follow at is =
     let e = opens_specification t.mode t.held c (host_in host) is in
     let full : depth + length old.frames.items < 200 → ⊥ = λ (low : depth + length old.frames.items < 200). omega (arith, low, ltb-false (depth + length old.frames.items + 1) 201 room) in
@@ -148,7 +148,7 @@ one_line : (c : ℕ) → start_of c ≡ starts.LineEnd → 1 ≡ byte_len (c ∷
 one_line c starts_with = let feeds : is_line_feed c ≡ true = subst (StartsSo c) starts_with (begun_so.starts_so c) in one_feed c feeds
 
 -- the code of a field begins after its `{`
-module _ (old : FieldScan) (base depth c place : ℕ) (host : known.Host) (t : FieldScanned) (follow : Follows old base t) (at : place ≡ base + here t) (is : field_move t.mode t.held c ≡ begins_code (host_in host)) where
+module _ (old : FieldScan) (base depth c place : ℕ) (host : StringWithFields) (t : FieldScanned) (follow : Follows old base t) (at : place ≡ base + here t) (is : field_move t.mode t.held c ≡ begins_code (host_in host)) where
   e : (named : Bool) × (t.mode ≡ body (host_in host) literal named after_brace)
   e = waits_literal t.mode t.held c (host_in host) follow.waits is
 

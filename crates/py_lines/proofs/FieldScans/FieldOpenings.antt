@@ -9,7 +9,7 @@ use Rattle.py_lines.specs.Balance.{is_opening, is_closing}
 use Rattle.py_lines.specs.FieldStrings.{Host, literal, specification}
 use Rattle.py_lines.specs.declared.mode.Mode.{Mode}
 use Rattle.py_lines.specs.declared.mode.Start.TheVariants as starts
-use Rattle.py_lines.specs.declared.host.Host as known
+use Rattle.py_lines.specs.declared.host.StringWithFields.{StringWithFields}
 use Rattle.py_lines.specs.declared.field_scan.Region.TheVariants as regions
 use Rattle.py_lines.specs.declared.field_scan.At.TheVariants as ats
 use Rattle.py_lines.specs.declared.field_scan.FieldMode.TheVariants as field_modes
@@ -47,7 +47,7 @@ some_bytes [] full = absurd (full refl)
 some_bytes (c ∷ cs) full = omega (arith, byte_len-append (c ∷ []) cs, byte_len-one c, len_utf8_bounds c)
 
 -- a field opens in the literal part
-module _ (old : FieldScan) (base depth : ℕ) (outer : List Level) (done : List Piece) (openers held : List ℕ) (named : Bool) (host : known.Host) (c place : ℕ)
+module _ (old : FieldScan) (base depth : ℕ) (outer : List Level) (done : List Piece) (openers held : List ℕ) (named : Bool) (host : StringWithFields) (c place : ℕ)
     (follow : Follows old base (field_state outer done openers (body (host_in host) literal named after_brace) held))
     (at : place ≡ base + here (field_state outer done openers (body (host_in host) literal named after_brace) held))
     (is : field_move (body (host_in host) literal named after_brace) held c ≡ begins_code (host_in host)) where
@@ -145,11 +145,11 @@ one_brace : (c : ℕ) → c == byte "{" ≡ true → 1 ≡ byte_len (c ∷ [])
 one_brace c is = sym (byte_len-one c ∙ len_utf8_ascii c (omega (arith, eqb-true c 123 is)))
 
 -- the field whose `{` stands at this byte, in the specification that is open
-abbrev pub inner_field : FieldScan → known.Host → ℕ → OpenField
+abbrev pub inner_field : FieldScan → StringWithFields → ℕ → OpenField
 inner_field old host place = record { place = place; host = host; region = regions.Specification; start = old.start }
 
 -- a field opens in a specification
-module _ (old : FieldScan) (base depth : ℕ) (outer : List Level) (done : List Piece) (openers held : List ℕ) (part : At) (host : known.Host) (c place : ℕ)
+module _ (old : FieldScan) (base depth : ℕ) (outer : List Level) (done : List Piece) (openers held : List ℕ) (part : At) (host : StringWithFields) (c place : ℕ)
     (follow : Follows old base (field_state outer done openers (body (host_in host) specification false part) held))
     (at : place ≡ base + here (field_state outer done openers (body (host_in host) specification false part) held))
     (is : field_move (body (host_in host) specification false part) held c ≡ opens_field (host_in host)) where

@@ -5,7 +5,7 @@ use Rattle.std.proofs.lemmas.Bool.{cond_both, cases_Bool, both_ways, and_right, 
 use Rattle.py_lines.specs.Character.{is_word_character, is_quote, is_line_feed, is_return, is_break, is_backslash, is_brace}
 use Rattle.py_lines.specs.Piece.{string, Piece, spelled}
 use Rattle.py_lines.specs.FieldStrings.{is_field_prefix, Host, Place, literal, specification, names}
-use Rattle.py_lines.specs.declared.host.Host as known
+use Rattle.py_lines.specs.declared.host.StringWithFields.{StringWithFields}
 use Rattle.py_lines.specs.declared.mode.Spelling.{Spelling}
 use Rattle.py_lines.specs.declared.mode.Mode.{Mode}
 use Rattle.py_lines.specs.declared.mode.Move.{Move}
@@ -66,7 +66,7 @@ module _ (s : Spelling) (held : List ℕ) (c : ℕ) (own : Holds (modes.Word s) 
   unfolding code_move meet_of quote_move
   field_quote other quotes field =
       let told = word_told s held own in
-      let h : known.Host = record { quote = c; is_long = false; is_raw = is_raw_spelling s } in
+      let h : StringWithFields = record { quote = c; is_long = false; is_raw = is_raw_spelling s } in
       let host : host_in h ≡ host_of held c = ap (λ (b : Bool). record { quote = c; is_long = false; is_raw = b }) (sym (told.1 field)) in
       let left : code_move (modes.Word s) c ≡ grows (opened (host_in h)) = rw (other, quotes, field) in
       left ∙ ap (λ (x : Host). grows (opened x)) host ∙ sym (host_moves s held c (told.0 ∙ field) quotes)

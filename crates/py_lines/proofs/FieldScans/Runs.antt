@@ -11,7 +11,7 @@ use Rattle.std.proofs.lemmas.Str.{encodes-IsAscii}
 use Rattle.std.proofs.lemmas.Str.Ascii.{IsAscii-nil, IsAscii-cons}
 use Rattle.py_lines.specs.Character.{is_backslash, is_brace, is_break, is_quote}
 use Rattle.py_lines.specs.FieldStrings.{Host, Place, literal}
-use Rattle.py_lines.specs.declared.host.Host as known
+use Rattle.py_lines.specs.declared.host.StringWithFields.{StringWithFields}
 use Rattle.py_lines.specs.declared.mode.Spelling.TheVariants as spellings
 use Rattle.py_lines.specs.declared.mode.Mode.{Mode}
 use Rattle.py_lines.specs.declared.mode.Mode.TheVariants as modes
@@ -23,7 +23,7 @@ use Rattle.py_lines.specs.declared.field_scan.Region.TheVariants as regions
 use Rattle.py_lines.specs.declared.field_scan.FieldScan.{FieldScan}
 use Rattle.py_lines.specs.Private.Machine.{move_of, short_move, long_move, spelling_with, Holds}
 use Rattle.py_lines.specs.Private.FieldMachine.{body, between, grows, Level, FieldScanned, field_state, field_move, field_moved, body_move, between_move, levels_open}
-use Rattle.py_lines.specs.Private.FieldScan.{region_in, mode_from, code_mode, code_move, code_moved, meets_field, stays_code, stays_field, keeps_byte, HoldsCode, innermost_first, Follows, GoesOn, HoldsField, StandsInText}
+use Rattle.py_lines.specs.Private.FieldScan.{region_in, mode_from, code_mode, code_move, code_moved, meets_field, stays_code, stays_field, keeps_byte, HoldsCode, innermost_first, Follows, GoesThrough, HoldsField, StandsInText}
 use Rattle.py_lines.specs.Private.FieldText.{HasText}
 use Rattle.py_lines.specs.Private.ScanMachine.{host_in, meet_of}
 use Rattle.py_lines.proofs.FieldSoundness.PlainPieces.{MoveHolds, move_holds}
@@ -135,7 +135,7 @@ follows_on scan base t c keeps follows =
     )
 
 -- and over a run of them
-follows_run : (scan : FieldScan) (base depth : ℕ) (t : FieldScanned) (run : List ℕ) → list_all (keeps_byte scan.mode) run ≡ true → Follows scan base t → GoesOn depth t run (with_text t run) × Follows scan base (with_text t run)
+follows_run : (scan : FieldScan) (base depth : ℕ) (t : FieldScanned) (run : List ℕ) → list_all (keeps_byte scan.mode) run ≡ true → Follows scan base t → GoesThrough depth t run (with_text t run) × Follows scan base (with_text t run)
 follows_run scan base depth t [] all follows =
     let same : t ≡ with_text t [] = ap (λ held. field_state t.outer t.done t.openers t.mode held) (sym (append-nil t.held)) in
     (same, subst (Follows scan base) same follows)
@@ -145,7 +145,7 @@ follows_run scan base depth t (c ∷ cs) all follows =
     let on = follows_on scan base t c parts.0 follows in
     let later = follows_run scan base depth (with_text t (c ∷ [])) cs parts.1 on.1 in
     let same : with_text (with_text t (c ∷ [])) cs ≡ with_text t (c ∷ cs) = ap (λ held. field_state t.outer t.done t.openers t.mode held) (append_assoc t.held (c ∷ []) cs) in (
-      subst (GoesOn depth t (c ∷ cs)) same (own.low, own.none, string_grows depth t t.mode c on.0, with_text t (c ∷ []), ap (field_moved t c) on.0, later.0),
+      subst (GoesThrough depth t (c ∷ cs)) same (own.low, own.none, string_grows depth t t.mode c on.0, with_text t (c ∷ []), ap (field_moved t c) on.0, later.0),
       subst (Follows scan base) same later.1,
     )
 
@@ -175,7 +175,7 @@ low_ascii (c ∷ cs) all = let parts = and_parts (nat_lt c 128) (list_all (λ d.
     under is = grind (arith, nat_tests)
 
 -- they are held, if the scan follows over them
-holds_ascii : (scan : FieldScan) (depth : ℕ) (bytes : List ℕ) (n : ℕ) → n ≤ length bytes → list_all (λ c. nat_lt c 128) (take n bytes) ≡ true → ((base : ℕ) (t : FieldScanned) → Follows scan base t → (u : FieldScanned) × GoesOn depth t (take n bytes) u × Follows scan base u) → HoldsField scan depth bytes n
+holds_ascii : (scan : FieldScan) (depth : ℕ) (bytes : List ℕ) (n : ℕ) → n ≤ length bytes → list_all (λ c. nat_lt c 128) (take n bytes) ≡ true → ((base : ℕ) (t : FieldScanned) → Follows scan base t → (u : FieldScanned) × GoesThrough depth t (take n bytes) u × Follows scan base u) → HoldsField scan depth bytes n
 holds_ascii scan depth bytes n within low follows =
     let same : encode_utf8_all (take n bytes) ≡ take n bytes = encodes-IsAscii (take n bytes) (low_ascii (take n bytes) low) in
     record {
@@ -195,7 +195,7 @@ holds_field scan depth bytes n within each =
     holds_ascii scan depth bytes n within (all_low scan.mode (take n bytes) all) (λ base t follows. let (goes, on) = follows_run scan base depth t (take n bytes) all follows in (with_text t (take n bytes), goes, on))
 
 -- text of which the machine knows where it leads
-pub goes_low : (depth : ℕ) (t : FieldScanned) (run : List ℕ) (u : FieldScanned) → GoesOn depth t run u → list_all (λ c. nat_lt c 128) run ≡ true
+pub goes_low : (depth : ℕ) (t : FieldScanned) (run : List ℕ) (u : FieldScanned) → GoesThrough depth t run u → list_all (λ c. nat_lt c 128) run ≡ true
 goes_low depth t [] u goes = refl
 goes_low depth t (c ∷ cs) u (low, none, move, next, step, others) = and_from (nat_lt c 128) (list_all (λ d. nat_lt d 128) cs) (tested low) (goes_low depth next cs u others)
   where
@@ -213,7 +213,7 @@ text_low quote bytes n quotes text =
     goes_low 0 t (take n bytes) far.0 far.1
 
 -- the scan follows over it
-text_follows : (scan : FieldScan) (base depth quote : ℕ) (bytes : List ℕ) (n : ℕ) (t : FieldScanned) → (h : known.Host) → scan.mode ≡ field_modes.Body h regions.Literal false ats.Between → h.quote ≡ quote → is_quote quote ≡ true → depth + length scan.frames.items ≤ 100 → HasText quote bytes n → Follows scan base t → (u : FieldScanned) × GoesOn depth t (take n bytes) u × Follows scan base u
+text_follows : (scan : FieldScan) (base depth quote : ℕ) (bytes : List ℕ) (n : ℕ) (t : FieldScanned) → (h : StringWithFields) → scan.mode ≡ field_modes.Body h regions.Literal false ats.Between → h.quote ≡ quote → is_quote quote ≡ true → depth + length scan.frames.items ≤ 100 → HasText quote bytes n → Follows scan base t → (u : FieldScanned) × GoesThrough depth t (take n bytes) u × Follows scan base u
 text_follows scan base depth quote bytes n t h mode same quotes room text follows =
     let at : List ℕ → FieldScanned = λ held. field_state t.outer t.done t.openers (body (host_in h) literal false between) held in
     let is : t ≡ at t.held = ap (λ m. field_state t.outer t.done t.openers m t.held) (sym follows.mode ∙ ap mode_from mode) in

@@ -14,7 +14,7 @@ use Rattle.py_lines.specs.declared.mode.Move.TheVariants as moves
 use Rattle.py_lines.specs.declared.mode.Start.TheVariants as starts
 use Rattle.py_lines.specs.Private.Machine.{IsFull, short_move, move_of, start_of, first_spelling, spelling_with, is_prefix_spelling}
 use Rattle.py_lines.specs.Private.FieldMachine.{between, after_brace, after_slash, plain, body, FieldMove, grows, closes, breaks, begins_code, ends_field, Level, FieldScanned, field_state, field_fresh, field_ended, field_pieces, begins_host, plain_move, between_move, body_move, field_move, field_moved, field_started, code_operator, openers_with, levels_open, frames, has_room_at}
-use Rattle.py_lines.specs.Private.FieldScan.{GoesOn}
+use Rattle.py_lines.specs.Private.FieldScan.{GoesThrough}
 use Rattle.py_lines.specs.Private.FieldText.{is_apart_mode, is_escaped, InText, AtBrace, AtCode, InCode, StandsInCode, AtSpecification, Leads, level_after, is_code_mode, is_code_bracket}
 use Rattle.py_lines.specs.Private.Run.{is_between, is_ascii_word, is_text_byte, is_body_byte, is_literal_byte, is_code_sign, is_code_byte}
 use Rattle.py_lines.proofs.Pieces.PieceLists.{piece}
@@ -33,12 +33,12 @@ use Rattle.py_lines.proofs.LineScan.ShortPieces.{low_is, quote-no_break, space-n
 use Rattle.py_lines.proofs.LineScan.Runs.{break-return, body_parts, quote_ascii, space_low, word_byte_continues, word_byte_low, word_byte_starts}
 
 -- one character
-one_step : (depth : ℕ) (t next : FieldScanned) (c : ℕ) (v : FieldMove) → c < 128 → is_break c ≡ false → field_move t.mode t.held c ≡ v → (t.outer ≡ [] → v ≡ closes → ⊥) → has_room_at (depth + frames t) c v ≡ true → field_moved t c v ≡ Some next → GoesOn depth t (c ∷ []) next
+one_step : (depth : ℕ) (t next : FieldScanned) (c : ℕ) (v : FieldMove) → c < 128 → is_break c ≡ false → field_move t.mode t.held c ≡ v → (t.outer ≡ [] → v ≡ closes → ⊥) → has_room_at (depth + frames t) c v ≡ true → field_moved t c v ≡ Some next → GoesThrough depth t (c ∷ []) next
 one_step depth t next c v low none is goes_on room comes = (low, none, goes_through 0 depth t c v is next room comes goes_on, next, ap (field_moved t c) is ∙ comes, refl)
 
 -- over two runs, one after the other
-pub goes_on-append : (depth : ℕ) (t u v : FieldScanned) (a b : List ℕ) → GoesOn depth t a u → GoesOn depth u b v → GoesOn depth t (a ++ b) v
-goes_on-append depth t u v [] b first second = subst (λ x. GoesOn depth x b v) (sym first) second
+pub goes_on-append : (depth : ℕ) (t u v : FieldScanned) (a b : List ℕ) → GoesThrough depth t a u → GoesThrough depth u b v → GoesThrough depth t (a ++ b) v
+goes_on-append depth t u v [] b first second = subst (λ x. GoesThrough depth x b v) (sym first) second
 goes_on-append depth t u v (c ∷ a) b (low, none, move, next, step, others) second = (low, none, move, next, step, goes_on-append depth next u v a b others second)
 
 pub leads-append : (quote : ℕ) (P Q R : List Level → Level → FieldScanned → Type 0) (a b : List ℕ) → Leads quote P a Q → Leads quote Q b R → Leads quote P (a ++ b) R
@@ -100,15 +100,15 @@ module _ (quote : ℕ) (outer : List Level) (l : Level) (depth : ℕ) (same : l.
   abbrev S : List ℕ → FieldScanned
   S held = field_state outer l.done l.openers (body l.host literal false between) held
 
-  grown_by : (c : ℕ) (held : List ℕ) → c < 128 → is_break c ≡ false → field_move (body l.host literal false between) held c ≡ grows (body l.host literal false between) → (u : FieldScanned) × GoesOn depth (S held) (c ∷ []) u × InText outer l u
+  grown_by : (c : ℕ) (held : List ℕ) → c < 128 → is_break c ≡ false → field_move (body l.host literal false between) held c ≡ grows (body l.host literal false between) → (u : FieldScanned) × GoesThrough depth (S held) (c ∷ []) u × InText outer l u
   grown_by c held low none move = (
     S (held ++ c ∷ []),
     one_step depth (S held) (S (held ++ c ∷ [])) c (grows (body l.host literal false between)) low none move (λ o e. cc) (room_grows (depth + frames (S held)) c (body l.host literal false between)) refl,
     (held ++ c ∷ [], refl),
   )
 
-from_text : (quote : ℕ) (run : List ℕ) (Q : List Level → Level → FieldScanned → Type 0) → ((outer : List Level) (l : Level) (depth : ℕ) (held : List ℕ) → l.host.quote ≡ quote → is_quote quote ≡ true → depth + (length l.openers + levels_open outer) ≤ 100 → (u : FieldScanned) × GoesOn depth (field_state outer l.done l.openers (body l.host literal false between) held) run u × Q outer l u) → Leads quote InText run Q
-from_text quote run Q from outer l depth t same quotes room (held, is) = subst (λ x. (u : FieldScanned) × GoesOn depth x run u × Q outer l u) (sym is) (from outer l depth held same quotes room)
+from_text : (quote : ℕ) (run : List ℕ) (Q : List Level → Level → FieldScanned → Type 0) → ((outer : List Level) (l : Level) (depth : ℕ) (held : List ℕ) → l.host.quote ≡ quote → is_quote quote ≡ true → depth + (length l.openers + levels_open outer) ≤ 100 → (u : FieldScanned) × GoesThrough depth (field_state outer l.done l.openers (body l.host literal false between) held) run u × Q outer l u) → Leads quote InText run Q
+from_text quote run Q from outer l depth t same quotes room (held, is) = subst (λ x. (u : FieldScanned) × GoesThrough depth x run u × Q outer l u) (sym is) (from outer l depth held same quotes room)
 
 text_leads : (quote c : ℕ) → is_literal_byte quote c ≡ true → Leads quote InText (c ∷ []) InText
 text_leads quote c h =
@@ -160,7 +160,7 @@ escape_leads quote c h =
 
 second_leads : (quote : ℕ) → Leads quote AtBrace (123 ∷ []) InText
 second_leads quote outer l depth t same quotes room (held, is) =
-    subst (λ x. (u : FieldScanned) × GoesOn depth x (123 ∷ []) u × InText outer l u) (sym is) (
+    subst (λ x. (u : FieldScanned) × GoesThrough depth x (123 ∷ []) u × InText outer l u) (sym is) (
       field_state outer l.done l.openers (body l.host literal false between) (held ++ 123 ∷ []),
       one_step depth (field_state outer l.done l.openers (body l.host literal false after_brace) held) (field_state outer l.done l.openers (body l.host literal false between) (held ++ 123 ∷ [])) 123 (grows (body l.host literal false between)) (omega arith) open_no_break (second_brace l.host literal false held) (λ o e. cc) (room_grows _ 123 (body l.host literal false between)) refl,
       (held ++ 123 ∷ [], refl),
@@ -172,7 +172,7 @@ two_lead quote = leads-append quote InText AtBrace InText (123 ∷ []) (123 ∷ 
 -- after `{`, code begins with what is no brace of that kind
 pub code_after : (quote : ℕ) (Q : List Level → Level → FieldScanned → Type 0) (c : ℕ) (cs : List ℕ) → c == 123 ≡ false → Leads quote (AtCode []) (c ∷ cs) Q → Leads quote AtBrace (c ∷ cs) Q
 code_after quote Q c cs other leads outer l depth t same quotes room (held, is) =
-    subst (λ x. (u : FieldScanned) × GoesOn depth x (c ∷ cs) u × Q outer l u) (sym is) (go (leads outer l depth F same quotes room code))
+    subst (λ x. (u : FieldScanned) × GoesThrough depth x (c ∷ cs) u × Q outer l u) (sym is) (go (leads outer l depth F same quotes room code))
   where
     T : FieldScanned
     T = field_state outer l.done l.openers (body l.host literal false after_brace) held
@@ -186,7 +186,7 @@ code_after quote Q c cs other leads outer l depth t same quotes room (held, is) 
     free : has_room_at (depth + frames T) c (begins_code l.host) ≡ true
     free = room_at (depth + frames T) c (begins_code l.host) (omega (arith, room), λ opens. omega (arith, room))
 
-    go : (u : FieldScanned) × GoesOn depth F (c ∷ cs) u × Q outer l u → (u : FieldScanned) × GoesOn depth T (c ∷ cs) u × Q outer l u
+    go : (u : FieldScanned) × GoesThrough depth F (c ∷ cs) u × Q outer l u → (u : FieldScanned) × GoesThrough depth T (c ∷ cs) u × Q outer l u
     go (u, (low, none, move, next, step, others), to) =
         let begins : field_move (body l.host literal false after_brace) held c ≡ begins_code l.host = code_moves l.host false held c other in
         let comes : field_moved T c (begins_code l.host) ≡ Some next = sym (ap (field_moved F c) (stops-fresh (c ∷ []))) ∙ step in
@@ -200,7 +200,7 @@ module _ (quote : ℕ) (outer : List Level) (l : Level) (depth : ℕ) (front : L
   abbrev C : Mode → FieldScanned
   C m = field_state (L ∷ outer) done os (plain m) held
 
-  code_grows : (passes : Mode → Bool) (m n : Mode) (c : ℕ) → c < 128 → is_break c ≡ false → field_move (plain m) held c ≡ grows (plain n) → passes n ≡ true → (u : FieldScanned) × GoesOn depth (C m) (c ∷ []) u × StandsInCode passes os outer l u
+  code_grows : (passes : Mode → Bool) (m n : Mode) (c : ℕ) → c < 128 → is_break c ≡ false → field_move (plain m) held c ≡ grows (plain n) → passes n ≡ true → (u : FieldScanned) × GoesThrough depth (C m) (c ∷ []) u × StandsInCode passes os outer l u
   code_grows passes m n c low none move simple = (
     field_state (L ∷ outer) done os (plain n) (held ++ c ∷ []),
     one_step depth (C m) (field_state (L ∷ outer) done os (plain n) (held ++ c ∷ [])) c (grows (plain n)) low none move (λ o. absurd (cc)) (room_grows _ c (plain n)) refl,
@@ -208,10 +208,10 @@ module _ (quote : ℕ) (outer : List Level) (l : Level) (depth : ℕ) (front : L
   )
 
   -- a character that begins a piece
-  code_breaks : (m : Mode) (c : ℕ) (next : FieldScanned) → c < 128 → is_break c ≡ false → field_move (plain m) held c ≡ breaks → has_room_at (depth + frames (C m)) c breaks ≡ true → field_started (L ∷ outer) (field_pieces (C m)) os c (start_of c) ≡ Some next → GoesOn depth (C m) (c ∷ []) next
+  code_breaks : (m : Mode) (c : ℕ) (next : FieldScanned) → c < 128 → is_break c ≡ false → field_move (plain m) held c ≡ breaks → has_room_at (depth + frames (C m)) c breaks ≡ true → field_started (L ∷ outer) (field_pieces (C m)) os c (start_of c) ≡ Some next → GoesThrough depth (C m) (c ∷ []) next
   code_breaks m c next low none move room starts_so = one_step depth (C m) next c breaks low none move (λ o. absurd (cc)) room starts_so
 
-  code_opens : (passes : Mode → Bool) (m n : Mode) (c : ℕ) → c < 128 → is_break c ≡ false → field_move (plain m) held c ≡ breaks → has_room_at (depth + frames (C m)) c breaks ≡ true → start_of c ≡ starts.Open n → passes n ≡ true → (u : FieldScanned) × GoesOn depth (C m) (c ∷ []) u × StandsInCode passes os outer l u
+  code_opens : (passes : Mode → Bool) (m n : Mode) (c : ℕ) → c < 128 → is_break c ≡ false → field_move (plain m) held c ≡ breaks → has_room_at (depth + frames (C m)) c breaks ≡ true → start_of c ≡ starts.Open n → passes n ≡ true → (u : FieldScanned) × GoesThrough depth (C m) (c ∷ []) u × StandsInCode passes os outer l u
   code_opens passes m n c low none move room opens simple =
       let next : FieldScanned = field_state (L ∷ outer) (field_pieces (C m)) os (plain n) (c ∷ []) in (
         next,
@@ -219,7 +219,7 @@ module _ (quote : ℕ) (outer : List Level) (l : Level) (depth : ℕ) (front : L
         record { front = front; done = field_pieces (C m); mode = n; held = c ∷ []; is = refl; simple = simple },
       )
 
-  code_operates : (m : Mode) (after : List ℕ) (c : ℕ) → c < 128 → is_break c ≡ false → field_move (plain m) held c ≡ breaks → has_room_at (depth + frames (C m)) c breaks ≡ true → start_of c ≡ starts.Operator → openers_with os c ≡ Some after → IsNoColon (L ∷ outer) os c → (u : FieldScanned) × GoesOn depth (C m) (c ∷ []) u × AtCode after outer l u
+  code_operates : (m : Mode) (after : List ℕ) (c : ℕ) → c < 128 → is_break c ≡ false → field_move (plain m) held c ≡ breaks → has_room_at (depth + frames (C m)) c breaks ≡ true → start_of c ≡ starts.Operator → openers_with os c ≡ Some after → IsNoColon (L ∷ outer) os c → (u : FieldScanned) × GoesThrough depth (C m) (c ∷ []) u × AtCode after outer l u
   code_operates m after c low none move room opens stands no_colon =
       let ps = field_pieces (C m) in
       let next : FieldScanned = field_fresh (L ∷ outer) (ps ++ piece operator (c ∷ []) ∷ []) after in (
@@ -229,9 +229,9 @@ module _ (quote : ℕ) (outer : List Level) (l : Level) (depth : ℕ) (front : L
       )
 
 -- wherever the code stands
-from_code : (passes : Mode → Bool) (os : List ℕ) (quote : ℕ) (run : List ℕ) (Q : List Level → Level → FieldScanned → Type 0) → ((outer : List Level) (l : Level) (depth : ℕ) (front : List ℕ) (done : List Piece) (held : List ℕ) (m : Mode) → passes m ≡ true → depth + (length l.openers + levels_open outer) ≤ 100 → l.host.quote ≡ quote → is_quote quote ≡ true → (u : FieldScanned) × GoesOn depth (field_state (level_after l front ∷ outer) done os (plain m) held) run u × Q outer l u) → Leads quote (StandsInCode passes os) run Q
+from_code : (passes : Mode → Bool) (os : List ℕ) (quote : ℕ) (run : List ℕ) (Q : List Level → Level → FieldScanned → Type 0) → ((outer : List Level) (l : Level) (depth : ℕ) (front : List ℕ) (done : List Piece) (held : List ℕ) (m : Mode) → passes m ≡ true → depth + (length l.openers + levels_open outer) ≤ 100 → l.host.quote ≡ quote → is_quote quote ≡ true → (u : FieldScanned) × GoesThrough depth (field_state (level_after l front ∷ outer) done os (plain m) held) run u × Q outer l u) → Leads quote (StandsInCode passes os) run Q
 from_code passes os quote run Q from outer l depth t same quotes room at =
-    subst (λ x. (u : FieldScanned) × GoesOn depth x run u × Q outer l u) (sym at.is) (from outer l depth at.front at.done at.held at.mode at.simple room same quotes)
+    subst (λ x. (u : FieldScanned) × GoesThrough depth x run u × Q outer l u) (sym at.is) (from outer l depth at.front at.done at.held at.mode at.simple room same quotes)
 
 -- no string begins with what is no quote
 plain_move_is : (m : Mode) (held : List ℕ) (c : ℕ) → is_code_mode m ≡ true → is_quote c ≡ false → field_move (plain m) held c ≡ plain_move (move_of m c)
@@ -426,7 +426,7 @@ module _ (quote : ℕ) (outer : List Level) (l : Level) (depth : ℕ) (front : L
   open_in ps m held = field_state (level_after l front ∷ outer) ps os (plain m) held
 
   -- it grows over a character
-  text_on : (ps : List Piece) (m : Mode) (held : List ℕ) (c : ℕ) → begins_host m held c ≡ false → move_of m c ≡ moves.Grows (modes.Inside q) → is_text_byte q c ≡ true → GoesOn depth (open_in ps m held) (c ∷ []) (open_in ps (modes.Inside q) (held ++ c ∷ []))
+  text_on : (ps : List Piece) (m : Mode) (held : List ℕ) (c : ℕ) → begins_host m held c ≡ false → move_of m c ≡ moves.Grows (modes.Inside q) → is_text_byte q c ≡ true → GoesThrough depth (open_in ps m held) (c ∷ []) (open_in ps (modes.Inside q) (held ++ c ∷ []))
   text_on ps m held c none move passes =
       let parts = and_parts (is_body_byte q c) (nat_lt c 128) passes in
       one_step depth (open_in ps m held) (open_in ps (modes.Inside q) (held ++ c ∷ [])) c (grows (plain (modes.Inside q))) (low_is c parts.1) (body_parts q c parts.0).2 (plain_moves m held c none ∙ ap plain_move move) (λ o. absurd (cc)) (room_grows _ c (plain (modes.Inside q))) refl
@@ -440,11 +440,11 @@ module _ (quote : ℕ) (outer : List Level) (l : Level) (depth : ℕ) (front : L
   opened_grows c passes = let parts = body_parts q c (and_parts (is_body_byte q c) (nat_lt c 128) passes).0 in rw (parts.0, parts.1, parts.2) refl
 
   -- and over a run
-  texts_on : (ps : List Piece) (held run : List ℕ) → list_all (is_text_byte q) run ≡ true → GoesOn depth (open_in ps (modes.Inside q) held) run (open_in ps (modes.Inside q) (held ++ run))
+  texts_on : (ps : List Piece) (held run : List ℕ) → list_all (is_text_byte q) run ≡ true → GoesThrough depth (open_in ps (modes.Inside q) held) run (open_in ps (modes.Inside q) (held ++ run))
   texts_on ps held [] all = ap (open_in ps (modes.Inside q)) (sym (append-nil held))
   texts_on ps held (c ∷ cs) all =
       let parts = and_parts (is_text_byte q c) (list_all (is_text_byte q) cs) all in
-      subst (λ x. GoesOn depth (open_in ps (modes.Inside q) held) (c ∷ cs) (open_in ps (modes.Inside q) x)) (append_assoc held (c ∷ []) cs)
+      subst (λ x. GoesThrough depth (open_in ps (modes.Inside q) held) (c ∷ cs) (open_in ps (modes.Inside q) x)) (append_assoc held (c ∷ []) cs)
       (goes_on-append depth (open_in ps (modes.Inside q) held) (open_in ps (modes.Inside q) (held ++ c ∷ [])) (open_in ps (modes.Inside q) ((held ++ c ∷ []) ++ cs)) (c ∷ []) cs
       (text_on ps (modes.Inside q) held c refl (inside_grows c parts.0) parts.0) (texts_on ps (held ++ c ∷ []) cs parts.1))
 
@@ -455,12 +455,12 @@ module _ (quote : ℕ) (outer : List Level) (l : Level) (depth : ℕ) (front : L
   closed_in : List Piece → List ℕ → FieldScanned
   closed_in ps held = field_fresh (level_after l front ∷ outer) (ps ++ piece string (held ++ q ∷ []) ∷ []) os
 
-  text_ends : (ps : List Piece) (held : List ℕ) → GoesOn depth (open_in ps (modes.Inside q) held) (q ∷ []) (closed_in ps held)
+  text_ends : (ps : List Piece) (held : List ℕ) → GoesThrough depth (open_in ps (modes.Inside q) held) (q ∷ []) (closed_in ps held)
   unfolding closed_in
   text_ends ps held = one_step depth (open_in ps (modes.Inside q) held) (closed_in ps held) q closes (quote_ascii q quotes) (quote-no_break q quotes) (inside_closes held) (λ o. absurd (cc)) (room_closes _ q) refl
 
   -- from its first quote to its last
-  text_goes : (ps : List Piece) (d : ℕ) (ds : List ℕ) → list_all (is_text_byte q) (d ∷ ds) ≡ true → GoesOn depth (open_in ps (modes.Opened q) (q ∷ [])) ((d ∷ ds) ++ q ∷ []) (closed_in ps ((q ∷ d ∷ []) ++ ds))
+  text_goes : (ps : List Piece) (d : ℕ) (ds : List ℕ) → list_all (is_text_byte q) (d ∷ ds) ≡ true → GoesThrough depth (open_in ps (modes.Opened q) (q ∷ [])) ((d ∷ ds) ++ q ∷ []) (closed_in ps ((q ∷ d ∷ []) ++ ds))
   text_goes ps d ds all =
       let parts = and_parts (is_text_byte q d) (list_all (is_text_byte q) ds) all in
       let one = open_in ps (modes.Inside q) (q ∷ d ∷ []) in
@@ -548,7 +548,7 @@ specified_leads : (quote c : ℕ) → is_literal_byte quote c ≡ true → Leads
 specified_leads quote c h outer l depth t same quotes room (front, held, is) =
     let own = literal_parts quote c h in
     let S : List ℕ → FieldScanned = λ x. field_state (level_after l front ∷ outer) [] [] (body l.host specification false between) x in
-    subst (λ x. (u : FieldScanned) × GoesOn depth x (c ∷ []) u × AtSpecification outer l u) (sym is) (
+    subst (λ x. (u : FieldScanned) × GoesThrough depth x (c ∷ []) u × AtSpecification outer l u) (sym is) (
       S (held ++ c ∷ []),
       one_step depth (S held) (S (held ++ c ∷ [])) c (grows (body l.host specification false between)) own.low own.none (text_grows l.host quote c same own held specification) (λ o. absurd (cc)) (room_grows _ c (body l.host specification false between)) refl,
       (front, held ++ c ∷ [], refl),
@@ -569,7 +569,7 @@ pub specification_ends : (quote : ℕ) → Leads quote AtSpecification (125 ∷ 
 specification_ends quote outer l depth t same quotes room (front, held, is) =
     let S : FieldScanned = field_state (level_after l front ∷ outer) [] [] (body l.host specification false between) held in
     let ended : FieldScanned = field_state outer l.done l.openers (body l.host literal false between) (held ++ 125 ∷ []) in
-    subst (λ x. (u : FieldScanned) × GoesOn depth x (125 ∷ []) u × InText outer l u) (sym is) (
+    subst (λ x. (u : FieldScanned) × GoesThrough depth x (125 ∷ []) u × InText outer l u) (sym is) (
       ended,
       one_step depth S ended 125 ends_field (omega arith) end_no_break (specification_moves l.host held (ap is_quote same ∙ quotes)) (λ o. absurd (cc)) (ends_room _ 125) refl,
       (held ++ 125 ∷ [], refl),

@@ -11,7 +11,7 @@ use Rattle.py_lines.specs.Balance.{depth_through}
 use Rattle.py_lines.specs.Reading.{EndsLine}
 use Rattle.py_lines.specs.Settled.{EndsForGood}
 use Rattle.py_lines.proofs.Text.CharacterTests.{feed_is, feed-not-return}
-use Rattle.py_lines.proofs.Text.Continued.{GoesOn, goes_on}
+use Rattle.py_lines.proofs.Text.Continued.{IsContinued, goes_on}
 use Rattle.py_lines.proofs.Pieces.PieceLists.{piece, spelled-append, AreReadIn-append, AreReadIn-first, AreReadIn-second, follows_any}
 use Rattle.py_lines.proofs.Fields.OneReading.{read_before}
 
@@ -104,7 +104,7 @@ module _ (grammar : Grammar) (IsReading : List Piece → Type 0) (readings : Rea
           let bound = settled.longest others cs spell read ended in
           omega (arith, bound, ap length longer, length-append (spelled pieces) (c ∷ []))
 
-  follows : (body : List Piece) (last : Piece) → pieces ≡ body ++ last ∷ [] → last.class ≡ line_end → depth_through 0 body ≡ 0 → ends is_return last.text ≡ true → (left : List ℕ) → rest ≡ left → GoesOn rest (tail ++ more) after t → begins is_line_feed after ≡ false
+  follows : (body : List Piece) (last : Piece) → pieces ≡ body ++ last ∷ [] → last.class ≡ line_end → depth_through 0 body ≡ 0 → ends is_return last.text ≡ true → (left : List ℕ) → rest ≡ left → IsContinued rest (tail ++ more) after t → begins is_line_feed after ≡ false
   follows body last is class deep cr (c ∷ cs) left on = ap (begins is_line_feed) (on.split ∙ ap (λ x. x ++ on.rest) left) ∙ no_feed body last is class deep cr c cs left
   follows body last is class deep cr [] left on = by_tail tail refl after refl
     where
@@ -129,7 +129,7 @@ module _ (grammar : Grammar) (IsReading : List Piece → Type 0) (readings : Rea
   pub fits_on : AreReadIn grammar pieces after
   fits_on = by_end settled.ended.0
     where
-      on : GoesOn rest (tail ++ more) after t
+      on : IsContinued rest (tail ++ more) after t
       on = goes_on rest (tail ++ more) after t fine are none (sym (append_assoc (encode_utf8_all rest) tail more) ∙ sym same)
 
       by_end : EndsLine pieces → AreReadIn grammar pieces after

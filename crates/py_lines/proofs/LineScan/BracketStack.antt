@@ -5,7 +5,7 @@ use Rattle.std.proofs.lemmas.Bool.{false_from_ne_true, ltb-true, eqb-true, eq-eq
 use Rattle.py_lines.specs.Piece.{operator}
 use Rattle.py_lines.specs.Balance.{is_opening, is_closing, closing_of}
 use Rattle.py_lines.specs.Private.Machine.{Bracket, brackets_after, opened_by, closed_by}
-use Rattle.py_lines.specs.Private.Run.{may_stand}
+use Rattle.py_lines.specs.Private.Run.{operator_may_stand}
 use Rattle.py_lines.specs.Private.Scan.{stack, none_open, IsInnermost}
 use Rattle.py_lines.specs.declared.brackets.OpenBracket.{OpenBracket}
 use Rattle.py_lines.proofs.Pieces.PieceLists.{piece}
@@ -71,7 +71,7 @@ pub keeps_at : (st : List Bracket) (place c : ℕ) → is_opening c ≡ false �
 keeps_at st place c opens closes = other_keeps st place (piece operator (c ∷ [])) opens closes
 
 -- whether an operator may stand next
-pub opens_so : (st : List Bracket) (c : ℕ) → is_opening c ≡ true → nat_lt (length st) 200 ≡ may_stand st c
+pub opens_so : (st : List Bracket) (c : ℕ) → is_opening c ≡ true → nat_lt (length st) 200 ≡ operator_may_stand st c
 unfolding brackets_after
 opens_so st c opens = rw opens (go (nat_lt (length st) 200))
   where
@@ -79,7 +79,7 @@ opens_so st c opens = rw opens (go (nat_lt (length st) 200))
     go true = refl
     go false = refl
 
-pub closes_so : (st : List Bracket) (c : ℕ) (b : Bracket) (others : List Bracket) → st ≡ b ∷ others → is_opening c ≡ false → is_closing c ≡ true → c == closing_of b.opener ≡ may_stand st c
+pub closes_so : (st : List Bracket) (c : ℕ) (b : Bracket) (others : List Bracket) → st ≡ b ∷ others → is_opening c ≡ false → is_closing c ≡ true → c == closing_of b.opener ≡ operator_may_stand st c
 unfolding brackets_after
 closes_so st c b others top other closes = rw (top, other, closes) (go (c == closing_of b.opener))
   where
@@ -87,14 +87,14 @@ closes_so st c b others top other closes = rw (top, other, closes) (go (c == clo
     go true = refl
     go false = refl
 
-pub closes_nothing : (st : List Bracket) (c : ℕ) → st ≡ [] → is_opening c ≡ false → is_closing c ≡ true → false ≡ may_stand st c
+pub closes_nothing : (st : List Bracket) (c : ℕ) → st ≡ [] → is_opening c ≡ false → is_closing c ≡ true → false ≡ operator_may_stand st c
 closes_nothing st c none other closes = ap is_some (sym (closes_none st 0 c none other closes))
 
-pub stands_anywhere : (st : List Bracket) (c : ℕ) → is_opening c ≡ false → is_closing c ≡ false → true ≡ may_stand st c
+pub stands_anywhere : (st : List Bracket) (c : ℕ) → is_opening c ≡ false → is_closing c ≡ false → true ≡ operator_may_stand st c
 stands_anywhere st c opens closes = ap is_some (sym (keeps_at st 0 c opens closes))
 
 -- an operator that may not stand at a byte may not stand next
-pub refused_anywhere : (st : List Bracket) (place c : ℕ) → brackets_after st place (record { class = operator; text = c ∷ [] }) ≡ None → may_stand st c ≡ false
+pub refused_anywhere : (st : List Bracket) (place c : ℕ) → brackets_after st place (record { class = operator; text = c ∷ [] }) ≡ None → operator_may_stand st c ≡ false
 unfolding brackets_after
 refused_anywhere st place c none = go (is_opening c) (is_closing c) none
   where

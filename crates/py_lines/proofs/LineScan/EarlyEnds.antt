@@ -17,7 +17,7 @@ use Rattle.py_lines.specs.declared.scan.Scan.{Scan}
 use Rattle.py_lines.specs.Private.Machine.{Scanned, start_of, Bracket, token_of}
 use Rattle.py_lines.specs.Private.ScanMachine.{IsScanSound, meet_of}
 use Rattle.py_lines.specs.Private.Scan.{Closes, Begins, ClosesAndAdds, Tallies, IsStacked, Takes, EndsNoLine, line_start, stack_of, none_open, is_returned, is_return_mode, line_end_progress, tokens_with, with_brackets, stack_with, closed_with, holds_nothing}
-use Rattle.py_lines.specs.Private.Run.{is_free, may_stand, may_begin, follows, Reached, ReachedShut, IsShut}
+use Rattle.py_lines.specs.Private.Run.{is_free, operator_may_stand, may_begin, follows, Reached, ReachedShut, IsShut}
 use Rattle.py_lines.proofs.Text.Incomplete.{one_char}
 use Rattle.py_lines.proofs.Machine.Starts.{start-word, start-space, start-operator, start-feed, start-return, start-quote, start-hash, start-slash}
 use Rattle.py_lines.proofs.LineScan.BracketStack.{refused_anywhere}
@@ -41,7 +41,7 @@ closes_through before scan mid first second = record {
 -- what begins a piece is begun
 record IsBegun (st : List Bracket) (c : ℕ) : Type 0 where
   some : start_of c ≡ starts.Nothing → ⊥
-  stands : start_of c ≡ starts.Operator → may_stand st c ≡ true
+  stands : start_of c ≡ starts.Operator → operator_may_stand st c ≡ true
 
 opened_so : (st : List Bracket) (c : ℕ) (m : Mode) → start_of c ≡ starts.Open m → IsBegun st c
 opened_so st c m is = record { some = λ e. let clash = sym is ∙ e in cc; stands = λ e. absurd (let clash = sym is ∙ e in cc) }

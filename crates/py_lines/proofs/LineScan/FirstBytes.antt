@@ -9,7 +9,7 @@ use Rattle.py_lines.specs.declared.scan.Scan.{Scan}
 use Rattle.py_lines.specs.declared.token.TokKind.TheVariants as kind
 use Rattle.py_lines.specs.Private.Machine.{Bracket}
 use Rattle.py_lines.specs.Private.Scan.{stack_of}
-use Rattle.py_lines.specs.Private.Run.{BeginsSo, is_ascii_word, is_apart, may_stand, follows, AddsToken, TakesOperator}
+use Rattle.py_lines.specs.Private.Run.{BeginsSo, is_ascii_word, is_apart, operator_may_stand, follows, AddsToken, TakesOperator}
 use Rattle.py_lines.proofs.Text.CharacterTests.{feed_is, return_is}
 use Rattle.py_lines.proofs.LineScan.BracketStack.{keeps_at, stands_anywhere}
 use Rattle.py_lines.proofs.LineScan.ShortPieces.{begins_with}
@@ -42,7 +42,7 @@ always_follows st b f so how =
     space h = or_more (is_ascii_word b) _ (rw h refl)
 
     stands : (is_operator b ≡ true) × (is_opening b ≡ false) × (is_closing b ≡ false) → follows st b ≡ true
-    stands (h, opens, closes) = or_more (is_ascii_word b) _ (or_more (is_space b) _ (or_more (is_apart b) _ (and_from (is_operator b) (may_stand st b) h (sym (stands_anywhere st b opens closes)))))
+    stands (h, opens, closes) = or_more (is_ascii_word b) _ (or_more (is_space b) _ (or_more (is_apart b) _ (and_from (is_operator b) (operator_may_stand st b) h (sym (stands_anywhere st b opens closes)))))
 
 apart_next : (st : List Bracket) (b : ℕ) → is_apart b ≡ true → follows st b ≡ true
 apart_next st b h = or_more (is_ascii_word b) _ (or_more (is_space b) _ (rw h refl))

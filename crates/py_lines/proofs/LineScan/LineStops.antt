@@ -19,7 +19,7 @@ use Rattle.py_lines.specs.declared.scan.Stop.TheVariants as stops
 use Rattle.py_lines.specs.Private.Machine.{Scanned, start_of}
 use Rattle.py_lines.specs.Private.ScanMachine.{IsScanSound}
 use Rattle.py_lines.specs.Private.Scan.{Tallies, IsStacked, TakesNext, Begins, Closes, line_start, stack_of, none_open, is_returned, is_return_mode, IsAtLineEnd, EndsWhole, ScansIn, Scans}
-use Rattle.py_lines.specs.Private.Run.{StandsBefore, Holds, HasAsciiQuote, Reached, ReachedShut, LeavesOff, is_free}
+use Rattle.py_lines.specs.Private.Run.{ReachedInSomeLine, HoldsRun, HasAsciiQuote, Reached, ReachedShut, LeavesOff, is_free}
 use Rattle.py_lines.proofs.LineScan.EarlyEnds.{TakesFrom, taken_free, taken_open, stands_reached, stands_shut, shut_none}
 use Rattle.py_lines.proofs.LineScan.ShortPieces.{free_is, open_reached, shut_from}
 use Rattle.py_lines.proofs.Text.CharacterTests.{feed_from, feed_is}
@@ -61,16 +61,16 @@ pub record TakesTo (old : Scan) (c : ℕ) (p : Progress) (new : Scan) : Type 0 w
   pub taken : is_free old.piece.mode ≡ false → TakesNext old c (Ok p) new
 
 -- what standing in a line tells
-pub goes_quote : (old : Scan) (text : List ℕ) (new : Scan) (rest : List ℕ) → StandsBefore old text → GoesTo old text new rest → HasAsciiQuote new.piece.mode
+pub goes_quote : (old : Scan) (text : List ℕ) (new : Scan) (rest : List ℕ) → ReachedInSomeLine old text → GoesTo old text new rest → HasAsciiQuote new.piece.mode
 goes_quote old text new rest (m, line, whole, start, r) goes = let o = goes m line whole start r in way_quote m new o.read o.way start
 
-pub shuts_order : (old : Scan) (text : List ℕ) (new : Scan) (rest : List ℕ) → StandsBefore old text → ShutsTo old text new rest → new.piece.start ≤ new.stop
+pub shuts_order : (old : Scan) (text : List ℕ) (new : Scan) (rest : List ℕ) → ReachedInSomeLine old text → ShutsTo old text new rest → new.piece.start ≤ new.stop
 shuts_order old text new rest (m, line, whole, start, r) shuts = (stands_shut m line whole new rest start (shuts m line whole start r)).order
 
-pub shuts_room : (old : Scan) (text : List ℕ) (new : Scan) (rest : List ℕ) → StandsBefore old text → ShutsTo old text new rest → new.stop + length rest ≡ old.stop + length text
+pub shuts_room : (old : Scan) (text : List ℕ) (new : Scan) (rest : List ℕ) → ReachedInSomeLine old text → ShutsTo old text new rest → new.stop + length rest ≡ old.stop + length text
 shuts_room old text new rest (m, line, whole, start, r) shuts = (stands_shut m line whole new rest start (shuts m line whole start r)).room ∙ sym (stands_reached m line whole old text start r).room
 
-pub shuts_lines : (old : Scan) (text : List ℕ) (new : Scan) (rest : List ℕ) → StandsBefore old text → ShutsTo old text new rest → new.count.line ≤ old.line + new.stop
+pub shuts_lines : (old : Scan) (text : List ℕ) (new : Scan) (rest : List ℕ) → ReachedInSomeLine old text → ShutsTo old text new rest → new.count.line ≤ old.line + new.stop
 shuts_lines old text new rest (m, line, whole, start, r) shuts =
     let stood = stands_shut m line whole new rest start (shuts m line whole start r) in
     omega (arith, stood.lines, stood.line, r.line)
@@ -79,10 +79,10 @@ shuts_lines old text new rest (m, line, whole, start, r) shuts =
 goes_shuts : (old : Scan) (text : List ℕ) (new : Scan) (rest : List ℕ) → GoesTo old text new rest → ShutsTo old text new rest
 goes_shuts old text new rest goes m line whole start r = shut_from m line whole new rest (goes m line whole start r)
 
-pub goes_room : (old : Scan) (text : List ℕ) (new : Scan) (rest : List ℕ) → StandsBefore old text → GoesTo old text new rest → new.stop + length rest ≡ old.stop + length text
+pub goes_room : (old : Scan) (text : List ℕ) (new : Scan) (rest : List ℕ) → ReachedInSomeLine old text → GoesTo old text new rest → new.stop + length rest ≡ old.stop + length text
 goes_room old text new rest before goes = shuts_room old text new rest before (goes_shuts old text new rest goes)
 
-pub goes_lines : (old : Scan) (text : List ℕ) (new : Scan) (rest : List ℕ) → StandsBefore old text → GoesTo old text new rest → new.count.line ≤ old.line + new.stop
+pub goes_lines : (old : Scan) (text : List ℕ) (new : Scan) (rest : List ℕ) → ReachedInSomeLine old text → GoesTo old text new rest → new.count.line ≤ old.line + new.stop
 goes_lines old text new rest before goes = shuts_lines old text new rest before (goes_shuts old text new rest goes)
 
 -- a line that its line end has closed ends in LF, where LF may follow it
@@ -123,7 +123,7 @@ not_true true h = sym h
 not_true false h = refl
 
 -- a run of characters was held
-pub goes_run : (first : Scan) (text : List ℕ) (old new : Scan) (before rest : List ℕ) → GoesTo first text old before → Holds old before rest new → GoesTo first text new rest
+pub goes_run : (first : Scan) (text : List ℕ) (old new : Scan) (before rest : List ℕ) → GoesTo first text old before → HoldsRun old before rest new → GoesTo first text new rest
 goes_run first text old new before rest goes holds m line whole start r = reached_run m line whole old new before rest (goes m line whole start r) start holds
 
 module _ (first : Scan) (text : List ℕ) (old : Scan) (before : List ℕ) (shuts : ShutsTo first text old before) where

@@ -13,7 +13,7 @@ use Rattle.py_lines.specs.declared.scan.Scan.{Scan}
 use Rattle.py_lines.specs.declared.scan.Stop.TheVariants as stops
 use Rattle.py_lines.specs.declared.whole_pieces.Taken.TheVariants as taken
 use Rattle.py_lines.specs.Private.Scan.{Begins, counts_after, is_returned}
-use Rattle.py_lines.specs.Private.Run.{BeginsWithFeed, Reached, ReachedShut, TakesBytes, TakesLineFeed, TakesPiece, is_free, may_begin, space_mode}
+use Rattle.py_lines.specs.Private.Run.{BeginsWithFeed, Reached, ReachedShut, TakesPieceInLine, TakesLineFeed, TakesPiece, is_free, may_begin, space_mode}
 use Rattle.py_lines.proofs.Machine.Starts.{start-feed}
 use Rattle.py_lines.proofs.Text.CharacterTests.{feed_is, feed_from}
 use Rattle.py_lines.proofs.LineScan.CarriageReturns.{return_ends_line, return_far, return_goes}
@@ -56,7 +56,7 @@ module _ (first : Scan) (text : List ℕ) (old new : Scan) (bytes : List ℕ) (f
       is : old.piece.mode ≡ modes.Free
       is = free_is old.piece.mode free
 
-      go : TakesBytes old bytes len new → ReachedShut m at whole new (drop len bytes)
+      go : TakesPieceInLine old bytes len new → ReachedShut m at whole new (drop len bytes)
       go (inl token) = token_reached m at whole old new bytes len is before start token
       go (inr (inl space)) = space_reached m at whole old new bytes len is before start space
       go (inr (inr (inl remark))) = comment_reached m at whole old new bytes len is before start remark

@@ -21,8 +21,8 @@ use Rattle.py_lines.specs.Private.ScanMachine.{HoldsOpen, IsScanSound, fielded_m
 use Rattle.py_lines.specs.Private.Scan.{Counts, FieldsFollow, Tallies, IsStacked, depth_of, IsUnderWay, line_start, stack_of, counts_after, Takes}
 use Rattle.py_lines.specs.Balance.{depth_through}
 use Rattle.py_lines.specs.Private.FieldMachine.{FieldScanned}
-use Rattle.py_lines.specs.Private.FieldScan.{GoesOn, HoldsField}
-use Rattle.py_lines.specs.Private.Run.{is_ascii_word, is_body_byte, stays, Stay, HeldIn, Holds, with_bytes, HasAsciiQuote, Reached}
+use Rattle.py_lines.specs.Private.FieldScan.{GoesThrough, HoldsField}
+use Rattle.py_lines.specs.Private.Run.{is_ascii_word, is_body_byte, stays, Stay, HeldIn, HoldsRun, with_bytes, HasAsciiQuote, Reached}
 use Rattle.unicode_ident.proofs.IdentLemmas.{is_xid_continue-ascii, is_xid_start-ascii}
 use Rattle.py_lines.proofs.Text.CharacterTests.{none_of, excluded}
 use Rattle.py_lines.proofs.LineScan.Increments.{line_ends-step}
@@ -198,7 +198,7 @@ none_from [] none = refl
 none_from (c ∷ cs) none = absurd (omega (arith, none, length-append (encode_utf8 c) (encode_utf8_all cs), length-encode c, len_utf8_bounds c))
 
 -- a run was read, or none
-pub holds_run : (old new : Scan) (text : List ℕ) (n : ℕ) → HeldIn old text n → ((0 < n) × (new ≡ with_bytes old n)) ⊎ ((n ≤ 0) × (new ≡ old)) → Holds old text (drop n text) new
+pub holds_run : (old new : Scan) (text : List ℕ) (n : ℕ) → HeldIn old text n → ((0 < n) × (new ≡ with_bytes old n)) ⊎ ((n ≤ 0) × (new ≡ old)) → HoldsRun old text (drop n text) new
 holds_run old new text n held how = record {
   run = held.run;
   spell = held.spell;
@@ -259,7 +259,7 @@ counts_run old s run all full tallies =
     }
 
 -- a string with fields that goes on over a run
-pub string_run : (done : List Piece) (held run : List ℕ) (t u : FieldScanned) → string_state held ≡ Some t → GoesOn (depth_through 0 done) t run u → (scan_steps (Some (scanned done modes.Fielded held)) run ≡ Some (scanned done modes.Fielded (held ++ run))) × (string_state (held ++ run) ≡ Some u)
+pub string_run : (done : List Piece) (held run : List ℕ) (t u : FieldScanned) → string_state held ≡ Some t → GoesThrough (depth_through 0 done) t run u → (scan_steps (Some (scanned done modes.Fielded held)) run ≡ Some (scanned done modes.Fielded (held ++ run))) × (string_state (held ++ run) ≡ Some u)
 string_run done held [] t u is goes = (all_held done modes.Fielded held, ap string_state (append-nil held) ∙ is ∙ ap Some goes)
 string_run done held (c ∷ cs) t u is (low, none, move, next, step, others) =
     let later = string_run done (held ++ c ∷ []) cs next u (string_more held c t is ∙ step) others in (
@@ -267,7 +267,7 @@ string_run done held (c ∷ cs) t u is (low, none, move, next, step, others) =
       ap string_state (sym (append_assoc held (c ∷ []) cs)) ∙ later.1,
     )
 
-pub string_no_break : (depth : ℕ) (t : FieldScanned) (run : List ℕ) (u : FieldScanned) → GoesOn depth t run u → list_all (λ d. not (is_break d)) run ≡ true
+pub string_no_break : (depth : ℕ) (t : FieldScanned) (run : List ℕ) (u : FieldScanned) → GoesThrough depth t run u → list_all (λ d. not (is_break d)) run ≡ true
 string_no_break depth t [] u goes = refl
 string_no_break depth t (c ∷ cs) u (low, none, move, next, step, others) = and_from (not (is_break c)) (list_all (λ d. not (is_break d)) cs) (ap not none) (string_no_break depth next cs u others)
 
@@ -281,13 +281,13 @@ runs_on : (old : Scan) (done : List Piece) (m : Mode) (held read run : List ℕ)
 runs_on old done modes.Fielded held read run sound tallies stacked stay =
     let i = in_string old done held read sound tallies in
     let (u, through, follows) = stay i.state i.stands.follows i.stands.inside in
-    let goes = subst (λ d. GoesOn d i.state run u) (sym (stands done (stack_of old.brackets) stacked).depth) through in
+    let goes = subst (λ d. GoesThrough d i.state run u) (sym (stands done (stack_of old.brackets) stacked).depth) through in
     let ran = string_run done held run i.state u i.steps goes in
     record { steps = ran.0; none = string_no_break (depth_through 0 done) i.state run u goes; fields = (u, ran.1, follows) }
 runs_on old done m held read run sound tallies stacked stay = record { steps = held_run done m held run stay; none = all_no_break m run stay; fields = tt }
 
 -- and follows the machine
-pub way_held : (m : Mode) (old new : Scan) (read text rest : List ℕ) (way : IsUnderWay m old read) → IsScanSound (line_start m) [] → (holds : Holds old text rest new) → IsUnderWay m new (read ++ holds.run)
+pub way_held : (m : Mode) (old new : Scan) (read text rest : List ℕ) (way : IsUnderWay m old read) → IsScanSound (line_start m) [] → (holds : HoldsRun old text rest new) → IsUnderWay m new (read ++ holds.run)
 way_held m old new read text rest way start holds =
     ⊎_elim
     (λ none. record {
@@ -310,7 +310,7 @@ way_held m old new read text rest way start holds =
     }) holds.reads
 
 -- over a run too
-pub reached_run : (m : Mode) (at : ℕ) (text : List ℕ) (old new : Scan) (mid rest : List ℕ) → Reached m at text old mid → IsScanSound (line_start m) [] → Holds old mid rest new → Reached m at text new rest
+pub reached_run : (m : Mode) (at : ℕ) (text : List ℕ) (old new : Scan) (mid rest : List ℕ) → Reached m at text old mid → IsScanSound (line_start m) [] → HoldsRun old mid rest new → Reached m at text new rest
 reached_run m at text old new mid rest r start holds = record {
   read = r.read ++ holds.run;
   way = way_held m old new r.read mid rest r.way start holds;

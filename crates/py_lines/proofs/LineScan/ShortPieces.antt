@@ -33,7 +33,7 @@ use Rattle.py_lines.specs.Private.Machine.{fresh, closed, moved, started, token_
 use Rattle.py_lines.specs.Private.ScanMachine.{IsScanSound, meet_of, move_in, scan_steps, move_at}
 use Rattle.py_lines.specs.Balance.{depth_through}
 use Rattle.py_lines.specs.Private.Scan.{Closes, Meets, Begins, ClosesAndAdds, Tallies, line_start, stack_of, none_open, is_return_mode, indent_closed, with_brackets, tokens_with, kind_through, in_mode, counts_after, freed, closed_with, with_character}
-use Rattle.py_lines.specs.Private.Run.{IsRunOf, is_ascii_word, may_stand, follows, is_free, word_spelling, word_mode, space_mode, opened, with_bytes, AddsToken, TakesRun, TakesOperator, Reached, ReachedShut, is_apart, may_begin, is_text_byte, is_body_byte, IsWholePlainString, TakesString}
+use Rattle.py_lines.specs.Private.Run.{IsRunOf, is_ascii_word, operator_may_stand, follows, is_free, word_spelling, word_mode, space_mode, opened, with_bytes, AddsToken, TakesRun, TakesOperator, Reached, ReachedShut, is_apart, may_begin, is_text_byte, is_body_byte, IsWholePlainString, TakesString}
 use Rattle.py_lines.proofs.Text.CharacterTests.{operator_ascii, none_of, the_one}
 use Rattle.py_lines.proofs.Machine.PieceSteps.{scanned, steps_by-append, grown_by, word_by}
 use Rattle.py_lines.proofs.ScanMachine.Steps.{grow-word, breaks_in}
@@ -311,13 +311,13 @@ apart-not-quote : (c : ℕ) → is_apart c ≡ true → is_quote c ≡ false
 unfolding is_break is_hash is_backslash is_quote
 apart-not-quote c h = ⊎_elim (λ breaks. none_of is_quote (codes "\n\r") c refl breaks) (λ other. ⊎_elim (λ hash. none_of is_quote (35 ∷ []) c refl hash) (λ slash. none_of is_quote (92 ∷ []) c refl slash) (or_cases (is_hash c) (is_backslash c) other)) (or_cases (is_break c) (is_hash c || is_backslash c) h)
 
-pub follows_cases : (P : Type 0) (st : List Bracket) (c : ℕ) → follows st c ≡ true → (is_ascii_word c ≡ true → P) → (is_space c ≡ true → P) → (is_apart c ≡ true → P) → (is_operator c ≡ true → may_stand st c ≡ true → P) → P
+pub follows_cases : (P : Type 0) (st : List Bracket) (c : ℕ) → follows st c ≡ true → (is_ascii_word c ≡ true → P) → (is_space c ≡ true → P) → (is_apart c ≡ true → P) → (is_operator c ≡ true → operator_may_stand st c ≡ true → P) → P
 follows_cases P st c h word space apart stands =
     ⊎_elim word
     (λ other. ⊎_elim space
-    (λ third. ⊎_elim apart (λ both. let parts = and_parts (is_operator c) (may_stand st c) both in stands parts.0 parts.1) (or_cases (is_apart c) (is_operator c && may_stand st c) third))
-    (or_cases (is_space c) (is_apart c || (is_operator c && may_stand st c)) other))
-    (or_cases (is_ascii_word c) (is_space c || (is_apart c || (is_operator c && may_stand st c))) h)
+    (λ third. ⊎_elim apart (λ both. let parts = and_parts (is_operator c) (operator_may_stand st c) both in stands parts.0 parts.1) (or_cases (is_apart c) (is_operator c && operator_may_stand st c) third))
+    (or_cases (is_space c) (is_apart c || (is_operator c && operator_may_stand st c)) other))
+    (or_cases (is_ascii_word c) (is_space c || (is_apart c || (is_operator c && operator_may_stand st c))) h)
 
 follows_low : (st : List Bracket) (c : ℕ) → follows st c ≡ true → c < 128
 follows_low st c h = follows_cases (c < 128) st c h (word_byte_low c) (space_low c) (apart-low c) (λ stands so. operator_ascii c stands)

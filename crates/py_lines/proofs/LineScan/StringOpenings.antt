@@ -8,7 +8,7 @@ use Rattle.py_lines.specs.Character.{is_mark, is_space, is_word_character, is_qu
 use Rattle.py_lines.specs.Piece.{Piece, spelled}
 use Rattle.py_lines.specs.LogicalLine.{byte_len}
 use Rattle.py_lines.specs.FieldStrings.{Host, literal}
-use Rattle.py_lines.specs.declared.host.Host as known
+use Rattle.py_lines.specs.declared.host.StringWithFields.{StringWithFields}
 use Rattle.py_lines.specs.declared.mode.Spelling.{Spelling}
 use Rattle.py_lines.specs.declared.mode.Mode.{Mode}
 use Rattle.py_lines.specs.declared.mode.Mode.TheVariants as modes
@@ -45,7 +45,7 @@ quote_elsewhere : (s : Spelling) (c : ℕ) → Elsewhere (quote_move s c)
 unfolding quote_move
 quote_elsewhere s c = cond_both (is_field_spelling s) _ _ Elsewhere (λ _ e. cc) (λ _. cond_both (begins_string s) _ _ Elsewhere (λ _ e. cc) (λ _ e. cc))
 
-pub enters_after : (m : Mode) (c : ℕ) → ((h : known.Host) → m ≡ modes.FieldOpened h → ⊥) → ((h : known.Host) → m ≡ modes.FieldEmpty h → ⊥) → meet_of m c ≡ moves.Grows modes.Fielded → ⊥
+pub enters_after : (m : Mode) (c : ℕ) → ((h : StringWithFields) → m ≡ modes.FieldOpened h → ⊥) → ((h : StringWithFields) → m ≡ modes.FieldEmpty h → ⊥) → meet_of m c ≡ moves.Grows modes.Fielded → ⊥
 unfolding meet_of move_of
 enters_after modes.Start c one two = cond_both (is_mark c) _ _ Elsewhere (λ _ e. cc) (λ _ e. cc)
 enters_after modes.Free c one two = λ e. cc
@@ -69,7 +69,7 @@ enters_after modes.JoinReturn c one two = cond_both (is_line_feed c) _ _ Elsewhe
 enters_after modes.Return c one two = cond_both (is_line_feed c) _ _ Elsewhere (λ _ e. cc) (λ _ e. cc)
 
 -- after one quote: what comes is neither the quote nor a line end
-first_of_body : (h : known.Host) (c : ℕ) → meet_of (modes.FieldOpened h) c ≡ moves.Grows modes.Fielded → (c == h.quote ≡ false) × (is_break c ≡ false)
+first_of_body : (h : StringWithFields) (c : ℕ) → meet_of (modes.FieldOpened h) c ≡ moves.Grows modes.Fielded → (c == h.quote ≡ false) × (is_break c ≡ false)
 unfolding meet_of opened_move
 first_of_body h c move =
     let P : Move → Type 0 = λ v. v ≡ moves.Grows modes.Fielded → (c == h.quote ≡ false) × (is_break c ≡ false) in
@@ -95,7 +95,7 @@ opened_as_body host held c other =
     ∙ moved_between [] [] [] host held c (body_move host literal false between c)
 
 module _ (old new : Scan) (f : FieldScan) (done : List Piece) (held read : List ℕ) (c : ℕ) (none : EndsNoLine 0 done) where
-  module _ (h : known.Host) (sound : IsScanSound (scanned done (modes.FieldOpened h) held) read) (tallies : Tallies old (scanned done (modes.FieldOpened h) held)) (stacked : IsStacked old (scanned done (modes.FieldOpened h) held)) (move : meet_of (modes.FieldOpened h) c ≡ moves.Grows modes.Fielded) (follows : FollowsBody f h old.piece.start) where
+  module _ (h : StringWithFields) (sound : IsScanSound (scanned done (modes.FieldOpened h) held) read) (tallies : Tallies old (scanned done (modes.FieldOpened h) held)) (stacked : IsStacked old (scanned done (modes.FieldOpened h) held)) (move : meet_of (modes.FieldOpened h) c ≡ moves.Grows modes.Fielded) (follows : FollowsBody f h old.piece.start) where
     stands : StandsInString (with_field_scan old f) (field_state [] [] [] (body (host_in h) literal false between) held)
     stands = record {
       follows = follows held;
@@ -134,7 +134,7 @@ module _ (old new : Scan) (f : FieldScan) (done : List Piece) (held read : List 
     takes_first (Err e) takes = tt
 
   -- after two quotes
-  module _ (h : known.Host) (sound : IsScanSound (scanned done (modes.FieldEmpty h) held) read) (tallies : Tallies old (scanned done (modes.FieldEmpty h) held)) (stacked : IsStacked old (scanned done (modes.FieldEmpty h) held)) (move : meet_of (modes.FieldEmpty h) c ≡ moves.Grows modes.Fielded) (follows : FollowsBody f (record { quote = h.quote; is_long = true; is_raw = h.is_raw }) old.piece.start) where
+  module _ (h : StringWithFields) (sound : IsScanSound (scanned done (modes.FieldEmpty h) held) read) (tallies : Tallies old (scanned done (modes.FieldEmpty h) held)) (stacked : IsStacked old (scanned done (modes.FieldEmpty h) held)) (move : meet_of (modes.FieldEmpty h) c ≡ moves.Grows modes.Fielded) (follows : FollowsBody f (record { quote = h.quote; is_long = true; is_raw = h.is_raw }) old.piece.start) where
     third_quote : field_step (field_state [] [] [] (empty (host_in h)) held) c ≡ Some (field_state [] [] [] (body (long_host (host_in h)) literal false between) (held ++ c ∷ []))
     unfolding field_move meet_of
     third_quote =
@@ -157,14 +157,14 @@ module _ (old new : Scan) (f : FieldScan) (done : List Piece) (held read : List 
         )
 
 -- so wherever the machine stands
-pub takes_opened : (old new : Scan) (f : FieldScan) (done : List Piece) (m : Mode) (held read : List ℕ) (c : ℕ) (h : known.Host) (r : Result Progress AllocError) → m ≡ modes.FieldOpened h → meet_of m c ≡ moves.Grows modes.Fielded → FollowsBody f h old.piece.start → ((t : FieldScanned) → StandsInString (with_field_scan old f) t → TakesInString (with_field_scan old f) t c r new) → IsScanSound (scanned done m held) read → EndsNoLine 0 done → Tallies old (scanned done m held) → IsStacked old (scanned done m held) → Takes old (scanned done m held) c r new
+pub takes_opened : (old new : Scan) (f : FieldScan) (done : List Piece) (m : Mode) (held read : List ℕ) (c : ℕ) (h : StringWithFields) (r : Result Progress AllocError) → m ≡ modes.FieldOpened h → meet_of m c ≡ moves.Grows modes.Fielded → FollowsBody f h old.piece.start → ((t : FieldScanned) → StandsInString (with_field_scan old f) t → TakesInString (with_field_scan old f) t c r new) → IsScanSound (scanned done m held) read → EndsNoLine 0 done → Tallies old (scanned done m held) → IsStacked old (scanned done m held) → Takes old (scanned done m held) c r new
 takes_opened old new f done (modes.FieldOpened k) held read c h r is move follows takes sound none tallies stacked =
     let same : h ≡ k = cc in
-    takes_first old new f done held read c none k sound tallies stacked move (subst (λ (x : known.Host). FollowsBody f x old.piece.start) same follows) r takes
+    takes_first old new f done held read c none k sound tallies stacked move (subst (λ (x : StringWithFields). FollowsBody f x old.piece.start) same follows) r takes
 takes_opened old new f done m held read c h r is move follows takes sound none tallies stacked = absurd (cc)
 
-pub takes_emptied : (old new : Scan) (f : FieldScan) (done : List Piece) (m : Mode) (held read : List ℕ) (c : ℕ) (h : known.Host) → m ≡ modes.FieldEmpty h → meet_of m c ≡ moves.Grows modes.Fielded → FollowsBody f (record { quote = h.quote; is_long = true; is_raw = h.is_raw }) old.piece.start → new ≡ in_mode (with_character (with_field_scan old f) c) modes.Fielded → IsScanSound (scanned done m held) read → EndsNoLine 0 done → Tallies old (scanned done m held) → IsStacked old (scanned done m held) → Takes old (scanned done m held) c (Ok progress.Going) new
+pub takes_emptied : (old new : Scan) (f : FieldScan) (done : List Piece) (m : Mode) (held read : List ℕ) (c : ℕ) (h : StringWithFields) → m ≡ modes.FieldEmpty h → meet_of m c ≡ moves.Grows modes.Fielded → FollowsBody f (record { quote = h.quote; is_long = true; is_raw = h.is_raw }) old.piece.start → new ≡ in_mode (with_character (with_field_scan old f) c) modes.Fielded → IsScanSound (scanned done m held) read → EndsNoLine 0 done → Tallies old (scanned done m held) → IsStacked old (scanned done m held) → Takes old (scanned done m held) c (Ok progress.Going) new
 takes_emptied old new f done (modes.FieldEmpty k) held read c h is move follows grown sound none tallies stacked =
     let same : h ≡ k = cc in
-    takes_third old new f done held read c none k sound tallies stacked move (subst (λ (x : known.Host). FollowsBody f (record { quote = x.quote; is_long = true; is_raw = x.is_raw }) old.piece.start) same follows) grown
+    takes_third old new f done held read c none k sound tallies stacked move (subst (λ (x : StringWithFields). FollowsBody f (record { quote = x.quote; is_long = true; is_raw = x.is_raw }) old.piece.start) same follows) grown
 takes_emptied old new f done m held read c h is move follows grown sound none tallies stacked = absurd (cc)

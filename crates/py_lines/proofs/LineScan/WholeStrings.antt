@@ -12,7 +12,7 @@ use Rattle.py_lines.specs.Piece.{string, Piece}
 use Rattle.py_lines.specs.Balance.{depth_through}
 use Rattle.py_lines.specs.FieldStrings.{is_field_prefix, Host, literal}
 use Rattle.py_lines.specs.LogicalLine.{byte_len}
-use Rattle.py_lines.specs.declared.host.Host as known
+use Rattle.py_lines.specs.declared.host.StringWithFields.{StringWithFields}
 use Rattle.py_lines.specs.declared.token.TokKind.TheVariants as kind
 use Rattle.py_lines.specs.declared.mode.Spelling.{Spelling}
 use Rattle.py_lines.specs.declared.mode.Mode.{Mode}
@@ -22,7 +22,7 @@ use Rattle.py_lines.specs.declared.scan.Scan.{Scan}
 use Rattle.py_lines.specs.Private.Machine.{Scanned, fresh, closed, moved, started, first_spelling, spelling_on, IsFull, brackets_of}
 use Rattle.py_lines.specs.Private.FieldMachine as spots
 use Rattle.py_lines.specs.Private.FieldMachine.{between, body, grows, closes, FieldMove, Level, FieldScanned, field_state, field_text_start, field_move, field_step, field_moved, body_move, between_move, host_of, frames, has_room_at}
-use Rattle.py_lines.specs.Private.FieldScan.{GoesOn}
+use Rattle.py_lines.specs.Private.FieldScan.{GoesThrough}
 use Rattle.py_lines.specs.Private.FieldText.{InText, IsWholeStringWithFields, Leads}
 use Rattle.py_lines.specs.Private.ScanMachine.{IsScanSound, fielded_move, host_in, is_field_spelling, is_raw_spelling, meet_of, opened_move, quote_move, scan_step, scan_steps, string_state, move_at}
 use Rattle.py_lines.specs.Private.Scan.{Tallies, line_start, stack_of, is_return_mode, depth_of}
@@ -76,7 +76,7 @@ unfolding meet_of quote_move
 quote_opens s q field quotes = rw (quote-not-word q quotes, quotes, field) refl
 
 -- and its first character
-first_grows : (h : known.Host) (c : ℕ) → c == h.quote ≡ false → is_break c ≡ false → meet_of (modes.FieldOpened h) c ≡ moves.Grows modes.Fielded
+first_grows : (h : StringWithFields) (c : ℕ) → c == h.quote ≡ false → is_break c ≡ false → meet_of (modes.FieldOpened h) c ≡ moves.Grows modes.Fielded
 unfolding meet_of opened_move
 first_grows h c other none = rw (other, none) refl
 
@@ -97,7 +97,7 @@ module _ (done : List Piece) (few : depth_through 0 done ≤ 100) (c : ℕ) (cs 
   abbrev s : Spelling
   s = spelling_on (first_spelling c) cs
 
-  abbrev h : known.Host
+  abbrev h : StringWithFields
   h = record { quote = q; is_long = false; is_raw = is_raw_spelling s }
 
   abbrev opening : List ℕ
@@ -122,7 +122,7 @@ module _ (done : List Piece) (few : depth_through 0 done ≤ 100) (c : ℕ) (cs 
       ∙ ap (λ (x : Host). Some (field_state [] [] [] (spots.opened x) opening)) host
 
   -- its text, after which the machine is in its body
-  module _ (d : ℕ) (ds : List ℕ) (u : FieldScanned) (through : GoesOn (depth_through 0 done) (at_body (host_in h) opening) (d ∷ ds) u) (end : InText [] (record { done = []; openers = []; host = host_in h; place = literal; front = [] }) u) where
+  module _ (d : ℕ) (ds : List ℕ) (u : FieldScanned) (through : GoesThrough (depth_through 0 done) (at_body (host_in h) opening) (d ∷ ds) u) (end : InText [] (record { done = []; openers = []; host = host_in h; place = literal; front = [] }) u) where
     abbrev depth : ℕ
     depth = depth_through 0 done
 
@@ -259,7 +259,7 @@ from_first m at text scan new c cs q (d ∷ ds) after len start meet begun quote
     let pieces = closed state.mode state.done state.held in
     let shallow = deep m at text scan new c cs q (d ∷ ds) after len start meet begun quotes few adds in
     let s : Spelling = spelling_on (first_spelling c) cs in
-    let own : known.Host = record { quote = q; is_long = false; is_raw = is_raw_spelling s } in
+    let own : StringWithFields = record { quote = q; is_long = false; is_raw = is_raw_spelling s } in
     let front : List ℕ = (c ∷ cs) ++ q ∷ [] in
     let l : Level = record { done = []; openers = []; host = host_in own; place = literal; front = [] } in
     let (u, through, end) = leads [] l (depth_through 0 pieces) (at_body (host_in own) front) refl quotes (omega (arith, shallow)) (front, refl) in

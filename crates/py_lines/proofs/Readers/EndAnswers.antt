@@ -29,7 +29,7 @@ use Rattle.py_lines.specs.Private.ScanMachine.{IsScanSound}
 use Rattle.py_lines.specs.Private.Scan.{IsUnderWay, line_start, EndsNoLine, Tallies, Closes, none_open, is_return_mode, stack_of, IsUnfinished}
 use Rattle.py_lines.specs.Reader.View.{reader_of}
 use Rattle.py_lines.specs.Private.LineState.{first_mode}
-use Rattle.py_lines.specs.Private.Source.{line_of_source, HasScanned, PassesLine, FailsAfter}
+use Rattle.py_lines.specs.Private.Source.{line_of_source, HasScanned, GivesLine, FailsAfter}
 use Rattle.py_lines.proofs.Pieces.PieceLists.{piece, AreReadBefore-second}
 use Rattle.py_lines.proofs.Machine.PieceSteps.{scanned, pieces_at}
 use Rattle.py_lines.proofs.Pieces.OpenBrackets.{stands}
@@ -195,7 +195,7 @@ module _ (old : Source) (has : HasScanned old stops.TextEnd) where
       let way = has.scans.stops.0 in
       line_at_text_end (first_mode old.state.place) old.state.scan mid has.scans.read way (sound_steps (first_mode old.state.place) has.scans.read way.state (start_sound old stops.TextEnd has) way.steps) final open_yet t empty some
 
-  pub continues_text : (mid new : Source) → is_final has.scans.stops.0.state.mode ≡ true → stack_of old.state.scan.brackets ≡ [] → Closes old.state.scan mid.state.scan → mid.bytes ≡ old.bytes → mid.state.place ≡ old.state.place → mid.state.fault ≡ old.state.fault → mid.characters ≡ old.characters → length old.bytes.now ≤ length old.characters.now → PassesLine mid 0 new → Continues (reader_of old) (line_of_source new) (reader_of new) × EachLiesIn (line_of_source new).text new.state.scan.tokens.items
+  pub continues_text : (mid new : Source) → is_final has.scans.stops.0.state.mode ≡ true → stack_of old.state.scan.brackets ≡ [] → Closes old.state.scan mid.state.scan → mid.bytes ≡ old.bytes → mid.state.place ≡ old.state.place → mid.state.fault ≡ old.state.fault → mid.characters ≡ old.characters → length old.bytes.now ≤ length old.characters.now → GivesLine mid 0 new → Continues (reader_of old) (line_of_source new) (reader_of new) × EachLiesIn (line_of_source new).text new.state.scan.tokens.items
   continues_text mid new final empty closes bytes place fault characters full gives =
       let way = has.scans.stops.0 in
       let s = way.state in

@@ -22,7 +22,7 @@ use Rattle.py_lines.specs.declared.source.Source.{Source}
 use Rattle.py_lines.specs.Private.Scan.{IsAtLineEnd, line_start}
 use Rattle.py_lines.specs.Reader.View.{reader_of}
 use Rattle.py_lines.specs.Private.LineState.{first_mode}
-use Rattle.py_lines.specs.Private.Source.{line_of_source, PassesLine, HasScanned}
+use Rattle.py_lines.specs.Private.Source.{line_of_source, GivesLine, HasScanned}
 use Rattle.py_lines.specs.Token.{EachLiesIn}
 use Rattle.py_lines.proofs.Lexings.Existence.{first_at}
 use Rattle.py_lines.proofs.Text.Utf8Prefixes.{prefix_chars, all_scalars-parts, one_decoding}
@@ -82,7 +82,7 @@ pub all_within : (read : List ℕ) (n : ℕ) → n ≡ byte_len read → Within 
 all_within read n size = record { prefix = read; later = []; split = append-nil read; size = size }
 
 -- the logical line that was scanned
-given_line : (old mid new : Source) (stop : Stop) (has : HasScanned old stop) (end_len : ℕ) (u : List Piece) → IsScannedLine (line_start (first_mode old.state.place)) mid.state.scan has.scans.read end_len u → mid.state.place ≡ old.state.place → mid.characters ≡ old.characters → mid.state.scan.line ≡ old.state.scan.line → PassesLine mid end_len new → line_of_source new ≡ line_of old.state.place old.state.line u
+given_line : (old mid new : Source) (stop : Stop) (has : HasScanned old stop) (end_len : ℕ) (u : List Piece) → IsScannedLine (line_start (first_mode old.state.place)) mid.state.scan has.scans.read end_len u → mid.state.place ≡ old.state.place → mid.characters ≡ old.characters → mid.state.scan.line ≡ old.state.scan.line → GivesLine mid end_len new → line_of_source new ≡ line_of old.state.place old.state.line u
 given_line old mid new stop has end_len u line place characters same gives =
     let start : new.start ≡ old.state.place = gives.start ∙ place in
     let number : new.state.scan.line ≡ old.state.line = ap (λ (s : LineState). s.scan.line) gives.state ∙ same ∙ has.line in
@@ -127,7 +127,7 @@ module _ (old : Source) (new : Reader) (read rest : List ℕ) (u : List Piece) (
       }
 
 -- one more line was given
-pub continues : (old mid new : Source) (stop : Stop) (has : HasScanned old stop) (end_len : ℕ) (u : List Piece) → IsScannedLine (line_start (first_mode old.state.place)) mid.state.scan has.scans.read end_len u → mid.bytes ≡ old.bytes → mid.state.place ≡ old.state.place → mid.state.fault ≡ old.state.fault → mid.characters ≡ old.characters → mid.state.scan.line ≡ old.state.scan.line → PassesLine mid end_len new
+pub continues : (old mid new : Source) (stop : Stop) (has : HasScanned old stop) (end_len : ℕ) (u : List Piece) → IsScannedLine (line_start (first_mode old.state.place)) mid.state.scan has.scans.read end_len u → mid.bytes ≡ old.bytes → mid.state.place ≡ old.state.place → mid.state.fault ≡ old.state.fault → mid.characters ≡ old.characters → mid.state.scan.line ≡ old.state.scan.line → GivesLine mid end_len new
     → ((lines : List LogicalLine) (s : Situation (reader_of old) old.characters.now lines has.scans.read has.scans.rest) → AreReadBefore u s.after)
     → ((lines : List LogicalLine) (s : Situation (reader_of old) old.characters.now lines has.scans.read has.scans.rest) → IsEnded u (s.after ++ s.given.first.tail ≡ []))
     → Continues (reader_of old) (line_of_source new) (reader_of new) × EachLiesIn (line_of_source new).text new.state.scan.tokens.items
@@ -193,7 +193,7 @@ pub line_ended : (old : Source) (len : ℕ) (has : HasScanned old (stops.LineEnd
 line_ended old len has = line_at_end (first_mode old.state.place) old.state.scan has.scans.read has.scans.rest len has.scans.stops (has_after old len has) (after_is old len has)
 
 -- a line that its line end closed
-pub continues_line : (old new : Source) (len : ℕ) (has : HasScanned old (stops.LineEnd len)) → PassesLine old len new → Continues (reader_of old) (line_of_source new) (reader_of new) × EachLiesIn (line_of_source new).text new.state.scan.tokens.items
+pub continues_line : (old new : Source) (len : ℕ) (has : HasScanned old (stops.LineEnd len)) → GivesLine old len new → Continues (reader_of old) (line_of_source new) (reader_of new) × EachLiesIn (line_of_source new).text new.state.scan.tokens.items
 continues_line old new len has gives =
     let at = has.scans.stops in
     continues old old new (stops.LineEnd len) has len (at.body ++ at.last ∷ []) (line_ended old len has) refl refl refl refl refl gives (λ lines s. at.fit s.after s.follow) (λ lines s. IsEnded.by_line at.body at.last refl at.are.class at.are.level)

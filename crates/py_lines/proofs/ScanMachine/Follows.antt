@@ -9,7 +9,7 @@ use Rattle.py_lines.specs.Character.{is_mark, is_space, is_word_character, is_qu
 use Rattle.py_lines.specs.Piece.{operator, line_end, Piece, spelled}
 use Rattle.py_lines.specs.Balance.{is_opening, is_closing, closing_of, is_opener, is_closer, depth_through}
 use Rattle.py_lines.specs.FieldStrings.{is_field_prefix, Host, literal}
-use Rattle.py_lines.specs.declared.host.Host as known
+use Rattle.py_lines.specs.declared.host.StringWithFields.{StringWithFields}
 use Rattle.py_lines.specs.declared.mode.Spelling.{Spelling}
 use Rattle.py_lines.specs.declared.mode.Mode.{Mode}
 use Rattle.py_lines.specs.declared.mode.Mode.TheVariants as modes
@@ -417,7 +417,7 @@ module _ (s : Spelling) (done : List Piece) (held : List ℕ) (st : List Bracket
   field_quote : is_word_character c ≡ false → is_quote c ≡ true → is_field_spelling s ≡ true → StepsAlike S T c
   unfolding meet_of quote_move
   field_quote other quotes field =
-      let h : known.Host = record { quote = c; is_long = false; is_raw = is_raw_spelling s } in
+      let h : StringWithFields = record { quote = c; is_long = false; is_raw = is_raw_spelling s } in
       let host : host_in h ≡ host_of held c = ap (λ (b : Bool). record { quote = c; is_long = false; is_raw = b }) (sym (tells.1 field)) in
       let move : field_move (plain (modes.Word s)) held c ≡ grows (opened (host_in h)) = host_moves s held c (tells.0 ∙ field) quotes ∙ ap (λ (x : Host). grows (opened x)) (sym host) in
       by_moves S T c (moves.Grows (modes.FieldOpened h)) (grows (opened (host_in h))) (rw (other, quotes, field)) move
@@ -467,7 +467,7 @@ tied_begun done held st m stack steps stays = record {
   own = record { state = field_state [] [] [] m held; steps = steps; inside = λ is. stays; bare = refl };
 }
 
-module _ (h : known.Host) (done : List Piece) (held : List ℕ) (st : List Bracket) (c : ℕ) (own : Own (modes.FieldOpened h) held) (stack : brackets_of done ≡ Some st) where
+module _ (h : StringWithFields) (done : List Piece) (held : List ℕ) (st : List Bracket) (c : ℕ) (own : Own (modes.FieldOpened h) held) (stack : brackets_of done ≡ Some st) where
   abbrev SO : Scanned
   SO = scanned done (modes.FieldOpened h) held
 
@@ -504,7 +504,7 @@ pub empty_breaks : (host : Host) (held : List ℕ) (c : ℕ) → c == host.quote
 unfolding field_move
 empty_breaks host held c is = rw is
 
-module _ (h : known.Host) (done : List Piece) (held : List ℕ) (st : List Bracket) (c : ℕ) (own : Own (modes.FieldEmpty h) held) (stack : brackets_of done ≡ Some st) where
+module _ (h : StringWithFields) (done : List Piece) (held : List ℕ) (st : List Bracket) (c : ℕ) (own : Own (modes.FieldEmpty h) held) (stack : brackets_of done ≡ Some st) where
   abbrev SE : Scanned
   SE = scanned done (modes.FieldEmpty h) held
 

@@ -9,7 +9,7 @@ use Rattle.py_lines.specs.PieceGrammar.{InPlainClass, MayPrecedePlain, AreReadPl
 use Rattle.py_lines.specs.Balance.{depth_through}
 use Rattle.py_lines.specs.Fields.{Fields, ShallowFields, InClass, MayPrecede, AreReadBefore}
 use Rattle.py_lines.specs.FieldStrings.{is_field_prefix, Host, Place, literal, specification, with_fields}
-use Rattle.py_lines.specs.declared.host.Host as known
+use Rattle.py_lines.specs.declared.host.StringWithFields.{StringWithFields}
 use Rattle.py_lines.specs.declared.mode.Spelling.{Spelling}
 use Rattle.py_lines.specs.declared.mode.Mode.{Mode}
 use Rattle.py_lines.specs.declared.mode.Mode.TheVariants as modes
@@ -220,7 +220,7 @@ module _ (s : Spelling) (done : List Piece) (held read : List ℕ) (c : ℕ) (so
   field_quote : is_word_character c ≡ false → is_quote c ≡ true → is_field_spelling s ≡ true → Goal (meet_of (modes.Word s) c)
   unfolding meet_of quote_move
   field_quote other quotes field =
-      let h : known.Host = record { quote = c; is_long = false; is_raw = is_raw_spelling s } in
+      let h : StringWithFields = record { quote = c; is_long = false; is_raw = is_raw_spelling s } in
       let host : host_of held c ≡ host_in h = ap (λ (b : Bool). record { quote = c; is_long = false; is_raw = b }) (tells.1 field) in
       let move : meet_of (modes.Word s) c ≡ moves.Grows (modes.FieldOpened h) = rw (other, quotes, field) in
       let opens : string_state (held ++ c ∷ []) ≡ Some (field_state [] [] [] (opened (host_of held c)) (held ++ c ∷ [])) = steps_of NoLimit field_text_start _ (held ++ c ∷ []) (alone_opens NoLimit held c (tells.0 ∙ field) quotes) in
@@ -248,7 +248,7 @@ begun_fields depth held c m n steps room move stays =
     room_one None = refl
     room_one (Some t) = refl
 
-opened_sound : (h : known.Host) (done : List Piece) (held read : List ℕ) (c : ℕ) → IsScanSound (scanned done (modes.FieldOpened h) held) read → SoundIf (moved (scanned done (modes.FieldOpened h) held) c (meet_of (modes.FieldOpened h) c)) (read ++ c ∷ [])
+opened_sound : (h : StringWithFields) (done : List Piece) (held read : List ℕ) (c : ℕ) → IsScanSound (scanned done (modes.FieldOpened h) held) read → SoundIf (moved (scanned done (modes.FieldOpened h) held) c (meet_of (modes.FieldOpened h) c)) (read ++ c ∷ [])
 unfolding meet_of opened_move
 opened_sound h done held read c sound =
     let P : Move → Type 0 = λ v. SoundIf (moved (scanned done (modes.FieldOpened h) held) c v) (read ++ c ∷ []) in
@@ -260,7 +260,7 @@ opened_sound h done held read c sound =
     grew done (modes.FieldOpened h) held read c sound modes.Fielded
     (begun_fields (depth_through 0 done) held c (opened (host_in h)) first.mode sound.holds (opened_room (depth_through 0 done) (host_in h) held sound.holds) (first_move (host_in h) held c other ∙ first.is) first.stays)))
 
-empty_sound : (h : known.Host) (done : List Piece) (held read : List ℕ) (c : ℕ) → IsScanSound (scanned done (modes.FieldEmpty h) held) read → SoundIf (moved (scanned done (modes.FieldEmpty h) held) c (meet_of (modes.FieldEmpty h) c)) (read ++ c ∷ [])
+empty_sound : (h : StringWithFields) (done : List Piece) (held read : List ℕ) (c : ℕ) → IsScanSound (scanned done (modes.FieldEmpty h) held) read → SoundIf (moved (scanned done (modes.FieldEmpty h) held) c (meet_of (modes.FieldEmpty h) c)) (read ++ c ∷ [])
 unfolding meet_of
 empty_sound h done held read c sound =
     let host : Host = host_in h in

@@ -6,12 +6,12 @@ use Rattle.std.proofs.lemmas.Str.{encode_same}
 use Rattle.std.proofs.lemmas.Bool.{and_parts}
 
 -- what the characters of the bytes that begin so are, and what is left
-pub record GoesOn (prefix x all t : List ℕ) : Type 0 where
+pub record IsContinued (prefix x all t : List ℕ) : Type 0 where
   pub rest : List ℕ
   pub split : all ≡ prefix ++ rest
   pub left : encode_utf8_all rest ++ t ≡ x
 
-pub goes_on : (prefix x all t : List ℕ) → all_scalars prefix ≡ true → all_scalars all ≡ true → StartsWithNoChar t → encode_utf8_all prefix ++ x ≡ encode_utf8_all all ++ t → GoesOn prefix x all t
+pub goes_on : (prefix x all t : List ℕ) → all_scalars prefix ≡ true → all_scalars all ≡ true → StartsWithNoChar t → encode_utf8_all prefix ++ x ≡ encode_utf8_all all ++ t → IsContinued prefix x all t
 goes_on [] x all t fine are bad e = record { rest = all; split = refl; left = sym e }
 goes_on (c ∷ cs) x [] t fine are bad e = absurd (bad c (encode_utf8_all cs ++ x) (and_parts _ _ fine).0 (sym e ∙ append_assoc (encode_utf8 c) (encode_utf8_all cs) x))
 goes_on (c ∷ cs) x (d ∷ ds) t fine are bad e =

@@ -89,7 +89,7 @@ pub record EndsLineHeld (end_len : ℕ) (new : Feed) : Type 0 where
   pub whole : EndsWhole all after
 
 -- what is left is a part of a character, or nothing
-pub record IsPart (f : Feed) (rest : List ℕ) : Type 0 where
+pub record IsPartOfCharacter (f : Feed) (rest : List ℕ) : Type 0 where
   pub none : StartsWithNoChar rest
   pub more : ¬ (IsHopeless rest)
   pub last : is_returned f.state.scan ≡ true → rest ≡ []
@@ -124,7 +124,7 @@ ScansCharacters old (Err lex.Memory) new = Restarts old new
 
 -- all that is held was scanned, except a part of a character, or up to a line's end
 abbrev pub IsScanned : Option ℕ → Feed → Type 0
-IsScanned None new = (read : List ℕ) × (rest : List ℕ) × IsOpen new read rest × IsPart new rest
+IsScanned None new = (read : List ℕ) × (rest : List ℕ) × IsOpen new read rest × IsPartOfCharacter new rest
 IsScanned (Some end_len) new = EndsLineHeld end_len new
 
 -- the scan of what is held meets a fault
@@ -301,7 +301,7 @@ pub record IsLastLine (old new : Feed) : Type 0 where
       → IsLexed text (lines ++ line_of_feed new end_len ∷ []) None
 
 -- the text that ends with what is held has this fault, which is kept
-pub record IsEndFault (old : Feed) (fault : Fault) (new : Feed) : Type 0 where
+pub record HasEndFault (old : Feed) (fault : Fault) (new : Feed) : Type 0 where
   pub text : KeepsText old new
   pub none_ready : new.ready ≡ None
   pub kept : new.state.fault ≡ Some fault
@@ -310,7 +310,7 @@ pub record IsEndFault (old : Feed) (fault : Fault) (new : Feed) : Type 0 where
 -- what a call that ends the text after what is held answers and leaves
 abbrev pub EndsHeld : Feed → Result (Unit {0}) LexError → Feed → Type 0
 EndsHeld old (Ok done) new = IsLastLine old new
-EndsHeld old (Err (lex.Fault f)) new = IsEndFault old f new
+EndsHeld old (Err (lex.Fault f)) new = HasEndFault old f new
 EndsHeld old (Err lex.Memory) new = Restarts old new
 
 -- the text ends with what is held, and has no fault there: the line that is ready now, if one is, is its last
@@ -325,7 +325,7 @@ pub record HasEndedText (old new : Feed) : Type 0 where
 -- what a call that ends the text answers and leaves
 abbrev pub EndsText : Feed → Result (Unit {0}) LexError → Feed → Type 0
 EndsText old (Ok done) new = HasEndedText old new
-EndsText old (Err (lex.Fault f)) new = IsEndFault old f new
+EndsText old (Err (lex.Fault f)) new = HasEndFault old f new
 EndsText old (Err lex.Memory) new = Restarts old new
 
 -- the line that was ready is let go: what is held begins after it, and so does the scan of the next line

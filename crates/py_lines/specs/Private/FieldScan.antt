@@ -14,7 +14,7 @@ use Rattle.py_lines.specs.declared.mode.Mode.{Mode}
 use Rattle.py_lines.specs.declared.mode.Move.{Move}
 use Rattle.py_lines.specs.declared.mode.Mode.TheVariants as modes
 use Rattle.py_lines.specs.declared.mode.Move.TheVariants as moves
-use Rattle.py_lines.specs.declared.host.Host as known
+use Rattle.py_lines.specs.declared.host.StringWithFields.{StringWithFields}
 use Rattle.py_lines.specs.declared.scan.Flaw.{Flaw}
 use Rattle.py_lines.specs.declared.field_scan.Region.{Region}
 use Rattle.py_lines.specs.declared.field_scan.Region.TheVariants as regions
@@ -59,14 +59,14 @@ abbrev pub mode_from : FieldMode → spots.FieldMode
 mode_from (field_modes.Code m) = code_mode m
 mode_from (field_modes.Body h region named at) = body (host_in h) (region_in region) named (at_in at)
 
-abbrev pub move_from : FieldMove → spots.FieldMove
-move_from (field_moves.Grows m) = grows (mode_from m)
-move_from field_moves.Closes = closes
-move_from field_moves.Breaks = breaks
-move_from (field_moves.BeginsCode h) = begins_code (host_in h)
-move_from (field_moves.OpensField h) = opens_field (host_in h)
-move_from field_moves.EndsField = ends_field
-move_from field_moves.Refused = refused
+abbrev pub field_move_from : FieldMove → spots.FieldMove
+field_move_from (field_moves.Grows m) = grows (mode_from m)
+field_move_from field_moves.Closes = closes
+field_move_from field_moves.Breaks = breaks
+field_move_from (field_moves.BeginsCode h) = begins_code (host_in h)
+field_move_from (field_moves.OpensField h) = opens_field (host_in h)
+field_move_from field_moves.EndsField = ends_field
+field_move_from field_moves.Refused = refused
 
 -- a move of a piece of code
 abbrev pub code_moved : Move → spots.FieldMove
@@ -161,7 +161,7 @@ pub record Follows (scan : FieldScan) (base : ℕ) (t : FieldScanned) : Type 0 w
   pub frames : FramesFollow base t.outer t.done t.openers (innermost_first scan.frames.items)
 
 -- it begins in the body of a string, of which nothing is read
-abbrev pub FollowsBody : FieldScan → known.Host → ℕ → Type 0
+abbrev pub FollowsBody : FieldScan → StringWithFields → ℕ → Type 0
 FollowsBody scan host base = (held : List ℕ) → Follows scan base (field_state [] [] [] (body (host_in host) literal false between) held)
 
 -- what one more character comes to where the machine stands so, and so many brackets are open round the string
@@ -180,11 +180,11 @@ PushesField old c place depth result new =
 
 -- The machine goes from one state to another through these characters, where so many brackets are open round the string: they are
 -- ASCII, none of them ends a line, and the string goes on over each.
-abbrev pub GoesOn : ℕ → FieldScanned → List ℕ → FieldScanned → Type 0
-GoesOn depth t [] u = t ≡ u
-GoesOn depth t (c ∷ cs) u =
+abbrev pub GoesThrough : ℕ → FieldScanned → List ℕ → FieldScanned → Type 0
+GoesThrough depth t [] u = t ≡ u
+GoesThrough depth t (c ∷ cs) u =
     (c < 128) × (is_break c ≡ false) × (fielded_move depth (Some t) c ≡ moves.Grows modes.Fielded)
-    × (next : FieldScanned) × (field_step t c ≡ Some next) × GoesOn depth next cs u
+    × (next : FieldScanned) × (field_step t c ≡ Some next) × GoesThrough depth next cs u
 
 -- so the machine goes through the first bytes, so many of them, and the scan follows without a change
 pub record HoldsField (scan : FieldScan) (depth : ℕ) (bytes : List ℕ) (len : ℕ) : Type 0 where
@@ -193,14 +193,14 @@ pub record HoldsField (scan : FieldScan) (depth : ℕ) (bytes : List ℕ) (len :
   pub scalars : all_scalars run ≡ true
   pub size : byte_len run ≡ len
   pub stay : (base : ℕ) (t : FieldScanned) → Follows scan base t → IsInString t
-      → (u : FieldScanned) × GoesOn depth t run u × Follows scan base u
+      → (u : FieldScanned) × GoesThrough depth t run u × Follows scan base u
 
 -- wherever the scan follows, the machine stands between two parts of the literal part of a string of this quote, and at most a
 -- hundred brackets and fields are open
 abbrev pub StandsInText : FieldScan → ℕ → Option ℕ → Type 0
 StandsInText scan depth None = Unit {0}
 StandsInText scan depth (Some quote) =
-    (h : known.Host) × (scan.mode ≡ field_modes.Body h regions.Literal false ats.Between) × (h.quote ≡ quote) × (is_quote quote ≡ true)
+    (h : StringWithFields) × (scan.mode ≡ field_modes.Body h regions.Literal false ats.Between) × (h.quote ≡ quote) × (is_quote quote ≡ true)
     × (depth + length scan.frames.items ≤ 100)
 
 -- what is wrong where such a string refuses a character
@@ -273,5 +273,5 @@ abbrev pub opened_with : ℕ → ℕ
 opened_with c = if is_opening c then 2 else 1
 
 -- the field whose `{` stands directly before this byte, in the literal part of the string that is open
-abbrev pub waiting_field : FieldScan → known.Host → ℕ → OpenField
+abbrev pub waiting_field : FieldScan → StringWithFields → ℕ → OpenField
 waiting_field old host place = record { place = place - 1; host = host; region = regions.Literal; start = old.start }

@@ -9,7 +9,7 @@ use Rattle.py_lines.specs.declared.mode.Mode.{Mode}
 use Rattle.py_lines.specs.declared.mode.Mode.TheVariants as modes
 use Rattle.py_lines.specs.Private.Machine.{IsFull}
 use Rattle.py_lines.specs.Private.FieldMachine.{between, after_brace, plain, body, Level, FieldScanned, field_state, levels_open}
-use Rattle.py_lines.specs.Private.FieldScan.{GoesOn}
+use Rattle.py_lines.specs.Private.FieldScan.{GoesThrough}
 
 -- Where the machine stands in a string: `outer` are the fields round the string, and `l` says what stands before it in its list,
 -- and which string it is. It is between two parts of the literal part.
@@ -63,7 +63,7 @@ AtSpecification outer l t =
 abbrev pub Leads : ℕ → (List Level → Level → FieldScanned → Type 0) → List ℕ → (List Level → Level → FieldScanned → Type 0) → Type 0
 Leads quote From run To =
     (outer : List Level) (l : Level) (depth : ℕ) (t : FieldScanned) → l.host.quote ≡ quote → is_quote quote ≡ true
-    → depth + (length l.openers + levels_open outer) ≤ 100 → From outer l t → (u : FieldScanned) × GoesOn depth t run u × To outer l u
+    → depth + (length l.openers + levels_open outer) ≤ 100 → From outer l t → (u : FieldScanned) × GoesThrough depth t run u × To outer l u
 
 -- so do the first bytes, so many of them
 abbrev pub LeadsBy : ℕ → (List Level → Level → FieldScanned → Type 0) → List ℕ → ℕ → (List Level → Level → FieldScanned → Type 0) → Type 0

@@ -39,7 +39,7 @@ pub record BeginsAnew (old new : LineState) : Type 0 where
   pub number : new.scan.line ≡ old.line
 
 -- the next line begins at this byte, on this line, and nothing of it is read
-pub record StandsAt (place line : ℕ) (s : LineState) : Type 0 where
+pub record BeginsAt (place line : ℕ) (s : LineState) : Type 0 where
   pub place_is : s.place ≡ place
   pub line_is : s.line ≡ line
   pub no_fault : s.fault ≡ None

@@ -170,7 +170,7 @@ IsAfterFeed [] read n = IsWholeLine read n
 IsAfterFeed (b ∷ bs) read n = GoesOnAfter read n (b ∷ bs)
 
 -- bytes that are a line come before bytes that are lines, and so are these together
-pub record IsLineBefore (rest : List ℕ → ℕ → Type 0) (line read : List ℕ) (n : ℕ) : Type 0 where
+pub record BeginsWithLine (rest : List ℕ → ℕ → Type 0) (line read : List ℕ) (n : ℕ) : Type 0 where
   pub later : List ℕ
   pub own : ℕ
   pub more : ℕ
@@ -183,7 +183,7 @@ pub record IsLineBefore (rest : List ℕ → ℕ → Type 0) (line read : List �
 -- the bytes are these lines, one after another
 abbrev pub AreWholeLines : List (List ℕ) → List ℕ → ℕ → Type 0
 AreWholeLines [] read n = (read ≡ []) × (n ≡ 0)
-AreWholeLines (line ∷ lines) read n = IsLineBefore (AreWholeLines lines) line read n
+AreWholeLines (line ∷ lines) read n = BeginsWithLine (AreWholeLines lines) line read n
 
 -- the bytes begin with such lines
 pub record BeginWithLines (bytes : List ℕ) (lines : Passed) : Type 0 where

@@ -11,7 +11,7 @@ use Rattle.py_lines.specs.Piece.{operator, begins}
 use Rattle.py_lines.specs.Private.Machine.{Bracket, brackets_after, IsFull, first_spelling, spelling_on}
 use Rattle.py_lines.specs.Private.ScanMachine.{IsInString, IsScanSound, meet_of}
 use Rattle.py_lines.specs.Private.FieldMachine.{FieldScanned}
-use Rattle.py_lines.specs.Private.FieldScan.{Follows, GoesOn}
+use Rattle.py_lines.specs.Private.FieldScan.{Follows, GoesThrough}
 use Rattle.py_lines.specs.Private.FieldText.{IsWholeStringWithFields}
 use Rattle.py_lines.specs.Private.Scan.{Begins, Closes, depth_of, freed, IsUnderWay, ScansIn, line_start, stack_of, none_open, with_brackets, is_return_mode, stack_with}
 use Rattle.py_lines.specs.declared.brackets.Brackets.{Brackets}
@@ -136,7 +136,7 @@ with_bytes old len = record old { stop = old.stop + len; count = record { line =
 abbrev pub Stay : Mode → Scan → List ℕ → Type 0
 Stay modes.Fielded scan run =
     (t : FieldScanned) → Follows scan.fields scan.piece.start t → IsInString t
-    → (u : FieldScanned) × GoesOn (depth_of scan.brackets) t run u × Follows scan.fields scan.piece.start u
+    → (u : FieldScanned) × GoesThrough (depth_of scan.brackets) t run u × Follows scan.fields scan.piece.start u
 Stay m scan run = list_all (stays m) run ≡ true
 
 -- the first bytes are such characters, so many of them
@@ -148,7 +148,7 @@ pub record HeldIn (scan : Scan) (text : List ℕ) (n : ℕ) : Type 0 where
   pub stay : Stay scan.piece.mode scan run
 
 -- some characters that the text begins with, and that leave the open piece as it is, were read; or none
-pub record Holds (old : Scan) (text rest : List ℕ) (new : Scan) : Type 0 where
+pub record HoldsRun (old : Scan) (text rest : List ℕ) (new : Scan) : Type 0 where
   pub run : List ℕ
   pub spell : encode_utf8_all run ++ rest ≡ text
   pub scalars : all_scalars run ≡ true
@@ -174,8 +174,8 @@ WhereverReached scan rest holds =
     (m : Mode) (line : ℕ) (whole : List ℕ) → IsScanSound (line_start m) [] → Reached m line whole scan rest → holds m line whole
 
 -- it has come there in some line
-abbrev pub StandsBefore : Scan → List ℕ → Type 0
-StandsBefore scan rest =
+abbrev pub ReachedInSomeLine : Scan → List ℕ → Type 0
+ReachedInSomeLine scan rest =
     (m : Mode) × (line : ℕ) × (whole : List ℕ) × IsScanSound (line_start m) [] × Reached m line whole scan rest
 
 -- what a line end, a comment or a join of lines begins with
@@ -201,12 +201,12 @@ is_free modes.Free = true
 is_free other = false
 
 -- whether an operator may stand next where these brackets are open
-abbrev pub may_stand : List Bracket → ℕ → Bool
-may_stand st c = is_some (brackets_after st 0 (record { class = operator; text = c ∷ [] }))
+abbrev pub operator_may_stand : List Bracket → ℕ → Bool
+operator_may_stand st c = is_some (brackets_after st 0 (record { class = operator; text = c ∷ [] }))
 
 -- what a piece that may stand next begins with, where it is ASCII and no string
 abbrev pub follows : List Bracket → ℕ → Bool
-follows st c = is_ascii_word c || (is_space c || (is_apart c || (is_operator c && may_stand st c)))
+follows st c = is_ascii_word c || (is_space c || (is_apart c || (is_operator c && operator_may_stand st c)))
 
 -- the same, with strings
 abbrev pub may_begin : List Bracket → ℕ → Bool
@@ -435,8 +435,8 @@ TakesToken old bytes len new =
     ⊎ (TakesOperator old bytes len new ⊎ (TakesString old bytes len new ⊎ TakesStringWithFields old bytes len new))
 
 -- such a piece came, or another that ends no line
-abbrev pub TakesBytes : Scan → List ℕ → ℕ → Scan → Type 0
-TakesBytes old bytes len new =
+abbrev pub TakesPieceInLine : Scan → List ℕ → ℕ → Scan → Type 0
+TakesPieceInLine old bytes len new =
     TakesToken old bytes len new ⊎ (TakesSpace old bytes len new ⊎ (TakesComment old bytes len new
     ⊎ (TakesLineEnd old bytes (taken.Bytes len) new ⊎ ((0 < len) × HasTaken old bytes len new))))
 
@@ -484,7 +484,7 @@ FindsToken scan bytes found = (place : ℕ) → MeetsToken scan place bytes (Ok 
 -- a piece came after closed ones, or nothing was taken
 abbrev pub TakesPiece : Scan → List ℕ → Result Taken AllocError → Scan → Type 0
 TakesPiece old bytes (Ok taken.Nothing) new = new ≡ old
-TakesPiece old bytes (Ok (taken.Bytes len)) new = TakesBytes old bytes len new
+TakesPiece old bytes (Ok (taken.Bytes len)) new = TakesPieceInLine old bytes len new
 TakesPiece old bytes (Ok (taken.LineEnd len)) new = TakesLineEnd old bytes (taken.LineEnd len) new
 TakesPiece old bytes (Err e) new = Unit {0}
 

@@ -275,7 +275,7 @@ stack_if None = None
 stack_if (Some s) = brackets_of s.done
 
 -- the machine goes on in the line
-pub record GoesOn (s : Scanned) (c : ℕ) (new : Scan) : Type 0 where
+pub record GoesOnInLine (s : Scanned) (c : ℕ) (new : Scan) : Type 0 where
   pub next : Scanned
   pub goes : scan_step s c ≡ Some next
   pub tallies : Tallies new next
@@ -300,7 +300,7 @@ pub record ComesToEnd (s : Scanned) (c len : ℕ) (new : Scan) : Type 0 where
 
 -- what one more character comes to: a scan that refused it is as it was
 abbrev pub Takes : Scan → Scanned → ℕ → Result Progress AllocError → Scan → Type 0
-Takes old s c (Ok progress.Going) new = GoesOn s c new × (new.line ≡ old.line)
+Takes old s c (Ok progress.Going) new = GoesOnInLine s c new × (new.line ≡ old.line)
 Takes old s c (Ok (progress.LineEnded len)) new = ComesToEnd s c len new × (new.line ≡ old.line)
 Takes old s c (Ok progress.Refused) new = (stack_if (scan_step s c) ≡ None) × (new ≡ old)
 Takes old s c (Err e) new = Unit {0}

@@ -9,7 +9,7 @@ use Rattle.py_lines.specs.PieceGrammar.{AreReadIn}
 use Rattle.py_lines.specs.Balance.{depth_through, EachAtDepth}
 use Rattle.py_lines.specs.Fields.{fielded, ShallowFields}
 use Rattle.py_lines.specs.FieldStrings.{is_field_prefix, Host, Place, with_fields}
-use Rattle.py_lines.specs.declared.host.Host as known
+use Rattle.py_lines.specs.declared.host.StringWithFields.{StringWithFields}
 use Rattle.py_lines.specs.declared.mode.Spelling.{Spelling}
 use Rattle.py_lines.specs.declared.mode.Spelling.TheVariants as spellings
 use Rattle.py_lines.specs.declared.mode.Mode.{Mode}
@@ -40,7 +40,7 @@ begins_string spellings.Name = false
 begins_string other = true
 
 -- the string with fields that the code has met
-abbrev pub host_in : known.Host → Host
+abbrev pub host_in : StringWithFields → Host
 host_in h = record { quote = h.quote; is_long = h.is_long; is_raw = h.is_raw }
 
 -- what a quote does after a word
@@ -50,7 +50,7 @@ quote_move s q =
     else (if begins_string s then moves.Grows (modes.Opened q) else moves.Breaks)
 
 -- what a character does after one quote of a string with fields
-unfoldable pub opened_move : known.Host → ℕ → Move
+unfoldable pub opened_move : StringWithFields → ℕ → Move
 opened_move h c =
     if c == h.quote then moves.Grows (modes.FieldEmpty h)
     else (if is_break c then moves.Refused else moves.Grows modes.Fielded)

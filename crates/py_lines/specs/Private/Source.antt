@@ -17,7 +17,7 @@ abbrev pub line_of_source : Source → LogicalLine
 line_of_source s = scanned_line s.state.scan (take (s.state.place - s.start) (drop s.start s.characters.now)) s.start s.end_len
 
 -- the line that was read last reaches to where the scan stopped, with so many bytes of line end
-pub record PassesLine (old : Source) (end_len : ℕ) (new : Source) : Type 0 where
+pub record GivesLine (old : Source) (end_len : ℕ) (new : Source) : Type 0 where
   pub bytes : new.bytes ≡ old.bytes
   pub characters : new.characters ≡ old.characters
   pub start : new.start ≡ old.state.place

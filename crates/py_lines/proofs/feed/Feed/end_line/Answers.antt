@@ -3,7 +3,7 @@ use Rattle.py_lines.specs.declared.fault.FaultKind.{FaultKind}
 use Rattle.py_lines.specs.declared.fault.LexError.{LexError}
 use Rattle.py_lines.specs.declared.feed.Feed.{Feed}
 use Rattle.py_lines.specs.declared.scan.Flaw.{Flaw}
-use Rattle.py_lines.specs.Private.Feed.{EndsHeld, FailsAt, IsOpen, IsPart}
+use Rattle.py_lines.specs.Private.Feed.{EndsHeld, FailsAt, IsOpen, IsPartOfCharacter}
 use Rattle.py_lines.specs.Private.LineState.{IsEndFlaw}
 use Rattle.py_lines.specs.Private.Scan.{is_returned}
 use Rattle.py_lines.proofs.Readers.LineAnswers.{Within, all_within}
@@ -15,7 +15,7 @@ flaw_within : (f : Feed) (read after : List ℕ) (o : IsOpen f read after) → 0
 flaw_within f read after o some held all flaw (inl (more, kind, place)) = subst (Within read) (sym place) (all_within read f.state.scan.stop (open_stop f read after o))
 flaw_within f read after o some held all flaw (inr (none, unfinished)) = open_flaw_within f read after o (all_scanned f read after o (omega (arith, all, none))) some flaw unfinished
 
-flaw_fails : (f : Feed) (read after : List ℕ) (o : IsOpen f read after) → IsPart f after → 0 < length f.held.items → is_returned f.state.scan ≡ false → f.ready ≡ None → (held : ℕ) → held ≡ length f.held.items → (flaw : Flaw) → IsEndFlaw f.state.scan (held - f.state.scan.stop) (Some flaw) → (error : LexError) (new : Feed) → FailsAt f flaw.kind flaw.place error new → EndsHeld f (Err error) new
+flaw_fails : (f : Feed) (read after : List ℕ) (o : IsOpen f read after) → IsPartOfCharacter f after → 0 < length f.held.items → is_returned f.state.scan ≡ false → f.ready ≡ None → (held : ℕ) → held ≡ length f.held.items → (flaw : Flaw) → IsEndFlaw f.state.scan (held - f.state.scan.stop) (Some flaw) → (error : LexError) (new : Feed) → FailsAt f flaw.kind flaw.place error new → EndsHeld f (Err error) new
 flaw_fails f read after o part some not_yet not_ready held all flaw (inl (more, kind, place)) error new at =
     let moved = subst (λ (k : FaultKind). FailsAt f k f.state.scan.stop error new) kind (subst (λ (n : ℕ). FailsAt f flaw.kind n error new) place at) in
     ends_so_bytes f read after o new error part (omega (arith, all, more, open_size f read after o, open_stop f read after o)) moved not_ready

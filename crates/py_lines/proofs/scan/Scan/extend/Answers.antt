@@ -2,7 +2,7 @@ use Rattle.std.proofs.Common.{◌≡◌, ℕ, ◌-◌, List, length, take, drop,
 use Rattle.std.specs.Prelude.{encode_utf8}
 use Rattle.std.specs.Char.{len_utf8}
 use Rattle.std.proofs.lemmas.Str.{length-encode}
-use Rattle.py_lines.specs.Private.Run.{Holds}
+use Rattle.py_lines.specs.Private.Run.{HoldsRun}
 use Rattle.py_lines.specs.declared.scan.Progress.{Progress}
 use Rattle.py_lines.proofs.LineScan.LineStops.{GoesTo, ShutsTo, TakesTo, goes_room, goes_lines, goes_quote, left_ends, left_shuts, shuts_order, shuts_room, shuts_lines, goes_run, goes_character, stops_line, stops_returned, stops_refused, stops_text}
 use Rattle.py_lines.proofs.scan.Scan.extend.Goals as goal
@@ -76,7 +76,7 @@ hold-rest-requires-clause-quote c = goes_quote c.args.self.now c.args.bytes.now 
 
 pub characters-preserved : goal.characters-preserved
 characters-preserved c =
-    let held = subst (λ (t : List ℕ). Holds c.take.new.self t c.hold-rest.result.now c.hold-rest.new.self) (after_is c.in-Bytes.left.now c.in-Some.c c.len_utf8-len.result c.len_utf8-len.ensures.value) c.hold-rest.ensures in
+    let held = subst (λ (t : List ℕ). HoldsRun c.take.new.self t c.hold-rest.result.now c.hold-rest.new.self) (after_is c.in-Bytes.left.now c.in-Some.c c.len_utf8-len.result c.len_utf8-len.ensures.value) c.hold-rest.ensures in
     record { goes = goes_run c.args.self.now c.args.bytes.now c.take.new.self c.hold-rest.new.self _ c.hold-rest.result.now (goes (goal.at.characters-preserved c).In-Going) held }
 
 pub returns-in-LineEnded : goal.returns-in-LineEnded
