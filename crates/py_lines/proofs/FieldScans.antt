@@ -9,5 +9,5 @@ pub mod Taking
 pub mod Operators
 pub mod FieldOpenings
 pub mod CodeOperators
-pub mod Flaws
+pub mod FieldFaults
 pub mod FieldAnswers

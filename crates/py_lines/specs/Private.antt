@@ -3,7 +3,7 @@
 pub mod Machine
 pub mod FieldMachine
 pub mod ScanMachine
-pub mod FieldFlaws
+pub mod FieldFaults
 pub mod FieldScan
 pub mod FieldText
 pub mod Scan

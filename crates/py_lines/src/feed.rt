@@ -184,8 +184,8 @@ impl Feed {
             }
             Stop::TextEnd => self.scan_part(),
             Stop::Refused(c) => {
-                let flaw = self.state.scan.refusal(c);
-                Err(self.fail(flaw.kind, flaw.place))
+                let line_fault = self.state.scan.refusal(c);
+                Err(self.fail(line_fault.kind, line_fault.place))
             }
         }
     }
@@ -428,8 +428,8 @@ impl Feed {
             return self.close(1);
         }
         let rest = self.held.len() - self.state.scan.stop;
-        if let Some(flaw) = self.state.end_flaw(rest) {
-            return Err(self.fail(flaw.kind, flaw.place));
+        if let Some(line_fault) = self.state.end_fault(rest) {
+            return Err(self.fail(line_fault.kind, line_fault.place));
         }
         self.close(0)
     }

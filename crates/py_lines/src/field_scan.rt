@@ -6,7 +6,7 @@ ghost use Rattle.py_lines.specs.FieldStrings.{names};
 ghost use Rattle.py_lines.specs.Private.FieldMachine.{is_barred_escape, is_after_two, with_quote, closing_move};
 ghost use Rattle.py_lines.specs.Private.FieldMachine.{opening_move, ending_move, between_move, escape_move, body_move};
 ghost use Rattle.py_lines.specs.Balance.{is_opening};
-ghost use Rattle.py_lines.specs.Private.FieldFlaws.{is_waiting, quotes_specification};
+ghost use Rattle.py_lines.specs.Private.FieldFaults.{is_waiting, quotes_specification};
 ghost use Rattle.py_lines.specs.Private.FieldMachine.{after_open_backslash};
 ghost use Rattle.py_lines.specs.Private.FieldScan.{at_in, region_in, mode_from, field_move_from, code_moved, code_move};
 ghost use Rattle.py_lines.specs.Private.FieldScan.{keeps_byte, meets_field, opened_with, stays_field};
@@ -20,7 +20,7 @@ use crate::character::{
 use crate::fault::FaultKind;
 use crate::host::StringWithFields;
 use crate::mode::{Mode, Move, Spelling, Start};
-use crate::scan::Flaw;
+use crate::scan::LineFault;
 use crate::whole_strings::text_len;
 use std::alloc::{AllocError, Global};
 
@@ -727,7 +727,7 @@ impl FieldScan {
     }
 
     /// What is wrong where `c` is refused, at this byte.
-    pub fn refusal(&self, c: char, place: usize, depth: usize) -> Flaw
+    pub fn refusal(&self, c: char, place: usize, depth: usize) -> LineFault
         ensures { RefusesField self.now c place depth result }
     {
         let (kind, place) = if self.is_full_at_brace(depth) {
@@ -745,41 +745,41 @@ impl FieldScan {
         } else {
             (FaultKind::BadChar, place)
         };
-        Flaw { kind, place }
+        LineFault { kind, place }
     }
 
     /// What is wrong where the text ends in a field's code: a string, a backslash, or else a bracket or the field.
-    fn unfinished_code(&self, mode: Mode) -> Flaw
+    fn unfinished_code(&self, mode: Mode) -> LineFault
         ensures { EndsCode self.now mode result }
     {
         if mode.in_short() {
-            return Flaw {
+            return LineFault {
                 kind: FaultKind::OpenString,
                 place: self.start,
             };
         }
         if mode.in_long() {
-            return Flaw {
+            return LineFault {
                 kind: FaultKind::OpenTriple,
                 place: self.start,
             };
         }
         if mode.is_after_backslash() {
-            return Flaw {
+            return LineFault {
                 kind: FaultKind::BadJoin,
                 place: self.start,
             };
         }
         match self.innermost() {
-            Some(Frame::Bracket(_, place)) => Flaw {
+            Some(Frame::Bracket(_, place)) => LineFault {
                 kind: FaultKind::OpenBracket,
                 place,
             },
-            Some(Frame::Field(field)) => Flaw {
+            Some(Frame::Field(field)) => LineFault {
                 kind: FaultKind::OpenField,
                 place: field.place,
             },
-            None => Flaw {
+            None => LineFault {
                 kind: FaultKind::OpenField,
                 place: self.start,
             },
@@ -787,7 +787,7 @@ impl FieldScan {
     }
 
     /// What is wrong where the text ends at this byte.
-    pub fn unfinished(&self, place: usize, depth: usize) -> Flaw
+    pub fn unfinished(&self, place: usize, depth: usize) -> LineFault
         ensures { EndsField self.now place depth result }
     {
         let (kind, place) = match self.mode {
@@ -808,6 +808,6 @@ impl FieldScan {
             }
             FieldMode::Body(_, Region::Literal, _, _) => (FaultKind::OpenString, self.start),
         };
-        Flaw { kind, place }
+        LineFault { kind, place }
     }
 }

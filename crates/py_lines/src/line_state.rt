@@ -5,7 +5,7 @@ ghost use Rattle.std.specs.Prelude.{◌≡◌, ℕ, ◌+◌, ◌<◌, ◌^◌, l
 use crate::count::line_after;
 use crate::fault::{Fault, FaultKind, LexError};
 use crate::mode::Mode;
-use crate::scan::{Flaw, Scan};
+use crate::scan::{LineFault, Scan};
 use crate::unit::Unit;
 use std::alloc::Global;
 
@@ -25,7 +25,7 @@ pub struct LineState {
 impl LineState {
     ghost use Rattle.py_lines.specs.Token.{EachLiesIn};
     ghost use Rattle.py_lines.specs.UnitLine.{line_in};
-    ghost use Rattle.py_lines.specs.Private.LineState.{BeginsAnew, IsEndFlaw, KeepsFault, BeginsAt, first_mode, scanned_line};
+    ghost use Rattle.py_lines.specs.Private.LineState.{BeginsAnew, IsEndLineFault, KeepsFault, BeginsAt, first_mode, scanned_line};
 
     /// At this byte of a text, which is on this line. Nothing of the next line is read.
     pub fn at(alloc: Global, place: u64, line: u64) -> LineState
@@ -77,11 +77,11 @@ impl LineState {
 
     /// What is wrong where the text ends so many bytes after the characters that were scanned, if anything is. Such bytes
     /// begin no character.
-    pub fn end_flaw(&self, rest: usize) -> Option<Flaw>
-        ensures { IsEndFlaw self.now.scan rest result }
+    pub fn end_fault(&self, rest: usize) -> Option<LineFault>
+        ensures { IsEndLineFault self.now.scan rest result }
     {
         if rest > 0 {
-            return Some(Flaw {
+            return Some(LineFault {
                 kind: FaultKind::BadUtf8,
                 place: self.scan.stop,
             });

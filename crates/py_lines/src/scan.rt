@@ -55,7 +55,7 @@ pub enum Stop {
 
 /// What is wrong in a line.
 #[derive(Clone, Copy)]
-pub struct Flaw {
+pub struct LineFault {
     /// What it is.
     pub kind: FaultKind,
     /// Where it stands: the byte from the line's start.
@@ -419,7 +419,7 @@ impl Scan {
     }
 
     /// What is wrong where `c` is refused.
-    pub fn refusal(&self, c: char) -> Flaw
+    pub fn refusal(&self, c: char) -> LineFault
         ensures { IsRefusal self.now c result }
     {
         if matches!(self.piece.mode, Mode::Fielded) {
@@ -430,7 +430,7 @@ impl Scan {
     }
 
     /// The same outside strings with fields. An open short string and a backslash are at fault themselves.
-    fn plain_refusal(&self, c: char) -> Flaw
+    fn plain_refusal(&self, c: char) -> LineFault
         ensures kind { result.kind ≡ character_kind self.now.piece.mode c }
         ensures place { result.place ≡ refused_place self.now }
     {
@@ -445,11 +445,11 @@ impl Scan {
         } else {
             (FaultKind::BadChar, self.stop)
         };
-        Flaw { kind, place }
+        LineFault { kind, place }
     }
 
     /// What is wrong where the text ends here, if it may not: what is open.
-    pub fn unfinished(&self) -> Option<Flaw>
+    pub fn unfinished(&self) -> Option<LineFault>
         ensures { IsUnfinished self.now result }
     {
         if matches!(self.piece.mode, Mode::Fielded) {
@@ -460,7 +460,7 @@ impl Scan {
     }
 
     /// The same outside strings with fields: an open string, a backslash, or else an open bracket.
-    fn plain_unfinished(&self) -> Option<Flaw>
+    fn plain_unfinished(&self) -> Option<LineFault>
         ensures { IsPlainUnfinished self.now result }
     {
         let kind = if self.piece.mode.in_short() {
@@ -470,12 +470,12 @@ impl Scan {
         } else if self.piece.mode.is_after_backslash() {
             FaultKind::BadJoin
         } else {
-            return self.brackets.innermost().map(|bracket| Flaw {
+            return self.brackets.innermost().map(|bracket| LineFault {
                 kind: FaultKind::OpenBracket,
                 place: bracket.place,
             });
         };
-        Some(Flaw {
+        Some(LineFault {
             kind,
             place: self.piece.start,
         })

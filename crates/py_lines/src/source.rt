@@ -111,8 +111,8 @@ impl<'t> Source<'t> {
         requires { HasScanned self.old (Stop.Refused c) }
         ensures { Advances self.old (Err result) self.new }
     {
-        let flaw = self.state.scan.refusal(c);
-        self.fail(flaw.kind, flaw.place)
+        let line_fault = self.state.scan.refusal(c);
+        self.fail(line_fault.kind, line_fault.place)
     }
 
     /// The line that its line end closed.
@@ -129,8 +129,8 @@ impl<'t> Source<'t> {
         ensures { Advances self.old result self.new }
     {
         let rest = self.bytes.len() - self.characters.len();
-        if let Some(flaw) = self.state.end_flaw(rest) {
-            return Err(self.fail(flaw.kind, flaw.place));
+        if let Some(line_fault) = self.state.end_fault(rest) {
+            return Err(self.fail(line_fault.kind, line_fault.place));
         }
         self.state.scan.close()?;
         self.give(0);

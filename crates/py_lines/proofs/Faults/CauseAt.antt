@@ -13,7 +13,7 @@ use Rattle.py_lines.specs.LogicalLine.{byte_len}
 use Rattle.py_lines.specs.FieldStrings.{Host, literal, specification}
 use Rattle.py_lines.specs.Private.Machine.{start_of}
 use Rattle.py_lines.specs.Private.FieldMachine.{text_place, before, after_brace, FieldMode, plain, opened, empty, body, FieldMove, grows, closes, breaks, begins_code, opens_field, ends_field, refused, Level, FieldScanned, field_state, field_text_start, field_pieces, field_move, field_moved, field_started, field_step, opened_level, field_steps_from, levels_open, frames, has_room_at, have_room, body_move, after_open_backslash, InSpecificationOf}
-use Rattle.py_lines.specs.Private.FieldFlaws.{is_waiting, quotes_specification, cause_in, cause_place, here, piece_start}
+use Rattle.py_lines.specs.Private.FieldFaults.{is_waiting, quotes_specification, cause_in, cause_place, here, piece_start}
 use Rattle.py_lines.proofs.Text.CharacterTests.{break-not-opening, break-not-closing, break-not-quote, opening-not-quote}
 use Rattle.py_lines.proofs.Machine.Starts.{start-feed, start-return}
 use Rattle.py_lines.proofs.FieldMachine.WhatIsOpen.{Comes, comes_to, short_open_comes, backslash_comes, specification_comes}

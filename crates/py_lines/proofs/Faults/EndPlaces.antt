@@ -20,7 +20,7 @@ use Rattle.py_lines.proofs.Machine.ReadingSteps.{MayBegin}
 use Rattle.py_lines.proofs.FieldSoundness.OpenEnds.{long_mode}
 use Rattle.py_lines.proofs.Fields.OneReading.{some_head}
 use Rattle.py_lines.proofs.FieldMachine.ListBrackets.{openers_through-append, opener_pushes, balanced_openers, none_some}
-use Rattle.py_lines.specs.Private.FieldFlaws.{unfinished_code, unfinished_in, unfinished_at}
+use Rattle.py_lines.specs.Private.FieldFaults.{unfinished_code, unfinished_in, unfinished_at}
 
 -- the text up to and with the `{` of the field that is open
 abbrev pub opened_text : FieldMode → List Level → List ℕ → List ℕ

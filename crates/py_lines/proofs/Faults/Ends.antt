@@ -18,7 +18,7 @@ use Rattle.py_lines.proofs.FieldSoundness.HostSteps.{sound_at}
 use Rattle.py_lines.proofs.FieldSoundness.WholeTexts.{two_hundred, rooms_at, final_is_reading}
 use Rattle.py_lines.proofs.FieldSoundness.LiveTexts.{live_goes, goes_live}
 use Rattle.py_lines.proofs.Faults.EndFaults.{IsDeepBrace, few_frames, brace_is_due, open_in, final_in}
-use Rattle.py_lines.specs.Private.FieldFlaws.{unfinished_code, unfinished_in, unfinished_at}
+use Rattle.py_lines.specs.Private.FieldFaults.{unfinished_code, unfinished_in, unfinished_at}
 use Rattle.py_lines.proofs.Faults.EndPlaces.{same_state, opened_text, IsPlaced, one_place, short_unfinished, long_unfinished, join_unfinished, code_unfinished, specification_unfinished, bracket_back}
 
 -- directly after a `{` at depth 200 the machine stands there

@@ -9,7 +9,7 @@ use Rattle.py_lines.specs.declared.mode.Move.{Move}
 use Rattle.py_lines.specs.declared.mode.Move.TheVariants as moves
 use Rattle.py_lines.specs.Private.Machine.{Holds, move_of, short_move, long_move, is_prefix_spelling, in_short}
 use Rattle.py_lines.specs.Private.FieldMachine.{At, between, after_one, after_two, after_slash, after_return, after_name, after_brace, FieldMode, plain, opened, empty, body, FieldMove, breaks, begins_code, opens_field, ends_field, refused, Level, is_after_two, is_after_brace, closing_move, opening_move, ending_move, is_barred_escape, between_move, escape_move, body_move, field_move, plain_move, begins_host, in_open_short, after_open_backslash, InSpecificationOf}
-use Rattle.py_lines.specs.Private.FieldFlaws.{is_waiting, quotes_specification}
+use Rattle.py_lines.specs.Private.FieldFaults.{is_waiting, quotes_specification}
 use Rattle.py_lines.proofs.FieldSoundness.Holds.{Limit, HoldsAt, HoldsMode}
 use Rattle.py_lines.proofs.FieldSoundness.LiveTexts.{quotes_at}
 

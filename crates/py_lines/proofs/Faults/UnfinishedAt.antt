@@ -11,7 +11,7 @@ use Rattle.py_lines.specs.FieldStrings.{literal}
 use Rattle.py_lines.specs.declared.mode.Mode.TheVariants as modes
 use Rattle.py_lines.specs.Private.Machine.{Bracket, brackets_of, class_of}
 use Rattle.py_lines.specs.Private.FieldMachine.{before, after_brace, FieldMode, plain, body, Level, FieldScanned, field_text_start, field_steps_from, field_closed, have_room}
-use Rattle.py_lines.specs.Private.FieldFlaws.{is_waiting, unfinished_at, unfinished_place, here, field_start}
+use Rattle.py_lines.specs.Private.FieldFaults.{is_waiting, unfinished_at, unfinished_place, here, field_start}
 use Rattle.py_lines.proofs.Pieces.PieceLists.{piece}
 use Rattle.py_lines.proofs.Pieces.OpenBrackets.{StandsAt, level, inside, stands}
 use Rattle.py_lines.proofs.FieldSoundness.LiveTexts.{goes_live}

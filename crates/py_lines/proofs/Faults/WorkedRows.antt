@@ -4,7 +4,7 @@ use Rattle.std.specs.Prelude.{codes}
 use Rattle.py_lines.specs.Faults.{Unfinished, open_short, open_long, open_join, open_bracket, open_inside}
 use Rattle.py_lines.specs.Private.FieldMachine.{FieldScanned, field_text_start, field_steps_from}
 use Rattle.py_lines.proofs.FieldMachine.WorkedRows.{tested}
-use Rattle.py_lines.specs.Private.FieldFlaws.{unfinished_at}
+use Rattle.py_lines.specs.Private.FieldFaults.{unfinished_at}
 
 open_after : Option FieldScanned → Option Unfinished
 open_after None = None

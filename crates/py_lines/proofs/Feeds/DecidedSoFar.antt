@@ -13,7 +13,7 @@ use Rattle.py_lines.specs.declared.fault.Fault.{Fault}
 use Rattle.py_lines.specs.declared.fault.FaultKind.{FaultKind}
 use Rattle.py_lines.specs.declared.fault.FaultKind.TheVariants as faults
 use Rattle.py_lines.specs.declared.mode.Mode.TheVariants as modes
-use Rattle.py_lines.specs.declared.scan.Flaw.{Flaw}
+use Rattle.py_lines.specs.declared.scan.LineFault.{LineFault}
 use Rattle.py_lines.specs.declared.scan.Scan.{Scan}
 use Rattle.py_lines.specs.Private.Machine.{Scanned, Bracket}
 use Rattle.py_lines.specs.Private.ScanMachine.{scan_step}
@@ -96,8 +96,8 @@ module _ (text : List ℕ) (place line : ℕ) (lines : List LogicalLine) (read :
   joins_before : (s : Scanned) (st : List Bracket) → GoesTo (line_start (first_mode place)) read s st → Joined k.base read s st (c ∷ k.more)
   joins_before s st goes = joined place k.base (c ∷ k.more) (of.level text place line lines (read ++ c ∷ []) [] k) (of.strings text place line lines (read ++ c ∷ []) [] k) read s st before_fit (base_of place k.base (read ++ c ∷ k.more) before_fit k.ended k.here) goes
 
-  pub decided_character : (scan : Scan) (way : IsUnderWay (first_mode place) scan read) → stack_if (scan_step way.state c) ≡ None → (is_return_mode way.state.mode && none_open (stack_of scan.brackets)) && not (is_line_feed c) ≡ false → (flaw : Flaw) → IsRefusal scan c flaw → (fault : Fault) → fault.kind ≡ flaw.kind → fault.offset ≡ place + flaw.place → (w : Within read flaw.place) → fault.line ≡ line + line_ends w.prefix → Decides all_known fault × IsLexed all_known lines (Some fault)
-  decided_character scan way refuses not_yet flaw is_flaw fault kind at w number =
+  pub decided_character : (scan : Scan) (way : IsUnderWay (first_mode place) scan read) → stack_if (scan_step way.state c) ≡ None → (is_return_mode way.state.mode && none_open (stack_of scan.brackets)) && not (is_line_feed c) ≡ false → (line_fault : LineFault) → IsRefusal scan c line_fault → (fault : Fault) → fault.kind ≡ line_fault.kind → fault.offset ≡ place + line_fault.place → (w : Within read line_fault.place) → fault.line ≡ line + line_ends w.prefix → Decides all_known fault × IsLexed all_known lines (Some fault)
+  decided_character scan way refuses not_yet line_fault is_line_fault fault kind at w number =
       let s = way.state in
       let st = stack_of scan.brackets in
       let goes = way_goes way in
@@ -109,10 +109,10 @@ module _ (text : List ℕ) (place line : ℕ) (lines : List LogicalLine) (read :
       let dead = dead_at k.base read (c ∷ k.more) k.more s st c j level refl refuses in
       let open_yet = open_return s.mode s.done s.held c st goes.stack refuses not_yet in
       let prefix : HasPrefix j.state k.base = record { others = pieces_at s; spell = j.pieces; ended = k.ended; none = closed_one_line s.mode s.done s.held st goes.stack way.one_line open_yet } in
-      let found = refused_fault place k.base level (of.strings text place line lines (read ++ c ∷ []) [] k) (base_of place k.base (read ++ c ∷ k.more) before_fit k.ended k.here) scan read way c [] (alone read before_fit) refuses flaw is_flaw in
-      let is = fault_as fault flaw.kind (byte_len (spelled k.base) + flaw.place) _ _ kind (ap (λ (n : ℕ). n + flaw.place) (sym k.here) ∙ sym at) spell found in
+      let found = refused_fault place k.base level (of.strings text place line lines (read ++ c ∷ []) [] k) (base_of place k.base (read ++ c ∷ k.more) before_fit k.ended k.here) scan read way c [] (alone read before_fit) refuses line_fault is_line_fault in
+      let is = fault_as fault line_fault.kind (byte_len (spelled k.base) + line_fault.place) _ _ kind (ap (λ (n : ℕ). n + line_fault.place) (sym k.here) ∙ sym at) spell found in
       let lexed = refused_at_character all_known characters [] (spelled k.base ++ read) [] c j.state j.st k.base fault decodes spell j.steps dead prefix is
-      (line_after text place line lines (read ++ c ∷ []) [] k fault.kind flaw.place w.prefix (w.later ++ c ∷ []) fault (sym (append_assoc w.prefix w.later (c ∷ [])) ∙ ap (λ t. t ++ c ∷ []) w.split) w.size at number characters [] (append-nil _)) in (
+      (line_after text place line lines (read ++ c ∷ []) [] k fault.kind line_fault.place w.prefix (w.later ++ c ∷ []) fault (sym (append_assoc w.prefix w.later (c ∷ [])) ∙ ap (λ t. t ++ c ∷ []) w.split) w.size at number characters [] (append-nil _)) in (
         record {
           characters = characters;
           tail = [];

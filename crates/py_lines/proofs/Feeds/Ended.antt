@@ -13,7 +13,7 @@ use Rattle.py_lines.specs.LogicalLine.{LogicalLine, cut, byte_len, line_ends, li
 use Rattle.py_lines.specs.declared.fault.Fault.{Fault}
 use Rattle.py_lines.specs.declared.fault.FaultKind.TheVariants as faults
 use Rattle.py_lines.specs.declared.mode.Mode.TheVariants as modes
-use Rattle.py_lines.specs.declared.scan.Flaw.{Flaw}
+use Rattle.py_lines.specs.declared.scan.LineFault.{LineFault}
 use Rattle.py_lines.specs.declared.scan.Scan.{Scan}
 use Rattle.py_lines.specs.Private.Machine.{Scanned, is_final, Bracket}
 use Rattle.py_lines.specs.Private.Scan.{EndsNoLine, line_start, IsUnderWay, none_open, stack_of, IsUnfinished}
@@ -74,17 +74,17 @@ module _ (text : List ℕ) (place line : ℕ) (lines : List LogicalLine) (read r
   all_decoded none = subst (λ t. Decodes t (spelled k.base ++ read) []) all (subst (λ t. Decodes (of.bytes text place line lines read rest k) (spelled k.base ++ read) t) none (of.decodes text place line lines read rest k (subst StartsWithNoChar (sym none) nothing_bad)))
 
   -- the text may not end there
-  pub ended_unfinished : rest ≡ [] → (scan : Scan) (way : IsUnderWay (first_mode place) scan read) → (way.state.mode ≡ modes.Return → none_open (stack_of scan.brackets) ≡ false) → 0 < byte_len read → (flaw : Flaw) → IsUnfinished scan (Some flaw) → (fault : Fault) → fault.kind ≡ flaw.kind → fault.offset ≡ place + flaw.place → (w : Within read flaw.place) → fault.line ≡ line + line_ends w.prefix → IsLexed text lines (Some fault)
-  ended_unfinished none scan way open_yet some flaw is_flaw fault kind at w number =
+  pub ended_unfinished : rest ≡ [] → (scan : Scan) (way : IsUnderWay (first_mode place) scan read) → (way.state.mode ≡ modes.Return → none_open (stack_of scan.brackets) ≡ false) → 0 < byte_len read → (line_fault : LineFault) → IsUnfinished scan (Some line_fault) → (fault : Fault) → fault.kind ≡ line_fault.kind → fault.offset ≡ place + line_fault.place → (w : Within read line_fault.place) → fault.line ≡ line + line_ends w.prefix → IsLexed text lines (Some fault)
+  ended_unfinished none scan way open_yet some line_fault is_line_fault fault kind at w number =
       let goes = way_goes way in
       let j = of.joins text place line lines read rest k way.state (stack_of scan.brackets) goes in
       let characters = spelled k.base ++ read in
-      let found = unfinished_fault place k.base (of.level text place line lines read rest k) (of.strings text place line lines read rest k) (of.stands text place line lines read rest k) scan read way (alone read some k.fit) some flaw is_flaw in
+      let found = unfinished_fault place k.base (of.level text place line lines read rest k) (of.strings text place line lines read rest k) (of.stands text place line lines read rest k) scan read way (alone read some k.fit) some line_fault is_line_fault in
       subst (λ l. IsLexedToFault text l fault) (sym k.cut)
       (refused_at_end text characters j.state j.st k.base fault (all_decoded none) j.steps
       (decided.prefix_of text place line lines read rest k way.state (stack_of scan.brackets) goes way.one_line open_yet)
-      (end_fault_as fault flaw.kind (byte_len (spelled k.base) + flaw.place) characters characters kind (ap (λ (n : ℕ). n + flaw.place) (sym k.here) ∙ sym at) refl found)
-      (decided.line_after text place line lines read rest k fault.kind flaw.place w.prefix w.later fault w.split w.size at number characters [] (append-nil _)))
+      (end_fault_as fault line_fault.kind (byte_len (spelled k.base) + line_fault.place) characters characters kind (ap (λ (n : ℕ). n + line_fault.place) (sym k.here) ∙ sym at) refl found)
+      (decided.line_after text place line lines read rest k fault.kind line_fault.place w.prefix w.later fault w.split w.size at number characters [] (append-nil _)))
     where
       alone : (xs : List ℕ) → 0 < byte_len xs → AreReadBefore k.base (xs ++ k.more) → AreReadBefore k.base (xs ++ [])
       alone [] full fit = absurd (omega (arith, full))

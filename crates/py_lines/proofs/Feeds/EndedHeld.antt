@@ -18,7 +18,7 @@ use Rattle.py_lines.specs.declared.feed.Feed.{Feed}
 use Rattle.py_lines.specs.declared.line_state.LineState.{LineState}
 use Rattle.py_lines.specs.declared.mode.Mode.{Mode}
 use Rattle.py_lines.specs.declared.mode.Mode.TheVariants as modes
-use Rattle.py_lines.specs.declared.scan.Flaw.{Flaw}
+use Rattle.py_lines.specs.declared.scan.LineFault.{LineFault}
 use Rattle.py_lines.specs.Private.Machine.{Bracket, is_final, fresh}
 use Rattle.py_lines.specs.Private.Scan.{Closes, Tallies, is_returned, is_return_mode, none_open, stack_of, line_start, IsUnfinished}
 use Rattle.py_lines.specs.Private.LineState.{first_mode}
@@ -74,12 +74,12 @@ module _ (f : Feed) (read rest : List ℕ) (o : IsOpen f read rest) where
   read_some : rest ≡ [] → 0 < length f.held.items → 0 < byte_len read
   read_some none some = omega (arith, some, open_size f read rest o, ap length none)
 
-  pub open_flaw_within : rest ≡ [] → 0 < length f.held.items → (flaw : Flaw) → IsUnfinished f.state.scan (Some flaw) → Within read flaw.place
-  open_flaw_within none some flaw is = unfinished_within f.state.place f.state.scan read o.way (read_some none some) flaw is
+  pub open_line_fault_within : rest ≡ [] → 0 < length f.held.items → (line_fault : LineFault) → IsUnfinished f.state.scan (Some line_fault) → Within read line_fault.place
+  open_line_fault_within none some line_fault is = unfinished_within f.state.place f.state.scan read o.way (read_some none some) line_fault is
 
   -- something is open
-  pub ends_open : (new : Feed) (fault : Fault) (flaw : Flaw) → rest ≡ [] → 0 < length f.held.items → is_returned f.state.scan ≡ false → IsUnfinished f.state.scan (Some flaw) → FailsAt f flaw.kind flaw.place (lex.Fault fault) new → f.ready ≡ None → HasEndFault f fault new
-  ends_open new fault flaw none some not_yet is_flaw fails not_ready =
+  pub ends_open : (new : Feed) (fault : Fault) (line_fault : LineFault) → rest ≡ [] → 0 < length f.held.items → is_returned f.state.scan ≡ false → IsUnfinished f.state.scan (Some line_fault) → FailsAt f line_fault.kind line_fault.place (lex.Fault fault) new → f.ready ≡ None → HasEndFault f fault new
+  ends_open new fault line_fault none some not_yet is_line_fault fails not_ready =
       let same : fault ≡ fails.keeps.fault = (let x = fails.keeps.error_is in cc) in
       record {
         text = fails_keep f new _ _ _ fails;
@@ -87,9 +87,9 @@ module _ (f : Feed) (read rest : List ℕ) (o : IsOpen f read rest) where
         kept = ap (λ (s : LineState). s.fault) fails.keeps.same ∙ ap Some (sym same);
         lexed = λ text lines ends.
             let k = known_at text lines ends some in
-            let w = open_flaw_within none some flaw is_flaw in
-            let taken : take flaw.place f.held.items ≡ encode_utf8_all w.prefix = (within_held f read rest o flaw.place w).1 in
-            ended_unfinished text f.state.place f.state.line lines read rest k (whole_at text lines ends) none f.state.scan o.way (open_yet not_yet) (read_some none some) flaw is_flaw fault
+            let w = open_line_fault_within none some line_fault is_line_fault in
+            let taken : take line_fault.place f.held.items ≡ encode_utf8_all w.prefix = (within_held f read rest o line_fault.place w).1 in
+            ended_unfinished text f.state.place f.state.line lines read rest k (whole_at text lines ends) none f.state.scan o.way (open_yet not_yet) (read_some none some) line_fault is_line_fault fault
             (ap (λ (x : Fault). x.kind) same ∙ fails.keeps.at.is)
             (ap (λ (x : Fault). x.offset) same ∙ fails.keeps.at.place)
             w
@@ -151,10 +151,10 @@ module _ (f : Feed) (read rest : List ℕ) (o : IsOpen f read rest) where
       subst (λ (e : LexError). EndsHeld f (Err e) new) (sym fails.keeps.error_is)
       (ends_in_bytes new fails.keeps.fault part.none some (false_from_ne_true _ (λ returned. omega (arith, some, ap length (part.last returned)))) (subst (λ (e : LexError). FailsAt f BadUtf8 f.state.scan.stop e new) fails.keeps.error_is fails) not_ready)
 
-  pub ends_so_open : (new : Feed) (error : LexError) (flaw : Flaw) → rest ≡ [] → 0 < length f.held.items → is_returned f.state.scan ≡ false → IsUnfinished f.state.scan (Some flaw) → FailsAt f flaw.kind flaw.place error new → f.ready ≡ None → EndsHeld f (Err error) new
-  ends_so_open new error flaw none some not_yet unfinished fails not_ready =
+  pub ends_so_open : (new : Feed) (error : LexError) (line_fault : LineFault) → rest ≡ [] → 0 < length f.held.items → is_returned f.state.scan ≡ false → IsUnfinished f.state.scan (Some line_fault) → FailsAt f line_fault.kind line_fault.place error new → f.ready ≡ None → EndsHeld f (Err error) new
+  ends_so_open new error line_fault none some not_yet unfinished fails not_ready =
       subst (λ (e : LexError). EndsHeld f (Err e) new) (sym fails.keeps.error_is)
-      (ends_open new fails.keeps.fault flaw none some not_yet unfinished (subst (λ (e : LexError). FailsAt f flaw.kind flaw.place e new) fails.keeps.error_is fails) not_ready)
+      (ends_open new fails.keeps.fault line_fault none some not_yet unfinished (subst (λ (e : LexError). FailsAt f line_fault.kind line_fault.place e new) fails.keeps.error_is fails) not_ready)
 
   pub ends_so_plain : (new : Feed) (result : Result (Unit {0}) LexError) → rest ≡ [] → 0 < length f.held.items → is_returned f.state.scan ≡ false → IsUnfinished f.state.scan None → ClosesLine f 0 result new → EndsHeld f result new
   ends_so_plain new (Ok done) none some not_yet unfinished (keeps, ready, fault, closes) = ends_plain new none some not_yet unfinished keeps fault ready closes

@@ -69,10 +69,10 @@ by_character f new read rest o fault c after scalar is r text lines first goes =
     let k = is_known text f.state.place f.state.line lines more [] first (scalars_more read c o.scalars scalar) goes_more some in
     let fails = r.fails in
     let same : fault ≡ fails.keeps.fault = (let e = fails.keeps.error_is in cc) in
-    let w = refused_within f.state.place f.state.scan read way c r.refuses r.flaw r.is_flaw in
-    let taken : take r.flaw.place f.held.items ≡ encode_utf8_all w.prefix = (within_held f read rest o r.flaw.place w).1 in
+    let w = refused_within f.state.place f.state.scan read way c r.refuses r.line_fault r.is_line_fault in
+    let taken : take r.line_fault.place f.held.items ≡ encode_utf8_all w.prefix = (within_held f read rest o r.line_fault.place w).1 in
     let not_yet : (is_return_mode way.state.mode && none_open (stack_of f.state.scan.brackets)) && not (is_line_feed c) ≡ false = ap (λ (m : Mode). (is_return_mode m && none_open (stack_of f.state.scan.brackets)) && not (is_line_feed c)) (sym way.tallies.counts.mode) ∙ r.not_yet in
-    let both = decided_character text f.state.place f.state.line lines read c k f.state.scan way r.refuses not_yet r.flaw r.is_flaw fault
+    let both = decided_character text f.state.place f.state.line lines read c k f.state.scan way r.refuses not_yet r.line_fault r.is_line_fault fault
     (ap (λ (x : Fault). x.kind) same ∙ fails.keeps.at.is)
     (ap (λ (x : Fault). x.offset) same ∙ fails.keeps.at.place)
     w
@@ -120,5 +120,5 @@ failed_keeps old new fault e = go e.fails
         (keeps_on old e.mid new e.text (fails_keep e.mid new kind offset (lex.Fault fault) fails), ap (λ (f : Feed). f.ready) fails.same ∙ e.not_ready, ap (λ (s : LineState). s.fault) fails.keeps.same ∙ ap Some (sym same))
 
     go : FailsNext e.mid e.read e.rest (lex.Fault fault) new → KeepsText old new × (new.ready ≡ None) × (new.state.fault ≡ Some fault)
-    go (FailsNext.at_character c after scalar is refuses) = at refuses.flaw.kind refuses.flaw.place refuses.fails
+    go (FailsNext.at_character c after scalar is refuses) = at refuses.line_fault.kind refuses.line_fault.place refuses.fails
     go (FailsNext.at_bytes way hopeless open_yet fails) = at BadUtf8 e.mid.state.scan.stop fails

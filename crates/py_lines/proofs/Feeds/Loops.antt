@@ -11,7 +11,7 @@ use Rattle.py_lines.specs.declared.fault.LexError.TheVariants as lex
 use Rattle.py_lines.specs.declared.feed.Feed.{Feed}
 use Rattle.py_lines.specs.declared.line_state.LineState.{LineState}
 use Rattle.py_lines.specs.declared.scan.Stop.TheVariants as stops
-use Rattle.py_lines.specs.declared.scan.Flaw.{Flaw}
+use Rattle.py_lines.specs.declared.scan.LineFault.{LineFault}
 use Rattle.py_lines.specs.Private.Scan.{Tallies, IsStacked, IsUnderWay, line_start, is_returned, IsRefusal}
 use Rattle.py_lines.specs.Private.LineState.{first_mode}
 use Rattle.py_lines.specs.Private.Feed.{KeepsText, Restarts, IsOpen, IsPartOfCharacter, FailsAt, FailsNext, StopsHeld, ClosesLine, IsScanned, ScansHeld}
@@ -107,10 +107,10 @@ part_fails f new read rest error o ready hopeless open_yet fails =
     fails_held f f new read rest BadUtf8 f.state.scan.stop error (keeps_self f) ready o fails (λ e at. FailsNext.at_bytes o.way hopeless open_yet at)
 
 -- the next character is refused
-pub held_refused : (old mid new : Feed) (read rest : List ℕ) (c : ℕ) (flaw : Flaw) (error : LexError) → KeepsText old mid → mid.ready ≡ None → StopsHeld mid (stops.Refused c) read rest → IsRefusal mid.state.scan c flaw → FailsAt mid flaw.kind flaw.place error new → ScansHeld old (Err error) new
-held_refused old mid new read rest c flaw error keeps ready (opens, after, scalar, spell, refuses, not_yet) is_flaw fails =
-    fails_held old mid new read rest flaw.kind flaw.place error keeps ready opens fails
-    (λ e at. FailsNext.at_character c after scalar spell (record { way = opens.way; refuses = refuses; not_yet = not_yet; flaw = flaw; is_flaw = is_flaw; fails = at }))
+pub held_refused : (old mid new : Feed) (read rest : List ℕ) (c : ℕ) (line_fault : LineFault) (error : LexError) → KeepsText old mid → mid.ready ≡ None → StopsHeld mid (stops.Refused c) read rest → IsRefusal mid.state.scan c line_fault → FailsAt mid line_fault.kind line_fault.place error new → ScansHeld old (Err error) new
+held_refused old mid new read rest c line_fault error keeps ready (opens, after, scalar, spell, refuses, not_yet) is_line_fault fails =
+    fails_held old mid new read rest line_fault.kind line_fault.place error keeps ready opens fails
+    (λ e at. FailsNext.at_character c after scalar spell (record { way = opens.way; refuses = refuses; not_yet = not_yet; line_fault = line_fault; is_line_fault = is_line_fault; fails = at }))
 
 -- the same, from where a scan of the characters came to
 pub held_from : (old mid new : Feed) (r : _) → KeepsText old mid → mid.ready ≡ old.ready → mid.state.fault ≡ old.state.fault → ScansHeld mid r new → ScansHeld old r new

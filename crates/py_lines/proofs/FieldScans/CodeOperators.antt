@@ -15,7 +15,7 @@ use Rattle.py_lines.specs.declared.field_scan.FieldProgress.{FieldProgress}
 use Rattle.py_lines.specs.declared.field_scan.FieldProgress.TheVariants as progress
 use Rattle.py_lines.specs.Private.Machine.{start_of}
 use Rattle.py_lines.specs.Private.FieldMachine.{FieldMode, breaks, Level, FieldScanned, field_state, field_move}
-use Rattle.py_lines.specs.Private.FieldFlaws.{here}
+use Rattle.py_lines.specs.Private.FieldFaults.{here}
 use Rattle.py_lines.specs.Private.ScanMachine.{IsInString}
 use Rattle.py_lines.specs.Private.FieldScan.{innermost_first, Follows, IsInnermostFrame, freed_at, ended_in, ComesTo}
 use Rattle.py_lines.proofs.FieldScans.Frames.{list_of, innermost_bracket, innermost_field}

@@ -24,7 +24,7 @@ use Rattle.py_lines.specs.declared.field_scan.FieldProgress.{FieldProgress}
 use Rattle.py_lines.specs.declared.field_scan.FieldProgress.TheVariants as progress
 use Rattle.py_lines.specs.Private.Machine.{Bracket, start_of}
 use Rattle.py_lines.specs.Private.FieldMachine.{FieldMode, body, after_brace, FieldMove, breaks, begins_code, opens_field, ends_field, refused, Level, FieldScanned, field_state, field_move, before, frames, has_room_at}
-use Rattle.py_lines.specs.Private.FieldFlaws.{here}
+use Rattle.py_lines.specs.Private.FieldFaults.{here}
 use Rattle.py_lines.specs.Private.ScanMachine.{host_in, IsInString}
 use Rattle.py_lines.specs.Private.FieldScan.{innermost_first, bracket_frames, bracket_openers, meets_field, HoldsCode, HasNoList, Follows, FramesFollow, none_open, IsInnermostFrame, ComesTo, freed_at, ended_in, opened_with, waiting_field}
 use Rattle.py_lines.proofs.Text.CharacterTests.{each_of}

@@ -20,7 +20,7 @@ use Rattle.py_lines.specs.declared.field_scan.FieldScan.{FieldScan}
 use Rattle.py_lines.specs.declared.field_scan.FieldProgress.TheVariants as progress
 use Rattle.py_lines.specs.Private.Machine.{start_of, brackets_of}
 use Rattle.py_lines.specs.Private.FieldMachine.{At, between, after_brace, FieldMode, plain, body, begins_code, opens_field, ends_field, Level, FieldScanned, field_state, field_fresh, field_move, field_started, field_operator, opened_level, field_ended, before, frames, has_room_at}
-use Rattle.py_lines.specs.Private.FieldFlaws.{here}
+use Rattle.py_lines.specs.Private.FieldFaults.{here}
 use Rattle.py_lines.specs.Private.ScanMachine.{IsInString, host_in}
 use Rattle.py_lines.specs.Private.FieldScan.{innermost_first, Follows, FramesFollow, HasNoList, freed_at, ended_in, waiting_field, ComesTo}
 use Rattle.py_lines.proofs.Pieces.PieceLists.{piece}

@@ -17,7 +17,7 @@ use Rattle.py_lines.specs.declared.field_scan.FieldScan.{FieldScan}
 use Rattle.py_lines.specs.declared.field_scan.FieldProgress.TheVariants as progress
 use Rattle.py_lines.specs.Private.Machine.{start_of, Bracket, brackets_of}
 use Rattle.py_lines.specs.Private.FieldMachine.{between, FieldMode, body, breaks, Level, FieldScanned, field_state, field_fresh, field_closed, field_move, field_moved, field_started, field_operator, code_operator, after_operator, openers_with, field_ended, before, frames, has_room_at}
-use Rattle.py_lines.specs.Private.FieldFlaws.{is_waiting, here}
+use Rattle.py_lines.specs.Private.FieldFaults.{is_waiting, here}
 use Rattle.py_lines.specs.Private.ScanMachine.{IsInString, host_in}
 use Rattle.py_lines.specs.Private.FieldScan.{innermost_first, region_in, bracket_frames, Follows, WaitsInLiteral, FramesFollow, IsInnermostFrame, freed_at, ended_in, ComesTo}
 use Rattle.py_lines.proofs.Text.CharacterTests.{each_of}

@@ -17,7 +17,7 @@ use Rattle.py_lines.specs.declared.field_scan.FieldProgress.TheVariants as progr
 use Rattle.py_lines.specs.Private.Machine.{start_of}
 use Rattle.py_lines.specs.Private.FieldMachine.{plain, body, grows, closes, breaks, Level, FieldScanned, field_state, field_fresh, field_class_of, field_closed, field_move, field_moved, field_started, before, text_place, frames, has_room_at, levels_open}
 use Rattle.py_lines.specs.Private.FieldMachine as spots
-use Rattle.py_lines.specs.Private.FieldFlaws.{here}
+use Rattle.py_lines.specs.Private.FieldFaults.{here}
 use Rattle.py_lines.specs.Private.ScanMachine.{IsInString}
 use Rattle.py_lines.specs.Private.FieldScan.{innermost_first, mode_from, Follows, FramesFollow, freed_at, ComesTo}
 use Rattle.py_lines.proofs.Text.CharacterTests.{operator_ascii}

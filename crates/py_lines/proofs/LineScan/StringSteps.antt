@@ -10,13 +10,13 @@ use Rattle.py_lines.specs.declared.mode.Move.TheVariants as moves
 use Rattle.py_lines.specs.declared.field_scan.FieldScan.{FieldScan}
 use Rattle.py_lines.specs.declared.field_scan.FieldProgress.{FieldProgress}
 use Rattle.py_lines.specs.declared.field_scan.FieldProgress.TheVariants as progress
-use Rattle.py_lines.specs.declared.scan.Flaw.{Flaw}
+use Rattle.py_lines.specs.declared.scan.LineFault.{LineFault}
 use Rattle.py_lines.specs.declared.scan.Scan.{Scan}
 use Rattle.py_lines.specs.declared.mode.Start.TheVariants as starts
 use Rattle.py_lines.specs.Private.Machine.{start_of, character_kind}
 use Rattle.py_lines.specs.Private.FieldScan.{Follows, ComesTo, PushesField, RefusesField, EndsField}
 use Rattle.py_lines.specs.Private.FieldMachine.{FieldMode, Level, FieldScanned, grows, field_state, field_move, field_moved, frames, has_room_at, field_text_start, field_step, field_steps_from}
-use Rattle.py_lines.specs.Private.FieldFlaws.{here}
+use Rattle.py_lines.specs.Private.FieldFaults.{here}
 use Rattle.py_lines.specs.Private.ScanMachine.{string_state, string_move, fielded_move, move_at, IsInString, IsScanSound}
 use Rattle.py_lines.specs.Private.LineState.{first_mode}
 use Rattle.py_lines.specs.Private.Scan.{refused_place, IsRefusal, IsRefusalIn, IsUnfinished, IsUnfinishedIn, IsPlainUnfinished, FieldsFollow, StandsInString, GoesOnInString, ClosesString, Closes, in_mode, with_character, with_field_scan, Tallies, IsStacked, stack_of, depth_of}
@@ -129,22 +129,22 @@ first_plain zero is = cc
 first_plain (suc n) is = cc
 
 -- what is wrong in the string that is open, and elsewhere
-pub refusal_in : (scan : Scan) (c depth : ℕ) (flaw : Flaw) → scan.piece.mode ≡ modes.Fielded → depth ≡ depth_of scan.brackets → RefusesField scan.fields c scan.stop depth flaw → IsRefusal scan c flaw
-refusal_in scan c depth flaw here same refuses = subst (λ m. IsRefusalIn m scan c flaw) (sym here) (λ t stands stuck. subst (λ d. RefusesField scan.fields c scan.stop d flaw) same refuses scan.piece.start t stands.follows stands.inside stands.stop stuck)
+pub refusal_in : (scan : Scan) (c depth : ℕ) (line_fault : LineFault) → scan.piece.mode ≡ modes.Fielded → depth ≡ depth_of scan.brackets → RefusesField scan.fields c scan.stop depth line_fault → IsRefusal scan c line_fault
+refusal_in scan c depth line_fault here same refuses = subst (λ m. IsRefusalIn m scan c line_fault) (sym here) (λ t stands stuck. subst (λ d. RefusesField scan.fields c scan.stop d line_fault) same refuses scan.piece.start t stands.follows stands.inside stands.stop stuck)
 
-pub refusal_elsewhere : (scan : Scan) (c : ℕ) (flaw : Flaw) → (scan.piece.mode ≡ modes.Fielded → ⊥) → flaw.kind ≡ character_kind scan.piece.mode c → flaw.place ≡ refused_place scan → IsRefusal scan c flaw
-refusal_elsewhere scan c flaw other kind place = go scan.piece.mode other kind
+pub refusal_elsewhere : (scan : Scan) (c : ℕ) (line_fault : LineFault) → (scan.piece.mode ≡ modes.Fielded → ⊥) → line_fault.kind ≡ character_kind scan.piece.mode c → line_fault.place ≡ refused_place scan → IsRefusal scan c line_fault
+refusal_elsewhere scan c line_fault other kind place = go scan.piece.mode other kind
   where
-    go : (m : Mode) → (m ≡ modes.Fielded → ⊥) → flaw.kind ≡ character_kind m c → IsRefusalIn m scan c flaw
+    go : (m : Mode) → (m ≡ modes.Fielded → ⊥) → line_fault.kind ≡ character_kind m c → IsRefusalIn m scan c line_fault
     go modes.Fielded other' kind' = absurd (other' refl)
     go m other' kind' = (kind', place)
 
-pub unfinished_in : (scan : Scan) (depth : ℕ) (flaw : Flaw) → scan.piece.mode ≡ modes.Fielded → depth ≡ depth_of scan.brackets → EndsField scan.fields scan.stop depth flaw → IsUnfinished scan (Some flaw)
-unfinished_in scan depth flaw here same ends = subst (λ m. IsUnfinishedIn m scan (Some flaw)) (sym here) (λ t stands. subst (λ d. EndsField scan.fields scan.stop d flaw) same ends scan.piece.start t stands.follows stands.inside stands.stop)
+pub unfinished_in : (scan : Scan) (depth : ℕ) (line_fault : LineFault) → scan.piece.mode ≡ modes.Fielded → depth ≡ depth_of scan.brackets → EndsField scan.fields scan.stop depth line_fault → IsUnfinished scan (Some line_fault)
+unfinished_in scan depth line_fault here same ends = subst (λ m. IsUnfinishedIn m scan (Some line_fault)) (sym here) (λ t stands. subst (λ d. EndsField scan.fields scan.stop d line_fault) same ends scan.piece.start t stands.follows stands.inside stands.stop)
 
-pub unfinished_elsewhere : (scan : Scan) (flaw : Option Flaw) → (scan.piece.mode ≡ modes.Fielded → ⊥) → IsPlainUnfinished scan flaw → IsUnfinished scan flaw
-unfinished_elsewhere scan flaw other holds = go scan.piece.mode other
+pub unfinished_elsewhere : (scan : Scan) (line_fault : Option LineFault) → (scan.piece.mode ≡ modes.Fielded → ⊥) → IsPlainUnfinished scan line_fault → IsUnfinished scan line_fault
+unfinished_elsewhere scan line_fault other holds = go scan.piece.mode other
   where
-    go : (m : Mode) → (m ≡ modes.Fielded → ⊥) → IsUnfinishedIn m scan flaw
+    go : (m : Mode) → (m ≡ modes.Fielded → ⊥) → IsUnfinishedIn m scan line_fault
     go modes.Fielded other' = absurd (other' refl)
     go m other' = holds

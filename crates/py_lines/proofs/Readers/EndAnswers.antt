@@ -23,7 +23,7 @@ use Rattle.py_lines.specs.declared.scan.Scan.{Scan}
 use Rattle.py_lines.specs.declared.scan.Stop.{Stop}
 use Rattle.py_lines.specs.declared.scan.Stop.TheVariants as stops
 use Rattle.py_lines.specs.declared.source.Source.{Source}
-use Rattle.py_lines.specs.declared.scan.Flaw.{Flaw}
+use Rattle.py_lines.specs.declared.scan.LineFault.{LineFault}
 use Rattle.py_lines.specs.Private.Machine.{Scanned, closed, fresh, is_final, Bracket, brackets_of}
 use Rattle.py_lines.specs.Private.ScanMachine.{IsScanSound}
 use Rattle.py_lines.specs.Private.Scan.{IsUnderWay, line_start, EndsNoLine, Tallies, Closes, none_open, is_return_mode, stack_of, IsUnfinished}
@@ -166,28 +166,28 @@ module _ (old : Source) (has : HasScanned old stops.TextEnd) where
           (omega (arith, at.keeps.at.place, s.given.first.here, stop_size, ap byte_len (all_read lines given), byte_len-append (spelled s.given.first.pieces) has.scans.read))
           (line_of_fault old stops.TextEnd has lines given BadUtf8 old.state.scan.stop at.keeps.fault at.keeps.at (all_within has.scans.read old.state.scan.stop stop_size)))
 
-  pub end_within : length old.bytes.now ≤ length old.characters.now → (flaw : Flaw) → IsUnfinished old.state.scan (Some flaw) → Within has.scans.read flaw.place
-  end_within full flaw is = unfinished_within old.state.place old.state.scan has.scans.read has.scans.stops.0 (some_text full) flaw is
+  pub end_within : length old.bytes.now ≤ length old.characters.now → (line_fault : LineFault) → IsUnfinished old.state.scan (Some line_fault) → Within has.scans.read line_fault.place
+  end_within full line_fault is = unfinished_within old.state.place old.state.scan has.scans.read has.scans.stops.0 (some_text full) line_fault is
 
   no_tail : (lines : List LogicalLine) (given : HasGiven (reader_of old) lines) → length old.bytes.now ≤ length old.characters.now → (here old stops.TextEnd has lines given).given.first.tail ≡ []
   no_tail lines given full = (here old stops.TextEnd has lines given).tail_is ∙ drop_all (length old.characters.now) old.bytes.now full
 
   -- the text's end where it may not end
-  pub fails_at_end : (new : Source) (flaw : Flaw) (error : LexError) (at : FailsAfter old flaw.kind flaw.place error new) → IsUnfinished old.state.scan (Some flaw) → length old.bytes.now ≤ length old.characters.now → Fails (reader_of old) at.keeps.fault (reader_of new)
-  fails_at_end new flaw error at is_flaw full =
-      fails old new flaw.kind flaw.place error at has.no_fault has.more (λ lines given.
+  pub fails_at_end : (new : Source) (line_fault : LineFault) (error : LexError) (at : FailsAfter old line_fault.kind line_fault.place error new) → IsUnfinished old.state.scan (Some line_fault) → length old.bytes.now ≤ length old.characters.now → Fails (reader_of old) at.keeps.fault (reader_of new)
+  fails_at_end new line_fault error at is_line_fault full =
+      fails old new line_fault.kind line_fault.place error at has.no_fault has.more (λ lines given.
       let s = here old stops.TextEnd has lines given in
       let base = s.given.first.pieces in
       let way = has.scans.stops.0 in
       let j = joins old stops.TextEnd has lines given way in
       let fit = subst (λ t. AreReadBefore base (has.scans.read ++ t)) (nothing_after lines given) (base_fit old stops.TextEnd has lines given) in
-      let fault = unfinished_fault old.state.place base (level old stops.TextEnd has lines given) (strings old stops.TextEnd has lines given) (begins old stops.TextEnd has lines given) old.state.scan has.scans.read way fit (some_text full) flaw is_flaw in
-      let place : byte_len (spelled base) + flaw.place ≡ at.keeps.fault.offset = ap (λ n. n + flaw.place) (sym s.given.first.here) ∙ sym at.keeps.at.place in
+      let fault = unfinished_fault old.state.place base (level old stops.TextEnd has lines given) (strings old stops.TextEnd has lines given) (begins old stops.TextEnd has lines given) old.state.scan has.scans.read way fit (some_text full) line_fault is_line_fault in
+      let place : byte_len (spelled base) + line_fault.place ≡ at.keeps.fault.offset = ap (λ n. n + line_fault.place) (sym s.given.first.here) ∙ sym at.keeps.at.place in
       subst (λ l. IsLexedToFault old.bytes.now l at.keeps.fault) (sym s.given.first.cut)
       (refused_at_end old.bytes.now s.given.first.characters j.state j.st base at.keeps.fault (subst (λ t. Decodes old.bytes.now s.given.first.characters t) (no_tail lines given full) s.given.first.decodes) (runs_all lines given)
       (has_prefix old stops.TextEnd has lines given way open_yet)
-      (end_fault_as at.keeps.fault flaw.kind (byte_len (spelled base) + flaw.place) _ _ at.keeps.at.is place (all_read lines given) fault)
-      (line_of_fault old stops.TextEnd has lines given flaw.kind flaw.place at.keeps.fault at.keeps.at (end_within full flaw is_flaw))))
+      (end_fault_as at.keeps.fault line_fault.kind (byte_len (spelled base) + line_fault.place) _ _ at.keeps.at.is place (all_read lines given) fault)
+      (line_of_fault old stops.TextEnd has lines given line_fault.kind line_fault.place at.keeps.fault at.keeps.at (end_within full line_fault is_line_fault))))
 
   -- the last line
   last_line : (mid : Scan) → is_final has.scans.stops.0.state.mode ≡ true → Tallies mid (fresh (pieces_at has.scans.stops.0.state)) → stack_of old.state.scan.brackets ≡ [] → 0 < byte_len has.scans.read → IsScannedLine (line_start (first_mode old.state.place)) mid has.scans.read 0 (pieces_at has.scans.stops.0.state)

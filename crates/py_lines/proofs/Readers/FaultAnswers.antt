@@ -24,7 +24,7 @@ use Rattle.py_lines.specs.declared.scan.Stop.TheVariants as stops
 use Rattle.py_lines.specs.declared.source.Source.{Source}
 use Rattle.py_lines.specs.Private.Machine.{moved, move_of, Bracket, brackets_of}
 use Rattle.py_lines.specs.Private.ScanMachine.{meet_of, scan_step, StringsFit, IsScanSound}
-use Rattle.py_lines.specs.declared.scan.Flaw.{Flaw}
+use Rattle.py_lines.specs.declared.scan.LineFault.{LineFault}
 use Rattle.py_lines.specs.Private.Scan.{line_start, IsUnderWay, none_open, is_return_mode, stack_of, stack_if, IsRefusal}
 use Rattle.py_lines.specs.Reader.View.{reader_of}
 use Rattle.py_lines.specs.Private.LineState.{IsFaultAfter, first_mode}
@@ -128,26 +128,26 @@ fault_as fault kind offset characters others same at spell is =
     subst (λ t. IsCharacterFault fault.kind t fault.offset) spell (subst (λ k. IsCharacterFault k characters fault.offset) (sym same) (subst (λ o. IsCharacterFault kind characters o) at is))
 
 -- the next character was refused
-pub refused_place_within : (old : Source) (c : ℕ) (has : HasScanned old (stops.Refused c)) (flaw : Flaw) → IsRefusal old.state.scan c flaw → Within has.scans.read flaw.place
-refused_place_within old c has flaw is = refused_within old.state.place old.state.scan has.scans.read has.scans.stops.0 c has.scans.stops.3 flaw is
+pub refused_place_within : (old : Source) (c : ℕ) (has : HasScanned old (stops.Refused c)) (line_fault : LineFault) → IsRefusal old.state.scan c line_fault → Within has.scans.read line_fault.place
+refused_place_within old c has line_fault is = refused_within old.state.place old.state.scan has.scans.read has.scans.stops.0 c has.scans.stops.3 line_fault is
 
-pub fails_at_character : (old new : Source) (c : ℕ) (flaw : Flaw) (error : LexError) (has : HasScanned old (stops.Refused c)) (at : FailsAfter old flaw.kind flaw.place error new) → IsRefusal old.state.scan c flaw → Fails (reader_of old) at.keeps.fault (reader_of new)
-fails_at_character old new c flaw error has at is_flaw =
+pub fails_at_character : (old new : Source) (c : ℕ) (line_fault : LineFault) (error : LexError) (has : HasScanned old (stops.Refused c)) (at : FailsAfter old line_fault.kind line_fault.place error new) → IsRefusal old.state.scan c line_fault → Fails (reader_of old) at.keeps.fault (reader_of new)
+fails_at_character old new c line_fault error has at is_line_fault =
     let stop : Stop = stops.Refused c in
     let way = has.scans.stops.0 in
     let more = has.scans.stops.1 in
-    fails old new flaw.kind flaw.place error at has.no_fault has.more (λ lines given.
+    fails old new line_fault.kind line_fault.place error at has.no_fault has.more (λ lines given.
     let s = situation old stop lines has given in
     let base = s.given.first.pieces in
     let j = joins old stop has lines given way in
     let follows : s.after ≡ c ∷ more = encodes_same s.after (c ∷ more) (s.follow ∙ has.scans.stops.2) in
     let open_yet = open_return way.state.mode way.state.done way.state.held c (stack_of old.state.scan.brackets) way.stacked has.scans.stops.3 (ap (λ (m : Mode). (is_return_mode m && none_open (stack_of old.state.scan.brackets)) && not (is_line_feed c)) (sym way.tallies.counts.mode) ∙ has.scans.stops.4) in
     let spell = ap (λ t. (spelled base ++ has.scans.read) ++ t) (sym follows) ∙ whole old stop has lines given in
-    let fault = refused_fault old.state.place base (level old stop has lines given) (strings old stop has lines given) (begins old stop has lines given) old.state.scan has.scans.read way c more (subst (λ t. AreReadBefore base (has.scans.read ++ t)) follows (base_fit old stop has lines given)) has.scans.stops.3 flaw is_flaw in
-    let place : byte_len (spelled base) + flaw.place ≡ at.keeps.fault.offset = ap (λ n. n + flaw.place) (sym s.given.first.here) ∙ sym at.keeps.at.place in
+    let fault = refused_fault old.state.place base (level old stop has lines given) (strings old stop has lines given) (begins old stop has lines given) old.state.scan has.scans.read way c more (subst (λ t. AreReadBefore base (has.scans.read ++ t)) follows (base_fit old stop has lines given)) has.scans.stops.3 line_fault is_line_fault in
+    let place : byte_len (spelled base) + line_fault.place ≡ at.keeps.fault.offset = ap (λ n. n + line_fault.place) (sym s.given.first.here) ∙ sym at.keeps.at.place in
     subst (λ l. IsLexedToFault old.bytes.now l at.keeps.fault) (sym s.given.first.cut)
     (refused_at_character old.bytes.now s.given.first.characters s.given.first.tail (spelled base ++ has.scans.read) more c j.state j.st base at.keeps.fault s.given.first.decodes spell j.steps
     (dead_at base has.scans.read s.after more way.state (stack_of old.state.scan.brackets) c j (level old stop has lines given) follows has.scans.stops.3)
     (has_prefix old stop has lines given way open_yet)
-    (fault_as at.keeps.fault flaw.kind (byte_len (spelled base) + flaw.place) _ _ at.keeps.at.is place spell fault)
-    (line_of_fault old stop has lines given flaw.kind flaw.place at.keeps.fault at.keeps.at (refused_place_within old c has flaw is_flaw))))
+    (fault_as at.keeps.fault line_fault.kind (byte_len (spelled base) + line_fault.place) _ _ at.keeps.at.is place spell fault)
+    (line_of_fault old stop has lines given line_fault.kind line_fault.place at.keeps.fault at.keeps.at (refused_place_within old c has line_fault is_line_fault))))

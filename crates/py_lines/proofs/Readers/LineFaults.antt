@@ -14,11 +14,11 @@ use Rattle.py_lines.specs.declared.mode.Mode.{Mode}
 use Rattle.py_lines.specs.declared.mode.Mode.TheVariants as modes
 use Rattle.py_lines.specs.declared.mode.Move.{Move}
 use Rattle.py_lines.specs.declared.mode.Move.TheVariants as moves
-use Rattle.py_lines.specs.declared.scan.Flaw.{Flaw}
+use Rattle.py_lines.specs.declared.scan.LineFault.{LineFault}
 use Rattle.py_lines.specs.declared.scan.Scan.{Scan}
 use Rattle.py_lines.specs.Private.Machine.{Scanned, moved, in_short, is_after_backslash, is_final, character_kind, end_kind, end_place, top_place, Bracket, brackets_after, brackets_of}
 use Rattle.py_lines.specs.Private.FieldMachine.{FieldMove, closes, Level, FieldScanned, frames}
-use Rattle.py_lines.specs.Private.FieldFlaws.{cause_in, cause_place}
+use Rattle.py_lines.specs.Private.FieldFaults.{cause_in, cause_place}
 use Rattle.py_lines.specs.Private.FieldScan.{unfinished_round, IsUnfinishedAt}
 use Rattle.py_lines.specs.Private.ScanMachine.{string_state, string_move, fielded_move, has_room_in, scan_step, StringsFit, IsScanSound}
 use Rattle.py_lines.specs.Private.LineState.{first_mode}
@@ -46,13 +46,13 @@ pub same_kind : (m n : Mode) (c : ℕ) → in_short m ≡ in_short n → is_afte
 same_kind m n c short slash = rw (short, slash) refl
 
 -- outside strings with fields
-refusal_plain : (m : Mode) (scan : Scan) (c : ℕ) (flaw : Flaw) → (m ≡ modes.Fielded → ⊥) → IsRefusalIn m scan c flaw → (flaw.kind ≡ character_kind m c) × (flaw.place ≡ refused_place scan)
-refusal_plain modes.Fielded scan c flaw other is = absurd (other refl)
-refusal_plain m scan c flaw other is = is
+refusal_plain : (m : Mode) (scan : Scan) (c : ℕ) (line_fault : LineFault) → (m ≡ modes.Fielded → ⊥) → IsRefusalIn m scan c line_fault → (line_fault.kind ≡ character_kind m c) × (line_fault.place ≡ refused_place scan)
+refusal_plain modes.Fielded scan c line_fault other is = absurd (other refl)
+refusal_plain m scan c line_fault other is = is
 
-unfinished_plain : (m : Mode) (scan : Scan) (flaw : Flaw) → (m ≡ modes.Fielded → ⊥) → IsUnfinishedIn m scan (Some flaw) → IsPlainUnfinished scan (Some flaw)
-unfinished_plain modes.Fielded scan flaw other is = absurd (other refl)
-unfinished_plain m scan flaw other is = is
+unfinished_plain : (m : Mode) (scan : Scan) (line_fault : LineFault) → (m ≡ modes.Fielded → ⊥) → IsUnfinishedIn m scan (Some line_fault) → IsPlainUnfinished scan (Some line_fault)
+unfinished_plain modes.Fielded scan line_fault other is = absurd (other refl)
+unfinished_plain m scan line_fault other is = is
 
 -- a text that may end there
 pub finished : (scan : Scan) → IsUnfinished scan None → (is_final scan.piece.mode ≡ true) × (stack_of scan.brackets ≡ [])
@@ -121,19 +121,19 @@ module _ (n : ℕ) (base : List Piece) (level : brackets_of base ≡ Some []) (s
       ap length one ∙ length-shift (byte_len (spelled base)) (stack_of scan.brackets)
 
   -- the next character is refused
-  module _ (c : ℕ) (after : List ℕ) (fit : AreReadBefore base (read ++ c ∷ after)) (refuses : stack_if (scan_step way.state c) ≡ None) (flaw : Flaw) (is_flaw : IsRefusal scan c flaw) where
+  module _ (c : ℕ) (after : List ℕ) (fit : AreReadBefore base (read ++ c ∷ after)) (refuses : stack_if (scan_step way.state c) ≡ None) (line_fault : LineFault) (is_line_fault : IsRefusal scan c line_fault) where
     abbrev HasFault : Type 0
-    HasFault = IsCharacterFault flaw.kind ((spelled base ++ read) ++ c ∷ after) (byte_len (spelled base) + flaw.place)
+    HasFault = IsCharacterFault line_fault.kind ((spelled base ++ read) ++ c ∷ after) (byte_len (spelled base) + line_fault.place)
 
-    has_fault : (kind : FaultKind) (place : ℕ) → flaw.kind ≡ kind → byte_len (spelled base) + flaw.place ≡ place → IsCharacterFault kind ((spelled base ++ read) ++ c ∷ after) place → HasFault
-    has_fault kind place same at fault = subst (λ k. IsCharacterFault k ((spelled base ++ read) ++ c ∷ after) (byte_len (spelled base) + flaw.place)) (sym same) (subst (λ o. IsCharacterFault kind ((spelled base ++ read) ++ c ∷ after) o) (sym at) fault)
+    has_fault : (kind : FaultKind) (place : ℕ) → line_fault.kind ≡ kind → byte_len (spelled base) + line_fault.place ≡ place → IsCharacterFault kind ((spelled base ++ read) ++ c ∷ after) place → HasFault
+    has_fault kind place same at fault = subst (λ k. IsCharacterFault k ((spelled base ++ read) ++ c ∷ after) (byte_len (spelled base) + line_fault.place)) (sym same) (subst (λ o. IsCharacterFault kind ((spelled base ++ read) ++ c ∷ after) o) (sym at) fault)
 
     here : Joined base read way.state (stack_of scan.brackets) (c ∷ after)
     here = joined n base (c ∷ after) level strings read way.state (stack_of scan.brackets) fit is (way_goes way)
 
     elsewhere : (j : Joined base read way.state (stack_of scan.brackets) (c ∷ after)) → (way.state.mode ≡ modes.Fielded → ⊥) → HasFault
     elsewhere j other =
-        let own = refusal_plain scan.piece.mode scan c flaw (λ h. other (sym way.tallies.counts.mode ∙ h)) is_flaw in
+        let own = refusal_plain scan.piece.mode scan c line_fault (λ h. other (sym way.tallies.counts.mode ∙ h)) is_line_fault in
         let stopped = refused_at base read (c ∷ after) after way.state (stack_of scan.brackets) c j level refl refuses in
         let flags : in_short scan.piece.mode || is_after_backslash scan.piece.mode ≡ in_short way.state.mode || is_after_backslash way.state.mode = ap (λ (m : Mode). in_short m || is_after_backslash m) way.tallies.counts.mode in
         let state_flags : in_short way.state.mode || is_after_backslash way.state.mode ≡ in_short j.state.mode || is_after_backslash j.state.mode = ap (λ (b : Bool). b || is_after_backslash way.state.mode) (sym j.short) ∙ ap (λ (b : Bool). in_short j.state.mode || b) (sym j.slash) in
@@ -153,7 +153,7 @@ module _ (n : ℕ) (base : List Piece) (level : brackets_of base ≡ Some []) (s
         let at = j.inside fielded in
         let stopped = refused_at base read (c ∷ after) after way.state (stack_of scan.brackets) c j level refl refuses in
         let stuck = refused_string scan way.state.done way.state.held u c way.stacked own.steps (subst (λ m. stack_if (scan_step (scanned way.state.done m way.state.held) c) ≡ None) fielded refuses) in
-        let told = subst (λ m. IsRefusalIn m scan c flaw) (way.tallies.counts.mode ∙ fielded) is_flaw in
+        let told = subst (λ m. IsRefusalIn m scan c line_fault) (way.tallies.counts.mode ∙ fielded) is_line_fault in
         let named = told u own.stands stuck in
         let depth : length j.st ≡ depth_of scan.brackets = stack_is j.state j.st at j.steps.stack in
         let cause_same = ap (λ k. cause_in (k + frames u) u.mode c) (sym depth) in
@@ -165,17 +165,17 @@ module _ (n : ℕ) (base : List Piece) (level : brackets_of base ≡ Some []) (s
     refused_fault = ⊎_elim (inside here) (elsewhere here) (fielded_or way.state.mode)
 
   -- the text ends there, where something is open
-  module _ (fit : AreReadBefore base (read ++ [])) (some : 0 < byte_len read) (flaw : Flaw) (is_flaw : IsUnfinished scan (Some flaw)) where
+  module _ (fit : AreReadBefore base (read ++ [])) (some : 0 < byte_len read) (line_fault : LineFault) (is_line_fault : IsUnfinished scan (Some line_fault)) where
     abbrev EndsSo : Type 0
-    EndsSo = IsEndFault flaw.kind (spelled base ++ read) [] (byte_len (spelled base) + flaw.place)
+    EndsSo = IsEndFault line_fault.kind (spelled base ++ read) [] (byte_len (spelled base) + line_fault.place)
 
-    ends_so : (kind : FaultKind) (place : ℕ) → flaw.kind ≡ kind → byte_len (spelled base) + flaw.place ≡ place → IsEndFault kind (spelled base ++ read) [] place → EndsSo
-    ends_so kind place same at fault = subst (λ k. IsEndFault k (spelled base ++ read) [] (byte_len (spelled base) + flaw.place)) (sym same) (subst (λ o. IsEndFault kind (spelled base ++ read) [] o) (sym at) fault)
+    ends_so : (kind : FaultKind) (place : ℕ) → line_fault.kind ≡ kind → byte_len (spelled base) + line_fault.place ≡ place → IsEndFault kind (spelled base ++ read) [] place → EndsSo
+    ends_so kind place same at fault = subst (λ k. IsEndFault k (spelled base ++ read) [] (byte_len (spelled base) + line_fault.place)) (sym same) (subst (λ o. IsEndFault kind (spelled base ++ read) [] o) (sym at) fault)
 
     ending : Joined base read way.state (stack_of scan.brackets) []
     ending = joined n base [] level strings read way.state (stack_of scan.brackets) fit is (way_goes way)
 
-    open_from : (j : Joined base read way.state (stack_of scan.brackets) []) → IsOpenFrom scan flaw.place → ((is_final j.state.mode ≡ false) ⊎ ((b : Bracket) × (others : List Bracket) × (j.st ≡ b ∷ others))) × (byte_len (spelled base) + flaw.place ≡ end_place j.state j.st)
+    open_from : (j : Joined base read way.state (stack_of scan.brackets) []) → IsOpenFrom scan line_fault.place → ((is_final j.state.mode ≡ false) ⊎ ((b : Bracket) × (others : List Bracket) × (j.st ≡ b ∷ others))) × (byte_len (spelled base) + line_fault.place ≡ end_place j.state j.st)
     open_from j (inl (unfinal, at)) =
         let both = j.same some in
         let end_is : is_final j.state.mode ≡ false = ap (λ (x : Scanned). is_final x.mode) both.0 ∙ ap is_final (sym way.tallies.counts.mode) ∙ unfinal in
@@ -189,7 +189,7 @@ module _ (n : ℕ) (base : List Piece) (level : brackets_of base ≡ Some []) (s
 
     ends_elsewhere : (j : Joined base read way.state (stack_of scan.brackets) []) → (way.state.mode ≡ modes.Fielded → ⊥) → EndsSo
     ends_elsewhere j other =
-        let own = unfinished_plain scan.piece.mode scan flaw (λ h. other (sym way.tallies.counts.mode ∙ h)) is_flaw in
+        let own = unfinished_plain scan.piece.mode scan line_fault (λ h. other (sym way.tallies.counts.mode ∙ h)) is_line_fault in
         let found = open_from j own.1 in
         ends_so _ _ (own.0 ∙ ap end_kind way.tallies.counts.mode ∙ sym (ap (λ (x : Scanned). end_kind x.mode) (j.same some).0)) found.1
         (ends_plain (spelled base ++ read) j.state j.st j.steps (j.plain other) found.0)
@@ -199,14 +199,14 @@ module _ (n : ℕ) (base : List Piece) (level : brackets_of base ≡ Some []) (s
         let own = string_in fielded in
         let u = own.state in
         let at = j.inside fielded in
-        let told = subst (λ m. IsUnfinishedIn m scan (Some flaw)) (way.tallies.counts.mode ∙ fielded) is_flaw in
+        let told = subst (λ m. IsUnfinishedIn m scan (Some line_fault)) (way.tallies.counts.mode ∙ fielded) is_line_fault in
         let named = told u own.stands in
         let depth : length j.st ≡ depth_of scan.brackets = stack_is j.state j.st at j.steps.stack in
         let start : byte_len (spelled base) + scan.piece.start ≡ byte_len (spelled j.state.done) = sym done_bytes ∙ sym (ap (λ (x : Scanned). byte_len (spelled x.done)) at) in
         ends_so _ _ named.2 refl
         (ends_fielded (spelled base ++ read) j.state j.st j.steps (ap (λ (x : Scanned). x.mode) at ∙ fielded) u (ap (λ (x : Scanned). string_state x.held) at ∙ own.steps) named.0
-        (ap (λ k. unfinished_round k u) depth ∙ named.1) (byte_len (spelled base) + flaw.place)
-        (subst (λ k. IsUnfinishedAt k u named.0 (byte_len (spelled base) + flaw.place)) start (unfinished_shift (byte_len (spelled base)) scan.piece.start u named.0 flaw.place named.3)))
+        (ap (λ k. unfinished_round k u) depth ∙ named.1) (byte_len (spelled base) + line_fault.place)
+        (subst (λ k. IsUnfinishedAt k u named.0 (byte_len (spelled base) + line_fault.place)) start (unfinished_shift (byte_len (spelled base)) scan.piece.start u named.0 line_fault.place named.3)))
 
     pub unfinished_fault : EndsSo
     unfinished_fault = ⊎_elim (ends_inside ending) (ends_elsewhere ending) (fielded_or way.state.mode)
@@ -252,14 +252,14 @@ before (suc n) =
     record { base = end ∷ []; level = refl; strings = ((λ h. cc), tt); is = Base.lined [] end refl refl (λ rest. tt) refl; fit = λ rest. (feed refl, refl, refl, tt) }
 
 -- the fault of a character that is refused stands in the line, and so does that of the text's end
-pub refused_within : (n : ℕ) (scan : Scan) (read : List ℕ) (way : IsUnderWay (first_mode n) scan read) (c : ℕ) → stack_if (scan_step way.state c) ≡ None → (flaw : Flaw) → IsRefusal scan c flaw → Within read flaw.place
-refused_within n scan read way c refuses flaw is_flaw =
+pub refused_within : (n : ℕ) (scan : Scan) (read : List ℕ) (way : IsUnderWay (first_mode n) scan read) (c : ℕ) → stack_if (scan_step way.state c) ≡ None → (line_fault : LineFault) → IsRefusal scan c line_fault → Within read line_fault.place
+refused_within n scan read way c refuses line_fault is_line_fault =
     let b = before n in
-    within_line (spelled b.base) read flaw.place
-    (before_character (spelled b.base ++ read) c flaw.kind (byte_len (spelled b.base) + flaw.place) (refused_fault n b.base b.level b.strings b.is scan read way c [] (b.fit (read ++ c ∷ [])) refuses flaw is_flaw))
+    within_line (spelled b.base) read line_fault.place
+    (before_character (spelled b.base ++ read) c line_fault.kind (byte_len (spelled b.base) + line_fault.place) (refused_fault n b.base b.level b.strings b.is scan read way c [] (b.fit (read ++ c ∷ [])) refuses line_fault is_line_fault))
 
-pub unfinished_within : (n : ℕ) (scan : Scan) (read : List ℕ) (way : IsUnderWay (first_mode n) scan read) → 0 < byte_len read → (flaw : Flaw) → IsUnfinished scan (Some flaw) → Within read flaw.place
-unfinished_within n scan read way some flaw is_flaw =
+pub unfinished_within : (n : ℕ) (scan : Scan) (read : List ℕ) (way : IsUnderWay (first_mode n) scan read) → 0 < byte_len read → (line_fault : LineFault) → IsUnfinished scan (Some line_fault) → Within read line_fault.place
+unfinished_within n scan read way some line_fault is_line_fault =
     let b = before n in
-    within_line (spelled b.base) read flaw.place
-    (field_fault_prefix flaw.kind (spelled b.base ++ read) [] (byte_len (spelled b.base) + flaw.place) (at_end (unfinished_fault n b.base b.level b.strings b.is scan read way (b.fit (read ++ [])) some flaw is_flaw)))
+    within_line (spelled b.base) read line_fault.place
+    (field_fault_prefix line_fault.kind (spelled b.base ++ read) [] (byte_len (spelled b.base) + line_fault.place) (at_end (unfinished_fault n b.base b.level b.strings b.is scan read way (b.fit (read ++ [])) some line_fault is_line_fault)))

@@ -18,7 +18,7 @@ use Rattle.py_lines.specs.declared.mode.Move.{Move}
 use Rattle.py_lines.specs.declared.mode.Move.TheVariants as moves
 use Rattle.py_lines.specs.Private.Machine.{Scanned, moved, short_move, move_of, class_of, fresh, in_short, in_long, is_after_backslash, is_final, character_kind, character_place, end_kind, end_place, top_place, Bracket, brackets_of}
 use Rattle.py_lines.specs.Private.FieldMachine.{At, after_brace, FieldMode, plain, opened, empty, body, Level, FieldScanned, field_state, field_text_start, field_step, field_steps_from, have_room, has_room, frames, levels_open, before, text_place, after_open_backslash, in_open_short, InSpecificationOf}
-use Rattle.py_lines.specs.Private.FieldFlaws.{is_waiting, quotes_specification, cause_in, cause_place, here, piece_start, field_start, unfinished_code, unfinished_literal, unfinished_in, unfinished_at, unfinished_place}
+use Rattle.py_lines.specs.Private.FieldFaults.{is_waiting, quotes_specification, cause_in, cause_place, here, piece_start, field_start, unfinished_code, unfinished_literal, unfinished_in, unfinished_at, unfinished_place}
 use Rattle.py_lines.specs.Private.ScanMachine.{string_state, meet_of, opened_move, IsInString}
 use Rattle.py_lines.specs.Private.FieldScan.{unfinished_with, unfinished_round, IsUnfinishedAt}
 use Rattle.py_lines.proofs.FieldSoundness.OpenEnds.{short_class}

@@ -17,7 +17,7 @@ use Rattle.py_lines.specs.declared.fault.FaultKind.{FaultKind}
 use Rattle.py_lines.specs.declared.fault.FaultKind.TheVariants.{BadUtf8}
 use Rattle.py_lines.specs.declared.fault.LexError.{LexError}
 use Rattle.py_lines.specs.declared.fault.LexError.TheVariants as lex
-use Rattle.py_lines.specs.declared.scan.Flaw.{Flaw}
+use Rattle.py_lines.specs.declared.scan.LineFault.{LineFault}
 use Rattle.py_lines.specs.declared.scan.Scan.{Scan}
 use Rattle.py_lines.specs.declared.scan.Stop.{Stop}
 use Rattle.py_lines.specs.declared.scan.Stop.TheVariants as stops
@@ -77,9 +77,9 @@ pub record RefusesNext (old : Feed) (read : List ℕ) (c : ℕ) (error : LexErro
   pub way : IsUnderWay (first_mode old.state.place) old.state.scan read
   pub refuses : stack_if (scan_step way.state c) ≡ None
   pub not_yet : IsNotEnded old.state.scan c
-  pub flaw : Flaw
-  pub is_flaw : IsRefusal old.state.scan c flaw
-  pub fails : FailsAt old flaw.kind flaw.place error new
+  pub line_fault : LineFault
+  pub is_line_fault : IsRefusal old.state.scan c line_fault
+  pub fails : FailsAt old line_fault.kind line_fault.place error new
 
 -- a line has ended in what is held
 pub record EndsLineHeld (end_len : ℕ) (new : Feed) : Type 0 where

@@ -15,7 +15,7 @@ use Rattle.py_lines.specs.declared.mode.Move.{Move}
 use Rattle.py_lines.specs.declared.mode.Mode.TheVariants as modes
 use Rattle.py_lines.specs.declared.mode.Move.TheVariants as moves
 use Rattle.py_lines.specs.declared.host.StringWithFields.{StringWithFields}
-use Rattle.py_lines.specs.declared.scan.Flaw.{Flaw}
+use Rattle.py_lines.specs.declared.scan.LineFault.{LineFault}
 use Rattle.py_lines.specs.declared.field_scan.Region.{Region}
 use Rattle.py_lines.specs.declared.field_scan.Region.TheVariants as regions
 use Rattle.py_lines.specs.declared.field_scan.At.{At}
@@ -33,7 +33,7 @@ use Rattle.py_lines.specs.declared.field_scan.FieldProgress.TheVariants as progr
 use Rattle.py_lines.specs.Private.Machine.{Bracket, brackets_of, Holds}
 use Rattle.py_lines.specs.Private.FieldMachine as spots
 use Rattle.py_lines.specs.Private.FieldMachine.{between, after_one, after_two, after_slash, after_return, after_name, after_brace, plain, opened, empty, body, grows, closes, breaks, begins_code, opens_field, ends_field, refused, long_host, between_move, body_move, Level, FieldScanned, field_state, field_move, field_step, before, levels_open, frames, is_after_brace}
-use Rattle.py_lines.specs.Private.FieldFlaws.{is_waiting, here, piece_start, field_start, cause_in, cause_place, unfinished_literal, unfinished_in, unfinished_place}
+use Rattle.py_lines.specs.Private.FieldFaults.{is_waiting, here, piece_start, field_start, cause_in, cause_place, unfinished_literal, unfinished_in, unfinished_place}
 use Rattle.py_lines.specs.Private.ScanMachine.{host_in, meet_of, fielded_move, IsInString}
 
 -- what the code's words are in the machine's
@@ -204,15 +204,15 @@ StandsInText scan depth (Some quote) =
     × (depth + length scan.frames.items ≤ 100)
 
 -- what is wrong where such a string refuses a character
-abbrev pub IsFieldFlaw : ℕ → ℕ → FieldScanned → ℕ → Flaw → Type 0
-IsFieldFlaw base depth t c flaw =
+abbrev pub IsFieldFault : ℕ → ℕ → FieldScanned → ℕ → LineFault → Type 0
+IsFieldFault base depth t c line_fault =
     let cause = cause_in (depth + frames t) t.mode c in
-    (flaw.kind ≡ kind_of_cause cause) × (flaw.place ≡ base + cause_place t cause)
+    (line_fault.kind ≡ kind_of_cause cause) × (line_fault.place ≡ base + cause_place t cause)
 
-abbrev pub RefusesField : FieldScan → ℕ → ℕ → ℕ → Flaw → Type 0
-RefusesField scan c place depth flaw =
+abbrev pub RefusesField : FieldScan → ℕ → ℕ → ℕ → LineFault → Type 0
+RefusesField scan c place depth line_fault =
     (base : ℕ) (t : FieldScanned) → Follows scan base t → IsInString t → place ≡ base + here t
-    → fielded_move depth (Some t) c ≡ moves.Refused → IsFieldFlaw base depth t c flaw
+    → fielded_move depth (Some t) c ≡ moves.Refused → IsFieldFault base depth t c line_fault
 
 -- what is open at the end of such a string, where so many brackets are open round it
 abbrev pub unfinished_with : ℕ → List Level → List ℕ → spots.FieldMode → Option Unfinished
@@ -230,14 +230,14 @@ IsUnfinishedAt base t open_bracket place =
 IsUnfinishedAt base t what place = place ≡ base + unfinished_place t what
 
 -- what is wrong where the text ends in such a string
-abbrev pub IsFieldEnd : ℕ → ℕ → FieldScanned → Flaw → Type 0
-IsFieldEnd base depth t flaw =
-    (what : Unfinished) × (unfinished_round depth t ≡ Some what) × (flaw.kind ≡ kind_of_unfinished what)
-    × IsUnfinishedAt base t what flaw.place
+abbrev pub IsFieldEnd : ℕ → ℕ → FieldScanned → LineFault → Type 0
+IsFieldEnd base depth t line_fault =
+    (what : Unfinished) × (unfinished_round depth t ≡ Some what) × (line_fault.kind ≡ kind_of_unfinished what)
+    × IsUnfinishedAt base t what line_fault.place
 
-abbrev pub EndsField : FieldScan → ℕ → ℕ → Flaw → Type 0
-EndsField scan place depth flaw =
-    (base : ℕ) (t : FieldScanned) → Follows scan base t → IsInString t → place ≡ base + here t → IsFieldEnd base depth t flaw
+abbrev pub EndsField : FieldScan → ℕ → ℕ → LineFault → Type 0
+EndsField scan place depth line_fault =
+    (base : ℕ) (t : FieldScanned) → Follows scan base t → IsInString t → place ≡ base + here t → IsFieldEnd base depth t line_fault
 
 -- the field that is open stands at this byte, where no bracket is open in it
 abbrev pub PlacesField : FieldScan → ℕ → Type 0
@@ -245,9 +245,9 @@ PlacesField scan place =
     (base : ℕ) (t : FieldScanned) → Follows scan base t → t.openers ≡ [] → (t.outer ≡ [] → piece_start t ≡ 0) → place ≡ base + field_start t
 
 -- what is wrong where the text ends in this piece of a field's code
-abbrev pub EndsCode : FieldScan → Mode → Flaw → Type 0
-EndsCode scan m flaw =
-    (base depth : ℕ) (t : FieldScanned) → Follows scan base t → code_mode m ≡ t.mode → IsInString t → IsFieldEnd base depth t flaw
+abbrev pub EndsCode : FieldScan → Mode → LineFault → Type 0
+EndsCode scan m line_fault =
+    (base depth : ℕ) (t : FieldScanned) → Follows scan base t → code_mode m ≡ t.mode → IsInString t → IsFieldEnd base depth t line_fault
 
 -- the scan with no piece open at this byte of the code
 abbrev pub freed_at : FieldScan → ℕ → FieldScan

@@ -11,7 +11,7 @@ use Rattle.py_lines.specs.declared.fault.LexError.TheVariants as lex
 use Rattle.py_lines.specs.declared.line_state.LineState.{LineState}
 use Rattle.py_lines.specs.declared.mode.Mode.{Mode}
 use Rattle.py_lines.specs.declared.mode.Mode.TheVariants as modes
-use Rattle.py_lines.specs.declared.scan.Flaw.{Flaw}
+use Rattle.py_lines.specs.declared.scan.LineFault.{LineFault}
 use Rattle.py_lines.specs.declared.scan.Scan.{Scan}
 
 -- what is open where a line begins: a mark may stand at the text's start
@@ -63,7 +63,7 @@ pub record KeepsFault (old : LineState) (kind : FaultKind) (offset : ℕ) (bytes
 
 -- what is wrong where the text ends so many bytes after the characters that were scanned: they begin no character, or else
 -- something is open
-abbrev pub IsEndFlaw : Scan → ℕ → Option Flaw → Type 0
-IsEndFlaw scan rest None = (rest ≡ 0) × IsUnfinished scan None
-IsEndFlaw scan rest (Some flaw) =
-    ((0 < rest) × (flaw.kind ≡ BadUtf8) × (flaw.place ≡ scan.stop)) ⊎ ((rest ≡ 0) × IsUnfinished scan (Some flaw))
+abbrev pub IsEndLineFault : Scan → ℕ → Option LineFault → Type 0
+IsEndLineFault scan rest None = (rest ≡ 0) × IsUnfinished scan None
+IsEndLineFault scan rest (Some line_fault) =
+    ((0 < rest) × (line_fault.kind ≡ BadUtf8) × (line_fault.place ≡ scan.stop)) ⊎ ((rest ≡ 0) × IsUnfinished scan (Some line_fault))

@@ -11,9 +11,9 @@ use Rattle.py_lines.specs.Fields.{AreReadBefore}
 use Rattle.py_lines.specs.LogicalLine.{byte_len, line_ends, token, tokens_from, indent_of, kind_of, is_line_end_class}
 use Rattle.py_lines.specs.Private.Machine.{Scanned, fresh, token_of, Bracket, brackets_after, brackets_of, in_short, is_after_backslash, is_final, character_kind, end_kind}
 use Rattle.py_lines.specs.Private.FieldMachine.{FieldScanned, field_step}
-use Rattle.py_lines.specs.Private.FieldFlaws.{here}
+use Rattle.py_lines.specs.Private.FieldFaults.{here}
 use Rattle.py_lines.specs.Private.ScanMachine.{string_state, fielded_move, scan_step, scan_steps, IsInString, StringsFit, IsScanSound}
-use Rattle.py_lines.specs.Private.FieldScan.{Follows, IsFieldFlaw, IsFieldEnd}
+use Rattle.py_lines.specs.Private.FieldScan.{Follows, IsFieldFault, IsFieldEnd}
 use Rattle.py_lines.specs.declared.token.Token.{Token}
 use Rattle.py_lines.specs.declared.mode.Mode.{Mode}
 use Rattle.py_lines.specs.declared.mode.Mode.TheVariants as modes
@@ -31,7 +31,7 @@ use Rattle.py_lines.specs.declared.scan.Progress.{Progress}
 use Rattle.py_lines.specs.declared.scan.Progress.TheVariants as progress
 use Rattle.py_lines.specs.declared.scan.Stop.{Stop}
 use Rattle.py_lines.specs.declared.scan.Stop.TheVariants as stops
-use Rattle.py_lines.specs.declared.scan.Flaw.{Flaw}
+use Rattle.py_lines.specs.declared.scan.LineFault.{LineFault}
 use Rattle.py_lines.specs.declared.field_scan.FieldScan.{FieldScan}
 use Rattle.py_lines.specs.declared.scan.Scan.{Scan}
 
@@ -394,14 +394,14 @@ abbrev pub refused_place : Scan → ℕ
 refused_place scan = if in_short scan.piece.mode || is_after_backslash scan.piece.mode then scan.piece.start else scan.stop
 
 -- what is wrong where a character is refused, in each mode
-abbrev pub IsRefusalIn : Mode → Scan → ℕ → Flaw → Type 0
-IsRefusalIn modes.Fielded scan c flaw =
+abbrev pub IsRefusalIn : Mode → Scan → ℕ → LineFault → Type 0
+IsRefusalIn modes.Fielded scan c line_fault =
     (t : FieldScanned) → StandsInString scan t → fielded_move (depth_of scan.brackets) (Some t) c ≡ moves.Refused
-    → IsFieldFlaw scan.piece.start (depth_of scan.brackets) t c flaw
-IsRefusalIn m scan c flaw = (flaw.kind ≡ character_kind m c) × (flaw.place ≡ refused_place scan)
+    → IsFieldFault scan.piece.start (depth_of scan.brackets) t c line_fault
+IsRefusalIn m scan c line_fault = (line_fault.kind ≡ character_kind m c) × (line_fault.place ≡ refused_place scan)
 
-abbrev pub IsRefusal : Scan → ℕ → Flaw → Type 0
-IsRefusal scan c flaw = IsRefusalIn scan.piece.mode scan c flaw
+abbrev pub IsRefusal : Scan → ℕ → LineFault → Type 0
+IsRefusal scan c line_fault = IsRefusalIn scan.piece.mode scan c line_fault
 
 -- the innermost open bracket stands at this byte
 abbrev pub HasInnermostAt : List Bracket → ℕ → Type 0
@@ -414,16 +414,16 @@ IsOpenFrom scan place =
     ⊎ ((is_final scan.piece.mode ≡ true) × HasInnermostAt (stack_of scan.brackets) place)
 
 -- what is wrong where the text ends outside strings with fields: nothing, if it may end there
-abbrev pub IsPlainUnfinished : Scan → Option Flaw → Type 0
+abbrev pub IsPlainUnfinished : Scan → Option LineFault → Type 0
 IsPlainUnfinished scan None = (is_final scan.piece.mode ≡ true) × (stack_of scan.brackets ≡ [])
-IsPlainUnfinished scan (Some flaw) = (flaw.kind ≡ end_kind scan.piece.mode) × IsOpenFrom scan flaw.place
+IsPlainUnfinished scan (Some line_fault) = (line_fault.kind ≡ end_kind scan.piece.mode) × IsOpenFrom scan line_fault.place
 
 -- and in each mode: in such a string something is open
-abbrev pub IsUnfinishedIn : Mode → Scan → Option Flaw → Type 0
+abbrev pub IsUnfinishedIn : Mode → Scan → Option LineFault → Type 0
 IsUnfinishedIn modes.Fielded scan None = ⊥
-IsUnfinishedIn modes.Fielded scan (Some flaw) =
-    (t : FieldScanned) → StandsInString scan t → IsFieldEnd scan.piece.start (depth_of scan.brackets) t flaw
-IsUnfinishedIn m scan flaw = IsPlainUnfinished scan flaw
+IsUnfinishedIn modes.Fielded scan (Some line_fault) =
+    (t : FieldScanned) → StandsInString scan t → IsFieldEnd scan.piece.start (depth_of scan.brackets) t line_fault
+IsUnfinishedIn m scan line_fault = IsPlainUnfinished scan line_fault
 
-abbrev pub IsUnfinished : Scan → Option Flaw → Type 0
-IsUnfinished scan flaw = IsUnfinishedIn scan.piece.mode scan flaw
+abbrev pub IsUnfinished : Scan → Option LineFault → Type 0
+IsUnfinished scan line_fault = IsUnfinishedIn scan.piece.mode scan line_fault

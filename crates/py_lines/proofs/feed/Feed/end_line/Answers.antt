@@ -2,25 +2,25 @@ use Rattle.std.proofs.Common.{◌≡◌, ℕ, ◌-◌, ◌<◌, None, Some, Err,
 use Rattle.py_lines.specs.declared.fault.FaultKind.{FaultKind}
 use Rattle.py_lines.specs.declared.fault.LexError.{LexError}
 use Rattle.py_lines.specs.declared.feed.Feed.{Feed}
-use Rattle.py_lines.specs.declared.scan.Flaw.{Flaw}
+use Rattle.py_lines.specs.declared.scan.LineFault.{LineFault}
 use Rattle.py_lines.specs.Private.Feed.{EndsHeld, FailsAt, IsOpen, IsPartOfCharacter}
-use Rattle.py_lines.specs.Private.LineState.{IsEndFlaw}
+use Rattle.py_lines.specs.Private.LineState.{IsEndLineFault}
 use Rattle.py_lines.specs.Private.Scan.{is_returned}
 use Rattle.py_lines.proofs.Readers.LineAnswers.{Within, all_within}
 use Rattle.py_lines.proofs.Feeds.Steps.{open_order, open_stop, open_size, within_held}
-use Rattle.py_lines.proofs.Feeds.EndedHeld.{all_scanned, ends_so_bytes, ends_so_open, ends_so_plain, ends_so_returned, open_flaw_within}
+use Rattle.py_lines.proofs.Feeds.EndedHeld.{all_scanned, ends_so_bytes, ends_so_open, ends_so_plain, ends_so_returned, open_line_fault_within}
 use Rattle.py_lines.proofs.feed.Feed.end_line.Goals as goal
 
-flaw_within : (f : Feed) (read after : List ℕ) (o : IsOpen f read after) → 0 < length f.held.items → (held : ℕ) → held ≡ length f.held.items → (flaw : Flaw) → IsEndFlaw f.state.scan (held - f.state.scan.stop) (Some flaw) → Within read flaw.place
-flaw_within f read after o some held all flaw (inl (more, kind, place)) = subst (Within read) (sym place) (all_within read f.state.scan.stop (open_stop f read after o))
-flaw_within f read after o some held all flaw (inr (none, unfinished)) = open_flaw_within f read after o (all_scanned f read after o (omega (arith, all, none))) some flaw unfinished
+line_fault_within : (f : Feed) (read after : List ℕ) (o : IsOpen f read after) → 0 < length f.held.items → (held : ℕ) → held ≡ length f.held.items → (line_fault : LineFault) → IsEndLineFault f.state.scan (held - f.state.scan.stop) (Some line_fault) → Within read line_fault.place
+line_fault_within f read after o some held all line_fault (inl (more, kind, place)) = subst (Within read) (sym place) (all_within read f.state.scan.stop (open_stop f read after o))
+line_fault_within f read after o some held all line_fault (inr (none, unfinished)) = open_line_fault_within f read after o (all_scanned f read after o (omega (arith, all, none))) some line_fault unfinished
 
-flaw_fails : (f : Feed) (read after : List ℕ) (o : IsOpen f read after) → IsPartOfCharacter f after → 0 < length f.held.items → is_returned f.state.scan ≡ false → f.ready ≡ None → (held : ℕ) → held ≡ length f.held.items → (flaw : Flaw) → IsEndFlaw f.state.scan (held - f.state.scan.stop) (Some flaw) → (error : LexError) (new : Feed) → FailsAt f flaw.kind flaw.place error new → EndsHeld f (Err error) new
-flaw_fails f read after o part some not_yet not_ready held all flaw (inl (more, kind, place)) error new at =
-    let moved = subst (λ (k : FaultKind). FailsAt f k f.state.scan.stop error new) kind (subst (λ (n : ℕ). FailsAt f flaw.kind n error new) place at) in
+line_fault_fails : (f : Feed) (read after : List ℕ) (o : IsOpen f read after) → IsPartOfCharacter f after → 0 < length f.held.items → is_returned f.state.scan ≡ false → f.ready ≡ None → (held : ℕ) → held ≡ length f.held.items → (line_fault : LineFault) → IsEndLineFault f.state.scan (held - f.state.scan.stop) (Some line_fault) → (error : LexError) (new : Feed) → FailsAt f line_fault.kind line_fault.place error new → EndsHeld f (Err error) new
+line_fault_fails f read after o part some not_yet not_ready held all line_fault (inl (more, kind, place)) error new at =
+    let moved = subst (λ (k : FaultKind). FailsAt f k f.state.scan.stop error new) kind (subst (λ (n : ℕ). FailsAt f line_fault.kind n error new) place at) in
     ends_so_bytes f read after o new error part (omega (arith, all, more, open_size f read after o, open_stop f read after o)) moved not_ready
-flaw_fails f read after o part some not_yet not_ready held all flaw (inr (none, unfinished)) error new at =
-    ends_so_open f read after o new error flaw (all_scanned f read after o (omega (arith, all, none))) some not_yet unfinished at not_ready
+line_fault_fails f read after o part some not_yet not_ready held all line_fault (inr (none, unfinished)) error new at =
+    ends_so_open f read after o new error line_fault (all_scanned f read after o (omega (arith, all, none))) some not_yet unfinished at not_ready
 
 pub close-requires : goal.close-requires
 close-requires c = let o = c.requires.scanned in open_order c.args.self.now o.0 o.1 o.2
@@ -44,20 +44,20 @@ pub fail-requires-clause-within : goal.fail-requires-clause-within
 fail-requires-clause-within c =
     let o = c.requires.scanned in
     let f = c.args.self.now in
-    let w = within_held f o.0 o.1 o.2 c.in-Some.flaw.place (flaw_within f o.0 o.1 o.2 c.requires.some c.len.result (omega (arith, c.len.ensures)) c.in-Some.flaw c.in-Some.ensures) in
+    let w = within_held f o.0 o.1 o.2 c.in-Some.line_fault.place (line_fault_within f o.0 o.1 o.2 c.requires.some c.len.result (omega (arith, c.len.ensures)) c.in-Some.line_fault c.in-Some.ensures) in
     omega (arith, w.0, open_size f o.0 o.1 o.2)
 
 pub fail-requires-clause-text : goal.fail-requires-clause-text
 fail-requires-clause-text c =
     let o = c.requires.scanned in
     let f = c.args.self.now in
-    (within_held f o.0 o.1 o.2 c.in-Some.flaw.place (flaw_within f o.0 o.1 o.2 c.requires.some c.len.result (omega (arith, c.len.ensures)) c.in-Some.flaw c.in-Some.ensures)).2
+    (within_held f o.0 o.1 o.2 c.in-Some.line_fault.place (line_fault_within f o.0 o.1 o.2 c.requires.some c.len.result (omega (arith, c.len.ensures)) c.in-Some.line_fault c.in-Some.ensures)).2
 
 pub returns-in-Some : goal.returns-in-Some
 returns-in-Some c =
     let o = c.requires.scanned in
     let f = c.args.self.now in
-    flaw_fails f o.0 o.1 o.2 o.3 c.requires.some (sym c.is_returned.ensures ∙ c.if-is_returned.false) c.requires.not_ready c.len.result (omega (arith, c.len.ensures)) c.in-Some.flaw c.in-Some.ensures c.fail.result c.fail.new.self c.fail.ensures
+    line_fault_fails f o.0 o.1 o.2 o.3 c.requires.some (sym c.is_returned.ensures ∙ c.if-is_returned.false) c.requires.not_ready c.len.result (omega (arith, c.len.ensures)) c.in-Some.line_fault c.in-Some.ensures c.fail.result c.fail.new.self c.fail.ensures
 
 pub returns : goal.returns
 returns c =

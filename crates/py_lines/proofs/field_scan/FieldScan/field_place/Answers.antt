@@ -1,7 +1,7 @@
 use Rattle.std.proofs.Common.{ap, ◌∙◌, ◌∷◌, Some}
 use Rattle.py_lines.specs.declared.field_scan.Frame.{Frame}
 use Rattle.py_lines.specs.Private.FieldScan.{IsInnermostFrame, innermost_first}
-use Rattle.py_lines.proofs.FieldScans.Flaws.{field_in, bracket_place, none_place}
+use Rattle.py_lines.proofs.FieldScans.FieldFaults.{field_in, bracket_place, none_place}
 use Rattle.py_lines.proofs.field_scan.FieldScan.field_place.Goals as goal
 
 pub returns-in-Some-Field : goal.returns-in-Some-Field

@@ -9,7 +9,7 @@ use Rattle.py_lines.specs.declared.field_scan.At.TheVariants as ats
 use Rattle.py_lines.specs.Private.FieldMachine.{body, after_brace}
 use Rattle.py_lines.specs.Private.FieldScan.{mode_from, region_in, at_in}
 use Rattle.py_lines.specs.Private.ScanMachine.{host_in}
-use Rattle.py_lines.proofs.FieldScans.Flaws.{brace_end, brace_end_place}
+use Rattle.py_lines.proofs.FieldScans.FieldFaults.{brace_end, brace_end_place}
 use Rattle.py_lines.proofs.field_scan.FieldScan.unfinished.Goals as goal
 use Rattle.py_lines.proofs.field_scan.FieldScan.unfinished.Goals.{then-has_room, else-has_room}
 

@@ -2,7 +2,7 @@ use Rattle.std.proofs.Common.{sym, ap, ◌∙◌, ◌∷◌, Some, refl}
 use Rattle.py_lines.specs.Faults.{open_bracket, open_inside}
 use Rattle.py_lines.specs.declared.field_scan.Frame.{Frame}
 use Rattle.py_lines.specs.Private.FieldScan.{IsInnermostFrame, innermost_first}
-use Rattle.py_lines.proofs.FieldScans.Flaws.{bracket_end, field_end, code_inside, none_in}
+use Rattle.py_lines.proofs.FieldScans.FieldFaults.{bracket_end, field_end, code_inside, none_in}
 use Rattle.py_lines.proofs.field_scan.FieldScan.unfinished_code.Goals as goal
 
 pub returns-in-Some-Bracket : goal.returns-in-Some-Bracket

@@ -9,14 +9,14 @@ use Rattle.py_lines.proofs.source.Source.refuse.Goals as goal
 pub fail-requires-clause-within : goal.fail-requires-clause-within
 fail-requires-clause-within c =
     let s = c.args.self.now in
-    place_room s (Refused c.args.c) c.requires c.refusal-flaw.result.place (refused_place_within s c.args.c c.requires c.refusal-flaw.result c.refusal-flaw.ensures)
+    place_room s (Refused c.args.c) c.requires c.refusal-line_fault.result.place (refused_place_within s c.args.c c.requires c.refusal-line_fault.result c.refusal-line_fault.ensures)
 
 pub fail-requires-clause-boundary : goal.fail-requires-clause-boundary
 fail-requires-clause-boundary c =
     let s = c.args.self.now in
-    place_boundary s (Refused c.args.c) c.requires c.refusal-flaw.result.place (refused_place_within s c.args.c c.requires c.refusal-flaw.result c.refusal-flaw.ensures)
+    place_boundary s (Refused c.args.c) c.requires c.refusal-line_fault.result.place (refused_place_within s c.args.c c.requires c.refusal-line_fault.result c.refusal-line_fault.ensures)
 
 pub returns : goal.returns
 returns c =
     let s = c.args.self.now in
-    subst (λ (e : LexError). Advances s (Err e) c.fail.new.self) (sym c.fail.ensures.keeps.error_is) (fails_at_character s c.fail.new.self c.args.c c.refusal-flaw.result c.fail.result c.requires c.fail.ensures c.refusal-flaw.ensures)
+    subst (λ (e : LexError). Advances s (Err e) c.fail.new.self) (sym c.fail.ensures.keeps.error_is) (fails_at_character s c.fail.new.self c.args.c c.refusal-line_fault.result c.fail.result c.requires c.fail.ensures c.refusal-line_fault.ensures)

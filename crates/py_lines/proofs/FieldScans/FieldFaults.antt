@@ -19,7 +19,7 @@ use Rattle.py_lines.specs.declared.field_scan.Frame.TheVariants as frame
 use Rattle.py_lines.specs.declared.field_scan.FieldScan.{FieldScan}
 use Rattle.py_lines.specs.Private.Machine.{Bracket, brackets_of, in_short, in_long, is_after_backslash}
 use Rattle.py_lines.specs.Private.FieldMachine.{At, after_brace, FieldMode, body, Level, FieldScanned, frames, after_open_backslash, before, text_place}
-use Rattle.py_lines.specs.Private.FieldFlaws.{is_waiting, quotes_specification, cause_in, cause_place, here, piece_start, field_start, unfinished_code, unfinished_place}
+use Rattle.py_lines.specs.Private.FieldFaults.{is_waiting, quotes_specification, cause_in, cause_place, here, piece_start, field_start, unfinished_code, unfinished_place}
 use Rattle.py_lines.specs.Private.FieldScan.{innermost_first, bracket_frames, bracket_openers, FramesFollow, none_open, IsInnermostFrame, mode_from, code_mode, Follows, unfinished_with, unfinished_round, IsUnfinishedAt}
 use Rattle.py_lines.specs.Private.ScanMachine.{IsInString}
 use Rattle.py_lines.proofs.FieldScans.Frames.{innermost_first-length, frames-length, InList, list_of, innermost_field}
@@ -51,9 +51,9 @@ opening_cause depth m c full breaks slash closing opening = rw (full, breaks, sl
 pub other_cause : (depth : ℕ) (m : FieldMode) (c : ℕ) → (is_waiting m && (depth == 200)) ≡ false → is_break c ≡ false → after_open_backslash m ≡ false → is_closing c ≡ false → is_opening c ≡ false → quotes_specification m c ≡ false → cause_in depth m c ≡ begins_nothing
 other_cause depth m c full breaks slash closing opening quotes = rw (full, breaks, slash, closing, opening, quotes)
 
--- the flaw is that of the cause
-pub flaw_of : (base depth : ℕ) (t : FieldScanned) (c : ℕ) (cause : Cause) (kind : FaultKind) (place : ℕ) → cause_in (depth + frames t) t.mode c ≡ cause → kind ≡ kind_of_cause cause → place ≡ base + cause_place t cause → (kind ≡ kind_of_cause (cause_in (depth + frames t) t.mode c)) × (place ≡ base + cause_place t (cause_in (depth + frames t) t.mode c))
-flaw_of base depth t c cause kind place is kind_is place_is = (kind_is ∙ ap kind_of_cause (sym is), place_is ∙ ap (λ (x : Cause). base + cause_place t x) (sym is))
+-- the line_fault is that of the cause
+pub line_fault_of : (base depth : ℕ) (t : FieldScanned) (c : ℕ) (cause : Cause) (kind : FaultKind) (place : ℕ) → cause_in (depth + frames t) t.mode c ≡ cause → kind ≡ kind_of_cause cause → place ≡ base + cause_place t cause → (kind ≡ kind_of_cause (cause_in (depth + frames t) t.mode c)) × (place ≡ base + cause_place t (cause_in (depth + frames t) t.mode c))
+line_fault_of base depth t c cause kind place is kind_is place_is = (kind_is ∙ ap kind_of_cause (sym is), place_is ∙ ap (λ (x : Cause). base + cause_place t x) (sym is))
 
 -- the field that is open
 field_from : (base : ℕ) (outer : List Level) (done : List Piece) (openers : List ℕ) (fs : List Frame) (field : OpenField) → FramesFollow base outer done openers fs → IsInnermostFrame (Some (frame.Field field)) fs → (field.place ≡ base + (byte_len (before literal outer) - 1)) × (openers ≡ [])
