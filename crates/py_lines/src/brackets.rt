@@ -6,8 +6,8 @@ ghost use Rattle.py_lines.specs.Balance.{closing_of};
 use crate::character::{is_closing, is_opening};
 use std::alloc::{AllocError, Global};
 
-/// How many brackets may be open at once.
-const DEPTH: usize = 200;
+/// How many brackets and fields may be open at once.
+pub const DEPTH: usize = 200;
 
 /// The bracket that closes an opening one.
 pub fn closing_of(opener: char) -> char

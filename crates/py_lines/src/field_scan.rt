@@ -12,7 +12,7 @@ ghost use Rattle.py_lines.specs.Private.FieldScan.{at_in, region_in, mode_from, 
 ghost use Rattle.py_lines.specs.Private.FieldScan.{keeps_byte, meets_field, opened_with, stays_field};
 ghost use Rattle.py_lines.specs.Private.ScanMachine.{host_in};
 
-use crate::brackets::closing_of;
+use crate::brackets::{DEPTH, closing_of};
 use crate::character::{
     is_backslash, is_brace, is_break, is_closing, is_line_feed, is_opening, is_quote, is_return,
     is_space, is_word_character,
@@ -23,9 +23,6 @@ use crate::mode::{Mode, Move, Spelling, Start};
 use crate::scan::LineFault;
 use crate::whole_strings::text_len;
 use std::alloc::{AllocError, Global};
-
-/// How many brackets and fields may be open at once.
-const DEPTH: usize = 200;
 
 /// The two kinds of text that a string has outside its fields' code.
 #[derive(Clone, Copy)]

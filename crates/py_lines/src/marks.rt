@@ -1,7 +1,7 @@
 //! Where the next byte of a text stands that is not plain.
 
-ghost use Rattle.std.specs.Prelude.{◌≡◌, ◌+◌, ◌<◌, ◌≤◌, ℕ, List, false, length, slice_index};
-ghost use Rattle.py_lines.specs.Private.Marks.{FindsNext, HasMarks, is_mark, is_plain, is_set};
+ghost use Rattle.std.specs.Prelude.{◌≡◌, ◌+◌, ◌<◌, ◌≤◌, ℕ, length};
+ghost use Rattle.py_lines.specs.Private.Marks.{FindsNext, HasMarks, is_mark, is_set};
 
 use crate::class::special64;
 
@@ -83,14 +83,5 @@ impl Marks {
         } else {
             *self = Marks::at(text, to);
         }
-    }
-
-    /// The byte at this place, which was passed last, is not passed.
-    #[inline(always)]
-    pub fn keep(&mut self, place: usize)
-        requires { (self.old.base ≤ place) × (place < self.old.base + 64) }
-        ensures { (text : List ℕ) → HasMarks text (place + 1) self.old → is_plain (slice_index text place) ≡ false → HasMarks text place self.new }
-    {
-        self.bits |= 1 << (place - self.base);
     }
 }

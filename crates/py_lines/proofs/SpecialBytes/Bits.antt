@@ -1,9 +1,9 @@
--- The bits of a word of 64 after one is set, the lowest of them are cleared, or the lowest that is set is cleared.
-use Rattle.std.proofs.Common.{◌≡◌, ℕ, ◌+◌, ◌-◌, ◌*◌, ◌/◌, ◌%◌, ◌^◌, ◌<◌, min, true, false, not, ◌&&◌, ◌||◌, eqb, leb, bit_and, bit_or, sym, ap, ◌∙◌, inl, inr, arith, w64, pow_pos}
+-- The bits of a word of 64 after the lowest of them are cleared, or the lowest that is set.
+use Rattle.std.proofs.Common.{◌≡◌, ℕ, ◌+◌, ◌-◌, ◌*◌, ◌/◌, ◌%◌, ◌^◌, ◌<◌, min, true, false, not, ◌&&◌, eqb, leb, bit_and, sym, ap, ◌∙◌, inl, inr, arith, w64, pow_pos}
 use Rattle.std.specs.Int.{bit_at, trailing_zeros}
-use Rattle.std.proofs.lemmas.Bool.{cases_eq, cases_lt, cases_order, eq-eqb, le-leb, lt-leb, ne_eqb}
+use Rattle.std.proofs.lemmas.Bool.{cases_lt, cases_order, eq-eqb, le-leb, lt-leb, ne_eqb}
 use Rattle.std.proofs.lemmas.Nat.{div-add-mod', mod_below, pow_below}
-use Rattle.std.proofs.lemmas.Nat.Bits.{bit_at_and, bit_at-lt, bit_at_cat_high, bit_at_cat_low, bit_at_mask_below, bit_at_mask_inside, bit_at_ones_above, bit_at-pow_other, bit_at-pow_same, bit_at_set_other, bit_at_set_same, bit_at-trailing_zeros, bit_at-zero, ones_shl, same_from_bits_below}
+use Rattle.std.proofs.lemmas.Nat.Bits.{bit_at_and, bit_at-lt, bit_at_cat_high, bit_at_cat_low, bit_at_mask_below, bit_at_mask_inside, bit_at_ones_above, bit_at-pow_other, bit_at-pow_same, bit_at-trailing_zeros, bit_at-zero, ones_shl, same_from_bits_below}
 use Rattle.py_lines.specs.Private.Marks.{is_set}
 
 pub unset : (k : ℕ) → is_set 0 k ≡ false
@@ -15,18 +15,6 @@ min_one b less = omega (arith, less)
 
 min_zero : (b : ℕ) → min b 0 ≡ 0
 min_zero b = omega arith
-
--- this bit is set
-pub set-is : (bits k i : ℕ) → k < 64 → is_set (bit_or bits (1 * 2 ^ k % 2 ^ 64)) i ≡ (eqb i k || is_set bits i)
-unfolding is_set
-set-is bits k i within =
-    elim (cases_eq i k) [
-      | inl same ↦
-          ap (λ j. eqb (bit_at (bit_or bits (1 * 2 ^ k % 2 ^ 64)) j) 1) same
-          ∙ ap (λ b. eqb b 1) (bit_at_set_same w64 bits k within)
-          ∙ sym (ap (λ b. b || eqb (bit_at bits i) 1) (eq-eqb i k same))
-      | inr other ↦ ap (λ b. eqb b 1) (bit_at_set_other w64 bits k within i other) ∙ sym (ap (λ b. b || eqb (bit_at bits i) 1) (ne_eqb i k other))
-    ]
 
 -- the bits below this one are cleared
 pub cleared_below-is : (bits k i : ℕ) → k < 64 → i < 64 → is_set (bit_and bits ((2 ^ 64 - 1) * 2 ^ k % 2 ^ 64)) i ≡ (leb k i && is_set bits i)

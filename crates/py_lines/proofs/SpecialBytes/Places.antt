@@ -1,13 +1,13 @@
 -- The marks of a text after some of it is passed.
-use Rattle.std.proofs.Common.{◌≡◌, ℕ, ◌+◌, ◌-◌, ◌*◌, ◌%◌, ◌^◌, ◌<◌, ◌≤◌, true, false, not, ◌&&◌, ◌||◌, eqb, leb, ltb, List, length, slice_index, bit_and, bit_or, refl, sym, ap, ◌∙◌, inl, inr, arith, w64, ◌++◌, drop, replicate}
+use Rattle.std.proofs.Common.{◌≡◌, ℕ, ◌+◌, ◌-◌, ◌*◌, ◌%◌, ◌^◌, ◌<◌, ◌≤◌, true, false, not, ◌&&◌, eqb, leb, ltb, List, length, slice_index, bit_and, refl, sym, ap, ◌∙◌, inl, inr, arith, w64, ◌++◌, drop, replicate}
 use Rattle.std.specs.Int.{trailing_zeros}
-use Rattle.std.proofs.lemmas.Bool.{and_from, and_parts, cases_eq, cases_lt, eq-eqb, leb-true, le-leb, le-ltb, lt-leb, lt-ltb, ltb-true, ne_eqb, not-true, not-false}
+use Rattle.std.proofs.lemmas.Bool.{and_parts, cases_eq, cases_lt, eq-eqb, leb-true, le-leb, le-ltb, lt-leb, lt-ltb, ltb-true, ne_eqb, not-true, not-false}
 use Rattle.std.proofs.lemmas.List.{get_or_append_left, get_or-append_right, get_or-drop, get_or-replicate, length-drop}
 use Rattle.py_lines.specs.declared.marks.Marks.{Marks}
 use Rattle.py_lines.specs.Character.{is_space}
 use Rattle.py_lines.specs.Private.Run.{IsRunOf, is_ascii_word}
 use Rattle.py_lines.specs.Private.Marks.{FindsNext, HasMarks, is_mark, is_plain, is_set}
-use Rattle.py_lines.proofs.SpecialBytes.Bits.{HasLowest, cleared_below-is, lowest, set-is, unset}
+use Rattle.py_lines.proofs.SpecialBytes.Bits.{HasLowest, cleared_below-is, lowest, unset}
 
 -- a byte of the text that isn't plain
 pub record IsMark (text : List ℕ) (from k : ℕ) : Type 0 where
@@ -63,35 +63,6 @@ passes_in_block text from to m has le within near =
             | inr high ↦ ap (λ b. b && is_set m.bits k) (le-leb (to - m.base) k high) ∙ has.bits k less ∙ later_mark text from to (m.base + k) (omega (arith, high, le)) (omega (arith, high))
           ];
     }
-
--- the byte that was passed last is not passed
-pub keeps : (text : List ℕ) (place : ℕ) (m : Marks) → HasMarks text (place + 1) m → m.base ≤ place → place < m.base + 64 → is_plain (slice_index text place) ≡ false
-    → HasMarks text place (record { base = m.base; bits = bit_or m.bits (1 * 2 ^ (place - m.base) % 2 ^ 64) })
-keeps text place m has base near special =
-    record {
-      base = base;
-      within = omega (arith, has.within);
-      reach = omega (arith, near);
-      bits = λ k less.
-          set-is m.bits (place - m.base) k (omega (arith, near))
-          ∙ elim (cases_eq k (place - m.base)) [
-            | inl same ↦
-                let at : m.base + k ≡ place = omega (arith, same, base) in
-                ap (λ b. b || is_set m.bits k) (eq-eqb k (place - m.base) same) ∙ sym (ap (is_mark text place) at ∙ marked)
-            | inr other ↦
-                ap (λ b. b || is_set m.bits k) (ne_eqb k (place - m.base) other)
-                ∙ has.bits k less
-                ∙ elim (cases_lt (m.base + k) place) [
-                  | inl low ↦ no_mark_before text (place + 1) (m.base + k) (omega (arith, low)) ∙ sym (no_mark_before text place (m.base + k) low)
-                  | inr high ↦ later_mark text (place + 1) place (m.base + k) (omega (arith, high, other)) high
-                ]
-          ];
-    }
-  where
-    marked : is_mark text place place ≡ true
-    marked =
-        mark_from text place place (omega arith)
-        ∙ and_from (ltb place (length text)) _ (lt-ltb place (length text) (omega (arith, has.within))) (ap not special)
 
 -- plain bytes were passed, up to the block of the marks
 pub record HasPassed (text : List ℕ) (from : ℕ) (m : Marks) : Type 0 where
