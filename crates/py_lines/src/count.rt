@@ -44,7 +44,8 @@ impl Count {
 /// The line after `text`, which begins on `line`.
 pub fn line_after(line: u64, text: &str) -> u64
     requires { line + length text.now + 1 < 2 ^ 64 }
-    ensures { (characters : List ℕ) → encode_utf8_all characters ≡ text.now → result ≡ line + line_ends characters }
+    ensures { (characters : List ℕ)
+        → encode_utf8_all characters ≡ text.now → result ≡ line + line_ends characters }
 {
     let mut count = Count::from(line);
     for c in text.chars() {

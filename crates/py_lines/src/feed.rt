@@ -151,7 +151,8 @@ impl Feed {
     /// Judges what is left after the characters: a part of a character, or nothing. After CR it shows that the line has
     /// ended.
     fn scan_part(&mut self) -> Result<(), LexError>
-        requires opens { (read : List ℕ) × (rest : List ℕ) × IsOpen self.old read rest × StartsWithNoChar rest }
+        requires opens { (read : List ℕ) × (rest : List ℕ)
+            × IsOpen self.old read rest × StartsWithNoChar rest }
         requires not_ready { self.old.ready ≡ None }
         requires room { HasRoom self.old 0 }
         ensures { ScansHeld self.old result self.new }
@@ -338,7 +339,8 @@ impl Feed {
     /// Takes bytes of a piece, up to a line's end: how many.
     pub fn feed(&mut self, piece: &[u8]) -> Result<usize, LexError>
         requires sound { IsSoundFeed self.old }
-        requires fits { self.old.state.place + length self.old.held.items + length piece.now ≤ 2 ^ 62 }
+        requires fits { self.old.state.place + length self.old.held.items + length piece.now
+            ≤ 2 ^ 62 }
         ensures { FeedsSo self.old piece.now result self.new }
     {
         if let Some(fault) = self.state.fault {
@@ -466,7 +468,8 @@ impl Feed {
     /// The line that is ready.
     pub fn unit(&self) -> Option<Unit<'_>>
         requires { IsSoundFeed self.now }
-        ensures some { (u : Unit) → result ≡ Some u → ready_of self.now self.now.ready ≡ Some (line_in u) }
+        ensures some { (u : Unit)
+            → result ≡ Some u → ready_of self.now self.now.ready ≡ Some (line_in u) }
         ensures none { result ≡ None → ready_of self.now self.now.ready ≡ None }
         ensures some_text { (u : Unit) → result ≡ Some u → 0 < length u.text.now }
     {

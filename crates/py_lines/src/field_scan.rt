@@ -159,7 +159,8 @@ fn ending_move(host: StringWithFields, region: Region, named: bool) -> FieldMove
 /// What a character does between two parts of a string, or after a quote of its own.
 #[tactic(auto, unfolding(crate::specs::Private::FieldMachine::between_move))]
 fn between_move(host: StringWithFields, region: Region, named: bool, at: At, c: char) -> FieldMove
-    ensures { field_move_from result ≡ between_move (host_in host) (region_in region) named (at_in at) c }
+    ensures { field_move_from result
+        ≡ between_move (host_in host) (region_in region) named (at_in at) c }
 {
     if c == host.quote {
         if host.is_long && !at.is_after_two() {
@@ -218,7 +219,8 @@ fn escape_move(host: StringWithFields, region: Region, named: bool, c: char) -> 
 /// What a character does in the body of a string with fields.
 #[tactic(auto, unfolding(crate::specs::Private::FieldMachine::body_move))]
 fn body_move(host: StringWithFields, region: Region, named: bool, at: At, c: char) -> FieldMove
-    ensures { field_move_from result ≡ body_move (host_in host) (region_in region) named (at_in at) c }
+    ensures { field_move_from result
+        ≡ body_move (host_in host) (region_in region) named (at_in at) c }
 {
     match at {
         At::AfterSlash => escape_move(host, region, named, c),
@@ -459,7 +461,9 @@ impl FieldScan {
         requires bytes { place + len_utf8 c < 2 ^ 64 }
         requires operator { start_of c ≡ Operator }
         requires other { is_opening c ≡ false }
-        requires innermost { (at : ℕ) × IsInnermostFrame (Some (Frame.Bracket opener at)) (innermost_first self.old.frames.items) }
+        requires innermost { (at : ℕ)
+            × IsInnermostFrame (Some (Frame.Bracket opener at))
+            (innermost_first self.old.frames.items) }
         ensures { (depth : ℕ) → TakesMove self.old c place depth breaks (Ok result) self.new }
     {
         if is_closing(c) {
@@ -477,7 +481,8 @@ impl FieldScan {
         requires bytes { place + len_utf8 c < 2 ^ 64 }
         requires operator { start_of c ≡ Operator }
         requires other { is_opening c ≡ false }
-        requires innermost { IsInnermostFrame (Some (Frame.Field field)) (innermost_first self.old.frames.items) }
+        requires innermost { IsInnermostFrame (Some (Frame.Field field))
+            (innermost_first self.old.frames.items) }
         ensures { (depth : ℕ) → TakesMove self.old c place depth breaks (Ok result) self.new }
     {
         if c == '}' {
@@ -550,7 +555,8 @@ impl FieldScan {
         requires bytes { place + len_utf8 c < 2 ^ 64 }
         requires operator { start_of c ≡ Operator }
         requires field { field ≡ waiting_field self.old field.host place }
-        ensures { (depth : ℕ) → nat_lt (depth + length self.old.frames.items + opened_with c) 201 ≡ true
+        ensures { (depth : ℕ)
+            → nat_lt (depth + length self.old.frames.items + opened_with c) 201 ≡ true
             → TakesMove self.old c place depth (begins_code (host_in field.host)) result self.new }
     {
         if c == '}' {
@@ -635,7 +641,8 @@ impl FieldScan {
 
     /// Ends the field whose specification is open.
     fn end_field(&mut self) -> FieldProgress
-        ensures { (c place depth : ℕ) → TakesMove self.old c place depth ends_field (Ok result) self.new }
+        ensures { (c place depth : ℕ)
+            → TakesMove self.old c place depth ends_field (Ok result) self.new }
     {
         if let Some(Frame::Field(field)) = self.innermost() {
             self.frames.pop();
@@ -707,7 +714,8 @@ impl FieldScan {
 
     /// Whether a `{` stands directly before that would open a field, for which there is no room.
     fn is_full_at_brace(&self, depth: usize) -> bool
-        ensures { result ≡ (is_waiting (mode_from self.now.mode) && (depth + length self.now.frames.items == 200)) }
+        ensures { result ≡ (is_waiting (mode_from self.now.mode)
+            && (depth + length self.now.frames.items == 200)) }
     {
         self.mode.is_waiting() && self.is_full(depth)
     }

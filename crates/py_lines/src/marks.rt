@@ -58,7 +58,8 @@ impl Marks {
     #[inline(always)]
     pub fn next(&mut self, text: &[u8]) -> usize
         requires { self.old.base ≤ length text.now }
-        ensures { (from : ℕ) → HasMarks text.now from self.old → FindsNext text.now from result self.new }
+        ensures { (from : ℕ)
+            → HasMarks text.now from self.old → FindsNext text.now from result self.new }
     {
         while self.bits == 0 {
             if text.len() - self.base <= 64 {
@@ -76,7 +77,8 @@ impl Marks {
     pub fn pass(&mut self, text: &[u8], to: usize)
         requires base { self.old.base ≤ to }
         requires within { to ≤ length text.now }
-        ensures { (from : ℕ) → HasMarks text.now from self.old → from ≤ to → HasMarks text.now to self.new }
+        ensures { (from : ℕ)
+            → HasMarks text.now from self.old → from ≤ to → HasMarks text.now to self.new }
     {
         if to - self.base < 64 {
             self.bits &= !0 << (to - self.base);

@@ -313,7 +313,8 @@ impl Scan {
         requires order { self.old.piece.start ≤ self.old.stop }
         requires bytes { self.old.stop + len_utf8 c < 2 ^ 64 }
         requires lines { self.old.count.line + 1 < 2 ^ 64 }
-        ensures { (t : FieldScanned) → StandsInString self.old t → TakesInString self.old t c result self.new }
+        ensures { (t : FieldScanned)
+            → StandsInString self.old t → TakesInString self.old t c result self.new }
     {
         match self.fields.push(c, self.stop, self.brackets.len())? {
             FieldProgress::Going => {
@@ -394,7 +395,8 @@ impl Scan {
         requires order { self.old.piece.start ≤ self.old.stop }
         requires bytes { self.old.stop + len_utf8 c < 2 ^ 64 }
         requires lines { self.old.count.line + 1 < 2 ^ 64 }
-        ensures begins { is_free self.old.piece.mode ≡ true → OnOk result (Begins self.old c (start_of c) result self.new) }
+        ensures begins { is_free self.old.piece.mode ≡ true
+            → OnOk result (Begins self.old c (start_of c) result self.new) }
         ensures takes { is_free self.old.piece.mode ≡ false → TakesNext self.old c result self.new }
     {
         if self.piece.mode.is_free() {
@@ -513,7 +515,8 @@ impl Scan {
         requires way { ReachedInSomeLine self.old bytes.now }
         requires bytes { self.old.stop + length bytes.now < 2 ^ 64 }
         requires lines { self.old.line + self.old.stop + length bytes.now + 1 < 2 ^ 64 }
-        ensures stops { WhereverReached self.old bytes.now (λ m line whole. IfOk result (ScansIn m line whole self.new)) }
+        ensures stops { WhereverReached self.old bytes.now
+            (λ m line whole. IfOk result (ScansIn m line whole self.new)) }
     {
         let mut rest = bytes;
         'characters: loop {

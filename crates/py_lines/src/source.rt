@@ -73,7 +73,8 @@ impl<'t> Source<'t> {
     fn place_or_end(&self, offset: usize, line: u64) -> (usize, u64)
         ensures boundary { IsCharBoundary self.now.characters.now result.0 }
         ensures few_lines { result.1 ≤ result.0 + 1 }
-        ensures stays { IsCharBoundary self.now.characters.now offset → line ≤ offset + 1 → result ≡ (offset, line) }
+        ensures stays { IsCharBoundary self.now.characters.now offset
+            → line ≤ offset + 1 → result ≡ (offset, line) }
     {
         if self.characters.is_char_boundary(offset) && line <= offset as u64 + 1 {
             (offset, line)
@@ -84,9 +85,12 @@ impl<'t> Source<'t> {
 
     /// The line that was read last reaches to where the scan stopped, with `end_len` bytes of line end.
     fn give(&mut self, end_len: usize)
-        requires within { self.old.state.place + self.old.state.scan.stop ≤ length self.old.characters.now }
-        requires boundary { IsCharBoundary self.old.characters.now (self.old.state.place + self.old.state.scan.stop) }
-        requires lines { self.old.state.scan.count.line ≤ self.old.state.place + self.old.state.scan.stop + 1 }
+        requires within { self.old.state.place + self.old.state.scan.stop
+            ≤ length self.old.characters.now }
+        requires boundary { IsCharBoundary self.old.characters.now
+            (self.old.state.place + self.old.state.scan.stop) }
+        requires lines { self.old.state.scan.count.line
+            ≤ self.old.state.place + self.old.state.scan.stop + 1 }
         ensures { GivesLine self.old end_len self.new }
     {
         self.start = self.state.place as usize;

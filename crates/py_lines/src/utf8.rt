@@ -115,7 +115,8 @@ fn wide_character(bytes: &[u8]) -> Option<char>
 /// How many bytes a character has that begins with this one, if any does.
 fn encoded_len(first: u8) -> usize
     ensures some { 0 < result }
-    ensures is { (c : ℕ) → IsScalar c → first ≡ slice_index (encode_utf8 c) 0 → result ≡ len_utf8 c }
+    ensures is { (c : ℕ)
+        → IsScalar c → first ≡ slice_index (encode_utf8 c) 0 → result ≡ len_utf8 c }
 {
     if first < 0x80 {
         1

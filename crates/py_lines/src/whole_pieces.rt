@@ -134,7 +134,8 @@ impl Scan {
     fn take_word(&mut self, bytes: &[u8]) -> Result<usize, AllocError>
         requires bytes { self.old.stop + length bytes.now < 2 ^ 64 }
         requires begins { begins is_ascii_word bytes.now ≡ true }
-        ensures { IfOk result (λ len. TakesRun is_ascii_word follows word_mode self.old bytes.now len self.new) }
+        ensures { IfOk result
+            (λ len. TakesRun is_ascii_word follows word_mode self.old bytes.now len self.new) }
     {
         let len = ByteRun::Word.len_in(bytes);
         if !self.is_followed(&bytes[len..]) {
@@ -534,7 +535,8 @@ impl Scan {
         requires bytes { self.old.stop + length bytes.now < 2 ^ 64 }
         requires lines { self.old.count.line + length bytes.now < 2 ^ 64 }
         ensures shorter { IfOk result (IsNoLonger bytes.now) }
-        ensures reached { WhereverReached self.old bytes.now (λ m line whole. IfOk result (LeavesOff m line whole self.new)) }
+        ensures reached { WhereverReached self.old bytes.now
+            (λ m line whole. IfOk result (LeavesOff m line whole self.new)) }
     {
         let mut rest = bytes;
         'pieces: while self.piece.mode.is_free() {
