@@ -7,7 +7,7 @@ use crate::character::{is_closing, is_opening};
 use std::alloc::{AllocError, Global};
 
 /// How many brackets and fields may be open at once.
-pub const DEPTH: usize = 200;
+pub const MAX_DEPTH: usize = 200;
 
 /// The bracket that closes an opening one.
 pub fn closing_of(opener: char) -> char
@@ -90,7 +90,7 @@ impl Brackets {
         ensures { result ≡ operator_may_stand (stack_of self.now) c }
     {
         if is_opening(c) {
-            self.open.len() < DEPTH
+            self.open.len() < MAX_DEPTH
         } else if is_closing(c) {
             match self.innermost() {
                 Some(bracket) => c == bracket.closer(),
@@ -107,7 +107,7 @@ impl Brackets {
         ensures { Meets self.old c place result self.new }
     {
         if is_opening(c) {
-            if self.open.len() >= DEPTH {
+            if self.open.len() >= MAX_DEPTH {
                 return Ok(false);
             }
             self.open.push(OpenBracket { opener: c, place })?;

@@ -12,7 +12,7 @@ ghost use Rattle.py_lines.specs.Private.FieldScan.{at_in, region_in, mode_from, 
 ghost use Rattle.py_lines.specs.Private.FieldScan.{keeps_byte, meets_field, opened_with, stays_field};
 ghost use Rattle.py_lines.specs.Private.ScanMachine.{host_in};
 
-use crate::brackets::{DEPTH, closing_of};
+use crate::brackets::{MAX_DEPTH, closing_of};
 use crate::character::{
     is_backslash, is_brace, is_break, is_closing, is_line_feed, is_opening, is_quote, is_return,
     is_space, is_word_character,
@@ -391,7 +391,7 @@ impl FieldScan {
     fn has_room(&self, depth: usize, more: usize) -> bool
         ensures { result ≡ nat_lt (depth + length self.now.frames.items + more) 201 }
     {
-        let Some(room) = DEPTH.checked_sub(depth) else {
+        let Some(room) = MAX_DEPTH.checked_sub(depth) else {
             return false;
         };
         match room.checked_sub(self.frames.len()) {

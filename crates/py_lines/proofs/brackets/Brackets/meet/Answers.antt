@@ -6,8 +6,8 @@ use Rattle.py_lines.specs.declared.brackets.OpenBracket.{OpenBracket}
 use Rattle.py_lines.proofs.LineScan.BracketStack.{length-stack, stack-push, pops, too_deep, opens_at, closes_none, closes_wrong, closes_top, keeps_at}
 use Rattle.py_lines.proofs.brackets.Brackets.meet.Goals as goal
 
-pub returns-then-len-ge-DEPTH : goal.returns-then-len-ge-DEPTH
-returns-then-len-ge-DEPTH c = (too_deep (stack_of c.args.self.now) c.args.place c.args.c (sym c.is_opening.ensures ∙ c.if-is_opening.true) (omega (arith, length-stack c.args.self.now.open.items, c.if-len-ge-DEPTH.true, c.len.ensures)), refl)
+pub returns-then-len-ge-MAX_DEPTH : goal.returns-then-len-ge-MAX_DEPTH
+returns-then-len-ge-MAX_DEPTH c = (too_deep (stack_of c.args.self.now) c.args.place c.args.c (sym c.is_opening.ensures ∙ c.if-is_opening.true) (omega (arith, length-stack c.args.self.now.open.items, c.if-len-ge-MAX_DEPTH.true, c.len.ensures)), refl)
 
 pub returns-in_default : goal.returns-in_default
 returns-in_default c = (closes_none (stack_of c.args.self.now) c.args.place c.args.c c.in_default.ensures (sym c.is_opening.ensures ∙ c.if-is_opening.false) (sym c.is_closing.ensures ∙ c.if-is_closing.true), refl)
@@ -20,7 +20,7 @@ returns-then-c-closer c =
 pub returns-in_ok-push : goal.returns-in_ok-push
 returns-in_ok-push c =
     let opener : OpenBracket = record { opener = c.args.c; place = c.args.place } in
-    opens_at (stack_of c.args.self.now) c.args.place c.args.c (sym c.is_opening.ensures ∙ c.if-is_opening.true) (omega (arith, length-stack c.args.self.now.open.items, c.if-len-ge-DEPTH.false, c.len.ensures))
+    opens_at (stack_of c.args.self.now) c.args.place c.args.c (sym c.is_opening.ensures ∙ c.if-is_opening.true) (omega (arith, length-stack c.args.self.now.open.items, c.if-len-ge-MAX_DEPTH.false, c.len.ensures))
     ∙ ap (λ (l : List Bracket). Some l) (sym (ap stack c.in_ok-push.ensures.items ∙ stack-push c.args.self.now.open.items opener))
 
 pub returns-else-c-closer : goal.returns-else-c-closer
