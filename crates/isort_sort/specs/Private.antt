@@ -15,6 +15,4 @@ pub mod GroupOrder
 pub mod Packing
 pub mod Writes
 pub mod LayoutTexts
-pub mod Wrap
-pub mod WrapMode
 pub mod Parts

@@ -1,6 +1,6 @@
 -- The text of a statement.
 use Rattle.std.specs.Prelude.{◌≡◌, ℕ, ◌+◌, ◌==◌, Bool, true, false, not, ◌&&◌, ◌||◌, List, [], ◌∷◌, ◌++◌}
-use Rattle.std.specs.Prelude.{map, flat_map, length, replicate, codes, if◌then◌else◌, nat_le, nat_lt}
+use Rattle.std.specs.Prelude.{flat_map, length, replicate, codes, if◌then◌else◌, nat_le, nat_lt}
 use Rattle.isort_sort.specs.Width.{width}
 use Rattle.std.specs.List.{join_by}
 use Rattle.py_imports.specs.Grammar.{Item}

@@ -1,6 +1,6 @@
 //! How statements are wrapped.
 ghost use Rattle.isort_settings.specs.Values.{values};
-ghost use Rattle.isort_sort.specs.Private.WrapMode.{IsMode};
+ghost use Rattle.isort_sort.specs.Private.Packing.{IsMode};
 
 use isort_settings::Settings;
 

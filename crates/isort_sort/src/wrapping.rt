@@ -114,7 +114,7 @@ pub(crate) struct Wrap<'a> {
 }
 
 impl Wrap<'_> {
-    ghost use Rattle.isort_sort.specs.Private.Wrap.{next_line};
+    ghost use Rattle.isort_sort.specs.Private.Packing.{next_line};
 
     /// Puts the end of a line of items after `out`, and the beginning of the next line.
     fn push_break(&self, out: &mut String) -> Result<(), AllocError>

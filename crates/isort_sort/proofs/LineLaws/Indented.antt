@@ -10,7 +10,7 @@ use Rattle.std.proofs.lemmas.Bool.Decides.{nat_tests}
 use Rattle.std.proofs.lemmas.Str.{encodes-append, encode_ascii}
 use Rattle.py_lines.specs.Character.{is_space}
 use Rattle.py_lines.specs.LogicalLine.{byte_len, indent_of, line_of}
-use Rattle.py_lines.specs.Piece.{Class, word, comment, Piece, spelled}
+use Rattle.py_lines.specs.Piece.{Class, space, word, comment, Piece, spelled}
 use Rattle.py_imports.specs.Shape.{mark_len}
 use Rattle.isort_sort.specs.Row.{indentation_of}
 use Rattle.isort_sort.specs.WrittenLine.{mark_pieces, mark_bytes}
@@ -29,11 +29,11 @@ unfolding encode
 after_mark true u = refl
 after_mark false u = refl
 
-abbrev mark_text : Bool → List ℕ
+abbrev pub mark_text : Bool → List ℕ
 mark_text true = 0xef ∷ 0xbb ∷ 0xbf ∷ []
 mark_text false = []
 
-marked_text : (marked : Bool) (u : List Piece) → encode_utf8_all (spelled (mark_pieces marked ++ u)) ≡ mark_text marked ++ encode_utf8_all (spelled u)
+pub marked_text : (marked : Bool) (u : List Piece) → encode_utf8_all (spelled (mark_pieces marked ++ u)) ≡ mark_text marked ++ encode_utf8_all (spelled u)
 unfolding encode
 marked_text true u = refl
 marked_text false u = refl
@@ -52,45 +52,47 @@ pub record AreIndented (indentation : List ℕ) (u : List Piece) : Type 0 where
   pub text : encode_utf8_all (spelled u) ≡ indentation ++ rest
   pub indent : (marked : Bool) → indent_of (mark_pieces marked ++ u) ≡ length indentation
 
--- a word or a comment
+-- by space, or with none before a word or a comment
+pub spaced : (c : ℕ) (cs : List ℕ) (ps : List Piece) → list_all is_space (c ∷ cs) ≡ true → AreIndented (c ∷ cs) (piece space (c ∷ cs) ∷ ps)
+spaced c cs ps h =
+    let low = space_low c (and_parts (is_space c) (list_all is_space cs) h).0 in
+    let spell = low-spell (c ∷ cs) (spaces_low (c ∷ cs) h) in
+    record {
+      byte = c;
+      others = encode_utf8_all (cs ++ spelled ps);
+      low = low;
+      begins = ap (λ (t : List ℕ). t ++ encode_utf8_all (cs ++ spelled ps)) (encode_ascii c low);
+      rest = encode_utf8_all (spelled ps);
+      text = encodes-append (c ∷ cs) (spelled ps) ∙ ap (λ (t : List ℕ). t ++ encode_utf8_all (spelled ps)) spell;
+      indent = λ marked. indent marked ps ∙ ap length spell;
+    }
+  where
+    indent : (marked : Bool) (qs : List Piece) → indent_of (mark_pieces marked ++ (piece space (c ∷ cs) ∷ qs)) ≡ byte_len (c ∷ cs)
+    indent true qs = refl
+    indent false [] = refl
+    indent false (q ∷ qs) = refl
+
 abbrev pub head_class : Bool → Class
 head_class true = word
 head_class false = comment
 
-indent-head : (marked : Bool) (indentation : List ℕ) (is_word : Bool) (text : List ℕ) (q : Piece) (qs : List Piece) → indent_of (mark_pieces marked ++ (space_pieces indentation ++ (piece (head_class is_word) text ∷ q ∷ qs))) ≡ byte_len indentation
-indent-head true [] true text q qs = refl
-indent-head true [] false text q qs = refl
-indent-head true (c ∷ cs) b text q qs = refl
-indent-head false [] true text q qs = refl
-indent-head false [] false text q qs = refl
-indent-head false (c ∷ cs) b text q qs = refl
-
-low-begins : (c : ℕ) (cs : List ℕ) → c < 128 → encode_utf8_all (c ∷ cs) ≡ c ∷ encode_utf8_all cs
-low-begins c cs h = ap (λ (t : List ℕ). t ++ encode_utf8_all cs) (encode_ascii c h)
+no_indent : (marked is_word : Bool) (text : List ℕ) (q : Piece) (qs : List Piece) → indent_of (mark_pieces marked ++ (piece (head_class is_word) text ∷ q ∷ qs)) ≡ 0
+no_indent true true text q qs = refl
+no_indent true false text q qs = refl
+no_indent false true text q qs = refl
+no_indent false false text q qs = refl
 
 pub indented : (is_word : Bool) (indentation : List ℕ) (c : ℕ) (cs : List ℕ) (q : Piece) (qs : List Piece) → list_all is_space indentation ≡ true → c < 128 → AreIndented indentation (space_pieces indentation ++ (piece (head_class is_word) (c ∷ cs) ∷ q ∷ qs))
 indented b [] c cs q qs h low = record {
   byte = c;
   others = encode_utf8_all (cs ++ spelled (q ∷ qs));
   low = low;
-  begins = low-begins c (cs ++ spelled (q ∷ qs)) low;
+  begins = ap (λ (t : List ℕ). t ++ encode_utf8_all (cs ++ spelled (q ∷ qs))) (encode_ascii c low);
   rest = encode_utf8_all ((c ∷ cs) ++ spelled (q ∷ qs));
   text = refl;
-  indent = λ marked. indent-head marked [] b (c ∷ cs) q qs;
+  indent = λ marked. no_indent marked b (c ∷ cs) q qs;
 }
-indented b (i ∷ is) c cs q qs h low =
-    let after : List ℕ = spelled (piece (head_class b) (c ∷ cs) ∷ q ∷ qs) in
-    let spell : encode_utf8_all (i ∷ is) ≡ i ∷ is = low-spell (i ∷ is) (spaces_low (i ∷ is) h) in
-    let small = space_low i (and_parts _ _ h).0 in
-    record {
-      byte = i;
-      others = encode_utf8_all (is ++ after);
-      low = small;
-      begins = low-begins i (is ++ after) small;
-      rest = encode_utf8_all after;
-      text = encodes-append (i ∷ is) after ∙ ap (λ (t : List ℕ). t ++ encode_utf8_all after) spell;
-      indent = λ marked. indent-head marked (i ∷ is) b (c ∷ cs) q qs ∙ ap length spell;
-    }
+indented b (i ∷ is) c cs q qs h low = spaced i is (piece (head_class b) (c ∷ cs) ∷ q ∷ qs) h
 
 -- the mark and the indentation of their line
 pub line-mark : (offset row : ℕ) (marked : Bool) (indentation : List ℕ) (u : List Piece) → AreIndented indentation u → mark_len (line_of offset row (mark_pieces marked ++ u)) ≡ mark_bytes marked

@@ -1,7 +1,7 @@
 -- The first line of a block ends as the block's lines do.
-use Rattle.std.proofs.Common.{◌≡◌, ℕ, Bool, true, false, ◌||◌, ◌⊎◌, inl, inr, ◌+◌, Option, None, Some, List, [], ◌∷◌, ◌++◌, flat_map, codes, refl, sym, ap, ◌∙◌, subst, append_assoc, arith}
+use Rattle.std.proofs.Common.{◌≡◌, ℕ, Bool, true, false, ◌||◌, inl, inr, ◌+◌, Option, None, Some, List, [], ◌∷◌, ◌++◌, flat_map, codes, refl, sym, ap, ◌∙◌, subst, append_assoc, arith}
 use Rattle.std.specs.Prelude.{nat_le, replicate, ◌==◌, if◌then◌else◌}
-use Rattle.std.specs.List.{Contains, list_any, list_all, join_by}
+use Rattle.std.specs.List.{list_any, list_all, join_by}
 use Rattle.std.proofs.lemmas.Bool.{and_parts, or_parts}
 use Rattle.std.proofs.lemmas.Bool.Decides.{nat_tests}
 use Rattle.py_lines.specs.Character.{is_space, is_break, is_hash}
@@ -9,7 +9,7 @@ use Rattle.py_imports.specs.Grammar.{Terminal, name, Item, spelling}
 use Rattle.py_imports.specs.Names.{IsName, HaveNames, IsModuleName, IsRelativeName, IsAlias, IsNameItem}
 use Rattle.py_imports.specs.Spelled.{alias_text}
 use Rattle.isort_settings.specs.Values.{Values}
-use Rattle.isort_sort.specs.Layout.{Laid, IsLaid, AreLaid, own_text}
+use Rattle.isort_sort.specs.Layout.{Laid, AreLaid, own_text}
 use Rattle.isort_sort.specs.Member.{Member}
 use Rattle.isort_sort.specs.Statement.{Statement, straight, names, single, module_of}
 use Rattle.isort_sort.specs.Statement.{star as all_of}

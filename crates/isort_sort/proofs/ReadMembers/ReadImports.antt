@@ -1,14 +1,13 @@
 -- What the logical lines of members import: something, under names that are words.
-use Rattle.std.proofs.Common.{◌≡◌, ℕ, ◌+◌, suc, zero, nat_eq, Bool, true, false, cond, not, ◌||◌, ◌==◌, ◌⊎◌, ⊎_elim, inl, inr, List, [], ◌∷◌, ◌++◌, map, take, drop, length, refl, sym, ap, ◌∙◌, subst}
-use Rattle.std.specs.Prelude.{encode_utf8_all, filter, nat_lt, slice_range, if◌then◌else◌}
-use Rattle.std.specs.List.{list_any, list_all, prefix_len, starts_with}
+use Rattle.std.proofs.Common.{◌≡◌, ℕ, ◌+◌, suc, zero, Bool, true, false, cond, not, ◌||◌, ◌==◌, ◌⊎◌, ⊎_elim, inl, inr, List, [], ◌∷◌, ◌++◌, map, take, refl, sym, ap, ◌∙◌, subst}
+use Rattle.std.specs.Prelude.{filter, nat_lt, slice_range}
+use Rattle.std.specs.List.{list_any, list_all, prefix_len}
 use Rattle.std.specs.Str.{all_scalars}
-use Rattle.std.proofs.Math.Utf8.{encode}
-use Rattle.std.proofs.lemmas.Bool.{and_parts, both_ways, cases_Bool, eqb-true}
-use Rattle.std.proofs.lemmas.Str.{encodes-append, encode_ascii}
+use Rattle.std.proofs.lemmas.Bool.{both_ways, cases_Bool, eqb-true}
 use Rattle.py_lines.specs.Character.{is_mark, is_space}
-use Rattle.py_lines.specs.LogicalLine.{LogicalLine, byte_len, space_len, line_of}
-use Rattle.py_lines.specs.Piece.{Class, mark, space, Piece, is_mark_class, spelled}
+use Rattle.py_lines.specs.LogicalLine.{LogicalLine, indent_of, line_of}
+use Rattle.py_lines.specs.Piece.{Class, mark, space, word, string, operator, comment, join, line_end, Piece, is_mark_class, begins_marked, spelled}
+use Rattle.py_lines.specs.Neighbours.{is_space_class}
 use Rattle.py_lines.specs.Fields.{InClass, AreReadBefore}
 use Rattle.py_lines.specs.declared.token.Token.{Token}
 use Rattle.py_imports.specs.Binds.{BindEach, BindsAt, nothing, imports, terminals_at, terminal_in}
@@ -23,10 +22,10 @@ use Rattle.isort_sort.proofs.Rows.Moved.{imported_again}
 use Rattle.isort_sort.proofs.Rows.SomeRows.{tokens_again, all_taken}
 use Rattle.isort_sort.proofs.LineLaws.Units.{IsUnit}
 use Rattle.isort_sort.proofs.WrittenLines.UnitRows.{unit_line}
-use Rattle.isort_sort.proofs.WrittenLines.LineUnits.{indentation_encoded}
+use Rattle.isort_sort.specs.WrittenLine.{mark_pieces}
 use Rattle.isort_sort.proofs.LineLaws.Joined.{AreSome, some_first}
-use Rattle.isort_sort.proofs.LineLaws.Indented.{low_start, sliced}
-use Rattle.isort_sort.proofs.Rows.Spaces.{space_low}
+use Rattle.isort_sort.proofs.LineLaws.Indented.{line-indentation, sliced, spaced}
+use Rattle.isort_sort.proofs.LineLaws.Parts.{piece}
 use Rattle.isort_sort.proofs.Rows.Roles.{import_begins}
 
 -- what lines that are read import, as the laws of import statements say
@@ -127,70 +126,42 @@ pub imports_some : (line : LogicalLine) (is : List Imported) → Imports line is
 imports_some line is h = subst AreSome (sym h.1.2) (some_map imported_of h.1.0 (some_bounds line (significant line.tokens) h.1.0 h.0.imported h.0.alone h.0.is h.1.1))
 
 -- the indentation of a line is space
-take_length : (xs ys : List ℕ) → take (length xs) (xs ++ ys) ≡ xs
-take_length [] ys = refl
-take_length (x ∷ xs) ys = ap (λ l. x ∷ l) (take_length xs ys)
+unindented : (u : List Piece) → indent_of u ≡ 0 → list_all is_space (indentation_of (unit_line u)) ≡ true
+unindented u e =
+    let l = unit_line u in
+    ap (λ (n : ℕ). list_all is_space (slice_range l.text (mark_len l) (mark_len l + n))) e ∙ ap (list_all is_space) (sliced (mark_len l) 0 l.text)
 
-spaces_taken : (xs rest : List ℕ) → list_all is_space xs ≡ true → list_all is_space (take (byte_len xs) (encode_utf8_all (xs ++ rest))) ≡ true
-spaces_taken xs rest h =
-    ap (λ (t : List ℕ). list_all is_space (take (byte_len xs) t)) (encodes-append xs rest)
-    ∙ ap (list_all is_space) (take_length (encode_utf8_all xs) (encode_utf8_all rest))
-    ∙ ap (list_all is_space) (indentation_encoded xs h) ∙ h
+unspaced : (marked : Bool) (class : Class) (text : List ℕ) (ps : List Piece) → is_mark_class class ≡ false → is_space_class class ≡ false → indent_of (mark_pieces marked ++ (piece class text ∷ ps)) ≡ 0
+unspaced marked mark text ps h k = absurd (cc)
+unspaced marked space text ps h k = absurd (cc)
+unspaced true _ text ps h k = refl
+unspaced false _ text [] h k = refl
+unspaced false _ text (q ∷ qs) h k = refl
 
-nothing_taken : (m : ℕ) (text : List ℕ) → list_all is_space (slice_range text m (m + 0)) ≡ true
-nothing_taken m text = ap (list_all is_space) (sliced m 0 text)
+spaces_of : (marked : Bool) (v : List Piece) → AreReadBefore v [] → begins_marked v ≡ false → list_all is_space (indentation_of (unit_line (mark_pieces marked ++ v))) ≡ true
+spaces_of true [] fit h = unindented (mark_pieces true ++ []) refl
+spaces_of false [] fit h = unindented [] refl
+spaces_of marked (p ∷ ps) fit h = by p.class p.text fit.0 h
+  where
+    other : (class : Class) (text : List ℕ) → is_mark_class class ≡ false → is_space_class class ≡ false → list_all is_space (indentation_of (unit_line (mark_pieces marked ++ (piece class text ∷ ps)))) ≡ true
+    other class text h k = unindented (mark_pieces marked ++ (piece class text ∷ ps)) (unspaced marked class text ps h k)
 
--- whether a line has a mark: what is taken after it is what is taken of the rest
-spaces_after : (m n : ℕ) (text : List ℕ) → list_all is_space (take n (drop m text)) ≡ true → list_all is_space (slice_range text m (m + n)) ≡ true
-spaces_after m n text h = ap (list_all is_space) (sliced m n text) ∙ h
+    by : (class : Class) (text : List ℕ) → InClass class text → is_mark_class class ≡ false → list_all is_space (indentation_of (unit_line (mark_pieces marked ++ (piece class text ∷ ps)))) ≡ true
+    by space text is k =
+        subst (λ (t : List ℕ). list_all is_space (indentation_of (unit_line (mark_pieces marked ++ (piece space t ∷ ps)))) ≡ true) (sym is.2)
+        (let h = ap (list_all is_space) (sym is.2) ∙ is.3 in ap (list_all is_space) (line-indentation 0 1 marked (is.0 ∷ is.1) (piece space (is.0 ∷ is.1) ∷ ps) (spaced is.0 is.1 ps h)) ∙ h)
+    by mark text is k = absurd (cc)
+    by word text is k = other word text k refl
+    by string text is k = other string text k refl
+    by operator text is k = other operator text k refl
+    by comment text is k = other comment text k refl
+    by join text is k = other join text k refl
+    by line_end text is k = other line_end text k refl
 
--- the bytes of a mark that a text begins with
-abbrev mark_in : List ℕ → ℕ
-mark_in text = if starts_with nat_eq text (0xef ∷ 0xbb ∷ 0xbf ∷ []) then 3 else 0
-
--- pieces that begin with space have no mark
-space_unmarked : (c : ℕ) (cs rest : List ℕ) → is_space c ≡ true → mark_in (encode_utf8_all ((c ∷ cs) ++ rest)) ≡ 0
-space_unmarked c cs rest h =
-    ap (λ (t : List ℕ). mark_in (t ++ encode_utf8_all (cs ++ rest))) (encode_ascii c (space_low c h))
-    ∙ ap (λ (b : Bool). cond {A = ℕ} b 3 0) (low_start c (encode_utf8_all (cs ++ rest)) (space_low c h))
-
-begins_space : (class : Class) (text : List ℕ) (ps : List Piece) → InClass class text → (m : ℕ) → (class ≡ space → m ≡ 0) → list_all is_space (slice_range (encode_utf8_all (text ++ spelled ps)) m (m + space_len class text)) ≡ true
-begins_space space text ps is m h =
-    ap (λ (k : ℕ). list_all is_space (slice_range (encode_utf8_all (text ++ spelled ps)) k (k + byte_len text))) (h refl)
-    ∙ spaces_after 0 (byte_len text) (encode_utf8_all (text ++ spelled ps)) (spaces_taken text (spelled ps) is.3)
-begins_space _ text ps is m h = nothing_taken m (encode_utf8_all (text ++ spelled ps))
-
-unmarked_space : (p : Piece) (ps : List Piece) → InClass p.class p.text → p.class ≡ space → mark_len (unit_line (p ∷ ps)) ≡ 0
-unmarked_space p ps is e =
-    let run = subst (λ (c : Class). InClass c p.text) e is in
-    let first : is_space run.0 ≡ true = (and_parts (is_space run.0) (list_all is_space run.1) (ap (list_all is_space) (sym run.2) ∙ run.3)).0 in
-    ap (λ (t : List ℕ). mark_in (encode_utf8_all (t ++ spelled ps))) run.2 ∙ space_unmarked run.0 run.1 (spelled ps) first
-
--- a mark is three bytes
+-- a mark is one character
 mark_is : (c : ℕ) → is_mark c ≡ true → c ≡ 0xFEFF
 unfolding is_mark
 mark_is c h = eqb-true c 0xFEFF (⊎_elim (λ (e : (c == 0xFEFF) ≡ true). e) (λ (e : (c == 0xFEFF) ≡ false). absurd (both_ways _ (ap (λ b. b || false) e) h)) (cases_Bool (c == 0xFEFF)))
-
-after_mark : (text rest : List ℕ) → InClass mark text → (mark_in (encode_utf8_all (text ++ rest)) ≡ 3) × (drop 3 (encode_utf8_all (text ++ rest)) ≡ encode_utf8_all rest)
-unfolding encode
-after_mark text rest is =
-    let same : text ≡ 0xFEFF ∷ [] = is.1 ∙ ap (λ (c : ℕ). c ∷ []) (mark_is is.0 is.2) in (
-      ap (λ (t : List ℕ). mark_in (encode_utf8_all (t ++ rest))) same,
-      ap (λ (t : List ℕ). drop 3 (encode_utf8_all (t ++ rest))) same,
-    )
-
-second_space : (class : Class) (text : List ℕ) (ps : List Piece) → InClass class text → list_all is_space (take (space_len class text) (encode_utf8_all (text ++ spelled ps))) ≡ true
-second_space space text ps is = spaces_taken text (spelled ps) is.3
-second_space _ text ps is = refl
-
-marked_spaces : (p q : Piece) (ps : List Piece) → InClass p.class p.text → InClass q.class q.text → p.class ≡ mark → list_all is_space (slice_range (encode_utf8_all (spelled (p ∷ q ∷ ps))) (mark_len (unit_line (p ∷ q ∷ ps))) (mark_len (unit_line (p ∷ q ∷ ps)) + space_len q.class q.text)) ≡ true
-marked_spaces p q ps is other e =
-    let text : List ℕ = encode_utf8_all (spelled (p ∷ q ∷ ps)) in
-    let cut_off = after_mark p.text (spelled (q ∷ ps)) (subst (λ (c : Class). InClass c p.text) e is) in
-    spaces_after (mark_len (unit_line (p ∷ q ∷ ps))) (space_len q.class q.text) text
-    (ap (λ (k : ℕ). list_all is_space (take (space_len q.class q.text) (drop k text))) cut_off.0
-    ∙ ap (λ (t : List ℕ). list_all is_space (take (space_len q.class q.text) t)) cut_off.1
-    ∙ second_space q.class q.text ps other)
 
 is_mark_or_not : (class : Class) → (class ≡ mark) ⊎ (is_mark_class class ≡ false)
 is_mark_or_not mark = inl refl
@@ -198,19 +169,12 @@ is_mark_or_not _ = inr refl
 
 pub indentation_spaces : (u : List Piece) → IsUnit u → list_all is_space (indentation_of (unit_line u)) ≡ true
 indentation_spaces [] is = absurd (let e = is.whole in cc)
-indentation_spaces (p ∷ []) is = begins_space p.class p.text [] is.reading.reads.fit.0 (mark_len (unit_line (p ∷ []))) (unmarked_space p [] is.reading.reads.fit.0)
-indentation_spaces (p ∷ q ∷ ps) is =
+indentation_spaces (p ∷ ps) is =
+    let fit = is.reading.reads.fit in
     ⊎_elim
     (λ (e : p.class ≡ mark).
-    ap (λ (b : Bool). list_all is_space (slice_range text m (m + (if b then space_len q.class q.text else space_len p.class p.text)))) (ap is_mark_class e)
-    ∙ marked_spaces p q ps is.reading.reads.fit.0 is.reading.reads.fit.3.0 e)
-    (λ (e : is_mark_class p.class ≡ false).
-    ap (λ (b : Bool). list_all is_space (slice_range text m (m + (if b then space_len q.class q.text else space_len p.class p.text)))) e
-    ∙ begins_space p.class p.text (q ∷ ps) is.reading.reads.fit.0 m (unmarked_space p (q ∷ ps) is.reading.reads.fit.0))
+    let first = subst (λ (c : Class). InClass c p.text) e fit.0 in
+    let text : p.text ≡ 0xFEFF ∷ [] = first.1 ∙ ap (λ (c : ℕ). c ∷ []) (mark_is first.0 first.2) in
+    subst (λ (q : Piece). list_all is_space (indentation_of (unit_line (q ∷ ps))) ≡ true) (λ i. record { class = sym e i; text = sym text i }) (spaces_of true ps fit.3 fit.2))
+    (λ (e : is_mark_class p.class ≡ false). spaces_of false (p ∷ ps) fit e)
     (is_mark_or_not p.class)
-  where
-    text : List ℕ
-    text = encode_utf8_all (spelled (p ∷ q ∷ ps))
-
-    m : ℕ
-    m = mark_len (unit_line (p ∷ q ∷ ps))

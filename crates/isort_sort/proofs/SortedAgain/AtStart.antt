@@ -8,7 +8,6 @@ use Rattle.std.proofs.lemmas.Bool.{and_parts, both_ways, or_parts}
 use Rattle.std.proofs.lemmas.Bool.Decides.{Decides-eqb}
 use Rattle.std.proofs.lemmas.List.{map-append}
 use Rattle.std.proofs.lemmas.Slice.Eq.{starts_is}
-use Rattle.std.proofs.lemmas.Str.{encodes-append}
 use Rattle.py_lines.specs.PieceGrammar.{IsLineEnd}
 use Rattle.py_lines.specs.Balance.{IsBalanced as balance}
 use Rattle.py_lines.specs.Reading.{EndsLine}
@@ -25,7 +24,7 @@ use Rattle.isort_sort.specs.Layout.{block_lines, text_of_lines}
 use Rattle.isort_sort.specs.ReadBack.{AreReadBack, HasBlocksBack}
 use Rattle.isort_sort.specs.Row.{Row, IsRow, AreRows, first_string_skips}
 use Rattle.isort_sort.specs.Sorted.{HasBlocks, first_end, last_row, blanks_after, texts_of, mark_of, IsLayout, IsSortedCut, IsSkipped, IsLaidOut, IsSorted}
-use Rattle.isort_sort.specs.WrittenLine.{mark_pieces, mark_bytes, end_pieces}
+use Rattle.isort_sort.specs.WrittenLine.{mark_pieces, mark_bytes}
 use Rattle.isort_sort.proofs.Finding.Replaced.{blocks_again}
 use Rattle.isort_sort.proofs.Rows.OneRows.{BindsOneList}
 use Rattle.isort_sort.proofs.Rows.Texts.{text_of_rows}
@@ -39,9 +38,8 @@ use Rattle.isort_sort.proofs.WrittenLines.UnitBinds.{EachBinds, binds_append, bi
 use Rattle.isort_sort.proofs.ReadMembers.OldBlock.{AreSeen, in_block, run_in_block, blanks_in_block, through_block, seen_rows, run_ended}
 use Rattle.isort_sort.proofs.WrittenLines.FirstEnds.{is_end_byte, Breaks, first_is_end, breaks_first, ends_first}
 use Rattle.isort_sort.proofs.SortedAgain.WrittenBlocks.{first_line, IsWrittenBlock, read_back}
-use Rattle.isort_sort.proofs.SortedAgain.Again.{SortLaws, IsReadable, IsAgain, each_unit, first_units, none_first, some_from, can_follow, seen_some, block_again, again}
+use Rattle.isort_sort.proofs.SortedAgain.Again.{SortLaws, IsReadable, IsAgain, each_unit, first_units, none_first, some_from, block_again, again}
 use Rattle.isort_sort.proofs.SortedAgain.SortedAgain.{IsCutText, first_seen, text_again, cut_text, IsLaidBack, ahead}
-use Rattle.isort_sort.proofs.LineLaws.Parts.{spelled-append}
 
 -- a byte order mark before pieces
 marked_unit : (marked : Bool) (u : List Piece) → IsUnit u → begins_marked u ≡ false → IsUnit (mark_pieces marked ++ u)
@@ -74,11 +72,9 @@ marked_follows true u (w ∷ us) is h =
     (marked_ends u is h.0, record { unmarked = h.1.unmarked; uncut = ap (λ b. b && begins is_line_feed (spelled w)) (marked_last u is) ∙ h.1.uncut })
 
 marked_bytes : (marked : Bool) (u : List Piece) (us : List (List Piece)) → bytes_of ((mark_pieces marked ++ u) ∷ us) ≡ encode_utf8_all (spelled (mark_pieces marked)) ++ bytes_of (u ∷ us)
-marked_bytes marked u us =
-    bytes_of-cons (mark_pieces marked ++ u) us
-    ∙ ap (λ (t : List ℕ). t ++ bytes_of us) (ap encode_utf8_all (spelled-append (mark_pieces marked) u) ∙ encodes-append (spelled (mark_pieces marked)) (spelled u))
-    ∙ append_assoc (encode_utf8_all (spelled (mark_pieces marked))) (encode_utf8_all (spelled u)) (bytes_of us)
-    ∙ ap (λ (t : List ℕ). encode_utf8_all (spelled (mark_pieces marked)) ++ t) (sym (bytes_of-cons u us))
+unfolding encode
+marked_bytes true u us = refl
+marked_bytes false u us = refl
 
 marked_skips : TokenLaws → (marked : Bool) (u : List Piece) → says_skip_file (mark_pieces marked ++ u) ≡ says_skip_file u
 marked_skips laws false u = refl

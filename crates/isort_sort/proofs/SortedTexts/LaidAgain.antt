@@ -1,6 +1,6 @@
 -- A block that was laid out and is seen as members again has the same layout.
 use Rattle.std.proofs.Common.{◌≡◌, ℕ, Bool, true, false, cond, ◌&&◌, Option, None, Some, List, [], ◌∷◌, ◌++◌, map, flat_map, codes, ◌↔◌, ⊎_elim, Ordering, Less, refl, sym, ap, ◌∙◌, subst, append-nil}
-use Rattle.std.specs.Prelude.{if◌then◌else◌, nat_lt, length, ℤ, pos, negsuc, filter, bytes_eq, max, replicate}
+use Rattle.std.specs.Prelude.{if◌then◌else◌, nat_lt, length, ℤ, pos, negsuc, filter, bytes_eq, replicate}
 use Rattle.std.specs.List.{Contains, join_by}
 use Rattle.std.specs.List.Sorted.{IsStrictlySortedBy}
 use Rattle.std.proofs.lemmas.Bool.{false_from_ne_true}

@@ -1,18 +1,15 @@
 -- A block that sorting writes: its logical lines, and their rows.
-use Rattle.std.proofs.Common.{◌≡◌, ℕ, Bool, true, false, ◌&&◌, ◌||◌, List, [], ◌∷◌, ◌++◌, map, flat_map, refl, sym, ap, ◌∙◌, subst, append_assoc, append-nil, arith}
-use Rattle.std.specs.Prelude.{bytes_eq, count_by, drop, encode_utf8_all, length, replicate}
+use Rattle.std.proofs.Common.{◌≡◌, ℕ, Bool, true, false, ◌&&◌, List, [], ◌∷◌, ◌++◌, map, flat_map, refl, sym, ap, ◌∙◌, subst, append_assoc, append-nil}
+use Rattle.std.specs.Prelude.{bytes_eq, count_by, drop, encode_utf8_all, replicate}
 use Rattle.std.specs.List.{list_any, list_all}
-use Rattle.std.specs.Str.{all_scalars}
 use Rattle.std.proofs.lemmas.Bool.{and_from}
 use Rattle.std.proofs.lemmas.Slice.Eq.{bytes_eq-Decides}
-use Rattle.std.proofs.lemmas.Str.{encodes-append, length-le-encodes}
+use Rattle.std.proofs.lemmas.Str.{encodes-append}
 use Rattle.py_lines.specs.PieceGrammar.{IsLineEnd}
-use Rattle.py_lines.specs.Balance.{depth_after, IsBalanced as balance}
-use Rattle.py_lines.specs.Fields.{IsShallow}
 use Rattle.py_lines.specs.Character.{is_space, is_line_feed, is_return}
 use Rattle.py_lines.specs.LogicalLine.{LogicalLine, line_of}
 use Rattle.py_lines.specs.Neighbours.{is_simple, AreSimple, MayTouch}
-use Rattle.py_lines.specs.Piece.{Class, mark, line_end, Piece, begins, ends, is_mark_class, begins_marked, spelled}
+use Rattle.py_lines.specs.Piece.{Class, mark, Piece, begins, ends, is_mark_class, begins_marked, spelled}
 use Rattle.py_imports.specs.ActionComment.{says}
 use Rattle.py_imports.specs.Shape.{mark_len}
 use Rattle.py_imports.specs.declared.action_comment.ActionComment.TheVariants as action
@@ -23,14 +20,14 @@ use Rattle.isort_sort.specs.Layout.{Laid, own_text, gap, lines_after}
 use Rattle.isort_sort.specs.Row.{member, Row, IsRow, first_string_skips}
 use Rattle.isort_sort.specs.Sorted.{last_row}
 use Rattle.isort_sort.specs.WrittenLine.{mark_pieces, mark_bytes, end_pieces, IsWritten}
-use Rattle.isort_sort.proofs.LineLaws.Units.{IsUnit, begins-first, first_character}
-use Rattle.isort_sort.proofs.WrittenLines.UnitRows.{TokenLaws, IsUnitRow}
-use Rattle.isort_sort.proofs.WrittenLines.LineUnits.{NeighbourLaw, are_some, ended_unit, blank_row, IsEndedUnit, IsLine, AreLines, lines_append, says_skip_file, row_of, end_encoded, blank_units, blank_rows, blank_is_ended, blank_lines, blank_text, blank_between, blank_blank, blank_no_comments, AreAbove, above_units, above_rows, above_lines, above_text, above_comments, above_between}
+use Rattle.isort_sort.proofs.LineLaws.Units.{IsUnit, begins-first}
+use Rattle.isort_sort.proofs.WrittenLines.UnitRows.{TokenLaws}
+use Rattle.isort_sort.proofs.WrittenLines.LineUnits.{NeighbourLaw, ended_unit, blank_row, IsEndedUnit, IsLine, AreLines, lines_append, row_of, end_encoded, blank_units, blank_rows, blank_is_ended, blank_lines, blank_text, blank_between, blank_blank, blank_no_comments, AreAbove, above_units, above_rows, above_lines, above_text, above_comments, above_between}
 use Rattle.isort_sort.proofs.LineLaws.Joined.{ended_lines, bytes_of, bytes_of-cons, bytes_of-append, all-append, count-replicate, regroup}
 use Rattle.std.proofs.lemmas.List.Concat.{flat_map-append}
 use Rattle.isort_sort.proofs.LineLaws.Indented.{after_mark}
 use Rattle.std.proofs.Math.Bool.{and-false}
-use Rattle.isort_sort.proofs.LineLaws.Parts.{spelled-append, scalars-append}
+use Rattle.isort_sort.proofs.LineLaws.Parts.{spelled-append}
 
 -- a statement that can be written: its pieces, and that neither its comments nor those above say that the file is skipped
 pub record IsWritable (v : Values) (indentation end : List ℕ) (s : Laid) : Type 0 where

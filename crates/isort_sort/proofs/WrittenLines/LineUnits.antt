@@ -1,5 +1,5 @@
 -- Logical lines that sorting writes, one after another: blank lines, and comments above a statement.
-use Rattle.std.proofs.Common.{◌≡◌, ℕ, suc, zero, Bool, true, false, ◌&&◌, ◌||◌, List, [], ◌∷◌, ◌++◌, map, flat_map, refl, sym, ap, ◌∙◌, subst, append_assoc, append-nil, inr, arith}
+use Rattle.std.proofs.Common.{◌≡◌, ℕ, suc, zero, Bool, true, false, ◌&&◌, ◌||◌, List, [], ◌∷◌, ◌++◌, map, refl, sym, ap, ◌∙◌, subst, append_assoc, append-nil, inr, arith}
 use Rattle.std.specs.Prelude.{encode_utf8_all, nat_lt, replicate}
 use Rattle.std.specs.List.{list_any, list_all}
 use Rattle.std.specs.Str.{all_scalars}
@@ -12,7 +12,7 @@ use Rattle.py_lines.specs.Balance.{IsBalanced, depth_through, IsBalanced as bala
 use Rattle.py_lines.specs.Balance.{depth_after}
 use Rattle.py_lines.specs.Fields.{AreReadBefore, IsShallow}
 use Rattle.isort_sort.proofs.LineLaws.OneLine.{plain-line}
-use Rattle.py_lines.specs.Reading.{IsBalancedReading, EndsLine}
+use Rattle.py_lines.specs.Reading.{EndsLine}
 use Rattle.py_lines.specs.Character.{is_space, is_line_feed, is_return, is_hash}
 use Rattle.py_lines.specs.LogicalLine.{LogicalLine, cut, line_of, end_len_of}
 use Rattle.py_lines.specs.Neighbours.{AreSimple, MayTouch}

@@ -1,19 +1,17 @@
 -- The rows of logical lines, each given by its pieces, wherever they stand.
 use Rattle.std.proofs.Common.{◌≡◌, ℕ, ◌+◌, Bool, true, false, cond, not, ◌&&◌, ◌||◌, List, [], ◌∷◌, ◌++◌, map, refl, sym, ap, ◌∙◌, subst}
-use Rattle.std.specs.Prelude.{encode_utf8_all, filter, nat_lt, if◌then◌else◌}
+use Rattle.std.specs.Prelude.{encode_utf8_all, nat_lt, if◌then◌else◌}
 use Rattle.std.specs.List.{list_any}
 use Rattle.std.proofs.lemmas.Bool.{or_parts}
 use Rattle.std.proofs.lemmas.Str.{encodes-append}
 use Rattle.py_lines.specs.LogicalLine.{LogicalLine, byte_len, line_ends, end_len_of, line_of, lines_from}
 use Rattle.py_lines.specs.Piece.{Piece, spelled}
-use Rattle.py_lines.specs.Words.{Word, word_in, words_of, extent_of}
-use Rattle.py_lines.specs.declared.token.Token.{Token}
+use Rattle.py_lines.specs.Words.{word_in, words_of, extent_of}
 use Rattle.py_imports.specs.ActionComment.{says}
-use Rattle.py_imports.specs.Statement.{is_comment}
 use Rattle.py_imports.specs.declared.action_comment.ActionComment.{ActionComment}
 use Rattle.py_imports.specs.declared.action_comment.ActionComment.TheVariants as action
 use Rattle.isort_sort.specs.LaidAgain.{IsMoved}
-use Rattle.isort_sort.specs.Line.{word_of, comment_texts}
+use Rattle.isort_sort.specs.Line.{comment_texts}
 use Rattle.isort_sort.specs.Row.{is_comment_kind, says_alone, says_off, says_on, is_off_after, Role, member, comments, blank, other, Row, HasRole, indentation_of, AreRows}
 use Rattle.isort_sort.specs.Sorted.{texts_of}
 use Rattle.isort_sort.proofs.Rows.MovedRoles.{role_moved}

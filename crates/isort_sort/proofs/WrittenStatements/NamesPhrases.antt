@@ -8,13 +8,13 @@ use Rattle.py_lines.specs.Character.{is_space, is_return, is_line_feed, is_opera
 use Rattle.py_lines.specs.Neighbours.{MayTouch}
 use Rattle.py_lines.specs.Piece.{space, join, Piece, begins, ends}
 use Rattle.py_lines.specs.Words.{Word, words_of}
-use Rattle.py_imports.specs.Grammar.{Terminal, comma, opening, closing, Item, identifiers, AreItems, AreBracketed, closed, closed_after_comma, AreNames, plain_names, bracketed}
+use Rattle.py_imports.specs.Grammar.{Terminal, comma, opening, closing, Item, identifiers, AreItems, closed, closed_after_comma, AreNames, plain_names, bracketed}
 use Rattle.isort_sort.specs.WrittenLine.{AreRemarks}
 use Rattle.isort_sort.specs.Wrapping.{items_text, remark}
-use Rattle.isort_sort.proofs.WrittenStatements.Items.{a_space, part-a_space, comma_piece, part-comma, IsJoinable, IsGlue, HasItem, AreNameItems, AreLines, line-joinable, lines_pieces, lines_terminals, lines-joinable}
+use Rattle.isort_sort.proofs.WrittenStatements.Items.{a_space, part-a_space, comma_piece, part-comma, IsJoinable, IsGlue, HasItem, AreNameItems, AreLines, line-joinable, lines_pieces, lines-joinable}
 use Rattle.isort_sort.proofs.LineLaws.OneLine.{is_bracket_or_string, plain-line, opening_piece, closing_piece, closes-after, opened-line}
 use Rattle.isort_sort.proofs.LineLaws.Parts.{piece, IsStatementPart, words-append, part-append, part-nil, part-as, part-space, part-operator, part-end, part-join, space_pieces, LettersAreWords}
-use Rattle.isort_sort.proofs.WrittenStatements.Phrases.{end_piece, IsPhrase, IsLead, led, remark_pieces, remark_said, part-remark, touch-remark, well-remark, bare-remark, remark-phrase}
+use Rattle.isort_sort.proofs.WrittenStatements.Phrases.{end_piece, IsPhrase, IsLead, led, remark_pieces, remark_said, part-remark, touch-remark, bare-remark, remark-phrase}
 use Rattle.isort_sort.proofs.LineLaws.Tokens.{are_well, no_words}
 use Rattle.isort_sort.proofs.LineLaws.Touching.{after_word, after_space, touch-space, touch-operator, word_after_space}
 use Rattle.isort_sort.proofs.Rows.Spaces.{space_no_feed}

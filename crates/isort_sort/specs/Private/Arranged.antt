@@ -1,5 +1,5 @@
 -- The layout of a block that was found, with what is left of it to be written, and how far the program is in a sorted text.
-use Rattle.std.specs.Prelude.{◌≡◌, ◌≢◌, ℕ, ◌+◌, false, List, [], ◌++◌, Option, None, Some, MatchOption, option_map}
+use Rattle.std.specs.Prelude.{◌≡◌, ℕ, ◌+◌, false, List, [], ◌++◌, Option, None, Some, MatchOption, option_map}
 use Rattle.std.specs.Prelude.{◌∷◌, length, map, string_bytes}
 use Rattle.std.specs.Borrow.{Bor}
 use Rattle.std.specs.List.{AllByRecursion}

@@ -1,15 +1,29 @@
--- How the program cuts items into lines, and the text that it writes.
-use Rattle.std.specs.Prelude.{◌≡◌, ℕ, ◌+◌, ◌-◌, ◌==◌, Bool, not, ◌&&◌, ◌||◌, List, []}
+-- How the program wraps statements and cuts their items into lines, and the text that it writes.
+use Rattle.std.specs.Prelude.{◌≡◌, ℕ, ◌+◌, ◌-◌, ◌<◌, ◌==◌, Bool, not, ◌&&◌, ◌||◌, List, []}
 use Rattle.std.specs.Prelude.{◌∷◌, ◌++◌, Option, None, Some, map, flat_map, length, if◌then◌else◌, max, nat_le, replicate}
 use Rattle.py_imports.specs.Grammar.{Item}
 use Rattle.isort_settings.specs.Values.{Values}
 use Rattle.isort_sort.specs.Private.Group.{Group}
 use Rattle.isort_sort.specs.declared.group.Group as code
+use Rattle.isort_sort.specs.declared.wrap_mode.WrapMode.{WrapMode}
+use Rattle.isort_sort.specs.declared.wrap_mode.WrapMode.TheVariants as mode
+use Rattle.isort_sort.specs.declared.wrapping.Wrap.{Wrap}
 use Rattle.isort_sort.specs.Layout.{Laid, gap_by_kind, gap_by_comment, own_lines, lines_after, block_lines}
 use Rattle.isort_sort.specs.Statement.{module_of, section_of}
 use Rattle.isort_sort.specs.Private.Values.{statement_value}
 use Rattle.isort_sort.specs.Width.{width}
 use Rattle.isort_sort.specs.Wrapping.{head, items_text, is_forced}
+
+-- the mode is the one that the settings ask for
+abbrev pub IsMode : Values → WrapMode → Type 0
+IsMode v mode.Grid = v.multi_line_output ≡ 0
+IsMode v mode.Vertical = v.multi_line_output ≡ 1
+IsMode v mode.HangingIndent = v.multi_line_output ≡ 2
+IsMode v mode.VerticalHangingIndent = 2 < v.multi_line_output
+
+-- the end of a line of items, and the beginning of the next one
+abbrev pub next_line : Wrap → List ℕ
+next_line w = w.between.now ++ (w.end.now ++ (w.indentation.now ++ replicate w.spaces 32))
 
 -- how many characters the items on a line of a wrapped statement may have, where they are several
 abbrev pub line_room : Values → List ℕ → List ℕ → ℕ

@@ -1,5 +1,5 @@
 -- What was put is the next piece of what was left.
-use Rattle.std.proofs.Common.{◌≡◌, ◌++◌, ℕ, List, [], ◌∷◌, Some, length, map, replicate, flat_map, string_bytes, refl, sym, ap, ◌∙◌, subst, arith, false}
+use Rattle.std.proofs.Common.{◌≡◌, ◌++◌, ℕ, List, [], ◌∷◌, Some, length, map, replicate, flat_map, string_bytes, refl, sym, ap, ◌∙◌, arith, false}
 use Rattle.std.specs.Option.{option_map}
 use Rattle.std.specs.Vec.Iter.{into_iter_items}
 use Rattle.isort_settings.specs.Values.{values}

@@ -1,5 +1,5 @@
 use Rattle.std.proofs.Common.{◌∙◌, ap, string_bytes, arith}
-use Rattle.isort_sort.specs.Private.Wrap.{next_line}
+use Rattle.isort_sort.specs.Private.Packing.{next_line}
 use Rattle.isort_sort.proofs.Layouts.Packing.{room_left, item_written, item_written_below, items_written}
 use Rattle.isort_sort.proofs.wrapping.Wrap.push_items.Goals as goal
 use Rattle.isort_sort.proofs.wrapping.Wrap.push_items.Goals.{in-Some-room_after_next+in_ok-push_str-in-Some-room_after_next, in-None+in_ok-push_break-in-None}

@@ -1,6 +1,6 @@
 use Rattle.std.proofs.Common.{◌≡◌, ◌++◌, string_bytes, map, drop}
 use Rattle.isort_sort.specs.Private.Values.{item_value}
-use Rattle.isort_sort.specs.Private.Wrap.{next_line}
+use Rattle.isort_sort.specs.Private.Packing.{next_line}
 use Rattle.isort_sort.proofs.Layouts.Packing.{more_items}
 use Rattle.isort_sort.proofs.wrapping.Wrap.push_items.Given as goal
 
