@@ -13,7 +13,7 @@ use Rattle.std.specs.List.{flat_map, prefix_len, position_or_len}
 use Rattle.std.specs.Ordering.{nat_cmp, is_ne, ordering_then}
 use Rattle.std.specs.Str.Parse.{AllDigits, digits_value}
 use Rattle.isort_settings.proofs.OrderThen.{then-tied_by_test, then-decided_by_test}
-use Rattle.isort_settings.specs.Orders.{Numbered, NumberCut, digit_before, digit_in_front, cut_at_numbers, Part, text, number, cased, parts, part_cmp}
+use Rattle.isort_settings.specs.Orders.{Numbered, NumberCut, digit_before, digit_before_cut, cut_at_numbers, Part, text, number, cased, parts, part_cmp}
 
 -- where the first digit stands, and how many digits a text begins with
 abbrev pub digits_start : List ℕ → ℕ
@@ -52,33 +52,33 @@ digit_before-first d (x ∷ xs) [] = refl
 digit_before-first d (x ∷ xs) (n ∷ ns) = refl
 
 -- a byte before a cut text
-abbrev in_front : Bool → ℕ → NumberCut → NumberCut
-in_front b x c = cond b (digit_in_front x c) (record c { first = x ∷ c.first })
+abbrev byte_before_cut : Bool → ℕ → NumberCut → NumberCut
+byte_before_cut b x c = cond b (digit_before_cut x c) (record c { first = x ∷ c.first })
 
-front_first : (b : Bool) (x : ℕ) (c : NumberCut) → b ≡ true → (in_front b x c).first ≡ []
-front_first true x c e = digit_before-first x c.first c.others
-front_first false x c e = cc
+no_first : (b : Bool) (x : ℕ) (c : NumberCut) → b ≡ true → (byte_before_cut b x c).first ≡ []
+no_first true x c e = digit_before-first x c.first c.others
+no_first false x c e = cc
 
-front_digit : (b : Bool) (x : ℕ) (c : NumberCut) → b ≡ true → in_front b x c ≡ digit_in_front x c
-front_digit true x c e = refl
-front_digit false x c e = cc
+first_digit : (b : Bool) (x : ℕ) (c : NumberCut) → b ≡ true → byte_before_cut b x c ≡ digit_before_cut x c
+first_digit true x c e = refl
+first_digit false x c e = cc
 
-front_text : (b : Bool) (x : ℕ) (c : NumberCut) → b ≡ false → in_front b x c ≡ record c { first = x ∷ c.first }
-front_text true x c e = cc
-front_text false x c e = refl
+first_text : (b : Bool) (x : ℕ) (c : NumberCut) → b ≡ false → byte_before_cut b x c ≡ record c { first = x ∷ c.first }
+first_text true x c e = cc
+first_text false x c e = refl
 
 -- the text before the first digit is the first part, and the rest are the parts after it
 abbrev cut_at : List ℕ → List ℕ → NumberCut
-cut_at front rest = record { first = front; others = (cut_at_numbers rest).others }
+cut_at before rest = record { first = before; others = (cut_at_numbers rest).others }
 
 cut_text_step : (b : Bool) (x : ℕ) (xs : List ℕ) → is_ascii_digit x ≡ b → cut_at_numbers xs ≡ cut_at (take (digits_start xs) xs) (drop (digits_start xs) xs)
     → cut_at_numbers (x ∷ xs) ≡ cut_at (take (cond (not b) (1 + digits_start xs) 0) (x ∷ xs)) (drop (cond (not b) (1 + digits_start xs) 0) (x ∷ xs))
 cut_text_step true x xs e rest =
     let f : List ℕ → NumberCut = λ t. record { first = t; others = (cut_at_numbers (x ∷ xs)).others } in
-    ap f (front_first (is_ascii_digit x) x (cut_at_numbers xs) e)
+    ap f (no_first (is_ascii_digit x) x (cut_at_numbers xs) e)
 cut_text_step false x xs e rest =
     let k : ℕ = digits_start xs in
-    front_text (is_ascii_digit x) x (cut_at_numbers xs) e
+    first_text (is_ascii_digit x) x (cut_at_numbers xs) e
     ∙ ap (λ (c : NumberCut). record c { first = x ∷ c.first }) rest
     ∙ ap (λ t. cut_at t (drop k xs)) (sym (take_one_more k x xs))
     ∙ ap (λ t. cut_at (take (1 + k) (x ∷ xs)) t) (sym (drop_one_more k x xs))
@@ -95,9 +95,9 @@ before_text : (x y : ℕ) (first : List ℕ) (others : List Numbered) → digit_
 before_text x y first [] = refl
 before_text x y first (n ∷ ns) = refl
 
-digit_alone : (x y : ℕ) (c d : NumberCut) → c ≡ record d { first = y ∷ d.first } → digit_in_front x c ≡ record { first = []; others = record { digits = x ∷ []; after = c.first } ∷ c.others }
+digit_alone : (x y : ℕ) (c d : NumberCut) → c ≡ record d { first = y ∷ d.first } → digit_before_cut x c ≡ record { first = []; others = record { digits = x ∷ []; after = c.first } ∷ c.others }
 digit_alone x y c d e =
-    let P : NumberCut → Type 0 = λ t. digit_in_front x t ≡ record { first = []; others = record { digits = x ∷ []; after = t.first } ∷ t.others } in
+    let P : NumberCut → Type 0 = λ t. digit_before_cut x t ≡ record { first = []; others = record { digits = x ∷ []; after = t.first } ∷ t.others } in
     subst P (sym e) (before_text x y d.first d.others)
 
 one_more_digit : (n x : ℕ) (ds xs : List ℕ) (more : List ℕ → List ℕ) → ds ≡ take n xs
@@ -108,14 +108,14 @@ one_more_digit n x ds xs more e =
     ∙ ap (λ t. numbered (more (take (1 + n) (x ∷ xs))) t) (sym (drop_one_more n x xs))
 
 digits_step : (b : Bool) (x y : ℕ) (ys : List ℕ) → is_ascii_digit y ≡ b → (is_ascii_digit y ≡ true → cut_at_numbers (y ∷ ys) ≡ numbered (y ∷ take (digits_end ys) ys) (drop (digits_end ys) ys))
-    → digit_in_front x (cut_at_numbers (y ∷ ys)) ≡ numbered (x ∷ take (cond b (1 + digits_end ys) 0) (y ∷ ys)) (drop (cond b (1 + digits_end ys) 0) (y ∷ ys))
+    → digit_before_cut x (cut_at_numbers (y ∷ ys)) ≡ numbered (x ∷ take (cond b (1 + digits_end ys) 0) (y ∷ ys)) (drop (cond b (1 + digits_end ys) 0) (y ∷ ys))
 digits_step true x y ys e rest =
-    ap (λ c. digit_in_front x c) (rest e) ∙ one_more_digit (digits_end ys) y (take (digits_end ys) ys) ys (λ t. x ∷ t) refl
-digits_step false x y ys e rest = digit_alone x y (cut_at_numbers (y ∷ ys)) (cut_at_numbers ys) (front_text (is_ascii_digit y) y (cut_at_numbers ys) e)
+    ap (λ c. digit_before_cut x c) (rest e) ∙ one_more_digit (digits_end ys) y (take (digits_end ys) ys) ys (λ t. x ∷ t) refl
+digits_step false x y ys e rest = digit_alone x y (cut_at_numbers (y ∷ ys)) (cut_at_numbers ys) (first_text (is_ascii_digit y) y (cut_at_numbers ys) e)
 
-digits_front : (x : ℕ) (xs : List ℕ) → digit_in_front x (cut_at_numbers xs) ≡ numbered (x ∷ take (digits_end xs) xs) (drop (digits_end xs) xs)
-digits_front x [] = refl
-digits_front x (y ∷ ys) = digits_step (is_ascii_digit y) x y ys refl (λ e. front_digit (is_ascii_digit y) y (cut_at_numbers ys) e ∙ digits_front y ys)
+digits_before_cut : (x : ℕ) (xs : List ℕ) → digit_before_cut x (cut_at_numbers xs) ≡ numbered (x ∷ take (digits_end xs) xs) (drop (digits_end xs) xs)
+digits_before_cut x [] = refl
+digits_before_cut x (y ∷ ys) = digits_step (is_ascii_digit y) x y ys refl (λ e. first_digit (is_ascii_digit y) y (cut_at_numbers ys) e ∙ digits_before_cut y ys)
 
 number_step : (b : Bool) (x : ℕ) (xs : List ℕ) → b ≡ true
     → numbered (x ∷ take (digits_end xs) xs) (drop (digits_end xs) xs) ≡ numbered (take (cond b (1 + digits_end xs) 0) (x ∷ xs)) (drop (cond b (1 + digits_end xs) 0) (x ∷ xs))
@@ -124,7 +124,7 @@ number_step false x xs e = cc
 
 -- a text that begins with a digit is cut after its first number
 cut_number : (x : ℕ) (xs : List ℕ) → is_ascii_digit x ≡ true → cut_at_numbers (x ∷ xs) ≡ numbered (take (digits_end (x ∷ xs)) (x ∷ xs)) (drop (digits_end (x ∷ xs)) (x ∷ xs))
-cut_number x xs e = front_digit (is_ascii_digit x) x (cut_at_numbers xs) e ∙ digits_front x xs ∙ number_step (is_ascii_digit x) x xs e
+cut_number x xs e = first_digit (is_ascii_digit x) x (cut_at_numbers xs) e ∙ digits_before_cut x xs ∙ number_step (is_ascii_digit x) x xs e
 
 -- the case of letters changes no digit
 digit_bounds : (c : ℕ) → is_ascii_digit c ≡ true → (48 ≤ c) × (c ≤ 57)

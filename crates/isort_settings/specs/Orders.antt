@@ -28,15 +28,15 @@ digit_before d [] (n ∷ others) = record { first = []; others = record n { digi
 digit_before d after others = record { first = []; others = record { digits = d ∷ []; after = after } ∷ others }
 
 -- a digit before a cut text: it belongs to the number that the text begins with, or is one by itself
-abbrev pub digit_in_front : ℕ → NumberCut → NumberCut
-digit_in_front d c = digit_before d c.first c.others
+abbrev pub digit_before_cut : ℕ → NumberCut → NumberCut
+digit_before_cut d c = digit_before d c.first c.others
 
 -- the cut of a text
 abbrev pub cut_at_numbers : List ℕ → NumberCut
 cut_at_numbers [] = record { first = []; others = [] }
 cut_at_numbers (c ∷ text) =
     let rest = cut_at_numbers text in
-    if is_ascii_digit c then digit_in_front c rest else record rest { first = c ∷ rest.first }
+    if is_ascii_digit c then digit_before_cut c rest else record rest { first = c ∷ rest.first }
 
 -- what is compared: a text, or the value of a number
 pub data Part : Type 0 where

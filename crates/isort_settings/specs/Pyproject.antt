@@ -1,4 +1,5 @@
 -- The settings that the text of a `pyproject.toml` stands for, with a profile handed in, or its first refusal.
+pub mod Steps
 use Rattle.std.specs.Prelude.{codes, ℕ, Bool, not, ◌||◌, if◌then◌else◌, List, [], ◌∷◌, ◌++◌, map, filter, filter_map, Option, Some, None, option_map, unwrap_or, ok_or, Result, Ok, Err, bytes_eq}
 use Rattle.std.specs.List.{list_any}
 use Rattle.std.specs.Option.{option_map_or}

@@ -14,7 +14,8 @@ pub struct Index {
     pub places: HashMap<String, usize>,
     /// A length that no module in the lists exceeds. A longer text is in none of them, so it isn't looked up.
     pub longest: usize,
-    pub ghost none_is_longer: { (text : List ℕ) → longest < length text → get_by_text places text ≡ None },
+    pub ghost none_is_longer: { (text : List ℕ) → longest < length text
+        → get_by_text places text ≡ None },
 }
 
 impl Index {

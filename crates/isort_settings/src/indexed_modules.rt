@@ -24,7 +24,8 @@ impl Model for IndexedModules {
 
     ghost view = { λ list. map string_bytes list.modules.items };
 
-    ghost invariant = { λ list. IsIndexOf (map string_bytes list.modules.items ∷ []) list.index.places };
+    ghost invariant = { λ list.
+        IsIndexOf (map string_bytes list.modules.items ∷ []) list.index.places };
 }
 
 impl IndexedModules {

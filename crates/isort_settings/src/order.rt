@@ -108,7 +108,7 @@ fn parts_cmp(a: &[u8], b: &[u8], case_sensitive: bool) -> Ordering
 
 /// What stands before the first digit of a text, and the rest.
 fn split_text(text: &[u8]) -> (&[u8], &[u8])
-    ensures front { result.0.now ≡ take (position_or_len is_ascii_digit text.now) text.now }
+    ensures before { result.0.now ≡ take (position_or_len is_ascii_digit text.now) text.now }
     ensures rest { result.1.now ≡ drop (position_or_len is_ascii_digit text.now) text.now }
 {
     let start = text

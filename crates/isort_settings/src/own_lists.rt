@@ -27,7 +27,8 @@ impl Model for OwnLists {
 
     ghost view = { λ own. modules_of_lists own.lists.items };
 
-    ghost invariant = { λ own. IfSome own.index (λ index. IsIndexOf (modules_of_lists own.lists.items) index.places) };
+    ghost invariant = { λ own. IfSome own.index (λ index.
+        IsIndexOf (modules_of_lists own.lists.items) index.places) };
 }
 
 impl OwnLists {

@@ -48,7 +48,8 @@ impl PartialEq for SectionOrder {
 
     ghost eq = { on order_of (pointwise same_section) };
 
-    ghost laws = { partial_equiv_from_equiv (on_equiv order_of (lists_equiv (on_equiv section_number nat_eq_equiv))) };
+    ghost laws = { partial_equiv_from_equiv
+        (on_equiv order_of (lists_equiv (on_equiv section_number nat_eq_equiv))) };
 
     fn eq(&self, other: &SectionOrder) -> bool {
         self.sections() == other.sections()

@@ -95,12 +95,12 @@ pub struct Settings {
 
 impl Settings {
     ghost use Rattle.std.specs.Prelude.{◌≡◌, ◌≢◌, ◌≤◌, ◌↔◌, IsOk, IfOk, IfErr, IsOkAnd, OnOk, OnErr, IsOkUnless, Ok};
-    ghost use Rattle.std.specs.Prelude.{Err, Some, None, map, Option, option_map, string_bytes};
+    ghost use Rattle.std.specs.Prelude.{Err, Some, None, map, option_map, string_bytes};
     ghost use Rattle.toml.specs.View.{view, table_view};
     ghost use Rattle.isort_settings.specs.Keys.{row_of, Ascends};
-    ghost use Rattle.isort_settings.specs.declared.profile.Profile.{Profile};
     ghost use Rattle.isort_settings.specs.Orders.{module_cmp, name_cmp};
-    ghost use Rattle.isort_settings.specs.Pyproject.{settings_of, base_value, first_refusal, values_in, with_sections};
+    ghost use Rattle.isort_settings.specs.Pyproject.{settings_of, base_value, first_refusal, values_in};
+    ghost use Rattle.isort_settings.specs.Pyproject.Steps.{FillsFrom};
     ghost use Rattle.isort_settings.specs.TableSections.{own_names_in, first_refused, sections_refused};
     ghost use Rattle.isort_settings.specs.TableSections.Steps.{bad_key};
     ghost use Rattle.isort_settings.specs.Reading.{read_value};
@@ -231,10 +231,8 @@ impl Settings {
         requires refused { option_map bad_key refused
             ≡ first_refused (sections_refused (table_view table.now)) }
         ensures unrefused { OnOk result (first_refusal (table_view table.now) ≡ None) }
-        ensures filled { OnOk result ((profile : Option Profile)
-            → values self.old
-            ≡ with_sections (table_view table.now) (values_from (base_value profile))
-            → values self.new ≡ values_in (table_view table.now) profile) }
+        ensures filled { OnOk result
+            (FillsFrom (table_view table.now) (values self.old) (values self.new)) }
         ensures refused { IfErr result (λ e. e ≢ SettingsError.Memory
             → first_refusal (table_view table.now) ≡ Some e) }
     {

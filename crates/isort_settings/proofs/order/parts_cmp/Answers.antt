@@ -7,7 +7,7 @@ use Rattle.isort_settings.proofs.order.parts_cmp.Goals as goal
 pub returns-then-is_ne : goal.returns-then-is_ne
 returns-then-is_ne c =
     text_decides c.args.case_sensitive c.args.a.now c.args.b.now c.loop-a_rest.a_left.now c.loop-a_rest.b_left.now _ _ _ _ _ _ c.loop-a_rest.invariant
-    c.split_text.ensures.front c.split_text-in-loop-a_rest.ensures.front c.split_text.ensures.rest c.split_text-in-loop-a_rest.ensures.rest
+    c.split_text.ensures.before c.split_text-in-loop-a_rest.ensures.before c.split_text.ensures.rest c.split_text-in-loop-a_rest.ensures.rest
     c.text_cmp-by_text.ensures c.is_ne.ensures c.if-is_ne.true
 
 pub returns-then-is_empty : goal.returns-then-is_empty
@@ -16,7 +16,7 @@ returns-then-is_empty c =
     let b_digit = BeginsWithDigit-rest c.loop-a_rest.b_left.now _ c.split_text-in-loop-a_rest.ensures.rest in
     let left : parts_order c.args.case_sensitive c.args.a.now c.args.b.now ≡ numbers_order c.args.case_sensitive c.split_text.result.1.now c.split_text-in-loop-a_rest.result.1.now =
     text_ties c.args.case_sensitive c.args.a.now c.args.b.now c.loop-a_rest.a_left.now c.loop-a_rest.b_left.now _ _ _ _ _ _ c.loop-a_rest.invariant
-    c.split_text.ensures.front c.split_text-in-loop-a_rest.ensures.front c.split_text.ensures.rest c.split_text-in-loop-a_rest.ensures.rest
+    c.split_text.ensures.before c.split_text-in-loop-a_rest.ensures.before c.split_text.ensures.rest c.split_text-in-loop-a_rest.ensures.rest
     c.text_cmp-by_text.ensures c.is_ne.ensures c.if-is_ne.false in
     elim c.then-is_empty.branch [
       | then-is_empty-via-then-is_empty w ↦
@@ -39,7 +39,7 @@ returns-then-is_ne-2 c =
     let b_some = some_bytes _ _ c.is_empty-else-is_empty.ensures c.if-is_empty-2.false in
     let left : parts_order c.args.case_sensitive c.args.a.now c.args.b.now ≡ numbers_order c.args.case_sensitive c.split_text.result.1.now c.split_text-in-loop-a_rest.result.1.now =
     text_ties c.args.case_sensitive c.args.a.now c.args.b.now c.loop-a_rest.a_left.now c.loop-a_rest.b_left.now _ _ _ _ _ _ c.loop-a_rest.invariant
-    c.split_text.ensures.front c.split_text-in-loop-a_rest.ensures.front c.split_text.ensures.rest c.split_text-in-loop-a_rest.ensures.rest
+    c.split_text.ensures.before c.split_text-in-loop-a_rest.ensures.before c.split_text.ensures.rest c.split_text-in-loop-a_rest.ensures.rest
     c.text_cmp-by_text.ensures c.is_ne.ensures c.if-is_ne.false in
     numbers_decide c.args.case_sensitive c.split_text.result.1.now c.split_text-in-loop-a_rest.result.1.now _ _ _ _ _ _
     (BeginsWithDigit-rest c.loop-a_rest.a_left.now _ c.split_text.ensures.rest) (BeginsWithDigit-rest c.loop-a_rest.b_left.now _ c.split_text-in-loop-a_rest.ensures.rest) a_some b_some
@@ -57,7 +57,7 @@ loop-a_rest-preserved c =
     let a_some = some_bytes _ _ c.is_empty.ensures c.if-is_empty.false in
     let b_some = some_bytes _ _ c.is_empty-else-is_empty.ensures c.if-is_empty-2.false in
     text_ties c.args.case_sensitive c.args.a.now c.args.b.now c.loop-a_rest.a_left.now c.loop-a_rest.b_left.now _ _ _ _ _ _ c.loop-a_rest.invariant
-    c.split_text.ensures.front c.split_text-in-loop-a_rest.ensures.front c.split_text.ensures.rest c.split_text-in-loop-a_rest.ensures.rest
+    c.split_text.ensures.before c.split_text-in-loop-a_rest.ensures.before c.split_text.ensures.rest c.split_text-in-loop-a_rest.ensures.rest
     c.text_cmp-by_text.ensures c.is_ne.ensures c.if-is_ne.false
     ∙ numbers_tie c.args.case_sensitive c.split_text.result.1.now c.split_text-in-loop-a_rest.result.1.now _ _ _ _ _ _
     (BeginsWithDigit-rest c.loop-a_rest.a_left.now _ c.split_text.ensures.rest) (BeginsWithDigit-rest c.loop-a_rest.b_left.now _ c.split_text-in-loop-a_rest.ensures.rest) a_some b_some

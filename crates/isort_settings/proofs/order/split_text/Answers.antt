@@ -23,6 +23,6 @@ returns c =
     ∙ position-end is_ascii_digit _ c.position.result
     (position_from_yields_List (is_ascii_digit) _ _ c.position.result c.position.ensures.ran (YieldsList-from_slice _ c.iter.ensures.rest) (λ x b q k. search (rules, tests))) in
     record {
-      front = c.split_at.ensures.front ∙ ap (λ k. take k c.args.text.now) e;
+      before = c.split_at.ensures.front ∙ ap (λ k. take k c.args.text.now) e;
       rest = c.split_at.ensures.back ∙ ap (λ k. drop k c.args.text.now) e;
     }
