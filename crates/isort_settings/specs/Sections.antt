@@ -1,12 +1,12 @@
--- The section of a module: the first pair of a dotted prefix, longest first, and a list that holds it.
+-- The section of a module: the first pair of a dotted prefix, longest first, and a list that holds it. A section's name.
 pub mod OnePrefix
-use Rattle.std.specs.Prelude.{ℕ, ◌==◌, Bool, if◌then◌else◌, List, [], ◌∷◌, ◌++◌, map, filter, length, take, slice_index, Option, option_map, find, flat_map, zero, suc}
+use Rattle.std.specs.Prelude.{ℕ, ◌==◌, Bool, if◌then◌else◌, List, [], ◌∷◌, ◌++◌, map, filter, length, take, slice_index, Option, option_map, find, flat_map, get_or, zero, suc}
 use Rattle.std.specs.List.{enumerate_from, position_or_len}
 use Rattle.std.specs.Option.{option_map_or}
 use Rattle.std.specs.Str.{byte}
 use Rattle.isort_settings.specs.declared.section.Section.{Section}
 use Rattle.isort_settings.specs.declared.section.Section.TheVariants.{Future, Stdlib, ThirdParty, FirstParty, LocalFolder, Own}
-use Rattle.isort_settings.specs.FiveSections.{same_section}
+use Rattle.isort_settings.specs.FiveSections.{same_section, section_spelling}
 pub use Rattle.isort_settings.specs.Holds.{holds}
 use Rattle.isort_settings.specs.Values.{Values}
 
@@ -14,6 +14,11 @@ use Rattle.isort_settings.specs.Values.{Values}
 -- it isn't one of them
 abbrev pub section_rank : Values → Section → ℕ
 section_rank v section = position_or_len (λ s. same_section s section) v.sections
+
+-- the name of a section, as the settings spell it: no text where they have no such own section
+abbrev pub section_name : Values → Section → List ℕ
+section_name v (Own n) = get_or v.own_names n []
+section_name v s = section_spelling s
 
 -- the own sections with their lists, in their order
 abbrev pub own_lists_of : Values → List (Section × List (List ℕ))

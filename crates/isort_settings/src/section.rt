@@ -45,8 +45,8 @@ impl Section {
         }
     }
 
-    /// A number of its own for each section.
-    fn number(self) -> usize
+    /// A number of its own for each section: 0 to 4 for the five, in their usual order, 5 and more for own ones, in theirs.
+    pub fn number(self) -> u32
         ensures { result ≡ section_number self }
     {
         match self {
@@ -55,7 +55,7 @@ impl Section {
             Section::ThirdParty => 2,
             Section::FirstParty => 3,
             Section::LocalFolder => 4,
-            Section::Own(place) => 5 + place as usize,
+            Section::Own(place) => 5 + u32::from(place),
         }
     }
 

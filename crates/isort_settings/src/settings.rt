@@ -104,7 +104,7 @@ impl Settings {
     ghost use Rattle.isort_settings.specs.TableSections.{own_names_in, first_refused, sections_refused};
     ghost use Rattle.isort_settings.specs.TableSections.Steps.{bad_key};
     ghost use Rattle.isort_settings.specs.Reading.{read_value};
-    ghost use Rattle.isort_settings.specs.Sections.{five_lists_of, lists_of, section_in, section_rank};
+    ghost use Rattle.isort_settings.specs.Sections.{five_lists_of, lists_of, section_in, section_name, section_rank};
     ghost use Rattle.isort_settings.specs.Sections.OnePrefix.{section_holding};
     ghost use Rattle.isort_settings.specs.Values.{values, values_from, plain_values, black_values};
     ghost use Rattle.isort_settings.specs.Values.OneKey.{with_value};
@@ -387,6 +387,19 @@ impl Settings {
         ensures { result ≡ section_rank (values self.now) section }
     {
         self.sections.rank(section)
+    }
+
+    /// The name of a section, as `sections` spells it; empty where there is no such own section.
+    pub fn section_name(&self, section: Section) -> &str
+        ensures { result.now ≡ section_name (values self.now) section }
+    {
+        match section {
+            Section::Own(place) => match self.own_names.get(place as usize) {
+                Some(name) => name.as_str(),
+                None => "",
+            },
+            _ => section.spelling(),
+        }
     }
 
     /// The section of the first list that holds the prefix: those of the own sections come first.
