@@ -112,8 +112,8 @@ is_open (position.Fault f) top fault = absurd (fault f refl)
 is_open other top fault = refl
 
 -- a prefix of the lines was written, whatever follows the known bytes
-pub front_each : GivenBegin → (path known : List ℕ) (options : FindOptions) (finder : PieceFinderState) (start now : Option (List ℕ)) → ((text : List ℕ) → GoesOnWith text 0 known → GivenAreListed path text options finder start now) → (more : List ℕ) → ListsPrefix path (known ++ more) options start now
-front_each begin path known options finder start now listed more = lists_prefix begin path (known ++ more) options finder start now (listed (known ++ more) (goes_begin known more))
+pub prefix_each : GivenBegin → (path known : List ℕ) (options : FindOptions) (finder : PieceFinderState) (start now : Option (List ℕ)) → ((text : List ℕ) → GoesOnWith text 0 known → GivenAreListed path text options finder start now) → (more : List ℕ) → ListsPrefix path (known ++ more) options start now
+prefix_each begin path known options finder start now listed more = lists_prefix begin path (known ++ more) options finder start now (listed (known ++ more) (goes_begin known more))
 
 -- the chunk decides a fault
 fed_fault : FoundLaws → (path known chunk : List ℕ) (options : FindOptions) (old : PieceFinderState) (fault : Fault) (new : PieceFinderState) (start now : Option (List ℕ)) → MeetsFaultIn old chunk fault new → HasListedGiven path known options old start now → MeetsFaultAfter path (known ++ chunk) options fault start now
@@ -135,7 +135,7 @@ fed_fault laws path known chunk options old fault new start now meets to =
 -- what the errors of a call that is fed a chunk leave
 pub leaves_fed : FoundLaws → (path known chunk : List ℕ) (options : FindOptions) (old : PieceFinderState) (e : FindError) (new : PieceFinderState) (start now : Option (List ℕ)) → FeedsPiece old chunk (Err e) new → HasListedGiven path known options old start now → LeavesChunk path (known ++ chunk) options (run_error_of e) start now
 leaves_fed laws path known chunk options old (find.Fault f) new start now meets to = fed_fault laws path known chunk options old f new start now meets to
-leaves_fed laws path known chunk options old find.Memory new start now keeps to = front_each laws.begin path (known ++ chunk) options old start now (λ text goes. to.listed text (begins_with_both text known chunk goes).0)
+leaves_fed laws path known chunk options old find.Memory new start now keeps to = prefix_each laws.begin path (known ++ chunk) options old start now (λ text goes. to.listed text (begins_with_both text known chunk goes).0)
 
 pub feeds_error : (old : PieceFinderState) (chunk : List ℕ) (r : Result ℕ FindError) (e : FindError) (new : PieceFinderState) → FeedsPiece old chunk r new → r ≡ Err e → FeedsPiece old chunk (Err e) new
 feeds_error old chunk r e new h same = subst (λ (x : Result ℕ FindError). FeedsPiece old chunk x new) same h

@@ -91,17 +91,17 @@ lists_settled some_settled bad_decided path known options finder start now h =
     }
 
 -- and it is a prefix of the lines of each text that begins with these bytes
-settled_front : SettledBegin → (path known more : List ℕ) (options : FindOptions) (start now : Option (List ℕ)) → ListsSettled path known options start now → ListsPrefix path (known ++ more) options start now
-settled_front settled_begin path known more options start now lists = prefix_of_found path (known ++ more) options lists.bounds start now (settled_begin known more options lists.bounds None lists.found) lists.written
+settled_prefix : SettledBegin → (path known more : List ℕ) (options : FindOptions) (start now : Option (List ℕ)) → ListsSettled path known options start now → ListsPrefix path (known ++ more) options start now
+settled_prefix settled_begin path known more options start now lists = prefix_of_found path (known ++ more) options lists.bounds start now (settled_begin known more options lists.bounds None lists.found) lists.written
 
 -- what an error leaves of each text that begins with the bytes fed
 leaves_text : SomeFoundSettled → BadDecided → SettledBegin → (path known more : List ℕ) (options : FindOptions) (finder : PieceFinderState) (e : RunError) (start now : Option (List ℕ)) → LeavesKnown path known options finder e start now → LeavesAtError path (known ++ more) options e start now
 leaves_text some_settled bad_decided settled_begin path known more options finder (run.Fault f) start now h = record { bounds = h.bounds; found = h.found more; written = h.written }
 leaves_text some_settled bad_decided settled_begin path known more options finder run.Write start now h = h more
 leaves_text some_settled bad_decided settled_begin path known more options finder run.Memory start now h = h more
-leaves_text some_settled bad_decided settled_begin path known more options finder run.Read start now h = settled_front settled_begin path known more options start now (lists_settled some_settled bad_decided path known options finder start now h)
-leaves_text some_settled bad_decided settled_begin path known more options finder run.TooLong start now h = settled_front settled_begin path known more options start now (lists_settled some_settled bad_decided path known options finder start now h)
-leaves_text some_settled bad_decided settled_begin path known more options finder run.NeverEnds start now h = settled_front settled_begin path known more options start now (lists_settled some_settled bad_decided path known options finder start now h)
+leaves_text some_settled bad_decided settled_begin path known more options finder run.Read start now h = settled_prefix settled_begin path known more options start now (lists_settled some_settled bad_decided path known options finder start now h)
+leaves_text some_settled bad_decided settled_begin path known more options finder run.TooLong start now h = settled_prefix settled_begin path known more options start now (lists_settled some_settled bad_decided path known options finder start now h)
+leaves_text some_settled bad_decided settled_begin path known more options finder run.NeverEnds start now h = settled_prefix settled_begin path known more options start now (lists_settled some_settled bad_decided path known options finder start now h)
 
 -- a text begins with the bytes that were fed of it
 begins_with_fed : (max : ℕ) (text known read left : List ℕ) → text ≡ read ++ left → known ≡ take max read → text ≡ known ++ (drop max read ++ left)
@@ -191,7 +191,7 @@ identified_stopped some_settled bad_decided settled_begin old new options max gi
 
 -- what was listed before it did
 listed_before : (old now : ListingState) (options : FindOptions) (max : ℕ) (given left : Option (List ℕ)) → options_for old.finder ≡ options → (takes : TakesInput old max given left now) → HasListedSettled now.path takes.lists.known options now.finder old.written now.written
-listed_before old now options max given left same takes = subst (λ (p : List ℕ). HasListedSettled p takes.lists.known options now.finder old.written now.written) (sym takes.same_path) (subst (λ o. HasListedSettled old.path takes.lists.known o now.finder old.written now.written) same takes.lists.listed)
+listed_before old now options max given left same takes = subst (λ (p : List ℕ). HasListedSettled p takes.lists.known options now.finder old.written now.written) (sym takes.goes_on.same_path) (subst (λ o. HasListedSettled old.path takes.lists.known o now.finder old.written now.written) same takes.lists.listed)
 
 -- a fault that the end decides
 fault_at_end : (old : ListingState) (options : FindOptions) (max : ℕ) (given left : Option (List ℕ)) (known : List ℕ) (f : Fault) (new : Option (List ℕ)) → length known ≤ max → Consumes given left known → IsAtEnd left → ListsFound old.path known options (Some f) old.written new → ListsFaulty old.path options max f given left old.written new
@@ -213,7 +213,7 @@ pub identified_ended : (old now new : ListingState) (options : FindOptions) (max
 identified_ended old now new options max given left (Ok done) reader same takes ended fine ends =
     let lists = takes.lists in
     let whole = ends.whole lists.known options old.written (listed_before old now options max given left same takes) in
-    let at_path = subst (λ (p : List ℕ). ListsFound p lists.known options None old.written new.written) takes.same_path whole in
+    let at_path = subst (λ (p : List ℕ). ListsFound p lists.known options None old.written new.written) takes.goes_on.same_path whole in
     record {
       ok = record {
         lists = Consumes-whole given left lists.known (λ text. ListsFound old.path text options None old.written new.written) lists.consumed ended at_path;
@@ -229,7 +229,7 @@ identified_ended old now new options max given left (Ok done) reader same takes 
 identified_ended old now new options max given left (Err e) reader same takes ended fine stops =
     let lists = takes.lists in
     let left_there = stops.leaves lists.known options old.written (listed_before old now options max given left same takes) in
-    let leaves = subst (λ (p : List ℕ). LeavesAtError p lists.known options e old.written new.written) takes.same_path left_there in
+    let leaves = subst (λ (p : List ℕ). LeavesAtError p lists.known options e old.written new.written) takes.goes_on.same_path left_there in
     record {
       ok = tt;
       err = record {

@@ -1,7 +1,7 @@
 -- What is listed of chunks that are read and fed, one after the other.
 use Rattle.std.proofs.Common.{◌≡◌, ℕ, ◌+◌, ◌-◌, ◌<◌, ◌≤◌, ◌∙◌, refl, sym, ap, subst, Bool, true, false, Option, None, Some, IfSome, List, [], ◌++◌, length, min, take, length-append, arith, nat_lt, ltb-true, ltb-false}
 use Rattle.std.proofs.Math.Seq.{take-append-add}
-use Rattle.std.proofs.lemmas.List.{append-nil, length-take-le, take-take, take_all}
+use Rattle.std.proofs.lemmas.List.{append-nil, length-take, length-take-le, take-take, take_all}
 use Rattle.std.proofs.KnownBytes.{Consumes-trans, Consumes-kept}
 use Rattle.std.specs.Io.KnownBytes.{Consumes, Keeps}
 use Rattle.isort_find.specs.Pieces.{PieceFinderState, fed_by, options_for}
@@ -80,7 +80,7 @@ no_read_is_too_long e l h is = subst (λ x. IsReadError x l) is h
 
 pub read_stops : (old now : ListingState) (max : ℕ) (given mid left : Option (List ℕ)) (e : RunError) (l : Last) → TakesInput old max given mid now → Keeps mid left → IsReadError e l → StopsInput old max given e left now
 read_stops old now max given mid left e l takes kept h = record {
-  writer = unread_writer e l now.last h takes.fine;
+  writer = unread_writer e l now.last h takes.goes_on.fine;
   leaves = record {
     known = takes.lists.known;
     fed = fed_whole max takes.lists.known given left takes.lists.within (Consumes-kept given mid left takes.lists.known takes.lists.consumed kept);
@@ -94,16 +94,14 @@ read_stops old now max given mid left e l takes kept h = record {
 -- nothing was read yet
 pub takes_nothing : (s : ListingState) (max : ℕ) (given : Option (List ℕ)) → s.last ≡ last.Fine → Consumes given given [] → HasListedSettled s.path [] (options_for s.finder) s.finder s.written s.written → TakesInput s max given given s
 takes_nothing s max given fine none nothing_fed = record {
-  same_path = refl;
-  fine = fine;
+  goes_on = record { same_path = refl; fine = fine };
   lists = record { known = []; within = omega arith; consumed = none; listed = nothing_fed };
 }
 
 -- no byte came
 pub takes_no_more : (old now : ListingState) (max n : ℕ) (buffer : List ℕ) (given mid left : Option (List ℕ)) → TakesInput old max given mid now → n ≡ 0 → Consumes mid left (take n buffer) → TakesInput old max given left now
 takes_no_more old now max n buffer given mid left takes none read = record {
-  same_path = takes.same_path;
-  fine = takes.fine;
+  goes_on = takes.goes_on;
   lists = record {
     known = takes.lists.known;
     within = takes.lists.within;
@@ -123,6 +121,10 @@ fed_fitting old now max n fed fitting buffer given mid left takes there read sam
   consumed = Consumes-trans given mid left takes.lists.known (take n buffer) takes.lists.consumed read;
   first = take_fitting max n fitting takes.lists.known buffer takes.lists.within there (room_of old now max n fed fitting given mid takes same is);
 }
+
+-- with them no more than `max` bytes are fed
+pub fed_within : (old now : ListingState) (max n fed fitting : ℕ) (buffer : List ℕ) (given mid : Option (List ℕ)) → (takes : TakesInput old max given mid now) → fed ≡ fed_by now.finder → fitting ≡ min (max - fed) n → fed_by now.finder + length (take fitting buffer) ≤ max
+fed_within old now max n fed fitting buffer given mid takes same is = omega (arith, same, is, takes.lists.listed.fed, takes.lists.within, length-take fitting buffer)
 
 -- the writer, after listing failed
 pub stopped_writer : (e : RunError) (l : Last) → IsOutputError e l → LeavesWriter e l
@@ -151,8 +153,8 @@ chunk_stops old now new max n fed fitting buffer given mid left e takes there re
     let lists = takes.lists in
     let known = lists.known ++ take fitting buffer in
     let options = options_for old.finder in
-    let listed = subst (λ (p : List ℕ). HasListedSettled p lists.known options now.finder old.written now.written) (sym takes.same_path) lists.listed in
-    let leaves = subst (λ (p : List ℕ). LeavesChunk p known options e old.written new.written) takes.same_path (stops.leaves lists.known options old.written listed) in
+    let listed = subst (λ (p : List ℕ). HasListedSettled p lists.known options now.finder old.written now.written) (sym takes.goes_on.same_path) lists.listed in
+    let leaves = subst (λ (p : List ℕ). LeavesChunk p known options e old.written new.written) takes.goes_on.same_path (stops.leaves lists.known options old.written listed) in
     record {
       writer = stopped_writer e new.last stops.error;
       leaves = record {
@@ -168,8 +170,8 @@ listed_fitting : (old now new : ListingState) (max : ℕ) (chunk : List ℕ) (gi
 listed_fitting old now new max chunk given mid takes all =
     let lists = takes.lists in
     let options = options_for old.finder in
-    let listed = subst (λ (p : List ℕ). HasListedSettled p lists.known options now.finder old.written now.written) (sym takes.same_path) lists.listed in
-    subst (λ (p : List ℕ). HasListedSettled p (lists.known ++ chunk) options new.finder old.written new.written) takes.same_path (all.listed lists.known options old.written listed)
+    let listed = subst (λ (p : List ℕ). HasListedSettled p lists.known options now.finder old.written now.written) (sym takes.goes_on.same_path) lists.listed in
+    subst (λ (p : List ℕ). HasListedSettled p (lists.known ++ chunk) options new.finder old.written new.written) takes.goes_on.same_path (all.listed lists.known options old.written listed)
 
 consumed_long : (max : ℕ) (given left : Option (List ℕ)) (bytes : List ℕ) → Consumes given left bytes → max < length bytes → IfSome given (λ text. max < length text)
 consumed_long max None left bytes consumed long = tt
@@ -185,7 +187,7 @@ more_came old now new max n fed fitting buffer given mid left takes there read s
     let room = room_of old now max n fed fitting given mid takes same is in
     let size = length-append lists.known (take n buffer) ∙ ap (λ m. length lists.known + m) (length-take-le n buffer there) in
     record {
-      writer = all.fine;
+      writer = all.goes_on.fine;
       leaves = record {
         known = lists.known ++ take fitting buffer;
         fed = fed_fitting old now max n fed fitting buffer given mid left takes there read same is;
@@ -202,8 +204,7 @@ takes_more old now new max n fed fitting buffer given mid left takes there read 
     let every : fitting ≡ n = omega (arith, room, whole) in
     let size = length-append lists.known (take fitting buffer) ∙ ap (λ m. length lists.known + m) (length-take-le fitting buffer (omega (arith, every, there))) in
     record {
-      same_path = all.same_path ∙ takes.same_path;
-      fine = all.fine;
+      goes_on = record { same_path = all.goes_on.same_path ∙ takes.goes_on.same_path; fine = all.goes_on.fine };
       lists = record {
         known = lists.known ++ take fitting buffer;
         within = omega (arith, size, room, lists.within);

@@ -41,13 +41,14 @@ open_has_no_fault s fault is other = let both : phase_in s ≡ phase.Fault fault
 -- an import was given, and its line written
 pub lists_one : (old new : ListingState) (b : Bound) (out : List ℕ) → new.path ≡ old.path → new.last ≡ last.Fine → GivesBinding old.finder b new.finder → out ≡ line_text old.path b → Appends old.written new.written out → ListsOne old new
 lists_one old new b out same fine gives put wrote = record {
-  goes_on = record {
-    same_path = same;
-    fine = fine;
-    fed = gives.fed;
-    open_yet = gives.open_yet;
-    no_fault = λ h fault is. open_has_no_fault new.finder.position fault gives.is_open is;
-    stays = λ top. absurd (not_after_top old.finder gives.was_ready top);
+  keeps = record {
+    goes_on = record { same_path = same; fine = fine };
+    unfed = record {
+      fed = gives.fed;
+      open_yet = gives.open_yet;
+      no_fault = λ h fault is. open_has_no_fault new.finder.position fault gives.is_open is;
+      stays = λ top. absurd (not_after_top old.finder gives.was_ready top);
+    };
     listed = λ text options start h. listed_one_more old.path text options old.finder new.finder b out start old.written new.written gives put wrote h;
   };
   falls = gives.falls;
@@ -56,13 +57,9 @@ lists_one old new b out same fine gives put wrote = record {
 -- nothing was ready
 pub lists_none : (old : ListingState) (next : PieceFinderState) → old.last ≡ last.Fine → GivesNone old.finder next → ListsAll old (record old { finder = next })
 lists_none old next fine none = record {
-  goes_on = record {
-    same_path = refl;
-    fine = fine;
-    fed = none.fed;
-    open_yet = none.open_yet;
-    no_fault = none.no_fault;
-    stays = none.stays;
+  keeps = record {
+    goes_on = record { same_path = refl; fine = fine };
+    unfed = record { fed = none.fed; open_yet = none.open_yet; no_fault = none.no_fault; stays = none.stays };
     listed = λ text options start h. listed_none old.path text options old.finder next start old.written none h;
   };
   none_ready = none.none_ready;
@@ -118,13 +115,13 @@ tells_line path b out old new put wrote = record {
   any = line_is_some path b;
 }
 
-later_some : (front more : List ℕ) → true ≡ list_any (λ b. true) more → true ≡ list_any (λ b. true) (front ++ more)
+later_some : (first more : List ℕ) → true ≡ list_any (λ b. true) more → true ≡ list_any (λ b. true) (first ++ more)
 later_some [] more any = any
-later_some (c ∷ front) more any = refl
+later_some (c ∷ first) more any = refl
 
-later_none : (front more : List ℕ) → false ≡ list_any (λ b. true) more → list_any (λ b. true) front ≡ list_any (λ b. true) (front ++ more)
+later_none : (first more : List ℕ) → false ≡ list_any (λ b. true) more → list_any (λ b. true) first ≡ list_any (λ b. true) (first ++ more)
 later_none [] more none = none
-later_none (c ∷ front) more none = refl
+later_none (c ∷ first) more none = refl
 
 -- the answer is this one
 pub tells_as : (some same : Bool) (old new : Option (List ℕ)) → some ≡ same → TellsWritten some old new → TellsWritten same old new
@@ -156,40 +153,37 @@ stops_ready path old new e same stops text options start h = subst (λ (p : List
 -- nothing was given yet
 pub goes_nowhere : (s : ListingState) → s.last ≡ last.Fine → KeepsListed s s
 goes_nowhere s fine = record {
-  same_path = refl;
-  fine = fine;
-  fed = refl;
-  open_yet = refl;
-  no_fault = λ h. h;
-  stays = λ h. h;
+  goes_on = record { same_path = refl; fine = fine };
+  unfed = record { fed = refl; open_yet = refl; no_fault = λ h. h; stays = λ h. h };
   listed = λ text options start h. h;
 }
 
 -- one more was listed
 pub goes_further : (old mid new : ListingState) → KeepsListed old mid → KeepsListed mid new → KeepsListed old new
 goes_further old mid new first second = record {
-  same_path = second.same_path ∙ first.same_path;
-  fine = second.fine;
-  fed = second.fed ∙ first.fed;
-  open_yet = second.open_yet ∙ first.open_yet;
-  no_fault = λ h. second.no_fault (first.no_fault h);
-  stays = λ h. second.stays (first.stays h);
-  listed = λ text options start h. goes_at old.path mid new first.same_path second text options start (first.listed text options start h);
+  goes_on = record { same_path = second.goes_on.same_path ∙ first.goes_on.same_path; fine = second.goes_on.fine };
+  unfed = record {
+    fed = second.unfed.fed ∙ first.unfed.fed;
+    open_yet = second.unfed.open_yet ∙ first.unfed.open_yet;
+    no_fault = λ h. second.unfed.no_fault (first.unfed.no_fault h);
+    stays = λ h. second.unfed.stays (first.unfed.stays h);
+  };
+  listed = λ text options start h. goes_at old.path mid new first.goes_on.same_path second text options start (first.listed text options start h);
 }
 
 -- all were listed
 pub lists_all : (old mid new : ListingState) → KeepsListed old mid → ListsAll mid new → ListsAll old new
 lists_all old mid new first all = record {
-  goes_on = goes_further old mid new first all.goes_on;
+  keeps = goes_further old mid new first all.keeps;
   none_ready = all.none_ready;
-  whole = λ text options start h no_fault over. subst (λ (p : List ℕ). ListsFound p text options None start new.written) first.same_path (all.whole text options start (subst (λ (p : List ℕ). GivenAreListed p text options mid.finder start mid.written) (sym first.same_path) (first.listed text options start h)) (first.no_fault no_fault) over);
+  whole = λ text options start h no_fault over. subst (λ (p : List ℕ). ListsFound p text options None start new.written) first.goes_on.same_path (all.whole text options start (subst (λ (p : List ℕ). GivenAreListed p text options mid.finder start mid.written) (sym first.goes_on.same_path) (first.listed text options start h)) (first.unfed.no_fault no_fault) over);
 }
 
 -- one could not be
 pub stops_after : (old mid new : ListingState) (e : RunError) → KeepsListed old mid → StopsReady mid e new → StopsReady old e new
 stops_after old mid new e first stops = record {
   error = stops.error;
-  leaves = λ text options start h. leaves_from old.path text options old.finder mid.finder e start new.written first.fed first.open_yet (stops_ready old.path mid new e first.same_path stops text options start (first.listed text options start h));
+  leaves = λ text options start h. leaves_from old.path text options old.finder mid.finder e start new.written first.unfed.fed first.unfed.open_yet (stops_ready old.path mid new e first.goes_on.same_path stops text options start (first.listed text options start h));
 }
 
 -- ---- the end
@@ -197,8 +191,8 @@ stops_after old mid new e first stops = record {
 -- the text ended, and all that was ready then was listed
 pub ends_in_all : (old new : ListingState) (next : PieceFinderState) → EndsFeeding old.finder (Ok tt) next → ListsAll (record old { finder = next }) new → EndsListing old new
 ends_in_all old new next ends all = record {
-  fine = all.goes_on.fine;
-  whole = λ text options start h. all.whole text options start (ends_listed old.path text options old.finder next start old.written h ends) ends.no_fault (still_ended next new.finder ends.ended all.goes_on.open_yet all.goes_on.stays);
+  fine = all.keeps.goes_on.fine;
+  whole = λ text options start h. all.whole text options start (ends_listed old.path text options old.finder next start old.written h ends) ends.no_fault (still_ended next new.finder ends.ended all.keeps.unfed.open_yet all.keeps.unfed.stays);
 }
 
 -- the text ended in an error

@@ -33,37 +33,46 @@ listing_state contents listing writer = record {
   last = last_of writer;
 }
 
--- what was given was listed: nothing was fed, and no fault was met
-pub record KeepsListed (old new : ListingState) : Type 0 where
+-- a listing goes on: its path is the same, and its writer's last call was fine
+pub record GoesOn (old new : ListingState) : Type 0 where
   pub same_path : new.path ≡ old.path
   pub fine : new.last ≡ last.Fine
-  pub fed : fed_by new.finder ≡ fed_by old.finder
-  pub open_yet : new.finder.scanning.ended ≡ old.finder.scanning.ended
-  pub no_fault : HasNoFault old.finder → HasNoFault new.finder
-  pub stays : phase_in old.finder.position ≡ phase.End → phase_in new.finder.position ≡ phase.End
-  pub listed : (text : List ℕ) (options : FindOptions) (start : Option (List ℕ))
-      → GivenAreListed old.path text options old.finder start old.written
-      → GivenAreListed old.path text options new.finder start new.written
+
+-- a finder was fed nothing and met no fault, and after the top it stays so
+pub record IsFedNothing (old new : PieceFinderState) : Type 0 where
+  pub fed : fed_by new ≡ fed_by old
+  pub open_yet : new.scanning.ended ≡ old.scanning.ended
+  pub no_fault : HasNoFault old → HasNoFault new
+  pub stays : phase_in old.position ≡ phase.End → phase_in new.position ≡ phase.End
+
+-- what holds of each text, where what was given of it was listed
+abbrev pub WhereGivenListed : ListingState → (List ℕ → FindOptions → Option (List ℕ) → Type 0) → Type 0
+WhereGivenListed old Then =
+    (text : List ℕ) (options : FindOptions) (start : Option (List ℕ))
+    → GivenAreListed old.path text options old.finder start old.written → Then text options start
+
+-- what was given was listed, and nothing was fed
+pub record KeepsListed (old new : ListingState) : Type 0 where
+  pub goes_on : GoesOn old new
+  pub unfed : IsFedNothing old.finder new.finder
+  pub listed : WhereGivenListed old (λ text options start. GivenAreListed old.path text options new.finder start new.written)
 
 -- one import that was ready was listed
 pub record ListsOne (old new : ListingState) : Type 0 where
-  pub goes_on : KeepsListed old new
+  pub keeps : KeepsListed old new
   pub falls : due_by new.finder < due_by old.finder
 
 -- all that was ready was listed, which is all that is found once the text is over
 pub record ListsAll (old new : ListingState) : Type 0 where
-  pub goes_on : KeepsListed old new
+  pub keeps : KeepsListed old new
   pub none_ready : has_ready new.finder ≡ false
-  pub whole : (text : List ℕ) (options : FindOptions) (start : Option (List ℕ))
-      → GivenAreListed old.path text options old.finder start old.written → HasNoFault old.finder → IsOver new.finder
-      → ListsFound old.path text options None start new.written
+  pub whole : WhereGivenListed old (λ text options start.
+      HasNoFault old.finder → IsOver new.finder → ListsFound old.path text options None start new.written)
 
 -- listing what was ready failed
 pub record StopsReady (old : ListingState) (e : RunError) (new : ListingState) : Type 0 where
   pub error : IsOutputError e new.last
-  pub leaves : (text : List ℕ) (options : FindOptions) (start : Option (List ℕ))
-      → GivenAreListed old.path text options old.finder start old.written
-      → LeavesReady old.path text options old.finder e start new.written
+  pub leaves : WhereGivenListed old (λ text options start. LeavesReady old.path text options old.finder e start new.written)
 
 -- bytes joined what a writer had taken, and this is whether there were any
 pub record TellsWritten (some : Bool) (old new : Option (List ℕ)) : Type 0 where
@@ -82,23 +91,29 @@ abbrev pub ListsReady : ListingState → Result Bool RunError → ListingState �
 ListsReady old (Ok some) new = ListsAll old new
 ListsReady old (Err e) new = StopsReady old e new
 
+-- a finder was fed a chunk whole, and nothing is ready
+pub record IsFedChunk (old : PieceFinderState) (chunk : List ℕ) (new : PieceFinderState) : Type 0 where
+  pub fed : fed_by new ≡ fed_by old + length chunk
+  pub open_yet : new.scanning.ended ≡ false
+  pub none_ready : has_ready new ≡ false
+
+-- what holds of the bytes that were fed, where what they settle was listed
+abbrev pub WhereSettledListed : ListingState → (List ℕ → FindOptions → Option (List ℕ) → Type 0) → Type 0
+WhereSettledListed old Then =
+    (known : List ℕ) (options : FindOptions) (start : Option (List ℕ))
+    → HasListedSettled old.path known options old.finder start old.written → Then known options start
+
 -- a chunk was fed whole, and what it settles was listed
 pub record TakesWholeChunk (old : ListingState) (chunk : List ℕ) (new : ListingState) : Type 0 where
-  pub same_path : new.path ≡ old.path
-  pub fine : new.last ≡ last.Fine
-  pub fed : fed_by new.finder ≡ fed_by old.finder + length chunk
-  pub open_yet : new.finder.scanning.ended ≡ false
-  pub none_ready : has_ready new.finder ≡ false
-  pub listed : (known : List ℕ) (options : FindOptions) (start : Option (List ℕ))
-      → HasListedSettled old.path known options old.finder start old.written
-      → HasListedSettled old.path (known ++ chunk) options new.finder start new.written
+  pub goes_on : GoesOn old new
+  pub feeds : IsFedChunk old.finder chunk new.finder
+  pub listed : WhereSettledListed old (λ known options start.
+      HasListedSettled old.path (known ++ chunk) options new.finder start new.written)
 
 -- listing a chunk failed
 pub record StopsInChunk (old : ListingState) (chunk : List ℕ) (e : RunError) (new : ListingState) : Type 0 where
   pub error : IsOutputError e new.last
-  pub leaves : (known : List ℕ) (options : FindOptions) (start : Option (List ℕ))
-      → HasListedSettled old.path known options old.finder start old.written
-      → LeavesChunk old.path (known ++ chunk) options e start new.written
+  pub leaves : WhereSettledListed old (λ known options start. LeavesChunk old.path (known ++ chunk) options e start new.written)
 
 -- what a call that lists a chunk answers
 abbrev pub ListsChunk : ListingState → List ℕ → Result (Unit {0}) RunError → ListingState → Type 0
@@ -107,8 +122,7 @@ ListsChunk old chunk (Err e) new = StopsInChunk old chunk e new
 
 -- all that was read, at most `max` bytes, was fed, and what it settles was listed
 pub record TakesInput (old : ListingState) (max : ℕ) (given left : Option (List ℕ)) (new : ListingState) : Type 0 where
-  pub same_path : new.path ≡ old.path
-  pub fine : new.last ≡ last.Fine
+  pub goes_on : GoesOn old new
   pub lists : ListsRead old.path (options_for old.finder) max new.finder given left old.written new.written
 
 -- reading or listing failed
@@ -126,16 +140,12 @@ ListsChunks old max given (Err e) left new = StopsInput old max given e left new
 -- the text ended, and the lines of all that is found in it were written
 pub record EndsListing (old new : ListingState) : Type 0 where
   pub fine : new.last ≡ last.Fine
-  pub whole : (text : List ℕ) (options : FindOptions) (start : Option (List ℕ))
-      → HasListedSettled old.path text options old.finder start old.written
-      → ListsFound old.path text options None start new.written
+  pub whole : WhereSettledListed old (λ text options start. ListsFound old.path text options None start new.written)
 
 -- listing what the end makes ready failed
 pub record StopsAtEnd (old : ListingState) (e : RunError) (new : ListingState) : Type 0 where
   pub error : IsOutputError e new.last
-  pub leaves : (text : List ℕ) (options : FindOptions) (start : Option (List ℕ))
-      → HasListedSettled old.path text options old.finder start old.written
-      → LeavesAtError old.path text options e start new.written
+  pub leaves : WhereSettledListed old (λ text options start. LeavesAtError old.path text options e start new.written)
 
 -- what a call that ends the text answers
 abbrev pub ListsEnd : ListingState → Result (Unit {0}) RunError → ListingState → Type 0

@@ -18,7 +18,7 @@ returns-then-count-eq0 g c =
     let so_far = c.chunks.invariant in
     let ended = read.bytes.1 c.if-count-eq0.true (omega (arith, so_far.room, c.read_chunk.auto.chunk)) in
     record {
-      ok = read_whole c.args.max c.in_ok-count.count c.chunks.text.items c.read_chunk.new.chunk _ _ _ so_far.front c.if-count-eq0.true read.bytes.0 ended (omega (arith, so_far.within, c.chunks.text.ok.0));
+      ok = read_whole c.args.max c.in_ok-count.count c.chunks.text.items c.read_chunk.new.chunk _ _ _ so_far.taken c.if-count-eq0.true read.bytes.0 ended (omega (arith, so_far.within, c.chunks.text.ok.0));
       errors = tt;
       length = tt;
       reader = read.fine;

@@ -10,7 +10,7 @@ invariant-chunks g l = record {
   fine : last_of l.reader ≡ Fine;
   within : vec_len l.text ≤ l.max;
   room : length l.chunk ≡ 16384;
-  front : Consumes (g.R.Read.remaining (inner_of l.initial.reader)) (g.R.Read.remaining (inner_of l.reader)) (vec_items l.text);
+  taken : Consumes (g.R.Read.remaining (inner_of l.initial.reader)) (g.R.Read.remaining (inner_of l.reader)) (vec_items l.text);
 }
 
 abbrev pub decreases-chunks : goal.decreases-chunks

@@ -11,7 +11,7 @@ use Rattle.isort_cmd.proofs.listing.Listing.list_chunk.Goals as goal
 
 -- the bytes that are left fit too, and so those that were fed
 rest_fits : (chunk rest : List ℕ) (old now : ListingState) → IsAmid chunk rest old now → fed_by old.finder + length chunk ≤ 2 ^ 62 → fed_by now.finder + length rest ≤ 2 ^ 62
-rest_fits chunk rest old now amid few = omega (arith, amid.fed, length-append amid.front rest, ap length amid.split)
+rest_fits chunk rest old now amid few = omega (arith, amid.fed, length-append amid.taken rest, ap length amid.split)
 
 fed_fits : (chunk rest : List ℕ) (old now : ListingState) → IsAmid chunk rest old now → fed_by old.finder + length chunk ≤ 2 ^ 62 → fed_by now.finder ≤ 2 ^ 62
 fed_fits chunk rest old now amid few = omega (arith, rest_fits chunk rest old now amid few)

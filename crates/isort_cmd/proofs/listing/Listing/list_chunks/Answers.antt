@@ -2,7 +2,7 @@
 use Rattle.std.proofs.Common.{refl, arith}
 use Rattle.std.proofs.KnownBytes.{Consumes-nil}
 use Rattle.std.proofs.lemmas.Result.{err_from_is_err_and}
-use Rattle.isort_cmd.proofs.ReadLemmas.{ends_reading, read_stops, takes_nothing, takes_no_more, read_well, chunk_stops, more_came, takes_more}
+use Rattle.isort_cmd.proofs.ReadLemmas.{ends_reading, fed_within, read_stops, takes_nothing, takes_no_more, read_well, chunk_stops, more_came, takes_more}
 use Rattle.isort_cmd.proofs.listing.Listing.list_chunks.Goals as goal
 
 pub chunks-init : goal.chunks-init
@@ -49,3 +49,14 @@ chunks-preserved g c = record {
   room = omega (arith, c.chunks.invariant.room, c.read_chunk.auto.chunk);
   takes = takes_more _ _ _ c.args.max c.in_ok-count.count c.fed.result c.min-fitting.result c.read_chunk.new.chunk _ _ _ c.chunks.invariant.takes c.in_ok-count.ensures.bound.0 c.in_ok-count.ensures.bytes.0 c.fed.ensures c.min-fitting.ensures c.if-fitting-count.false c.in_ok-list_chunk.ensures;
 }
+
+pub list_chunk-requires : goal.list_chunk-requires
+list_chunk-requires g c =
+    let takes = c.chunks.invariant.takes in
+    let within = fed_within _ _ c.args.max c.in_ok-count.count c.fed.result c.min-fitting.result c.read_chunk.new.chunk _ _ takes c.fed.ensures c.min-fitting.ensures in
+    record {
+      fine = takes.goes_on.fine;
+      fits = omega (arith, within, c.requires.small);
+      open_yet = takes.lists.listed.open_yet;
+      none_ready = takes.lists.listed.none_ready;
+    }

@@ -14,7 +14,7 @@ returns-in_err-list_next g c =
 
 pub imports-preserved : goal.imports-preserved
 imports-preserved g c = record {
-  keeps = goes_further _ _ _ c.imports.invariant.keeps (next_is_one _ _ c.in_ok-list_next.field-0 c.if-branch.true c.in_ok-list_next.ensures.lists).goes_on;
+  keeps = goes_further _ _ _ c.imports.invariant.keeps (next_is_one _ _ c.in_ok-list_next.field-0 c.if-branch.true c.in_ok-list_next.ensures.lists).keeps;
   told = tells_more c.imports.some _ _ _ c.imports.invariant.told (tells_as _ _ _ _ c.if-branch.true c.in_ok-list_next.ensures.some);
 }
 
