@@ -49,7 +49,8 @@ TellsNames names answer old new =
 -- the names of the unknown keys in the buffer; or why settings are refused, and the name of the key whose value is bad
 abbrev pub TellsOf : Result (Values × List (List ℕ)) SettingsError → Answer → List ℕ → List ℕ → Type 0
 TellsOf (Ok (v, unknown)) answer old new = TellsNames unknown answer old new
-TellsOf (Err e) answer old new = (answer ≡ record (refused_answer e) { size = length (bad_key_name e) }) × (new ≡ filled (bad_key_name e) old)
+TellsOf (Err e) answer old new =
+    (answer ≡ record (refused_answer e) { size = length (bad_key_name e) }) × (new ≡ filled (bad_key_name e) old)
 
 -- what the text of settings says with this profile, or that memory ran out
 abbrev pub AnswersSettings : List ℕ → Result (Option Profile) Answer → Answer → List ℕ → List ℕ → Type 0

@@ -12,18 +12,18 @@ use Rattle.isort_c.specs.Answers.{plain_answer, fault_answer, IsUnlessMemory, fi
 use Rattle.isort_c.specs.declared.answer.Answer.{Answer}
 use Rattle.isort_c.specs.declared.answer.TheConstants.{SAME, CHANGED, SKIPPED, MEMORY}
 
--- the answer at an error of sorting; no call that writes nothing has `Write`
-abbrev pub sort_error_answer : SortError → Answer
-sort_error_answer error.Memory = plain_answer MEMORY
-sort_error_answer error.Write = plain_answer MEMORY
-sort_error_answer (error.Fault f) = fault_answer f
+-- the answer at an error of sorting: none at `Write`, which no call has that writes nothing
+abbrev pub TellsError : SortError → Answer → Type 0
+TellsError error.Memory answer = answer ≡ plain_answer MEMORY
+TellsError (error.Fault f) answer = answer ≡ fault_answer f
+TellsError error.Write answer = ⊥
 
 -- the answer of a sort
-abbrev pub sort_answer : Result Sorted SortError → Answer
-sort_answer (Ok sorted.Same) = plain_answer SAME
-sort_answer (Ok (sorted.Changed s)) = record (plain_answer CHANGED) { size = length (string_bytes s) }
-sort_answer (Ok sorted.Skipped) = plain_answer SKIPPED
-sort_answer (Err e) = sort_error_answer e
+abbrev pub TellsSort : Result Sorted SortError → Answer → Type 0
+TellsSort (Ok sorted.Same) answer = answer ≡ plain_answer SAME
+TellsSort (Ok (sorted.Changed s)) answer = answer ≡ record (plain_answer CHANGED) { size = length (string_bytes s) }
+TellsSort (Ok sorted.Skipped) answer = answer ≡ plain_answer SKIPPED
+TellsSort (Err e) answer = TellsError e answer
 
 -- what a sort leaves in the buffer: the sorted text where it differs, and else what was there
 abbrev pub left_by : Result Sorted SortError → List ℕ → List ℕ
@@ -35,7 +35,7 @@ left_by (Err e) out = out
 -- a sort under settings with these values
 abbrev pub SortsUnder : List ℕ → Values → Answer → List ℕ → List ℕ → Type 0
 SortsUnder text v answer old new =
-    (r : Result Sorted SortError) × Sorts text v r × (answer ≡ sort_answer r) × (new ≡ left_by r old)
+    (r : Result Sorted SortError) × Sorts text v r × TellsSort r answer × (new ≡ left_by r old)
 
 -- a sort under what the settings stand for
 abbrev pub AnswersSort : List ℕ → Result (Values × List (List ℕ)) Answer → Answer → List ℕ → List ℕ → Type 0
@@ -43,15 +43,15 @@ AnswersSort text (Ok (v, unknown)) answer old new = SortsUnder text v answer old
 AnswersSort text (Err refused) answer old new = IsUnlessMemory refused answer × (new ≡ old)
 
 -- the answer of a check: that of a sort, with no size
-abbrev pub check_answer : Result Outcome SortError → Answer
-check_answer (Ok outcome.Same) = plain_answer SAME
-check_answer (Ok outcome.Changed) = plain_answer CHANGED
-check_answer (Ok outcome.Skipped) = plain_answer SKIPPED
-check_answer (Err e) = sort_error_answer e
+abbrev pub TellsCheck : Result Outcome SortError → Answer → Type 0
+TellsCheck (Ok outcome.Same) answer = answer ≡ plain_answer SAME
+TellsCheck (Ok outcome.Changed) answer = answer ≡ plain_answer CHANGED
+TellsCheck (Ok outcome.Skipped) answer = answer ≡ plain_answer SKIPPED
+TellsCheck (Err e) answer = TellsError e answer
 
 -- a check under settings with these values
 abbrev pub ChecksUnder : List ℕ → Values → Answer → Type 0
-ChecksUnder text v answer = (r : Result Outcome SortError) × TellsOutcome text v r × (answer ≡ check_answer r)
+ChecksUnder text v answer = (r : Result Outcome SortError) × TellsOutcome text v r × TellsCheck r answer
 
 -- a check under what the settings stand for
 abbrev pub AnswersCheck : List ℕ → Result (Values × List (List ℕ)) Answer → Answer → Type 0

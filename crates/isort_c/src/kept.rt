@@ -34,7 +34,8 @@ fn keep_new(
     settings: Settings,
     unknown: Vec<String>,
 ) -> Result<KeptSettings, AllocError>
-    ensures { IfOk result (λ kept. kept_reading kept ≡ Ok (values settings, map string_bytes unknown.items)) }
+    ensures { IfOk result (λ kept.
+        kept_reading kept ≡ Ok (values settings, map string_bytes unknown.items)) }
 {
     keep(alloc, Arc::new(alloc, Reading { settings, unknown })?)
 }
@@ -44,7 +45,8 @@ fn keep_new(
 fn keep_reading(alloc: Global, text: &[u8], profile: u32) -> Result<KeptSettings, Answer>
     ensures ok { IfOk result (λ kept. kept_reading kept ≡ reading text.now profile) }
     ensures read { IfOk result (λ kept. IsOk (reading text.now profile)) }
-    ensures err { IfErr result (λ a. (reading text.now profile ≡ Err a) ⊎ (a ≡ plain_answer MEMORY)) }
+    ensures err { IfErr result (λ a.
+        (reading text.now profile ≡ Err a) ⊎ (a ≡ plain_answer MEMORY)) }
 {
     let (settings, unknown) = read(alloc, text, profile)?;
     match keep_new(alloc, settings, unknown) {
@@ -63,7 +65,8 @@ pub extern "C" fn fihroste_settings_read(
     profile: u32,
     kept: &mut KeptSettings,
 ) -> Answer
-    ensures { KeepsReading (reading settings.now profile) result (kept_reading kept.old) (kept_reading kept.new) }
+    ensures { KeepsReading (reading settings.now profile) result
+        (kept_reading kept.old) (kept_reading kept.new) }
 {
     match keep_reading(alloc, settings, profile) {
         Ok(read) => {
@@ -84,7 +87,8 @@ pub extern "C" fn fihroste_settings_share(
     kept: &mut KeptSettings,
     other: &mut KeptSettings,
 ) -> Answer
-    ensures shared { KeepsReading (kept_reading kept.old) result (kept_reading other.old) (kept_reading other.new) }
+    ensures shared { KeepsReading (kept_reading kept.old) result
+        (kept_reading other.old) (kept_reading other.new) }
     ensures unchanged { kept_reading kept.new ≡ kept_reading kept.old }
 {
     let Some(stored) = kept.take(alloc) else {

@@ -17,8 +17,8 @@ ghost use Rattle.isort_c.specs.declared.key.TheConstants.{OWN_LIST};
 /// keys of a listing and sections, and of the lists of own sections. No other number is that of a profile, or of a key of a
 /// listing.
 pub fn numbers_are_fixed()
-    ensures statuses { (SAME ≡ 0) × (CHANGED ≡ 1) × (SKIPPED ≡ 2) × (FAULT ≡ 3) × (SETTINGS ≡ 4) × (MEMORY ≡ 5)
-        × (ARGUMENT ≡ 6) }
+    ensures statuses { (SAME ≡ 0) × (CHANGED ≡ 1) × (SKIPPED ≡ 2)
+        × (FAULT ≡ 3) × (SETTINGS ≡ 4) × (MEMORY ≡ 5) × (ARGUMENT ≡ 6) }
     ensures faults { (fault_number kind.BadUtf8 ≡ 1) × (fault_number kind.BadChar ≡ 2)
         × (fault_number kind.OpenString ≡ 3) × (fault_number kind.OpenTriple ≡ 4)
         × (fault_number kind.WrongClose ≡ 5) × (fault_number kind.OpenBracket ≡ 6)
@@ -26,7 +26,8 @@ pub fn numbers_are_fixed()
         × (fault_number kind.BadImport ≡ 9) × (fault_number kind.OpenField ≡ 10) }
     ensures refusals { ((refused_answer refusal.BadToml).label ≡ 1)
         × ((key : SettingKey) → (refused_answer (refusal.BadValue key)).label ≡ 2)
-        × ((refused_answer refusal.UnknownProfile).label ≡ 3) × ((refused_answer refusal.UnsupportedMode).label ≡ 4) }
+        × ((refused_answer refusal.UnknownProfile).label ≡ 3)
+        × ((refused_answer refusal.UnsupportedMode).label ≡ 4) }
     ensures profiles { (profile_at 0 ≡ Ok None) × (profile_at 1 ≡ Ok (Some Black)) }
     ensures other_profiles { (n : ℕ) → profile_at (2 + n) ≡ Err (plain_answer 6) }
     ensures unique { (unique_at 0 ≡ Ok None) × (unique_at 1 ≡ Ok (Some unique.Package))

@@ -27,7 +27,8 @@ pub fn push_text(text: &str, out: &mut Vec<u8>) -> Result<(), AllocError>
 /// Puts a byte after `out` that says whether there is a text, and then that text.
 #[tactic(auto, unfolding(crate::specs::Records::option_record))]
 fn push_option(text: &Option<String>, out: &mut Vec<u8>) -> Result<(), AllocError>
-    ensures { OnOk result (out.new.items ≡ out.old.items ++ option_record (option_map string_bytes text.now)) }
+    ensures { OnOk result (out.new.items
+        ≡ out.old.items ++ option_record (option_map string_bytes text.now)) }
 {
     match text {
         None => {

@@ -45,8 +45,10 @@ fn refused(error: &SettingsError) -> Answer
 /// The settings that the text of a `pyproject.toml` stands for, with the profile of this number, and the names of its
 /// unknown keys; or the answer where there are none.
 pub fn read(alloc: Global, text: &[u8], profile: u32) -> Result<(Settings, Vec<String>), Answer>
-    ensures ok { IfOk result (λ r. reading text.now profile ≡ Ok (values r.0, map string_bytes r.1.items)) }
-    ensures err { IfErr result (λ a. (reading text.now profile ≡ Err a) ⊎ (a ≡ plain_answer MEMORY)) }
+    ensures ok { IfOk result (λ r.
+        reading text.now profile ≡ Ok (values r.0, map string_bytes r.1.items)) }
+    ensures err { IfErr result (λ a.
+        (reading text.now profile ≡ Err a) ⊎ (a ≡ plain_answer MEMORY)) }
 {
     let profile = profile_at(profile)?;
     match Settings::from_pyproject(alloc, text, profile) {
@@ -68,7 +70,8 @@ pub fn records_of(alloc: Global, names: &[String]) -> Result<Vec<u8>, AllocError
 
 /// The answer where settings are refused, with the name of the key whose value is bad.
 fn tell_refusal(error: &SettingsError, out: &mut [u8]) -> Answer
-    ensures answer { result ≡ record (refused_answer error.now) { size = length (bad_key_name error.now) } }
+    ensures answer { result
+        ≡ record (refused_answer error.now) { size = length (bad_key_name error.now) } }
     ensures out { out.new ≡ filled (bad_key_name error.now) out.old }
 {
     let mut answer = refused(error);

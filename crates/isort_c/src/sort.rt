@@ -1,9 +1,8 @@
 //! Sorting and checking.
-ghost use Rattle.std.specs.Prelude.{◌≡◌};
+ghost use Rattle.std.specs.Prelude.{◌≡◌, ◌≢◌, Err};
 ghost use Rattle.isort_settings.specs.Values.{values};
 ghost use Rattle.isort_c.specs.Readings.{reading};
-ghost use Rattle.isort_c.specs.Sorting.{sort_error_answer, sort_answer, left_by, SortsUnder, AnswersSort};
-ghost use Rattle.isort_c.specs.Sorting.{ChecksUnder, AnswersCheck};
+ghost use Rattle.isort_c.specs.Sorting.{TellsError, TellsSort, left_by, SortsUnder, AnswersSort, ChecksUnder, AnswersCheck};
 
 use crate::answer::{Answer, CHANGED, MEMORY, SAME, SKIPPED};
 use crate::buffer::fill;
@@ -12,19 +11,22 @@ use isort_settings::Settings;
 use isort_sort::{Outcome, SortError, Sorted, sort_code, sort_outcome};
 use std::alloc::Global;
 
-/// The answer at an error of sorting.
+/// The answer at an error of a call that writes nothing.
 fn at_error(error: SortError) -> Answer
-    ensures { result ≡ sort_error_answer error }
+    requires { error ≢ SortError.Write }
+    ensures { TellsError error result }
 {
     match error {
-        SortError::Memory | SortError::Write => Answer::plain(MEMORY),
+        SortError::Memory => Answer::plain(MEMORY),
         SortError::Fault(fault) => Answer::at_fault(fault),
+        SortError::Write => unreachable!(),
     }
 }
 
 /// Puts the sorted text at the buffer's beginning, where it fits.
 fn put(sorted: &Result<Sorted, SortError>, out: &mut [u8]) -> Answer
-    ensures answer { result ≡ sort_answer sorted.now }
+    requires { sorted.now ≢ Err SortError.Write }
+    ensures answer { TellsSort sorted.now result }
     ensures out { out.new ≡ left_by sorted.now out.old }
 {
     match sorted {
