@@ -1,5 +1,5 @@
 -- Lines that were passed over without their tokens hold neither word and say nothing, so they are read.
-use Rattle.std.proofs.Common.{◌≡◌, ℕ, ◌+◌, ◌<◌, ◌≤◌, List, [], ◌∷◌, length, slice_range, refl, sym, ap, ◌∙◌, subst, arith}
+use Rattle.std.proofs.Common.{◌≡◌, ℕ, ◌+◌, ◌<◌, ◌≤◌, List, [], ◌∷◌, length, sym, ap, ◌∙◌, subst, arith}
 use Rattle.py_lines.specs.LogicalLine.{LogicalLine}
 use Rattle.py_lines.specs.Reader.{Reader, PassesLine, PassesLines}
 use Rattle.isort_sort.specs.Private.FirstWords.{HoldsBytesAt, IsFree}

@@ -1,4 +1,4 @@
-use Rattle.std.proofs.Common.{[], ◌≡◌, map, string_bytes, refl, sym, ap, ◌∙◌, MatchOption}
+use Rattle.std.proofs.Common.{[], ◌≡◌, map, string_bytes, sym, ap, ◌∙◌, MatchOption}
 use Rattle.py_lines.specs.Lines.{line_in}
 use Rattle.py_imports.specs.Bound.{bound_of}
 use Rattle.isort_sort.specs.Line.{comment_texts, own_comments, imported_of}

@@ -3,7 +3,7 @@ use Rattle.std.proofs.Common.{ℕ, List, sym, ap, subst, ◌∙◌, arith}
 use Rattle.isort_sort.specs.Private.FirstWords.{IsFree}
 use Rattle.isort_sort.specs.Private.Reading.{IsKnown}
 use Rattle.isort_sort.specs.declared.read.LineReader.{LineReader}
-use Rattle.isort_sort.proofs.Readings.PassedLines.{all_passed, later_place, moved, same_text}
+use Rattle.isort_sort.proofs.Readings.PassedLines.{all_passed, later_place, same_text}
 use Rattle.isort_sort.proofs.read.LineReader.pass_lines.Goals as goal
 
 pub returns-clause-known : goal.returns-clause-known

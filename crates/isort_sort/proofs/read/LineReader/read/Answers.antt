@@ -1,4 +1,4 @@
-use Rattle.std.proofs.Common.{Ok, length, sym, ap, ◌∙◌, subst, arith}
+use Rattle.std.proofs.Common.{Ok, length, ap, ◌∙◌, subst, arith}
 use Rattle.std.proofs.lemmas.Result.{err_from_is_err_and}
 use Rattle.isort_sort.specs.Answers.{IsRefused}
 use Rattle.isort_sort.specs.Private.Reading.{IsWholeRead, ReadsOver}
