@@ -8,7 +8,7 @@ use Rattle.py_lines.specs.Balance.{depth_through}
 use Rattle.py_lines.specs.Character.{is_break, is_quote}
 use Rattle.py_lines.specs.FieldStrings.{is_field_prefix, literal}
 use Rattle.py_lines.specs.Piece.{string, Piece}
-use Rattle.py_lines.specs.declared.host.Host as known
+use Rattle.py_lines.specs.declared.host.StringWithFields.{StringWithFields}
 use Rattle.py_lines.specs.declared.mode.Mode.{Mode}
 use Rattle.py_lines.specs.declared.mode.Mode.TheVariants as modes
 use Rattle.py_lines.specs.declared.mode.Spelling.{Spelling}
@@ -57,7 +57,7 @@ module _ (s : Spelling) (field : is_field_spelling s ≡ true) (q : ℕ) (quote 
       let w : Spelling = spelling_on (first_spelling c) cs in
       let begun : is_field_prefix (c ∷ cs) ≡ true = (word_tells c cs).0 ∙ ap is_field_spelling (sym is) ∙ field in
       let shallow : depth_through 0 done ≤ 100 = omega (arith, few, (brackets.stands done st come.stacked).depth) in
-      let own : known.Host = record { quote = q; is_long = false; is_raw = is_raw_spelling w } in
+      let own : StringWithFields = record { quote = q; is_long = false; is_raw = is_raw_spelling w } in
       let front : List ℕ = (c ∷ cs) ++ q ∷ [] in
       let T = at_body (host_in own) front in
       let (u, through, end) = leads [] (record { done = []; openers = []; host = host_in own; place = literal; front = [] }) (depth_through 0 done) T refl quote (omega (arith, shallow)) (front, refl) in
