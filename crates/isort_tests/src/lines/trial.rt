@@ -1,5 +1,5 @@
 //! Made texts, which are read alike whether they are cut or not, and whether lines are passed over or not.
-ghost use Rattle.std.specs.Prelude.{◌≡◌, ◌<◌, false};
+ghost use Rattle.std.specs.Prelude.{◌≡◌, ◌<◌, ◌≤◌, false, length, IfSome};
 
 use crate::lines::made::{Dice, LONGEST, made_text};
 use crate::lines::scanner::{begun, feed, finish};
@@ -66,19 +66,41 @@ fn ready_is_next(scanner: &mut Scanner, lines: &mut Lines<'_>) -> bool
     is_next
 }
 
-/// Whether a piece is read as the reader reads on. The answer is none where more may come: where neither a fault nor a difference was
-/// met.
+/// How many bytes of a piece the scanner passes over, as far as the lines end in so many bytes. The answer is none where the reader doesn't
+/// come to the same place.
+fn passed(scanner: &mut Scanner, lines: &mut Lines<'_>, piece: &[u8], ahead: usize) -> Option<usize>
+    ensures within { IfSome result (λ n. n ≤ length piece.now) }
+    ensures ended { scanner.new.ended ≡ scanner.old.ended }
+{
+    if scanner.fed() > LONGEST as u64 || piece.len() > LONGEST {
+        return None;
+    }
+    let len = scanner.pass_lines(piece, ahead);
+    if comes_to(lines, scanner.offset(), scanner.line()) {
+        Some(len)
+    } else {
+        None
+    }
+}
+
+/// Whether a piece is read as the reader reads on, if lines are passed over as far as they end in so many bytes. The answer is none where
+/// more may come: where neither a fault nor a difference was met.
 fn piece_is_alike(
     alloc: Global,
     scanner: &mut Scanner,
     lines: &mut Lines<'_>,
     piece: &[u8],
+    ahead: usize,
 ) -> Option<bool>
     requires { scanner.old.ended ≡ false }
     ensures { scanner.new.ended ≡ false }
 {
     let mut rest = piece;
     for _ in 0..piece.len() {
+        match passed(scanner, lines, rest, ahead) {
+            Some(len) => rest = &rest[len..],
+            None => return Some(false),
+        }
         match feed(alloc, scanner, rest) {
             Ok(taken) => rest = &rest[taken..],
             Err(error) => return Some(fails(lines, error)),
@@ -103,9 +125,9 @@ fn end_is_alike(alloc: Global, scanner: &mut Scanner, lines: &mut Lines<'_>) -> 
     }
 }
 
-/// A text, and how many bytes the pieces of it have at most.
+/// A text, how many bytes the pieces of it have at most, and in how many bytes the lines end that may be passed over.
 #[derive(Drop)]
-struct Cuts<'t>(&'t [u8], usize);
+struct Cuts<'t>(&'t [u8], usize, usize);
 
 impl Cuts<'_> {
     /// Whether the text in pieces, of which each ends at random, is read as the reader reads on.
@@ -122,7 +144,7 @@ impl Cuts<'_> {
         let mut rest = self.0;
         for _ in 0..self.0.len() {
             let len = (dice.below(self.1) + 1).min(rest.len());
-            if let Some(alike) = piece_is_alike(alloc, scanner, lines, &rest[..len]) {
+            if let Some(alike) = piece_is_alike(alloc, scanner, lines, &rest[..len], self.2) {
                 return alike;
             }
             rest = &rest[len..];
@@ -131,13 +153,13 @@ impl Cuts<'_> {
     }
 }
 
-/// Whether a text in pieces of at most so many bytes is read as it is whole.
-fn scans_alike(alloc: Global, dice: &mut Dice, text: &[u8], most: usize) -> bool
-    requires { 0 < most }
+/// Whether a text in these pieces is read as it is whole.
+fn scans_alike(alloc: Global, dice: &mut Dice, cuts: Cuts<'_>) -> bool
+    requires { 0 < cuts.1 }
 {
-    match (begun(alloc), Lines::new(alloc, text)) {
+    match (begun(alloc), Lines::new(alloc, cuts.0)) {
         (Ok(mut scanner), Ok(mut lines)) => {
-            Cuts(text, most).are_alike(alloc, dice, &mut scanner, &mut lines)
+            cuts.are_alike(alloc, dice, &mut scanner, &mut lines)
         }
         _ => false,
     }
@@ -183,10 +205,12 @@ fn is_alike(alloc: Global, number: u64) -> bool {
     match made_text(alloc, &mut dice) {
         Ok(text) => {
             let text = text.as_slice();
-            scans_alike(alloc, &mut dice, text, 1)
-                && scans_alike(alloc, &mut dice, text, 8)
-                && scans_alike(alloc, &mut dice, text, 90)
-                && scans_alike(alloc, &mut dice, text, LONGEST)
+            scans_alike(alloc, &mut dice, Cuts(text, 1, 0))
+                && scans_alike(alloc, &mut dice, Cuts(text, 8, 0))
+                && scans_alike(alloc, &mut dice, Cuts(text, 90, 0))
+                && scans_alike(alloc, &mut dice, Cuts(text, LONGEST, 0))
+                && scans_alike(alloc, &mut dice, Cuts(text, 90, 40))
+                && scans_alike(alloc, &mut dice, Cuts(text, LONGEST, LONGEST))
                 && passes_alike(alloc, &mut dice, text)
         }
         Err(_) => false,
