@@ -2,6 +2,7 @@
 pub mod Known
 pub mod Starts
 pub mod LetGo
+pub mod PassedLines
 pub mod TriedLines
 pub mod Settled
 pub mod Held

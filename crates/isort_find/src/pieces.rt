@@ -1,5 +1,5 @@
 //! The imports of a text that comes in pieces.
-ghost use Rattle.std.specs.Prelude.{◌≡◌, ◌↔◌, ◌+◌, ◌≤◌, ◌^◌, ℕ, List, [], true, false, Ok, length, IsTrue, IfOk, IfErr};
+ghost use Rattle.std.specs.Prelude.{◌≡◌, ◌↔◌, ◌+◌, ◌-◌, ◌≤◌, ◌^◌, ℕ, List, [], true, false, Ok, drop, length, IsTrue, IfOk, IfErr};
 ghost use Rattle.py_imports.specs.Bound.{Bound};
 
 use crate::cursor::Cursor;
@@ -8,7 +8,8 @@ use crate::known::known_laws;
 use crate::options::FindOptions;
 use crate::pending::LineStart;
 use crate::walker::{Phase, Walker};
-use py_imports::Binding;
+use py_imports::laws::lines_between_first_words_bind_nothing;
+use py_imports::{Binding, FirstWords};
 use py_lines::{LexError, Scanner};
 use std::alloc::Global;
 use std::marker::Model;
@@ -39,7 +40,8 @@ impl PieceFinder {
     ghost use Rattle.isort_find.specs.Pieces.{PieceFinderState, HasFoundIn, AreAllSettled, IsUndecided, IsOpenYet, FeedsPiece};
     ghost use Rattle.isort_find.specs.Pieces.{GivesReady, EndsFeeding, GoesOnFrom, fed_by, held_by, has_ready};
     ghost use Rattle.isort_find.specs.Position.{phase_in};
-    ghost use Rattle.isort_find.specs.Private.PieceSteps.{IsNextStart, LetsLineGo, TriesReady, TakesBytesOf, IsToGoOn, IsToStop};
+    ghost use Rattle.isort_find.specs.Private.PieceSteps.{IsBetween, IsNextStart, LetsLineGo, PassesLines};
+    ghost use Rattle.isort_find.specs.Private.PieceSteps.{TriesReady, TakesBytesOf, IsToGoOn, IsToStop};
     ghost use Rattle.isort_find.specs.Private.PieceSteps.{HasTakenAll, ReadsUnread, TakesReady, Rests, with_passed};
 
     /// A finder at the start of a text, before its first piece. It answers `Memory` alone.
@@ -95,17 +97,37 @@ impl PieceFinder {
         }
     }
 
+    /// Lets the logical line go that was read last. After it, from byte `start` of the piece on, passes over lines without their
+    /// tokens, as long as they are simple and bind nothing, and answers how many bytes these have. Most lines are passed over so.
+    #[inline(always)]
+    fn pass_lines(&mut self, piece: &[u8], start: usize, words: &mut FirstWords<'_>) -> usize
+        requires within { start ≤ length piece.now }
+        requires fits { fed_by self.old + (length piece.now - start) ≤ 2 ^ 62 }
+        requires open_yet { self.old.scanning.ended ≡ false }
+        requires is_open { phase_in self.old.position ≡ Phase.Open }
+        requires none_ready { has_ready self.old ≡ false }
+        requires text { words.old ≡ piece.now }
+        ensures passes { PassesLines self.old (drop start piece.now) result self.new }
+        ensures text { words.new ≡ words.old }
+    {
+        lines_between_first_words_bind_nothing();
+        self.let_go();
+        if !self.walker.may_pass_lines() {
+            return 0;
+        }
+        let before = words.clear_up_to(start) - start;
+        self.scanner.pass_lines(&piece[start..], before)
+    }
+
     /// Takes bytes up to the end of a logical line, and reads that line: how many.
     #[inline(always)]
     fn take_line(&mut self, piece: &[u8]) -> Result<usize, FindError>
         requires fits { fed_by self.old + length piece.now ≤ 2 ^ 62 }
         requires open_yet { self.old.scanning.ended ≡ false }
-        requires is_open { phase_in self.old.position ≡ Phase.Open }
-        requires none_ready { has_ready self.old ≡ false }
+        requires between { IsBetween self.old }
         ensures { TakesBytesOf self.old piece.now result self.new }
     {
         known_laws();
-        self.let_go();
         let start = self.start();
         match self.scanner.feed(piece) {
             Ok(taken) => {
@@ -128,8 +150,10 @@ impl PieceFinder {
         ensures done { (n : ℕ) → result ≡ Ok n → has_ready self.new ≡ false
             → HasTakenAll piece.now n self.new }
     {
+        let mut words = FirstWords::new(piece);
         let mut taken = 0;
         'lines: loop {
+            taken += self.pass_lines(piece, taken, &mut words);
             match self.take_line(&piece[taken..]) {
                 Ok(more) => taken += more,
                 Err(FindError::Fault(fault)) => return Err(FindError::Fault(fault)),

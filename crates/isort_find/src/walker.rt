@@ -1,5 +1,5 @@
 //! What a finder over a whole text and one over pieces have in common: where each stands in its text, and its cursor.
-ghost use Rattle.std.specs.Prelude.{◌≡◌, ◌↔◌, IsTrue, [], map};
+ghost use Rattle.std.specs.Prelude.{◌≡◌, ◌↔◌, IsTrue, [], false, map};
 ghost use Rattle.py_lines.specs.UnitLine.{line_in};
 ghost use Rattle.py_imports.specs.Bound.{bound_of};
 
@@ -134,6 +134,14 @@ impl Walker {
             Position::Between { skip } | Position::Unread { skip, .. } => *skip,
             _ => 0,
         }
+    }
+
+    /// Whether logical lines that bind nothing may be passed over: no bindings of the next one were looked at, and none ends the top.
+    pub fn may_pass_lines(&self) -> bool
+        ensures fresh { IsTrue result → skip_in self.now.position ≡ 0 }
+        ensures counts { IsTrue result → self.now.cursor.options.top_only ≡ false }
+    {
+        self.skip() == 0 && !self.options().top_only
     }
 
     /// The byte up to which text was passed over after the end, or 0.

@@ -7,7 +7,7 @@ use Rattle.isort_find.specs.Cursor.{CursorState}
 use Rattle.isort_find.specs.Pending.{PendingState}
 use Rattle.isort_find.specs.Position.{phase_in, skip_in, are_left, ready_in}
 use Rattle.isort_find.specs.Pieces.{PieceFinderState, piece_finder_state, fed_by, has_ready, HasReleased, IsBetweenLines, IsWithinLine, HasFoundIn}
-use Rattle.isort_find.specs.Private.PieceSteps.{ReleasesAny, LetsLineGo}
+use Rattle.isort_find.specs.Private.PieceSteps.{IsBetween, ReleasesAny, LetsLineGo}
 use Rattle.isort_find.specs.Private.Walks.{after_line}
 use Rattle.isort_find.specs.declared.walker.Position.{Position}
 use Rattle.isort_find.specs.declared.walker.Position.TheVariants as position
@@ -64,6 +64,20 @@ has_let_go old a opened none yet l = record {
   begins = record { opened = opened; none = none; yet = yet; scanner = l.scanner; none_ready = l.none_ready; some_text = l.some_text };
   is = begun_is old a opened none l;
 }
+
+-- between two lines, none of which is held, there is nothing to let go
+pub begun_here : (old a : PieceFinderState) → a ≡ old → IsBetween old → old.scanning.ended ≡ false → HasLetGo old a
+begun_here old a same b yet = subst (HasLetGo old) (sym same) (record {
+  begins = record {
+    opened = ap phase_in b.position;
+    none = ap ready_in b.position;
+    yet = yet;
+    scanner = inl (b.none_ready, refl);
+    none_ready = b.none_ready;
+    some_text = λ line ready. absurd (none_or_some _ line b.none_ready ready);
+  };
+  is = ap (λ (s : Position). piece_finder_state old.scanning s old.cursor) b.position;
+})
 
 -- a line that was read is let go
 within_gone : (s t : ScannerState) (cursor : CursorState) (text : List ℕ) (p : PendingState) (bounds : List Bound) → p.left ≡ [] → Releases s t → IsWithinLine s cursor.options text p bounds → IsBetweenLines t cursor text 0 bounds

@@ -1,15 +1,17 @@
 -- What a finder over pieces is once bytes were taken line by line.
-use Rattle.std.proofs.Common.{◌≡◌, ℕ, ◌+◌, ◌≤◌, false, None, List, ◌++◌, length, take, drop, inl, inr, ◌⊎◌, refl, sym, ap, ◌∙◌, subst, length-append, arith}
+use Rattle.std.proofs.Common.{◌≡◌, ℕ, ◌+◌, ◌-◌, ◌*◌, ◌<◌, ◌≤◌, true, false, nat_lt, zero, suc, Option, None, Some, List, [], ◌++◌, length, take, drop, inl, inr, ◌⊎◌, refl, sym, ap, ◌∙◌, subst, length-append, arith}
+use Rattle.std.proofs.lemmas.Bool.{ltb-true}
 use Rattle.std.proofs.Math.Seq.{take-add, take-append_seam}
 use Rattle.std.proofs.lemmas.List.{length-take-le, length-drop, drop-take}
-use Rattle.py_lines.specs.ScannerState.{ScannerState, GoesOnWith}
+use Rattle.py_lines.specs.LogicalLine.{LogicalLine}
+use Rattle.py_lines.specs.ScannerState.{ScannerState, GoesOnWith, ready_lines}
 use Rattle.py_lines.specs.declared.fault.Fault.{Fault}
 use Rattle.py_imports.specs.Bound.{Bound}
 use Rattle.isort_find.specs.Settled.{DecidesFound}
 use Rattle.isort_find.specs.Cursor.{CursorState}
 use Rattle.isort_find.specs.Position.{phase_in, skip_in}
 use Rattle.isort_find.specs.Pieces.{PieceFinderState, piece_finder_state, options_for, fed_by, has_ready, HasFoundIn, PieceFinderRunsOut, MeetsFaultIn}
-use Rattle.isort_find.specs.Private.PieceSteps.{TakesLines, TakesNothing}
+use Rattle.isort_find.specs.Private.PieceSteps.{Advances, IsToGoOn, TakesLines, TakesNothing}
 use Rattle.isort_find.specs.declared.options.FindOptions.{FindOptions}
 use Rattle.isort_find.specs.declared.pending.LineStart.{LineStart}
 use Rattle.isort_find.specs.declared.walker.Position.{Position}
@@ -31,28 +33,42 @@ goes_then text place piece t n first second goes =
       subst (λ (bytes : List ℕ). GoesOnWith text (place + t) bytes) (drop-take t n piece) both.1,
     )
 
+-- the same, of a finder that has taken the first bytes
+goes_both : (old mid : PieceFinderState) (piece : List ℕ) (t n : ℕ) → Advances old piece t mid → n ≤ length (drop t piece) → (text : List ℕ) → GoesOnWith text (fed_by old) (take (t + n) piece) → GoesOnWith text (fed_by old) (take t piece) × GoesOnWith text (fed_by mid) (take n (drop t piece))
+goes_both old mid piece t n first within text whole =
+    let both = goes_then text (fed_by old) piece t n first.within within whole in
+    (both.0, subst (λ (p : ℕ). GoesOnWith text p (take n (drop t piece))) (sym first.fed) both.1)
+
+-- nothing was taken yet
+pub advances_none : (f : PieceFinderState) (piece : List ℕ) → Advances f piece 0 f
+advances_none f piece = record { within = omega arith; found = λ text bounds h goes. h; held = omega arith; fed = omega arith; cursor = refl; open_yet = refl }
+
 -- bytes were taken, and then more
-takes_more : (old mid new : PieceFinderState) (piece : List ℕ) (t n : ℕ) → TakesLines old piece t mid → TakesLines mid (drop t piece) n new → TakesLines old piece (t + n) new
+pub advances_more : (old mid new : PieceFinderState) (piece : List ℕ) (t n : ℕ) → Advances old piece t mid → Advances mid (drop t piece) n new → Advances old piece (t + n) new
+advances_more old mid new piece t n first next = record {
+  within = let k = first.within in let m = next.within in omega (arith, length-drop t piece, k, m);
+  found = λ text bounds h whole. let g = goes_both old mid piece t n first next.within text whole in next.found text bounds (first.found text bounds h g.0) g.1;
+  held = let k = first.held in let m = next.held in omega (arith, k, m);
+  fed = next.fed ∙ ap (λ k. k + n) first.fed ∙ omega arith;
+  cursor = next.cursor ∙ first.cursor;
+  open_yet = next.open_yet ∙ first.open_yet;
+}
+
+-- the same, where a line was read last
+pub takes_more : (old mid new : PieceFinderState) (piece : List ℕ) (t n : ℕ) → Advances old piece t mid → TakesLines mid (drop t piece) n new → TakesLines old piece (t + n) new
 takes_more old mid new piece t n first next =
-    let size = length-drop t piece in
-    let goes : (text : List ℕ) → GoesOnWith text (fed_by old) (take (t + n) piece) → GoesOnWith text (fed_by old) (take t piece) × GoesOnWith text (fed_by mid) (take n (drop t piece)) = λ text whole. let both = goes_then text (fed_by old) piece t n first.within next.within whole in (both.0, subst (λ (p : ℕ). GoesOnWith text p (take n (drop t piece))) (sym first.fed) both.1) in
+    let goes = goes_both old mid piece t n first next.advances.within in
     record {
-      within = let k = first.within in let m = next.within in omega (arith, size, k, m);
-      found = λ text bounds h whole. let g = goes text whole in next.found text bounds (first.found text bounds h g.0) g.1;
+      advances = advances_more old mid new piece t n first next.advances;
       all = λ text bounds h whole none. let g = goes text whole in next.all text bounds (first.found text bounds h g.0) g.1 none;
       undecided = λ text bounds h whole none drained. let g = goes text whole in next.undecided text bounds (first.found text bounds h g.0) g.1 none drained;
       next_new = next.next_new;
-      some = λ zero. first.some (omega (arith, zero));
-      held = let k = first.held in let m = next.held in omega (arith, k, m);
-      gone = λ line ready. let k = first.gone line ready in let m = next.held in omega (arith, k, m);
-      fed = next.fed ∙ ap (λ k. k + n) first.fed ∙ omega arith;
-      cursor = next.cursor ∙ first.cursor;
+      some = λ none_taken. let none : t ≡ 0 = omega (arith, none_taken) in subst (λ (k : ℕ). drop k piece ≡ []) none (next.some (omega (arith, none_taken)));
       no_fault = next.no_fault;
-      open_yet = next.open_yet ∙ first.open_yet;
     }
 
 -- bytes were taken, and then a fault was met
-fault_after : (old mid new : PieceFinderState) (piece : List ℕ) (t : ℕ) (fault : Fault) → phase_in old.position ≡ phase.Open → has_ready old ≡ false → phase_in mid.position ≡ phase.Open → TakesLines old piece t mid → MeetsFaultIn mid (drop t piece) fault new → MeetsFaultIn old piece fault new
+pub fault_after : (old mid new : PieceFinderState) (piece : List ℕ) (t : ℕ) (fault : Fault) → phase_in old.position ≡ phase.Open → has_ready old ≡ false → phase_in mid.position ≡ phase.Open → Advances old piece t mid → MeetsFaultIn mid (drop t piece) fault new → MeetsFaultIn old piece fault new
 fault_after old mid new piece t fault opened none going first next =
     let goes : (text : List ℕ) → GoesOnWith text (fed_by old) piece → GoesOnWith text (fed_by old) (take t piece) × GoesOnWith text (fed_by mid) (drop t piece) = λ text whole. let both = goes_on_with_both text (fed_by old) piece t first.within whole in (both.0, subst (λ (p : ℕ). GoesOnWith text p (drop t piece)) (sym first.fed) both.1) in
     let options : options_for mid ≡ options_for old = ap (λ (c : CursorState). c.options) first.cursor in
@@ -74,6 +90,27 @@ fault_after old mid new piece t fault opened none going first next =
       kept = next.kept;
     }
 
+-- how much is left to take of a piece with so many bytes left: a line that gets ready, or is let go, is a step where no byte is taken
+abbrev pub left_to_take : ℕ → ScannerState → ℕ
+left_to_take rest s = rest * 4 + length s.held * 2 + (1 - length (ready_lines s.ready))
+
+-- it falls where lines are passed over, and then bytes are taken
+pub takes_fewer : (old mid new : ScannerState) (rest left k m : ℕ) → left + (k + m) ≡ rest → length mid.held ≤ length old.held + k → ((line : LogicalLine) → old.ready ≡ Some line → length mid.held < length old.held + k) → length new.held ≤ length mid.held + m → (m ≡ 0 → (line : LogicalLine) × (new.ready ≡ Some line)) → left_to_take left new < left_to_take rest old
+takes_fewer old mid new rest left k m size held gone more ready = by (k + m) refl old.ready refl
+  where
+    by : (n : ℕ) → k + m ≡ n → (r : Option LogicalLine) → old.ready ≡ r → left_to_take left new < left_to_take rest old
+    by (suc n) some r is = omega (arith, some, size, held, more)
+    by zero none None is = omega (arith, none, size, held, more, ap (λ x. length (ready_lines x)) is, ap (λ x. length (ready_lines x)) (ready (omega (arith, none))).1)
+    by zero none (Some line) is = omega (arith, none, size, gone line is, more, ap (λ x. length (ready_lines x)) (ready (omega (arith, none))).1)
+
+-- where no byte is taken and the finder goes on, a line has got ready
+pub ready_after : (piece : List ℕ) (at m : ℕ) (f : PieceFinderState) → (m ≡ 0 → drop at piece ≡ []) → IsToGoOn f (nat_lt (at + m) (length piece)) → m ≡ 0 → (line : LogicalLine) × (f.scanning.ready ≡ Some line)
+ready_after piece at m f some goes none_taken = by goes.either
+  where
+    by : (nat_lt (at + m) (length piece) ≡ true) ⊎ ((line : LogicalLine) × (f.scanning.ready ≡ Some line)) → (line : LogicalLine) × (f.scanning.ready ≡ Some line)
+    by (inl more) = absurd (omega (arith, ltb-true (at + m) (length piece) more, ap length (some none_taken), length-drop at piece))
+    by (inr ready) = ready
+
 -- memory ran out, and the next line is left unread
 abbrev pub lost : PieceFinderState → LineStart → PieceFinderState
 lost f start = record f { position = position.Unread start (skip_in f.position) }
@@ -87,50 +124,28 @@ lost_found s (position.End passed) cursor start text bounds opened none h = absu
 lost_found s (position.Fault fault) cursor start text bounds opened none h = absurd cc
 
 -- bytes were taken, and then memory ran out
-lost_after : (old mid last : PieceFinderState) (piece : List ℕ) (t : ℕ) (start : LineStart) → TakesLines old piece t mid → TakesNothing mid last → TakesLines old piece t (lost last start)
-lost_after old mid last piece t start first nothing =
+pub lost_after : (old mid last : PieceFinderState) (piece : List ℕ) (t : ℕ) (start : LineStart) → (t ≡ 0 → ⊥) → Advances old piece t mid → TakesNothing mid last → TakesLines old piece t (lost last start)
+lost_after old mid last piece t start some first nothing =
     let keeps = nothing.keeps in
-    let shorter = nothing.held in
     record {
-      within = first.within;
-      found = λ text bounds h goes. lost_found last.scanning last.position last.cursor start text bounds keeps.is_open nothing.none_ready (keeps.found text bounds (first.found text bounds h goes));
+      advances = record {
+        within = first.within;
+        found = λ text bounds h goes. lost_found last.scanning last.position last.cursor start text bounds keeps.is_open nothing.none_ready (keeps.found text bounds (first.found text bounds h goes));
+        held = let k = first.held in let shorter = nothing.held in omega (arith, k, shorter);
+        fed = sym (fed_open last keeps.is_open) ∙ keeps.fed ∙ first.fed;
+        cursor = keeps.cursor ∙ first.cursor;
+        open_yet = keeps.open_yet ∙ first.open_yet;
+      };
       all = λ text bounds h goes none. absurd (true_or_false _ none refl);
       undecided = λ text bounds h goes none drained. absurd (true_or_false _ none refl);
       next_new = tt;
-      some = first.some;
-      held = let k = first.held in omega (arith, k, shorter);
-      gone = λ line was. let k = first.gone line was in omega (arith, k, shorter);
-      fed = sym (fed_open last keeps.is_open) ∙ keeps.fed ∙ first.fed;
-      cursor = keeps.cursor ∙ first.cursor;
+      some = λ none_taken. absurd (some none_taken);
       no_fault = λ fault at. cc;
-      open_yet = keeps.open_yet ∙ first.open_yet;
     }
 
--- what was taken so far within a call: nothing yet, or bytes
-abbrev pub HasTakenBytes : PieceFinderState → List ℕ → ℕ → PieceFinderState → Type 0
-HasTakenBytes old piece t mid = ((t ≡ 0) × (mid ≡ old)) ⊎ TakesLines old piece t mid
-
--- more bytes were taken
-pub takes_next : (old mid new : PieceFinderState) (piece : List ℕ) (t n : ℕ) → HasTakenBytes old piece t mid → TakesLines mid (drop t piece) n new → TakesLines old piece (t + n) new
-takes_next old mid new piece t n (inl line_begun) next =
-    let none = line_begun.0 in
-    let all : n ≡ t + n = omega (arith, none) in
-    subst (λ (k : ℕ). TakesLines old piece k new) all (subst (λ (f : PieceFinderState). TakesLines f piece n new) line_begun.1 (subst (λ (k : ℕ). TakesLines mid (drop k piece) n new) none next))
-takes_next old mid new piece t n (inr first) next = takes_more old mid new piece t n first next
-
--- a fault was met
-pub fault_next : (old mid new : PieceFinderState) (piece : List ℕ) (t : ℕ) (fault : Fault) → phase_in old.position ≡ phase.Open → has_ready old ≡ false → phase_in mid.position ≡ phase.Open → HasTakenBytes old piece t mid → MeetsFaultIn mid (drop t piece) fault new → MeetsFaultIn old piece fault new
-fault_next old mid new piece t fault opened none going (inl line_begun) next = subst (λ (f : PieceFinderState). MeetsFaultIn f piece fault new) line_begun.1 (subst (λ (k : ℕ). MeetsFaultIn mid (drop k piece) fault new) line_begun.0 next)
-fault_next old mid new piece t fault opened none going (inr first) next = fault_after old mid new piece t fault opened none going first next
-
--- memory ran out after the first byte
-pub lost_next : (old mid last : PieceFinderState) (piece : List ℕ) (t : ℕ) (start : LineStart) → (t ≡ 0 → ⊥) → HasTakenBytes old piece t mid → TakesNothing mid last → TakesLines old piece t (lost last start)
-lost_next old mid last piece t start some (inl line_begun) nothing = absurd (some line_begun.0)
-lost_next old mid last piece t start some (inr first) nothing = lost_after old mid last piece t start first nothing
-
--- memory ran out after lines of no byte of the piece
-keeps_after : (old mid last : PieceFinderState) (piece : List ℕ) → phase_in old.position ≡ phase.Open → has_ready old ≡ false → has_ready mid ≡ false → TakesLines old piece 0 mid → PieceFinderRunsOut mid last → PieceFinderRunsOut old last
-keeps_after old mid last piece opened none none_mid first keeps =
+-- memory ran out before the first byte, after lines of no byte of the piece
+keeps_none : (old mid last : PieceFinderState) (piece : List ℕ) → phase_in old.position ≡ phase.Open → has_ready old ≡ false → has_ready mid ≡ false → Advances old piece 0 mid → PieceFinderRunsOut mid last → PieceFinderRunsOut old last
+keeps_none old mid last piece opened none none_mid first keeps =
     let found : (text : List ℕ) (bounds : List Bound) → HasFoundIn old text bounds → HasFoundIn mid text bounds = λ text bounds h. first.found text bounds h refl in
     record {
       found = λ text bounds h. keeps.found text bounds (found text bounds h);
@@ -144,9 +159,7 @@ keeps_after old mid last piece opened none none_mid first keeps =
       open_yet = keeps.open_yet ∙ first.open_yet;
     }
 
--- memory ran out before the first byte
-pub keeps_next : (old mid last : PieceFinderState) (piece : List ℕ) (t : ℕ) → t ≡ 0 → phase_in old.position ≡ phase.Open → has_ready old ≡ false → has_ready mid ≡ false → HasTakenBytes old piece t mid → TakesNothing mid last → TakesNothing old last
-keeps_next old mid last piece t is opened none none_mid (inl line_begun) nothing = subst (λ (f : PieceFinderState). TakesNothing f last) line_begun.1 nothing
-keeps_next old mid last piece t is opened none none_mid (inr first) nothing =
-    let taken = subst (λ (k : ℕ). TakesLines old piece k mid) is first in
-    record { keeps = keeps_after old mid last piece opened none none_mid taken nothing.keeps; none_ready = nothing.none_ready; held = let k = nothing.held in let m = taken.held in omega (arith, k, m) }
+pub keeps_after : (old mid last : PieceFinderState) (piece : List ℕ) (t : ℕ) → t ≡ 0 → phase_in old.position ≡ phase.Open → has_ready old ≡ false → has_ready mid ≡ false → Advances old piece t mid → TakesNothing mid last → TakesNothing old last
+keeps_after old mid last piece t is opened none none_mid taken nothing =
+    let first = subst (λ (k : ℕ). Advances old piece k mid) is taken in
+    record { keeps = keeps_none old mid last piece opened none none_mid first nothing.keeps; none_ready = nothing.none_ready; held = let k = nothing.held in let m = first.held in omega (arith, k, m) }

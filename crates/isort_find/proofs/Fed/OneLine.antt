@@ -24,7 +24,7 @@ use Rattle.isort_find.specs.declared.walker.Phase.TheVariants as phase
 use Rattle.isort_find.specs.Private.KnownLaws.{AscentLaws, EachIsLexed, OneSettled, SettledLaws}
 use Rattle.isort_find.proofs.Walks.NextLine.{nothing_at_end, stops_before, found_lexed, meets_lexical}
 use Rattle.isort_find.proofs.Fed.Known.{next_start, given_of, true_or_false, none_or_some}
-use Rattle.isort_find.proofs.Fed.LetGo.{BeginsLine, line_begun, begun_between, begun_fed, begun_held, begun_gone, begun_scanning, ended_gone}
+use Rattle.isort_find.proofs.Fed.LetGo.{BeginsLine, line_begun, begun_between, begun_fed, begun_held, begun_scanning, ended_gone}
 use Rattle.isort_find.proofs.Fed.Settled.{all_settled, all_undecided}
 use Rattle.isort_find.proofs.Fed.Held.{between_rest, line_any, open_ready}
 use Rattle.isort_find.proofs.Fed.TriedLines.{IsBadReady, tried_found, tried_so, tried_new, tried_ready, tried_bad, bad_decided}
@@ -61,18 +61,19 @@ takes_line laws one ascent old t b s piece n takes new result ok tries =
     let size : length new.scanning.held ≡ length t.held + n = ap (λ (x : ScannerState). length x.held) so.scanning ∙ ap length takes.held ∙ length-append t.held (take n piece) ∙ ap (λ k. length t.held + k) (length-take-le n piece takes.within) in
     let found : (text : List ℕ) (bounds : List Bound) → HasFoundIn old text bounds → GoesOnWith text (fed_by old) (take n piece) → HasFoundIn new text bounds = λ text bounds h goes. tried_found laws s skip old.cursor new text bounds result (taken_between old t b s piece n takes text bounds h goes) h.stopped tries in
     record {
-      within = takes.within;
-      found = found;
+      advances = record {
+        within = takes.within;
+        found = found;
+        held = let k = begun_held old t b in omega (arith, size, k);
+        fed = so.fed ∙ taken_fed old t b s piece n takes;
+        cursor = so.cursor;
+        open_yet = ended;
+      };
       all = λ text bounds h goes none. all_settled laws one ascent new.scanning new.position new.cursor text bounds (ended ∙ b.yet) so.fine none (found text bounds h goes);
       undecided = λ text bounds h goes none drained. all_undecided laws one ascent new.scanning new.position new.cursor text bounds (ended ∙ b.yet) so.fine drained (λ ready. lexical new so.scanning text bounds h goes ready) (found text bounds h goes);
       next_new = tried_new s skip old.cursor new result tries;
       some = λ zero. by_some (takes.some zero);
-      held = let k = begun_held old t b in omega (arith, size, k);
-      gone = λ line ready. let k = begun_gone old t b line ready in omega (arith, size, k);
-      fed = so.fed ∙ taken_fed old t b s piece n takes;
-      cursor = so.cursor;
       no_fault = so.fine;
-      open_yet = ended;
     }
   where
     lexical : (g : PieceFinderState) → g.scanning ≡ s → (text : List ℕ) (bounds : List Bound) → HasFoundIn old text bounds → GoesOnWith text (fed_by old) (take n piece) → g.scanning.ready ≡ None → (fault : Fault) → ¬ (Decides (take (fed_of g.scanning) text) fault)

@@ -70,23 +70,23 @@ drained piece n f (inr all) = inl all.1
 -- bytes were taken line by line, and the top has no end yet
 pub feeds_lines : (old new : PieceFinderState) (piece : List ℕ) (n : ℕ) → phase_in old.position ≡ phase.Open → old.scanning.ended ≡ false → has_ready old ≡ false → (phase_in new.position ≡ phase.End → ⊥) → TakesLines old piece n new → (has_ready new ≡ false → HasTakenAll piece n new) → TakesFromPiece old piece n new
 feeds_lines old new piece n opened yet none no_end t done = record {
-  within = t.within;
-  found = t.found;
+  within = t.advances.within;
+  found = t.advances.found;
   all = t.all;
   undecided = λ text bounds h goes nothing. t.undecided text bounds h goes nothing (drained piece n new (done nothing));
-  rest = λ text bounds h goes nothing going. rest_any new.scanning new.position new.cursor text bounds going (t.open_yet ∙ yet) (whole_piece piece n new no_end (done nothing)).1 (t.found text bounds h goes);
-  line = λ text bounds h goes ready. ready_any new.scanning new.position new.cursor text bounds (t.open_yet ∙ yet) ready (t.found text bounds h goes);
+  rest = λ text bounds h goes nothing going. rest_any new.scanning new.position new.cursor text bounds going (t.advances.open_yet ∙ yet) (whole_piece piece n new no_end (done nothing)).1 (t.advances.found text bounds h goes);
+  line = λ text bounds h goes ready. ready_any new.scanning new.position new.cursor text bounds (t.advances.open_yet ∙ yet) ready (t.advances.found text bounds h goes);
   some = λ zero. inl (t.some zero);
   waits = λ ready. absurd (true_or_false _ none ready);
   next_new = λ nothing. t.next_new;
   whole = λ nothing. (whole_piece piece n new no_end (done nothing)).0;
   top = λ top. absurd (no_end top);
-  fed = t.fed;
-  cursor = t.cursor;
+  fed = t.advances.fed;
+  cursor = t.advances.cursor;
   stays = λ top. absurd (open_or_end _ opened top);
   was_no_fault = λ fault failed. open_or_fault old.position fault opened failed;
   no_fault = t.no_fault;
-  open_yet = t.open_yet;
+  open_yet = t.advances.open_yet;
 }
 
 end_not_ready : (s : Position) → phase_in s ≡ phase.End → ready_in s ≡ false
@@ -97,28 +97,28 @@ end_not_ready other at = absurd cc
 pub feeds_top : SettledLaws → OneSettled → AscentLaws → (old mid new : PieceFinderState) (piece : List ℕ) (t : ℕ) → phase_in old.position ≡ phase.Open → old.scanning.ended ≡ false → has_ready old ≡ false → phase_in mid.position ≡ phase.End → TakesLines old piece t mid → new ≡ with_passed mid (length (drop t piece)) → TakesFromPiece old piece (t + length (drop t piece)) new
 feeds_top laws one ascent old mid new piece t opened yet none at first is =
     let rest = drop t piece in
-    let next = passes_piece laws one ascent mid new rest at (first.open_yet ∙ yet) is in
+    let next = passes_piece laws one ascent mid new rest at (first.advances.open_yet ∙ yet) is in
     let size = length-drop t piece in
-    let whole : t + length rest ≡ length piece = (let k = first.within in omega (arith, k, size)) in
-    let goes : (text : List ℕ) → GoesOnWith text (fed_by old) (take (t + length rest) piece) → GoesOnWith text (fed_by old) (take t piece) × GoesOnWith text (fed_by mid) (take (length rest) rest) = λ text all. let both = goes_then text (fed_by old) piece t (length rest) first.within next.within all in (both.0, subst (λ (p : ℕ). GoesOnWith text p (take (length rest) rest)) (sym first.fed) both.1) in
+    let whole : t + length rest ≡ length piece = (let k = first.advances.within in omega (arith, k, size)) in
+    let goes : (text : List ℕ) → GoesOnWith text (fed_by old) (take (t + length rest) piece) → GoesOnWith text (fed_by old) (take t piece) × GoesOnWith text (fed_by mid) (take (length rest) rest) = λ text all. let both = goes_then text (fed_by old) piece t (length rest) first.advances.within next.within all in (both.0, subst (λ (p : ℕ). GoesOnWith text p (take (length rest) rest)) (sym first.advances.fed) both.1) in
     record {
       within = omega (arith, whole);
-      found = λ text bounds h all. let g = goes text all in next.found text bounds (first.found text bounds h g.0) g.1;
-      all = λ text bounds h all nothing. let g = goes text all in next.all text bounds (first.found text bounds h g.0) g.1 nothing;
-      undecided = λ text bounds h all nothing. let g = goes text all in next.undecided text bounds (first.found text bounds h g.0) g.1 nothing;
-      rest = λ text bounds h all nothing going. let g = goes text all in next.rest text bounds (first.found text bounds h g.0) g.1 nothing going;
-      line = λ text bounds h all ready. let g = goes text all in next.line text bounds (first.found text bounds h g.0) g.1 ready;
+      found = λ text bounds h all. let g = goes text all in next.found text bounds (first.advances.found text bounds h g.0) g.1;
+      all = λ text bounds h all nothing. let g = goes text all in next.all text bounds (first.advances.found text bounds h g.0) g.1 nothing;
+      undecided = λ text bounds h all nothing. let g = goes text all in next.undecided text bounds (first.advances.found text bounds h g.0) g.1 nothing;
+      rest = λ text bounds h all nothing going. let g = goes text all in next.rest text bounds (first.advances.found text bounds h g.0) g.1 nothing going;
+      line = λ text bounds h all ready. let g = goes text all in next.line text bounds (first.advances.found text bounds h g.0) g.1 ready;
       some = λ zero. inl (nil_from_length piece (sym whole ∙ zero));
       waits = λ ready. absurd (true_or_false _ none ready);
       next_new = λ nothing. next.next_new (end_not_ready mid.position at);
       whole = λ nothing. whole;
       top = λ top. whole;
-      fed = (let k = next.fed in let m = first.fed in omega (arith, k, m));
-      cursor = next.cursor ∙ first.cursor;
+      fed = (let k = next.fed in let m = first.advances.fed in omega (arith, k, m));
+      cursor = next.cursor ∙ first.advances.cursor;
       stays = λ top. absurd (open_or_end _ opened top);
       was_no_fault = λ fault failed. open_or_fault old.position fault opened failed;
       no_fault = next.no_fault;
-      open_yet = next.open_yet ∙ first.open_yet;
+      open_yet = next.open_yet ∙ first.advances.open_yet;
     }
 
 -- nothing is taken where something is ready

@@ -10,6 +10,7 @@ use Rattle.isort_find.specs.Private.Walks.{WalkerState, LooksAhead, ReadsOrLoses
 use Rattle.isort_find.specs.declared.error.FindError.{FindError}
 use Rattle.isort_find.specs.declared.error.FindError.TheVariants as error
 use Rattle.isort_find.specs.declared.pending.LineStart.{LineStart}
+use Rattle.isort_find.specs.declared.walker.Position.TheVariants as position
 use Rattle.isort_find.specs.declared.walker.Phase.TheVariants as phase
 
 -- the walker of a finder
@@ -61,21 +62,35 @@ TriesReady old result new =
 abbrev pub IsDrained : PieceFinderState → Type 0
 IsDrained f = (f.scanning.ready ≡ None) ⊎ (phase_in f.position ≡ phase.End)
 
+-- between two logical lines, and none is held that was read
+pub record IsBetween (f : PieceFinderState) : Type 0 where
+  pub position : f.position ≡ position.Between (skip_in f.position)
+  pub none_ready : f.scanning.ready ≡ None
+
+-- so many bytes of a piece were taken, and what was found before them is what is found up to there
+pub record Advances (old : PieceFinderState) (piece : List ℕ) (n : ℕ) (new : PieceFinderState) : Type 0 where
+  pub within : n ≤ length piece
+  pub found : InEachText old (take n piece) (HasFoundIn new)
+  pub held : length new.scanning.held ≤ length old.scanning.held + n
+  pub fed : fed_by new ≡ fed_by old + n
+  pub cursor : new.cursor ≡ old.cursor
+  pub open_yet : new.scanning.ended ≡ old.scanning.ended
+
+-- the line read last was let go, and so many bytes were passed over: logical lines that bind nothing
+pub record PassesLines (old : PieceFinderState) (piece : List ℕ) (n : ℕ) (new : PieceFinderState) : Type 0 where
+  pub advances : Advances old piece n new
+  pub between : IsBetween new
+  pub gone : (line : LogicalLine) → old.scanning.ready ≡ Some line → length new.scanning.held < length old.scanning.held + n
+
 -- Bytes were taken up to a line's end or the piece's, and that line was read. With a line that is ready one byte more may
 -- be held, which wasn't looked at yet.
 pub record TakesLines (old : PieceFinderState) (piece : List ℕ) (n : ℕ) (new : PieceFinderState) : Type 0 where
-  pub within : n ≤ length piece
-  pub found : InEachText old (take n piece) (HasFoundIn new)
+  pub advances : Advances old piece n new
   pub all : InEachText old (take n piece) (λ text bounds. has_ready new ≡ false → AreAllSettled new text bounds)
   pub undecided : InEachText old (take n piece) (λ text bounds. has_ready new ≡ false → IsDrained new → IsUndecided new text)
   pub next_new : IsNextNew new
   pub some : n ≡ 0 → piece ≡ []
-  pub held : length new.scanning.held ≤ length old.scanning.held + n
-  pub gone : (line : LogicalLine) → old.scanning.ready ≡ Some line → length new.scanning.held < length old.scanning.held + n
-  pub fed : fed_by new ≡ fed_by old + n
-  pub cursor : new.cursor ≡ old.cursor
   pub no_fault : HasNoFault new
-  pub open_yet : new.scanning.ended ≡ old.scanning.ended
 
 -- a growth was refused before the first byte, and no line is held that was read
 pub record TakesNothing (old new : PieceFinderState) : Type 0 where
