@@ -9,7 +9,10 @@ use crate::options::FindOptions;
 use crate::pending::LineStart;
 use crate::step::{Step, next_step};
 use crate::walker::{Phase, Walker};
-use py_imports::Binding;
+use py_imports::laws::{
+    lines_between_first_words_bind_nothing, lines_without_first_words_bind_nothing,
+};
+use py_imports::{Binding, FirstWords};
 use py_lines::Lines;
 use std::alloc::Global;
 use std::marker::Model;
@@ -21,6 +24,8 @@ pub struct Finder<'t> {
     alloc: Global,
     /// The whole text.
     text: &'t [u8],
+    /// Where import statements may begin in it.
+    words: FirstWords<'t>,
     /// Reads its logical lines.
     lines: Lines<'t>,
     /// Goes through them.
@@ -35,14 +40,14 @@ impl<'t> Model for Finder<'t> {
 
     ghost view = { λ f. finder_state f.lines f.walker.position f.walker.cursor };
 
-    ghost invariant = { λ f. f.lines.text ≡ f.text.now };
+    ghost invariant = { λ f. (f.lines.text ≡ f.text.now) × (f.words ≡ f.text.now) };
 }
 
 impl<'t> Finder<'t> {
     ghost use Rattle.isort_find.specs.Cursor.{first_cursor, HasStopped};
     ghost use Rattle.isort_find.specs.Finder.{HasFound, GivesNext, finder_text};
     ghost use Rattle.isort_find.specs.Position.{left_in, phase_in};
-    ghost use Rattle.isort_find.specs.Private.FinderSteps.{GivesNew, GoesBack, FollowsRead, ReadsNextLine};
+    ghost use Rattle.isort_find.specs.Private.FinderSteps.{GivesNew, GoesBack, FollowsRead, ReadsNextLine, StandsBefore};
 
     /// A finder at the start of the text, which is any bytes. It answers `Memory` alone.
     pub fn new(alloc: Global, text: &'t [u8], options: FindOptions) -> Result<Finder<'t>, FindError>
@@ -58,6 +63,7 @@ impl<'t> Finder<'t> {
         Ok(Finder {
             alloc,
             text,
+            words: FirstWords::new(text),
             lines,
             walker,
         })
@@ -88,6 +94,25 @@ impl<'t> Finder<'t> {
             }
             Err(_) => Err(FindError::Memory),
         }
+    }
+
+    /// Passes over the next logical lines without their tokens, as long as they are simple and bind nothing. Most lines are passed
+    /// over so. Nothing is left of the line read last, and none was left unread.
+    #[inline(always)]
+    fn pass_lines(&mut self)
+        requires stands { StandsBefore self.old self.old }
+        ensures { StandsBefore self.old self.new }
+    {
+        if !self.walker.may_pass_lines() {
+            return;
+        }
+        known_laws();
+        lines_without_first_words_bind_nothing();
+        lines_between_first_words_bind_nothing();
+        self.walker.leave();
+        let start = (self.lines.offset() as usize).min(self.text.len());
+        let before = self.words.clear_up_to(start);
+        self.lines.pass_lines(before);
     }
 
     /// Where the next logical line begins.
@@ -122,6 +147,7 @@ impl<'t> Finder<'t> {
     {
         known_laws();
         self.go_back()?;
+        self.pass_lines();
         let start = self.start();
         let step = next_step(self.alloc, &mut self.lines, self.walker.options());
         self.follow(start, step)
@@ -188,6 +214,7 @@ impl<'t> Finder<'t> {
                 Ok(Finder {
                     alloc,
                     text,
+                    words: FirstWords::new(text),
                     lines,
                     walker,
                 })

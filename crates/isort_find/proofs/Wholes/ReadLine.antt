@@ -1,5 +1,5 @@
 -- What a finder is once it has gone back to a line that was left unread, and once it has read the next line.
-use Rattle.std.proofs.Common.{◌≡◌, ℕ, ◌-◌, ◌^◌, ◌<◌, ◌≤◌, true, false, None, Some, Result, Ok, Err, List, [], ◌∷◌, ◌++◌, length, map, inl, inr, refl, sym, ap, ◌∙◌, subst, length-drop, arith}
+use Rattle.std.proofs.Common.{◌≡◌, ℕ, ◌-◌, ◌^◌, ◌<◌, true, false, None, Some, Result, Ok, Err, List, [], ◌∷◌, ◌++◌, length, map, inl, inr, refl, sym, ap, ◌∙◌, subst, length-drop, arith}
 use Rattle.std.proofs.lemmas.List.{length-map}
 use Rattle.std.proofs.Math.Seq.{drop-nil}
 use Rattle.py_lines.specs.LogicalLine.{LogicalLine}
@@ -13,9 +13,9 @@ use Rattle.isort_find.specs.Found.{ends_top, IsFound}
 use Rattle.isort_find.specs.Cursor.{CursorState, first_cursor, IsAfter, HasStopped}
 use Rattle.isort_find.specs.Pending.{pending_after}
 use Rattle.isort_find.specs.Position.{phase_in, skip_in, left_in, is_unread, IsInside, MeetsEndAt, EndsInFaultAt}
-use Rattle.isort_find.specs.Finder.{FinderState, HasFound, IsBeforeLine, FinderRunsOut, finder_state, finder_text, options_of, bytes_to_read, left_of, KeepsGiven}
+use Rattle.isort_find.specs.Finder.{FinderState, HasFound, IsBeforeLine, FinderRunsOut, finder_state, finder_text, options_of, bytes_to_read, KeepsGiven}
 use Rattle.isort_find.specs.Private.CursorMoves.{cursor_before}
-use Rattle.isort_find.specs.Private.FinderSteps.{GoesBack, FollowsRead, ReadsOn, ReadsNextLine, ended_at_line, with_line, with_line_again}
+use Rattle.isort_find.specs.Private.FinderSteps.{StandsBefore, GoesBack, FollowsRead, ReadsOn, ReadsNextLine, ended_at_line, with_line, with_line_again}
 use Rattle.isort_find.specs.Private.LineSteps.{GivesLine, StepsTo}
 use Rattle.isort_find.specs.Private.Walks.{WalkerState, read_again, unread_in, walker_state, with_position}
 use Rattle.isort_find.specs.declared.error.FindError.{FindError}
@@ -37,24 +37,14 @@ use Rattle.isort_find.proofs.Walks.NextLine.{IsAtLine, IsAtNothing, nothing_at_e
 abbrev next_start : Reader → LineStart
 next_start r = record { offset = r.place; line = r.line }
 
--- a finder that has gone back, if a line was left unread: it has given the same, and the reader reads the next line
-pub record IsBack (old f : FinderState) : Type 0 where
-  pub found : (bounds : List Bound) → HasFound old bounds → HasFound f bounds
-  pub is_open : phase_in f.position ≡ phase.Open
-  pub none : left_in f.position ≡ []
-  pub read : is_unread f.position ≡ false
-  pub text : finder_text f ≡ finder_text old
-  pub cursor : f.cursor ≡ old.cursor
-  pub falls : left_of f ≤ left_of old
-
-back_same : (old f : FinderState) → phase_in old.position ≡ phase.Open → left_in old.position ≡ [] → is_unread old.position ≡ false → f ≡ old → IsBack old f
-back_same old f opened none read same = subst (IsBack old) (sym same) (record { found = λ bounds h. h; is_open = opened; none = none; read = read; text = refl; cursor = refl; falls = omega arith })
+back_same : (old f : FinderState) → phase_in old.position ≡ phase.Open → left_in old.position ≡ [] → is_unread old.position ≡ false → f ≡ old → StandsBefore old f
+back_same old f opened none read same = subst (StandsBefore old) (sym same) (record { found = λ bounds h. h; is_open = opened; none = none; read = read; text = refl; cursor = refl; falls = omega arith })
 
 -- going back keeps what was given
-pub goes_back : (r : Reader) (s : Position) (cursor : CursorState) (f : FinderState) → phase_in s ≡ phase.Open → left_in s ≡ [] → GoesBack (finder_state r s cursor) f → IsBack (finder_state r s cursor) f
+pub goes_back : (r : Reader) (s : Position) (cursor : CursorState) (f : FinderState) → phase_in s ≡ phase.Open → left_in s ≡ [] → GoesBack (finder_state r s cursor) f → StandsBefore (finder_state r s cursor) f
 goes_back r (position.Unread start skip) cursor f opened none back =
     let text = ap length back.text in
-    subst (IsBack (finder_state r (position.Unread start skip) cursor)) (sym back.same) (record {
+    subst (StandsBefore (finder_state r (position.Unread start skip) cursor)) (sym back.same) (record {
       found = λ bounds h.
           let at = back.goes_on h.reached.lines h.reached.given in
           subst (λ (q : Reader). HasFound (finder_state q (position.Between skip) cursor) bounds) (sym at) (record { stopped = h.stopped; reached = record { no_fault = refl; after = h.reached } });
@@ -70,8 +60,24 @@ goes_back r (position.Within pending) cursor f opened none back = back_same _ f 
 goes_back r (position.End passed) cursor f opened none back = absurd cc
 goes_back r (position.Fault fault) cursor f opened none back = absurd cc
 
+-- where it stands it has given the same
+pub stands_here : (f : FinderState) → phase_in f.position ≡ phase.Open → left_in f.position ≡ [] → is_unread f.position ≡ false → StandsBefore f f
+stands_here f opened none read = back_same f f opened none read refl
+
+-- one after another
+pub stands_then : (old mid new : FinderState) → StandsBefore old mid → StandsBefore mid new → StandsBefore old new
+stands_then old mid new first next = record {
+  found = λ bounds h. next.found bounds (first.found bounds h);
+  is_open = next.is_open;
+  none = next.none;
+  read = next.read;
+  text = next.text ∙ first.text;
+  cursor = next.cursor ∙ first.cursor;
+  falls = let k = first.falls in let m = next.falls in omega (arith, k, m);
+}
+
 -- where nothing is left of the line read last, the finder is between two lines
-before_line : (r : Reader) (s : Position) (cursor : CursorState) (bounds : List Bound) → phase_in s ≡ phase.Open → left_in s ≡ [] → is_unread s ≡ false → HasFound (finder_state r s cursor) bounds → IsBeforeLine (finder_state r s cursor) (skip_in s) bounds
+pub before_line : (r : Reader) (s : Position) (cursor : CursorState) (bounds : List Bound) → phase_in s ≡ phase.Open → left_in s ≡ [] → is_unread s ≡ false → HasFound (finder_state r s cursor) bounds → IsBeforeLine (finder_state r s cursor) (skip_in s) bounds
 before_line r (position.Between skip) cursor bounds opened none read h = h.reached
 before_line r (position.Unread start skip) cursor bounds opened none read h = absurd cc
 before_line r (position.Within pending) cursor bounds opened none read h =
@@ -86,7 +92,7 @@ before_line r (position.Fault fault) cursor bounds opened none read h = absurd c
 -- a finder that has gone back is about to read the line that begins here
 pub record IsAbout (old f : FinderState) (start : LineStart) (options : FindOptions) : Type 0 where
   pub was_open : phase_in old.position ≡ phase.Open
-  pub back : IsBack old f
+  pub back : StandsBefore old f
   pub offset : start.offset ≡ f.reader.place
   pub number : start.line ≡ f.reader.line
   pub options_are : options ≡ options_of f
@@ -100,7 +106,7 @@ record IsThere (f : FinderState) (bounds : List Bound) : Type 0 where
   pub after : IsAfter (finder_text f) (options_of f) f.reader.place f.reader.line (skip_in f.position) bounds
   pub given : HasGiven f.reader after.lines
 
-there : (old f : FinderState) (bounds : List Bound) → IsBack old f → HasFound old bounds → IsThere f bounds
+there : (old f : FinderState) (bounds : List Bound) → StandsBefore old f → HasFound old bounds → IsThere f bounds
 there old f bounds back h =
     let q = back.found bounds h in
     let b = before_line f.reader f.position f.cursor bounds back.is_open back.none back.read q in
@@ -110,7 +116,7 @@ there old f bounds back h =
 abbrev at_line : (f : FinderState) (bounds : List Bound) (r : Reader) (line : LogicalLine) (t : IsThere f bounds) → Continues f.reader line r → IsAtLine (finder_text f) (options_of f) (next_start f.reader) (skip_in f.position) line bounds
 at_line f bounds r line t continues = record { after = t.after; begins = subst (λ (x : List ℕ). BeginsLexing x (t.after.lines ++ line ∷ [])) continues.text (continues.begins t.after.lines t.given) }
 
-bytes_read : (s : Position) (size place : ℕ) → is_unread s ≡ false → bytes_to_read s size place ≡ size - place
+pub bytes_read : (s : Position) (size place : ℕ) → is_unread s ≡ false → bytes_to_read s size place ≡ size - place
 bytes_read (position.Between skip) size place read = refl
 bytes_read (position.Unread start skip) size place read = absurd cc
 bytes_read (position.Within pending) size place read = refl
@@ -118,7 +124,7 @@ bytes_read (position.End passed) size place read = refl
 bytes_read (position.Fault fault) size place read = refl
 
 -- what was given stays where one more line is read: its bindings are to be looked at
-line_kept : BasicLaws → (old f : FinderState) (options : FindOptions) (r : Reader) (bs : List Bound) → IsBack old f → options ≡ options_of f → GivesLine f.reader (λ line. Binds line bs × (ends_top options line ≡ false)) r → (bounds : List Bound) → HasFound old bounds → HasFound (with_line (finder_state r f.position f.cursor) (next_start f.reader) bs) bounds
+line_kept : BasicLaws → (old f : FinderState) (options : FindOptions) (r : Reader) (bs : List Bound) → StandsBefore old f → options ≡ options_of f → GivesLine f.reader (λ line. Binds line bs × (ends_top options line ≡ false)) r → (bounds : List Bound) → HasFound old bounds → HasFound (with_line (finder_state r f.position f.cursor) (next_start f.reader) bs) bounds
 line_kept one old f options r bs back options_are gives bounds h =
     let line = gives.0 in
     let continues = gives.1 in
@@ -132,11 +138,11 @@ line_kept one old f options r bs back options_are gives bounds h =
     }
 
 -- the text, the options and the count stay where the finder reads on
-back_keeps : (old f : FinderState) (r : Reader) (s : Position) → IsBack old f → r.text ≡ finder_text f → ((bounds : List Bound) → HasFound old bounds → HasFound (finder_state r s f.cursor) bounds) → KeepsGiven old (finder_state r s f.cursor)
+back_keeps : (old f : FinderState) (r : Reader) (s : Position) → StandsBefore old f → r.text ≡ finder_text f → ((bounds : List Bound) → HasFound old bounds → HasFound (finder_state r s f.cursor) bounds) → KeepsGiven old (finder_state r s f.cursor)
 back_keeps old f r s back same kept = record { kept = kept; task = record { text = same ∙ back.text; options = ap (λ (c : CursorState). c.options) back.cursor }; given = ap (λ (c : CursorState). c.given) back.cursor }
 
 -- the line's bindings are to be looked at
-reads_on : BasicLaws → (old f : FinderState) (options : FindOptions) (r : Reader) (bs : List Bound) → IsBack old f → options ≡ options_of f → GivesLine f.reader (λ line. Binds line bs × (ends_top options line ≡ false)) r → length bs < 2 ^ 64 → ReadsOn old (with_line (finder_state r f.position f.cursor) (next_start f.reader) bs)
+reads_on : BasicLaws → (old f : FinderState) (options : FindOptions) (r : Reader) (bs : List Bound) → StandsBefore old f → options ≡ options_of f → GivesLine f.reader (λ line. Binds line bs × (ends_top options line ≡ false)) r → length bs < 2 ^ 64 → ReadsOn old (with_line (finder_state r f.position f.cursor) (next_start f.reader) bs)
 reads_on one old f options r bs back options_are gives few =
     let continues = gives.1 in
     let len = ap length continues.text in
@@ -150,7 +156,7 @@ reads_on one old f options r bs back options_are gives few =
     }
 
 -- nothing of a plain line is to be looked at: the finder is before the next one
-passes_plain : BasicLaws → (old f : FinderState) (options : FindOptions) (r : Reader) → IsBack old f → options ≡ options_of f → GivesLine f.reader (λ line. Binds line [] × (ends_top options line ≡ false)) r → ReadsOn old (finder_state r (position.Between 0) f.cursor)
+pub passes_plain : BasicLaws → (old f : FinderState) (options : FindOptions) (r : Reader) → StandsBefore old f → options ≡ options_of f → GivesLine f.reader (λ line. Binds line [] × (ends_top options line ≡ false)) r → ReadsOn old (finder_state r (position.Between 0) f.cursor)
 passes_plain one old f options r back options_are gives =
     let continues = gives.1 in
     let len = ap length continues.text in
@@ -168,7 +174,7 @@ passes_plain one old f options r back options_are gives =
     }
 
 -- the end or a fault was met: the finder stands there, and so does its cursor
-closes : (old f : FinderState) (r : Reader) (s : Position) → IsBack old f → r.text ≡ finder_text f → ((bounds : List Bound) → HasFound old bounds → HasFound (finder_state r s (cursor_before f.cursor (next_start f.reader))) bounds) → (phase_in s ≡ phase.Open → ⊥) → ReadsOn old (ended_at_line (finder_state r f.position f.cursor) (next_start f.reader) s)
+closes : (old f : FinderState) (r : Reader) (s : Position) → StandsBefore old f → r.text ≡ finder_text f → ((bounds : List Bound) → HasFound old bounds → HasFound (finder_state r s (cursor_before f.cursor (next_start f.reader))) bounds) → (phase_in s ≡ phase.Open → ⊥) → ReadsOn old (ended_at_line (finder_state r f.position f.cursor) (next_start f.reader) s)
 closes old f r s back same kept closed = record {
   keeps = record { kept = kept; task = record { text = same ∙ back.text; options = ap (λ (c : CursorState). c.options) back.cursor }; given = ap (λ (c : CursorState). c.given) back.cursor };
   falls = λ e. absurd (closed e);
@@ -198,7 +204,7 @@ stops_there : (f : FinderState) (bounds : List Bound) (t : IsThere f bounds) →
 stops_there f bounds t n = stops_before f.cursor (next_start f.reader) t.after n t.stopped
 
 -- the text ends
-reads_end : BasicLaws → (old f : FinderState) (r : Reader) → IsBack old f → reader.Ends f.reader r → ReadsOn old (ended_at_line (finder_state r f.position f.cursor) (next_start f.reader) (position.End 0))
+reads_end : BasicLaws → (old f : FinderState) (r : Reader) → StandsBefore old f → reader.Ends f.reader r → ReadsOn old (ended_at_line (finder_state r f.position f.cursor) (next_start f.reader) (position.End 0))
 reads_end one old f r back e =
     let same = ap (λ (q : Reader). q.text) e.same in
     closes old f r (position.End 0) back same (λ bounds h.
@@ -209,7 +215,7 @@ reads_end one old f r back e =
     ended_with f r bounds same (stops_there f bounds t n) (found_lexed (finder_text f) (options_of f) b.lines b.before bounds None lexed b.in_top b.binds n.found, inl e.place)) end_is_closed
 
 -- a line ends the top
-reads_at_top : BasicLaws → (old f : FinderState) (options : FindOptions) (r : Reader) → IsBack old f → options ≡ options_of f → GivesLine f.reader (λ line. ends_top options line ≡ true) r → ReadsOn old (ended_at_line (finder_state r f.position f.cursor) (next_start f.reader) (position.End 0))
+reads_at_top : BasicLaws → (old f : FinderState) (options : FindOptions) (r : Reader) → StandsBefore old f → options ≡ options_of f → GivesLine f.reader (λ line. ends_top options line ≡ true) r → ReadsOn old (ended_at_line (finder_state r f.position f.cursor) (next_start f.reader) (position.End 0))
 reads_at_top one old f options r back options_are g =
     let line = g.0 in
     let continues = g.1 in
@@ -221,7 +227,7 @@ reads_at_top one old f options r back options_are g =
     ended_with f r bounds continues.text (stops_there f bounds t (nothing_at_top one t.after line at.begins ends)) (found.0, inr found.1)) end_is_closed
 
 -- the text has a lexical fault
-reads_bad_text : BasicLaws → (old f : FinderState) (r : Reader) (fault : Fault) → IsBack old f → reader.Fails f.reader fault r → ReadsOn old (ended_at_line (finder_state r f.position f.cursor) (next_start f.reader) (position.Fault fault))
+reads_bad_text : BasicLaws → (old f : FinderState) (r : Reader) (fault : Fault) → StandsBefore old f → reader.Fails f.reader fault r → ReadsOn old (ended_at_line (finder_state r f.position f.cursor) (next_start f.reader) (position.Fault fault))
 reads_bad_text one old f r fault back e =
     closes old f r (position.Fault fault) back e.text (λ bounds h.
     let t = there old f bounds back h in
@@ -229,7 +235,7 @@ reads_bad_text one old f r fault back e =
     failed_with f r bounds fault e.text (stops_there f bounds t (nothing_at_end one t.after (Some fault) lexed)) (meets_lexical one t.after fault lexed)) (fault_is_closed fault)
 
 -- a line has a bad import statement
-reads_bad_line : BasicLaws → (old f : FinderState) (options : FindOptions) (r : Reader) (fault : Fault) → IsBack old f → options ≡ options_of f → GivesLine f.reader (λ line. IsBadAt line fault × (ends_top options line ≡ false)) r → ReadsOn old (ended_at_line (finder_state r f.position f.cursor) (next_start f.reader) (position.Fault fault))
+reads_bad_line : BasicLaws → (old f : FinderState) (options : FindOptions) (r : Reader) (fault : Fault) → StandsBefore old f → options ≡ options_of f → GivesLine f.reader (λ line. IsBadAt line fault × (ends_top options line ≡ false)) r → ReadsOn old (ended_at_line (finder_state r f.position f.cursor) (next_start f.reader) (position.Fault fault))
 reads_bad_line one old f options r fault back options_are g =
     let line = g.0 in
     let continues = g.1 in
@@ -240,7 +246,7 @@ reads_bad_line one old f options r fault back options_are g =
     failed_with f r bounds fault continues.text (stops_there f bounds t (nothing_at_bad one t.after line fault at.begins g.2.0)) (reads_bad one (finder_text f) (options_of f) (next_start f.reader) (skip_in f.position) line bounds fault at g.2.0 counts)) (fault_is_closed fault)
 
 -- there was no memory for the line's bindings
-loses_line : (old f : FinderState) (r : Reader) → phase_in old.position ≡ phase.Open → IsBack old f → r.text ≡ finder_text f → FinderRunsOut old (with_line_again (finder_state r f.position f.cursor) (next_start f.reader))
+loses_line : (old f : FinderState) (r : Reader) → phase_in old.position ≡ phase.Open → StandsBefore old f → r.text ≡ finder_text f → FinderRunsOut old (with_line_again (finder_state r f.position f.cursor) (next_start f.reader))
 loses_line old f r opened back same = record {
   kept = λ bounds h.
       let t = there old f bounds back h in
@@ -252,7 +258,7 @@ loses_line old f r opened back same = record {
 }
 
 -- there was no memory for the line
-runs_out : (old f : FinderState) → phase_in old.position ≡ phase.Open → IsBack old f → FinderRunsOut old f
+runs_out : (old f : FinderState) → phase_in old.position ≡ phase.Open → StandsBefore old f → FinderRunsOut old f
 runs_out old f opened back = record { kept = back.found; task = record { text = back.text; options = ap (λ (c : CursorState). c.options) back.cursor }; cursor = back.cursor; was_open = opened; is_open = back.is_open }
 
 answered : (old new : FinderState) (result : Result (Unit {0}) FindError) → result ≡ Ok tt → ReadsOn old new → ReadsNextLine old result new
@@ -262,7 +268,7 @@ refused : (old new : FinderState) (result : Result (Unit {0}) FindError) → res
 refused old new result is none = subst (λ (x : Result (Unit {0}) FindError). ReadsNextLine old x new) (sym is) (none, refl)
 
 -- the finder reads the line that begins where its reader stands, and does what follows
-follows : BasicLaws → (old f : FinderState) (options : FindOptions) (r : Reader) (read : Step) (result : Result (Unit {0}) FindError) (new : FinderState) → phase_in old.position ≡ phase.Open → IsBack old f → options ≡ options_of f → StepsTo options f.reader read r → FollowsRead (finder_state r f.position f.cursor) (next_start f.reader) read result new → ReadsNextLine old result new
+follows : BasicLaws → (old f : FinderState) (options : FindOptions) (r : Reader) (read : Step) (result : Result (Unit {0}) FindError) (new : FinderState) → phase_in old.position ≡ phase.Open → StandsBefore old f → options ≡ options_of f → StepsTo options f.reader read r → FollowsRead (finder_state r f.position f.cursor) (next_start f.reader) read result new → ReadsNextLine old result new
 follows one old f options r (step.Bindings bindings) result new opened back is g h =
     let bs = map bound_of bindings.items in
     let few : length bs < 2 ^ 64 = omega (arith, length-map bindings.items bound_of, bindings.ok, bindings.small) in

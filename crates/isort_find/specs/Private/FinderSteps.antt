@@ -1,11 +1,11 @@
 -- How a finder that has the whole text goes from one state to the next within a call.
-use Rattle.std.specs.Prelude.{◌≡◌, ℕ, ◌<◌, ◌≤◌, ◌⊎◌, Option, None, Some, Result, Ok, Err, List, [], map}
+use Rattle.std.specs.Prelude.{◌≡◌, ℕ, ◌<◌, ◌≤◌, ◌⊎◌, false, Option, None, Some, Result, Ok, Err, List, [], map}
 use Rattle.py_lines.specs.Reader.{GoesOnAt}
 use Rattle.py_imports.specs.Bound.{Bound, bound_of}
 use Rattle.py_imports.specs.declared.binding.Binding.{Binding}
-use Rattle.isort_find.specs.Finder.{FinderState, KeepsGiven, FindsNext, FinderRunsOut, finder_state, finder_text, left_of}
+use Rattle.isort_find.specs.Finder.{FinderState, HasFound, KeepsGiven, FindsNext, FinderRunsOut, finder_state, finder_text, left_of}
 use Rattle.isort_find.specs.Pending.{pending_after}
-use Rattle.isort_find.specs.Position.{phase_in, left_in, skip_in}
+use Rattle.isort_find.specs.Position.{phase_in, left_in, skip_in, is_unread}
 use Rattle.isort_find.specs.Private.CursorMoves.{cursor_before}
 use Rattle.isort_find.specs.Private.Walks.{WalkerState, walker_state}
 use Rattle.isort_find.specs.declared.error.FindError.{FindError}
@@ -49,6 +49,16 @@ GoesBackFrom other old new = new ≡ old
 -- the same, from where the finder stands
 abbrev pub GoesBack : FinderState → FinderState → Type 0
 GoesBack old new = GoesBackFrom old.position old new
+
+-- it has given the same, and its reader reads the next logical line
+pub record StandsBefore (old new : FinderState) : Type 0 where
+  pub found : (bounds : List Bound) → HasFound old bounds → HasFound new bounds
+  pub is_open : phase_in new.position ≡ phase.Open
+  pub none : left_in new.position ≡ []
+  pub read : is_unread new.position ≡ false
+  pub text : finder_text new ≡ finder_text old
+  pub cursor : new.cursor ≡ old.cursor
+  pub falls : left_of new ≤ left_of old
 
 -- the bindings of the line that begins here are to be looked at, except those that were
 abbrev pub with_line : FinderState → LineStart → List Bound → FinderState
