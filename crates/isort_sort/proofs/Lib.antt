@@ -11,7 +11,7 @@
 --
 -- Reading (proofs/Rows, proofs/Readings): the rows so far are those of the lines read, and the finder is as far in
 -- these. A line that is passed over has a row that changes nothing but the place (Readings/Passing), since a line that ends
--- before the next `import` and `from` holds neither (Rows/FirstWords), and a line without `isort:` says no action
+-- before the next `import` and `from` holds neither (Rows/Markers), and a line without `isort:` says no action
 -- (Rows/Silence). So it is with many lines that are passed over in one call (Readings/PassedLines). A row's text is what the line
 -- has after a byte order mark, so that the mark and the rows' texts are the text (Rows/Texts).
 --

@@ -6,7 +6,7 @@ pub mod Roles
 pub mod Skips
 pub mod Texts
 pub mod Silence
-pub mod FirstWords
+pub mod Markers
 pub mod SomeRows
 pub mod OneRows
 pub mod ReadBack

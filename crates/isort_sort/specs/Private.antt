@@ -6,7 +6,7 @@ pub mod Group
 pub mod Found
 pub mod LineRole
 pub mod Actions
-pub mod FirstWords
+pub mod Markers
 pub mod Reading
 pub mod Arranged
 pub mod LineEnd

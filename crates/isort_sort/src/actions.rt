@@ -5,12 +5,12 @@ ghost use Rattle.py_lines.specs.Lines.{line_in};
 ghost use Rattle.py_lines.specs.LogicalLine.{LogicalLine};
 ghost use Rattle.py_imports.specs.Statement.{is_comment, significant};
 ghost use Rattle.isort_sort.specs.Private.Actions.{asks_to_skip, no_actions, AreActions};
-ghost use Rattle.isort_sort.specs.Private.FirstWords.{HoldsLineAt};
+ghost use Rattle.isort_sort.specs.Private.Markers.{HoldsLineAt};
 ghost use Rattle.isort_sort.specs.Private.LineRole.{turned};
 ghost use Rattle.isort_sort.specs.Row.{is_comment_kind, is_string, parts_blocks, says_alone, string_skips};
 
 use crate::comment::comments_say;
-use crate::first_words::FirstWords;
+use crate::markers::Markers;
 use py_imports::{ActionComment, says};
 use py_lines::{TokKind, Token, Unit, UnitKind};
 
@@ -98,12 +98,12 @@ impl Actions {
     }
 
     /// The actions of a line of the text. Most lines hold no `isort:`, and say none.
-    pub(crate) fn of(unit: &Unit<'_>, words: &mut FirstWords<'_>) -> Actions
-        requires { HoldsLineAt words.old (line_in unit.now) }
+    pub(crate) fn of(unit: &Unit<'_>, markers: &mut Markers<'_>) -> Actions
+        requires { HoldsLineAt markers.old (line_in unit.now) }
         ensures actions { AreActions (line_in unit.now) result }
-        ensures same { words.new ≡ words.old }
+        ensures same { markers.new ≡ markers.old }
     {
-        if words.is_silent(unit) {
+        if markers.is_silent(unit) {
             Actions::none()
         } else {
             Actions::said_in(unit)

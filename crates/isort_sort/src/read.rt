@@ -7,7 +7,7 @@ ghost use Rattle.py_imports.specs.Binds.{Binds};
 ghost use Rattle.py_imports.specs.Bound.{bound_of};
 ghost use Rattle.isort_sort.specs.Answers.{IsRefused};
 ghost use Rattle.isort_sort.specs.Private.Actions.{AreActions};
-ghost use Rattle.isort_sort.specs.Private.FirstWords.{HoldsLineAt};
+ghost use Rattle.isort_sort.specs.Private.Markers.{HoldsLineAt};
 ghost use Rattle.isort_sort.specs.Private.Found.{IsFurther};
 ghost use Rattle.isort_sort.specs.Private.Reading.{stop_of, FindsLine, IsFoundIn, IsKnown, IsReadBefore, IsReadSoFar};
 ghost use Rattle.isort_sort.specs.Private.Reading.{IsWholeRead, MayPass, ReadsLine, ReadsOver};
@@ -16,7 +16,7 @@ use crate::actions::Actions;
 use crate::answer::SortError;
 use crate::comment::{comment_texts, own_comments};
 use crate::finder::{BlockFinder, FoundBlock, LineStop};
-use crate::first_words::FirstWords;
+use crate::markers::Markers;
 use crate::member::Member;
 use crate::row::{Role, indentation, role_of};
 use crate::skip::SkipReader;
@@ -66,11 +66,11 @@ impl LineReader {
         ensures ok { OnOk result (IsWholeRead text.now self.new) }
         ensures err { IfErr result (λ e. IsRefused text.now e) }
     {
-        let mut words = FirstWords::new(text);
+        let mut markers = Markers::new(text);
         let mut lines = Lines::new(alloc, text)?;
         'lines: loop {
-            self.pass_lines(&mut lines, &mut words);
-            if !self.read_line(alloc, &mut lines, &mut words)? {
+            self.pass_lines(&mut lines, &mut markers);
+            if !self.read_line(alloc, &mut lines, &mut markers)? {
                 return Ok(());
             }
         }
@@ -87,20 +87,20 @@ impl LineReader {
     /// Passes over the next lines without their tokens, as long as they are simple, neither `import`, `from` nor `isort:` stands in them,
     /// and no block may go on. Most lines are passed over so.
     #[inline(always)]
-    fn pass_lines(&mut self, lines: &mut Lines<'_>, words: &mut FirstWords<'_>)
-        requires text { words.old ≡ lines.old.text }
+    fn pass_lines(&mut self, lines: &mut Lines<'_>, markers: &mut Markers<'_>)
+        requires text { markers.old ≡ lines.old.text }
         requires known { IsKnown lines.old self.old }
         ensures known { IsKnown lines.new self.new }
         ensures same { lines.new.text ≡ lines.old.text }
         ensures further { lines.old.place ≤ lines.new.place }
-        ensures words { words.new ≡ words.old }
+        ensures markers { markers.new ≡ markers.old }
     {
         if !self.may_pass() {
             return;
         }
         lines_without_first_words_bind_nothing();
         let start = lines.offset() as usize;
-        lines.pass_lines(words.free_up_to(start));
+        lines.pass_lines(markers.free_up_to(start));
         self.blocks.pass(lines.offset() as usize);
     }
 
@@ -109,19 +109,19 @@ impl LineReader {
         &mut self,
         alloc: Global,
         lines: &mut Lines<'_>,
-        words: &mut FirstWords<'_>,
+        markers: &mut Markers<'_>,
     ) -> Result<bool, SortError>
-        requires text { words.old ≡ lines.old.text }
+        requires text { markers.old ≡ lines.old.text }
         requires known { IsKnown lines.old self.old }
         ensures reads { ReadsOver lines.old result lines.new self.new }
-        ensures words { words.new ≡ words.old }
+        ensures markers { markers.new ≡ markers.old }
     {
         let Some(unit) = lines.next_unit()? else {
             return Ok(false);
         };
-        if !self.pass(&unit, words) {
+        if !self.pass(&unit, markers) {
             let bindings = bindings_of(alloc, &unit)?;
-            self.push(alloc, &unit, Actions::of(&unit, words), bindings)?;
+            self.push(alloc, &unit, Actions::of(&unit, markers), bindings)?;
         }
         Ok(true)
     }
@@ -129,16 +129,16 @@ impl LineReader {
     /// Passes over the line, where no block needs it: neither `import`, `from` nor `isort:` stands in it, and no block may go on.
     /// The result is whether it was passed over.
     #[inline(always)]
-    fn pass(&mut self, unit: &Unit<'_>, words: &mut FirstWords<'_>) -> bool
-        requires { HoldsLineAt words.old (line_in unit.now) }
+    fn pass(&mut self, unit: &Unit<'_>, markers: &mut Markers<'_>) -> bool
+        requires { HoldsLineAt markers.old (line_in unit.now) }
         ensures on { IsTrue result → ReadsLine (line_in unit.now) self.old self.new }
         ensures binds { IsTrue result → Binds (line_in unit.now) [] }
         ensures same { result ≡ false → self.new ≡ self.old }
-        ensures words { words.new ≡ words.old }
+        ensures markers { markers.new ≡ markers.old }
     {
         lines_without_first_words_bind_nothing();
         let line = LineStop::of(unit);
-        if !self.may_pass() || words.free_up_to(unit.offset as usize) < line.stop {
+        if !self.may_pass() || markers.free_up_to(unit.offset as usize) < line.stop {
             return false;
         }
         self.blocks.pass(line.stop);

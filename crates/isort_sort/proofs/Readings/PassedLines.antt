@@ -2,12 +2,12 @@
 use Rattle.std.proofs.Common.{◌≡◌, ℕ, ◌+◌, ◌<◌, ◌≤◌, List, [], ◌∷◌, length, sym, ap, ◌∙◌, subst, arith}
 use Rattle.py_lines.specs.LogicalLine.{LogicalLine}
 use Rattle.py_lines.specs.Reader.{Reader, PassesLine, PassesLines}
-use Rattle.isort_sort.specs.Private.FirstWords.{HoldsBytesAt, IsFree}
+use Rattle.isort_sort.specs.Private.Markers.{HoldsBytesAt, IsFree}
 use Rattle.isort_sort.specs.Private.Reading.{IsKnown, MayPass, stop_of}
 use Rattle.isort_sort.specs.declared.read.LineReader.{LineReader}
 use Rattle.isort_sort.proofs.Readings.Passing.{free_passed, passed_to, BindsNothing, SpellsNone}
 use Rattle.isort_sort.proofs.Readings.ReadSoFar.{known_on, stands_after}
-use Rattle.isort_sort.proofs.Rows.FirstWords.{lacks_first_words, later_free, slice_stands}
+use Rattle.isort_sort.proofs.Rows.Markers.{lacks_first_words, later_free, slice_stands}
 use Rattle.isort_sort.proofs.Rows.Texts.{given_place}
 
 -- the reader after lines up to this byte, which no block takes in

@@ -16,7 +16,7 @@ use Rattle.py_imports.specs.Shape.{begins_so}
 use Rattle.py_imports.specs.Statement.{is_comment, significant}
 use Rattle.py_imports.specs.declared.line_shape.Shape.TheVariants as shape
 use Rattle.isort_sort.specs.Private.Actions.{asks_to_skip, no_actions, AreActions}
-use Rattle.isort_sort.specs.Private.FirstWords.{HoldsBytesAt, IsFree}
+use Rattle.isort_sort.specs.Private.Markers.{HoldsBytesAt, IsFree}
 use Rattle.isort_sort.specs.Private.Found.{Finding, with_blank, with_comments, closed_block, after_blank, after_comments, after_other}
 use Rattle.isort_sort.specs.Line.{comment_texts}
 use Rattle.isort_sort.specs.Private.LineRole.{turned}
@@ -26,7 +26,7 @@ use Rattle.isort_sort.specs.declared.read.LineReader.{LineReader}
 use Rattle.isort_sort.specs.declared.skip.SkipReader.{SkipReader}
 use Rattle.isort_sort.proofs.Readings.Lines.{any_match, finds_blank, finds_comments, finds_other}
 use Rattle.isort_sort.proofs.Readings.LinesRead.{read_on, still_before}
-use Rattle.isort_sort.proofs.Rows.FirstWords.{lacks, lacks_first_words}
+use Rattle.isort_sort.proofs.Rows.Markers.{lacks, lacks_first_words}
 use Rattle.isort_sort.proofs.Rows.Roles.{sortable_begins}
 use Rattle.isort_sort.proofs.Rows.Silence.{silent_actions}
 use Rattle.isort_sort.proofs.Rows.Skips.{skip_pushed}

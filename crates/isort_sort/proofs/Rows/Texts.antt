@@ -9,7 +9,7 @@ use Rattle.py_lines.specs.LogicalLine.{LogicalLine, line_of, is_line_end_class, 
 use Rattle.py_lines.specs.Piece.{Piece, spelled}
 use Rattle.py_lines.specs.Reader.{Reader, HasGiven}
 use Rattle.py_imports.specs.Shape.{mark_len}
-use Rattle.isort_sort.specs.Private.FirstWords.{HoldsLineAt}
+use Rattle.isort_sort.specs.Private.Markers.{HoldsLineAt}
 use Rattle.isort_sort.specs.Private.Reading.{texts_of_lines, StandsAfter}
 use Rattle.isort_sort.specs.Row.{Row, AreRows}
 use Rattle.isort_sort.specs.Sorted.{texts_of, mark_of}

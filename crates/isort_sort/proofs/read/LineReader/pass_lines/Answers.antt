@@ -1,6 +1,6 @@
 -- The lines that were passed over hold neither word and say nothing.
 use Rattle.std.proofs.Common.{ℕ, List, sym, ap, subst, ◌∙◌, arith}
-use Rattle.isort_sort.specs.Private.FirstWords.{IsFree}
+use Rattle.isort_sort.specs.Private.Markers.{IsFree}
 use Rattle.isort_sort.specs.Private.Reading.{IsKnown}
 use Rattle.isort_sort.specs.declared.read.LineReader.{LineReader}
 use Rattle.isort_sort.proofs.Readings.PassedLines.{all_passed, later_place, same_text}

@@ -23,7 +23,7 @@ pub lines-preserved : goal.lines-preserved
 lines-preserved c =
     let reads = subst (λ b. ReadsOver c.pass_lines.new.lines (Ok b) c.read_line.new.lines c.read_line.new.self) c.if-not-branch.false c.in_ok-read_line.ensures.reads in
     record {
-      words = c.read_line.ensures.words ∙ c.pass_lines.ensures.words ∙ c.lines.invariant.words;
+      markers = c.read_line.ensures.markers ∙ c.pass_lines.ensures.markers ∙ c.lines.invariant.markers;
       same = reads.1 ∙ c.pass_lines.ensures.same ∙ c.lines.invariant.same;
       known = reads.0;
     }

@@ -4,7 +4,7 @@ use Rattle.isort_sort.proofs.read.LineReader.read.Given as goal
 
 abbrev pub invariant-lines : goal.invariant-lines
 invariant-lines l = record {
-  words : l.words ≡ l.text;
+  markers : l.markers ≡ l.text;
   same : l.lines.text ≡ l.text;
   known : IsKnown l.lines l.self;
 }

@@ -2,7 +2,7 @@ use Rattle.std.proofs.Common.{[], sym, ◌∙◌, subst}
 use Rattle.std.proofs.lemmas.Result.{err_from_is_err_and}
 use Rattle.py_lines.specs.Lines.{line_in, ReadsNext}
 use Rattle.py_lines.specs.Reader.{Continues}
-use Rattle.isort_sort.specs.Private.FirstWords.{HoldsLineAt}
+use Rattle.isort_sort.specs.Private.Markers.{HoldsLineAt}
 use Rattle.isort_sort.specs.Private.Found.{IsFurther}
 use Rattle.isort_sort.specs.Private.Reading.{stop_of, IsKnown}
 use Rattle.isort_sort.specs.declared.read.LineReader.{LineReader}
@@ -16,7 +16,7 @@ on : (c : In-Some) → Continues c.args.lines.now (line_in c.in-Some.unit) c.nex
 on c = continues _ _ _ _ _ c.next_unit.follows.holds-at-none c.in_ok-unit.was c.in-Some.is
 
 -- and stands in the text
-stands : (c : In-Some) → HoldsLineAt c.args.words.now (line_in c.in-Some.unit)
+stands : (c : In-Some) → HoldsLineAt c.args.markers.now (line_in c.in-Some.unit)
 stands c =
     let next = on c in
     let given = c.requires.known.given in
@@ -34,7 +34,7 @@ pub returns-in_default-clause-reads : goal.returns-in_default-clause-reads
 returns-in_default-clause-reads c = reads_end _ _ c.args.self.now (ends _ _ _ _ c.next_unit.follows.holds-at-none c.in_ok-unit.was c.in_default.is) c.requires.known
 
 pub of-requires : goal.of-requires
-of-requires c = subst (λ t. HoldsLineAt t (line_in c.in-Some.unit)) (sym c.pass.ensures.words) (stands (goal.at.of-requires c).In-Some)
+of-requires c = subst (λ t. HoldsLineAt t (line_in c.in-Some.unit)) (sym c.pass.ensures.markers) (stands (goal.at.of-requires c).In-Some)
 
 pub push-requires-clause-further : goal.push-requires-clause-further
 push-requires-clause-further c =

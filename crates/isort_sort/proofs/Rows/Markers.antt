@@ -1,16 +1,13 @@
 -- Where a word stands in a text, and the lines in which it stands nowhere.
-use Rattle.std.proofs.Common.{◌≡◌, ℕ, ◌+◌, ◌-◌, ◌<◌, ◌≤◌, Bool, true, false, nat_lt, None, Some, List, ◌++◌, length, take, drop, slice_range, get_or-drop, codes, refl, sym, ap, ◌∙◌, subst, append_assoc, arith, length-append, length-drop}
+use Rattle.std.proofs.Common.{◌≡◌, ℕ, ◌+◌, ◌-◌, ◌<◌, ◌≤◌, None, Some, List, ◌++◌, length, take, drop, slice_range, get_or-drop, codes, sym, ap, ◌∙◌, subst, append_assoc, arith, length-append, length-drop}
 use Rattle.std.proofs.lemmas.List.{length-take-le, take-append-drop, take_all}
 use Rattle.std.proofs.lemmas.List.Folds.{drop_split}
 use Rattle.std.proofs.Math.Seq.{drop-append_seam, take-append_seam}
-use Rattle.std.proofs.lemmas.Bool.{eq-eqb, ltb-true, ltb-false}
-use Rattle.std.proofs.lemmas.Slice.Eq.{bytes_eq-Decides}
-use Rattle.std.specs.Prelude.{nat_eq, slice_index}
-use Rattle.std.specs.List.{starts_with}
-use Rattle.memchr.specs.Find.{FindsNeedle, OccursAt, Nowhere, IsFirstByte, is_byte}
-use Rattle.memchr.proofs.lemmas.MatchLemmas.{OccursAt-part, OccursAt-from_part}
-use Rattle.py_imports.specs.FirstWords.{Lacks, LacksFirstWords}
-use Rattle.isort_sort.specs.Private.FirstWords.{BeginNowhere, HoldsBytesAt, IsFree, IsSilentBetween}
+use Rattle.std.specs.Prelude.{slice_index}
+use Rattle.memchr.specs.Find.{FindsNeedle, OccursAt, Nowhere}
+use Rattle.memchr.proofs.lemmas.MatchLemmas.{OccursAt-from_part}
+use Rattle.py_imports.specs.FirstWords.{BeginNowhere, Lacks, LacksFirstWords}
+use Rattle.isort_sort.specs.Private.Markers.{HoldsBytesAt, IsFree, IsSilentBetween}
 
 -- the rest of a text
 rest_is : (text : List ℕ) (start : ℕ) → slice_range text start (length text) ≡ drop start text
@@ -21,30 +18,6 @@ in_rest : (text : List ℕ) (start place : ℕ) → start ≤ place → slice_in
 in_rest text start place low =
     let same : start + (place - start) ≡ place = omega (arith, low) in
     ap (λ rest. slice_index rest (place - start)) (rest_is text start) ∙ get_or-drop start text (place - start) 0 ∙ ap (λ i. slice_index text i) same
-
--- the byte stands nowhere in the rest of the text
-pub no_letter : (text : List ℕ) (letter start : ℕ) → IsFirstByte (is_byte letter) (slice_range text start (length text)) None → (place : ℕ) → start ≤ place → place < length text → ¬ (slice_index text place ≡ letter)
-no_letter text letter start none place low within same =
-    none (place - start) (omega arith) (omega (arith, low, within, ap (λ (rest : List ℕ). length rest) (rest_is text start), length-drop start text)) (eq-eqb _ letter (in_rest text start place low ∙ same))
-
--- the byte stands nowhere before the place at which it was found
-pub letter_from : (text : List ℕ) (letter start len : ℕ) → IsFirstByte (is_byte letter) (slice_range text start (length text)) (Some len) → (place : ℕ) → start ≤ place → slice_index text place ≡ letter → start + len ≤ place
-letter_from text letter start len found place low same = by (nat_lt place (start + len)) refl
-  where
-    by : (b : Bool) → nat_lt place (start + len) ≡ b → start + len ≤ place
-    by true before = absurd (found.0.before (place - start) (omega arith) (omega (arith, low, ltb-true place (start + len) before)) (eq-eqb _ letter (in_rest text start place low ∙ same)))
-    by false before = ltb-false place (start + len) before
-
-pub letter_within : (text : List ℕ) (letter start len : ℕ) → start ≤ length text → IsFirstByte (is_byte letter) (slice_range text start (length text)) (Some len) → start + len < length text
-letter_within text letter start len within found = omega (arith, within, found.0.high, ap (λ (rest : List ℕ). length rest) (rest_is text start), length-drop start text)
-
--- a place that isn't the first comes after it
-pub past : (first place : ℕ) → first ≤ place → ¬ (place ≡ first) → first + 1 ≤ place
-past first place low other = by (nat_lt first place) refl
-  where
-    by : (b : Bool) → nat_lt first place ≡ b → first + 1 ≤ place
-    by true before = omega (arith, ltb-true first place before)
-    by false behind = absurd (other (omega (arith, low, ltb-false first place behind)))
 
 -- neither word begins in a part of a gap
 pub later_start : (text : List ℕ) (start stop from : ℕ) → BeginNowhere text start stop → start ≤ from → BeginNowhere text from stop
@@ -62,14 +35,6 @@ both_free text start words actions before nowhere silent less few = (
   (λ k above below. nowhere.0 k above (omega (arith, below, less)), λ k above below. nowhere.1 k above (omega (arith, below, less))),
   λ k above below. silent k above (omega (arith, below, few)),
 )
-
--- a word doesn't stand where the text goes on otherwise
-pub other_word : (text word : List ℕ) (place : ℕ) → starts_with nat_eq (slice_range text place (length text)) word ≡ false → ¬ (OccursAt text word place)
-other_word text word place differs h =
-    let begins : starts_with nat_eq (slice_range text place (length text)) word ≡ true =
-    ap (λ rest. starts_with nat_eq rest word) (rest_is text place) ∙ (bytes_eq-Decides word (take (length word) (drop place text))).1 (sym (OccursAt-part text word place h)) in
-    let both : true ≡ false = sym begins ∙ differs in
-    cc
 
 -- a word between two texts
 between : (before word after : List ℕ) → OccursAt (before ++ (word ++ after)) word (length before)

@@ -1,17 +1,14 @@
--- Where the first words of import statements stand in a text.
+-- Where `import`, `from` and `isort:` stand in a text.
 use Rattle.std.specs.Prelude.{◌≡◌, ℕ, List, ◌++◌, codes, length}
 use Rattle.memchr.specs.Find.{Nowhere, OccursAt}
+use Rattle.py_imports.specs.FirstWords.{BeginNowhere}
 use Rattle.py_lines.specs.LogicalLine.{LogicalLine}
 
--- neither `import` nor `from` begins in the text from one byte up to another
-abbrev pub BeginNowhere : List ℕ → ℕ → ℕ → Type 0
-BeginNowhere text start stop = Nowhere (OccursAt text (codes "import")) start stop × Nowhere (OccursAt text (codes "from")) start stop
-
--- nor `isort:`
+-- `isort:` begins nowhere in the text from one byte up to another
 abbrev pub IsSilentBetween : List ℕ → ℕ → ℕ → Type 0
 IsSilentBetween text start stop = Nowhere (OccursAt text (codes "isort:")) start stop
 
--- none of them begins there
+-- nor do `import` and `from`
 abbrev pub IsFree : List ℕ → ℕ → ℕ → Type 0
 IsFree text start stop = BeginNowhere text start stop × IsSilentBetween text start stop
 

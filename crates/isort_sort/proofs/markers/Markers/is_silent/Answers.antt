@@ -2,8 +2,8 @@
 use Rattle.std.proofs.Common.{codes, arith}
 use Rattle.std.proofs.lemmas.Bool.{leb-true}
 use Rattle.py_lines.specs.Lines.{line_in}
-use Rattle.isort_sort.proofs.Rows.FirstWords.{lacks}
-use Rattle.isort_sort.proofs.first_words.FirstWords.is_silent.Goals as goal
+use Rattle.isort_sort.proofs.Rows.Markers.{lacks}
+use Rattle.isort_sort.proofs.markers.Markers.is_silent.Goals as goal
 
 pub returns-clause-silent : goal.returns-clause-silent
 returns-clause-silent c = λ is.

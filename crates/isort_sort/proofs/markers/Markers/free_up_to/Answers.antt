@@ -1,7 +1,7 @@
 use Rattle.std.proofs.Common.{subst, arith}
-use Rattle.isort_sort.specs.Private.FirstWords.{IsSilentBetween}
-use Rattle.isort_sort.proofs.Rows.FirstWords.{both_free}
-use Rattle.isort_sort.proofs.first_words.FirstWords.free_up_to.Goals as goal
+use Rattle.isort_sort.specs.Private.Markers.{IsSilentBetween}
+use Rattle.isort_sort.proofs.Rows.Markers.{both_free}
+use Rattle.isort_sort.proofs.markers.Markers.free_up_to.Goals as goal
 
 pub returns-clause-free : goal.returns-clause-free
 returns-clause-free c =
