@@ -1,19 +1,13 @@
 -- The section of a module, as an answer.
-use Rattle.std.specs.Prelude.{◌≡◌, ◌⊎◌, ℕ, List, [], length, get_or, Result, Ok, Err}
+use Rattle.std.specs.Prelude.{◌≡◌, ◌⊎◌, ℕ, List, length, Result, Ok, Err}
 use Rattle.std.specs.Str.{IsUtf8}
-use Rattle.isort_settings.specs.FiveSections.{section_number, section_spelling}
+use Rattle.isort_settings.specs.FiveSections.{section_number}
 use Rattle.isort_settings.specs.Values.{Values}
-use Rattle.isort_settings.specs.Sections.{section_in}
+use Rattle.isort_settings.specs.Sections.{section_in, section_name}
 use Rattle.isort_settings.specs.declared.section.Section.{Section}
-use Rattle.isort_settings.specs.declared.section.Section.TheVariants.{Own}
 use Rattle.isort_c.specs.Answers.{plain_answer, IsUnlessMemory, filled}
 use Rattle.isort_c.specs.declared.answer.Answer.{Answer}
 use Rattle.isort_c.specs.declared.answer.TheConstants.{SAME, MEMORY, ARGUMENT}
-
--- the name of a section, as settings spell it
-abbrev pub section_name : Values → Section → List ℕ
-section_name v (Own n) = get_or v.own_names n []
-section_name v s = section_spelling s
 
 -- the section, and its name in the buffer
 abbrev pub TellsSection : Values → Section → Answer → List ℕ → List ℕ → Type 0

@@ -19,9 +19,6 @@ pub const MEMORY: u32 = 5;
 /// An argument means nothing: a module that is not UTF-8, or a number that no key and no profile has.
 pub const ARGUMENT: u32 = 6;
 
-/// The number of the first own section.
-pub const OWN: u32 = 5;
-
 /// What a call came to. A number that isn't spoken of is 0.
 #[repr(C)]
 #[derive(Clone, Copy)]

@@ -10,7 +10,7 @@ ghost use Rattle.isort_settings.specs.declared.section.Section.TheVariants as se
 ghost use Rattle.isort_c.specs.Answers.{plain_answer, fault_number};
 ghost use Rattle.isort_c.specs.Listing.{unique_at};
 ghost use Rattle.isort_c.specs.Readings.{profile_at, refused_answer};
-ghost use Rattle.isort_c.specs.declared.answer.TheConstants.{SAME, CHANGED, SKIPPED, FAULT, SETTINGS, MEMORY, ARGUMENT, OWN};
+ghost use Rattle.isort_c.specs.declared.answer.TheConstants.{SAME, CHANGED, SKIPPED, FAULT, SETTINGS, MEMORY, ARGUMENT};
 ghost use Rattle.isort_c.specs.declared.key.TheConstants.{OWN_LIST};
 
 /// The numbers that the other contracts name have these values, as `c/fihroste.h` says: of statuses, faults, refusals, profiles,
@@ -37,6 +37,6 @@ pub fn numbers_are_fixed()
     ensures sections { (section_number section.Future ≡ 0) × (section_number section.Stdlib ≡ 1)
         × (section_number section.ThirdParty ≡ 2) × (section_number section.FirstParty ≡ 3)
         × (section_number section.LocalFolder ≡ 4) }
-    ensures own_sections { (OWN ≡ 5) × ((n : ℕ) → section_number (section.Own n) ≡ 5 + n) }
+    ensures own_sections { (n : ℕ) → section_number (section.Own n) ≡ 5 + n }
     ensures own_lists { OWN_LIST ≡ 26 }
 {}

@@ -1,56 +1,24 @@
 //! The section of a module.
 ghost use Rattle.std.specs.Prelude.{◌≡◌};
-ghost use Rattle.isort_settings.specs.FiveSections.{section_number};
 ghost use Rattle.isort_settings.specs.Values.{values};
-ghost use Rattle.isort_c.specs.Places.{section_name, AnswersPlace, TellsSection};
+ghost use Rattle.isort_c.specs.Places.{AnswersPlace, TellsSection};
 ghost use Rattle.isort_c.specs.Readings.{reading};
 
-use crate::answer::{ARGUMENT, Answer, OWN, SAME};
+use crate::answer::{ARGUMENT, Answer, SAME};
 use crate::buffer::fill;
 use crate::settings::read;
 use isort_settings::{Section, Settings};
 use std::alloc::Global;
 use std::str;
 
-/// The number of a section: the five, and then the own ones in their order.
-fn number_of(section: Section) -> u32
-    ensures { result ≡ section_number section }
-{
-    match section {
-        Section::Future => 0,
-        Section::Stdlib => 1,
-        Section::ThirdParty => 2,
-        Section::FirstParty => 3,
-        Section::LocalFolder => 4,
-        Section::Own(place) => OWN + u32::from(place),
-    }
-}
-
-/// The name of a section, as the settings spell it.
-fn section_name(settings: &Settings, section: Section) -> &str
-    ensures { result.now ≡ section_name (values settings.now) section }
-{
-    match section {
-        Section::Future => "FUTURE",
-        Section::Stdlib => "STDLIB",
-        Section::ThirdParty => "THIRDPARTY",
-        Section::FirstParty => "FIRSTPARTY",
-        Section::LocalFolder => "LOCALFOLDER",
-        Section::Own(place) => match settings.own_names.get(place as usize) {
-            Some(name) => name.as_str(),
-            None => "",
-        },
-    }
-}
-
 /// Tells the section, with its name in the buffer.
 pub fn tell(settings: &Settings, section: Section, out: &mut [u8]) -> Answer
     ensures { TellsSection (values settings.now) section result out.old out.new }
 {
-    let name = section_name(settings, section).as_bytes();
+    let name = settings.section_name(section).as_bytes();
     fill(name, out);
     let mut answer = Answer::plain(SAME);
-    answer.section = number_of(section);
+    answer.section = section.number();
     answer.size = name.len();
     answer
 }
