@@ -211,6 +211,9 @@ impl SettingsCase for Ranked {
             }
         }
         settings.section_rank(Section::Own(200)) == self.1.len()
+            && settings.section_name(Section::Stdlib) == "STDLIB"
+            && settings.section_name(Section::Own(200)).is_empty()
+            && Section::Own(2).number() == 7
     }
 }
 
