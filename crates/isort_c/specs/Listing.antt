@@ -1,7 +1,7 @@
 -- What listing answers.
 use Rattle.std.specs.Prelude.{◌≡◌, ℕ, Bool, ◌==◌, Option, None, Some, Result, Ok, Err, List, length, if◌then◌else◌}
 use Rattle.py_lines.specs.declared.fault.Fault.{Fault}
-use Rattle.py_imports.specs.Bound.{Bound}
+use Rattle.py_imports.specs.BindingValue.{BindingValue}
 use Rattle.isort_find.specs.Found.{IsFound}
 use Rattle.isort_find.specs.declared.error.FindError.{FindError}
 use Rattle.isort_find.specs.declared.error.FindError.TheVariants as error
@@ -9,7 +9,7 @@ use Rattle.isort_find.specs.declared.options.FindOptions.{FindOptions}
 use Rattle.isort_find.specs.declared.options.ImportKey.{ImportKey}
 use Rattle.isort_find.specs.declared.options.ImportKey.TheVariants as key
 use Rattle.isort_c.specs.Answers.{plain_answer, fault_answer, filled}
-use Rattle.isort_c.specs.Records.{bound_records}
+use Rattle.isort_c.specs.Records.{value_records}
 use Rattle.isort_c.specs.declared.answer.Answer.{Answer}
 use Rattle.isort_c.specs.declared.answer.TheConstants.{SAME, MEMORY, ARGUMENT}
 
@@ -22,9 +22,9 @@ unique_at n =
 
 -- the records of all imports that are found up to this end
 pub record Lists (text : List ℕ) (options : FindOptions) (end : Option Fault) (bytes : List ℕ) : Type 0 where
-  pub bounds : List Bound
-  pub found : IsFound text options bounds end
-  pub written : bytes ≡ bound_records bounds
+  pub values : List BindingValue
+  pub found : IsFound text options values end
+  pub written : bytes ≡ value_records values
 
 -- the records of a listing; nothing is said where memory ran out
 abbrev pub IsListing : List ℕ → FindOptions → Result (Unit {0}) FindError → List ℕ → Type 0

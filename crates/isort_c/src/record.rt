@@ -1,8 +1,8 @@
 //! Texts and imports as records of bytes.
 ghost use Rattle.std.specs.Prelude.{◌≡◌, ◌++◌, OnOk, if◌then◌else◌, string_bytes};
 ghost use Rattle.std.specs.Option.{option_map};
-ghost use Rattle.py_imports.specs.Bound.{bound_of};
-ghost use Rattle.isort_c.specs.Records.{text_record, option_record, place_record, bound_record};
+ghost use Rattle.py_imports.specs.BindingValue.{binding_value};
+ghost use Rattle.isort_c.specs.Records.{text_record, option_record, place_record, value_record};
 
 use py_imports::Binding;
 use std::alloc::AllocError;
@@ -54,7 +54,8 @@ fn push_place(line: u64, indented: bool, out: &mut Vec<u8>) -> Result<(), AllocE
 
 /// Puts the record of a binding after `out`.
 pub fn push_binding(binding: &Binding, out: &mut Vec<u8>) -> Result<(), AllocError>
-    ensures { OnOk result (out.new.items ≡ out.old.items ++ bound_record (bound_of binding.now)) }
+    ensures { OnOk result (out.new.items
+        ≡ out.old.items ++ value_record (binding_value binding.now)) }
 {
     push_place(binding.line, binding.indented, out)?;
     push_text(binding.module_name.as_str(), out)?;

@@ -6,7 +6,7 @@ use Rattle.std.specs.Io.KnownBytes.{Keeps}
 use Rattle.std.proofs.KnownBytes.{Appends-kept}
 use Rattle.py_lines.specs.ScannerState.{GoesOnWith}
 use Rattle.py_lines.specs.declared.fault.Fault.{Fault}
-use Rattle.py_imports.specs.Bound.{Bound}
+use Rattle.py_imports.specs.BindingValue.{BindingValue}
 use Rattle.isort_find.specs.Cursor.{CursorState}
 use Rattle.isort_find.specs.Found.{IsFound}
 use Rattle.isort_find.specs.Settled.{IsFoundSettled, DecidesFound}
@@ -29,10 +29,10 @@ use Rattle.isort_cmd.proofs.ListingLemmas.{GivenBegin, found_fault, lists_prefix
 -- laws of `isort_find`
 pub record FoundLaws : Type 0 where
   pub begin : GivenBegin
-  pub one_list : (text : List ℕ) (options : FindOptions) (bounds others : List Bound) (end other : Option Fault) → IsFound text options bounds end → IsFound text options others other → bounds ≡ others
-  pub some : (text : List ℕ) (options : FindOptions) → (bounds : List Bound) × (bad : Option Fault) × IsFoundSettled text options bounds bad
-  pub grow : (text more : List ℕ) (options : FindOptions) (bounds later : List Bound) (bad last : Option Fault) → IsFoundSettled text options bounds bad → IsFoundSettled (text ++ more) options later last → (rest : List Bound) × (later ≡ bounds ++ rest)
-  pub all : (text more : List ℕ) (options : FindOptions) (bounds : List Bound) (fault : Fault) → DecidesFound text options fault → IsFound text options bounds (Some fault) → IsFound (text ++ more) options bounds (Some fault)
+  pub one_list : (text : List ℕ) (options : FindOptions) (values others : List BindingValue) (end other : Option Fault) → IsFound text options values end → IsFound text options others other → values ≡ others
+  pub some : (text : List ℕ) (options : FindOptions) → (values : List BindingValue) × (bad : Option Fault) × IsFoundSettled text options values bad
+  pub grow : (text more : List ℕ) (options : FindOptions) (values later : List BindingValue) (bad last : Option Fault) → IsFoundSettled text options values bad → IsFoundSettled (text ++ more) options later last → (rest : List BindingValue) × (later ≡ values ++ rest)
+  pub all : (text more : List ℕ) (options : FindOptions) (values : List BindingValue) (fault : Fault) → DecidesFound text options fault → IsFound text options values (Some fault) → IsFound (text ++ more) options values (Some fault)
 
 -- ---- texts that begin with some bytes
 
@@ -52,8 +52,8 @@ begins_with_both text a b goes =
 -- ---- a chunk is taken
 
 -- what was settled stays so as more is fed
-settled_more : FoundLaws → (old new : PieceFinderState) (text : List ℕ) (bounds : List Bound) (n : ℕ) → fed_by new ≡ fed_by old + n → new.cursor ≡ old.cursor → AreSettled old text bounds → AreSettled new text bounds
-settled_more laws old new text bounds n fed cursor settled found bad h =
+settled_more : FoundLaws → (old new : PieceFinderState) (text : List ℕ) (values : List BindingValue) (n : ℕ) → fed_by new ≡ fed_by old + n → new.cursor ≡ old.cursor → AreSettled old text values → AreSettled new text values
+settled_more laws old new text values n fed cursor settled found bad h =
     let known = take (fed_by old) text in
     let more = take n (drop (fed_by old) text) in
     let options = options_for old in
@@ -61,7 +61,7 @@ settled_more laws old new text bounds n fed cursor settled found bad h =
     let before = laws.some known options in
     let grown = laws.grow known more options before.0 found before.1 bad before.2 at in
     let begun = settled before.0 before.1 before.2 in
-    (begun.0 ++ grown.0, grown.1 ∙ ap (λ x. x ++ grown.0) begun.1 ∙ append_assoc bounds begun.0 grown.0)
+    (begun.0 ++ grown.0, grown.1 ∙ ap (λ x. x ++ grown.0) begun.1 ∙ append_assoc values begun.0 grown.0)
 
 -- some bytes of a chunk were taken: what was listed of each text that begins with them stays so
 pub taken_listed : FoundLaws → (path known chunk : List ℕ) (options : FindOptions) (old : PieceFinderState) (n : ℕ) (new : PieceFinderState) (start now : Option (List ℕ)) → old.scanning.ended ≡ false → TakesFromPiece old chunk n new → HasListedGiven path known options old start now → HasListedGiven path (known ++ take n chunk) options new start now
@@ -73,9 +73,9 @@ taken_listed laws path known chunk options old n new start now open_yet takes to
       let listed = to.listed text both.0 in
       let after = subst (λ (m : ℕ). GoesOnWith text m (take n chunk)) (sym to.fed) both.1 in
       record {
-        bounds = listed.bounds;
-        found = takes.found text listed.bounds listed.found after;
-        settled = λ _. settled_more laws old new text listed.bounds n takes.fed takes.cursor (listed.settled open_yet);
+        values = listed.values;
+        found = takes.found text listed.values listed.found after;
+        settled = λ _. settled_more laws old new text listed.values n takes.fed takes.cursor (listed.settled open_yet);
         same_options = ap (λ (c : CursorState). c.options) takes.cursor ∙ listed.same_options;
         written = listed.written;
       };
@@ -86,11 +86,11 @@ taken_listed laws path known chunk options old n new start now open_yet takes to
 -- a fault that the known bytes decide is that of each text that begins with them
 fault_after : FoundLaws → (path known rest : List ℕ) (options : FindOptions) (fault : Fault) (start now : Option (List ℕ)) → ListsFound path (known ++ rest) options (Some fault) start now → DecidesFound known options fault → MeetsFaultAfter path (known ++ rest) options fault start now
 fault_after laws path known rest options fault start now lists decides =
-    let each : (more : List ℕ) → IsFound (known ++ more) options decides.bounds (Some fault) = λ more. laws.all known more options decides.bounds fault decides decides.found in
-    let same : decides.bounds ≡ lists.bounds = laws.one_list (known ++ rest) options decides.bounds lists.bounds (Some fault) (Some fault) (each rest) lists.found in
+    let each : (more : List ℕ) → IsFound (known ++ more) options decides.values (Some fault) = λ more. laws.all known more options decides.values fault decides decides.found in
+    let same : decides.values ≡ lists.values = laws.one_list (known ++ rest) options decides.values lists.values (Some fault) (Some fault) (each rest) lists.found in
     record {
-      bounds = lists.bounds;
-      found = λ more. subst (λ (t : List ℕ). IsFound t options lists.bounds (Some fault)) (sym (append_assoc known rest more)) (subst (λ (bs : List Bound). IsFound (known ++ (rest ++ more)) options bs (Some fault)) same (each (rest ++ more)));
+      values = lists.values;
+      found = λ more. subst (λ (t : List ℕ). IsFound t options lists.values (Some fault)) (sym (append_assoc known rest more)) (subst (λ (bs : List BindingValue). IsFound (known ++ (rest ++ more)) options bs (Some fault)) same (each (rest ++ more)));
       written = lists.written;
     }
 
@@ -121,9 +121,9 @@ fed_fault laws path known chunk options old fault new start now meets to =
     let text = known ++ chunk in
     let listed = to.listed text (goes_begin known chunk) in
     let at : GoesOnWith text (fed_by old) chunk = subst (λ (m : ℕ). GoesOnWith text m chunk) (sym to.fed) (ap (take (length chunk)) (drop-append_seam known chunk) ∙ ap (λ x. take (length chunk) x) (sym (append-nil chunk)) ∙ take-append_seam chunk []) in
-    let found = found_fault new text listed.bounds fault (meets.found text listed.bounds listed.found at) meets.kept in
-    let lists : ListsFound path text options (Some fault) start now = record { bounds = listed.bounds; found = subst (λ (o : FindOptions). IsFound text o listed.bounds (Some fault)) (meets.options ∙ listed.same_options) found; written = listed.written } in
-    let decided = meets.decided text listed.bounds listed.found at (is_open old.position meets.was_in_top to.no_fault) in
+    let found = found_fault new text listed.values fault (meets.found text listed.values listed.found at) meets.kept in
+    let lists : ListsFound path text options (Some fault) start now = record { values = listed.values; found = subst (λ (o : FindOptions). IsFound text o listed.values (Some fault)) (meets.options ∙ listed.same_options) found; written = listed.written } in
+    let decided = meets.decided text listed.values listed.found at (is_open old.position meets.was_in_top to.no_fault) in
     let n = decided.0 in
     let first = known ++ take n chunk in
     let rest = drop n chunk in
@@ -161,14 +161,14 @@ looked_listed laws path known options old n new start now open_yet takes none to
           let nothing : GoesOnWith text (fed_by old) (take n []) = subst (λ (x : List ℕ). GoesOnWith text (fed_by old) x) (sym no_byte) refl in
           record {
             listed = record {
-              bounds = before.bounds;
-              found = takes.found text before.bounds before.found nothing;
-              settled = λ _. settled_more laws old new text before.bounds n takes.fed takes.cursor (before.settled open_yet);
+              values = before.values;
+              found = takes.found text before.values before.found nothing;
+              settled = λ _. settled_more laws old new text before.values n takes.fed takes.cursor (before.settled open_yet);
               same_options = ap (λ (c : CursorState). c.options) takes.cursor ∙ before.same_options;
               written = before.written;
             };
-            all = takes.all text before.bounds before.found nothing none;
-            undecided = takes.undecided text before.bounds before.found nothing none;
+            all = takes.all text before.values before.found nothing none;
+            undecided = takes.undecided text before.values before.found nothing none;
           };
     }
 
@@ -184,11 +184,11 @@ has_listed_kept path known options finder start mid now kept listed = record {
       let was = before.listed in
       record {
         listed = record {
-          bounds = was.bounds;
+          values = was.values;
           found = was.found;
           settled = was.settled;
           same_options = was.same_options;
-          written = Appends-kept start mid now (printed path was.bounds) was.written kept;
+          written = Appends-kept start mid now (printed path was.values) was.written kept;
         };
         all = before.all;
         undecided = before.undecided;

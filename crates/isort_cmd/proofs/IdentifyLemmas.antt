@@ -5,7 +5,7 @@ use Rattle.std.proofs.lemmas.List.{nil_from_length}
 use Rattle.std.proofs.KnownBytes.{Appends-nil, Consumes-whole}
 use Rattle.std.specs.Io.KnownBytes.{Consumes, IsAtEnd}
 use Rattle.py_lines.specs.declared.fault.Fault.{Fault}
-use Rattle.py_imports.specs.Bound.{Bound}
+use Rattle.py_imports.specs.BindingValue.{BindingValue}
 use Rattle.isort_find.specs.Found.{IsFound, BeginsFound}
 use Rattle.isort_find.specs.Settled.{IsFoundSettled, DecidesFound}
 use Rattle.isort_find.specs.Pieces.{PieceFinderState, HasFoundIn, AreAllSettled, IsUndecided, fed_by, has_ready, options_for}
@@ -27,13 +27,13 @@ use Rattle.isort_cmd.proofs.ReadLemmas.{fed_whole, no_output_is_too_long, read_w
 
 -- the laws `some`, `bad` and `bindings` of `isort_find::laws::settled_found_is_final`
 abbrev pub SomeFoundSettled : Type 0
-SomeFoundSettled = (text : List ℕ) (options : FindOptions) → (bounds : List Bound) × (bad : Option Fault) × IsFoundSettled text options bounds bad
+SomeFoundSettled = (text : List ℕ) (options : FindOptions) → (values : List BindingValue) × (bad : Option Fault) × IsFoundSettled text options values bad
 
 abbrev pub BadDecided : Type 0
-BadDecided = (text : List ℕ) (options : FindOptions) (bounds : List Bound) (fault : Fault) → IsFoundSettled text options bounds (Some fault) → DecidesFound text options fault
+BadDecided = (text : List ℕ) (options : FindOptions) (values : List BindingValue) (fault : Fault) → IsFoundSettled text options values (Some fault) → DecidesFound text options fault
 
 abbrev pub SettledBegin : Type 0
-SettledBegin = (text more : List ℕ) (options : FindOptions) (bounds : List Bound) (bad : Option Fault) → IsFoundSettled text options bounds bad → BeginsFound (text ++ more) options bounds
+SettledBegin = (text more : List ℕ) (options : FindOptions) (values : List BindingValue) (bad : Option Fault) → IsFoundSettled text options values bad → BeginsFound (text ++ more) options values
 
 open_is_no_fault : (s : Position) (fault : Fault) → phase_in s ≡ phase.Open → s ≡ position.Fault fault → ⊥
 open_is_no_fault s fault is other = let both : phase_in s ≡ phase.Fault fault = ap phase_in other in cc
@@ -47,7 +47,7 @@ nothing_fed path finder start fed none_ready open_yet is_open found all undecide
   no_fault = λ fault is. open_is_no_fault finder.position fault is_open is;
   listed = λ text goes. record {
     listed = record {
-      bounds = [];
+      values = [];
       found = found text;
       settled = λ ended settled bad is. (settled, refl);
       same_options = refl;
@@ -59,7 +59,7 @@ nothing_fed path finder start fed none_ready open_yet is_open found all undecide
 }
 
 -- each of two lists begins with the other
-both_begin : (one other more rest : List Bound) → one ≡ other ++ more → other ≡ one ++ rest → one ≡ other
+both_begin : (one other more rest : List BindingValue) → one ≡ other ++ more → other ≡ one ++ rest → one ≡ other
 both_begin one other more rest begins back =
     let longer = ap length begins ∙ length-append other more in
     let as_long = ap length back ∙ length-append one rest in
@@ -67,9 +67,9 @@ both_begin one other more rest begins back =
     begins ∙ ap (λ m. other ++ m) (nil_from_length more none) ∙ append-nil other
 
 -- no bad line is settled where no fault is decided
-no_bad : BadDecided → (known : List ℕ) (options : FindOptions) (bounds : List Bound) (bad : Option Fault) → ((fault : Fault) → ¬ (DecidesFound known options fault)) → IsFoundSettled known options bounds bad → IsFoundSettled known options bounds None
-no_bad bad_decided known options bounds None undecided found = found
-no_bad bad_decided known options bounds (Some fault) undecided found = absurd (undecided fault (bad_decided known options bounds fault found))
+no_bad : BadDecided → (known : List ℕ) (options : FindOptions) (values : List BindingValue) (bad : Option Fault) → ((fault : Fault) → ¬ (DecidesFound known options fault)) → IsFoundSettled known options values bad → IsFoundSettled known options values None
+no_bad bad_decided known options values None undecided found = found
+no_bad bad_decided known options values (Some fault) undecided found = absurd (undecided fault (bad_decided known options values fault found))
 
 -- what the bytes fed settle was listed
 lists_settled : SomeFoundSettled → BadDecided → (path known : List ℕ) (options : FindOptions) (finder : PieceFinderState) (start now : Option (List ℕ)) → HasListedSettled path known options finder start now → ListsSettled path known options start now
@@ -81,22 +81,22 @@ lists_settled some_settled bad_decided path known options finder start now h =
     let at_finder = subst (λ x. IsFoundSettled x (options_for finder) some.0 some.1) whole (subst (λ o. IsFoundSettled known o some.0 some.1) (sym listed.same_options) some.2) in
     let begins = listed.settled h.open_yet some.0 some.1 at_finder in
     let back = so_far.all some.0 some.1 at_finder in
-    let same : some.0 ≡ listed.bounds = both_begin some.0 listed.bounds begins.0 back.0 begins.1 back.1 in
+    let same : some.0 ≡ listed.values = both_begin some.0 listed.values begins.0 back.0 begins.1 back.1 in
     let undecided : (fault : Fault) → ¬ (DecidesFound known options fault) = λ fault decides. so_far.undecided fault (subst (λ x. DecidesFound x (options_for finder) fault) whole (subst (λ o. DecidesFound known o fault) (sym listed.same_options) decides)) in
     record {
-      bounds = listed.bounds;
-      found = no_bad bad_decided known options listed.bounds some.1 undecided (subst (λ b. IsFoundSettled known options b some.1) same some.2);
+      values = listed.values;
+      found = no_bad bad_decided known options listed.values some.1 undecided (subst (λ b. IsFoundSettled known options b some.1) same some.2);
       undecided = undecided;
       written = listed.written;
     }
 
 -- and it is a prefix of the lines of each text that begins with these bytes
 settled_prefix : SettledBegin → (path known more : List ℕ) (options : FindOptions) (start now : Option (List ℕ)) → ListsSettled path known options start now → ListsPrefix path (known ++ more) options start now
-settled_prefix settled_begin path known more options start now lists = prefix_of_found path (known ++ more) options lists.bounds start now (settled_begin known more options lists.bounds None lists.found) lists.written
+settled_prefix settled_begin path known more options start now lists = prefix_of_found path (known ++ more) options lists.values start now (settled_begin known more options lists.values None lists.found) lists.written
 
 -- what an error leaves of each text that begins with the bytes fed
 leaves_text : SomeFoundSettled → BadDecided → SettledBegin → (path known more : List ℕ) (options : FindOptions) (finder : PieceFinderState) (e : RunError) (start now : Option (List ℕ)) → LeavesKnown path known options finder e start now → LeavesAtError path (known ++ more) options e start now
-leaves_text some_settled bad_decided settled_begin path known more options finder (run.Fault f) start now h = record { bounds = h.bounds; found = h.found more; written = h.written }
+leaves_text some_settled bad_decided settled_begin path known more options finder (run.Fault f) start now h = record { values = h.values; found = h.found more; written = h.written }
 leaves_text some_settled bad_decided settled_begin path known more options finder run.Write start now h = h more
 leaves_text some_settled bad_decided settled_begin path known more options finder run.Memory start now h = h more
 leaves_text some_settled bad_decided settled_begin path known more options finder run.Read start now h = settled_prefix settled_begin path known more options start now (lists_settled some_settled bad_decided path known options finder start now h)
@@ -168,8 +168,8 @@ fault_decided path options max finder fault given left old new h =
       known = h.known;
       fed = h.fed;
       lists = record {
-        bounds = meets.bounds;
-        found = subst (λ x. IsFound x options meets.bounds (Some fault)) (append-nil h.known) (meets.found []);
+        values = meets.values;
+        found = subst (λ x. IsFound x options meets.values (Some fault)) (append-nil h.known) (meets.found []);
         stays = inr meets.found;
         written = meets.written;
       };
@@ -198,7 +198,7 @@ fault_at_end : (old : ListingState) (options : FindOptions) (max : ℕ) (given l
 fault_at_end old options max given left known f new within consumed ended h = record {
   known = known;
   fed = fed_whole max known given left within consumed;
-  lists = record { bounds = h.bounds; found = h.found; stays = inl ended; written = h.written };
+  lists = record { values = h.values; found = h.found; stays = inl ended; written = h.written };
 }
 
 no_output_is_unread : (e : RunError) (l : Last) → IsOutputError e l → IsUnread e → ⊥

@@ -4,7 +4,7 @@ use Rattle.std.proofs.KnownBytes.{Appends-nil, Appends-trans}
 use Rattle.std.specs.Io.KnownBytes.{Appends}
 use Rattle.std.specs.List.{list_any}
 use Rattle.py_lines.specs.declared.fault.Fault.{Fault}
-use Rattle.py_imports.specs.Bound.{Bound}
+use Rattle.py_imports.specs.BindingValue.{BindingValue}
 use Rattle.isort_find.specs.Found.{IsFound}
 use Rattle.isort_find.specs.Pieces.{PieceFinderState, GivesBinding, GivesNone, GivesReady, EndsFeeding}
 use Rattle.isort_find.specs.declared.options.FindOptions.{FindOptions}
@@ -39,7 +39,7 @@ open_has_no_fault s fault is other = let both : phase_in s ≡ phase.Fault fault
 -- ---- one import
 
 -- an import was given, and its line written
-pub lists_one : (old new : ListingState) (b : Bound) (out : List ℕ) → new.path ≡ old.path → new.last ≡ last.Fine → GivesBinding old.finder b new.finder → out ≡ line_text old.path b → Appends old.written new.written out → ListsOne old new
+pub lists_one : (old new : ListingState) (b : BindingValue) (out : List ℕ) → new.path ≡ old.path → new.last ≡ last.Fine → GivesBinding old.finder b new.finder → out ≡ line_text old.path b → Appends old.written new.written out → ListsOne old new
 lists_one old new b out same fine gives put wrote = record {
   keeps = record {
     goes_on = record { same_path = same; fine = fine };
@@ -64,8 +64,8 @@ lists_none old next fine none = record {
   };
   none_ready = none.none_ready;
   whole = λ text options start h no_fault over. record {
-    bounds = h.bounds;
-    found = subst (λ (o : FindOptions). IsFound text o h.bounds None) h.same_options (none.whole text h.bounds h.found over no_fault).0;
+    values = h.values;
+    found = subst (λ (o : FindOptions). IsFound text o h.values None) h.same_options (none.whole text h.values h.found over no_fault).0;
     written = h.written;
   };
 }
@@ -85,7 +85,7 @@ stops_at_memory begin old next fine = record {
 }
 
 -- a write failed
-pub stops_at_write : GivenBegin → (old new : ListingState) (b : Bound) (out : List ℕ) → IsGivenUp new.last → GivesBinding old.finder b new.finder → out ≡ line_text old.path b → AppendsPrefix old.written new.written out → StopsReady old run.Write new
+pub stops_at_write : GivenBegin → (old new : ListingState) (b : BindingValue) (out : List ℕ) → IsGivenUp new.last → GivesBinding old.finder b new.finder → out ≡ line_text old.path b → AppendsPrefix old.written new.written out → StopsReady old run.Write new
 stops_at_write begin old new b out given_up gives put wrote = record {
   error = given_up;
   leaves = λ text options start h. lists_stopped begin old.path text options old.finder new.finder b out start old.written new.written gives put wrote h;
@@ -103,12 +103,12 @@ next_is_none old new some is h = subst (λ (b : Bool). ListsNext old (Ok b) new)
 pub tells_none : (now : Option (List ℕ)) → TellsWritten false now now
 tells_none now = record { bytes = []; written = Appends-nil now; any = refl }
 
-line_is_some : (path : List ℕ) (b : Bound) → true ≡ list_any (λ b. true) (line_text path b)
+line_is_some : (path : List ℕ) (b : BindingValue) → true ≡ list_any (λ b. true) (line_text path b)
 line_is_some [] b = refl
 line_is_some (c ∷ path) b = refl
 
 -- the line of a binding was written
-pub tells_line : (path : List ℕ) (b : Bound) (out : List ℕ) (old new : Option (List ℕ)) → out ≡ line_text path b → Appends old new out → TellsWritten true old new
+pub tells_line : (path : List ℕ) (b : BindingValue) (out : List ℕ) (old new : Option (List ℕ)) → out ≡ line_text path b → Appends old new out → TellsWritten true old new
 tells_line path b out old new put wrote = record {
   bytes = line_text path b;
   written = subst (λ x. Appends old new x) put wrote;

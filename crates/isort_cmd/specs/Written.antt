@@ -2,7 +2,7 @@
 use Rattle.std.specs.Prelude.{◌≡◌, ◌⊎◌, ◌<◌, ◌≤◌, List, ℕ, Option, None, Some, IfSome, ◌++◌, length, take}
 use Rattle.std.specs.Io.KnownBytes.{Appends, Consumes, IsAtEnd}
 use Rattle.py_lines.specs.declared.fault.Fault.{Fault}
-use Rattle.py_imports.specs.Bound.{Bound}
+use Rattle.py_imports.specs.BindingValue.{BindingValue}
 use Rattle.isort_find.specs.Found.{IsFound}
 use Rattle.isort_find.specs.Settled.{IsFoundSettled, DecidesFound}
 use Rattle.isort_find.specs.declared.options.FindOptions.{FindOptions}
@@ -13,16 +13,16 @@ use Rattle.isort_cmd.specs.declared.error.RunError.TheVariants as run
 
 -- the lines of all imports that are found in the text with these options, up to this end, were written
 pub record ListsFound (path text : List ℕ) (options : FindOptions) (end : Option Fault) (old new : Option (List ℕ)) : Type 0 where
-  pub bounds : List Bound
-  pub found : IsFound text options bounds end
-  pub written : Appends old new (printed path bounds)
+  pub values : List BindingValue
+  pub found : IsFound text options values end
+  pub written : Appends old new (printed path values)
 
 -- a prefix of the lines of all imports that are found in the text with these options was written
 pub record ListsPrefix (path text : List ℕ) (options : FindOptions) (old new : Option (List ℕ)) : Type 0 where
-  pub bounds : List Bound
+  pub values : List BindingValue
   pub end : Option Fault
-  pub found : IsFound text options bounds end
-  pub written : AppendsPrefix old new (printed path bounds)
+  pub found : IsFound text options values end
+  pub written : AppendsPrefix old new (printed path values)
 
 -- The bytes that a run has fed to its finder: those that it read, and of more than `max` the first `max`.
 pub record AreFed (max : ℕ) (known : List ℕ) (old new : Option (List ℕ)) : Type 0 where
@@ -32,18 +32,18 @@ pub record AreFed (max : ℕ) (known : List ℕ) (old new : Option (List ℕ)) :
 
 -- The lines of the imports in the logical lines that these bytes settle were written, and the bytes decide no fault.
 pub record ListsSettled (path known : List ℕ) (options : FindOptions) (old new : Option (List ℕ)) : Type 0 where
-  pub bounds : List Bound
-  pub found : IsFoundSettled known options bounds None
+  pub values : List BindingValue
+  pub found : IsFoundSettled known options values None
   pub undecided : (fault : Fault) → ¬ (DecidesFound known options fault)
-  pub written : Appends old new (printed path bounds)
+  pub written : Appends old new (printed path values)
 
 -- The lines of all imports before this fault were written. It is the fault of these bytes, and where reading stopped
 -- early, of each text that begins with them.
 pub record ListsToFault (path known : List ℕ) (options : FindOptions) (fault : Fault) (left old new : Option (List ℕ)) : Type 0 where
-  pub bounds : List Bound
-  pub found : IsFound known options bounds (Some fault)
-  pub stays : IsAtEnd left ⊎ ((more : List ℕ) → IsFound (known ++ more) options bounds (Some fault))
-  pub written : Appends old new (printed path bounds)
+  pub values : List BindingValue
+  pub found : IsFound known options values (Some fault)
+  pub stays : IsAtEnd left ⊎ ((more : List ℕ) → IsFound (known ++ more) options values (Some fault))
+  pub written : Appends old new (printed path values)
 
 -- What an error leaves of the listing of a text: all lines before a fault, and else a prefix of the lines.
 abbrev pub LeavesAtError : List ℕ → List ℕ → FindOptions → RunError → Option (List ℕ) → Option (List ℕ) → Type 0

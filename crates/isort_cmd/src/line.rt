@@ -1,6 +1,6 @@
 //! The line of a listing that tells of one import.
 ghost use Rattle.std.specs.Prelude.{◌≡◌, ◌++◌, OnOk, IfErr, string_bytes};
-ghost use Rattle.py_imports.specs.Bound.{bound_of};
+ghost use Rattle.py_imports.specs.BindingValue.{binding_value};
 ghost use Rattle.isort_cmd.specs.Printed.{place_text, line_text};
 
 use crate::error::RunError;
@@ -28,7 +28,7 @@ pub(crate) fn push_line(
     out: &mut String,
 ) -> Result<(), RunError>
     ensures ok { OnOk result (string_bytes out.new
-        ≡ string_bytes out.old ++ line_text path.now (bound_of binding.now)) }
+        ≡ string_bytes out.old ++ line_text path.now (binding_value binding.now)) }
     ensures err { IfErr result (λ e. e ≡ RunError.Memory) }
 {
     push_position(path, binding.line, binding.indented, out)?;

@@ -2,7 +2,7 @@
 use Rattle.std.specs.Prelude.{ℕ, Bool, ◌==◌, ◌&&◌, Option, None, List, [], ◌∷◌, if◌then◌else◌}
 use Rattle.std.specs.Option.{option_eq}
 use Rattle.std.specs.Str.{bytes_eq}
-use Rattle.py_imports.specs.Bound.{Bound}
+use Rattle.py_imports.specs.BindingValue.{BindingValue}
 use Rattle.isort_find.specs.declared.options.ImportKey.{ImportKey}
 use Rattle.isort_find.specs.declared.options.ImportKey.TheVariants.{Package, Module, Attribute, Alias}
 
@@ -27,7 +27,7 @@ abbrev pub key_with : List ℕ → Option (List ℕ) → Option (List ℕ) → K
 key_with text attribute alias = record { text = text; attribute = attribute; alias = alias }
 
 -- the key of a binding
-abbrev pub key_of : ImportKey → Bound → Key
+abbrev pub key_of : ImportKey → BindingValue → Key
 key_of Package b = key_with (package_of b.module_name) None None
 key_of Module b = key_with b.module_name None None
 key_of Attribute b = key_with b.module_name b.attribute_name None

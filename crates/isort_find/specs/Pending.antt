@@ -1,6 +1,6 @@
 -- The bindings of the logical line read last that weren't looked at yet, as contracts see them.
 use Rattle.std.specs.Prelude.{ℕ, List, length, map, min, drop}
-use Rattle.py_imports.specs.Bound.{Bound, bound_of}
+use Rattle.py_imports.specs.BindingValue.{BindingValue, binding_value}
 use Rattle.py_imports.specs.declared.binding.Binding.{Binding}
 use Rattle.isort_find.specs.declared.pending.LineStart.{LineStart}
 
@@ -8,12 +8,12 @@ use Rattle.isort_find.specs.declared.pending.LineStart.{LineStart}
 pub record PendingState : Type 0 where
   pub start : LineStart
   pub taken : ℕ
-  pub left : List Bound
+  pub left : List BindingValue
 
 -- the bindings that are left, by the fields of a `Pending`
 abbrev pub pending_state : LineStart → ℕ → List Binding → PendingState
-pending_state start taken bindings = record { start = start; taken = taken; left = map bound_of bindings }
+pending_state start taken bindings = record { start = start; taken = taken; left = map binding_value bindings }
 
 -- these bindings of the line are to be looked at, except so many that were
-abbrev pub pending_after : LineStart → ℕ → List Bound → PendingState
-pending_after start skip bounds = record { start = start; taken = min skip (length bounds); left = drop skip bounds }
+abbrev pub pending_after : LineStart → ℕ → List BindingValue → PendingState
+pending_after start skip values = record { start = start; taken = min skip (length values); left = drop skip values }

@@ -10,7 +10,7 @@ use Rattle.py_lines.specs.Given.{AreFirstLines}
 use Rattle.py_lines.specs.Reader.{HasGiven, standing_at}
 use Rattle.py_lines.specs.ScannerState.{ScannerState, fed_of, EndsExactly, GoesOnWith, IsScanning, HasEnded}
 use Rattle.py_lines.specs.declared.fault.Fault.{Fault}
-use Rattle.py_imports.specs.Bound.{Bound, bound_of}
+use Rattle.py_imports.specs.BindingValue.{BindingValue, binding_value}
 use Rattle.py_imports.specs.Binds.{BindAll}
 use Rattle.py_imports.specs.declared.binding.Binding.{Binding}
 use Rattle.isort_find.specs.Found.{firsts, ends_top, IsFound}
@@ -101,77 +101,77 @@ AreKnown s text lines = IsSettled (take (fed_of s) text) lines ⊎ ((s.ended ≡
 
 -- between two logical lines, the next of which may be ready; so many of its bindings were looked at
 pub record IsBetweenLines (s : ScannerState) (cursor : CursorState) (text : List ℕ) (skip : ℕ)
-    (bounds : List Bound) : Type 0 where
-  pub after : IsAfter text cursor.options s.place s.line skip bounds
+    (values : List BindingValue) : Type 0 where
+  pub after : IsAfter text cursor.options s.place s.line skip values
   pub released : HasReleased s text after.lines
   pub stands : (skip ≡ 0) ⊎ (cursor.offset ≡ s.place)
 
 -- inside a logical line that was read, which is held
 pub record IsWithinLine (s : ScannerState) (options : FindOptions) (text : List ℕ) (pending : PendingState)
-    (bounds : List Bound) : Type 0 where
+    (values : List BindingValue) : Type 0 where
   pub lines : List LogicalLine
   pub line : LogicalLine
   pub released : HasReleased s text lines
   pub ready : s.ready ≡ Some line
   pub known : AreKnown s text (lines ++ line ∷ [])
-  pub inside : IsInside text options lines line pending bounds
+  pub inside : IsInside text options lines line pending values
 
 -- at the logical line that ends the top, which is settled
-pub record IsAtTopEnd (s : ScannerState) (options : FindOptions) (text : List ℕ) (bounds : List Bound) : Type 0 where
+pub record IsAtTopEnd (s : ScannerState) (options : FindOptions) (text : List ℕ) (values : List BindingValue) : Type 0 where
   pub lines : List LogicalLine
   pub line : LogicalLine
-  pub before : List Bound
+  pub before : List BindingValue
   pub known : AreKnown s text (lines ++ line ∷ [])
   pub given : HasGiven (standing_at text s.place s.line) lines
   pub binds : BindAll lines before
   pub in_top : list_all (λ l. not (ends_top options l)) lines ≡ true
   pub ends : ends_top options line ≡ true
-  pub found : bounds ≡ firsts options.unique [] before
+  pub found : values ≡ firsts options.unique [] before
 
 -- where a finder has got
-abbrev pub HasReachedIn : PieceFinderState → List ℕ → List Bound → Position → Type 0
-HasReachedIn f text bounds (position.Between skip) =
-    IsBetweenLines f.scanning f.cursor text skip bounds × (f.scanning.ready ≡ None)
-HasReachedIn f text bounds (position.Unread start skip) = IsBetweenLines f.scanning f.cursor text skip bounds
-HasReachedIn f text bounds (position.Within pending) = IsWithinLine f.scanning (options_for f) text pending bounds
-HasReachedIn f text bounds (position.End passed) = IsAtTopEnd f.scanning (options_for f) text bounds
-HasReachedIn f text bounds (position.Fault fault) = EndsInFaultAt text (options_for f) bounds f.cursor.offset fault
+abbrev pub HasReachedIn : PieceFinderState → List ℕ → List BindingValue → Position → Type 0
+HasReachedIn f text values (position.Between skip) =
+    IsBetweenLines f.scanning f.cursor text skip values × (f.scanning.ready ≡ None)
+HasReachedIn f text values (position.Unread start skip) = IsBetweenLines f.scanning f.cursor text skip values
+HasReachedIn f text values (position.Within pending) = IsWithinLine f.scanning (options_for f) text pending values
+HasReachedIn f text values (position.End passed) = IsAtTopEnd f.scanning (options_for f) text values
+HasReachedIn f text values (position.Fault fault) = EndsInFaultAt text (options_for f) values f.cursor.offset fault
 
 -- The finder was fed so much of this text. With those that it goes on from, it has given just these bindings: the first
 -- that are found in the text.
-pub record HasFoundIn (f : PieceFinderState) (text : List ℕ) (bounds : List Bound) : Type 0 where
-  pub stopped : HasStopped text f.cursor bounds
-  pub reached : HasReachedIn f text bounds f.position
+pub record HasFoundIn (f : PieceFinderState) (text : List ℕ) (values : List BindingValue) : Type 0 where
+  pub stopped : HasStopped text f.cursor values
+  pub reached : HasReachedIn f text values f.position
 
 -- of each text of which the finder has found some bindings
-abbrev pub OfEachText : PieceFinderState → (List ℕ → List Bound → Type 0) → Type 0
-OfEachText f P = (text : List ℕ) (bounds : List Bound) → HasFoundIn f text bounds → P text bounds
+abbrev pub OfEachText : PieceFinderState → (List ℕ → List BindingValue → Type 0) → Type 0
+OfEachText f P = (text : List ℕ) (values : List BindingValue) → HasFoundIn f text values → P text values
 
 -- of each text of which the finder has found some bindings, and which goes on with these bytes where it was fed
-abbrev pub InEachText : PieceFinderState → List ℕ → (List ℕ → List Bound → Type 0) → Type 0
+abbrev pub InEachText : PieceFinderState → List ℕ → (List ℕ → List BindingValue → Type 0) → Type 0
 InEachText f bytes P =
-    (text : List ℕ) (bounds : List Bound) → HasFoundIn f text bounds → GoesOnWith text (fed_by f) bytes → P text bounds
+    (text : List ℕ) (values : List BindingValue) → HasFoundIn f text values → GoesOnWith text (fed_by f) bytes → P text values
 
 -- of each text of which the finder has found some bindings, and which ends where it was fed
-abbrev pub InEachWhole : PieceFinderState → (List ℕ → List Bound → Type 0) → Type 0
-InEachWhole f P = (text : List ℕ) (bounds : List Bound) → HasFoundIn f text bounds → length text ≡ fed_by f → P text bounds
+abbrev pub InEachWhole : PieceFinderState → (List ℕ → List BindingValue → Type 0) → Type 0
+InEachWhole f P = (text : List ℕ) (values : List BindingValue) → HasFoundIn f text values → length text ≡ fed_by f → P text values
 
 -- of each text in which a finder has stopped at this cursor, the finder has found what was found there
 abbrev pub GoesOnFrom : CursorState → PieceFinderState → Type 0
-GoesOnFrom cursor f = (text : List ℕ) (bounds : List Bound) → HasStopped text cursor bounds → HasFoundIn f text bounds
+GoesOnFrom cursor f = (text : List ℕ) (values : List BindingValue) → HasStopped text cursor values → HasFoundIn f text values
 
 -- where what the bytes fed settle is found, it is these bindings
-abbrev pub SettledAre : PieceFinderState → List ℕ → (List Bound → Type 0) → Type 0
+abbrev pub SettledAre : PieceFinderState → List ℕ → (List BindingValue → Type 0) → Type 0
 SettledAre f text P =
-    (found : List Bound) (bad : Option Fault) → IsFoundSettled (take (fed_by f) text) (options_for f) found bad → P found
+    (found : List BindingValue) (bad : Option Fault) → IsFoundSettled (take (fed_by f) text) (options_for f) found bad → P found
 
 -- what the bytes fed settle of what is found begins with these bindings
-abbrev pub AreSettled : PieceFinderState → List ℕ → List Bound → Type 0
-AreSettled f text bounds = SettledAre f text (λ found. (more : List Bound) × (found ≡ bounds ++ more))
+abbrev pub AreSettled : PieceFinderState → List ℕ → List BindingValue → Type 0
+AreSettled f text values = SettledAre f text (λ found. (more : List BindingValue) × (found ≡ values ++ more))
 
 -- All that the bytes fed settle of what is found was given. A cursor that the finder goes on from may have given more.
-abbrev pub AreAllSettled : PieceFinderState → List ℕ → List Bound → Type 0
-AreAllSettled f text bounds = SettledAre f text (λ found. (more : List Bound) × (bounds ≡ found ++ more))
+abbrev pub AreAllSettled : PieceFinderState → List ℕ → List BindingValue → Type 0
+AreAllSettled f text values = SettledAre f text (λ found. (more : List BindingValue) × (values ≡ found ++ more))
 
 -- no fault is decided by the bytes fed
 abbrev pub IsUndecided : PieceFinderState → List ℕ → Type 0
@@ -205,12 +205,12 @@ pub record HoldsLine (f : PieceFinderState) (text : List ℕ) : Type 0 where
 pub record TakesFromPiece (old : PieceFinderState) (piece : List ℕ) (n : ℕ) (new : PieceFinderState) : Type 0 where
   pub within : n ≤ length piece
   pub found : InEachText old (take n piece) (HasFoundIn new)
-  pub all : InEachText old (take n piece) (λ text bounds. has_ready new ≡ false → AreAllSettled new text bounds)
-  pub undecided : InEachText old (take n piece) (λ text bounds. has_ready new ≡ false → IsUndecided new text)
+  pub all : InEachText old (take n piece) (λ text values. has_ready new ≡ false → AreAllSettled new text values)
+  pub undecided : InEachText old (take n piece) (λ text values. has_ready new ≡ false → IsUndecided new text)
   pub rest : InEachText old (take n piece)
-      (λ text bounds. has_ready new ≡ false → phase_in new.position ≡ phase.Open → HoldsRest new text)
+      (λ text values. has_ready new ≡ false → phase_in new.position ≡ phase.Open → HoldsRest new text)
   pub line : InEachText old (take n piece)
-      (λ text bounds. has_ready new ≡ true → HoldsLine new text ⊎ ((is_unread new.position ≡ true) × HoldsRest new text))
+      (λ text values. has_ready new ≡ true → HoldsLine new text ⊎ ((is_unread new.position ≡ true) × HoldsRest new text))
   pub some : n ≡ 0 → (piece ≡ []) ⊎ (has_ready old ≡ true)
   pub waits : has_ready old ≡ true → (n ≡ 0) × (new ≡ old)
   pub next_new : has_ready old ≡ false → IsNextNew new
@@ -232,7 +232,7 @@ DecidesWithin f piece text fault =
 -- the cursor stands at the logical line that has it, and the finder may be called again.
 pub record MeetsFaultIn (old : PieceFinderState) (piece : List ℕ) (fault : Fault) (new : PieceFinderState) : Type 0 where
   pub found : InEachText old piece (HasFoundIn new)
-  pub decided : InEachText old piece (λ text bounds. phase_in old.position ≡ phase.Open → DecidesWithin old piece text fault)
+  pub decided : InEachText old piece (λ text values. phase_in old.position ≡ phase.Open → DecidesWithin old piece text fault)
   pub none_ready : has_ready old ≡ false
   pub again : (first : Fault) → old.position ≡ position.Fault first → (fault ≡ first) × (new ≡ old)
   pub was_in_top : phase_in old.position ≡ phase.End → ⊥
@@ -246,7 +246,7 @@ pub record MeetsFaultIn (old : PieceFinderState) (piece : List ℕ) (fault : Fau
 -- settled, and else what it held.
 pub record PieceFinderRunsOut (old new : PieceFinderState) : Type 0 where
   pub found : OfEachText old (HasFoundIn new)
-  pub rest : OfEachText old (λ text bounds. old.scanning.ended ≡ false → has_ready old ≡ false → HoldsRest new text)
+  pub rest : OfEachText old (λ text values. old.scanning.ended ≡ false → has_ready old ≡ false → HoldsRest new text)
   pub scanning : has_ready old ≡ true → new.scanning ≡ old.scanning
   pub fed : fed_by new ≡ fed_by old
   pub cursor : new.cursor ≡ old.cursor
@@ -263,11 +263,11 @@ FeedsPiece old piece (Err error.Memory) new = PieceFinderRunsOut old new × (has
 
 -- This binding was given, the next that is found, and before the text's end it is settled. The cursor stands at its logical
 -- line, which is held.
-pub record GivesBinding (old : PieceFinderState) (b : Bound) (new : PieceFinderState) : Type 0 where
-  pub found : OfEachText old (λ text bounds. HasFoundIn new text (bounds ++ b ∷ []))
-  pub settled : OfEachText old (λ text bounds. old.scanning.ended ≡ false → AreSettled new text (bounds ++ b ∷ []))
-  pub offset : OfEachText old (λ text bounds. BindsFrom text new.cursor.offset b)
-  pub line : OfEachText old (λ text bounds. HoldsLine new text)
+pub record GivesBinding (old : PieceFinderState) (b : BindingValue) (new : PieceFinderState) : Type 0 where
+  pub found : OfEachText old (λ text values. HasFoundIn new text (values ++ b ∷ []))
+  pub settled : OfEachText old (λ text values. old.scanning.ended ≡ false → AreSettled new text (values ++ b ∷ []))
+  pub offset : OfEachText old (λ text values. BindsFrom text new.cursor.offset b)
+  pub line : OfEachText old (λ text values. HoldsLine new text)
   pub was_ready : has_ready old ≡ true
   pub next_new : IsNextNew new
   pub falls : due_by new < due_by old
@@ -278,18 +278,18 @@ pub record GivesBinding (old : PieceFinderState) (b : Bound) (new : PieceFinderS
   pub open_yet : new.scanning.ended ≡ old.scanning.ended
 
 -- these bindings are all that is found in the text, whose end is met at this byte
-abbrev pub FindsAll : PieceFinderState → List ℕ → List Bound → ℕ → Type 0
-FindsAll f text bounds offset = IsFound text (options_for f) bounds None × MeetsEndAt text (options_for f) offset
+abbrev pub FindsAll : PieceFinderState → List ℕ → List BindingValue → ℕ → Type 0
+FindsAll f text values offset = IsFound text (options_for f) values None × MeetsEndAt text (options_for f) offset
 
 -- Nothing is ready. All that is settled was given, and after the text's end all that is found. Before these ends what is not
 -- settled is held. The cursor stands where the lines end that were read, which after the top is the line that ends it.
 -- After a fault nothing changes.
 pub record GivesNone (old new : PieceFinderState) : Type 0 where
   pub found : OfEachText old (HasFoundIn new)
-  pub all : OfEachText old (λ text bounds. old.scanning.ended ≡ false → HasNoFault old → AreAllSettled new text bounds)
-  pub whole : OfEachText old (λ text bounds. IsOver new → HasNoFault old → FindsAll old text bounds new.cursor.offset)
-  pub rest : OfEachText old (λ text bounds. old.scanning.ended ≡ false → phase_in new.position ≡ phase.Open → HoldsRest new text)
-  pub offset : HasNoFault old → OfEachText old (λ text bounds. new.cursor.offset ≡ new.scanning.place)
+  pub all : OfEachText old (λ text values. old.scanning.ended ≡ false → HasNoFault old → AreAllSettled new text values)
+  pub whole : OfEachText old (λ text values. IsOver new → HasNoFault old → FindsAll old text values new.cursor.offset)
+  pub rest : OfEachText old (λ text values. old.scanning.ended ≡ false → phase_in new.position ≡ phase.Open → HoldsRest new text)
+  pub offset : HasNoFault old → OfEachText old (λ text values. new.cursor.offset ≡ new.scanning.place)
   pub unsure : has_ready old ≡ true → IsUnsure old
   pub none_ready : has_ready new ≡ false
   pub after_fault : (fault : Fault) → old.position ≡ position.Fault fault → new ≡ old
@@ -305,7 +305,7 @@ pub record GivesNone (old new : PieceFinderState) : Type 0 where
 pub record GivesFault (old : PieceFinderState) (fault : Fault) (new : PieceFinderState) : Type 0 where
   pub found : OfEachText old (HasFoundIn new)
   pub decided : OfEachText old
-      (λ text bounds. old.scanning.ended ≡ false → DecidesFound (take (fed_by old) text) (options_for old) fault)
+      (λ text values. old.scanning.ended ≡ false → DecidesFound (take (fed_by old) text) (options_for old) fault)
   pub unread : is_unread old.position ≡ true
   pub was_open : phase_in old.position ≡ phase.Open
   pub options : options_for new ≡ options_for old
@@ -320,7 +320,7 @@ StaysNew old new = is_unread old.position ≡ false → IsNextNew old → IsNext
 
 -- what a call that asks for what is ready answers
 abbrev pub GivesReady : PieceFinderState → Result (Option Binding) FindError → PieceFinderState → Type 0
-GivesReady old (Ok (Some b)) new = GivesBinding old (bound_of b) new
+GivesReady old (Ok (Some b)) new = GivesBinding old (binding_value b) new
 GivesReady old (Ok None) new = GivesNone old new
 GivesReady old (Err (error.Fault fault)) new = GivesFault old fault new
 GivesReady old (Err error.Memory) new = PieceFinderRunsOut old new × (has_ready old ≡ true) × StaysNew old new
@@ -328,7 +328,7 @@ GivesReady old (Err error.Memory) new = PieceFinderRunsOut old new × (has_ready
 -- the text ends here: its last logical line was made, if one is left, and is held where it is ready
 pub record FinishesText (old new : PieceFinderState) : Type 0 where
   pub found : InEachWhole old (HasFoundIn new)
-  pub line : InEachWhole old (λ text bounds. has_ready new ≡ true → HoldsLine new text)
+  pub line : InEachWhole old (λ text values. has_ready new ≡ true → HoldsLine new text)
   pub next_new : IsNextNew new
   pub cursor : new.cursor ≡ old.cursor
   pub fed : fed_by new ≡ fed_by old

@@ -5,7 +5,7 @@ use Rattle.py_lines.specs.LogicalLine.{LogicalLine}
 use Rattle.py_lines.specs.Lexed.{IsLexed, BeginsLexing}
 use Rattle.py_lines.specs.Reader.{HasGiven, standing_at}
 use Rattle.py_lines.specs.declared.fault.Fault.{Fault}
-use Rattle.py_imports.specs.Bound.{Bound}
+use Rattle.py_imports.specs.BindingValue.{BindingValue}
 use Rattle.py_imports.specs.Binds.{Binds, BindAll, IsBadAt}
 use Rattle.isort_find.specs.Found.{firsts, ends_top, IsFound}
 use Rattle.isort_find.specs.Lexing.{byte_count, LineAt}
@@ -29,7 +29,7 @@ skip_in (position.Unread start skip) = skip
 skip_in other = 0
 
 -- the bindings that are left of the logical line read last
-abbrev pub left_in : Position → List Bound
+abbrev pub left_in : Position → List BindingValue
 left_in (position.Within pending) = pending.left
 left_in other = []
 
@@ -44,7 +44,7 @@ is_unread (position.Unread start skip) = true
 is_unread other = false
 
 -- whether any are left
-abbrev pub are_left : List Bound → Bool
+abbrev pub are_left : List BindingValue → Bool
 are_left [] = false
 are_left (b ∷ bs) = true
 
@@ -57,9 +57,9 @@ ready_in other = false
 -- Inside this logical line of the text, which comes after these lines: some of its bindings were looked at, and the others
 -- are left. So far these bindings were found.
 pub record IsInside (text : List ℕ) (options : FindOptions) (lines : List LogicalLine) (line : LogicalLine)
-    (pending : PendingState) (bounds : List Bound) : Type 0 where
-  pub before : List Bound
-  pub part : List Bound
+    (pending : PendingState) (values : List BindingValue) : Type 0 where
+  pub before : List BindingValue
+  pub part : List BindingValue
   pub begins : BeginsLexing text (lines ++ line ∷ [])
   pub start : HasGiven (standing_at text pending.start.offset pending.start.line) lines
   pub binds : BindAll lines before
@@ -67,12 +67,12 @@ pub record IsInside (text : List ℕ) (options : FindOptions) (lines : List Logi
   pub taken : pending.taken ≡ length part
   pub in_top : list_all (λ l. not (ends_top options l)) lines ≡ true
   pub line_in_top : ends_top options line ≡ false
-  pub found : bounds ≡ firsts options.unique [] (before ++ part)
+  pub found : values ≡ firsts options.unique [] (before ++ part)
 
 -- where a binding comes from: its logical line begins at this byte
-abbrev pub BindsFrom : List ℕ → ℕ → Bound → Type 0
+abbrev pub BindsFrom : List ℕ → ℕ → BindingValue → Type 0
 BindsFrom text offset b =
-    LineAt text offset (λ line. (earlier : List Bound) × (later : List Bound) × Binds line (earlier ++ b ∷ later))
+    LineAt text offset (λ line. (earlier : List BindingValue) × (later : List BindingValue) × Binds line (earlier ++ b ∷ later))
 
 -- where a finder ends: after the text, or at the logical line that ends the top
 abbrev pub MeetsEndAt : List ℕ → FindOptions → ℕ → Type 0
@@ -85,5 +85,5 @@ MeetsFaultAt text offset fault =
     ⊎ ((lines : List LogicalLine) × IsLexed text lines (Some fault) × (byte_count lines ≡ offset))
 
 -- what is found ends in this fault, which is met at this byte
-abbrev pub EndsInFaultAt : List ℕ → FindOptions → List Bound → ℕ → Fault → Type 0
-EndsInFaultAt text options bounds offset fault = IsFound text options bounds (Some fault) × MeetsFaultAt text offset fault
+abbrev pub EndsInFaultAt : List ℕ → FindOptions → List BindingValue → ℕ → Fault → Type 0
+EndsInFaultAt text options values offset fault = IsFound text options values (Some fault) × MeetsFaultAt text offset fault

@@ -3,16 +3,16 @@ use Rattle.std.specs.Prelude.{ℕ, ◌⊎◌, Option, None, Some, List, ◌∷�
 use Rattle.py_lines.specs.LogicalLine.{LogicalLine}
 use Rattle.py_lines.specs.Settled.{IsSettled, Decides}
 use Rattle.py_lines.specs.declared.fault.Fault.{Fault}
-use Rattle.py_imports.specs.Bound.{Bound}
+use Rattle.py_imports.specs.BindingValue.{BindingValue}
 use Rattle.py_imports.specs.Binds.{IsBadAt}
 use Rattle.isort_find.specs.Found.{counted_lines, AreFound, IsFound}
 use Rattle.isort_find.specs.declared.options.FindOptions.{FindOptions}
 
 -- what is found in the logical lines that these bytes settle, and the fault of the first bad one, if one is
-pub record IsFoundSettled (known : List ℕ) (options : FindOptions) (bounds : List Bound) (bad : Option Fault) : Type 0 where
+pub record IsFoundSettled (known : List ℕ) (options : FindOptions) (values : List BindingValue) (bad : Option Fault) : Type 0 where
   pub lines : List LogicalLine
   pub settled : IsSettled known lines
-  pub found : AreFound options.unique (counted_lines options lines) None bounds bad
+  pub found : AreFound options.unique (counted_lines options lines) None values bad
 
 -- one of the logical lines that these bytes settle has this fault
 pub record SettlesBadLine (known : List ℕ) (fault : Fault) : Type 0 where
@@ -24,6 +24,6 @@ pub record SettlesBadLine (known : List ℕ) (fault : Fault) : Type 0 where
 
 -- what is found in these bytes ends in this fault, and stays so, whatever follows them
 pub record DecidesFound (known : List ℕ) (options : FindOptions) (fault : Fault) : Type 0 where
-  pub bounds : List Bound
-  pub found : IsFound known options bounds (Some fault)
+  pub values : List BindingValue
+  pub found : IsFound known options values (Some fault)
   pub stays : Decides known fault ⊎ SettlesBadLine known fault

@@ -1,6 +1,6 @@
 //! Where a finder stopped, with what it needs to go on.
 ghost use Rattle.std.specs.Prelude.{◌≡◌, ◌+◌, ◌-◌, ◌^◌, IfOk, IfErr, OnErr, min};
-ghost use Rattle.py_imports.specs.Bound.{bound_of};
+ghost use Rattle.py_imports.specs.BindingValue.{binding_value};
 
 use crate::error::FindError;
 use crate::given_keys::GivenKeys;
@@ -53,7 +53,8 @@ impl Cursor {
 
     /// Whether no binding with the key of this one was given, and notes its key.
     pub(crate) fn admit(&mut self, alloc: Global, binding: &Binding) -> Result<bool, FindError>
-        ensures ok { IfOk result (λ is_new. Admits self.old (bound_of binding.now) is_new self.new) }
+        ensures ok { IfOk result (λ is_new.
+            Admits self.old (binding_value binding.now) is_new self.new) }
         ensures err { IfErr result (λ e. e ≡ FindError.Memory) }
         ensures kept { OnErr result (self.new ≡ self.old) }
     {
@@ -69,7 +70,8 @@ impl Cursor {
 
     /// Whether a binding with the key of this one was given. Without memory for that key, each key is compared in turn.
     pub(crate) fn knows(&self, alloc: Global, binding: &Binding) -> bool
-        ensures { result ≡ knows_key self.now.options.unique self.now.keys (bound_of binding.now) }
+        ensures { result
+            ≡ knows_key self.now.options.unique self.now.keys (binding_value binding.now) }
     {
         match self.options.unique {
             None => false,

@@ -1,6 +1,6 @@
 //! The imports of a whole text, one after another.
 ghost use Rattle.std.specs.Prelude.{◌≡◌, ◌<◌, ◌≤◌, ◌↔◌, ℕ, List, [], length, IfOk, IfErr, OnOk, OnErr};
-ghost use Rattle.py_imports.specs.Bound.{Bound};
+ghost use Rattle.py_imports.specs.BindingValue.{BindingValue};
 
 use crate::cursor::Cursor;
 use crate::error::{FindError, ResumeError};
@@ -176,8 +176,8 @@ impl<'t> Finder<'t> {
     /// The cursor from which another finder goes on. It takes no memory.
     pub fn stop(self) -> Cursor
         ensures cursor { result ≡ self.entry.cursor }
-        ensures stopped { (bounds : List Bound) → HasFound self.entry bounds
-            → HasStopped (finder_text self.entry) result bounds }
+        ensures stopped { (values : List BindingValue) → HasFound self.entry values
+            → HasStopped (finder_text self.entry) result values }
     {
         let Finder { walker, .. } = self;
         walker.stop()
@@ -195,8 +195,8 @@ impl<'t> Finder<'t> {
         text: &'t [u8],
         cursor: Cursor,
     ) -> Result<Finder<'t>, (Cursor, ResumeError)>
-        ensures found { IfOk result (λ f. (bounds : List Bound) → HasStopped text.now cursor bounds
-            → HasFound f bounds) }
+        ensures found { IfOk result (λ f. (values : List BindingValue)
+            → HasStopped text.now cursor values → HasFound f values) }
         ensures text { IfOk result (λ f. finder_text f ≡ text.now) }
         ensures cursor { IfOk result (λ f. f.cursor ≡ cursor) }
         ensures within { IfOk result (λ f. cursor.offset ≤ length text.now) }

@@ -1,7 +1,7 @@
 //! The keys of the imports that were given.
 ghost use Rattle.std.specs.Prelude.{◌≡◌, ◌++◌, [], ◌∷◌, not, if◌then◌else◌, IfOk, OnErr};
 ghost use Rattle.std.specs.List.{list_any};
-ghost use Rattle.py_imports.specs.Bound.{bound_of};
+ghost use Rattle.py_imports.specs.BindingValue.{binding_value};
 ghost use Rattle.isort_find.specs.Key.{key_of, key_eq};
 ghost use Rattle.isort_find.specs.KeyText.{key_in};
 
@@ -44,8 +44,10 @@ impl GivenKeys {
 
     /// Adds a key, if it isn't there yet, and answers whether it is new.
     pub(crate) fn insert(&mut self, key: KeyText) -> Result<bool, AllocError>
-        ensures answer { IfOk result (λ is_new. is_new ≡ not (list_any (key_eq (key_in key)) self.old)) }
-        ensures added { IfOk result (λ is_new. self.new ≡ (if is_new then self.old ++ key_in key ∷ [] else self.old)) }
+        ensures answer { IfOk result (λ is_new.
+            is_new ≡ not (list_any (key_eq (key_in key)) self.old)) }
+        ensures added { IfOk result (λ is_new. self.new
+            ≡ (if is_new then self.old ++ key_in key ∷ [] else self.old)) }
         ensures kept { OnErr result (self.new ≡ self.old) }
     {
         if self.contains(&key) {
@@ -66,7 +68,7 @@ impl GivenKeys {
     /// Whether the key of a binding is there, by comparing each. It takes no memory.
     #[cold]
     pub(crate) fn has_key_of(&self, binding: &Binding, key: ImportKey) -> bool
-        ensures { result ≡ list_any (key_eq (key_of key (bound_of binding.now))) self.now }
+        ensures { result ≡ list_any (key_eq (key_of key (binding_value binding.now))) self.now }
     {
         self.places
             .keys()

@@ -1,7 +1,7 @@
 //! The keys under which only the first import is found.
 ghost use Rattle.std.specs.Prelude.{◌≡◌, ◌↔◌, IsTrue, IfOk, IfErr, string_bytes};
 ghost use Rattle.std.specs.Option.{option_map};
-ghost use Rattle.py_imports.specs.Bound.{bound_of};
+ghost use Rattle.py_imports.specs.BindingValue.{binding_value};
 ghost use Rattle.isort_find.specs.Key.{key_of, key_eq, package_of};
 ghost use Rattle.isort_find.specs.KeyText.{counted_key, key_in};
 
@@ -50,7 +50,7 @@ struct CountedTexts<'b> {
 
 /// The texts of a binding that count under a key.
 fn counted_texts<'b>(binding: &'b Binding, key: ImportKey) -> CountedTexts<'b>
-    ensures { counted_key result ≡ key_of key (bound_of binding.now) }
+    ensures { counted_key result ≡ key_of key (binding_value binding.now) }
 {
     let module = binding.module_name.as_str();
     let attribute = binding.attribute_name.as_deref();
@@ -69,7 +69,7 @@ fn counted_texts<'b>(binding: &'b Binding, key: ImportKey) -> CountedTexts<'b>
 
 /// Whether a binding has this key. It takes no memory.
 pub(crate) fn is_key_of(known: &KeyText, binding: &Binding, key: ImportKey) -> bool
-    ensures { result ≡ key_eq (key_of key (bound_of binding.now)) (key_in known.now) }
+    ensures { result ≡ key_eq (key_of key (binding_value binding.now)) (key_in known.now) }
 {
     let counted = counted_texts(binding, key);
     counted.text == known.text.as_str()
@@ -90,7 +90,7 @@ fn copy_of_text(alloc: Global, text: Option<&str>) -> Result<Option<String>, All
 
 /// The key of a binding, by copies of its texts. It answers `Memory` alone.
 pub fn key_of(alloc: Global, binding: &Binding, key: ImportKey) -> Result<KeyText, FindError>
-    ensures ok { IfOk result (λ k. key_in k ≡ key_of key (bound_of binding.now)) }
+    ensures ok { IfOk result (λ k. key_in k ≡ key_of key (binding_value binding.now)) }
     ensures err { IfErr result (λ e. e ≡ FindError.Memory) }
 {
     let counted = counted_texts(binding, key);

@@ -1,7 +1,7 @@
 //! The bindings of the last logical line that are still to be given.
 ghost use Rattle.std.specs.Prelude.{◌≡◌, ℕ, ◌+◌, ◌^◌, ◌<◌, [], ◌∷◌, length, min, map, drop, MatchOption, vec_len};
 ghost use Rattle.std.specs.VecDeque.{deque_len};
-ghost use Rattle.py_imports.specs.Bound.{bound_of};
+ghost use Rattle.py_imports.specs.BindingValue.{binding_value};
 
 use py_imports::Binding;
 use std::alloc::Global;
@@ -69,7 +69,7 @@ impl Pending {
     pub(crate) fn new(bindings: Vec<Binding>, start: LineStart, taken: usize) -> Pending
         ensures start { result.start ≡ start }
         ensures taken { result.taken ≡ min taken (vec_len bindings) }
-        ensures left { result.left ≡ drop taken (map bound_of bindings.items) }
+        ensures left { result.left ≡ drop taken (map binding_value bindings.items) }
     {
         let taken = taken.min(bindings.len());
         let mut bindings = VecDeque::from(bindings);
@@ -84,7 +84,7 @@ impl Pending {
     /// The next binding to look at.
     pub(crate) fn front(&self) -> Option<&Binding>
         ensures { MatchOption result (self.now.left ≡ [])
-            (λ b. self.now.left ≡ bound_of b.now ∷ drop 1 self.now.left) }
+            (λ b. self.now.left ≡ binding_value b.now ∷ drop 1 self.now.left) }
     {
         self.bindings.front()
     }
@@ -92,7 +92,7 @@ impl Pending {
     /// Takes the next binding, which was looked at.
     pub(crate) fn take(&mut self) -> Option<Binding>
         ensures { MatchOption result ((self.old.left ≡ []) × (self.new ≡ self.old))
-            (λ b. Looks self.old (bound_of b) self.new) }
+            (λ b. Looks self.old (binding_value b) self.new) }
     {
         let binding = self.bindings.pop_front()?;
         self.taken += 1;

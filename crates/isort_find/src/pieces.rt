@@ -1,6 +1,6 @@
 //! The imports of a text that comes in pieces.
 ghost use Rattle.std.specs.Prelude.{◌≡◌, ◌↔◌, ◌+◌, ◌-◌, ◌≤◌, ◌^◌, ℕ, List, [], true, false, Ok, drop, length, IsTrue, IfOk, IfErr};
-ghost use Rattle.py_imports.specs.Bound.{Bound};
+ghost use Rattle.py_imports.specs.BindingValue.{BindingValue};
 
 use crate::cursor::Cursor;
 use crate::error::{FindError, ResumeError};
@@ -354,8 +354,8 @@ impl PieceFinder {
     /// The cursor from which another finder goes on, over pieces or over the whole text. It takes no memory.
     pub fn stop(self) -> Cursor
         ensures cursor { result ≡ self.cursor }
-        ensures stopped { (text : List ℕ) (bounds : List Bound) → HasFoundIn self text bounds
-            → HasStopped text result bounds }
+        ensures stopped { (text : List ℕ) (values : List BindingValue) → HasFoundIn self text values
+            → HasStopped text result values }
     {
         let PieceFinder { walker, .. } = self;
         walker.stop()

@@ -1,7 +1,7 @@
 //! What a finder over a whole text and one over pieces have in common: where each stands in its text, and its cursor.
 ghost use Rattle.std.specs.Prelude.{◌≡◌, ◌↔◌, IsTrue, [], false, map};
 ghost use Rattle.py_lines.specs.UnitLine.{line_in};
-ghost use Rattle.py_imports.specs.Bound.{bound_of};
+ghost use Rattle.py_imports.specs.BindingValue.{binding_value};
 
 use crate::cursor::Cursor;
 use crate::error::FindError;

@@ -16,7 +16,8 @@ use crate::key::SettingKey;
 pub fn every_key_has_its_place(key: SettingKey)
     ensures { IsOwnList key
         ⊎ Contains (keys_in_order ++
-        SettingKey.Profile ∷ SettingKey.Sections ∷ SettingKey.Tool ∷ SettingKey.ToolIsort ∷ []) key }
+        SettingKey.Profile ∷ SettingKey.Sections ∷ SettingKey.Tool ∷ SettingKey.ToolIsort
+        ∷ []) key }
 {
     let _ = key;
 }

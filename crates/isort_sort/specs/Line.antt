@@ -5,7 +5,7 @@ use Rattle.std.specs.Str.{byte}
 use Rattle.py_lines.specs.Character.{is_space}
 use Rattle.py_lines.specs.LogicalLine.{LogicalLine}
 use Rattle.py_lines.specs.declared.token.Token.{Token}
-use Rattle.py_imports.specs.Bound.{Bound}
+use Rattle.py_imports.specs.BindingValue.{BindingValue}
 use Rattle.py_imports.specs.Grammar.{Imported}
 use Rattle.py_imports.specs.Statement.{is_comment}
 
@@ -54,5 +54,5 @@ AreOwnComments [] = Unit {0}
 AreOwnComments (c ∷ cs) = IsOwnComment c × AreOwnComments cs
 
 -- what a binding imports
-abbrev pub imported_of : Bound → Imported
+abbrev pub imported_of : BindingValue → Imported
 imported_of b = record { module_name = b.module_name; attribute_name = b.attribute_name; alias_name = b.alias_name }

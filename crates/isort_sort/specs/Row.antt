@@ -10,7 +10,7 @@ use Rattle.py_lines.specs.declared.unit.UnitKind.{UnitKind}
 use Rattle.py_lines.specs.declared.unit.UnitKind.TheVariants as unit_kind
 use Rattle.py_imports.specs.ActionComment.{says}
 use Rattle.py_imports.specs.Binds.{Binds}
-use Rattle.py_imports.specs.Bound.{Bound}
+use Rattle.py_imports.specs.BindingValue.{BindingValue}
 use Rattle.py_imports.specs.Declaration.{is_declaration}
 use Rattle.py_imports.specs.Grammar.{Imported}
 use Rattle.py_imports.specs.Shape.{mark_len, is_nothing, IsSortable, HasShape}
@@ -77,7 +77,7 @@ pub record Row : Type 0 where
 
 -- the imports of a line that can be sorted: those of its bindings
 abbrev pub Imports : LogicalLine → List Imported → Type 0
-Imports line is = IsSortable line × ((bounds : List Bound) × Binds line bounds × (is ≡ map imported_of bounds))
+Imports line is = IsSortable line × ((values : List BindingValue) × Binds line values × (is ≡ map imported_of values))
 
 -- what each role means, where sorting is off before the line or not
 abbrev pub HasRole : Bool → LogicalLine → Role → Type 0

@@ -5,7 +5,7 @@ use Rattle.py_lines.specs.LogicalLine.{LogicalLine}
 use Rattle.py_lines.specs.Piece.{begins}
 use Rattle.py_lines.specs.Lexed.{IsLexed}
 use Rattle.py_lines.specs.declared.fault.Fault.{Fault}
-use Rattle.py_imports.specs.Bound.{Bound}
+use Rattle.py_imports.specs.BindingValue.{BindingValue}
 use Rattle.py_imports.specs.Binds.{BindAll, IsBadAt}
 use Rattle.py_imports.specs.Shape.{mark_len}
 use Rattle.isort_settings.specs.Values.{Values}
@@ -76,9 +76,9 @@ mark_of (line ∷ lines) = take (mark_len line) line.text
 
 -- a text that is accepted, with its lines
 pub record IsAccepted (text : List ℕ) (lines : List LogicalLine) : Type 0 where
-  pub bounds : List Bound
+  pub values : List BindingValue
   pub lexed : IsLexed text lines None
-  pub good : BindAll lines bounds
+  pub good : BindAll lines values
 
 -- the first bad import statement of a text; a lexical fault may follow
 pub record HasBadImport (text : List ℕ) (fault : Fault) : Type 0 where
@@ -86,17 +86,17 @@ pub record HasBadImport (text : List ℕ) (fault : Fault) : Type 0 where
   pub line : LogicalLine
   pub after : List LogicalLine
   pub end : Option Fault
-  pub bounds : List Bound
+  pub values : List BindingValue
   pub lexed : IsLexed text (before ++ line ∷ after) end
-  pub good : BindAll before bounds
+  pub good : BindAll before values
   pub bad : IsBadAt line fault
 
 -- the lexical fault of a text without bad import statements before it
 pub record HasLexicalFault (text : List ℕ) (fault : Fault) : Type 0 where
   pub lines : List LogicalLine
-  pub bounds : List Bound
+  pub values : List BindingValue
   pub lexed : IsLexed text lines (Some fault)
-  pub good : BindAll lines bounds
+  pub good : BindAll lines values
 
 -- the fault of a text
 abbrev pub HasFault : List ℕ → Fault → Type 0

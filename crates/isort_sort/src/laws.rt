@@ -5,7 +5,7 @@ ghost use Rattle.py_lines.specs.Character.{is_space};
 ghost use Rattle.py_lines.specs.LogicalLine.{LogicalLine};
 ghost use Rattle.py_lines.specs.PieceGrammar.{IsLineEnd};
 ghost use Rattle.py_imports.specs.Binds.{Binds};
-ghost use Rattle.py_imports.specs.Bound.{Bound};
+ghost use Rattle.py_imports.specs.BindingValue.{BindingValue};
 ghost use Rattle.py_imports.specs.Grammar.{Item};
 ghost use Rattle.isort_settings.specs.Values.{Values};
 ghost use Rattle.isort_sort.specs.Answers.{AreBlocksOf, StandBetween, with_layouts};
@@ -147,9 +147,9 @@ pub fn silent_lines_switch_nothing()
 /// A logical line imports the same, and is the same to sorting, wherever it stands.
 pub fn moved_lines_stay_the_same()
     ensures imports { (line other : LogicalLine) → IsMoved line other
-        → (bounds : List Bound) → Binds line bounds
-        → (others : List Bound) × Binds other others
-        × (map imported_of others ≡ map imported_of bounds) }
+        → (values : List BindingValue) → Binds line values
+        → (others : List BindingValue) × Binds other others
+        × (map imported_of others ≡ map imported_of values) }
     ensures role { (off : Bool) (line other : LogicalLine) (role : Role)
         → IsMoved line other → HasRole off line role → HasRole off other role }
 {}

@@ -4,7 +4,7 @@ ghost use Rattle.std.specs.Prelude.{IsTrue, IfOk, IfErr, OnOk};
 ghost use Rattle.py_lines.specs.Lines.{line_in};
 ghost use Rattle.py_lines.specs.LogicalLine.{LogicalLine};
 ghost use Rattle.py_imports.specs.Binds.{Binds};
-ghost use Rattle.py_imports.specs.Bound.{bound_of};
+ghost use Rattle.py_imports.specs.BindingValue.{binding_value};
 ghost use Rattle.isort_sort.specs.Answers.{IsRefused};
 ghost use Rattle.isort_sort.specs.Private.Actions.{AreActions};
 ghost use Rattle.isort_sort.specs.Private.Markers.{HoldsLineAt};
@@ -154,7 +154,7 @@ impl LineReader {
         bindings: Vec<Binding>,
     ) -> Result<(), AllocError>
         requires actions { AreActions (line_in unit.now) actions }
-        requires binds { Binds (line_in unit.now) (map bound_of bindings.items) }
+        requires binds { Binds (line_in unit.now) (map binding_value bindings.items) }
         requires further { IsFurther (stop_of (line_in unit.now)) self.old.blocks }
         ensures { OnOk result (ReadsLine (line_in unit.now) self.old self.new) }
     {
@@ -200,7 +200,7 @@ fn find_line(
     bindings: Vec<Binding>,
 ) -> Result<(), AllocError>
     requires actions { AreActions (line_in unit.now) actions }
-    requires binds { Binds (line_in unit.now) (map bound_of bindings.items) }
+    requires binds { Binds (line_in unit.now) (map binding_value bindings.items) }
     requires further { IsFurther (stop_of (line_in unit.now)) blocks.old }
     ensures { OnOk result (FindsLine off (line_in unit.now) blocks.old blocks.new) }
 {

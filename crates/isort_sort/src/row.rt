@@ -3,14 +3,14 @@ ghost use Rattle.std.specs.Prelude.{◌≡◌, List};
 ghost use Rattle.py_lines.specs.Lines.{line_in};
 ghost use Rattle.py_lines.specs.declared.unit.UnitKind.TheVariants as unit_kind;
 ghost use Rattle.py_imports.specs.Binds.{Binds};
-ghost use Rattle.py_imports.specs.Bound.{Bound};
+ghost use Rattle.py_imports.specs.BindingValue.{BindingValue};
 ghost use Rattle.py_imports.specs.Shape.{IsSortable};
 ghost use Rattle.isort_sort.specs.Private.Actions.{AreActions};
 ghost use Rattle.isort_sort.specs.Private.LineRole.{before_of, IsOfRole};
 ghost use Rattle.isort_sort.specs.Row.{before_line, indentation_of};
 
 use crate::actions::Actions;
-use py_imports::{Shape, is_declaration, mark_len, shape_of_bound};
+use py_imports::{Shape, is_declaration, mark_len, shape_of_binding};
 use py_lines::{Unit, UnitKind};
 
 /// What a line asks of the blank lines between a block and itself.
@@ -63,10 +63,10 @@ fn blank_lines_before(unit: &Unit<'_>, shape: Shape) -> BlankLines
 /// What a line of code is to sorting; `off` says whether sorting is off before it.
 fn role_of_code(unit: &Unit<'_>, off: bool) -> Role
     requires code { unit.now.kind ≡ unit_kind.Code }
-    requires binds { (bounds : List Bound) × Binds (line_in unit.now) bounds }
+    requires binds { (values : List BindingValue) × Binds (line_in unit.now) values }
     ensures { IsOfRole off (line_in unit.now) result }
 {
-    let shape = shape_of_bound(unit);
+    let shape = shape_of_binding(unit);
     if !off && shape == Shape::Sortable {
         Role::Member
     } else {
@@ -76,7 +76,7 @@ fn role_of_code(unit: &Unit<'_>, off: bool) -> Role
 
 /// What the line, which says these actions, is to sorting; `off` says whether sorting is off before it.
 pub(crate) fn role_of(unit: &Unit<'_>, actions: Actions, off: bool) -> Role
-    requires binds { (bounds : List Bound) × Binds (line_in unit.now) bounds }
+    requires binds { (values : List BindingValue) × Binds (line_in unit.now) values }
     requires actions { AreActions (line_in unit.now) actions }
     ensures { IsOfRole off (line_in unit.now) result }
 {

@@ -1,7 +1,7 @@
 //! The statements of a block, and their items.
 ghost use Rattle.std.specs.Prelude.{◌≡◌, string_bytes, option_copied, option_to_list};
 ghost use Rattle.std.specs.Option.{option_cmp, option_map};
-ghost use Rattle.py_imports.specs.Bound.{bound_of};
+ghost use Rattle.py_imports.specs.BindingValue.{binding_value};
 ghost use Rattle.isort_settings.specs.Orders.{name_cmp};
 ghost use Rattle.isort_settings.specs.Values.{values};
 ghost use Rattle.isort_sort.specs.Private.Gathered.{listed_item};
@@ -51,9 +51,9 @@ impl Statement {
     /// The statement that an import belongs to; and its item, if the statement is one of names.
     pub(crate) fn of_binding(settings: &Settings, binding: Binding) -> (Statement, Option<FromItem>)
         ensures statement { statement_value result.0
-            ≡ statement_of (values settings.now) (imported_of (bound_of binding)) }
+            ≡ statement_of (values settings.now) (imported_of (binding_value binding)) }
         ensures item { option_to_list (option_map item_value result.1)
-            ≡ listed_item (values settings.now) (imported_of (bound_of binding)) }
+            ≡ listed_item (values settings.now) (imported_of (binding_value binding)) }
     {
         let Binding {
             module_name: module,

@@ -5,7 +5,7 @@ use Rattle.std.proofs.lemmas.List.{append-nil, drop_all, map-append}
 use Rattle.py_lines.specs.LogicalLine.{LogicalLine}
 use Rattle.py_lines.specs.declared.token.Token.{Token}
 use Rattle.py_imports.specs.Statement.{is_comment, significant, is_divider, depth_past, depth_after_tokens, ends_in_divider, may_start_after, TokenPlace, places_from, starts}
-use Rattle.py_imports.specs.Bound.{Bound, bound_at, bound_of}
+use Rattle.py_imports.specs.BindingValue.{BindingValue, binding_at, binding_value}
 use Rattle.py_imports.specs.Grammar.{Imported}
 use Rattle.py_imports.specs.Binds.{BindsAt, BindEach, Binds, Refuses}
 use Rattle.py_imports.specs.Private.Items.{StartWith}
@@ -37,12 +37,12 @@ pub record BindsSoFar (line : LogicalLine) (i depth : ℕ) (here : Bool) (bindin
   pub split : starts (significant line.tokens) ≡ done ++ starts_among (places_from before (significant (drop i line.tokens)))
   pub level : depth ≡ depth_after_tokens 0 before
   pub start : here ≡ may_start_after before
-  pub binds : BindEach line done (map bound_of bindings)
+  pub binds : BindEach line done (map binding_value bindings)
 
 pub binds_nothing : (line : LogicalLine) → BindsSoFar line 0 0 true []
 binds_nothing line = record { before = []; done = []; split = refl; level = refl; start = refl; binds = refl }
 
-BindEach-snoc : (line : LogicalLine) (ps : List TokenPlace) (p : TokenPlace) (bs more : List Bound) → BindEach line ps bs → BindsAt line p more → BindEach line (ps ++ p ∷ []) (bs ++ more)
+BindEach-snoc : (line : LogicalLine) (ps : List TokenPlace) (p : TokenPlace) (bs more : List BindingValue) → BindEach line ps bs → BindsAt line p more → BindEach line (ps ++ p ∷ []) (bs ++ more)
 BindEach-snoc line [] p bs more e b = (more, [], ap (λ x. x ++ more) e ∙ sym (append-nil more), b, refl)
 BindEach-snoc line (q ∷ ps) p bs more (first, others, e, b, rest) c = (first, others ++ more, ap (λ x. x ++ more) e ∙ append_assoc first others more, b, BindEach-snoc line ps p others more rest c)
 
@@ -105,10 +105,10 @@ passes_comment line i depth here bindings t s within comment =
     }
 
 -- all tokens were passed
-pub binds_all : (line : LogicalLine) (i depth : ℕ) (here : Bool) (bindings : List Binding) → BindsSoFar line i depth here bindings → length line.tokens ≤ i → Binds line (map bound_of bindings)
+pub binds_all : (line : LogicalLine) (i depth : ℕ) (here : Bool) (bindings : List Binding) → BindsSoFar line i depth here bindings → length line.tokens ≤ i → Binds line (map binding_value bindings)
 binds_all line i depth here bindings s end =
     let all = s.split ∙ ap (λ ts. s.done ++ starts_among (places_from s.before (significant ts))) (drop_all i line.tokens end) ∙ append-nil s.done in
-    let Each : List TokenPlace → Type 0 = λ ps. BindEach line ps (map bound_of bindings) in
+    let Each : List TokenPlace → Type 0 = λ ps. BindEach line ps (map binding_value bindings) in
     subst Each (sym all) s.binds
 
 -- a statement starts at a token, and was bound
@@ -124,19 +124,19 @@ passes_start line i depth old new t s within code bound =
       split = split_at line i depth true old t s within code ∙ ap (λ x. s.done ++ x) (starts_here p rest (sym s.start)) ∙ sym (append_assoc s.done (p ∷ []) (starts_among rest));
       level = level_behind s.before depth u s.level;
       start = start_behind s.before depth u s.level;
-      binds = subst (BindEach line (s.done ++ p ∷ [])) (sym more.adds) (BindEach-snoc line s.done p (map bound_of old) more.bounds s.binds more.binds);
+      binds = subst (BindEach line (s.done ++ p ∷ [])) (sym more.adds) (BindEach-snoc line s.done p (map binding_value old) more.values s.binds more.binds);
     }
 
-refused_by : (line : LogicalLine) (p : TokenPlace) (done later : List TokenPlace) (bounds : List Bound) (e : ImportError) → starts (significant line.tokens) ≡ done ++ p ∷ later → BindEach line done bounds → RefusesAt line p e → Refuses line e
-refused_by line p done later bounds error.Memory split good r = tt
-refused_by line p done later bounds (error.Fault f) split good r = record { before = done; start = p; after = later; bounds = bounds; split = split; good = good; bad = r.0; place = r.1 }
+refused_by : (line : LogicalLine) (p : TokenPlace) (done later : List TokenPlace) (values : List BindingValue) (e : ImportError) → starts (significant line.tokens) ≡ done ++ p ∷ later → BindEach line done values → RefusesAt line p e → Refuses line e
+refused_by line p done later values error.Memory split good r = tt
+refused_by line p done later values (error.Fault f) split good r = record { before = done; start = p; after = later; values = values; split = split; good = good; bad = r.0; place = r.1 }
 
 -- a statement starts at a token, and was refused
 pub refuses_start : (line : LogicalLine) (i depth : ℕ) (old : List Binding) (t : Token) (e : ImportError) → BindsSoFar line i depth true old → i < length line.tokens → is_comment (get_or line.tokens i t).kind ≡ false → ((p : TokenPlace) → IsPlaceAt line.tokens i p → RefusesAt line p e) → Refuses line e
 refuses_start line i depth old t e s within code refused =
     let p = place_at line s.before i t in
     let rest = places_from (s.before ++ get_or line.tokens i t ∷ []) (significant (drop (i + 1) line.tokens)) in
-    refused_by line p s.done (starts_among rest) (map bound_of old) e (split_at line i depth true old t s within code ∙ ap (λ x. s.done ++ x) (starts_here p rest (sym s.start))) s.binds (refused p (is_place_at line s.before i t within))
+    refused_by line p s.done (starts_among rest) (map binding_value old) e (split_at line i depth true old t s within code ∙ ap (λ x. s.done ++ x) (starts_here p rest (sym s.start))) s.binds (refused p (is_place_at line s.before i t within))
 
 -- the same state by other names
 pub same_so_far : (line : LogicalLine) (i depth level : ℕ) (here start : Bool) (old new : List Binding) → BindsSoFar line i depth here old → level ≡ depth → start ≡ here → new ≡ old → BindsSoFar line i level start new
@@ -146,21 +146,21 @@ same_so_far line i depth level here start old new s d h b = record {
   split = s.split;
   level = d ∙ s.level;
   start = h ∙ s.start;
-  binds = subst (λ bs. BindEach line s.done (map bound_of bs)) (sym b) s.binds;
+  binds = subst (λ bs. BindEach line s.done (map binding_value bs)) (sym b) s.binds;
 }
 
 -- the imports that were read so far were bound, and their bindings put after others
 pub record BoundSoFar (Before Now : List Imported → Type 0) (head : Head) (old new : List Binding) : Type 0 where
   pub done : List Imported
   pub read : AreRead Before Now done
-  pub adds : map bound_of new ≡ map bound_of old ++ map (bound_at head.line head.indented) done
+  pub adds : map binding_value new ≡ map binding_value old ++ map (binding_at head.line head.indented) done
 
 -- one binding more
-pub bound_one : (Before Now After : List Imported → Type 0) (head : Head) (old mid new : List Binding) (i : Imported) → BoundSoFar Before Now head old mid → StartWith Now i After → map bound_of new ≡ map bound_of mid ++ bound_at head.line head.indented i ∷ [] → BoundSoFar Before After head old new
-bound_one Before Now After head old mid new i s first e =
-    let at = bound_at head.line head.indented in
+pub one_bound : (Before Now After : List Imported → Type 0) (head : Head) (old mid new : List Binding) (i : Imported) → BoundSoFar Before Now head old mid → StartWith Now i After → map binding_value new ≡ map binding_value mid ++ binding_at head.line head.indented i ∷ [] → BoundSoFar Before After head old new
+one_bound Before Now After head old mid new i s first e =
+    let at = binding_at head.line head.indented in
     record {
       done = s.done ++ i ∷ [];
       read = one_more_read Before Now After s.done i s.read first;
-      adds = e ∙ ap (λ x. x ++ at i ∷ []) s.adds ∙ append_assoc (map bound_of old) (map at s.done) (at i ∷ []) ∙ ap (λ x. map bound_of old ++ x) (sym (map-append at s.done (i ∷ [])));
+      adds = e ∙ ap (λ x. x ++ at i ∷ []) s.adds ∙ append_assoc (map binding_value old) (map at s.done) (at i ∷ []) ∙ ap (λ x. map binding_value old ++ x) (sym (map-append at s.done (i ∷ [])));
     }

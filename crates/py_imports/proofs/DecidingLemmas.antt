@@ -6,8 +6,8 @@ use Rattle.py_imports.specs.Grammar.{Terminal, import_word, from_word, as_word, 
 use Rattle.py_imports.specs.Private.Items.{begins_closing}
 use Rattle.py_imports.specs.Private.Parsing.{ReadText, at_relative, ItemRead, at_item}
 use Rattle.py_imports.specs.Statement.{significant, TokenPlace, starts}
-use Rattle.py_imports.specs.Bound.{Bound}
-use Rattle.py_imports.specs.Binds.{terminals_at, bounds_at, BindsAt, nothing, imports, IsBadStart, BindEach, BindsOrIsBad}
+use Rattle.py_imports.specs.BindingValue.{BindingValue}
+use Rattle.py_imports.specs.Binds.{terminals_at, values_at, BindsAt, nothing, imports, IsBadStart, BindEach, BindsOrIsBad}
 use Rattle.py_imports.proofs.ModuleLemmas.{at_relative-sound}
 use Rattle.py_imports.proofs.ItemLemmas.{items_last, bracketed_closed, bracketed_comma}
 use Rattle.py_imports.proofs.ListLemmas.{ListGoesOn, items_go_on, items_none, items_bad, bracketed_none, bracketed_goes_on, bracketed_bad, item_is_some, ends_alone, ends_alone-comma, begins_comma, neither_ends, comma_not_first}
@@ -154,13 +154,13 @@ import_statement_or_none (opening ∷ ts) = none (λ is i. import_reads (opening
 import_statement_or_none (closing ∷ ts) = none (λ is i. import_reads (closing ∷ ts) is i)
 import_statement_or_none (other ∷ ts) = none (λ is i. import_reads (other ∷ ts) is i)
 
-start_by : (line : LogicalLine) (p : TokenPlace) (b : Bool) → begins_import (terminals_at line p) ≡ b → SomeOrNone (IsImport (terminals_at line p)) → ((bounds : List Bound) × BindsAt line p bounds) ⊎ IsBadStart line p
+start_by : (line : LogicalLine) (p : TokenPlace) (b : Bool) → begins_import (terminals_at line p) ≡ b → SomeOrNone (IsImport (terminals_at line p)) → ((values : List BindingValue) × BindsAt line p values) ⊎ IsBadStart line p
 start_by line p false e known = inl ([], nothing line p [] e refl)
-start_by line p true e (some is i) = inl (bounds_at line p is, imports line p (bounds_at line p is) is e i refl)
+start_by line p true e (some is i) = inl (values_at line p is, imports line p (values_at line p is) is e i refl)
 start_by line p true e (none bad) = inr (record { begins = e; bad = bad })
 
 -- a statement binds a list, or is bad
-start_binds_or_bad : (line : LogicalLine) (p : TokenPlace) → ((bounds : List Bound) × BindsAt line p bounds) ⊎ IsBadStart line p
+start_binds_or_bad : (line : LogicalLine) (p : TokenPlace) → ((values : List BindingValue) × BindsAt line p values) ⊎ IsBadStart line p
 start_binds_or_bad line p = start_by line p (begins_import (terminals_at line p)) refl (import_statement_or_none (terminals_at line p))
 
 -- the first bad statement among those that start at these places
@@ -168,24 +168,24 @@ record FirstBadStatement (line : LogicalLine) (ps : List TokenPlace) : Type 0 wh
   pub before : List TokenPlace
   pub start : TokenPlace
   pub after : List TokenPlace
-  pub bounds : List Bound
+  pub values : List BindingValue
   pub split : ps ≡ before ++ start ∷ after
-  pub good : BindEach line before bounds
+  pub good : BindEach line before values
   pub bad : IsBadStart line start
 
-each_by : (line : LogicalLine) (p : TokenPlace) (ps : List TokenPlace) → ((bounds : List Bound) × BindsAt line p bounds) ⊎ IsBadStart line p → ((bounds : List Bound) × BindEach line ps bounds) ⊎ FirstBadStatement line ps → ((bounds : List Bound) × BindEach line (p ∷ ps) bounds) ⊎ FirstBadStatement line (p ∷ ps)
-each_by line p ps (inr bad) known = inr (record { before = []; start = p; after = ps; bounds = []; split = refl; good = refl; bad = bad })
+each_by : (line : LogicalLine) (p : TokenPlace) (ps : List TokenPlace) → ((values : List BindingValue) × BindsAt line p values) ⊎ IsBadStart line p → ((values : List BindingValue) × BindEach line ps values) ⊎ FirstBadStatement line ps → ((values : List BindingValue) × BindEach line (p ∷ ps) values) ⊎ FirstBadStatement line (p ∷ ps)
+each_by line p ps (inr bad) known = inr (record { before = []; start = p; after = ps; values = []; split = refl; good = refl; bad = bad })
 each_by line p ps (inl (first, b)) (inl (others, each)) = inl (first ++ others, (first, others, refl, b, each))
-each_by line p ps (inl (first, b)) (inr f) = inr (record { before = p ∷ f.before; start = f.start; after = f.after; bounds = first ++ f.bounds; split = ap (λ x. p ∷ x) f.split; good = (first, f.bounds, refl, b, f.good); bad = f.bad })
+each_by line p ps (inl (first, b)) (inr f) = inr (record { before = p ∷ f.before; start = f.start; after = f.after; values = first ++ f.values; split = ap (λ x. p ∷ x) f.split; good = (first, f.values, refl, b, f.good); bad = f.bad })
 
 -- the statements that start at these places all bind a list, or there is a first one that is bad
-each_or_first_bad : (line : LogicalLine) (ps : List TokenPlace) → ((bounds : List Bound) × BindEach line ps bounds) ⊎ FirstBadStatement line ps
+each_or_first_bad : (line : LogicalLine) (ps : List TokenPlace) → ((values : List BindingValue) × BindEach line ps values) ⊎ FirstBadStatement line ps
 each_or_first_bad line [] = inl ([], refl)
 each_or_first_bad line (p ∷ ps) = each_by line p ps (start_binds_or_bad line p) (each_or_first_bad line ps)
 
-line_by : (line : LogicalLine) → ((bounds : List Bound) × BindEach line (starts (significant line.tokens)) bounds) ⊎ FirstBadStatement line (starts (significant line.tokens)) → BindsOrIsBad line
+line_by : (line : LogicalLine) → ((values : List BindingValue) × BindEach line (starts (significant line.tokens)) values) ⊎ FirstBadStatement line (starts (significant line.tokens)) → BindsOrIsBad line
 line_by line (inl b) = inl b
-line_by line (inr f) = inr (record { kind = BadImport; offset = line.offset + f.start.token.start; line = f.start.token.line }, record { before = f.before; start = f.start; after = f.after; bounds = f.bounds; split = f.split; good = f.good; bad = f.bad; place = refl })
+line_by line (inr f) = inr (record { kind = BadImport; offset = line.offset + f.start.token.start; line = f.start.token.line }, record { before = f.before; start = f.start; after = f.after; values = f.values; split = f.split; good = f.good; bad = f.bad; place = refl })
 
 -- a logical line binds a list, or has a fault: its first bad statement
 pub some_list_or_fault : (line : LogicalLine) → BindsOrIsBad line

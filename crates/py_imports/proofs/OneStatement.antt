@@ -5,8 +5,8 @@ use Rattle.std.specs.List.{list_any, prefix_len}
 use Rattle.std.proofs.lemmas.Bool.{or_parts}
 use Rattle.py_lines.specs.LogicalLine.{LogicalLine}
 use Rattle.py_lines.specs.declared.token.Token.{Token}
-use Rattle.py_imports.specs.Bound.{bound_at}
-use Rattle.py_imports.specs.Binds.{Binds, BindEach, BindsAt, imports, bounds_at, terminals_at, terminal_in}
+use Rattle.py_imports.specs.BindingValue.{binding_at}
+use Rattle.py_imports.specs.Binds.{Binds, BindEach, BindsAt, imports, values_at, terminals_at, terminal_in}
 use Rattle.py_imports.specs.Grammar.{Terminal, Imported, IsImport, begins_import}
 use Rattle.py_imports.specs.Shape.{terminals_of}
 use Rattle.py_imports.specs.Statement.{is_semicolon, is_colon_token, is_divider, depth_past, ends_in_divider, may_start_after, TokenPlace, places_from, starts, is_end, statement_at, significant}
@@ -56,10 +56,10 @@ whole_statement : (t : Token) (ts : List Token) → list_any (λ u. is_divider u
 whole_statement t ts h = undivided_statement t ts (no_end_in [] (t ∷ ts) h)
 
 -- what the one statement of a line imports, the line binds
-pub binds_its_imports : (line : LogicalLine) (t : Token) (ts : List Token) (is : List Imported) → significant line.tokens ≡ t ∷ ts → list_any (λ u. is_divider u.kind) (t ∷ ts) ≡ false → begins_import (terminals_of line) ≡ true → IsImport (terminals_of line) is → Binds line (map (bound_at t.line (nat_lt 0 line.indent)) is)
+pub binds_its_imports : (line : LogicalLine) (t : Token) (ts : List Token) (is : List Imported) → significant line.tokens ≡ t ∷ ts → list_any (λ u. is_divider u.kind) (t ∷ ts) ≡ false → begins_import (terminals_of line) ≡ true → IsImport (terminals_of line) is → Binds line (map (binding_at t.line (nat_lt 0 line.indent)) is)
 binds_its_imports line t ts is tokens dividers begins imported =
     let p : TokenPlace = record { before = []; token = t; after = ts } in
     let same : terminals_of line ≡ terminals_at line p = ap (map (terminal_in line.text)) (tokens ∙ sym (whole_statement t ts dividers)) in
-    let at : BindsAt line p (bounds_at line p is) = imports line p (bounds_at line p is) is (sym (ap begins_import same) ∙ begins) (subst (λ (x : List Terminal). IsImport x is) same imported) refl in
-    subst (λ (ps : List TokenPlace). BindEach line ps (bounds_at line p is)) (sym (ap starts tokens ∙ one_start t ts dividers))
-    (bounds_at line p is, [], sym (append-nil (bounds_at line p is)), at, refl)
+    let at : BindsAt line p (values_at line p is) = imports line p (values_at line p is) is (sym (ap begins_import same) ∙ begins) (subst (λ (x : List Terminal). IsImport x is) same imported) refl in
+    subst (λ (ps : List TokenPlace). BindEach line ps (values_at line p is)) (sym (ap starts tokens ∙ one_start t ts dividers))
+    (values_at line p is, [], sym (append-nil (values_at line p is)), at, refl)

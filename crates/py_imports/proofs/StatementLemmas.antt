@@ -11,7 +11,7 @@ use Rattle.py_imports.specs.Grammar.{Terminal, terminal_of, import_word, from_wo
 use Rattle.py_imports.specs.Statement.{significant, is_semicolon, depth_past, TokenPlace}
 use Rattle.py_imports.specs.Private.Parsing.{up_to_semicolon}
 use Rattle.py_imports.proofs.EndLemmas.{statement_is}
-use Rattle.py_imports.specs.Bound.{bound_of, bound_at}
+use Rattle.py_imports.specs.BindingValue.{binding_value, binding_at}
 use Rattle.py_imports.specs.Binds.{terminal_in, terminals_at, nothing, imports, IsBadStart}
 use Rattle.py_imports.specs.Private.Parsing.{ReadText, at_relative}
 use Rattle.py_imports.specs.Private.Items.{with_first_word, AreSameLists}
@@ -79,7 +79,7 @@ no_import line p h = ap (λ ts. begins_import (map (terminal_in line.text) ts)) 
 
 -- a token that begins no import statement binds nothing
 pub binds_none : (line : LogicalLine) (p : TokenPlace) (old : List Binding) → ((ts : List Terminal) → begins_import (terminal_in line.text p.token ∷ ts) ≡ false) → BindsMore line p old old
-binds_none line p old h = record { bounds = []; binds = nothing line p [] (no_import line p h) refl; adds = sym (append-nil (map bound_of old)) }
+binds_none line p old h = record { values = []; binds = nothing line p [] (no_import line p h) refl; adds = sym (append-nil (map binding_value old)) }
 
 -- the statement that starts with a word
 pub started_by_word : (line : LogicalLine) (p : TokenPlace) (f : Form) (rest : List Terminal) → p.token.kind ≡ kind.Name → ((ts : List Terminal) → terminal_in line.text p.token ∷ ts ≡ with_first_word f ts) → rest ≡ map (terminal_in line.text) (up_to_semicolon 0 p.after) → terminals_at line p ≡ with_first_word f rest
@@ -93,9 +93,9 @@ begins_begun form.From ts = refl
 -- an import statement that was read binds what it says
 pub binds_import : (line : LogicalLine) (p : TokenPlace) (f : Form) (rest : List Terminal) (head : Head) (old new : List Binding) → terminals_at line p ≡ with_first_word f rest → head.line ≡ p.token.line → head.indented ≡ nat_lt 0 line.indent → BindsOne (IsImport (with_first_word f rest)) head old new → BindsMore line p old new
 binds_import line p f rest head old new e l i r = record {
-  bounds = map (bound_at p.token.line (nat_lt 0 line.indent)) r.imported;
+  values = map (binding_at p.token.line (nat_lt 0 line.indent)) r.imported;
   binds = imports line p _ r.imported (ap begins_import e ∙ begins_begun f rest) (subst (λ x. IsImport x r.imported) (sym e) r.are) refl;
-  adds = r.adds ∙ ap (λ x. map bound_of old ++ map (bound_at x head.indented) r.imported) l ∙ ap (λ x. map bound_of old ++ map (bound_at p.token.line x) r.imported) i;
+  adds = r.adds ∙ ap (λ x. map binding_value old ++ map (binding_at x head.indented) r.imported) l ∙ ap (λ x. map binding_value old ++ map (binding_at p.token.line x) r.imported) i;
 }
 
 -- and one that is outside the grammar is bad

@@ -1,7 +1,7 @@
 -- The definitions that contracts cite.
 pub mod ActionComment
 pub mod Binds
-pub mod Bound
+pub mod BindingValue
 pub mod Declaration
 pub mod FirstWords
 pub mod Grammar

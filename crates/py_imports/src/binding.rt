@@ -32,13 +32,13 @@ pub(crate) fn copy_of_text(alloc: Global, text: Option<&str>) -> Result<Option<S
 }
 
 impl Binding {
-    ghost use Rattle.py_imports.specs.Bound.{bound_of};
+    ghost use Rattle.py_imports.specs.BindingValue.{binding_value};
     ghost use Rattle.py_imports.specs.Spelled.{statement_text};
 
     /// The statement that binds this alone: `import m`, `import m as a`, `from m import n` or `from m import n as a`.
     /// It answers `Memory` alone.
     pub fn statement(&self, alloc: Global) -> Result<String, ImportError>
-        ensures ok { IfOk result (λ s. string_bytes s ≡ statement_text (bound_of self.now)) }
+        ensures ok { IfOk result (λ s. string_bytes s ≡ statement_text (binding_value self.now)) }
         ensures err { IfErr result (λ e. e ≡ ImportError.Memory) }
     {
         let module = self.module_name.as_str();
@@ -58,7 +58,7 @@ impl Binding {
 
     /// An equal binding, with texts of its own. It answers `Memory` alone.
     pub fn copy(&self, alloc: Global) -> Result<Binding, ImportError>
-        ensures ok { IfOk result (λ b. bound_of b ≡ bound_of self.now) }
+        ensures ok { IfOk result (λ b. binding_value b ≡ binding_value self.now) }
         ensures err { IfErr result (λ e. e ≡ ImportError.Memory) }
     {
         Ok(Binding {

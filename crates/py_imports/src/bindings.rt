@@ -9,7 +9,7 @@ ghost use Rattle.py_lines.specs.declared.token.Token.{Token};
 ghost use Rattle.py_imports.specs.Grammar.{begins_import};
 ghost use Rattle.py_imports.specs.Statement.{TokenPlace};
 ghost use Rattle.py_imports.specs.Binds.{terminal_in, Binds, Refuses};
-ghost use Rattle.py_imports.specs.Bound.{bound_of, bound_at};
+ghost use Rattle.py_imports.specs.BindingValue.{binding_value, binding_at};
 ghost use Rattle.py_imports.specs.Private.Items.{item_imported, AreLeft};
 ghost use Rattle.py_imports.specs.Private.Bindings.{is_first_word, statement_fault, BindsOne, RefusesItems};
 ghost use Rattle.py_imports.specs.Private.Bindings.{BindsMoreAt, RefusesAt, IsPlaceAt};
@@ -40,9 +40,9 @@ fn push_binding(
     item: ImportItem<'_>,
     bindings: &mut Vec<Binding>,
 ) -> Result<(), AllocError>
-    ensures { OnOk result (map bound_of bindings.new.items
-        ≡ map bound_of bindings.old.items
-        ++ bound_at head.line head.indented (item_imported item.entry) ∷ []) }
+    ensures { OnOk result (map binding_value bindings.new.items
+        ≡ map binding_value bindings.old.items
+        ++ binding_at head.line head.indented (item_imported item.entry) ∷ []) }
 {
     let mut module_name = String::with_capacity(alloc, USUAL_MODULE_LEN)?;
     item.module.push_onto(&mut module_name)?;
@@ -156,7 +156,8 @@ pub fn has_first_word(unit: &Unit<'_>) -> bool
 /// What all import statements of a logical line bind, statement after statement. Few lines need it.
 #[cold]
 fn bind_statements(alloc: Global, unit: &Unit<'_>) -> Result<Vec<Binding>, ImportError>
-    ensures ok { IfOk result (λ bindings. Binds (line_in unit.now) (map bound_of bindings.items)) }
+    ensures ok { IfOk result (λ bindings.
+        Binds (line_in unit.now) (map binding_value bindings.items)) }
     ensures err { IfErr result (λ e. Refuses (line_in unit.now) e) }
 {
     let mut bindings = Vec::new(alloc);
@@ -182,7 +183,8 @@ fn bind_statements(alloc: Global, unit: &Unit<'_>) -> Result<Vec<Binding>, Impor
 /// - `Fault`: F9, at the first token of the first import statement that isn't in the grammar.
 /// - `Memory`: out of memory.
 pub fn bindings_of(alloc: Global, unit: &Unit<'_>) -> Result<Vec<Binding>, ImportError>
-    ensures ok { IfOk result (λ bindings. Binds (line_in unit.now) (map bound_of bindings.items)) }
+    ensures ok { IfOk result (λ bindings.
+        Binds (line_in unit.now) (map binding_value bindings.items)) }
     ensures err { IfErr result (λ e. Refuses (line_in unit.now) e) }
 {
     if has_first_word(unit) {

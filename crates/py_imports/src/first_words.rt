@@ -22,8 +22,10 @@ fn stands_at(text: &[u8], word: &[u8], place: usize) -> bool
 #[inline(always)]
 fn is_in_word(text: &[u8], place: usize) -> bool
     requires { place < length text.now }
-    ensures import { result ≡ false → (k : ℕ) → k + 1 ≡ place → ¬ (OccursAt text.now (codes "import") k) }
-    ensures from { result ≡ false → (k : ℕ) → k + 3 ≡ place → ¬ (OccursAt text.now (codes "from") k) }
+    ensures import { result ≡ false → (k : ℕ) → k + 1 ≡ place
+        → ¬ (OccursAt text.now (codes "import") k) }
+    ensures from { result ≡ false → (k : ℕ) → k + 3 ≡ place
+        → ¬ (OccursAt text.now (codes "from") k) }
 {
     (place >= 1 && stands_at(text, b"import", place - 1))
         || (place >= 3 && stands_at(text, b"from", place - 3))

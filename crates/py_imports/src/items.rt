@@ -124,7 +124,8 @@ impl<'u> ImportItems<'u> {
         requires ordered { place ≤ end }
         requires within { end ≤ length unit.now.tokens.now }
         ensures { AreSameLists
-            (IsImport (with_first_word form (terminals_between unit.now place end))) (AreLeft result) }
+            (IsImport (with_first_word form (terminals_between unit.now place end)))
+            (AreLeft result) }
     {
         let tokens = Lexemes::new(unit, place, end);
         match form {

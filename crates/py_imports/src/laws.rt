@@ -10,7 +10,7 @@ ghost use Rattle.py_lines.specs.Words.{words_of};
 ghost use Rattle.py_lines.specs.declared.fault.Fault.{Fault};
 ghost use Rattle.py_lines.specs.declared.token.Token.{Token};
 ghost use Rattle.py_imports.specs.Grammar.{Terminal, Imported, IsImport, begins_import};
-ghost use Rattle.py_imports.specs.Bound.{Bound, bound_at};
+ghost use Rattle.py_imports.specs.BindingValue.{BindingValue, binding_at};
 ghost use Rattle.py_imports.specs.Names.{AreNamed, HaveNames, terminals_in};
 ghost use Rattle.py_imports.specs.Shape.{terminals_of};
 ghost use Rattle.py_imports.specs.Statement.{is_divider, significant};
@@ -31,12 +31,12 @@ pub fn binds_one_list()
 /// kind, at one byte, on one line.
 pub fn binds_or_is_bad()
     ensures some { (line : LogicalLine) → BindsOrIsBad line }
-    ensures one_list { (line : LogicalLine) (bounds others : List Bound) → Binds line bounds
-        → Binds line others → bounds ≡ others }
+    ensures one_list { (line : LogicalLine) (values others : List BindingValue) → Binds line values
+        → Binds line others → values ≡ others }
     ensures one_fault { (line : LogicalLine) (fault other : Fault) → IsBadAt line fault
         → IsBadAt line other → fault ≡ other }
-    ensures not_both { (line : LogicalLine) (bounds : List Bound) (fault : Fault)
-        → Binds line bounds → ¬ (IsBadAt line fault) }
+    ensures not_both { (line : LogicalLine) (values : List BindingValue) (fault : Fault)
+        → Binds line values → ¬ (IsBadAt line fault) }
 {}
 
 /// What a logical line says to the import grammar is what the words of its pieces say, wherever the line stands. Where the
@@ -64,7 +64,7 @@ pub fn one_statement_binds_its_imports()
         → significant line.tokens ≡ token ∷ tokens
         → list_any (λ t. is_divider t.kind) (token ∷ tokens) ≡ false
         → begins_import (terminals_of line) ≡ true → IsImport (terminals_of line) is
-        → Binds line (map (bound_at token.line (nat_lt 0 line.indent)) is) }
+        → Binds line (map (binding_at token.line (nat_lt 0 line.indent)) is) }
 {}
 
 /// A logical line in whose text neither `import` nor `from` stands has no token that is spelled so, and binds nothing.

@@ -22,4 +22,4 @@ pub use declaration::is_declaration;
 pub use error::ImportError;
 pub use first_words::FirstWords;
 pub use line_shape::Shape;
-pub use sortable::{mark_len, shape, shape_of_bound};
+pub use sortable::{mark_len, shape, shape_of_binding};

@@ -7,7 +7,7 @@ ghost use Rattle.py_lines.specs.declared.token.Token.{Token};
 ghost use Rattle.py_imports.specs.Statement.{is_comment, significant, places_from, is_end};
 ghost use Rattle.py_imports.specs.Shape.{mark_len, begins_so, is_parenthesis, stands_well, says_skip, IsSortable, HasShape};
 ghost use Rattle.py_imports.specs.Binds.{Binds};
-ghost use Rattle.py_imports.specs.Bound.{Bound};
+ghost use Rattle.py_imports.specs.BindingValue.{BindingValue};
 ghost use Rattle.py_imports.specs.Private.Places.{IsFirstCode, BeginsAt, IsMovable, begins_line};
 
 use crate::action_comment::{ActionComment, says};
@@ -147,8 +147,8 @@ pub fn shape(unit: &Unit<'_>) -> Shape
 
 /// The shape of a logical line that binds a list, as [`shape`] answers it. The import statement of such a line is in the
 /// grammar, so it isn't read again.
-pub fn shape_of_bound(unit: &Unit<'_>) -> Shape
-    requires { (bounds : List Bound) × Binds (line_in unit.now) bounds }
+pub fn shape_of_binding(unit: &Unit<'_>) -> Shape
+    requires { (values : List BindingValue) × Binds (line_in unit.now) values }
     ensures { HasShape (line_in unit.now) result }
 {
     match started_by_word(unit) {

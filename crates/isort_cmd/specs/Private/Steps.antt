@@ -7,7 +7,7 @@ use Rattle.std.specs.Prelude.{◌≡◌, ◌≤◌, ℕ, false, Option, Some, Re
 use Rattle.std.specs.Io.KnownBytes.{Appends, Consumes}
 use Rattle.py_lines.specs.ScannerState.{GoesOnWith}
 use Rattle.py_lines.specs.declared.fault.Fault.{Fault}
-use Rattle.py_imports.specs.Bound.{Bound}
+use Rattle.py_imports.specs.BindingValue.{BindingValue}
 use Rattle.isort_find.specs.Found.{IsFound}
 use Rattle.isort_find.specs.Settled.{DecidesFound}
 use Rattle.isort_find.specs.Pieces.{PieceFinderState, HasNoFault, HasFoundIn, AreSettled, AreAllSettled, IsUndecided, options_for, fed_by, has_ready}
@@ -36,17 +36,17 @@ IsOutputError _ l = ⊥
 -- What a finder over chunks gave of this text was listed, and before the text's end the bytes fed settle it.
 pub record GivenAreListed (path text : List ℕ) (options : FindOptions) (finder : PieceFinderState)
     (start now : Option (List ℕ)) : Type 0 where
-  pub bounds : List Bound
-  pub found : HasFoundIn finder text bounds
-  pub settled : finder.scanning.ended ≡ false → AreSettled finder text bounds
+  pub values : List BindingValue
+  pub found : HasFoundIn finder text values
+  pub settled : finder.scanning.ended ≡ false → AreSettled finder text values
   pub same_options : options_for finder ≡ options
-  pub written : Appends start now (printed path bounds)
+  pub written : Appends start now (printed path values)
 
 -- the same, and it is all that the bytes fed settle, which decide no fault
 pub record SettledAreListed (path text : List ℕ) (options : FindOptions) (finder : PieceFinderState)
     (start now : Option (List ℕ)) : Type 0 where
   pub listed : GivenAreListed path text options finder start now
-  pub all : AreAllSettled finder text listed.bounds
+  pub all : AreAllSettled finder text listed.values
   pub undecided : IsUndecided finder text
 
 -- A finder that was fed just these bytes of a text has met no fault, and for each text that begins with them what it gave
@@ -78,9 +78,9 @@ LeavesReady path text options old _ start now = ⊥
 
 -- all lines before this fault were written, which is that of each text that begins with these bytes
 pub record MeetsFaultAfter (path known : List ℕ) (options : FindOptions) (fault : Fault) (start now : Option (List ℕ)) : Type 0 where
-  pub bounds : List Bound
-  pub found : (more : List ℕ) → IsFound (known ++ more) options bounds (Some fault)
-  pub written : Appends start now (printed path bounds)
+  pub values : List BindingValue
+  pub found : (more : List ℕ) → IsFound (known ++ more) options values (Some fault)
+  pub written : Appends start now (printed path values)
 
 -- what an error leaves of each text that begins with these bytes
 abbrev pub LeavesChunk : List ℕ → List ℕ → FindOptions → RunError → Option (List ℕ) → Option (List ℕ) → Type 0

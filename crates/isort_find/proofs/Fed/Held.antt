@@ -5,7 +5,7 @@ use Rattle.py_lines.specs.Lexed.{IsLexed}
 use Rattle.py_lines.specs.Settled.{IsSettled}
 use Rattle.py_lines.specs.Given.{AreFirstLines}
 use Rattle.py_lines.specs.ScannerState.{ScannerState, fed_of, ready_lines, EndsExactly, HoldsReady, HoldsLast, IsScanning}
-use Rattle.py_imports.specs.Bound.{Bound}
+use Rattle.py_imports.specs.BindingValue.{BindingValue}
 use Rattle.isort_find.specs.Cursor.{CursorState}
 use Rattle.isort_find.specs.Position.{phase_in, is_unread, ready_in}
 use Rattle.isort_find.specs.Pieces.{piece_finder_state, held_at_position, HasReleased, AreKnown, IsBetweenLines, HasFoundIn, HoldsRest, HoldsLine}
@@ -26,18 +26,18 @@ rest_of s skip cursor text lines none h = record {
 }
 
 -- between two lines
-pub between_rest : (s : ScannerState) (skip : ℕ) (cursor : CursorState) (text : List ℕ) (bounds : List Bound) → s.ended ≡ false → s.ready ≡ None → IsBetweenLines s cursor text skip bounds → HoldsRest (piece_finder_state s (position.Between skip) cursor) text
-between_rest s skip cursor text bounds yet none b = rest_of s skip cursor text b.after.lines none (still_scanning s text b.after.lines yet b.released)
+pub between_rest : (s : ScannerState) (skip : ℕ) (cursor : CursorState) (text : List ℕ) (values : List BindingValue) → s.ended ≡ false → s.ready ≡ None → IsBetweenLines s cursor text skip values → HoldsRest (piece_finder_state s (position.Between skip) cursor) text
+between_rest s skip cursor text values yet none b = rest_of s skip cursor text b.after.lines none (still_scanning s text b.after.lines yet b.released)
 
 -- where no line is ready
-pub rest_any : (s : ScannerState) (at : Position) (cursor : CursorState) (text : List ℕ) (bounds : List Bound) → phase_in at ≡ phase.Open → s.ended ≡ false → s.ready ≡ None → HasFoundIn (piece_finder_state s at cursor) text bounds → HoldsRest (piece_finder_state s at cursor) text
-rest_any s (position.Between skip) cursor text bounds opened yet none h = between_rest s skip cursor text bounds yet none h.reached.0
-rest_any s (position.Unread start skip) cursor text bounds opened yet none h =
-    let r = between_rest s skip cursor text bounds yet none h.reached in
+pub rest_any : (s : ScannerState) (at : Position) (cursor : CursorState) (text : List ℕ) (values : List BindingValue) → phase_in at ≡ phase.Open → s.ended ≡ false → s.ready ≡ None → HasFoundIn (piece_finder_state s at cursor) text values → HoldsRest (piece_finder_state s at cursor) text
+rest_any s (position.Between skip) cursor text values opened yet none h = between_rest s skip cursor text values yet none h.reached.0
+rest_any s (position.Unread start skip) cursor text values opened yet none h =
+    let r = between_rest s skip cursor text values yet none h.reached in
     record { lines = r.lines; first = r.first; held = r.held; fed = r.fed; settled = r.settled }
-rest_any s (position.Within p) cursor text bounds opened yet none h = absurd (none_or_some _ h.reached.line none h.reached.ready)
-rest_any s (position.End passed) cursor text bounds opened yet none h = absurd cc
-rest_any s (position.Fault fault) cursor text bounds opened yet none h = absurd cc
+rest_any s (position.Within p) cursor text values opened yet none h = absurd (none_or_some _ h.reached.line none h.reached.ready)
+rest_any s (position.End passed) cursor text values opened yet none h = absurd cc
+rest_any s (position.Fault fault) cursor text values opened yet none h = absurd cc
 
 held_open : (s : ScannerState) (at : Position) → phase_in at ≡ phase.Open → held_at_position at s ≡ s.held
 held_open s (position.Between skip) opened = refl
@@ -62,12 +62,12 @@ line_ready_after s at cursor text lines line opened ready (inr h) =
     holds_line s at cursor text lines line [] opened ready h.first (bytes ∙ sym (append-nil line.text)) (λ yet. absurd (true_or_false _ yet h.ended)) (λ over. refl) (λ some. inr (h.ended, subst (λ (r : Option LogicalLine). IsLexed text (lines ++ ready_lines r) None) ready h.lexed))
 
 -- where a line is ready
-pub line_any : (s : ScannerState) (at : Position) (cursor : CursorState) (text : List ℕ) (bounds : List Bound) (line : LogicalLine) → phase_in at ≡ phase.Open → s.ready ≡ Some line → HasFoundIn (piece_finder_state s at cursor) text bounds → HoldsLine (piece_finder_state s at cursor) text
-line_any s (position.Between skip) cursor text bounds line opened ready h = line_ready_after s (position.Between skip) cursor text h.reached.0.after.lines line opened ready h.reached.0.released
-line_any s (position.Unread start skip) cursor text bounds line opened ready h = line_ready_after s (position.Unread start skip) cursor text h.reached.after.lines line opened ready h.reached.released
-line_any s (position.Within p) cursor text bounds line opened ready h = line_ready_after s (position.Within p) cursor text h.reached.lines line opened ready h.reached.released
-line_any s (position.End passed) cursor text bounds line opened ready h = absurd cc
-line_any s (position.Fault fault) cursor text bounds line opened ready h = absurd cc
+pub line_any : (s : ScannerState) (at : Position) (cursor : CursorState) (text : List ℕ) (values : List BindingValue) (line : LogicalLine) → phase_in at ≡ phase.Open → s.ready ≡ Some line → HasFoundIn (piece_finder_state s at cursor) text values → HoldsLine (piece_finder_state s at cursor) text
+line_any s (position.Between skip) cursor text values line opened ready h = line_ready_after s (position.Between skip) cursor text h.reached.0.after.lines line opened ready h.reached.0.released
+line_any s (position.Unread start skip) cursor text values line opened ready h = line_ready_after s (position.Unread start skip) cursor text h.reached.after.lines line opened ready h.reached.released
+line_any s (position.Within p) cursor text values line opened ready h = line_ready_after s (position.Within p) cursor text h.reached.lines line opened ready h.reached.released
+line_any s (position.End passed) cursor text values line opened ready h = absurd cc
+line_any s (position.Fault fault) cursor text values line opened ready h = absurd cc
 
 pub open_ready : (s : Position) → ready_in s ≡ true → phase_in s ≡ phase.Open
 open_ready (position.Between skip) ready = refl
@@ -77,13 +77,13 @@ open_ready (position.End passed) ready = absurd cc
 open_ready (position.Fault fault) ready = absurd cc
 
 -- where something is ready: a line, or the next one was left unread before it was whole
-pub ready_any : (s : ScannerState) (at : Position) (cursor : CursorState) (text : List ℕ) (bounds : List Bound) → s.ended ≡ false → ready_in at ≡ true → HasFoundIn (piece_finder_state s at cursor) text bounds → HoldsLine (piece_finder_state s at cursor) text ⊎ ((is_unread at ≡ true) × HoldsRest (piece_finder_state s at cursor) text)
-ready_any s (position.Unread start skip) cursor text bounds yet ready h = by s.ready refl
+pub ready_any : (s : ScannerState) (at : Position) (cursor : CursorState) (text : List ℕ) (values : List BindingValue) → s.ended ≡ false → ready_in at ≡ true → HasFoundIn (piece_finder_state s at cursor) text values → HoldsLine (piece_finder_state s at cursor) text ⊎ ((is_unread at ≡ true) × HoldsRest (piece_finder_state s at cursor) text)
+ready_any s (position.Unread start skip) cursor text values yet ready h = by s.ready refl
   where
     by : (r : Option LogicalLine) → s.ready ≡ r → HoldsLine (piece_finder_state s (position.Unread start skip) cursor) text ⊎ ((true ≡ true) × HoldsRest (piece_finder_state s (position.Unread start skip) cursor) text)
-    by (Some line) is = inl (line_any s (position.Unread start skip) cursor text bounds line refl is h)
-    by None is = inr (refl, rest_any s (position.Unread start skip) cursor text bounds refl yet is h)
-ready_any s (position.Within p) cursor text bounds yet ready h = inl (line_any s (position.Within p) cursor text bounds h.reached.line refl h.reached.ready h)
-ready_any s (position.Between skip) cursor text bounds yet ready h = absurd cc
-ready_any s (position.End passed) cursor text bounds yet ready h = absurd cc
-ready_any s (position.Fault fault) cursor text bounds yet ready h = absurd cc
+    by (Some line) is = inl (line_any s (position.Unread start skip) cursor text values line refl is h)
+    by None is = inr (refl, rest_any s (position.Unread start skip) cursor text values refl yet is h)
+ready_any s (position.Within p) cursor text values yet ready h = inl (line_any s (position.Within p) cursor text values h.reached.line refl h.reached.ready h)
+ready_any s (position.Between skip) cursor text values yet ready h = absurd cc
+ready_any s (position.End passed) cursor text values yet ready h = absurd cc
+ready_any s (position.Fault fault) cursor text values yet ready h = absurd cc

@@ -2,7 +2,7 @@
 use Rattle.std.proofs.Common.{◌≡◌, ℕ, ◌<◌, ◌≤◌, false, None, Some, List, [], ◌∷◌, ◌++◌, length, inl, inr, refl, sym, ap, ◌∙◌, subst, length-append, arith}
 use Rattle.py_lines.specs.LogicalLine.{LogicalLine}
 use Rattle.py_lines.specs.ScannerState.{ScannerState, fed_of, IsScanning, HasEnded, Releases}
-use Rattle.py_imports.specs.Bound.{Bound}
+use Rattle.py_imports.specs.BindingValue.{BindingValue}
 use Rattle.isort_find.specs.Cursor.{CursorState}
 use Rattle.isort_find.specs.Pending.{PendingState}
 use Rattle.isort_find.specs.Position.{phase_in, skip_in, are_left, ready_in}
@@ -28,7 +28,7 @@ pub record BeginsLine (old : PieceFinderState) (t : ScannerState) : Type 0 where
   pub none_ready : t.ready ≡ None
   pub some_text : (line : LogicalLine) → old.scanning.ready ≡ Some line → 0 < length line.text
 
-pub none_are_left : (left : List Bound) → are_left left ≡ false → left ≡ []
+pub none_are_left : (left : List BindingValue) → are_left left ≡ false → left ≡ []
 none_are_left [] h = refl
 none_are_left (b ∷ bs) h = absurd cc
 
@@ -80,12 +80,12 @@ begun_here old a same b yet = subst (HasLetGo old) (sym same) (record {
 })
 
 -- a line that was read is let go
-within_gone : (s t : ScannerState) (cursor : CursorState) (text : List ℕ) (p : PendingState) (bounds : List Bound) → p.left ≡ [] → Releases s t → IsWithinLine s cursor.options text p bounds → IsBetweenLines t cursor text 0 bounds
-within_gone s t cursor text p bounds none r w =
+within_gone : (s t : ScannerState) (cursor : CursorState) (text : List ℕ) (p : PendingState) (values : List BindingValue) → p.left ≡ [] → Releases s t → IsWithinLine s cursor.options text p values → IsBetweenLines t cursor text 0 values
+within_gone s t cursor text p values none r w =
     let same : r.unit ≡ w.line = let e : Some r.unit ≡ Some w.line = sym r.was ∙ w.ready in cc in
     let released = gone w.lines w.line same w.released in
     record {
-      after = line_over text cursor.options t.place t.line w.lines w.line p bounds none (given_of t text (w.lines ++ w.line ∷ []) released) w.inside;
+      after = line_over text cursor.options t.place t.line w.lines w.line p values none (given_of t text (w.lines ++ w.line ∷ []) released) w.inside;
       released = released;
       stands = inl refl;
     }
@@ -95,17 +95,17 @@ within_gone s t cursor text p bounds none r w =
     gone lines line same (inr h) = inr (subst (λ (l : LogicalLine). HasEnded t text (lines ++ l ∷ [])) same (r.ends text lines h))
 
 -- the line was read, or none is ready: the finder is between two lines
-pub gone_between : (s t : ScannerState) (at : Position) (cursor : CursorState) (text : List ℕ) (bounds : List Bound) → phase_in at ≡ phase.Open → ready_in at ≡ false → ReleasesAny s t → HasFoundIn (piece_finder_state s at cursor) text bounds → IsBetweenLines t cursor text (skip_in at) bounds
-gone_between s t (position.Between skip) cursor text bounds opened none (inl same) h = subst (λ (x : ScannerState). IsBetweenLines x cursor text skip bounds) (sym same.1) h.reached.0
-gone_between s t (position.Between skip) cursor text bounds opened none (inr r) h = absurd (none_or_some _ r.unit h.reached.1 r.was)
-gone_between s t (position.Within p) cursor text bounds opened none (inl same) h = absurd (none_or_some _ h.reached.line same.0 h.reached.ready)
-gone_between s t (position.Within p) cursor text bounds opened none (inr r) h = within_gone s t cursor text p bounds (none_are_left p.left none) r h.reached
-gone_between s t (position.Unread start skip) cursor text bounds opened none goes h = absurd cc
-gone_between s t (position.End passed) cursor text bounds opened none goes h = absurd cc
-gone_between s t (position.Fault fault) cursor text bounds opened none goes h = absurd cc
+pub gone_between : (s t : ScannerState) (at : Position) (cursor : CursorState) (text : List ℕ) (values : List BindingValue) → phase_in at ≡ phase.Open → ready_in at ≡ false → ReleasesAny s t → HasFoundIn (piece_finder_state s at cursor) text values → IsBetweenLines t cursor text (skip_in at) values
+gone_between s t (position.Between skip) cursor text values opened none (inl same) h = subst (λ (x : ScannerState). IsBetweenLines x cursor text skip values) (sym same.1) h.reached.0
+gone_between s t (position.Between skip) cursor text values opened none (inr r) h = absurd (none_or_some _ r.unit h.reached.1 r.was)
+gone_between s t (position.Within p) cursor text values opened none (inl same) h = absurd (none_or_some _ h.reached.line same.0 h.reached.ready)
+gone_between s t (position.Within p) cursor text values opened none (inr r) h = within_gone s t cursor text p values (none_are_left p.left none) r h.reached
+gone_between s t (position.Unread start skip) cursor text values opened none goes h = absurd cc
+gone_between s t (position.End passed) cursor text values opened none goes h = absurd cc
+gone_between s t (position.Fault fault) cursor text values opened none goes h = absurd cc
 
-pub begun_between : (old : PieceFinderState) (t : ScannerState) → BeginsLine old t → (text : List ℕ) (bounds : List Bound) → HasFoundIn old text bounds → IsBetweenLines t old.cursor text (skip_in old.position) bounds
-begun_between old t b text bounds h = gone_between old.scanning t old.position old.cursor text bounds b.opened b.none b.scanner h
+pub begun_between : (old : PieceFinderState) (t : ScannerState) → BeginsLine old t → (text : List ℕ) (values : List BindingValue) → HasFoundIn old text values → IsBetweenLines t old.cursor text (skip_in old.position) values
+begun_between old t b text values h = gone_between old.scanning t old.position old.cursor text values b.opened b.none b.scanner h
 
 pub fed_gone : (s t : ScannerState) → ReleasesAny s t → fed_of t ≡ fed_of s
 fed_gone s t (inl same) = ap fed_of same.1

@@ -6,7 +6,7 @@ use Rattle.std.proofs.lemmas.List.{length-take-le, length-drop, drop-take}
 use Rattle.py_lines.specs.LogicalLine.{LogicalLine}
 use Rattle.py_lines.specs.ScannerState.{ScannerState, GoesOnWith, ready_lines}
 use Rattle.py_lines.specs.declared.fault.Fault.{Fault}
-use Rattle.py_imports.specs.Bound.{Bound}
+use Rattle.py_imports.specs.BindingValue.{BindingValue}
 use Rattle.isort_find.specs.Settled.{DecidesFound}
 use Rattle.isort_find.specs.Cursor.{CursorState}
 use Rattle.isort_find.specs.Position.{phase_in, skip_in}
@@ -41,13 +41,13 @@ goes_both old mid piece t n first within text whole =
 
 -- nothing was taken yet
 pub advances_none : (f : PieceFinderState) (piece : List ℕ) → Advances f piece 0 f
-advances_none f piece = record { within = omega arith; found = λ text bounds h goes. h; held = omega arith; fed = omega arith; cursor = refl; open_yet = refl }
+advances_none f piece = record { within = omega arith; found = λ text values h goes. h; held = omega arith; fed = omega arith; cursor = refl; open_yet = refl }
 
 -- bytes were taken, and then more
 pub advances_more : (old mid new : PieceFinderState) (piece : List ℕ) (t n : ℕ) → Advances old piece t mid → Advances mid (drop t piece) n new → Advances old piece (t + n) new
 advances_more old mid new piece t n first next = record {
   within = let k = first.within in let m = next.within in omega (arith, length-drop t piece, k, m);
-  found = λ text bounds h whole. let g = goes_both old mid piece t n first next.within text whole in next.found text bounds (first.found text bounds h g.0) g.1;
+  found = λ text values h whole. let g = goes_both old mid piece t n first next.within text whole in next.found text values (first.found text values h g.0) g.1;
   held = let k = first.held in let m = next.held in omega (arith, k, m);
   fed = next.fed ∙ ap (λ k. k + n) first.fed ∙ omega arith;
   cursor = next.cursor ∙ first.cursor;
@@ -60,8 +60,8 @@ takes_more old mid new piece t n first next =
     let goes = goes_both old mid piece t n first next.advances.within in
     record {
       advances = advances_more old mid new piece t n first next.advances;
-      all = λ text bounds h whole none. let g = goes text whole in next.all text bounds (first.found text bounds h g.0) g.1 none;
-      undecided = λ text bounds h whole none drained. let g = goes text whole in next.undecided text bounds (first.found text bounds h g.0) g.1 none drained;
+      all = λ text values h whole none. let g = goes text whole in next.all text values (first.found text values h g.0) g.1 none;
+      undecided = λ text values h whole none drained. let g = goes text whole in next.undecided text values (first.found text values h g.0) g.1 none drained;
       next_new = next.next_new;
       some = λ none_taken. let none : t ≡ 0 = omega (arith, none_taken) in subst (λ (k : ℕ). drop k piece ≡ []) none (next.some (omega (arith, none_taken)));
       no_fault = next.no_fault;
@@ -73,10 +73,10 @@ fault_after old mid new piece t fault opened none going first next =
     let goes : (text : List ℕ) → GoesOnWith text (fed_by old) piece → GoesOnWith text (fed_by old) (take t piece) × GoesOnWith text (fed_by mid) (drop t piece) = λ text whole. let both = goes_on_with_both text (fed_by old) piece t first.within whole in (both.0, subst (λ (p : ℕ). GoesOnWith text p (drop t piece)) (sym first.fed) both.1) in
     let options : options_for mid ≡ options_for old = ap (λ (c : CursorState). c.options) first.cursor in
     record {
-      found = λ text bounds h whole. let g = goes text whole in next.found text bounds (first.found text bounds h g.0) g.1;
-      decided = λ text bounds h whole was.
+      found = λ text values h whole. let g = goes text whole in next.found text values (first.found text values h g.0) g.1;
+      decided = λ text values h whole was.
           let g = goes text whole in
-          let d = next.decided text bounds (first.found text bounds h g.0) g.1 going in
+          let d = next.decided text values (first.found text values h g.0) g.1 going in
           let size = length-drop t piece in
           let place : fed_by mid + d.0 ≡ fed_by old + (t + d.0) = ap (λ k. k + d.0) first.fed ∙ omega arith in
           (t + d.0, (let k = first.within in let m = d.1 in omega (arith, size, k, m)), subst (λ (o : FindOptions). DecidesFound (take (fed_by old + (t + d.0)) text) o fault) options (subst (λ (p : ℕ). DecidesFound (take p text) (options_for mid) fault) place d.2));
@@ -116,12 +116,12 @@ abbrev pub lost : PieceFinderState → LineStart → PieceFinderState
 lost f start = record f { position = position.Unread start (skip_in f.position) }
 
 -- where no line is ready, the finder is between two
-lost_found : (s : ScannerState) (at : Position) (cursor : CursorState) (start : LineStart) (text : List ℕ) (bounds : List Bound) → phase_in at ≡ phase.Open → s.ready ≡ None → HasFoundIn (piece_finder_state s at cursor) text bounds → HasFoundIn (piece_finder_state s (position.Unread start (skip_in at)) cursor) text bounds
-lost_found s (position.Between skip) cursor start text bounds opened none h = record { stopped = h.stopped; reached = h.reached.0 }
-lost_found s (position.Unread other skip) cursor start text bounds opened none h = record { stopped = h.stopped; reached = h.reached }
-lost_found s (position.Within p) cursor start text bounds opened none h = absurd (none_or_some _ h.reached.line none h.reached.ready)
-lost_found s (position.End passed) cursor start text bounds opened none h = absurd cc
-lost_found s (position.Fault fault) cursor start text bounds opened none h = absurd cc
+lost_found : (s : ScannerState) (at : Position) (cursor : CursorState) (start : LineStart) (text : List ℕ) (values : List BindingValue) → phase_in at ≡ phase.Open → s.ready ≡ None → HasFoundIn (piece_finder_state s at cursor) text values → HasFoundIn (piece_finder_state s (position.Unread start (skip_in at)) cursor) text values
+lost_found s (position.Between skip) cursor start text values opened none h = record { stopped = h.stopped; reached = h.reached.0 }
+lost_found s (position.Unread other skip) cursor start text values opened none h = record { stopped = h.stopped; reached = h.reached }
+lost_found s (position.Within p) cursor start text values opened none h = absurd (none_or_some _ h.reached.line none h.reached.ready)
+lost_found s (position.End passed) cursor start text values opened none h = absurd cc
+lost_found s (position.Fault fault) cursor start text values opened none h = absurd cc
 
 -- bytes were taken, and then memory ran out
 pub lost_after : (old mid last : PieceFinderState) (piece : List ℕ) (t : ℕ) (start : LineStart) → (t ≡ 0 → ⊥) → Advances old piece t mid → TakesNothing mid last → TakesLines old piece t (lost last start)
@@ -130,14 +130,14 @@ lost_after old mid last piece t start some first nothing =
     record {
       advances = record {
         within = first.within;
-        found = λ text bounds h goes. lost_found last.scanning last.position last.cursor start text bounds keeps.is_open nothing.none_ready (keeps.found text bounds (first.found text bounds h goes));
+        found = λ text values h goes. lost_found last.scanning last.position last.cursor start text values keeps.is_open nothing.none_ready (keeps.found text values (first.found text values h goes));
         held = let k = first.held in let shorter = nothing.held in omega (arith, k, shorter);
         fed = sym (fed_open last keeps.is_open) ∙ keeps.fed ∙ first.fed;
         cursor = keeps.cursor ∙ first.cursor;
         open_yet = keeps.open_yet ∙ first.open_yet;
       };
-      all = λ text bounds h goes none. absurd (true_or_false _ none refl);
-      undecided = λ text bounds h goes none drained. absurd (true_or_false _ none refl);
+      all = λ text values h goes none. absurd (true_or_false _ none refl);
+      undecided = λ text values h goes none drained. absurd (true_or_false _ none refl);
       next_new = tt;
       some = λ none_taken. absurd (some none_taken);
       no_fault = λ fault at. cc;
@@ -146,10 +146,10 @@ lost_after old mid last piece t start some first nothing =
 -- memory ran out before the first byte, after lines of no byte of the piece
 keeps_none : (old mid last : PieceFinderState) (piece : List ℕ) → phase_in old.position ≡ phase.Open → has_ready old ≡ false → has_ready mid ≡ false → Advances old piece 0 mid → PieceFinderRunsOut mid last → PieceFinderRunsOut old last
 keeps_none old mid last piece opened none none_mid first keeps =
-    let found : (text : List ℕ) (bounds : List Bound) → HasFoundIn old text bounds → HasFoundIn mid text bounds = λ text bounds h. first.found text bounds h refl in
+    let found : (text : List ℕ) (values : List BindingValue) → HasFoundIn old text values → HasFoundIn mid text values = λ text values h. first.found text values h refl in
     record {
-      found = λ text bounds h. keeps.found text bounds (found text bounds h);
-      rest = λ text bounds h yet is. keeps.rest text bounds (found text bounds h) (first.open_yet ∙ yet) none_mid;
+      found = λ text values h. keeps.found text values (found text values h);
+      rest = λ text values h yet is. keeps.rest text values (found text values h) (first.open_yet ∙ yet) none_mid;
       scanning = λ ready. absurd (true_or_false _ none ready);
       fed = (let k = keeps.fed in let m = first.fed in omega (arith, k, m));
       cursor = keeps.cursor ∙ first.cursor;

@@ -6,7 +6,7 @@ use Rattle.py_lines.specs.LogicalLine.{LogicalLine}
 use Rattle.py_lines.specs.Lexed.{IsLexed}
 use Rattle.py_lines.specs.ScannerState.{ScannerState, ready_lines}
 use Rattle.py_lines.specs.declared.fault.Fault.{Fault}
-use Rattle.py_imports.specs.Bound.{Bound}
+use Rattle.py_imports.specs.BindingValue.{BindingValue}
 use Rattle.py_imports.specs.declared.binding.Binding.{Binding}
 use Rattle.isort_find.specs.Found.{firsts, IsFound}
 use Rattle.isort_find.specs.Cursor.{CursorState, IsAfter, HasStopped, BeginsNew, knows_key}
@@ -37,34 +37,34 @@ use Rattle.isort_find.proofs.Fed.OneLine.{open_or_fault, open_or_end}
 use Rattle.isort_find.proofs.Fed.Ready.{unread_found, unread_so, unread_read}
 
 -- after all lines of a text
-all_lexed : (s : ScannerState) (cursor : CursorState) (text : List ℕ) (skip : ℕ) (bounds : List Bound) → s.ended ≡ true → s.ready ≡ None → (b : IsBetweenLines s cursor text skip bounds) → IsLexed text b.after.lines None
-all_lexed s cursor text skip bounds over none b = by b.after.lines b.released
+all_lexed : (s : ScannerState) (cursor : CursorState) (text : List ℕ) (skip : ℕ) (values : List BindingValue) → s.ended ≡ true → s.ready ≡ None → (b : IsBetweenLines s cursor text skip values) → IsLexed text b.after.lines None
+all_lexed s cursor text skip values over none b = by b.after.lines b.released
   where
     by : (lines : List LogicalLine) → HasReleased s text lines → IsLexed text lines None
     by lines (inl h) = absurd (true_or_false _ h.open_yet over)
     by lines (inr h) = subst (λ (ls : List LogicalLine). IsLexed text ls None) (append-nil-lines lines) (subst (λ (x : Option LogicalLine). IsLexed text (lines ++ ready_lines x) None) none h.lexed)
 
 -- between two lines, where the cursor stands
-record IsResting (s : ScannerState) (cursor : CursorState) (text : List ℕ) (skip : ℕ) (bounds : List Bound) : Type 0 where
-  pub between : IsBetweenLines s cursor text skip bounds
-  pub stopped : HasStopped text cursor bounds
+record IsResting (s : ScannerState) (cursor : CursorState) (text : List ℕ) (skip : ℕ) (values : List BindingValue) : Type 0 where
+  pub between : IsBetweenLines s cursor text skip values
+  pub stopped : HasStopped text cursor values
   pub stands : cursor.offset ≡ s.place
 
 -- the cursor goes there
-goes_next : (s : ScannerState) (cursor : CursorState) (start : LineStart) (text : List ℕ) (skip : ℕ) (bounds : List Bound) → IsNextStart s start → skip ≡ 0 → IsBetweenLines s cursor text skip bounds → HasStopped text cursor bounds → IsResting s (cursor_before cursor start) text skip bounds
-goes_next s cursor start text skip bounds here fresh b stopped =
+goes_next : (s : ScannerState) (cursor : CursorState) (start : LineStart) (text : List ℕ) (skip : ℕ) (values : List BindingValue) → IsNextStart s start → skip ≡ 0 → IsBetweenLines s cursor text skip values → HasStopped text cursor values → IsResting s (cursor_before cursor start) text skip values
+goes_next s cursor start text skip values here fresh b stopped =
     let is : start ≡ next_start s = (λ i. record { offset = here.offset i; line = here.line i }) in
     let none = nil_from_length b.after.part (sym b.after.is_part.0 ∙ fresh) in
     let n : IsAtNothing b.after = record { none = none; found = found_whole b.after none } in
     record {
       between = record { after = b.after; released = b.released; stands = inl fresh };
-      stopped = subst (λ (x : LineStart). HasStopped text (cursor_before cursor x) bounds) (sym is) (stops_before cursor (next_start s) b.after n stopped);
+      stopped = subst (λ (x : LineStart). HasStopped text (cursor_before cursor x) values) (sym is) (stops_before cursor (next_start s) b.after n stopped);
       stands = here.offset;
     }
 
 -- or stands there
-stays_there : (s : ScannerState) (cursor : CursorState) (text : List ℕ) (skip : ℕ) (bounds : List Bound) → ¬ (skip ≡ 0) → IsBetweenLines s cursor text skip bounds → HasStopped text cursor bounds → IsResting s cursor text skip bounds
-stays_there s cursor text skip bounds some b stopped = record { between = b; stopped = stopped; stands = there b.stands }
+stays_there : (s : ScannerState) (cursor : CursorState) (text : List ℕ) (skip : ℕ) (values : List BindingValue) → ¬ (skip ≡ 0) → IsBetweenLines s cursor text skip values → HasStopped text cursor values → IsResting s cursor text skip values
+stays_there s cursor text skip values some b stopped = record { between = b; stopped = stopped; stands = there b.stands }
   where
     there : (skip ≡ 0) ⊎ (cursor.offset ≡ s.place) → cursor.offset ≡ s.place
     there (inl fresh) = absurd (some fresh)
@@ -76,15 +76,15 @@ record RestsAt (t : ScannerState) (skip : ℕ) (cursor : CursorState) (new : Pie
   pub same : new ≡ piece_finder_state t (position.Between skip) last
   pub options : last.options ≡ cursor.options
   pub given : last.given ≡ cursor.given
-  pub rests : (text : List ℕ) (bounds : List Bound) → IsBetweenLines t cursor text skip bounds → HasStopped text cursor bounds → IsResting t last text skip bounds
+  pub rests : (text : List ℕ) (values : List BindingValue) → IsBetweenLines t cursor text skip values → HasStopped text cursor values → IsResting t last text skip values
 
 rests_at : (t : ScannerState) (skip : ℕ) (cursor : CursorState) (new : PieceFinderState) → MayStandNext (piece_finder_state t (position.Between skip) cursor) new → RestsAt t skip cursor new
-rests_at t skip cursor new (inl s) = record { last = cursor_before cursor s.start; same = s.same; options = refl; given = refl; rests = λ text bounds b stopped. goes_next t cursor s.start text skip bounds s.here s.fresh b stopped }
-rests_at t skip cursor new (inr s) = record { last = cursor; same = s.1; options = refl; given = refl; rests = λ text bounds b stopped. stays_there t cursor text skip bounds s.0 b stopped }
+rests_at t skip cursor new (inl s) = record { last = cursor_before cursor s.start; same = s.same; options = refl; given = refl; rests = λ text values b stopped. goes_next t cursor s.start text skip values s.here s.fresh b stopped }
+rests_at t skip cursor new (inr s) = record { last = cursor; same = s.1; options = refl; given = refl; rests = λ text values b stopped. stays_there t cursor text skip values s.0 b stopped }
 
 -- a finder that has given the same as another, with nothing left to give
 record IsLeft (old f : PieceFinderState) : Type 0 where
-  pub found : (text : List ℕ) (bounds : List Bound) → HasFoundIn old text bounds → HasFoundIn f text bounds
+  pub found : (text : List ℕ) (values : List BindingValue) → HasFoundIn old text values → HasFoundIn f text values
   pub fed : fed_by f ≡ fed_by old
   pub ended : f.scanning.ended ≡ old.scanning.ended
   pub options : options_for f ≡ options_for old
@@ -104,13 +104,13 @@ none_open laws one ascent old f t new left opened none gone nothing r =
     let g = piece_finder_state t (position.Between skip) r.last in
     let options : r.last.options ≡ options_for old = r.options ∙ left.options in
     let ended : t.ended ≡ old.scanning.ended = ended_gone f.scanning t gone ∙ left.ended in
-    let resting : (text : List ℕ) (bounds : List Bound) → HasFoundIn old text bounds → IsResting t r.last text skip bounds = λ text bounds h. let q = left.found text bounds h in r.rests text bounds (gone_between f.scanning t f.position f.cursor text bounds opened none gone q) q.stopped in
+    let resting : (text : List ℕ) (values : List BindingValue) → HasFoundIn old text values → IsResting t r.last text skip values = λ text values h. let q = left.found text values h in r.rests text values (gone_between f.scanning t f.position f.cursor text values opened none gone q) q.stopped in
     subst (GivesNone old) (sym r.same) (record {
-      found = λ text bounds h. let q = resting text bounds h in record { stopped = q.stopped; reached = (q.between, nothing) };
-      all = λ text bounds h yet fine. gap_settled laws one ascent t r.last text skip bounds (ended ∙ yet) nothing (resting text bounds h).between;
-      whole = λ text bounds h over fine. whole g refl nothing options (not_over g refl over) text bounds (resting text bounds h);
-      rest = λ text bounds h yet going. between_rest t skip r.last text bounds (ended ∙ yet) nothing (resting text bounds h).between;
-      offset = λ fine text bounds h. (resting text bounds h).stands;
+      found = λ text values h. let q = resting text values h in record { stopped = q.stopped; reached = (q.between, nothing) };
+      all = λ text values h yet fine. gap_settled laws one ascent t r.last text skip values (ended ∙ yet) nothing (resting text values h).between;
+      whole = λ text values h over fine. whole g refl nothing options (not_over g refl over) text values (resting text values h);
+      rest = λ text values h yet going. between_rest t skip r.last text values (ended ∙ yet) nothing (resting text values h).between;
+      offset = λ fine text values h. (resting text values h).stands;
       unsure = left.unsure;
       none_ready = refl;
       after_fault = λ fault was. absurd (left.was_fine fault was);
@@ -122,17 +122,17 @@ none_open laws one ascent old f t new left opened none gone nothing r =
       open_yet = ended;
     })
   where
-    whole : (g : PieceFinderState) → phase_in g.position ≡ phase.Open → g.scanning.ready ≡ None → options_for g ≡ options_for old → g.scanning.ended ≡ true → (text : List ℕ) (bounds : List Bound) → IsResting g.scanning g.cursor text (skip_in f.position) bounds → FindsAll old text bounds g.cursor.offset
-    whole g here nothing options over text bounds q =
+    whole : (g : PieceFinderState) → phase_in g.position ≡ phase.Open → g.scanning.ready ≡ None → options_for g ≡ options_for old → g.scanning.ended ≡ true → (text : List ℕ) (values : List BindingValue) → IsResting g.scanning g.cursor text (skip_in f.position) values → FindsAll old text values g.cursor.offset
+    whole g here nothing options over text values q =
         let b = q.between.after in
-        let lexed = all_lexed g.scanning g.cursor text (skip_in f.position) bounds over nothing q.between in
+        let lexed = all_lexed g.scanning g.cursor text (skip_in f.position) values over nothing q.between in
         let n = nothing_at_end laws.ends.laws b None lexed in
-        let found = found_lexed text (options_for g) b.lines b.before bounds None lexed b.in_top b.binds n.found in
-        (subst (λ (o : FindOptions). IsFound text o bounds None) options found, inl (q.stands ∙ sym (bytes_given _ b.lines b.given) ∙ bytes_lexed text b.lines lexed))
+        let found = found_lexed text (options_for g) b.lines b.before values None lexed b.in_top b.binds n.found in
+        (subst (λ (o : FindOptions). IsFound text o values None) options found, inl (q.stands ∙ sym (bytes_given _ b.lines b.given) ∙ bytes_lexed text b.lines lexed))
 
 -- these bindings are all, whatever the finder
-abbrev AllOf : List ℕ → List Bound → FindOptions → ℕ → Type 0
-AllOf text bounds options offset = IsFound text options bounds None × MeetsEndAt text options offset
+abbrev AllOf : List ℕ → List BindingValue → FindOptions → ℕ → Type 0
+AllOf text values options offset = IsFound text options values None × MeetsEndAt text options offset
 
 -- the top's end is no fault
 end_or_fault : (s : Position) (fault : Fault) → phase_in s ≡ phase.End → s ≡ position.Fault fault → ⊥
@@ -141,14 +141,14 @@ end_or_fault s fault h k = let both : phase_in s ≡ phase.Fault fault = ap phas
 -- nothing is ready after the top
 none_top : SettledLaws → AscentLaws → (old : PieceFinderState) (s : ScannerState) (passed : ℕ) (cursor : CursorState) (start : LineStart) → IsNextStart s start → IsLeft old (piece_finder_state s (position.End passed) cursor) → GivesNone old (piece_finder_state s (position.End passed) (cursor_before cursor start))
 none_top laws ascent old s passed cursor start here left =
-    let top : (text : List ℕ) (bounds : List Bound) → HasFoundIn old text bounds → IsAtTopEnd s cursor.options text bounds = λ text bounds h. (left.found text bounds h).reached in
+    let top : (text : List ℕ) (values : List BindingValue) → HasFoundIn old text values → IsAtTopEnd s cursor.options text values = λ text values h. (left.found text values h).reached in
     let is : start ≡ next_start s = (λ i. record { offset = here.offset i; line = here.line i }) in
     record {
-      found = λ text bounds h. record { stopped = subst (λ (x : LineStart). HasStopped text (cursor_before cursor x) bounds) (sym is) (stops text bounds (top text bounds h) (left.found text bounds h).stopped); reached = top text bounds h };
-      all = λ text bounds h yet fine. top_settled laws ascent s cursor.options text (fed_in (position.End passed) s) bounds (left.ended ∙ yet) (omega arith) (top text bounds h);
-      whole = λ text bounds h over fine. subst (λ (o : FindOptions). AllOf text bounds o start.offset) left.options (subst (AllOf text bounds cursor.options) (sym here.offset) (top_found text bounds (top text bounds h)));
-      rest = λ text bounds h yet going. absurd (open_or_end _ going refl);
-      offset = λ fine text bounds h. here.offset;
+      found = λ text values h. record { stopped = subst (λ (x : LineStart). HasStopped text (cursor_before cursor x) values) (sym is) (stops text values (top text values h) (left.found text values h).stopped); reached = top text values h };
+      all = λ text values h yet fine. top_settled laws ascent s cursor.options text (fed_in (position.End passed) s) values (left.ended ∙ yet) (omega arith) (top text values h);
+      whole = λ text values h over fine. subst (λ (o : FindOptions). AllOf text values o start.offset) left.options (subst (AllOf text values cursor.options) (sym here.offset) (top_found text values (top text values h)));
+      rest = λ text values h yet going. absurd (open_or_end _ going refl);
+      offset = λ fine text values h. here.offset;
       unsure = left.unsure;
       none_ready = refl;
       after_fault = λ fault was. absurd (left.was_fine fault was);
@@ -160,15 +160,15 @@ none_top laws ascent old s passed cursor start here left =
       open_yet = left.ended;
     }
   where
-    stops : (text : List ℕ) (bounds : List Bound) → IsAtTopEnd s cursor.options text bounds → HasStopped text cursor bounds → HasStopped text (cursor_before cursor (next_start s)) bounds
-    stops text bounds t stopped =
-        let after : IsAfter text cursor.options s.place s.line 0 bounds = record { lines = t.lines; before = t.before; part = []; given = t.given; binds = t.binds; in_top = t.in_top; is_part = (refl, inl refl); found = t.found ∙ ap (firsts cursor.options.unique []) (sym (append-nil t.before)) } in
+    stops : (text : List ℕ) (values : List BindingValue) → IsAtTopEnd s cursor.options text values → HasStopped text cursor values → HasStopped text (cursor_before cursor (next_start s)) values
+    stops text values t stopped =
+        let after : IsAfter text cursor.options s.place s.line 0 values = record { lines = t.lines; before = t.before; part = []; given = t.given; binds = t.binds; in_top = t.in_top; is_part = (refl, inl refl); found = t.found ∙ ap (firsts cursor.options.unique []) (sym (append-nil t.before)) } in
         stops_before cursor (next_start s) after (record { none = refl; found = t.found }) stopped
 
-    top_found : (text : List ℕ) (bounds : List Bound) → IsAtTopEnd s cursor.options text bounds → FindsAll (piece_finder_state s (position.End passed) cursor) text bounds s.place
-    top_found text bounds t =
+    top_found : (text : List ℕ) (values : List BindingValue) → IsAtTopEnd s cursor.options text values → FindsAll (piece_finder_state s (position.End passed) cursor) text values s.place
+    top_found text values t =
         let begins = known_begins laws s text (t.lines ++ t.line ∷ []) t.known in
-        (found_at_top text cursor.options t.lines t.line t.before bounds begins t.in_top t.ends t.binds t.found, inr (record { before = t.lines; line = t.line; begins = begins; place = bytes_given _ t.lines t.given; is = t.ends }))
+        (found_at_top text cursor.options t.lines t.line t.before values begins t.in_top t.ends t.binds t.found, inr (record { before = t.lines; line = t.line; begins = begins; place = bytes_given _ t.lines t.given; is = t.ends }))
 
 -- the line is let go, and the cursor goes to the next
 going : SettledLaws → OneSettled → AscentLaws → (old f : PieceFinderState) (mid new : PieceFinderState) → phase_in f.position ≡ phase.Open → has_ready f ≡ false → IsLeft old f → MayLetLineGo f mid → MayStandNext mid new → GivesNone old new
@@ -196,7 +196,7 @@ none_at laws one ascent old s (position.Within p) cursor new none fine left r = 
 
 -- a finder that is asked after the top
 left_same : (old : PieceFinderState) → phase_in old.position ≡ phase.End → ready_in old.position ≡ false → IsLeft old old
-left_same old at none = record { found = λ text bounds h. h; fed = refl; ended = refl; options = refl; given = refl; stays = λ top. top; was_fine = λ fault is. end_or_fault old.position fault at is; unsure = λ e. absurd (true_or_false _ none e) }
+left_same old at none = record { found = λ text values h. h; fed = refl; ended = refl; options = refl; given = refl; stays = λ top. top; was_fine = λ fault is. end_or_fault old.position fault at is; unsure = λ e. absurd (true_or_false _ none e) }
 
 end_none : (s : Position) → phase_in s ≡ phase.End → ready_in s ≡ false
 end_none (position.End passed) at = refl
@@ -206,13 +206,13 @@ pub gives_none_at_top : SettledLaws → OneSettled → AscentLaws → (old new :
 gives_none_at_top laws one ascent old new at rests = none_at laws one ascent old old.scanning old.position old.cursor new (end_none old.position at) (λ fault is. end_or_fault old.position fault at is) (left_same old at (end_none old.position at)) rests
 
 -- bindings whose keys are all known are none, or don't begin with a new one
-not_new : (s : CursorState) (left : List Bound) → list_all (knows_key s.options.unique s.keys) left ≡ true → are_left left ≡ true → ¬ (BeginsNew s left)
+not_new : (s : CursorState) (left : List BindingValue) → list_all (knows_key s.options.unique s.keys) left ≡ true → are_left left ≡ true → ¬ (BeginsNew s left)
 not_new s [] known some = absurd (true_or_false false refl some)
 not_new s (b ∷ bs) known some = λ new. true_or_false _ new (first_known s b bs known)
 
 -- nothing was left to take: the finder means the same, and nothing is ready
 record IsThrough (mid f : PieceFinderState) : Type 0 where
-  pub found : (text : List ℕ) (bounds : List Bound) → HasFoundIn mid text bounds → HasFoundIn f text bounds
+  pub found : (text : List ℕ) (values : List BindingValue) → HasFoundIn mid text values → HasFoundIn f text values
   pub scanning : f.scanning ≡ mid.scanning
   pub cursor : f.cursor ≡ mid.cursor
   pub none : ready_in f.position ≡ false
@@ -221,23 +221,23 @@ record IsThrough (mid f : PieceFinderState) : Type 0 where
   pub unsure : has_ready mid ≡ true → ¬ (BeginsNew mid.cursor (left_in mid.position))
 
 same_through : (s : ScannerState) (at : Position) (cursor : CursorState) (f : PieceFinderState) → ready_in at ≡ false → f ≡ piece_finder_state s at cursor → IsThrough (piece_finder_state s at cursor) f
-same_through s at cursor f none is = subst (IsThrough (piece_finder_state s at cursor)) (sym is) (record { found = λ text bounds h. h; scanning = refl; cursor = refl; none = none; fine = λ fine. fine; fed = refl; unsure = λ ready. absurd (true_or_false _ none ready) })
+same_through s at cursor f none is = subst (IsThrough (piece_finder_state s at cursor)) (sym is) (record { found = λ text values h. h; scanning = refl; cursor = refl; none = none; fine = λ fine. fine; fed = refl; unsure = λ ready. absurd (true_or_false _ none ready) })
 
 line_through : (s : ScannerState) (p q r : PendingState) (cursor : CursorState) (f : PieceFinderState) → PassesBindings cursor p q → q.left ≡ [] → PassesBindings cursor q r → f ≡ piece_finder_state s (position.Within r) cursor → IsThrough (piece_finder_state s (position.Within p) cursor) f
 line_through s p q r cursor f first none next is =
     let nothing : r.left ≡ [] = nothing_dropped next.dropped r.left (sym none ∙ next.split) in
     let all : p.left ≡ first.dropped = first.split ∙ ap (λ l. first.dropped ++ l) none ∙ append-nil first.dropped in
     subst (IsThrough (piece_finder_state s (position.Within p) cursor)) (sym is) (record {
-      found = λ text bounds h.
+      found = λ text values h.
           let w = h.reached in
-          let mid = inside_passed text cursor w.lines w.line p q bounds h.stopped first w.inside in
-          record { stopped = h.stopped; reached = record { lines = w.lines; line = w.line; released = w.released; ready = w.ready; known = w.known; inside = inside_passed text cursor w.lines w.line q r bounds h.stopped next mid } };
+          let mid = inside_passed text cursor w.lines w.line p q values h.stopped first w.inside in
+          record { stopped = h.stopped; reached = record { lines = w.lines; line = w.line; released = w.released; ready = w.ready; known = w.known; inside = inside_passed text cursor w.lines w.line q r values h.stopped next mid } };
       scanning = refl;
       cursor = refl;
       none = ap are_left nothing;
       fine = λ fine fault e. open_or_fault (position.Within r) fault refl e;
       fed = refl;
-      unsure = λ some. not_new cursor p.left (subst (λ (l : List Bound). list_all (knows_key cursor.options.unique cursor.keys) l ≡ true) (sym all) first.known) some;
+      unsure = λ some. not_new cursor p.left (subst (λ (l : List BindingValue). list_all (knows_key cursor.options.unique cursor.keys) l ≡ true) (sym all) first.known) some;
     })
 
 through : (s : ScannerState) (at : Position) (cursor : CursorState) (f : PieceFinderState) → is_unread at ≡ false → TakesRead (piece_finder_state s at cursor) (Ok None) f → IsThrough (piece_finder_state s at cursor) f
@@ -258,7 +258,7 @@ none_by laws one ascent old mid f new (Ok done) opened reads after rests =
     let so = unread_so old mid opened reads in
     let t = through mid.scanning mid.position mid.cursor f (unread_read old mid reads) after in
     let left : IsLeft old f = record {
-      found = λ text bounds h. t.found text bounds (unread_found laws old mid text bounds (Ok tt) reads h);
+      found = λ text values h. t.found text values (unread_found laws old mid text values (Ok tt) reads h);
       fed = t.fed ∙ so.fed ∙ sym (fed_open old opened);
       ended = ap (λ (s : ScannerState). s.ended) (t.scanning ∙ so.scanning);
       options = ap (λ (c : CursorState). c.options) (t.cursor ∙ so.cursor);

@@ -7,7 +7,7 @@ use Rattle.py_lines.specs.Lexed.{IsLexed}
 use Rattle.py_lines.specs.Settled.{Decides}
 use Rattle.py_lines.specs.ScannerState.{ScannerState, fed_of, GoesOnWith, TakesBytes, MeetsFault, EndsScan, EndsFaulty}
 use Rattle.py_lines.specs.declared.fault.Fault.{Fault}
-use Rattle.py_imports.specs.Bound.{Bound}
+use Rattle.py_imports.specs.BindingValue.{BindingValue}
 use Rattle.isort_find.specs.Settled.{DecidesFound}
 use Rattle.isort_find.specs.Cursor.{CursorState, HasStopped}
 use Rattle.isort_find.specs.Position.{phase_in, skip_in}
@@ -30,8 +30,8 @@ use Rattle.isort_find.proofs.Fed.Held.{between_rest, line_any, open_ready}
 use Rattle.isort_find.proofs.Fed.TriedLines.{IsBadReady, tried_found, tried_so, tried_new, tried_ready, tried_bad, bad_decided}
 
 -- the scanner has gone on, and the lines released are the same
-moved_on : (s t : ScannerState) (cursor : CursorState) (text : List ℕ) (skip : ℕ) (bounds : List Bound) (b : IsBetweenLines s cursor text skip bounds) → HasReleased t text b.after.lines → t.place ≡ s.place → IsBetweenLines t cursor text skip bounds
-moved_on s t cursor text skip bounds b released place = record {
+moved_on : (s t : ScannerState) (cursor : CursorState) (text : List ℕ) (skip : ℕ) (values : List BindingValue) (b : IsBetweenLines s cursor text skip values) → HasReleased t text b.after.lines → t.place ≡ s.place → IsBetweenLines t cursor text skip values
+moved_on s t cursor text skip values b released place = record {
   after = record { lines = b.after.lines; before = b.after.before; part = b.after.part; given = given_of t text b.after.lines released; binds = b.after.binds; in_top = b.after.in_top; is_part = b.after.is_part; found = b.after.found };
   released = released;
   stands = moved b.stands;
@@ -42,12 +42,12 @@ moved_on s t cursor text skip bounds b released place = record {
     moved (inr e) = inr (e ∙ sym place)
 
 -- bytes were taken, and the finder is between the same lines
-taken_between : (old : PieceFinderState) (t : ScannerState) → BeginsLine old t → (s : ScannerState) (piece : List ℕ) (n : ℕ) → TakesBytes t piece n s → (text : List ℕ) (bounds : List Bound) → HasFoundIn old text bounds → GoesOnWith text (fed_by old) (take n piece) → IsBetweenLines s old.cursor text (skip_in old.position) bounds
-taken_between old t b s piece n takes text bounds h goes =
-    let between = begun_between old t b text bounds h in
+taken_between : (old : PieceFinderState) (t : ScannerState) → BeginsLine old t → (s : ScannerState) (piece : List ℕ) (n : ℕ) → TakesBytes t piece n s → (text : List ℕ) (values : List BindingValue) → HasFoundIn old text values → GoesOnWith text (fed_by old) (take n piece) → IsBetweenLines s old.cursor text (skip_in old.position) values
+taken_between old t b s piece n takes text values h goes =
+    let between = begun_between old t b text values h in
     let lines = between.after.lines in
     let scanning = begun_scanning old t b text lines between.released in
-    moved_on t s old.cursor text (skip_in old.position) bounds between (inl (takes.scans text lines scanning (subst (λ (p : ℕ). GoesOnWith text p (take n piece)) (begun_fed old t b) goes))) takes.place
+    moved_on t s old.cursor text (skip_in old.position) values between (inl (takes.scans text lines scanning (subst (λ (p : ℕ). GoesOnWith text p (take n piece)) (begun_fed old t b) goes))) takes.place
 
 taken_fed : (old : PieceFinderState) (t : ScannerState) → BeginsLine old t → (s : ScannerState) (piece : List ℕ) (n : ℕ) → TakesBytes t piece n s → fed_of s ≡ fed_by old + n
 taken_fed old t b s piece n takes = let len = ap length takes.held in let fed = begun_fed old t b in omega (arith, fed, takes.place, len, length-append t.held (take n piece), length-take-le n piece takes.within)
@@ -59,7 +59,7 @@ takes_line laws one ascent old t b s piece n takes new result ok tries =
     let so = tried_so s skip old.cursor new result ok tries in
     let ended : new.scanning.ended ≡ old.scanning.ended = ap (λ (x : ScannerState). x.ended) so.scanning ∙ takes.open_yet ∙ ended_gone old.scanning t b.scanner in
     let size : length new.scanning.held ≡ length t.held + n = ap (λ (x : ScannerState). length x.held) so.scanning ∙ ap length takes.held ∙ length-append t.held (take n piece) ∙ ap (λ k. length t.held + k) (length-take-le n piece takes.within) in
-    let found : (text : List ℕ) (bounds : List Bound) → HasFoundIn old text bounds → GoesOnWith text (fed_by old) (take n piece) → HasFoundIn new text bounds = λ text bounds h goes. tried_found laws s skip old.cursor new text bounds result (taken_between old t b s piece n takes text bounds h goes) h.stopped tries in
+    let found : (text : List ℕ) (values : List BindingValue) → HasFoundIn old text values → GoesOnWith text (fed_by old) (take n piece) → HasFoundIn new text values = λ text values h goes. tried_found laws s skip old.cursor new text values result (taken_between old t b s piece n takes text values h goes) h.stopped tries in
     record {
       advances = record {
         within = takes.within;
@@ -69,16 +69,16 @@ takes_line laws one ascent old t b s piece n takes new result ok tries =
         cursor = so.cursor;
         open_yet = ended;
       };
-      all = λ text bounds h goes none. all_settled laws one ascent new.scanning new.position new.cursor text bounds (ended ∙ b.yet) so.fine none (found text bounds h goes);
-      undecided = λ text bounds h goes none drained. all_undecided laws one ascent new.scanning new.position new.cursor text bounds (ended ∙ b.yet) so.fine drained (λ ready. lexical new so.scanning text bounds h goes ready) (found text bounds h goes);
+      all = λ text values h goes none. all_settled laws one ascent new.scanning new.position new.cursor text values (ended ∙ b.yet) so.fine none (found text values h goes);
+      undecided = λ text values h goes none drained. all_undecided laws one ascent new.scanning new.position new.cursor text values (ended ∙ b.yet) so.fine drained (λ ready. lexical new so.scanning text values h goes ready) (found text values h goes);
       next_new = tried_new s skip old.cursor new result tries;
       some = λ zero. by_some (takes.some zero);
       no_fault = so.fine;
     }
   where
-    lexical : (g : PieceFinderState) → g.scanning ≡ s → (text : List ℕ) (bounds : List Bound) → HasFoundIn old text bounds → GoesOnWith text (fed_by old) (take n piece) → g.scanning.ready ≡ None → (fault : Fault) → ¬ (Decides (take (fed_of g.scanning) text) fault)
-    lexical g is text bounds h goes ready fault =
-        let between = begun_between old t b text bounds h in
+    lexical : (g : PieceFinderState) → g.scanning ≡ s → (text : List ℕ) (values : List BindingValue) → HasFoundIn old text values → GoesOnWith text (fed_by old) (take n piece) → g.scanning.ready ≡ None → (fault : Fault) → ¬ (Decides (take (fed_of g.scanning) text) fault)
+    lexical g is text values h goes ready fault =
+        let between = begun_between old t b text values h in
         let scanning = begun_scanning old t b text between.after.lines between.released in
         subst (λ (x : ScannerState). ¬ (Decides (take (fed_of x) text) fault)) (sym is) (takes.undecided text between.after.lines scanning (subst (λ (p : ℕ). GoesOnWith text p (take n piece)) (begun_fed old t b) goes) (ap (λ (x : ScannerState). x.ready) (sym is) ∙ ready) fault)
 
@@ -134,10 +134,10 @@ pub failed_is : (old : PieceFinderState) (w new : WalkerState) (t s : ScannerSta
 failed_is old w new t s start fault is kept = ap (λ (x : WalkerState). piece_finder_state s x.position x.cursor) kept ∙ ap (λ (f : PieceFinderState). piece_finder_state s (position.Fault fault) (cursor_before f.cursor start)) is
 
 -- what is found up to a lexical fault, which the finder then has
-lexical_found : SettledLaws → (t s : ScannerState) (cursor : CursorState) (text : List ℕ) (skip : ℕ) (bounds : List Bound) (start : LineStart) (fault : Fault) (b : IsBetweenLines t cursor text skip bounds) → IsNextStart t start → IsLexed text b.after.lines (Some fault) → HasStopped text cursor bounds → HasFoundIn (piece_finder_state s (position.Fault fault) (cursor_before cursor start)) text bounds
-lexical_found laws t s cursor text skip bounds start fault b here lexed stopped =
+lexical_found : SettledLaws → (t s : ScannerState) (cursor : CursorState) (text : List ℕ) (skip : ℕ) (values : List BindingValue) (start : LineStart) (fault : Fault) (b : IsBetweenLines t cursor text skip values) → IsNextStart t start → IsLexed text b.after.lines (Some fault) → HasStopped text cursor values → HasFoundIn (piece_finder_state s (position.Fault fault) (cursor_before cursor start)) text values
+lexical_found laws t s cursor text skip values start fault b here lexed stopped =
     let is : start ≡ next_start t = (λ i. record { offset = here.offset i; line = here.line i }) in
-    subst (λ (x : LineStart). HasFoundIn (piece_finder_state s (position.Fault fault) (cursor_before cursor x)) text bounds) (sym is) (record {
+    subst (λ (x : LineStart). HasFoundIn (piece_finder_state s (position.Fault fault) (cursor_before cursor x)) text values) (sym is) (record {
       stopped = stops_before cursor (next_start t) b.after (nothing_at_end laws.ends.laws b.after (Some fault) lexed) stopped;
       reached = meets_lexical laws.ends.laws b.after fault lexed;
     })
@@ -145,8 +145,8 @@ lexical_found laws t s cursor text skip bounds start fault b here lexed stopped 
 -- the scanner meets a fault
 pub meets_fault : SettledLaws → EachIsLexed → (old : PieceFinderState) (t : ScannerState) → BeginsLine old t → (s : ScannerState) (piece : List ℕ) (fault : Fault) (start : LineStart) → IsNextStart t start → MeetsFault t piece fault s → MeetsFaultIn old piece fault (failed old s start fault)
 meets_fault laws each old t b s piece fault start here meets = record {
-  found = λ text bounds h goes. lexical_found laws t s old.cursor text (skip_in old.position) bounds start fault (begun_between old t b text bounds h) here (met text bounds h goes).3 h.stopped;
-  decided = λ text bounds h goes opened. decided text bounds h goes;
+  found = λ text values h goes. lexical_found laws t s old.cursor text (skip_in old.position) values start fault (begun_between old t b text values h) here (met text values h goes).3 h.stopped;
+  decided = λ text values h goes opened. decided text values h goes;
   none_ready = b.none;
   again = λ first was. absurd (open_or_fault old.position first b.opened was);
   was_in_top = λ top. open_or_end _ b.opened top;
@@ -157,28 +157,28 @@ meets_fault laws each old t b s piece fault start here meets = record {
   kept = refl;
 }
   where
-    met : (text : List ℕ) (bounds : List Bound) (h : HasFoundIn old text bounds) → GoesOnWith text (fed_by old) piece → (n : ℕ) × (n ≤ length piece) × Decides (take (fed_of t + n) text) fault × IsLexed text (begun_between old t b text bounds h).after.lines (Some fault)
-    met text bounds h goes =
-        let r = begun_between old t b text bounds h in
+    met : (text : List ℕ) (values : List BindingValue) (h : HasFoundIn old text values) → GoesOnWith text (fed_by old) piece → (n : ℕ) × (n ≤ length piece) × Decides (take (fed_of t + n) text) fault × IsLexed text (begun_between old t b text values h).after.lines (Some fault)
+    met text values h goes =
+        let r = begun_between old t b text values h in
         meets.decided text r.after.lines (begun_scanning old t b text r.after.lines r.released) (subst (λ (p : ℕ). GoesOnWith text p piece) (begun_fed old t b) goes)
 
-    decided : (text : List ℕ) (bounds : List Bound) → HasFoundIn old text bounds → GoesOnWith text (fed_by old) piece → DecidesWithin old piece text fault
-    decided text bounds h goes =
-        let q = met text bounds h goes in
-        let r = (begun_between old t b text bounds h).after in
+    decided : (text : List ℕ) (values : List BindingValue) → HasFoundIn old text values → GoesOnWith text (fed_by old) piece → DecidesWithin old piece text fault
+    decided text values h goes =
+        let q = met text values h goes in
+        let r = (begun_between old t b text values h).after in
         let known = take (fed_of t + q.0) text in
         let lexed = known_lexed laws each text (fed_of t + q.0) r.lines fault q.2 q.3 in
         let n = nothing_at_end laws.ends.laws r (Some fault) q.3 in
-        let now : DecidesFound known (options_for old) fault = record { bounds = bounds; found = found_lexed known (options_for old) r.lines r.before bounds (Some fault) lexed r.in_top r.binds n.found; stays = inl q.2 } in
+        let now : DecidesFound known (options_for old) fault = record { values = values; found = found_lexed known (options_for old) r.lines r.before values (Some fault) lexed r.in_top r.binds n.found; stays = inl q.2 } in
         (q.0, q.1, subst (λ (p : ℕ). DecidesFound (take (p + q.0) text) (options_for old) fault) (sym (begun_fed old t b)) now)
 
 -- the line that got ready is bad
 meets_bad_line : SettledLaws → (old : PieceFinderState) (t : ScannerState) → BeginsLine old t → (s : ScannerState) (piece : List ℕ) (n : ℕ) → TakesBytes t piece n s → (new : PieceFinderState) (result : Result (Unit {0}) FindError) (fault : Fault) → TriesReady (line_begun old s) result new → IsBadReady (line_begun old s) fault new → MeetsFaultIn old piece fault new
 meets_bad_line laws old t b s piece n takes new result fault tries bad = record {
-  found = λ text bounds h goes. tried_found laws s (skip_in old.position) old.cursor new text bounds result (taken_between old t b s piece n takes text bounds h (goes_on_with_both text (fed_by old) piece n takes.within goes).0) h.stopped tries;
-  decided = λ text bounds h goes was.
-      let between = taken_between old t b s piece n takes text bounds h (goes_on_with_both text (fed_by old) piece n takes.within goes).0 in
-      let now = bad_decided laws (line_begun old s) new text (skip_in old.position) bounds fault (takes.open_yet ∙ ended_gone old.scanning t b.scanner ∙ b.yet) bad between in
+  found = λ text values h goes. tried_found laws s (skip_in old.position) old.cursor new text values result (taken_between old t b s piece n takes text values h (goes_on_with_both text (fed_by old) piece n takes.within goes).0) h.stopped tries;
+  decided = λ text values h goes was.
+      let between = taken_between old t b s piece n takes text values h (goes_on_with_both text (fed_by old) piece n takes.within goes).0 in
+      let now = bad_decided laws (line_begun old s) new text (skip_in old.position) values fault (takes.open_yet ∙ ended_gone old.scanning t b.scanner ∙ b.yet) bad between in
       (n, takes.within, subst (λ (p : ℕ). DecidesFound (take p text) (options_for old) fault) (taken_fed old t b s piece n takes) now);
   none_ready = b.none;
   again = λ first was. absurd (open_or_fault old.position first b.opened was);
@@ -199,8 +199,8 @@ tries_bad laws old t b s piece n takes new result e answer err is tries =
 pub takes_no_byte : (old : PieceFinderState) (t : ScannerState) → BeginsLine old t → TakesNothing old (line_begun old t)
 takes_no_byte old t b = record {
   keeps = record {
-    found = λ text bounds h. record { stopped = h.stopped; reached = (begun_between old t b text bounds h, b.none_ready) };
-    rest = λ text bounds h yet none. between_rest t (skip_in old.position) old.cursor text bounds (ended_gone old.scanning t b.scanner ∙ yet) b.none_ready (begun_between old t b text bounds h);
+    found = λ text values h. record { stopped = h.stopped; reached = (begun_between old t b text values h, b.none_ready) };
+    rest = λ text values h yet none. between_rest t (skip_in old.position) old.cursor text values (ended_gone old.scanning t b.scanner ∙ yet) b.none_ready (begun_between old t b text values h);
     scanning = λ ready. absurd (true_or_false _ b.none ready);
     fed = sym (begun_fed old t b);
     cursor = refl;
@@ -214,11 +214,11 @@ takes_no_byte old t b = record {
 }
 
 -- the scanner's text has ended
-ended_between : (old : PieceFinderState) (t : ScannerState) → BeginsLine old t → (s : ScannerState) → EndsScan t s → (text : List ℕ) (bounds : List Bound) → HasFoundIn old text bounds → length text ≡ fed_by old → IsBetweenLines s old.cursor text (skip_in old.position) bounds
-ended_between old t b s ends text bounds h all =
-    let between = begun_between old t b text bounds h in
+ended_between : (old : PieceFinderState) (t : ScannerState) → BeginsLine old t → (s : ScannerState) → EndsScan t s → (text : List ℕ) (values : List BindingValue) → HasFoundIn old text values → length text ≡ fed_by old → IsBetweenLines s old.cursor text (skip_in old.position) values
+ended_between old t b s ends text values h all =
+    let between = begun_between old t b text values h in
     let lines = between.after.lines in
-    moved_on t s old.cursor text (skip_in old.position) bounds between (inr (ends.scans text lines (begun_scanning old t b text lines between.released) (all ∙ begun_fed old t b))) ends.place
+    moved_on t s old.cursor text (skip_in old.position) values between (inr (ends.scans text lines (begun_scanning old t b text lines between.released) (all ∙ begun_fed old t b))) ends.place
 
 ended_fed : (old : PieceFinderState) (t : ScannerState) → BeginsLine old t → (s : ScannerState) → EndsScan t s → fed_of s ≡ fed_by old
 ended_fed old t b s ends = let held = ap length ends.held in let start = begun_fed old t b in omega (arith, ends.place, held, start)
@@ -227,12 +227,12 @@ ended_fed old t b s ends = let held = ap length ends.held in let start = begun_f
 ends_line : SettledLaws → (old : PieceFinderState) (t : ScannerState) → BeginsLine old t → (s : ScannerState) → EndsScan t s → (new : PieceFinderState) (result : Result (Unit {0}) FindError) → result ≡ Ok tt → TriesReady (line_begun old s) result new → FinishesText old new
 ends_line laws old t b s ends new result ok tries =
     let so = tried_so s (skip_in old.position) old.cursor new result ok tries in
-    let found : (text : List ℕ) (bounds : List Bound) → HasFoundIn old text bounds → length text ≡ fed_by old → HasFoundIn new text bounds = λ text bounds h all. tried_found laws s (skip_in old.position) old.cursor new text bounds result (ended_between old t b s ends text bounds h all) h.stopped tries in
+    let found : (text : List ℕ) (values : List BindingValue) → HasFoundIn old text values → length text ≡ fed_by old → HasFoundIn new text values = λ text values h all. tried_found laws s (skip_in old.position) old.cursor new text values result (ended_between old t b s ends text values h all) h.stopped tries in
     record {
       found = found;
-      line = λ text bounds h all ready.
+      line = λ text values h all ready.
           let line = tried_ready (line_begun old s) new result refl tries ready in
-          line_any new.scanning new.position new.cursor text bounds line.0 (open_ready new.position ready) (ap (λ (x : ScannerState). x.ready) so.scanning ∙ line.1) (found text bounds h all);
+          line_any new.scanning new.position new.cursor text values line.0 (open_ready new.position ready) (ap (λ (x : ScannerState). x.ready) so.scanning ∙ line.1) (found text values h all);
       next_new = tried_new s (skip_in old.position) old.cursor new result tries;
       cursor = so.cursor;
       fed = so.fed ∙ ended_fed old t b s ends;
@@ -245,7 +245,7 @@ ends_bad : SettledLaws → (old : PieceFinderState) (t : ScannerState) → Begin
 ends_bad laws old t b s ends new result e err tries =
     let bad = tried_bad (line_begun old s) new result e err tries in
     subst (λ (x : FindError). EndsFeeding old (Err x) new) (sym bad.is) (record {
-      found = λ text bounds h all. tried_found laws s (skip_in old.position) old.cursor new text bounds result (ended_between old t b s ends text bounds h all) h.stopped tries;
+      found = λ text values h all. tried_found laws s (skip_in old.position) old.cursor new text values result (ended_between old t b s ends text values h all) h.stopped tries;
       again = λ first was. absurd (open_or_fault old.position first b.opened was);
       was_in_top = λ top. open_or_end _ b.opened top;
       options = ap options_for bad.bad.kept;
@@ -261,9 +261,9 @@ ends_tried laws old t b s ends new (Err e) tries = ends_bad laws old t b s ends 
 -- the text may not end so
 pub ends_lexical : SettledLaws → (old : PieceFinderState) (t : ScannerState) → BeginsLine old t → (s : ScannerState) (fault : Fault) (start : LineStart) → IsNextStart t start → EndsFaulty t fault s → EndsInFault old fault (failed old s start fault)
 ends_lexical laws old t b s fault start here ends = record {
-  found = λ text bounds h all.
-      let r = begun_between old t b text bounds h in
-      lexical_found laws t s old.cursor text (skip_in old.position) bounds start fault r here (ends.all text r.after.lines (begun_scanning old t b text r.after.lines r.released) (all ∙ begun_fed old t b)) h.stopped;
+  found = λ text values h all.
+      let r = begun_between old t b text values h in
+      lexical_found laws t s old.cursor text (skip_in old.position) values start fault r here (ends.all text r.after.lines (begun_scanning old t b text r.after.lines r.released) (all ∙ begun_fed old t b)) h.stopped;
   again = λ first was. absurd (open_or_fault old.position first b.opened was);
   was_in_top = λ top. open_or_end _ b.opened top;
   options = refl;

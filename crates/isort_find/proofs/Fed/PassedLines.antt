@@ -5,7 +5,7 @@ use Rattle.std.proofs.lemmas.List.Folds.{list_all-append}
 use Rattle.std.specs.List.{flat_map}
 use Rattle.py_lines.specs.LogicalLine.{LogicalLine}
 use Rattle.py_lines.specs.ScannerState.{ScannerState, GoesOnWith, IsScanning, PassesPieceLines}
-use Rattle.py_imports.specs.Bound.{Bound}
+use Rattle.py_imports.specs.BindingValue.{BindingValue}
 use Rattle.py_imports.specs.Binds.{BindAll}
 use Rattle.py_imports.specs.Declaration.{is_declaration}
 use Rattle.py_imports.specs.FirstWords.{BeginNowhere}
@@ -26,8 +26,8 @@ counts_all options [] counts = refl
 counts_all options (l ∷ ls) counts = (λ i. not (counts i && is_declaration l) && counts_all options ls counts i)
 
 -- after more lines, which bind nothing, the same was found
-passed_between : (t s : ScannerState) (cursor : CursorState) (text : List ℕ) (skip : ℕ) (bounds : List Bound) (lines : List LogicalLine) (b : IsBetweenLines t cursor text skip bounds) → skip ≡ 0 → cursor.options.top_only ≡ false → BindAll lines [] → IsScanning s text (b.after.lines ++ lines) → IsBetweenLines s cursor text skip bounds
-passed_between t s cursor text skip bounds lines b fresh counts binds scanning =
+passed_between : (t s : ScannerState) (cursor : CursorState) (text : List ℕ) (skip : ℕ) (values : List BindingValue) (lines : List LogicalLine) (b : IsBetweenLines t cursor text skip values) → skip ≡ 0 → cursor.options.top_only ≡ false → BindAll lines [] → IsScanning s text (b.after.lines ++ lines) → IsBetweenLines s cursor text skip values
+passed_between t s cursor text skip values lines b fresh counts binds scanning =
     let after = b.after in
     let none : after.part ≡ [] = nil_from_length after.part (sym after.is_part.0 ∙ fresh) in
     record {
@@ -46,14 +46,14 @@ passed_between t s cursor text skip bounds lines b fresh counts binds scanning =
     }
 
 -- the finder goes on after bytes that were passed over, with its line let go
-gone_on : (old : PieceFinderState) (t : ScannerState) → BeginsLine old t → (s : ScannerState) (piece : List ℕ) (n : ℕ) → n ≤ length piece → s.place ≡ t.place + n → s ≡ record t { place = s.place; line = s.line } → InEachText old (take n piece) (λ text bounds. IsBetweenLines s old.cursor text (skip_in old.position) bounds) → PassesLines old piece n (line_begun old s)
+gone_on : (old : PieceFinderState) (t : ScannerState) → BeginsLine old t → (s : ScannerState) (piece : List ℕ) (n : ℕ) → n ≤ length piece → s.place ≡ t.place + n → s ≡ record t { place = s.place; line = s.line } → InEachText old (take n piece) (λ text values. IsBetweenLines s old.cursor text (skip_in old.position) values) → PassesLines old piece n (line_begun old s)
 gone_on old t b s piece n within place same between =
     let held : length s.held ≡ length t.held = ap (λ (x : ScannerState). length x.held) same in
     let none = ap (λ (x : ScannerState). x.ready) same ∙ b.none_ready in
     record {
       advances = record {
         within = within;
-        found = λ text bounds h goes. record { stopped = h.stopped; reached = (between text bounds h goes, none) };
+        found = λ text values h goes. record { stopped = h.stopped; reached = (between text values h goes, none) };
         held = (let k = begun_held old t b in omega (arith, held, k));
         fed = (let k = begun_fed old t b in omega (arith, place, held, k));
         cursor = refl;
@@ -65,19 +65,19 @@ gone_on old t b s piece n within place same between =
 
 -- no line is passed over
 pub passes_none : (old : PieceFinderState) (t : ScannerState) → BeginsLine old t → (piece : List ℕ) → PassesLines old piece 0 (line_begun old t)
-passes_none old t b piece = gone_on old t b t piece 0 (omega arith) (omega arith) refl (λ text bounds h goes. begun_between old t b text bounds h)
+passes_none old t b piece = gone_on old t b t piece 0 (omega arith) (omega arith) refl (λ text values h goes. begun_between old t b text values h)
 
 -- lines are passed over that bind nothing
 pub passes_lines : (old : PieceFinderState) (t : ScannerState) → BeginsLine old t → (s : ScannerState) (piece : List ℕ) (before len : ℕ) (p : PassesPieceLines t piece before len s) → skip_in old.position ≡ 0 → old.cursor.options.top_only ≡ false → BindAll p.lines [] → PassesLines old piece len (line_begun old s)
 passes_lines old t b s piece before len p fresh counts binds = gone_on old t b s piece len p.within p.place p.others (by len refl)
   where
-    by : (n : ℕ) → len ≡ n → (text : List ℕ) (bounds : List Bound) → HasFoundIn old text bounds → GoesOnWith text (fed_by old) (take len piece) → IsBetweenLines s old.cursor text (skip_in old.position) bounds
-    by zero none text bounds h goes = subst (λ (x : ScannerState). IsBetweenLines x old.cursor text (skip_in old.position) bounds) (sym (p.same none)) (begun_between old t b text bounds h)
-    by (suc n) some text bounds h goes =
-        let between = begun_between old t b text bounds h in
+    by : (n : ℕ) → len ≡ n → (text : List ℕ) (values : List BindingValue) → HasFoundIn old text values → GoesOnWith text (fed_by old) (take len piece) → IsBetweenLines s old.cursor text (skip_in old.position) values
+    by zero none text values h goes = subst (λ (x : ScannerState). IsBetweenLines x old.cursor text (skip_in old.position) values) (sym (p.same none)) (begun_between old t b text values h)
+    by (suc n) some text values h goes =
+        let between = begun_between old t b text values h in
         let lines = between.after.lines in
         let here = subst (λ (k : ℕ). GoesOnWith text k (take len piece)) (begun_fed old t b) goes in
-        passed_between t s old.cursor text (skip_in old.position) bounds p.lines between fresh counts binds (p.scans (omega (arith, some)) text lines (begun_scanning old t b text lines between.released) here).0
+        passed_between t s old.cursor text (skip_in old.position) values p.lines between fresh counts binds (p.scans (omega (arith, some)) text lines (begun_scanning old t b text lines between.released) here).0
 
 -- the lines that a scanner passes over before either word begins bind nothing
 pub passed_bind : (piece : List ℕ) (start stop before len : ℕ) (lines : List LogicalLine)

@@ -5,7 +5,7 @@ use Rattle.std.proofs.lemmas.List.{length-map}
 use Rattle.py_lines.specs.LogicalLine.{LogicalLine}
 use Rattle.py_lines.specs.ScannerState.{ScannerState, fed_of}
 use Rattle.py_lines.specs.declared.fault.Fault.{Fault}
-use Rattle.py_imports.specs.Bound.{Bound, bound_of}
+use Rattle.py_imports.specs.BindingValue.{BindingValue, binding_value}
 use Rattle.py_imports.specs.declared.binding.Binding.{Binding}
 use Rattle.isort_find.specs.Cursor.{CursorState, next_count, knows_key, BeginsNew}
 use Rattle.isort_find.specs.Pending.{PendingState}
@@ -40,14 +40,14 @@ tries_held : (f new : PieceFinderState) (result : Result (Unit {0}) FindError) �
 tries_held f new result h = record { line = h.line; start = h.start; walker = h.walker; at = h.at; does = reads_tries (walker_of f) h.walker h.line h.start result h.does; same = h.same }
 
 -- the line that was left unread was read
-pub ready_found : SettledLaws → (s : ScannerState) (at : Position) (cursor : CursorState) (new : PieceFinderState) (text : List ℕ) (bounds : List Bound) (result : Result (Unit {0}) FindError) → is_unread at ≡ true → ReadsReady (piece_finder_state s at cursor) result new → HasFoundIn (piece_finder_state s at cursor) text bounds → HasFoundIn new text bounds
-ready_found laws s (position.Unread start skip) cursor new text bounds result unread (inl none) h = subst (λ (f : PieceFinderState). HasFoundIn f text bounds) (sym none.2) (record { stopped = h.stopped; reached = (h.reached, none.0) })
-ready_found laws s (position.Unread start skip) cursor new text bounds result unread (inr held) h = held_found laws s (position.Unread start skip) cursor new text bounds (tried_result result) h.reached h.stopped (tries_held _ new result held)
-ready_found laws s other cursor new text bounds result unread reads h = absurd cc
+pub ready_found : SettledLaws → (s : ScannerState) (at : Position) (cursor : CursorState) (new : PieceFinderState) (text : List ℕ) (values : List BindingValue) (result : Result (Unit {0}) FindError) → is_unread at ≡ true → ReadsReady (piece_finder_state s at cursor) result new → HasFoundIn (piece_finder_state s at cursor) text values → HasFoundIn new text values
+ready_found laws s (position.Unread start skip) cursor new text values result unread (inl none) h = subst (λ (f : PieceFinderState). HasFoundIn f text values) (sym none.2) (record { stopped = h.stopped; reached = (h.reached, none.0) })
+ready_found laws s (position.Unread start skip) cursor new text values result unread (inr held) h = held_found laws s (position.Unread start skip) cursor new text values (tried_result result) h.reached h.stopped (tries_held _ new result held)
+ready_found laws s other cursor new text values result unread reads h = absurd cc
 
-pub unread_found : SettledLaws → (old mid : PieceFinderState) (text : List ℕ) (bounds : List Bound) (result : Result (Unit {0}) FindError) → ReadsUnread old result mid → HasFoundIn old text bounds → HasFoundIn mid text bounds
-unread_found laws old mid text bounds result (inl read) h = ready_found laws old.scanning old.position old.cursor mid text bounds result read.0 read.1 h
-unread_found laws old mid text bounds result (inr here) h = subst (λ (f : PieceFinderState). HasFoundIn f text bounds) (sym here.2) h
+pub unread_found : SettledLaws → (old mid : PieceFinderState) (text : List ℕ) (values : List BindingValue) (result : Result (Unit {0}) FindError) → ReadsUnread old result mid → HasFoundIn old text values → HasFoundIn mid text values
+unread_found laws old mid text values result (inl read) h = ready_found laws old.scanning old.position old.cursor mid text values result read.0 read.1 h
+unread_found laws old mid text values result (inr here) h = subst (λ (f : PieceFinderState). HasFoundIn f text values) (sym here.2) h
 
 ready_so : (s : ScannerState) (at : Position) (cursor : CursorState) (new : PieceFinderState) → is_unread at ≡ true → ReadsReady (piece_finder_state s at cursor) (Ok tt) new → TriedSo (piece_finder_state s at cursor) new
 ready_so s (position.Unread start skip) cursor new unread (inl none) = subst (TriedSo (piece_finder_state s (position.Unread start skip) cursor)) (sym none.2) (record { scanning = refl; cursor = refl; fine = λ fault e. cc; fed = refl })
@@ -86,9 +86,9 @@ ready_due s (position.Unread start skip) cursor new unread (inr held) = let same
   where
     by_step : (x : Step) → FollowsStep (walker_state (position.Unread start skip) cursor) held.start x (Ok tt) held.walker → due_in held.walker.position ≤ 2 ^ 64
     by_step (step.Bindings bindings) follows =
-        let bs = map bound_of bindings.items in
+        let bs = map binding_value bindings.items in
         let now : due_in held.walker.position ≡ length (drop skip bs) = ap (λ (w : WalkerState). due_in w.position) follows.1 in
-        omega (arith, now, length-drop skip bs, length-map bindings.items bound_of, bindings.ok, bindings.small)
+        omega (arith, now, length-drop skip bs, length-map bindings.items binding_value, bindings.ok, bindings.small)
     by_step step.Plain follows = let now : due_in held.walker.position ≡ 0 = ap (λ (w : WalkerState). due_in w.position) follows.1 in omega (arith, now)
     by_step step.End follows = let now : due_in held.walker.position ≡ 0 = ap (λ (w : WalkerState). due_in w.position) follows.1 in omega (arith, now)
     by_step (step.Fault fault) follows = absurd (not_ok _ _ follows.0 refl)
@@ -105,7 +105,7 @@ unread_ready (position.Unread start skip) unread = refl
 unread_ready other unread = absurd cc
 
 -- a binding was taken of a line, and those after it were looked at
-record Took (mid : PieceFinderState) (b : Bound) (new : PieceFinderState) : Type 0 where
+record Took (mid : PieceFinderState) (b : BindingValue) (new : PieceFinderState) : Type 0 where
   pub pending : PendingState
   pub at : mid.position ≡ position.Within pending
   pub cursor : CursorState
@@ -119,7 +119,7 @@ record Took (mid : PieceFinderState) (b : Bound) (new : PieceFinderState) : Type
 some_is_none : (x : Binding) → ◌≡◌ {A = Result (Option Binding) FindError} (Ok (Some x)) (Ok None) → ⊥
 some_is_none x h = cc
 
-took : (s : ScannerState) (at : Position) (cursor : CursorState) (x : Binding) (new : PieceFinderState) → TakesRead (piece_finder_state s at cursor) (Ok (Some x)) new → Took (piece_finder_state s at cursor) (bound_of x) new
+took : (s : ScannerState) (at : Position) (cursor : CursorState) (x : Binding) (new : PieceFinderState) → TakesRead (piece_finder_state s at cursor) (Ok (Some x)) new → Took (piece_finder_state s at cursor) (binding_value x) new
 took s (position.Within p) cursor x new k =
     let looks = subst (λ (w : WalkerState). LooksAhead w k.walker) k.takes.same k.looks in
     record { pending = p; at = refl; cursor = k.mid.cursor; rest = k.takes.rest; last = looks.rest; takes = k.takes.takes; passes = looks.passes; ahead = looks.next_new; same = k.same ∙ ap (λ (w : WalkerState). piece_finder_state s w.position w.cursor) looks.same }
@@ -129,41 +129,41 @@ took s (position.End passed) cursor x new k = absurd (some_is_none x k.takes.0)
 took s (position.Fault fault) cursor x new k = absurd (some_is_none x k.takes.0)
 
 -- what there is then
-record HasTookOne (s : ScannerState) (cursor : CursorState) (last : PendingState) (text : List ℕ) (bounds : List Bound) (b : Bound) : Type 0 where
-  pub found : HasFoundIn (piece_finder_state s (position.Within last) cursor) text (bounds ++ b ∷ [])
-  pub within : IsWithinLine s cursor.options text last (bounds ++ b ∷ [])
+record HasTookOne (s : ScannerState) (cursor : CursorState) (last : PendingState) (text : List ℕ) (values : List BindingValue) (b : BindingValue) : Type 0 where
+  pub found : HasFoundIn (piece_finder_state s (position.Within last) cursor) text (values ++ b ∷ [])
+  pub within : IsWithinLine s cursor.options text last (values ++ b ∷ [])
   pub from : BindsFrom text cursor.offset b
 
-took_one : (s : ScannerState) (cursor t : CursorState) (p rest last : PendingState) (b : Bound) (text : List ℕ) (bounds : List Bound) → TakesNew cursor p b t rest → PassesBindings t rest last → HasFoundIn (piece_finder_state s (position.Within p) cursor) text bounds → HasTookOne s t last text bounds b
-took_one s cursor t p rest last b text bounds takes passes h =
+took_one : (s : ScannerState) (cursor t : CursorState) (p rest last : PendingState) (b : BindingValue) (text : List ℕ) (values : List BindingValue) → TakesNew cursor p b t rest → PassesBindings t rest last → HasFoundIn (piece_finder_state s (position.Within p) cursor) text values → HasTookOne s t last text values b
+took_one s cursor t p rest last b text values takes passes h =
     let w = h.reached in
-    let g = one_given text cursor t w.lines w.line p rest bounds b h.stopped takes w.inside in
-    let within : IsWithinLine s t.options text last (bounds ++ b ∷ []) = record { lines = w.lines; line = w.line; released = w.released; ready = w.ready; known = w.known; inside = inside_passed text t w.lines w.line rest last (bounds ++ b ∷ []) g.stopped passes g.inside } in
+    let g = one_given text cursor t w.lines w.line p rest values b h.stopped takes w.inside in
+    let within : IsWithinLine s t.options text last (values ++ b ∷ []) = record { lines = w.lines; line = w.line; released = w.released; ready = w.ready; known = w.known; inside = inside_passed text t w.lines w.line rest last (values ++ b ∷ []) g.stopped passes g.inside } in
     record { found = record { stopped = g.stopped; reached = within }; within = within; from = g.from }
 
-left_of_split : (dropped left : List Bound) (b : Bound) (rest : List Bound) → left ≡ dropped ++ b ∷ rest → are_left left ≡ true
+left_of_split : (dropped left : List BindingValue) (b : BindingValue) (rest : List BindingValue) → left ≡ dropped ++ b ∷ rest → are_left left ≡ true
 left_of_split [] left b rest h = ap are_left h
 left_of_split (d ∷ ds) left b rest h = ap are_left h
 
 -- a line was left unread, or bindings are left
-ready_before : (old mid : PieceFinderState) (left : List Bound) (r : Result (Unit {0}) FindError) → ReadsUnread old r mid → ready_in mid.position ≡ true → has_ready old ≡ true
+ready_before : (old mid : PieceFinderState) (left : List BindingValue) (r : Result (Unit {0}) FindError) → ReadsUnread old r mid → ready_in mid.position ≡ true → has_ready old ≡ true
 ready_before old mid left r (inl read) ready = unread_ready old.position read.0
 ready_before old mid left r (inr here) ready = ap has_ready (sym here.2) ∙ ready
 
 -- a binding was taken
-given_after : SettledLaws → OneSettled → (old mid new : PieceFinderState) (b : Bound) → phase_in old.position ≡ phase.Open → ReadsUnread old (Ok tt) mid → Took mid b new → GivesBinding old b new
+given_after : SettledLaws → OneSettled → (old mid new : PieceFinderState) (b : BindingValue) → phase_in old.position ≡ phase.Open → ReadsUnread old (Ok tt) mid → Took mid b new → GivesBinding old b new
 given_after laws one old mid new b opened reads k =
     let so = unread_so old mid opened reads in
     let at : mid ≡ piece_finder_state mid.scanning (position.Within k.pending) mid.cursor = ap (λ (s : Position). piece_finder_state mid.scanning s mid.cursor) k.at in
     let cursor = gives_at mid.cursor k.cursor k.pending k.rest b k.takes in
     let scanning : new.scanning ≡ old.scanning = ap (λ (f : PieceFinderState). f.scanning) k.same ∙ so.scanning in
-    let here : (text : List ℕ) (bounds : List Bound) → HasFoundIn old text bounds → HasTookOne mid.scanning k.cursor k.last text bounds b = λ text bounds h. took_one mid.scanning mid.cursor k.cursor k.pending k.rest k.last b text bounds k.takes k.passes (subst (λ (f : PieceFinderState). HasFoundIn f text bounds) at (unread_found laws old mid text bounds (Ok tt) reads h)) in
+    let here : (text : List ℕ) (values : List BindingValue) → HasFoundIn old text values → HasTookOne mid.scanning k.cursor k.last text values b = λ text values h. took_one mid.scanning mid.cursor k.cursor k.pending k.rest k.last b text values k.takes k.passes (subst (λ (f : PieceFinderState). HasFoundIn f text values) at (unread_found laws old mid text values (Ok tt) reads h)) in
     let ready : ready_in mid.position ≡ true = ap ready_in k.at ∙ left_of_split k.takes.passes.dropped k.pending.left b k.rest.left (k.takes.passes.split ∙ ap (λ l. k.takes.passes.dropped ++ l) k.takes.looks.left) in
     record {
-      found = λ text bounds h. subst (λ (f : PieceFinderState). HasFoundIn f text (bounds ++ b ∷ [])) (sym k.same) (here text bounds h).found;
-      settled = λ text bounds h yet. subst (λ (f : PieceFinderState). AreSettled f text (bounds ++ b ∷ [])) (sym k.same) (given_settled laws one mid.scanning k.cursor text k.last (bounds ++ b ∷ []) (ap (λ (s : ScannerState). s.ended) so.scanning ∙ yet) (here text bounds h).within);
-      offset = λ text bounds h. subst (λ (f : PieceFinderState). BindsFrom text f.cursor.offset b) (sym k.same) (here text bounds h).from;
-      line = λ text bounds h. subst (λ (f : PieceFinderState). HoldsLine f text) (sym k.same) (line_any mid.scanning (position.Within k.last) k.cursor text (bounds ++ b ∷ []) (here text bounds h).within.line refl (here text bounds h).within.ready (here text bounds h).found);
+      found = λ text values h. subst (λ (f : PieceFinderState). HasFoundIn f text (values ++ b ∷ [])) (sym k.same) (here text values h).found;
+      settled = λ text values h yet. subst (λ (f : PieceFinderState). AreSettled f text (values ++ b ∷ [])) (sym k.same) (given_settled laws one mid.scanning k.cursor text k.last (values ++ b ∷ []) (ap (λ (s : ScannerState). s.ended) so.scanning ∙ yet) (here text values h).within);
+      offset = λ text values h. subst (λ (f : PieceFinderState). BindsFrom text f.cursor.offset b) (sym k.same) (here text values h).from;
+      line = λ text values h. subst (λ (f : PieceFinderState). HoldsLine f text) (sym k.same) (line_any mid.scanning (position.Within k.last) k.cursor text (values ++ b ∷ []) (here text values h).within.line refl (here text values h).within.ready (here text values h).found);
       was_ready = ready_before old mid [] (Ok tt) reads ready;
       next_new = subst IsNextNew (sym k.same) k.ahead;
       falls =
@@ -184,19 +184,19 @@ given_after laws one old mid new b opened reads k =
 ok_or_error : (x : Option Binding) (e : FindError) (r : Result (Option Binding) FindError) → r ≡ Ok x → r ≡ Err e → ⊥
 ok_or_error x e r h k = cc
 
-gives_by : SettledLaws → OneSettled → (old mid new : PieceFinderState) (x : Binding) (r : Result (Unit {0}) FindError) → phase_in old.position ≡ phase.Open → ReadsUnread old r mid → TakesAfter r mid (Ok (Some x)) new → GivesBinding old (bound_of x) new
-gives_by laws one old mid new x (Ok done) opened reads after = given_after laws one old mid new (bound_of x) opened reads (took mid.scanning mid.position mid.cursor x new after)
+gives_by : SettledLaws → OneSettled → (old mid new : PieceFinderState) (x : Binding) (r : Result (Unit {0}) FindError) → phase_in old.position ≡ phase.Open → ReadsUnread old r mid → TakesAfter r mid (Ok (Some x)) new → GivesBinding old (binding_value x) new
+gives_by laws one old mid new x (Ok done) opened reads after = given_after laws one old mid new (binding_value x) opened reads (took mid.scanning mid.position mid.cursor x new after)
 gives_by laws one old mid new x (Err e) opened reads after = absurd (ok_or_error (Some x) e (Ok (Some x)) refl after.0)
 
 -- the next binding was given
-pub gives_binding : SettledLaws → OneSettled → (old new : PieceFinderState) (x : Binding) → phase_in old.position ≡ phase.Open → TakesReady old (Ok (Some x)) new → GivesBinding old (bound_of x) new
+pub gives_binding : SettledLaws → OneSettled → (old new : PieceFinderState) (x : Binding) → phase_in old.position ≡ phase.Open → TakesReady old (Ok (Some x)) new → GivesBinding old (binding_value x) new
 gives_binding laws one old new x opened t = gives_by laws one old t.mid new x t.read opened t.reads t.takes
 
 -- the last line is bad
-bad_line : SettledLaws → (s : ScannerState) (start : LineStart) (skip : ℕ) (cursor : CursorState) (new : PieceFinderState) (fault : Fault) → IsBadReady (piece_finder_state s (position.Unread start skip) cursor) fault new → ((text : List ℕ) (bounds : List Bound) → HasFoundIn (piece_finder_state s (position.Unread start skip) cursor) text bounds → HasFoundIn new text bounds) → GivesFault (piece_finder_state s (position.Unread start skip) cursor) fault new
+bad_line : SettledLaws → (s : ScannerState) (start : LineStart) (skip : ℕ) (cursor : CursorState) (new : PieceFinderState) (fault : Fault) → IsBadReady (piece_finder_state s (position.Unread start skip) cursor) fault new → ((text : List ℕ) (values : List BindingValue) → HasFoundIn (piece_finder_state s (position.Unread start skip) cursor) text values → HasFoundIn new text values) → GivesFault (piece_finder_state s (position.Unread start skip) cursor) fault new
 bad_line laws s start skip cursor new fault bad found = record {
   found = found;
-  decided = λ text bounds h yet. bad_decided laws (piece_finder_state s (position.Unread start skip) cursor) new text skip bounds fault yet bad h.reached;
+  decided = λ text values h yet. bad_decided laws (piece_finder_state s (position.Unread start skip) cursor) new text skip values fault yet bad h.reached;
   unread = refl;
   was_open = refl;
   options = ap options_for bad.kept;
@@ -210,8 +210,8 @@ bad_line laws s start skip cursor new fault bad found = record {
 lost_again : (s : ScannerState) (start here : LineStart) (skip : ℕ) (cursor : CursorState) (new : PieceFinderState) → new ≡ piece_finder_state s (position.Unread here skip) cursor → PieceFinderRunsOut (piece_finder_state s (position.Unread start skip) cursor) new × (true ≡ true) × StaysNew (piece_finder_state s (position.Unread start skip) cursor) new
 lost_again s start here skip cursor new is = (
   subst (PieceFinderRunsOut (piece_finder_state s (position.Unread start skip) cursor)) (sym is) (record {
-    found = λ text bounds h. record { stopped = h.stopped; reached = h.reached };
-    rest = λ text bounds h yet none. absurd (true_or_false _ none refl);
+    found = λ text values h. record { stopped = h.stopped; reached = h.reached };
+    rest = λ text values h yet none. absurd (true_or_false _ none refl);
     scanning = λ was. refl;
     fed = refl;
     cursor = refl;
@@ -231,7 +231,7 @@ error_of : (e other : FindError) (a : Result (Option Binding) FindError) → a �
 error_of e other a h k = cc
 
 -- an error of reading the line
-step_error : SettledLaws → (s : ScannerState) (start here : LineStart) (skip : ℕ) (cursor : CursorState) (new : PieceFinderState) (line : LogicalLine) (x : Step) (w : WalkerState) (e : FindError) → HasReady s line here → Judges cursor.options line x → FollowsStep (walker_state (position.Unread start skip) cursor) here x (Err e) w → new ≡ piece_finder_state s w.position w.cursor → ((text : List ℕ) (bounds : List Bound) → HasFoundIn (piece_finder_state s (position.Unread start skip) cursor) text bounds → HasFoundIn new text bounds) → GivesReady (piece_finder_state s (position.Unread start skip) cursor) (Err e) new
+step_error : SettledLaws → (s : ScannerState) (start here : LineStart) (skip : ℕ) (cursor : CursorState) (new : PieceFinderState) (line : LogicalLine) (x : Step) (w : WalkerState) (e : FindError) → HasReady s line here → Judges cursor.options line x → FollowsStep (walker_state (position.Unread start skip) cursor) here x (Err e) w → new ≡ piece_finder_state s w.position w.cursor → ((text : List ℕ) (values : List BindingValue) → HasFoundIn (piece_finder_state s (position.Unread start skip) cursor) text values → HasFoundIn new text values) → GivesReady (piece_finder_state s (position.Unread start skip) cursor) (Err e) new
 step_error laws s start here skip cursor new line (step.Bindings bindings) w e at judged follows same found = absurd (not_ok e (Err e) refl follows.0)
 step_error laws s start here skip cursor new line step.Plain w e at judged follows same found = absurd judged
 step_error laws s start here skip cursor new line step.End w e at judged follows same found = absurd (not_ok e (Err e) refl follows.0)
@@ -244,14 +244,14 @@ step_error laws s start here skip cursor new line step.NoMemory w e at judged fo
 
 read_error : SettledLaws → (s : ScannerState) (at : Position) (cursor : CursorState) (new : PieceFinderState) (e : FindError) → is_unread at ≡ true → ReadsReady (piece_finder_state s at cursor) (Err e) new → GivesReady (piece_finder_state s at cursor) (Err e) new
 read_error laws s (position.Unread start skip) cursor new e unread (inl none) = absurd (not_ok e (Err e) refl none.1)
-read_error laws s (position.Unread start skip) cursor new e unread (inr h) = step_error laws s start h.start skip cursor new h.line h.does.step h.walker e h.at h.does.judges h.does.follows h.same (λ text bounds found. ready_found laws s (position.Unread start skip) cursor new text bounds (Err e) refl (inr h) found)
+read_error laws s (position.Unread start skip) cursor new e unread (inr h) = step_error laws s start h.start skip cursor new h.line h.does.step h.walker e h.at h.does.judges h.does.follows h.same (λ text values found. ready_found laws s (position.Unread start skip) cursor new text values (Err e) refl (inr h) found)
 read_error laws s other cursor new e unread reads = absurd cc
 
-nonempty : (left : List Bound) → (left ≡ [] → ⊥) → are_left left ≡ true
+nonempty : (left : List BindingValue) → (left ≡ [] → ⊥) → are_left left ≡ true
 nonempty [] h = absurd (h refl)
 nonempty (b ∷ bs) h = refl
 
-split_nonempty : (dropped left : List Bound) → (left ≡ [] → ⊥) → are_left (dropped ++ left) ≡ true
+split_nonempty : (dropped left : List BindingValue) → (left ≡ [] → ⊥) → are_left (dropped ++ left) ≡ true
 split_nonempty [] left h = nonempty left h
 split_nonempty (d ∷ ds) left h = refl
 
@@ -261,7 +261,7 @@ read_new old mid (inl read) none next = absurd (true_or_false _ none read.0)
 read_new old mid (inr here) none next = subst IsNextNew (sym here.2) next
 
 -- and so what is left, where bindings with known keys were passed over
-left_new : (s : CursorState) (dropped left : List Bound) → list_all (knows_key s.options.unique s.keys) dropped ≡ true → BeginsNew s (dropped ++ left) → BeginsNew s left
+left_new : (s : CursorState) (dropped left : List BindingValue) → list_all (knows_key s.options.unique s.keys) dropped ≡ true → BeginsNew s (dropped ++ left) → BeginsNew s left
 left_new s [] left known next = next
 left_new s (d ∷ ds) left known next = absurd (true_or_false _ next (first_known s d ds known))
 
@@ -272,11 +272,11 @@ passed_over laws old s p q cursor new opened reads passes some is =
     let so = unread_so old mid opened reads in
     let before = ready_before old mid [] (Ok tt) reads (ap are_left passes.split ∙ split_nonempty passes.dropped q.left some) in (
       subst (PieceFinderRunsOut old) (sym is) (record {
-        found = λ text bounds h.
-            let g = unread_found laws old mid text bounds (Ok tt) reads h in
+        found = λ text values h.
+            let g = unread_found laws old mid text values (Ok tt) reads h in
             let w = g.reached in
-            record { stopped = g.stopped; reached = record { lines = w.lines; line = w.line; released = w.released; ready = w.ready; known = w.known; inside = inside_passed text cursor w.lines w.line p q bounds g.stopped passes w.inside } };
-        rest = λ text bounds h yet none. absurd (true_or_false _ none before);
+            record { stopped = g.stopped; reached = record { lines = w.lines; line = w.line; released = w.released; ready = w.ready; known = w.known; inside = inside_passed text cursor w.lines w.line p q values g.stopped passes w.inside } };
+        rest = λ text values h yet none. absurd (true_or_false _ none before);
         scanning = λ was. so.scanning;
         fed = so.fed ∙ sym (fed_open old opened);
         cursor = so.cursor;

@@ -5,7 +5,7 @@ use Rattle.py_lines.specs.LogicalLine.{LogicalLine}
 use Rattle.py_lines.specs.Settled.{IsSettled, Decides}
 use Rattle.py_lines.specs.ScannerState.{ScannerState, fed_of, ready_lines}
 use Rattle.py_lines.specs.declared.fault.Fault.{Fault}
-use Rattle.py_imports.specs.Bound.{Bound}
+use Rattle.py_imports.specs.BindingValue.{BindingValue}
 use Rattle.py_imports.specs.Binds.{BindAll}
 use Rattle.isort_find.specs.Found.{firsts, ends_top, counted_lines, AreFound, of_all, IsFound}
 use Rattle.isort_find.specs.Settled.{IsFoundSettled, SettlesBadLine, DecidesFound}
@@ -29,15 +29,15 @@ use Rattle.isort_find.proofs.Fed.Known.{known_settled, true_or_false, none_or_so
 use Rattle.isort_find.proofs.Fed.LetGo.{none_are_left}
 
 -- all that is found in the lines that the first bytes settle, so many, begins these bindings
-abbrev pub AllIn : List ℕ → ℕ → FindOptions → List Bound → Type 0
-AllIn text n options bounds = (found : List Bound) (bad : Option Fault) → IsFoundSettled (take n text) options found bad → (more : List Bound) × (bounds ≡ found ++ more)
+abbrev pub AllIn : List ℕ → ℕ → FindOptions → List BindingValue → Type 0
+AllIn text n options values = (found : List BindingValue) (bad : Option Fault) → IsFoundSettled (take n text) options found bad → (more : List BindingValue) × (values ≡ found ++ more)
 
 -- no fault is decided by the first bytes, so many
 abbrev pub NoneIn : List ℕ → ℕ → FindOptions → Type 0
 NoneIn text n options = (fault : Fault) → ¬ (DecidesFound (take n text) options fault)
 
 -- what settled lines bind that all count is all that is found in them
-found_in_settled : SettledLaws → OneSettled → (known : List ℕ) (options : FindOptions) (lines : List LogicalLine) (all found : List Bound) (bad : Option Fault) → IsSettled known lines → BindAll lines all → AllCount options lines → IsFoundSettled known options found bad → found ≡ firsts options.unique [] all
+found_in_settled : SettledLaws → OneSettled → (known : List ℕ) (options : FindOptions) (lines : List LogicalLine) (all found : List BindingValue) (bad : Option Fault) → IsSettled known lines → BindAll lines all → AllCount options lines → IsFoundSettled known options found bad → found ≡ firsts options.unique [] all
 found_in_settled laws one known options lines all found bad settled binds in_top s =
     let same = one known s.lines lines s.settled settled in
     let counted = ap (counted_lines options) same ∙ counted-all options lines in_top in
@@ -59,7 +59,7 @@ settled_within one ascent s text lines others yet none (inl h) settled = by_held
         ([], sym (append-nil-lines lines) ∙ one (take (fed_of s) text) (lines ++ []) others now settled ∙ sym (append-nil-lines others))
 
 -- what lines bind, cut where they are cut
-cut_binds : (lines others : List LogicalLine) (bs : List Bound) → BindAll (lines ++ others) bs → (first : List Bound) × (rest : List Bound) × (bs ≡ first ++ rest) × BindAll lines first
+cut_binds : (lines others : List LogicalLine) (bs : List BindingValue) → BindAll (lines ++ others) bs → (first : List BindingValue) × (rest : List BindingValue) × (bs ≡ first ++ rest) × BindAll lines first
 cut_binds [] others bs h = ([], bs, refl, refl)
 cut_binds (l ∷ ls) others bs h =
     let more = cut_binds ls others h.1 h.4 in
@@ -74,8 +74,8 @@ cut_counts options [] others h = refl
 cut_counts options (l ∷ ls) others h = let parts = both _ _ h in (λ i. parts.0 i && cut_counts options ls others parts.1 i)
 
 -- between two lines, none of which is ready, all that is settled was given
-pub gap_settled : SettledLaws → OneSettled → AscentLaws → (s : ScannerState) (cursor : CursorState) (text : List ℕ) (skip : ℕ) (bounds : List Bound) → s.ended ≡ false → s.ready ≡ None → IsBetweenLines s cursor text skip bounds → AllIn text (fed_of s) cursor.options bounds
-gap_settled laws one ascent s cursor text skip bounds yet none b = λ found bad h.
+pub gap_settled : SettledLaws → OneSettled → AscentLaws → (s : ScannerState) (cursor : CursorState) (text : List ℕ) (skip : ℕ) (values : List BindingValue) → s.ended ≡ false → s.ready ≡ None → IsBetweenLines s cursor text skip values → AllIn text (fed_of s) cursor.options values
+gap_settled laws one ascent s cursor text skip values yet none b = λ found bad h.
     let after = b.after in
     let unique = cursor.options.unique in
     let cut = settled_within one ascent s text after.lines h.lines yet none b.released h.settled in
@@ -86,8 +86,8 @@ gap_settled laws one ascent s cursor text skip bounds yet none b = λ found bad 
     (firsts unique binds.0 more, after.found ∙ ap (λ t. firsts unique [] (t ++ after.part)) binds.2 ∙ ap (firsts unique []) (append_assoc binds.0 binds.1 after.part) ∙ firsts-append unique [] binds.0 more ∙ ap (λ t. t ++ firsts unique binds.0 more) (sym is))
 
 -- inside a line that is settled, what is found is what the line binds too
-line_settled : SettledLaws → OneSettled → (s : ScannerState) (options : FindOptions) (text : List ℕ) (p : PendingState) (bounds : List Bound) → s.ended ≡ false → (w : IsWithinLine s options text p bounds) (found : List Bound) (bad : Option Fault) → IsFoundSettled (take (fed_of s) text) options found bad → found ≡ firsts options.unique [] (w.inside.before ++ (w.inside.part ++ p.left))
-line_settled laws one s options text p bounds yet w found bad h =
+line_settled : SettledLaws → OneSettled → (s : ScannerState) (options : FindOptions) (text : List ℕ) (p : PendingState) (values : List BindingValue) → s.ended ≡ false → (w : IsWithinLine s options text p values) (found : List BindingValue) (bad : Option Fault) → IsFoundSettled (take (fed_of s) text) options found bad → found ≡ firsts options.unique [] (w.inside.before ++ (w.inside.part ++ p.left))
+line_settled laws one s options text p values yet w found bad h =
     let i = w.inside in
     let lines = w.lines ++ w.line ∷ [] in
     let binds = BindAll-one_more w.lines w.line i.before (i.part ++ p.left) i.binds i.binds_line in
@@ -95,24 +95,24 @@ line_settled laws one s options text p bounds yet w found bad h =
     found_in_settled laws one (take (fed_of s) text) options lines (i.before ++ (i.part ++ p.left)) found bad (known_settled s text lines yet w.known) binds in_top h
 
 -- so where nothing of it is left, all that is settled was given
-within_settled : SettledLaws → OneSettled → (s : ScannerState) (options : FindOptions) (text : List ℕ) (p : PendingState) (bounds : List Bound) → s.ended ≡ false → p.left ≡ [] → IsWithinLine s options text p bounds → AllIn text (fed_of s) options bounds
-within_settled laws one s options text p bounds yet none w = λ found bad h.
+within_settled : SettledLaws → OneSettled → (s : ScannerState) (options : FindOptions) (text : List ℕ) (p : PendingState) (values : List BindingValue) → s.ended ≡ false → p.left ≡ [] → IsWithinLine s options text p values → AllIn text (fed_of s) options values
+within_settled laws one s options text p values yet none w = λ found bad h.
     let i = w.inside in
-    let is = line_settled laws one s options text p bounds yet w found bad h in
+    let is = line_settled laws one s options text p values yet w found bad h in
     let whole : i.part ++ p.left ≡ i.part = ap (λ l. i.part ++ l) none ∙ append-nil i.part in
     ([], i.found ∙ ap (λ l. firsts options.unique [] (i.before ++ l)) (sym whole) ∙ sym is ∙ sym (append-nil found))
 
 -- and what was given is settled
-pub given_settled : SettledLaws → OneSettled → (s : ScannerState) (cursor : CursorState) (text : List ℕ) (p : PendingState) (bounds : List Bound) → s.ended ≡ false → IsWithinLine s cursor.options text p bounds → AreSettled (piece_finder_state s (position.Within p) cursor) text bounds
-given_settled laws one s cursor text p bounds yet w = λ found bad h.
+pub given_settled : SettledLaws → OneSettled → (s : ScannerState) (cursor : CursorState) (text : List ℕ) (p : PendingState) (values : List BindingValue) → s.ended ≡ false → IsWithinLine s cursor.options text p values → AreSettled (piece_finder_state s (position.Within p) cursor) text values
+given_settled laws one s cursor text p values yet w = λ found bad h.
     let i = w.inside in
     let unique = cursor.options.unique in
-    let is = line_settled laws one s cursor.options text p bounds yet w found bad h in
+    let is = line_settled laws one s cursor.options text p values yet w found bad h in
     (firsts unique (i.before ++ i.part) p.left, is ∙ ap (firsts unique []) (sym (append_assoc i.before i.part p.left)) ∙ firsts-append unique [] (i.before ++ i.part) p.left ∙ ap (λ t. t ++ firsts unique (i.before ++ i.part) p.left) (sym i.found))
 
 -- after the top all that is settled was given
-pub top_settled : SettledLaws → AscentLaws → (s : ScannerState) (options : FindOptions) (text : List ℕ) (n : ℕ) (bounds : List Bound) → s.ended ≡ false → fed_of s ≤ n → IsAtTopEnd s options text bounds → AllIn text n options bounds
-top_settled laws ascent s options text n bounds yet within t = λ found bad h.
+pub top_settled : SettledLaws → AscentLaws → (s : ScannerState) (options : FindOptions) (text : List ℕ) (n : ℕ) (values : List BindingValue) → s.ended ≡ false → fed_of s ≤ n → IsAtTopEnd s options text values → AllIn text n options values
+top_settled laws ascent s options text n values yet within t = λ found bad h.
     let unique = options.unique in
     let first = fed_of s in
     let more = n - first in
@@ -125,16 +125,16 @@ top_settled laws ascent s options text n bounds yet within t = λ found bad h.
     ([], t.found ∙ sym is ∙ sym (append-nil found))
 
 -- where nothing is ready, all that is settled was given
-pub all_settled : SettledLaws → OneSettled → AscentLaws → (s : ScannerState) (at : Position) (cursor : CursorState) (text : List ℕ) (bounds : List Bound) → s.ended ≡ false → HasNoFault (piece_finder_state s at cursor) → ready_in at ≡ false → HasFoundIn (piece_finder_state s at cursor) text bounds → AreAllSettled (piece_finder_state s at cursor) text bounds
-all_settled laws one ascent s (position.Between skip) cursor text bounds yet fine none h = gap_settled laws one ascent s cursor text skip bounds yet h.reached.1 h.reached.0
-all_settled laws one ascent s (position.Unread start skip) cursor text bounds yet fine none h = absurd cc
-all_settled laws one ascent s (position.Within p) cursor text bounds yet fine none h = within_settled laws one s cursor.options text p bounds yet (none_are_left p.left none) h.reached
-all_settled laws one ascent s (position.End passed) cursor text bounds yet fine none h = top_settled laws ascent s cursor.options text (fed_in (position.End passed) s) bounds yet (omega arith) h.reached
-all_settled laws one ascent s (position.Fault fault) cursor text bounds yet fine none h = absurd (fine fault refl)
+pub all_settled : SettledLaws → OneSettled → AscentLaws → (s : ScannerState) (at : Position) (cursor : CursorState) (text : List ℕ) (values : List BindingValue) → s.ended ≡ false → HasNoFault (piece_finder_state s at cursor) → ready_in at ≡ false → HasFoundIn (piece_finder_state s at cursor) text values → AreAllSettled (piece_finder_state s at cursor) text values
+all_settled laws one ascent s (position.Between skip) cursor text values yet fine none h = gap_settled laws one ascent s cursor text skip values yet h.reached.1 h.reached.0
+all_settled laws one ascent s (position.Unread start skip) cursor text values yet fine none h = absurd cc
+all_settled laws one ascent s (position.Within p) cursor text values yet fine none h = within_settled laws one s cursor.options text p values yet (none_are_left p.left none) h.reached
+all_settled laws one ascent s (position.End passed) cursor text values yet fine none h = top_settled laws ascent s cursor.options text (fed_in (position.End passed) s) values yet (omega arith) h.reached
+all_settled laws one ascent s (position.Fault fault) cursor text values yet fine none h = absurd (fine fault refl)
 
 -- lines that all bind have no bad one among those that are settled
-pub gap_undecided : SettledLaws → OneSettled → AscentLaws → (s : ScannerState) (cursor : CursorState) (text : List ℕ) (skip : ℕ) (bounds : List Bound) → s.ended ≡ false → s.ready ≡ None → ((fault : Fault) → ¬ (Decides (take (fed_of s) text) fault)) → IsBetweenLines s cursor text skip bounds → NoneIn text (fed_of s) cursor.options
-gap_undecided laws one ascent s cursor text skip bounds yet none lexical b = λ fault d. by fault d.stays
+pub gap_undecided : SettledLaws → OneSettled → AscentLaws → (s : ScannerState) (cursor : CursorState) (text : List ℕ) (skip : ℕ) (values : List BindingValue) → s.ended ≡ false → s.ready ≡ None → ((fault : Fault) → ¬ (Decides (take (fed_of s) text) fault)) → IsBetweenLines s cursor text skip values → NoneIn text (fed_of s) cursor.options
+gap_undecided laws one ascent s cursor text skip values yet none lexical b = λ fault d. by fault d.stays
   where
     by : (fault : Fault) → Decides (take (fed_of s) text) fault ⊎ SettlesBadLine (take (fed_of s) text) fault → ⊥
     by fault (inl decides) = lexical fault decides
@@ -147,23 +147,23 @@ none_is_some : (fault : Fault) → ◌≡◌ {A = Option Fault} None (Some fault
 none_is_some fault h = cc
 
 -- after the top no fault counts
-pub top_undecided : SettledLaws → (s : ScannerState) (options : FindOptions) (text : List ℕ) (n : ℕ) (bounds : List Bound) → s.ended ≡ false → fed_of s ≤ n → IsAtTopEnd s options text bounds → NoneIn text n options
-top_undecided laws s options text n bounds yet within t = λ fault d.
+pub top_undecided : SettledLaws → (s : ScannerState) (options : FindOptions) (text : List ℕ) (n : ℕ) (values : List BindingValue) → s.ended ≡ false → fed_of s ≤ n → IsAtTopEnd s options text values → NoneIn text n options
+top_undecided laws s options text n values yet within t = λ fault d.
     let first = fed_of s in
     let more = n - first in
     let fed : n ≡ first + more = omega (arith, within) in
     let known : take n text ≡ take first text ++ take more (drop first text) = ap (λ k. take k text) fed ∙ take-add first more text in
     let begins = laws.lines (take first text) (take more (drop first text)) (t.lines ++ t.line ∷ []) (known_settled s text (t.lines ++ t.line ∷ []) yet t.known) in
-    let found = found_at_top (take first text ++ take more (drop first text)) options t.lines t.line t.before bounds begins t.in_top t.ends t.binds t.found in
-    none_is_some fault (one_end_found laws.ends (take first text ++ take more (drop first text)) options bounds d.bounds None (Some fault) found (subst (λ (ks : List ℕ). IsFound ks options d.bounds (Some fault)) known d.found))
+    let found = found_at_top (take first text ++ take more (drop first text)) options t.lines t.line t.before values begins t.in_top t.ends t.binds t.found in
+    none_is_some fault (one_end_found laws.ends (take first text ++ take more (drop first text)) options values d.values None (Some fault) found (subst (λ (ks : List ℕ). IsFound ks options d.values (Some fault)) known d.found))
 
 -- no fault is decided where nothing is ready and no line is held that was read
-pub all_undecided : SettledLaws → OneSettled → AscentLaws → (s : ScannerState) (at : Position) (cursor : CursorState) (text : List ℕ) (bounds : List Bound) → s.ended ≡ false → HasNoFault (piece_finder_state s at cursor) → IsDrained (piece_finder_state s at cursor) → (s.ready ≡ None → (fault : Fault) → ¬ (Decides (take (fed_of s) text) fault)) → HasFoundIn (piece_finder_state s at cursor) text bounds → IsUndecided (piece_finder_state s at cursor) text
-all_undecided laws one ascent s (position.Between skip) cursor text bounds yet fine (inl none) lexical h = gap_undecided laws one ascent s cursor text skip bounds yet none (lexical none) h.reached.0
-all_undecided laws one ascent s (position.Unread start skip) cursor text bounds yet fine (inl none) lexical h = gap_undecided laws one ascent s cursor text skip bounds yet none (lexical none) h.reached
-all_undecided laws one ascent s (position.Within p) cursor text bounds yet fine (inl none) lexical h = absurd (none_or_some _ h.reached.line none h.reached.ready)
-all_undecided laws one ascent s (position.Between skip) cursor text bounds yet fine (inr top) lexical h = absurd cc
-all_undecided laws one ascent s (position.Unread start skip) cursor text bounds yet fine (inr top) lexical h = absurd cc
-all_undecided laws one ascent s (position.Within p) cursor text bounds yet fine (inr top) lexical h = absurd cc
-all_undecided laws one ascent s (position.End passed) cursor text bounds yet fine drained lexical h = top_undecided laws s cursor.options text (fed_in (position.End passed) s) bounds yet (omega arith) h.reached
-all_undecided laws one ascent s (position.Fault fault) cursor text bounds yet fine drained lexical h = absurd (fine fault refl)
+pub all_undecided : SettledLaws → OneSettled → AscentLaws → (s : ScannerState) (at : Position) (cursor : CursorState) (text : List ℕ) (values : List BindingValue) → s.ended ≡ false → HasNoFault (piece_finder_state s at cursor) → IsDrained (piece_finder_state s at cursor) → (s.ready ≡ None → (fault : Fault) → ¬ (Decides (take (fed_of s) text) fault)) → HasFoundIn (piece_finder_state s at cursor) text values → IsUndecided (piece_finder_state s at cursor) text
+all_undecided laws one ascent s (position.Between skip) cursor text values yet fine (inl none) lexical h = gap_undecided laws one ascent s cursor text skip values yet none (lexical none) h.reached.0
+all_undecided laws one ascent s (position.Unread start skip) cursor text values yet fine (inl none) lexical h = gap_undecided laws one ascent s cursor text skip values yet none (lexical none) h.reached
+all_undecided laws one ascent s (position.Within p) cursor text values yet fine (inl none) lexical h = absurd (none_or_some _ h.reached.line none h.reached.ready)
+all_undecided laws one ascent s (position.Between skip) cursor text values yet fine (inr top) lexical h = absurd cc
+all_undecided laws one ascent s (position.Unread start skip) cursor text values yet fine (inr top) lexical h = absurd cc
+all_undecided laws one ascent s (position.Within p) cursor text values yet fine (inr top) lexical h = absurd cc
+all_undecided laws one ascent s (position.End passed) cursor text values yet fine drained lexical h = top_undecided laws s cursor.options text (fed_in (position.End passed) s) values yet (omega arith) h.reached
+all_undecided laws one ascent s (position.Fault fault) cursor text values yet fine drained lexical h = absurd (fine fault refl)

@@ -46,7 +46,7 @@ bounded n m h k = omega (arith, h, k)
 
 -- a finder over pieces goes on from a cursor
 goes_on : (s : ScannerState) (cursor : CursorState) (line : ℕ) → line ≡ min (max cursor.line 1) (cursor.offset + 1) → s ≡ begun_at cursor.offset line → ScansFrom cursor.offset line s → GoesOnFrom cursor (piece_finder_state s (position.Between cursor.taken) cursor)
-goes_on s cursor line is start scans text bounds h =
+goes_on s cursor line is start scans text values h =
     let b = h.after in
     let place = line_of_place text cursor.offset cursor.line b.lines b.given in
     let same : cursor.line ≡ line = bounded cursor.line cursor.offset place.0 place.1 ∙ sym is in

@@ -4,7 +4,7 @@ use Rattle.py_lines.specs.LogicalLine.{LogicalLine}
 use Rattle.py_lines.specs.Lexed.{BeginsLexing}
 use Rattle.py_lines.specs.ScannerState.{ScannerState, fed_of}
 use Rattle.py_lines.specs.declared.fault.Fault.{Fault}
-use Rattle.py_imports.specs.Bound.{Bound, bound_of}
+use Rattle.py_imports.specs.BindingValue.{BindingValue, binding_value}
 use Rattle.py_imports.specs.Binds.{IsBadAt}
 use Rattle.isort_find.specs.Found.{ends_top}
 use Rattle.isort_find.specs.Settled.{DecidesFound}
@@ -31,53 +31,53 @@ start_is : (s : ScannerState) (line : LogicalLine) (start : LineStart) → HasRe
 start_is s line start at = (λ i. record { offset = at.here.offset i; line = at.here.line i })
 
 -- a line is ready where a finder is between lines
-record IsAtHeld (s : ScannerState) (cursor : CursorState) (text : List ℕ) (skip : ℕ) (line : LogicalLine) (bounds : List Bound) : Type 0 where
-  pub between : IsBetweenLines s cursor text skip bounds
-  pub stopped : HasStopped text cursor bounds
+record IsAtHeld (s : ScannerState) (cursor : CursorState) (text : List ℕ) (skip : ℕ) (line : LogicalLine) (values : List BindingValue) : Type 0 where
+  pub between : IsBetweenLines s cursor text skip values
+  pub stopped : HasStopped text cursor values
   pub ready : s.ready ≡ Some line
   pub known : AreKnown s text (between.after.lines ++ line ∷ [])
 
-abbrev at_line : (laws : SettledLaws) (s : ScannerState) (cursor : CursorState) (text : List ℕ) (skip : ℕ) (line : LogicalLine) (bounds : List Bound) → IsAtHeld s cursor text skip line bounds → IsAtLine text cursor.options (next_start s) skip line bounds
-at_line laws s cursor text skip line bounds a = record { after = a.between.after; begins = known_begins laws s text (a.between.after.lines ++ line ∷ []) a.known }
+abbrev at_line : (laws : SettledLaws) (s : ScannerState) (cursor : CursorState) (text : List ℕ) (skip : ℕ) (line : LogicalLine) (values : List BindingValue) → IsAtHeld s cursor text skip line values → IsAtLine text cursor.options (next_start s) skip line values
+at_line laws s cursor text skip line values a = record { after = a.between.after; begins = known_begins laws s text (a.between.after.lines ++ line ∷ []) a.known }
 
 -- what becomes of the finder, by what the line turns out to be
-by_trial : SettledLaws → (s : ScannerState) (at : Position) (cursor : CursorState) (text : List ℕ) (line : LogicalLine) (bounds : List Bound) (t : Trial) (result : Result (Unit {0}) FindError) (w : WalkerState) → IsAtHeld s cursor text (skip_in at) line bounds → TurnsOut cursor.options line t → FollowsTrial (walker_state at cursor) (next_start s) t result w → HasFoundIn (piece_finder_state s w.position w.cursor) text bounds
-by_trial laws s at cursor text line bounds (binding bs) result w a turns follows =
+by_trial : SettledLaws → (s : ScannerState) (at : Position) (cursor : CursorState) (text : List ℕ) (line : LogicalLine) (values : List BindingValue) (t : Trial) (result : Result (Unit {0}) FindError) (w : WalkerState) → IsAtHeld s cursor text (skip_in at) line values → TurnsOut cursor.options line t → FollowsTrial (walker_state at cursor) (next_start s) t result w → HasFoundIn (piece_finder_state s w.position w.cursor) text values
+by_trial laws s at cursor text line values (binding bs) result w a turns follows =
     let b = a.between.after in
     let looks = follows.1 in
     let first = pending_after (next_start s) (skip_in at) bs in
-    let inside = reads_bindings laws.ends.laws text cursor.options (next_start s) (skip_in at) line bounds bs (at_line laws s cursor text (skip_in at) line bounds a) turns.0 turns.1 in
-    subst (λ (x : WalkerState). HasFoundIn (piece_finder_state s x.position x.cursor) text bounds) (sym looks.same) (record {
+    let inside = reads_bindings laws.ends.laws text cursor.options (next_start s) (skip_in at) line values bs (at_line laws s cursor text (skip_in at) line values a) turns.0 turns.1 in
+    subst (λ (x : WalkerState). HasFoundIn (piece_finder_state s x.position x.cursor) text values) (sym looks.same) (record {
       stopped = a.stopped;
-      reached = record { lines = b.lines; line = line; released = a.between.released; ready = a.ready; known = a.known; inside = inside_passed text cursor b.lines line first looks.rest bounds a.stopped looks.passes inside };
+      reached = record { lines = b.lines; line = line; released = a.between.released; ready = a.ready; known = a.known; inside = inside_passed text cursor b.lines line first looks.rest values a.stopped looks.passes inside };
     })
-by_trial laws s at cursor text line bounds ending result w a turns follows =
+by_trial laws s at cursor text line values ending result w a turns follows =
     let b = a.between.after in
-    subst (λ (x : WalkerState). HasFoundIn (piece_finder_state s x.position x.cursor) text bounds) (sym follows.1) (record {
+    subst (λ (x : WalkerState). HasFoundIn (piece_finder_state s x.position x.cursor) text values) (sym follows.1) (record {
       stopped = a.stopped;
-      reached = record { lines = b.lines; line = line; before = b.before; known = a.known; given = b.given; binds = b.binds; in_top = b.in_top; ends = turns; found = (nothing_at_top laws.ends.laws b line (at_line laws s cursor text (skip_in at) line bounds a).begins turns).found };
+      reached = record { lines = b.lines; line = line; before = b.before; known = a.known; given = b.given; binds = b.binds; in_top = b.in_top; ends = turns; found = (nothing_at_top laws.ends.laws b line (at_line laws s cursor text (skip_in at) line values a).begins turns).found };
     })
-by_trial laws s at cursor text line bounds (failing fault) result w a turns follows =
-    let here = at_line laws s cursor text (skip_in at) line bounds a in
-    subst (λ (x : WalkerState). HasFoundIn (piece_finder_state s x.position x.cursor) text bounds) (sym follows.1) (record {
+by_trial laws s at cursor text line values (failing fault) result w a turns follows =
+    let here = at_line laws s cursor text (skip_in at) line values a in
+    subst (λ (x : WalkerState). HasFoundIn (piece_finder_state s x.position x.cursor) text values) (sym follows.1) (record {
       stopped = stops_before cursor (next_start s) a.between.after (nothing_at_bad laws.ends.laws a.between.after line fault here.begins turns.0) a.stopped;
-      reached = reads_bad laws.ends.laws text cursor.options (next_start s) (skip_in at) line bounds fault here turns.0 turns.1;
+      reached = reads_bad laws.ends.laws text cursor.options (next_start s) (skip_in at) line values fault here turns.0 turns.1;
     })
-by_trial laws s at cursor text line bounds lost result w a turns follows = subst (λ (x : WalkerState). HasFoundIn (piece_finder_state s x.position x.cursor) text bounds) (sym follows.1) (record { stopped = a.stopped; reached = a.between })
+by_trial laws s at cursor text line values lost result w a turns follows = subst (λ (x : WalkerState). HasFoundIn (piece_finder_state s x.position x.cursor) text values) (sym follows.1) (record { stopped = a.stopped; reached = a.between })
 
 -- the line that is ready was tried
-pub held_found : SettledLaws → (s : ScannerState) (at : Position) (cursor : CursorState) (new : PieceFinderState) (text : List ℕ) (bounds : List Bound) (result : Result (Unit {0}) FindError) → IsBetweenLines s cursor text (skip_in at) bounds → HasStopped text cursor bounds → HandsLine LearnsLine (piece_finder_state s at cursor) result new → HasFoundIn new text bounds
-held_found laws s at cursor new text bounds result b stopped h =
-    let a : IsAtHeld s cursor text (skip_in at) h.line bounds = record { between = b; stopped = stopped; ready = h.at.ready; known = ready_known s text b.after.lines h.line b.released h.at.ready h.at.some_text } in
-    subst (λ (f : PieceFinderState). HasFoundIn f text bounds) (sym h.same) (by_trial laws s at cursor text h.line bounds h.does.trial result h.walker a h.does.turns (subst (λ (x : LineStart). FollowsTrial (walker_state at cursor) x h.does.trial result h.walker) (start_is s h.line h.start h.at) h.does.follows))
+pub held_found : SettledLaws → (s : ScannerState) (at : Position) (cursor : CursorState) (new : PieceFinderState) (text : List ℕ) (values : List BindingValue) (result : Result (Unit {0}) FindError) → IsBetweenLines s cursor text (skip_in at) values → HasStopped text cursor values → HandsLine LearnsLine (piece_finder_state s at cursor) result new → HasFoundIn new text values
+held_found laws s at cursor new text values result b stopped h =
+    let a : IsAtHeld s cursor text (skip_in at) h.line values = record { between = b; stopped = stopped; ready = h.at.ready; known = ready_known s text b.after.lines h.line b.released h.at.ready h.at.some_text } in
+    subst (λ (f : PieceFinderState). HasFoundIn f text values) (sym h.same) (by_trial laws s at cursor text h.line values h.does.trial result h.walker a h.does.turns (subst (λ (x : LineStart). FollowsTrial (walker_state at cursor) x h.does.trial result h.walker) (start_is s h.line h.start h.at) h.does.follows))
 
 learned : (f new : PieceFinderState) (result : Result (Unit {0}) FindError) → HandsLine TriesLine f result new → HandsLine LearnsLine f result new
 learned f new result h = record { line = h.line; start = h.start; walker = h.walker; at = h.at; does = h.does.learns; same = h.same }
 
 -- the same, if one is
-pub tried_found : SettledLaws → (s : ScannerState) (skip : ℕ) (cursor : CursorState) (new : PieceFinderState) (text : List ℕ) (bounds : List Bound) (result : Result (Unit {0}) FindError) → IsBetweenLines s cursor text skip bounds → HasStopped text cursor bounds → TriesReady (piece_finder_state s (position.Between skip) cursor) result new → HasFoundIn new text bounds
-tried_found laws s skip cursor new text bounds result b stopped (inl none) = subst (λ (f : PieceFinderState). HasFoundIn f text bounds) (sym none.2) (record { stopped = stopped; reached = (b, none.0) })
-tried_found laws s skip cursor new text bounds result b stopped (inr h) = held_found laws s (position.Between skip) cursor new text bounds result b stopped (learned _ new result h)
+pub tried_found : SettledLaws → (s : ScannerState) (skip : ℕ) (cursor : CursorState) (new : PieceFinderState) (text : List ℕ) (values : List BindingValue) (result : Result (Unit {0}) FindError) → IsBetweenLines s cursor text skip values → HasStopped text cursor values → TriesReady (piece_finder_state s (position.Between skip) cursor) result new → HasFoundIn new text values
+tried_found laws s skip cursor new text values result b stopped (inl none) = subst (λ (f : PieceFinderState). HasFoundIn f text values) (sym none.2) (record { stopped = stopped; reached = (b, none.0) })
+tried_found laws s skip cursor new text values result b stopped (inr h) = held_found laws s (position.Between skip) cursor new text values result b stopped (learned _ new result h)
 
 -- what stays where a line is tried without a fault
 pub record TriedSo (f new : PieceFinderState) : Type 0 where
@@ -141,8 +141,8 @@ tried_bad f new result e err (inl none) = absurd (not_err e result none.1 err)
 tried_bad f new result e err (inr h) = trial_bad f new h.line h.start h.walker h.does.learns.trial result e err h.at h.does.learns.turns h.does.learns.follows h.same
 
 -- a bad line that is settled decides its fault
-pub bad_decided : SettledLaws → (f new : PieceFinderState) (text : List ℕ) (skip : ℕ) (bounds : List Bound) (fault : Fault) → f.scanning.ended ≡ false → IsBadReady f fault new → IsBetweenLines f.scanning f.cursor text skip bounds → DecidesFound (take (fed_of f.scanning) text) (options_for f) fault
-bad_decided laws f new text skip bounds fault yet r between =
+pub bad_decided : SettledLaws → (f new : PieceFinderState) (text : List ℕ) (skip : ℕ) (values : List BindingValue) (fault : Fault) → f.scanning.ended ≡ false → IsBadReady f fault new → IsBetweenLines f.scanning f.cursor text skip values → DecidesFound (take (fed_of f.scanning) text) (options_for f) fault
+bad_decided laws f new text skip values fault yet r between =
     let b = between.after in
     let s = f.scanning in
     let known = take (fed_of s) text in
@@ -151,8 +151,8 @@ bad_decided laws f new text skip bounds fault yet r between =
     let begins = subst (λ (t : List ℕ). BeginsLexing t (b.lines ++ r.line ∷ [])) (append-nil known) (laws.lines known [] (b.lines ++ r.line ∷ []) settled) in
     let n = nothing_at_bad laws.ends.laws b r.line fault (known_begins laws s text (b.lines ++ r.line ∷ []) are) r.bad in
     record {
-      bounds = bounds;
-      found = found_at_bad known (options_for f) b.lines r.line b.before bounds fault begins b.in_top r.counts r.bad b.binds n.found;
+      values = values;
+      found = found_at_bad known (options_for f) b.lines r.line b.before values fault begins b.in_top r.counts r.bad b.binds n.found;
       stays = inr (record { before = b.lines; line = r.line; after = []; settled = settled; bad = r.bad });
     }
 
@@ -164,9 +164,9 @@ tried_result (Err error.Memory) = Ok tt
 
 step_tries : (old w : WalkerState) (line : LogicalLine) (start : LineStart) (s : Step) (result : Result (Unit {0}) FindError) → Judges old.cursor.options line s → FollowsStep old start s result w → LearnsLine old line start (tried_result result) w
 step_tries old w line start (step.Bindings bindings) result judged follows = record {
-  trial = binding (map bound_of bindings.items);
+  trial = binding (map binding_value bindings.items);
   turns = judged;
-  follows = (ap tried_result follows.0, record { rest = pending_after start (skip_in old.position) (map bound_of bindings.items); passes = record { dropped = []; split = refl; known = refl; start = refl; taken = omega arith }; same = follows.1 });
+  follows = (ap tried_result follows.0, record { rest = pending_after start (skip_in old.position) (map binding_value bindings.items); passes = record { dropped = []; split = refl; known = refl; start = refl; taken = omega arith }; same = follows.1 });
 }
 step_tries old w line start step.Plain result judged follows = absurd judged
 step_tries old w line start step.End result judged follows = record { trial = ending; turns = judged; follows = (ap tried_result follows.0, follows.1) }

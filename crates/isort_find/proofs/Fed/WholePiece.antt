@@ -34,11 +34,11 @@ passes_at laws one ascent s (position.End passed) cursor piece top yet =
     let fine : (fault : Fault) → g.position ≡ position.Fault fault → ⊥ = λ fault is. end_or_fault g.position fault refl is in
     record {
       within = omega arith;
-      found = λ text bounds h goes. record { stopped = h.stopped; reached = h.reached };
-      all = λ text bounds h goes none. all_settled laws one ascent s g.position cursor text bounds yet fine refl (record { stopped = h.stopped; reached = h.reached });
-      undecided = λ text bounds h goes none. top_undecided laws s cursor.options text (fed_by g) bounds yet (omega arith) h.reached;
-      rest = λ text bounds h goes none going. absurd (open_or_end _ going refl);
-      line = λ text bounds h goes ready. absurd (true_or_false _ refl ready);
+      found = λ text values h goes. record { stopped = h.stopped; reached = h.reached };
+      all = λ text values h goes none. all_settled laws one ascent s g.position cursor text values yet fine refl (record { stopped = h.stopped; reached = h.reached });
+      undecided = λ text values h goes none. top_undecided laws s cursor.options text (fed_by g) values yet (omega arith) h.reached;
+      rest = λ text values h goes none going. absurd (open_or_end _ going refl);
+      line = λ text values h goes ready. absurd (true_or_false _ refl ready);
       some = λ zero. inl (nil_from_length piece zero);
       waits = λ ready. absurd (true_or_false _ refl ready);
       next_new = λ none. tt;
@@ -73,9 +73,9 @@ feeds_lines old new piece n opened yet none no_end t done = record {
   within = t.advances.within;
   found = t.advances.found;
   all = t.all;
-  undecided = λ text bounds h goes nothing. t.undecided text bounds h goes nothing (drained piece n new (done nothing));
-  rest = λ text bounds h goes nothing going. rest_any new.scanning new.position new.cursor text bounds going (t.advances.open_yet ∙ yet) (whole_piece piece n new no_end (done nothing)).1 (t.advances.found text bounds h goes);
-  line = λ text bounds h goes ready. ready_any new.scanning new.position new.cursor text bounds (t.advances.open_yet ∙ yet) ready (t.advances.found text bounds h goes);
+  undecided = λ text values h goes nothing. t.undecided text values h goes nothing (drained piece n new (done nothing));
+  rest = λ text values h goes nothing going. rest_any new.scanning new.position new.cursor text values going (t.advances.open_yet ∙ yet) (whole_piece piece n new no_end (done nothing)).1 (t.advances.found text values h goes);
+  line = λ text values h goes ready. ready_any new.scanning new.position new.cursor text values (t.advances.open_yet ∙ yet) ready (t.advances.found text values h goes);
   some = λ zero. inl (t.some zero);
   waits = λ ready. absurd (true_or_false _ none ready);
   next_new = λ nothing. t.next_new;
@@ -103,11 +103,11 @@ feeds_top laws one ascent old mid new piece t opened yet none at first is =
     let goes : (text : List ℕ) → GoesOnWith text (fed_by old) (take (t + length rest) piece) → GoesOnWith text (fed_by old) (take t piece) × GoesOnWith text (fed_by mid) (take (length rest) rest) = λ text all. let both = goes_then text (fed_by old) piece t (length rest) first.advances.within next.within all in (both.0, subst (λ (p : ℕ). GoesOnWith text p (take (length rest) rest)) (sym first.advances.fed) both.1) in
     record {
       within = omega (arith, whole);
-      found = λ text bounds h all. let g = goes text all in next.found text bounds (first.advances.found text bounds h g.0) g.1;
-      all = λ text bounds h all nothing. let g = goes text all in next.all text bounds (first.advances.found text bounds h g.0) g.1 nothing;
-      undecided = λ text bounds h all nothing. let g = goes text all in next.undecided text bounds (first.advances.found text bounds h g.0) g.1 nothing;
-      rest = λ text bounds h all nothing going. let g = goes text all in next.rest text bounds (first.advances.found text bounds h g.0) g.1 nothing going;
-      line = λ text bounds h all ready. let g = goes text all in next.line text bounds (first.advances.found text bounds h g.0) g.1 ready;
+      found = λ text values h all. let g = goes text all in next.found text values (first.advances.found text values h g.0) g.1;
+      all = λ text values h all nothing. let g = goes text all in next.all text values (first.advances.found text values h g.0) g.1 nothing;
+      undecided = λ text values h all nothing. let g = goes text all in next.undecided text values (first.advances.found text values h g.0) g.1 nothing;
+      rest = λ text values h all nothing going. let g = goes text all in next.rest text values (first.advances.found text values h g.0) g.1 nothing going;
+      line = λ text values h all ready. let g = goes text all in next.line text values (first.advances.found text values h g.0) g.1 ready;
       some = λ zero. inl (nil_from_length piece (sym whole ∙ zero));
       waits = λ ready. absurd (true_or_false _ none ready);
       next_new = λ nothing. next.next_new (end_not_ready mid.position at);
@@ -125,11 +125,11 @@ feeds_top laws one ascent old mid new piece t opened yet none at first is =
 pub feeds_none : (f : PieceFinderState) (piece : List ℕ) → phase_in f.position ≡ phase.Open → f.scanning.ended ≡ false → has_ready f ≡ true → TakesFromPiece f piece 0 f
 feeds_none f piece opened yet ready = record {
   within = omega arith;
-  found = λ text bounds h goes. h;
-  all = λ text bounds h goes none. absurd (true_or_false _ none ready);
-  undecided = λ text bounds h goes none. absurd (true_or_false _ none ready);
-  rest = λ text bounds h goes none going. absurd (true_or_false _ none ready);
-  line = λ text bounds h goes some. ready_any f.scanning f.position f.cursor text bounds yet some h;
+  found = λ text values h goes. h;
+  all = λ text values h goes none. absurd (true_or_false _ none ready);
+  undecided = λ text values h goes none. absurd (true_or_false _ none ready);
+  rest = λ text values h goes none going. absurd (true_or_false _ none ready);
+  line = λ text values h goes some. ready_any f.scanning f.position f.cursor text values yet some h;
   some = λ zero. inr ready;
   waits = λ was. (refl, refl);
   next_new = λ none. absurd (true_or_false _ none ready);

@@ -4,7 +4,7 @@ use Rattle.py_lines.specs.LogicalLine.{LogicalLine}
 use Rattle.py_lines.specs.Lexed.{IsLexed, BeginsLexing}
 use Rattle.py_lines.specs.Reader.{Reader, standing_at}
 use Rattle.py_lines.specs.declared.fault.Fault.{Fault}
-use Rattle.py_imports.specs.Bound.{Bound}
+use Rattle.py_imports.specs.BindingValue.{BindingValue}
 use Rattle.py_imports.specs.Binds.{Binds, BindAll}
 use Rattle.isort_find.specs.Private.KnownLaws.{BasicLaws}
 
@@ -31,6 +31,6 @@ none_begun one text lines end a lexed f =
     absurd (omega (arith, len, length-append (lines ++ a ∷ []) f.more, length-append lines (a ∷ [])))
 
 -- one more logical line binds
-pub BindAll-one_more : (lines : List LogicalLine) (line : LogicalLine) (bs more : List Bound) → BindAll lines bs → Binds line more → BindAll (lines ++ line ∷ []) (bs ++ more)
+pub BindAll-one_more : (lines : List LogicalLine) (line : LogicalLine) (bs more : List BindingValue) → BindAll lines bs → Binds line more → BindAll (lines ++ line ∷ []) (bs ++ more)
 BindAll-one_more [] line bs more h b = (more, [], ap (λ x. x ++ more) h ∙ sym (append-nil more), b, refl)
 BindAll-one_more (l ∷ ls) line bs more h b = (h.0, h.1 ++ more, ap (λ x. x ++ more) h.2 ∙ append_assoc h.0 h.1 more, h.3, BindAll-one_more ls line h.1 more h.4 b)

@@ -5,7 +5,7 @@ use Rattle.py_lines.specs.LogicalLine.{LogicalLine}
 use Rattle.py_lines.specs.Lexed.{IsLexed, BeginsLexing}
 use Rattle.py_lines.specs.Settled.{Decides}
 use Rattle.py_lines.specs.declared.fault.Fault.{Fault}
-use Rattle.py_imports.specs.Bound.{Bound}
+use Rattle.py_imports.specs.BindingValue.{BindingValue}
 use Rattle.py_imports.specs.Binds.{BindAll, IsBadAt}
 use Rattle.isort_find.specs.Found.{firsts, ends_top, counted_lines, counted_end, AreFound, of_all, before_bad, IsFound, BeginsFound}
 use Rattle.isort_find.specs.Settled.{IsFoundSettled, SettlesBadLine, DecidesFound}
@@ -47,39 +47,39 @@ append-nil-lines [] = refl
 append-nil-lines (l ∷ ls) = ap (λ t. l ∷ t) (append-nil-lines ls)
 
 -- what is found in lines that end the top is found in the text
-begin_top : (text : List ℕ) (options : FindOptions) (lines : List LogicalLine) (bounds : List Bound) (bad : Option Fault) (begins : BeginsLexing text lines) → HasTopEnd options lines → AreFound options.unique (counted_lines options lines) None bounds bad → BeginsFound text options bounds
-begin_top text options lines bounds bad begins t found =
+begin_top : (text : List ℕ) (options : FindOptions) (lines : List LogicalLine) (values : List BindingValue) (bad : Option Fault) (begins : BeginsLexing text lines) → HasTopEnd options lines → AreFound options.unique (counted_lines options lines) None values bad → BeginsFound text options values
+begin_top text options lines values bad begins t found =
     let here : counted_lines options lines ≡ t.before = ap (counted_lines options) (sym (append-nil-lines lines)) ∙ counted_top options lines [] t in
     let same = here ∙ sym (counted_top options lines begins.more t) in
     let none = sym (end_top options lines begins.more begins.end t) in
-    let all = subst (λ (e : Option Fault). AreFound options.unique (counted_lines options (lines ++ begins.more)) e bounds bad) none (subst (λ (ls : List LogicalLine). AreFound options.unique ls None bounds bad) same found) in
+    let all = subst (λ (e : Option Fault). AreFound options.unique (counted_lines options (lines ++ begins.more)) e values bad) none (subst (λ (ls : List LogicalLine). AreFound options.unique ls None values bad) same found) in
     record {
       more = [];
       end = bad;
-      found = record { lines = lines ++ begins.more; lexical = begins.end; lexed = begins.lexed; found = subst (λ (bs : List Bound). AreFound options.unique (counted_lines options (lines ++ begins.more)) (counted_end options (lines ++ begins.more) begins.end) bs bad) (sym (append-nil bounds)) all };
+      found = record { lines = lines ++ begins.more; lexical = begins.end; lexed = begins.lexed; found = subst (λ (bs : List BindingValue). AreFound options.unique (counted_lines options (lines ++ begins.more)) (counted_end options (lines ++ begins.more) begins.end) bs bad) (sym (append-nil values)) all };
     }
 
-begin_all : EachBindsOrIsBad → (text : List ℕ) (options : FindOptions) (unique : Option ImportKey) (lines counted : List LogicalLine) (last : Option Fault) (bounds : List Bound) (bad : Option Fault) → BeginsLexing text lines → AllCount options lines → unique ≡ options.unique → counted ≡ lines → AreFound unique counted last bounds bad → BeginsFound text options bounds
-begin_all each text options unique lines counted last bounds bad begins all same are (of_all _ _ _ _ _ bs binds found is) =
-    begins_behind each text options lines bounds bs [] begins (subst (λ (ls : List LogicalLine). BindAll ls (bs ++ [])) are (subst (BindAll counted) (sym (append-nil bs)) binds)) all (found ∙ ap (λ u. firsts u [] bs) same)
-begin_all each text options unique lines counted last bounds bad begins all same are (before_bad _ _ _ _ _ before line after bs fault split binds is_bad found is) =
+begin_all : EachBindsOrIsBad → (text : List ℕ) (options : FindOptions) (unique : Option ImportKey) (lines counted : List LogicalLine) (last : Option Fault) (values : List BindingValue) (bad : Option Fault) → BeginsLexing text lines → AllCount options lines → unique ≡ options.unique → counted ≡ lines → AreFound unique counted last values bad → BeginsFound text options values
+begin_all each text options unique lines counted last values bad begins all same are (of_all _ _ _ _ _ bs binds found is) =
+    begins_behind each text options lines values bs [] begins (subst (λ (ls : List LogicalLine). BindAll ls (bs ++ [])) are (subst (BindAll counted) (sym (append-nil bs)) binds)) all (found ∙ ap (λ u. firsts u [] bs) same)
+begin_all each text options unique lines counted last values bad begins all same are (before_bad _ _ _ _ _ before line after bs fault split binds is_bad found is) =
     let counts : counted_lines options (lines ++ begins.more) ≡ before ++ line ∷ (after ++ counted_lines options begins.more) = counted-append options lines begins.more all ∙ ap (λ ls. ls ++ counted_lines options begins.more) (sym are ∙ split) ∙ append_assoc before (line ∷ after) (counted_lines options begins.more) in
     record {
       more = [];
       end = Some fault;
-      found = record { lines = lines ++ begins.more; lexical = begins.end; lexed = begins.lexed; found = before_bad options.unique _ (counted_end options (lines ++ begins.more) begins.end) _ (Some fault) before line (after ++ counted_lines options begins.more) bs fault counts binds is_bad (append-nil bounds ∙ found ∙ ap (λ u. firsts u [] bs) same) refl };
+      found = record { lines = lines ++ begins.more; lexical = begins.end; lexed = begins.lexed; found = before_bad options.unique _ (counted_end options (lines ++ begins.more) begins.end) _ (Some fault) before line (after ++ counted_lines options begins.more) bs fault counts binds is_bad (append-nil values ∙ found ∙ ap (λ u. firsts u [] bs) same) refl };
     }
 
-begin_either : EachBindsOrIsBad → (text : List ℕ) (options : FindOptions) (lines : List LogicalLine) (bounds : List Bound) (bad : Option Fault) → BeginsLexing text lines → AllCount options lines ⊎ HasTopEnd options lines → AreFound options.unique (counted_lines options lines) None bounds bad → BeginsFound text options bounds
-begin_either each text options lines bounds bad begins (inl all) found = begin_all each text options options.unique lines (counted_lines options lines) None bounds bad begins all refl (counted-all options lines all) found
-begin_either each text options lines bounds bad begins (inr t) found = begin_top text options lines bounds bad begins t found
+begin_either : EachBindsOrIsBad → (text : List ℕ) (options : FindOptions) (lines : List LogicalLine) (values : List BindingValue) (bad : Option Fault) → BeginsLexing text lines → AllCount options lines ⊎ HasTopEnd options lines → AreFound options.unique (counted_lines options lines) None values bad → BeginsFound text options values
+begin_either each text options lines values bad begins (inl all) found = begin_all each text options options.unique lines (counted_lines options lines) None values bad begins all refl (counted-all options lines all) found
+begin_either each text options lines values bad begins (inr t) found = begin_top text options lines values bad begins t found
 
 -- what is found in the settled lines of known bytes begins what is found in each text that begins with them
-pub settled_begin_found : SettledLaws → (text more : List ℕ) (options : FindOptions) (bounds : List Bound) (bad : Option Fault) → IsFoundSettled text options bounds bad → BeginsFound (text ++ more) options bounds
-settled_begin_found laws text more options bounds bad s = begin_either laws.each (text ++ more) options s.lines bounds bad (laws.lines text more s.lines s.settled) (top_of options s.lines) s.found
+pub settled_begin_found : SettledLaws → (text more : List ℕ) (options : FindOptions) (values : List BindingValue) (bad : Option Fault) → IsFoundSettled text options values bad → BeginsFound (text ++ more) options values
+settled_begin_found laws text more options values bad s = begin_either laws.each (text ++ more) options s.lines values bad (laws.lines text more s.lines s.settled) (top_of options s.lines) s.found
 
 -- the first bad line stands before or at each other bad one
-first_bad : BasicLaws → (before other : List LogicalLine) (line second : LogicalLine) (rest after : List LogicalLine) (bs : List Bound) (fault : Fault) → before ++ line ∷ rest ≡ other ++ second ∷ after → IsBadAt line fault → BindAll other bs → (mid : List LogicalLine) × (before ++ line ∷ [] ≡ other ++ second ∷ mid)
+first_bad : BasicLaws → (before other : List LogicalLine) (line second : LogicalLine) (rest after : List LogicalLine) (bs : List BindingValue) (fault : Fault) → before ++ line ∷ rest ≡ other ++ second ∷ after → IsBadAt line fault → BindAll other bs → (mid : List LogicalLine) × (before ++ line ∷ [] ≡ other ++ second ∷ mid)
 first_bad laws [] [] line second rest after bs fault e bad binds = let f : line ∷ rest ≡ second ∷ after = e in let same : line ≡ second = cc in ([], ap (λ l. l ∷ []) same)
 first_bad laws [] (o ∷ other) line second rest after bs fault e bad binds =
     let f : line ∷ rest ≡ o ∷ other ++ second ∷ after = e in
@@ -94,58 +94,58 @@ first_bad laws (b ∷ before) (o ∷ other) line second rest after bs fault e ba
     (more.0, λ i. same i ∷ more.1 i)
 
 -- Lines up to a bad one, and then others: what is found is the same.
-bad_all : BasicLaws → (options : FindOptions) (unique : Option ImportKey) (before : List LogicalLine) (line : LogicalLine) (counted others : List LogicalLine) (last end : Option Fault) (bounds : List Bound) (found : Option Fault) (fault : Fault) → IsBadAt line fault → (rest : List LogicalLine) → counted ≡ before ++ line ∷ rest → AreFound unique counted last bounds found → AreFound unique (before ++ line ∷ others) end bounds found
-bad_all laws options unique before line counted others last end bounds found fault bad rest are (of_all _ _ _ _ _ bs binds f is) = absurd (none_bad laws before line rest bs fault (subst (λ (ls : List LogicalLine). BindAll ls bs) are binds) bad)
-bad_all laws options unique before line counted others last end bounds found fault bad rest are (before_bad _ _ _ _ _ other second after bs worst split binds worse f is) =
+bad_all : BasicLaws → (options : FindOptions) (unique : Option ImportKey) (before : List LogicalLine) (line : LogicalLine) (counted others : List LogicalLine) (last end : Option Fault) (values : List BindingValue) (found : Option Fault) (fault : Fault) → IsBadAt line fault → (rest : List LogicalLine) → counted ≡ before ++ line ∷ rest → AreFound unique counted last values found → AreFound unique (before ++ line ∷ others) end values found
+bad_all laws options unique before line counted others last end values found fault bad rest are (of_all _ _ _ _ _ bs binds f is) = absurd (none_bad laws before line rest bs fault (subst (λ (ls : List LogicalLine). BindAll ls bs) are binds) bad)
+bad_all laws options unique before line counted others last end values found fault bad rest are (before_bad _ _ _ _ _ other second after bs worst split binds worse f is) =
     let first = first_bad laws before other line second rest after bs fault (sym are ∙ split) bad binds in
     let there : before ++ line ∷ others ≡ other ++ second ∷ (first.0 ++ others) = sym (append_assoc before (line ∷ []) others) ∙ ap (λ ls. ls ++ others) first.1 ∙ append_assoc other (second ∷ first.0) others in
     before_bad unique _ end _ _ other second (first.0 ++ others) bs worst there binds worse f is
 
-bad_either : BasicLaws → (options : FindOptions) (before : List LogicalLine) (line : LogicalLine) (rest others : List LogicalLine) (last end : Option Fault) (bounds : List Bound) (found : Option Fault) (fault : Fault) → IsBadAt line fault → AllCount options (before ++ line ∷ []) ⊎ HasTopEnd options (before ++ line ∷ []) → AreFound options.unique (counted_lines options ((before ++ line ∷ []) ++ rest)) (counted_end options ((before ++ line ∷ []) ++ rest) last) bounds found → AreFound options.unique (counted_lines options ((before ++ line ∷ []) ++ others)) (counted_end options ((before ++ line ∷ []) ++ others) end) bounds found
-bad_either laws options before line rest others last end bounds found fault bad (inl all) f =
+bad_either : BasicLaws → (options : FindOptions) (before : List LogicalLine) (line : LogicalLine) (rest others : List LogicalLine) (last end : Option Fault) (values : List BindingValue) (found : Option Fault) (fault : Fault) → IsBadAt line fault → AllCount options (before ++ line ∷ []) ⊎ HasTopEnd options (before ++ line ∷ []) → AreFound options.unique (counted_lines options ((before ++ line ∷ []) ++ rest)) (counted_end options ((before ++ line ∷ []) ++ rest) last) values found → AreFound options.unique (counted_lines options ((before ++ line ∷ []) ++ others)) (counted_end options ((before ++ line ∷ []) ++ others) end) values found
+bad_either laws options before line rest others last end values found fault bad (inl all) f =
     let here = counted-append options (before ++ line ∷ []) rest all ∙ append_assoc before (line ∷ []) (counted_lines options rest) in
     let there = counted-append options (before ++ line ∷ []) others all ∙ append_assoc before (line ∷ []) (counted_lines options others) in
-    subst (λ (ls : List LogicalLine). AreFound options.unique ls (counted_end options ((before ++ line ∷ []) ++ others) end) bounds found) (sym there) (bad_all laws options options.unique before line (counted_lines options ((before ++ line ∷ []) ++ rest)) (counted_lines options others) (counted_end options ((before ++ line ∷ []) ++ rest) last) (counted_end options ((before ++ line ∷ []) ++ others) end) bounds found fault bad (counted_lines options rest) here f)
-bad_either laws options before line rest others last end bounds found fault bad (inr t) f =
+    subst (λ (ls : List LogicalLine). AreFound options.unique ls (counted_end options ((before ++ line ∷ []) ++ others) end) values found) (sym there) (bad_all laws options options.unique before line (counted_lines options ((before ++ line ∷ []) ++ rest)) (counted_lines options others) (counted_end options ((before ++ line ∷ []) ++ rest) last) (counted_end options ((before ++ line ∷ []) ++ others) end) values found fault bad (counted_lines options rest) here f)
+bad_either laws options before line rest others last end values found fault bad (inr t) f =
     let lines = counted_top options (before ++ line ∷ []) rest t ∙ sym (counted_top options (before ++ line ∷ []) others t) in
     let ends = end_top options (before ++ line ∷ []) rest last t ∙ sym (end_top options (before ++ line ∷ []) others end t) in
-    subst (λ (e : Option Fault). AreFound options.unique (counted_lines options ((before ++ line ∷ []) ++ others)) e bounds found) ends (subst (λ (ls : List LogicalLine). AreFound options.unique ls (counted_end options ((before ++ line ∷ []) ++ rest) last) bounds found) lines f)
+    subst (λ (e : Option Fault). AreFound options.unique (counted_lines options ((before ++ line ∷ []) ++ others)) e values found) ends (subst (λ (ls : List LogicalLine). AreFound options.unique ls (counted_end options ((before ++ line ∷ []) ++ rest) last) values found) lines f)
 
-decided_lexical : SettledLaws → (text more : List ℕ) (options : FindOptions) (bounds : List Bound) (fault : Fault) → Decides text fault → IsFound text options bounds (Some fault) → IsFound (text ++ more) options bounds (Some fault)
-decided_lexical laws text more options bounds fault decides f =
+decided_lexical : SettledLaws → (text more : List ℕ) (options : FindOptions) (values : List BindingValue) (fault : Fault) → Decides text fault → IsFound text options values (Some fault) → IsFound (text ++ more) options values (Some fault)
+decided_lexical laws text more options values fault decides f =
     let is : f.lexical ≡ Some fault = laws.fault text [] fault f.lines f.lexical decides (subst (λ (t : List ℕ). IsLexed t f.lines f.lexical) (sym (append-nil text)) f.lexed) in
     record {
       lines = f.lines;
       lexical = Some fault;
       lexed = laws.all text more fault f.lines decides (subst (IsLexed text f.lines) is f.lexed);
-      found = subst (λ (l : Option Fault). AreFound options.unique (counted_lines options f.lines) (counted_end options f.lines l) bounds (Some fault)) is f.found;
+      found = subst (λ (l : Option Fault). AreFound options.unique (counted_lines options f.lines) (counted_end options f.lines l) values (Some fault)) is f.found;
     }
 
-decided_line : SettledLaws → (text more : List ℕ) (options : FindOptions) (bounds : List Bound) (fault : Fault) → SettlesBadLine text fault → IsFound text options bounds (Some fault) → IsFound (text ++ more) options bounds (Some fault)
-decided_line laws text more options bounds fault s f =
+decided_line : SettledLaws → (text more : List ℕ) (options : FindOptions) (values : List BindingValue) (fault : Fault) → SettlesBadLine text fault → IsFound text options values (Some fault) → IsFound (text ++ more) options values (Some fault)
+decided_line laws text more options values fault s f =
     let lines = s.before ++ s.line ∷ s.after in
     let first = s.before ++ s.line ∷ [] in
     let now = laws.lines text [] lines s.settled in
     let then = laws.lines text more lines s.settled in
     let one : f.lines ≡ lines ++ now.more = laws.ends.laws.one_lexing text f.lines _ f.lexical now.end f.lexed (subst (λ (t : List ℕ). IsLexed t (lines ++ now.more) now.end) (append-nil text) now.lexed) in
     let parts : (rest : List LogicalLine) → lines ++ rest ≡ first ++ (s.after ++ rest) = λ rest. append_assoc s.before (s.line ∷ s.after) rest ∙ sym (append_assoc s.before (s.line ∷ []) (s.after ++ rest)) in
-    let here = subst (λ (ls : List LogicalLine). AreFound options.unique (counted_lines options ls) (counted_end options ls f.lexical) bounds (Some fault)) (one ∙ parts now.more) f.found in
-    let there = bad_either laws.ends.laws options s.before s.line (s.after ++ now.more) (s.after ++ then.more) f.lexical then.end bounds (Some fault) fault s.bad (top_of options first) here in
+    let here = subst (λ (ls : List LogicalLine). AreFound options.unique (counted_lines options ls) (counted_end options ls f.lexical) values (Some fault)) (one ∙ parts now.more) f.found in
+    let there = bad_either laws.ends.laws options s.before s.line (s.after ++ now.more) (s.after ++ then.more) f.lexical then.end values (Some fault) fault s.bad (top_of options first) here in
     record {
       lines = lines ++ then.more;
       lexical = then.end;
       lexed = then.lexed;
-      found = subst (λ (ls : List LogicalLine). AreFound options.unique (counted_lines options ls) (counted_end options ls then.end) bounds (Some fault)) (sym (parts then.more)) there;
+      found = subst (λ (ls : List LogicalLine). AreFound options.unique (counted_lines options ls) (counted_end options ls then.end) values (Some fault)) (sym (parts then.more)) there;
     }
 
-decided_so : SettledLaws → (text more : List ℕ) (options : FindOptions) (bounds : List Bound) (fault : Fault) → Decides text fault ⊎ SettlesBadLine text fault → IsFound text options bounds (Some fault) → IsFound (text ++ more) options bounds (Some fault)
-decided_so laws text more options bounds fault (inl d) f = decided_lexical laws text more options bounds fault d f
-decided_so laws text more options bounds fault (inr s) f = decided_line laws text more options bounds fault s f
+decided_so : SettledLaws → (text more : List ℕ) (options : FindOptions) (values : List BindingValue) (fault : Fault) → Decides text fault ⊎ SettlesBadLine text fault → IsFound text options values (Some fault) → IsFound (text ++ more) options values (Some fault)
+decided_so laws text more options values fault (inl d) f = decided_lexical laws text more options values fault d f
+decided_so laws text more options values fault (inr s) f = decided_line laws text more options values fault s f
 
 -- what is found before a fault that known bytes decide is found in each text that begins with them, and then this fault
-pub decided_all : SettledLaws → (text more : List ℕ) (options : FindOptions) (bounds : List Bound) (fault : Fault) → DecidesFound text options fault → IsFound text options bounds (Some fault) → IsFound (text ++ more) options bounds (Some fault)
-decided_all laws text more options bounds fault d f = decided_so laws text more options bounds fault d.stays f
+pub decided_all : SettledLaws → (text more : List ℕ) (options : FindOptions) (values : List BindingValue) (fault : Fault) → DecidesFound text options fault → IsFound text options values (Some fault) → IsFound (text ++ more) options values (Some fault)
+decided_all laws text more options values fault d f = decided_so laws text more options values fault d.stays f
 
 -- such a text has no other end
-pub decided_end : SettledLaws → (text more : List ℕ) (options : FindOptions) (fault : Fault) (bounds : List Bound) (end : Option Fault) → DecidesFound text options fault → IsFound (text ++ more) options bounds end → end ≡ Some fault
-decided_end laws text more options fault bounds end d f = one_end_found laws.ends (text ++ more) options bounds d.bounds end (Some fault) f (decided_all laws text more options d.bounds fault d d.found)
+pub decided_end : SettledLaws → (text more : List ℕ) (options : FindOptions) (fault : Fault) (values : List BindingValue) (end : Option Fault) → DecidesFound text options fault → IsFound (text ++ more) options values end → end ≡ Some fault
+decided_end laws text more options fault values end d f = one_end_found laws.ends (text ++ more) options values d.values end (Some fault) f (decided_all laws text more options d.values fault d d.found)

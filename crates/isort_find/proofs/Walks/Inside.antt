@@ -3,7 +3,7 @@ use Rattle.std.proofs.Common.{◌≡◌, ℕ, Bool, true, false, not, List, [], 
 use Rattle.std.specs.List.{list_all}
 use Rattle.py_lines.specs.LogicalLine.{LogicalLine}
 use Rattle.py_lines.specs.Reader.{HasGiven, standing_at}
-use Rattle.py_imports.specs.Bound.{Bound}
+use Rattle.py_imports.specs.BindingValue.{BindingValue}
 use Rattle.py_imports.specs.Binds.{Binds}
 use Rattle.isort_find.specs.Key.{Key}
 use Rattle.isort_find.specs.Found.{firsts, has_one_like, ends_top}
@@ -19,13 +19,13 @@ use Rattle.isort_find.proofs.Keys.TakenBindings.{list_all-snoc}
 use Rattle.isort_find.proofs.Finds.LinePlaces.{bytes_given}
 use Rattle.isort_find.proofs.Finds.NextLines.{BindAll-one_more}
 
-pub nothing_dropped : (dropped rest : List Bound) → [] ≡ dropped ++ rest → rest ≡ []
+pub nothing_dropped : (dropped rest : List BindingValue) → [] ≡ dropped ++ rest → rest ≡ []
 nothing_dropped [] rest h = sym h
 nothing_dropped (d ∷ ds) rest h = absurd cc
 
 -- bindings with known keys were looked at
-pub inside_passed : (text : List ℕ) (cursor : CursorState) (lines : List LogicalLine) (line : LogicalLine) (p q : PendingState) (bounds : List Bound) → HasStopped text cursor bounds → PassesBindings cursor p q → IsInside text cursor.options lines line p bounds → IsInside text cursor.options lines line q bounds
-inside_passed text cursor lines line p q bounds stopped passes w =
+pub inside_passed : (text : List ℕ) (cursor : CursorState) (lines : List LogicalLine) (line : LogicalLine) (p q : PendingState) (values : List BindingValue) → HasStopped text cursor values → PassesBindings cursor p q → IsInside text cursor.options lines line p values → IsInside text cursor.options lines line q values
+inside_passed text cursor lines line p q values stopped passes w =
     let unique = cursor.options.unique in
     record {
       before = w.before;
@@ -41,10 +41,10 @@ inside_passed text cursor lines line p q bounds stopped passes w =
     }
 
 -- the cursor after a binding that was given
-abbrev pub given_at : CursorState → PendingState → Bound → CursorState
+abbrev pub given_at : CursorState → PendingState → BindingValue → CursorState
 given_at s p b = record { options = s.options; offset = p.start.offset; line = p.start.line; taken = p.taken; given = next_count s.given; keys = s.keys ++ keys_of s.options.unique (b ∷ []) }
 
-pub gives_at : (s t : CursorState) (old new : PendingState) (b : Bound) → TakesNew s old b t new → t ≡ given_at s new b
+pub gives_at : (s t : CursorState) (old new : PendingState) (b : BindingValue) → TakesNew s old b t new → t ≡ given_at s new b
 gives_at s t old new b takes = takes.gives ∙ ap (λ (x : CursorState). cursor_after x new.start new.taken) takes.admits.same
 
 not_not : (a : Bool) → true ≡ not a → a ≡ false
@@ -52,8 +52,8 @@ not_not true h = h
 not_not false h = refl
 
 -- a binding with a new key was looked at
-inside_given : (text : List ℕ) (cursor : CursorState) (lines : List LogicalLine) (line : LogicalLine) (p q : PendingState) (bounds : List Bound) (b : Bound) → HasStopped text cursor bounds → knows_key cursor.options.unique cursor.keys b ≡ false → Looks p b q → IsInside text cursor.options lines line p bounds → IsInside text cursor.options lines line q (bounds ++ b ∷ [])
-inside_given text cursor lines line p q bounds b stopped new looks w =
+inside_given : (text : List ℕ) (cursor : CursorState) (lines : List LogicalLine) (line : LogicalLine) (p q : PendingState) (values : List BindingValue) (b : BindingValue) → HasStopped text cursor values → knows_key cursor.options.unique cursor.keys b ≡ false → Looks p b q → IsInside text cursor.options lines line p values → IsInside text cursor.options lines line q (values ++ b ∷ [])
+inside_given text cursor lines line p q values b stopped new looks w =
     let looked = w.before ++ w.part in
     let unique = cursor.options.unique in
     let unseen : has_one_like unique looked b ≡ false = sym (known_is unique looked b) ∙ ap (λ ks. knows_key unique ks b) (sym (stopped.keys ∙ ap (keys_of unique) w.found)) ∙ new in
@@ -71,8 +71,8 @@ inside_given text cursor lines line p q bounds b stopped new looks w =
     }
 
 -- inside a line a finder may stop
-inside_after : (text : List ℕ) (options : FindOptions) (lines : List LogicalLine) (line : LogicalLine) (p : PendingState) (bounds : List Bound) → IsInside text options lines line p bounds → IsAfter text options p.start.offset p.start.line p.taken bounds
-inside_after text options lines line p bounds w = record {
+inside_after : (text : List ℕ) (options : FindOptions) (lines : List LogicalLine) (line : LogicalLine) (p : PendingState) (values : List BindingValue) → IsInside text options lines line p values → IsAfter text options p.start.offset p.start.line p.taken values
+inside_after text options lines line p values w = record {
   lines = lines;
   before = w.before;
   part = w.part;
@@ -84,23 +84,23 @@ inside_after text options lines line p bounds w = record {
 }
 
 -- what there is once a binding was given: where the finder stands, that it may stop, and where the binding comes from
-pub record HasGivenOne (text : List ℕ) (cursor : CursorState) (lines : List LogicalLine) (line : LogicalLine) (q : PendingState) (bounds : List Bound) (b : Bound) : Type 0 where
-  pub inside : IsInside text cursor.options lines line q (bounds ++ b ∷ [])
-  pub stopped : HasStopped text cursor (bounds ++ b ∷ [])
+pub record HasGivenOne (text : List ℕ) (cursor : CursorState) (lines : List LogicalLine) (line : LogicalLine) (q : PendingState) (values : List BindingValue) (b : BindingValue) : Type 0 where
+  pub inside : IsInside text cursor.options lines line q (values ++ b ∷ [])
+  pub stopped : HasStopped text cursor (values ++ b ∷ [])
   pub from : BindsFrom text cursor.offset b
 
 -- the next binding with a new key was given
-pub one_given : (text : List ℕ) (cursor t : CursorState) (lines : List LogicalLine) (line : LogicalLine) (p q : PendingState) (bounds : List Bound) (b : Bound) → HasStopped text cursor bounds → TakesNew cursor p b t q → IsInside text cursor.options lines line p bounds → HasGivenOne text t lines line q bounds b
-one_given text cursor t lines line p q bounds b stopped takes w =
+pub one_given : (text : List ℕ) (cursor t : CursorState) (lines : List LogicalLine) (line : LogicalLine) (p q : PendingState) (values : List BindingValue) (b : BindingValue) → HasStopped text cursor values → TakesNew cursor p b t q → IsInside text cursor.options lines line p values → HasGivenOne text t lines line q values b
+one_given text cursor t lines line p q values b stopped takes w =
     let unique = cursor.options.unique in
-    let mid = inside_passed text cursor lines line p takes.between bounds stopped takes.passes w in
-    let inside = inside_given text cursor lines line takes.between q bounds b stopped (not_not _ takes.admits.answer) takes.looks mid in
-    subst (λ (s : CursorState). HasGivenOne text s lines line q bounds b) (sym (gives_at cursor t p q b takes)) (record {
+    let mid = inside_passed text cursor lines line p takes.between values stopped takes.passes w in
+    let inside = inside_given text cursor lines line takes.between q values b stopped (not_not _ takes.admits.answer) takes.looks mid in
+    subst (λ (s : CursorState). HasGivenOne text s lines line q values b) (sym (gives_at cursor t p q b takes)) (record {
       inside = inside;
       stopped = record {
-        after = inside_after text cursor.options lines line q (bounds ++ b ∷ []) inside;
-        keys = ap (λ ks. ks ++ keys_of unique (b ∷ [])) stopped.keys ∙ sym (keys_of-snoc unique bounds b);
-        given = ap next_count stopped.given ∙ given-snoc bounds b;
+        after = inside_after text cursor.options lines line q (values ++ b ∷ []) inside;
+        keys = ap (λ ks. ks ++ keys_of unique (b ∷ [])) stopped.keys ∙ sym (keys_of-snoc unique values b);
+        given = ap next_count stopped.given ∙ given-snoc values b;
       };
       from = record {
         before = lines;
@@ -112,8 +112,8 @@ one_given text cursor t lines line p q bounds b stopped takes w =
     })
 
 -- a line of which nothing is left was looked through
-abbrev pub line_over : (text : List ℕ) (options : FindOptions) (place number : ℕ) (lines : List LogicalLine) (line : LogicalLine) (p : PendingState) (bounds : List Bound) → p.left ≡ [] → HasGiven (standing_at text place number) (lines ++ line ∷ []) → IsInside text options lines line p bounds → IsAfter text options place number 0 bounds
-line_over text options place number lines line p bounds none given w = record {
+abbrev pub line_over : (text : List ℕ) (options : FindOptions) (place number : ℕ) (lines : List LogicalLine) (line : LogicalLine) (p : PendingState) (values : List BindingValue) → p.left ≡ [] → HasGiven (standing_at text place number) (lines ++ line ∷ []) → IsInside text options lines line p values → IsAfter text options place number 0 values
+line_over text options place number lines line p values none given w = record {
   lines = lines ++ line ∷ [];
   before = w.before ++ w.part;
   part = [];

@@ -2,7 +2,7 @@
 use Rattle.std.proofs.Common.{◌≡◌, Result, Ok, Err, map, refl, sym, subst, ◌∙◌}
 use Rattle.py_lines.specs.LogicalLine.{LogicalLine}
 use Rattle.py_lines.specs.declared.fault.Fault.{Fault}
-use Rattle.py_imports.specs.Bound.{bound_of}
+use Rattle.py_imports.specs.BindingValue.{binding_value}
 use Rattle.isort_find.specs.Private.Walks.{WalkerState, FollowsStep, LooksAhead, ReadsOrLosesLine, StandsAtNew, TriesLine}
 use Rattle.isort_find.specs.Private.LineSteps.{Judges, binding, ending, failing, lost}
 use Rattle.isort_find.specs.declared.error.FindError.{FindError}
@@ -33,7 +33,7 @@ step_fine : (old mid new : WalkerState) (line : LogicalLine) (start : LineStart)
 step_fine old mid new line start (step.Bindings bindings) read judged follows fine looks =
     let ahead = subst (λ (w : WalkerState). LooksAhead w new) follows.1 looks in
     record {
-      learns = record { trial = binding (map bound_of bindings.items); turns = judged; follows = (refl, record { rest = ahead.rest; passes = ahead.passes; same = ahead.same }) };
+      learns = record { trial = binding (map binding_value bindings.items); turns = judged; follows = (refl, record { rest = ahead.rest; passes = ahead.passes; same = ahead.same }) };
       next_new = subst StandsAtNew (sym ahead.same) ahead.next_new;
     }
 step_fine old mid new line start step.Plain read judged follows fine looks = absurd judged

@@ -1,7 +1,7 @@
 -- A call of `next_import`, from where it begins to the end or the fault.
 use Rattle.std.proofs.Common.{◌≡◌, ℕ, ◌+◌, ◌⊎◌, None, List, inl, inr, refl, sym, ap, ◌∙◌, subst, arith}
 use Rattle.py_lines.specs.declared.fault.Fault.{Fault}
-use Rattle.py_imports.specs.Bound.{Bound}
+use Rattle.py_imports.specs.BindingValue.{BindingValue}
 use Rattle.isort_find.specs.Found.{IsFound}
 use Rattle.isort_find.specs.Position.{phase_in, MeetsEndAt, EndsInFaultAt}
 use Rattle.isort_find.specs.Finder.{FinderState, HasFound, HasReached, FindsEnd, FindsFault, finder_text, options_of}
@@ -21,19 +21,19 @@ work (phase.Fault fault) n = 0
 -- the call has just begun
 pub goes_start : (i : FinderState) → GoesThroughCall i i
 goes_start i = record {
-  keeps = record { kept = λ bounds h. h; task = record { text = refl; options = refl }; given = refl };
+  keeps = record { kept = λ values h. h; task = record { text = refl; options = refl }; given = refl };
   falls = λ e. omega arith;
   cursor = λ e. refl;
   start = inr refl;
 }
 
 -- where a finder has got that has met the end
-at_end : (f : FinderState) (bounds : List Bound) (s : Position) → phase_in s ≡ phase.End → HasReached f bounds s → IsFound (finder_text f) (options_of f) bounds None × MeetsEndAt (finder_text f) (options_of f) f.cursor.offset
-at_end f bounds (position.End passed) at h = h
-at_end f bounds (position.Between skip) at h = absurd cc
-at_end f bounds (position.Unread start skip) at h = absurd cc
-at_end f bounds (position.Within pending) at h = absurd cc
-at_end f bounds (position.Fault fault) at h = absurd cc
+at_end : (f : FinderState) (values : List BindingValue) (s : Position) → phase_in s ≡ phase.End → HasReached f values s → IsFound (finder_text f) (options_of f) values None × MeetsEndAt (finder_text f) (options_of f) f.cursor.offset
+at_end f values (position.End passed) at h = h
+at_end f values (position.Between skip) at h = absurd cc
+at_end f values (position.Unread start skip) at h = absurd cc
+at_end f values (position.Within pending) at h = absurd cc
+at_end f values (position.Fault fault) at h = absurd cc
 
 -- a finder that has met a fault stands there
 pub at_fault : (s : Position) (fault : Fault) → phase_in s ≡ phase.Fault fault → s ≡ position.Fault fault
@@ -52,10 +52,10 @@ not_met i f met other (inr same) at is differs = sym at ∙ ap (λ (x : FinderSt
 pub goes_to_end : (i f : FinderState) → GoesThroughCall i f → phase_in f.position ≡ phase.End → FindsEnd i f
 goes_to_end i f goes at =
     let task = goes.keeps.task in
-    let met : (bounds : List Bound) → HasFound i bounds → IsFound (finder_text i) (options_of i) bounds None × MeetsEndAt (finder_text i) (options_of i) f.cursor.offset = λ bounds h. subst (λ (t : List ℕ). IsFound t (options_of i) bounds None × MeetsEndAt t (options_of i) f.cursor.offset) task.text (subst (λ (o : FindOptions). IsFound (finder_text f) o bounds None × MeetsEndAt (finder_text f) o f.cursor.offset) task.options (at_end f bounds f.position at (goes.keeps.kept bounds h).reached)) in
+    let met : (values : List BindingValue) → HasFound i values → IsFound (finder_text i) (options_of i) values None × MeetsEndAt (finder_text i) (options_of i) f.cursor.offset = λ values h. subst (λ (t : List ℕ). IsFound t (options_of i) values None × MeetsEndAt t (options_of i) f.cursor.offset) task.text (subst (λ (o : FindOptions). IsFound (finder_text f) o values None × MeetsEndAt (finder_text f) o f.cursor.offset) task.options (at_end f values f.position at (goes.keeps.kept values h).reached)) in
     record {
-      all = λ bounds h. (met bounds h).0;
-      offset = λ bounds h. (met bounds h).1;
+      all = λ values h. (met values h).0;
+      offset = λ values h. (met values h).1;
       keeps = goes.keeps;
       no_fault = λ fault e. let both = not_met i f phase.End (phase.Fault fault) goes.start at (ap phase_in e) (λ x. cc) in cc;
       ended = at;
@@ -66,10 +66,10 @@ pub goes_to_fault : (i f : FinderState) (fault : Fault) → GoesThroughCall i f 
 goes_to_fault i f fault goes at =
     let task = goes.keeps.task in
     let stands = at_fault f.position fault at in
-    let met : (bounds : List Bound) → HasFound i bounds → EndsInFaultAt (finder_text i) (options_of i) bounds f.cursor.offset fault = λ bounds h. subst (λ (t : List ℕ). EndsInFaultAt t (options_of i) bounds f.cursor.offset fault) task.text (subst (λ (o : FindOptions). EndsInFaultAt (finder_text f) o bounds f.cursor.offset fault) task.options (subst (HasReached f bounds) stands (goes.keeps.kept bounds h).reached)) in
+    let met : (values : List BindingValue) → HasFound i values → EndsInFaultAt (finder_text i) (options_of i) values f.cursor.offset fault = λ values h. subst (λ (t : List ℕ). EndsInFaultAt t (options_of i) values f.cursor.offset fault) task.text (subst (λ (o : FindOptions). EndsInFaultAt (finder_text f) o values f.cursor.offset fault) task.options (subst (HasReached f values) stands (goes.keeps.kept values h).reached)) in
     record {
-      all = λ bounds h. (met bounds h).0;
-      offset = λ bounds h. (met bounds h).1;
+      all = λ values h. (met values h).0;
+      offset = λ values h. (met values h).1;
       keeps = goes.keeps;
       no_end = λ e. let both = not_met i f (phase.Fault fault) phase.End goes.start at e (λ x. cc) in cc;
       again = λ first e. let both = not_met i f (phase.Fault fault) (phase.Fault first) goes.start at (ap phase_in e) (λ x. cc) in cc;

@@ -27,9 +27,9 @@ left_position (position.Fault fault) opened read fresh = absurd cc
 -- the line read last is left
 pub leaves : (old f : FinderState) → skip_in f.position ≡ 0 → StandsBefore old f → StandsBefore old (finder_state f.reader (position.Between 0) f.cursor)
 leaves old f fresh b = record {
-  found = λ bounds h.
-      let q = b.found bounds h in
-      let before = subst (λ (n : ℕ). IsBeforeLine f n bounds) fresh (before_line f.reader f.position f.cursor bounds b.is_open b.none b.read q) in
+  found = λ values h.
+      let q = b.found values h in
+      let before = subst (λ (n : ℕ). IsBeforeLine f n values) fresh (before_line f.reader f.position f.cursor values b.is_open b.none b.read q) in
       record { stopped = q.stopped; reached = record { no_fault = before.no_fault; after = before.after } };
   is_open = refl;
   none = refl;

@@ -1,11 +1,11 @@
 -- How a cursor moves.
 use Rattle.std.specs.Prelude.{◌≡◌, ℕ, Bool, not, [], ◌∷◌, ◌++◌, if◌then◌else◌}
-use Rattle.py_imports.specs.Bound.{Bound}
+use Rattle.py_imports.specs.BindingValue.{BindingValue}
 use Rattle.isort_find.specs.Cursor.{CursorState, next_count, keys_of, knows_key}
 use Rattle.isort_find.specs.declared.pending.LineStart.{LineStart}
 
 -- the cursor takes in the key of a new binding
-pub record Admits (old : CursorState) (b : Bound) (is_new : Bool) (new : CursorState) : Type 0 where
+pub record Admits (old : CursorState) (b : BindingValue) (is_new : Bool) (new : CursorState) : Type 0 where
   pub answer : is_new ≡ not (knows_key old.options.unique old.keys b)
   pub same : new ≡ record old { keys = if is_new then old.keys ++ keys_of old.options.unique (b ∷ []) else old.keys }
 

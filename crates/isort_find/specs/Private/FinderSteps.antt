@@ -1,7 +1,7 @@
 -- How a finder that has the whole text goes from one state to the next within a call.
 use Rattle.std.specs.Prelude.{◌≡◌, ℕ, ◌<◌, ◌≤◌, ◌⊎◌, false, Option, None, Some, Result, Ok, Err, List, [], map}
 use Rattle.py_lines.specs.Reader.{GoesOnAt}
-use Rattle.py_imports.specs.Bound.{Bound, bound_of}
+use Rattle.py_imports.specs.BindingValue.{BindingValue, binding_value}
 use Rattle.py_imports.specs.declared.binding.Binding.{Binding}
 use Rattle.isort_find.specs.Finder.{FinderState, HasFound, KeepsGiven, FindsNext, FinderRunsOut, finder_state, finder_text, left_of}
 use Rattle.isort_find.specs.Pending.{pending_after}
@@ -31,7 +31,7 @@ pub record LooksThrough (old new : FinderState) : Type 0 where
 
 -- the next binding of the line read last with a new key, or that there is none
 abbrev pub GivesNew : FinderState → Result (Option Binding) FindError → FinderState → Type 0
-GivesNew old (Ok (Some b)) new = FindsNext old (bound_of b) new
+GivesNew old (Ok (Some b)) new = FindsNext old (binding_value b) new
 GivesNew old (Ok None) new = LooksThrough old new
 GivesNew old (Err e) new = FinderRunsOut old new × (e ≡ error.Memory)
 
@@ -52,7 +52,7 @@ GoesBack old new = GoesBackFrom old.position old new
 
 -- it has given the same, and its reader reads the next logical line
 pub record StandsBefore (old new : FinderState) : Type 0 where
-  pub found : (bounds : List Bound) → HasFound old bounds → HasFound new bounds
+  pub found : (values : List BindingValue) → HasFound old values → HasFound new values
   pub is_open : phase_in new.position ≡ phase.Open
   pub none : left_in new.position ≡ []
   pub read : is_unread new.position ≡ false
@@ -61,8 +61,8 @@ pub record StandsBefore (old new : FinderState) : Type 0 where
   pub falls : left_of new ≤ left_of old
 
 -- the bindings of the line that begins here are to be looked at, except those that were
-abbrev pub with_line : FinderState → LineStart → List Bound → FinderState
-with_line f start bounds = record f { position = position.Within (pending_after start (skip_in f.position) bounds) }
+abbrev pub with_line : FinderState → LineStart → List BindingValue → FinderState
+with_line f start values = record f { position = position.Within (pending_after start (skip_in f.position) values) }
 
 -- the end or a fault was met in the line that begins here
 abbrev pub ended_at_line : FinderState → LineStart → Position → FinderState
@@ -75,7 +75,7 @@ with_line_again f start = record f { position = position.Unread start (skip_in f
 -- what becomes of a finder by a step that was read of the line that begins here
 abbrev pub FollowsRead : FinderState → LineStart → Step → Result (Unit {0}) FindError → FinderState → Type 0
 FollowsRead old start (step.Bindings bindings) result new =
-    (result ≡ Ok tt) × (new ≡ with_line old start (map bound_of bindings.items))
+    (result ≡ Ok tt) × (new ≡ with_line old start (map binding_value bindings.items))
 FollowsRead old start step.Plain result new = (result ≡ Ok tt) × (new ≡ record old { position = position.Between 0 })
 FollowsRead old start step.End result new = (result ≡ Ok tt) × (new ≡ ended_at_line old start (position.End 0))
 FollowsRead old start (step.Fault fault) result new = (result ≡ Ok tt) × (new ≡ ended_at_line old start (position.Fault fault))

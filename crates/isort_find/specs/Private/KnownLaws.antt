@@ -6,7 +6,7 @@ use Rattle.py_lines.specs.Settled.{IsSettled, Decides}
 use Rattle.py_lines.specs.Given.{AreFirstLines}
 use Rattle.py_lines.specs.Reader.{Reader, HasGiven}
 use Rattle.py_lines.specs.declared.fault.Fault.{Fault}
-use Rattle.py_imports.specs.Bound.{Bound}
+use Rattle.py_imports.specs.BindingValue.{BindingValue}
 use Rattle.py_imports.specs.Binds.{Binds, BindsOrIsBad, IsBadAt}
 
 -- the law of `py_lines::laws::given_lines_begin_the_text`
@@ -18,8 +18,8 @@ pub record BasicLaws : Type 0 where
   pub one_lexing : (text : List ℕ) (lines others : List LogicalLine) (end other : Option Fault)
       → IsLexed text lines end → IsLexed text others other → lines ≡ others
   pub begins : GivenLinesBegin
-  pub one_list : (line : LogicalLine) (bounds others : List Bound) → Binds line bounds → Binds line others → bounds ≡ others
-  pub not_both : (line : LogicalLine) (bounds : List Bound) (fault : Fault) → Binds line bounds → ¬ (IsBadAt line fault)
+  pub one_list : (line : LogicalLine) (values others : List BindingValue) → Binds line values → Binds line others → values ≡ others
+  pub not_both : (line : LogicalLine) (values : List BindingValue) (fault : Fault) → Binds line values → ¬ (IsBadAt line fault)
 
 -- the laws that a text has one end and a logical line one fault, beside those of its lines
 pub record EndLaws : Type 0 where

@@ -1,7 +1,7 @@
 -- How the bindings of a logical line are looked at.
 use Rattle.std.specs.Prelude.{◌≡◌, ◌+◌, true, Option, None, Some, Result, Ok, Err, List, [], ◌∷◌, ◌++◌, length}
 use Rattle.std.specs.List.{list_all}
-use Rattle.py_imports.specs.Bound.{Bound, bound_of}
+use Rattle.py_imports.specs.BindingValue.{BindingValue, binding_value}
 use Rattle.py_imports.specs.declared.binding.Binding.{Binding}
 use Rattle.isort_find.specs.Cursor.{CursorState, knows_key, BeginsNew}
 use Rattle.isort_find.specs.Pending.{PendingState}
@@ -10,21 +10,21 @@ use Rattle.isort_find.specs.declared.error.FindError.{FindError}
 use Rattle.isort_find.specs.declared.error.FindError.TheVariants as error
 
 -- one more was looked at
-pub record Looks (old : PendingState) (b : Bound) (new : PendingState) : Type 0 where
+pub record Looks (old : PendingState) (b : BindingValue) (new : PendingState) : Type 0 where
   pub left : old.left ≡ b ∷ new.left
   pub start : new.start ≡ old.start
   pub taken : new.taken ≡ old.taken + 1
 
 -- bindings were looked at whose keys were given before
 pub record PassesBindings (s : CursorState) (old new : PendingState) : Type 0 where
-  pub dropped : List Bound
+  pub dropped : List BindingValue
   pub split : old.left ≡ dropped ++ new.left
   pub known : list_all (knows_key s.options.unique s.keys) dropped ≡ true
   pub start : new.start ≡ old.start
   pub taken : new.taken ≡ old.taken + length dropped
 
 -- after such bindings one with a new key was taken
-pub record TakesNew (s : CursorState) (old : PendingState) (b : Bound) (t : CursorState) (new : PendingState) : Type 0 where
+pub record TakesNew (s : CursorState) (old : PendingState) (b : BindingValue) (t : CursorState) (new : PendingState) : Type 0 where
   pub between : PendingState
   pub admitted : CursorState
   pub passes : PassesBindings s old between
@@ -34,7 +34,7 @@ pub record TakesNew (s : CursorState) (old : PendingState) (b : Bound) (t : Curs
 
 -- what is taken of the bindings that are left
 abbrev pub TakesNextBinding : CursorState → PendingState → Result (Option Binding) FindError → CursorState → PendingState → Type 0
-TakesNextBinding s old (Ok (Some b)) t new = TakesNew s old (bound_of b) t new
+TakesNextBinding s old (Ok (Some b)) t new = TakesNew s old (binding_value b) t new
 TakesNextBinding s old (Ok None) t new = PassesBindings s old new × (new.left ≡ []) × (t ≡ s)
 TakesNextBinding s old (Err e) t new = PassesBindings s old new × (t ≡ s) × (e ≡ error.Memory) × (new.left ≡ [] → ⊥)
 

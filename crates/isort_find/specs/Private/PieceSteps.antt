@@ -86,8 +86,8 @@ pub record PassesLines (old : PieceFinderState) (piece : List ℕ) (n : ℕ) (ne
 -- be held, which wasn't looked at yet.
 pub record TakesLines (old : PieceFinderState) (piece : List ℕ) (n : ℕ) (new : PieceFinderState) : Type 0 where
   pub advances : Advances old piece n new
-  pub all : InEachText old (take n piece) (λ text bounds. has_ready new ≡ false → AreAllSettled new text bounds)
-  pub undecided : InEachText old (take n piece) (λ text bounds. has_ready new ≡ false → IsDrained new → IsUndecided new text)
+  pub all : InEachText old (take n piece) (λ text values. has_ready new ≡ false → AreAllSettled new text values)
+  pub undecided : InEachText old (take n piece) (λ text values. has_ready new ≡ false → IsDrained new → IsUndecided new text)
   pub next_new : IsNextNew new
   pub some : n ≡ 0 → piece ≡ []
   pub no_fault : HasNoFault new

@@ -2,7 +2,7 @@
 use Rattle.std.specs.Prelude.{◌≡◌, ℕ, Option, None, Some, Result, Ok, Err, List, map}
 use Rattle.py_lines.specs.LogicalLine.{LogicalLine}
 use Rattle.py_lines.specs.declared.fault.Fault.{Fault}
-use Rattle.py_imports.specs.Bound.{Bound, bound_of}
+use Rattle.py_imports.specs.BindingValue.{BindingValue, binding_value}
 use Rattle.py_imports.specs.declared.binding.Binding.{Binding}
 use Rattle.isort_find.specs.Cursor.{CursorState, BeginsNew}
 use Rattle.isort_find.specs.Pending.{PendingState, pending_after}
@@ -36,8 +36,8 @@ abbrev pub with_fault : WalkerState → LineStart → Fault → WalkerState
 with_fault w start fault = walker_state (position.Fault fault) (cursor_before w.cursor start)
 
 -- the bindings of the line that begins here are to be looked at, except those that were
-abbrev pub with_bindings : WalkerState → LineStart → List Bound → WalkerState
-with_bindings w start bounds = with_position w (position.Within (pending_after start (skip_in w.position) bounds))
+abbrev pub with_bindings : WalkerState → LineStart → List BindingValue → WalkerState
+with_bindings w start values = with_position w (position.Within (pending_after start (skip_in w.position) values))
 
 -- where the logical line begins that was left unread
 abbrev pub unread_in : Position → Option LineStart
@@ -66,7 +66,7 @@ passed_up_to other place = other
 -- what becomes of a walker by what the logical line is that begins here
 abbrev pub FollowsStep : WalkerState → LineStart → Step → Result (Unit {0}) FindError → WalkerState → Type 0
 FollowsStep old start (step.Bindings bindings) result new =
-    (result ≡ Ok tt) × (new ≡ with_bindings old start (map bound_of bindings.items))
+    (result ≡ Ok tt) × (new ≡ with_bindings old start (map binding_value bindings.items))
 FollowsStep old start step.Plain result new = (result ≡ Ok tt) × (new ≡ with_position old (position.Between 0))
 FollowsStep old start step.End result new = (result ≡ Ok tt) × (new ≡ with_position old (position.End 0))
 FollowsStep old start (step.Fault fault) result new = (result ≡ Err (error.Fault fault)) × (new ≡ with_fault old start fault)
@@ -105,8 +105,8 @@ LooksAhead old new = LooksAheadAt old.position old.cursor new
 
 -- what becomes of a walker that reads the line that begins here, or leaves it unread, which is no error
 abbrev pub FollowsTrial : WalkerState → LineStart → Trial → Result (Unit {0}) FindError → WalkerState → Type 0
-FollowsTrial old start (binding bounds) result new =
-    (result ≡ Ok tt) × PassesFrom (pending_after start (skip_in old.position) bounds) old.cursor new
+FollowsTrial old start (binding values) result new =
+    (result ≡ Ok tt) × PassesFrom (pending_after start (skip_in old.position) values) old.cursor new
 FollowsTrial old start ending result new = (result ≡ Ok tt) × (new ≡ with_position old (position.End 0))
 FollowsTrial old start (failing fault) result new = (result ≡ Err (error.Fault fault)) × (new ≡ with_fault old start fault)
 FollowsTrial old start lost result new =

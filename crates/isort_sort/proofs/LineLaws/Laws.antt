@@ -7,7 +7,7 @@ use Rattle.py_lines.specs.Words.{word_in, words_of}
 use Rattle.py_lines.specs.declared.token.Token.{Token}
 use Rattle.py_imports.specs.ActionComment.{says}
 use Rattle.py_imports.specs.Binds.{Binds}
-use Rattle.py_imports.specs.Bound.{bound_at}
+use Rattle.py_imports.specs.BindingValue.{binding_at}
 use Rattle.py_imports.specs.Grammar.{Imported, IsImport, begins_import}
 use Rattle.py_imports.specs.Names.{terminals_in}
 use Rattle.py_imports.specs.Shape.{terminals_of}
@@ -19,5 +19,5 @@ pub record Laws : Type 0 where
   pub letters : LettersAreWords
   pub tokens : (offset line : ℕ) (pieces : List Piece) → map (word_in (line_of offset line pieces).text) (line_of offset line pieces).tokens ≡ words_of pieces
   pub terminals : (offset line : ℕ) (pieces : List Piece) → terminals_of (line_of offset line pieces) ≡ terminals_in (words_of pieces)
-  pub binds : (line : LogicalLine) (token : Token) (tokens : List Token) (is : List Imported) → significant line.tokens ≡ token ∷ tokens → list_any (λ t. is_divider t.kind) (token ∷ tokens) ≡ false → begins_import (terminals_of line) ≡ true → IsImport (terminals_of line) is → Binds line (map (bound_at token.line (nat_lt 0 line.indent)) is)
+  pub binds : (line : LogicalLine) (token : Token) (tokens : List Token) (is : List Imported) → significant line.tokens ≡ token ∷ tokens → list_any (λ t. is_divider t.kind) (token ∷ tokens) ≡ false → begins_import (terminals_of line) ≡ true → IsImport (terminals_of line) is → Binds line (map (binding_at token.line (nat_lt 0 line.indent)) is)
   pub joined : (a : ActionComment) (text rest : List ℕ) → says a (text ++ (codes "; " ++ rest)) ≡ true → (says a text ≡ true) ⊎ (says a rest ≡ true)

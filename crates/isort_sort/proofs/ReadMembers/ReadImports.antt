@@ -11,7 +11,7 @@ use Rattle.py_lines.specs.Neighbours.{is_space_class}
 use Rattle.py_lines.specs.Fields.{InClass, AreReadBefore}
 use Rattle.py_lines.specs.declared.token.Token.{Token}
 use Rattle.py_imports.specs.Binds.{BindEach, BindsAt, nothing, imports, terminals_at, terminal_in}
-use Rattle.py_imports.specs.Bound.{Bound}
+use Rattle.py_imports.specs.BindingValue.{BindingValue}
 use Rattle.py_imports.specs.Grammar.{Terminal, begins_import, Imported, Item, IsImport, import_statement, from_statement, NameKind, AreItems, last, then, AreBracketed, closed, closed_after_comma, AreNames, plain_names, bracketed, all_names}
 use Rattle.py_imports.specs.Names.{AreNamed, HaveNames}
 use Rattle.py_imports.specs.Shape.{terminals_of, mark_len}
@@ -71,16 +71,16 @@ map_append : {X Y : Type 0} (f : X → Y) (a b : List X) → map f a ++ map f b 
 map_append f [] b = refl
 map_append f (x ∷ xs) b = ap (λ l. f x ∷ l) (map_append f xs b)
 
-bound_named : ImportLaws → (line : LogicalLine) (p : TokenPlace) (bounds : List Bound) → TokensNamed line.text (p.token ∷ p.after) → BindsAt line p bounds → AreNamed (map imported_of bounds)
-bound_named laws line p bounds h (nothing l q bs none e) = subst (λ (b : List Bound). AreNamed (map imported_of b)) (sym e) tt
-bound_named laws line p bounds h (imports l q bs is begins import e) =
+value_named : ImportLaws → (line : LogicalLine) (p : TokenPlace) (values : List BindingValue) → TokensNamed line.text (p.token ∷ p.after) → BindsAt line p values → AreNamed (map imported_of values)
+value_named laws line p values h (nothing l q bs none e) = subst (λ (b : List BindingValue). AreNamed (map imported_of b)) (sym e) tt
+value_named laws line p values h (imports l q bs is begins import e) =
     subst AreNamed (sym (ap (map imported_of) e ∙ imported_again p.token.line (nat_lt 0 line.indent) is)) (laws.named (terminals_at line p) is import (statement_named line p h))
 
-each_named : ImportLaws → (line : LogicalLine) (ps : List TokenPlace) (bounds : List Bound) → PlacesNamed line.text ps → BindEach line ps bounds → AreNamed (map imported_of bounds)
-each_named laws line [] bounds h b = subst (λ (l : List Bound). AreNamed (map imported_of l)) (sym b) tt
-each_named laws line (p ∷ ps) bounds h b =
+each_named : ImportLaws → (line : LogicalLine) (ps : List TokenPlace) (values : List BindingValue) → PlacesNamed line.text ps → BindEach line ps values → AreNamed (map imported_of values)
+each_named laws line [] values h b = subst (λ (l : List BindingValue). AreNamed (map imported_of l)) (sym b) tt
+each_named laws line (p ∷ ps) values h b =
     subst AreNamed (map_append imported_of b.0 b.1 ∙ ap (map imported_of) (sym b.2))
-    (named_append (map imported_of b.0) (map imported_of b.1) (bound_named laws line p b.0 h.0 b.3) (each_named laws line ps b.1 h.1 b.4))
+    (named_append (map imported_of b.0) (map imported_of b.1) (value_named laws line p b.0 h.0 b.3) (each_named laws line ps b.1 h.1 b.4))
 
 pub imports_named : ImportLaws → (u : List Piece) (is : List Imported) → IsUnit u → Imports (unit_line u) is → AreNamed is
 imports_named laws u is unit h =
@@ -110,20 +110,20 @@ some_imported : (ts : List Terminal) (is : List Imported) → IsImport ts is →
 some_imported _ _ (import_statement rest is are) = some_map _ is (some_items _ rest is are)
 some_imported ts _ (from_statement _ from rest is e relative names) = some_map _ is (some_names rest is names)
 
-first_bound : (line : LogicalLine) (p : TokenPlace) (bounds : List Bound) → begins_import (terminals_at line p) ≡ true → BindsAt line p bounds → AreSome bounds
-first_bound line p bounds begins (nothing l q bs none e) = absurd (both_ways _ none begins)
-first_bound line p bounds begins (imports l q bs is more import e) = subst AreSome (sym e) (some_map _ is (some_imported _ is import))
+first_value : (line : LogicalLine) (p : TokenPlace) (values : List BindingValue) → begins_import (terminals_at line p) ≡ true → BindsAt line p values → AreSome values
+first_value line p values begins (nothing l q bs none e) = absurd (both_ways _ none begins)
+first_value line p values begins (imports l q bs is more import e) = subst AreSome (sym e) (some_map _ is (some_imported _ is import))
 
-some_bounds : (line : LogicalLine) (tokens : List Token) (bounds : List Bound) (is : List Imported) → list_any is_end (places_from [] tokens) ≡ false → IsImport (map (terminal_in line.text) tokens) is → BindEach line (starts tokens) bounds → AreSome bounds
-some_bounds line [] bounds is alone import binds = absurd (both_ways _ refl (import_begins [] is import))
-some_bounds line (t ∷ ts) bounds is alone import binds =
+some_values : (line : LogicalLine) (tokens : List Token) (values : List BindingValue) (is : List Imported) → list_any is_end (places_from [] tokens) ≡ false → IsImport (map (terminal_in line.text) tokens) is → BindEach line (starts tokens) values → AreSome values
+some_values line [] values is alone import binds = absurd (both_ways _ refl (import_begins [] is import))
+some_values line (t ∷ ts) values is alone import binds =
     let p : TokenPlace = record { before = []; token = t; after = ts } in
     let whole : statement_at p ≡ t ∷ ts = ap (map (λ (q : TokenPlace). q.token)) (all_taken (places_from [] (t ∷ ts)) alone) ∙ tokens_again [] (t ∷ ts) in
     let begins = ap (λ (l : List Token). begins_import (map (terminal_in line.text) l)) whole ∙ import_begins (map (terminal_in line.text) (t ∷ ts)) is import in
-    subst AreSome (sym binds.2) (some_first binds.0 binds.1 (first_bound line p binds.0 begins binds.3))
+    subst AreSome (sym binds.2) (some_first binds.0 binds.1 (first_value line p binds.0 begins binds.3))
 
 pub imports_some : (line : LogicalLine) (is : List Imported) → Imports line is → AreSome is
-imports_some line is h = subst AreSome (sym h.1.2) (some_map imported_of h.1.0 (some_bounds line (significant line.tokens) h.1.0 h.0.imported h.0.alone h.0.is h.1.1))
+imports_some line is h = subst AreSome (sym h.1.2) (some_map imported_of h.1.0 (some_values line (significant line.tokens) h.1.0 h.0.imported h.0.alone h.0.is h.1.1))
 
 -- the indentation of a line is space
 unindented : (u : List Piece) → indent_of u ≡ 0 → list_all is_space (indentation_of (unit_line u)) ≡ true

@@ -6,7 +6,7 @@ use Rattle.std.specs.List.{list_any}
 use Rattle.std.specs.Str.{IsUtf8}
 use Rattle.py_lines.specs.LogicalLine.{LogicalLine}
 use Rattle.py_imports.specs.ActionComment.{says}
-use Rattle.py_imports.specs.Bound.{Bound}
+use Rattle.py_imports.specs.BindingValue.{BindingValue}
 use Rattle.py_imports.specs.Binds.{Binds}
 use Rattle.py_imports.specs.declared.action_comment.ActionComment.TheVariants as action
 use Rattle.isort_sort.specs.Private.Arranged.{AreUtf8}
@@ -116,13 +116,13 @@ module _ (off : Bool) (line : LogicalLine) (utf8 : IsUtf8 line.text) (f new : Fi
         (found, is_row off mark line (comments (comment_texts line)) utf8 (is.0, is.1, refl), found_comments start rows f found stop (comment_texts line) passed h refl same (stop_is mark line f.place stop s at within));
   })
 
-  pub finds_member : (ended : Bool) (indentation : List ℕ) (m : Member) (bounds : List Bound) → new ≡ after_member stop ended indentation m f → IsOfRole off line role.Member → Binds line bounds → m ≡ record { imports = map imported_of bounds; comments = own_comments line; above = [] } → indentation ≡ indentation_of line → ended ≡ nat_lt 0 line.end_len → FindsLine off line f new
-  finds_member ended indentation m bounds same is binds value here e = subst (FindsLine off line f) (sym same) (record {
+  pub finds_member : (ended : Bool) (indentation : List ℕ) (m : Member) (values : List BindingValue) → new ≡ after_member stop ended indentation m f → IsOfRole off line role.Member → Binds line values → m ≡ record { imports = map imported_of values; comments = own_comments line; above = [] } → indentation ≡ indentation_of line → ended ≡ nat_lt 0 line.end_len → FindsLine off line f new
+  finds_member ended indentation m values same is binds value here e = subst (FindsLine off line f) (sym same) (record {
     place = place_after stop ended indentation m f ∙ s;
     finds = λ mark start rows at within h.
-        let found : Row = row_of mark line (member (map imported_of bounds) (own_comments line)) in (
+        let found : Row = row_of mark line (member (map imported_of values) (own_comments line)) in (
           found,
-          is_row off mark line (member (map imported_of bounds) (own_comments line)) utf8 (is.0, (is.1, (bounds, binds, refl)), refl),
+          is_row off mark line (member (map imported_of values) (own_comments line)) utf8 (is.0, (is.1, (values, binds, refl)), refl),
           subst (λ (b : Bool). IsFinding start (rows ++ found ∷ []) (after_member stop b indentation m f)) (sym e) (subst (λ (i : List ℕ). IsFinding start (rows ++ found ∷ []) (after_member stop (nat_lt 0 line.end_len) i m f)) (sym here) (found_member start rows f found stop m h refl value (stop_is mark line f.place stop s at within))),
         );
   })

@@ -8,7 +8,7 @@ use Rattle.py_lines.specs.declared.fault.LexError.{LexError}
 use Rattle.py_lines.specs.declared.fault.LexError.TheVariants as lex
 use Rattle.py_lines.specs.declared.unit.Unit as unit
 use Rattle.py_imports.specs.Binds.{Binds, BindAll, Refuses}
-use Rattle.py_imports.specs.Bound.{Bound, bound_of}
+use Rattle.py_imports.specs.BindingValue.{BindingValue, binding_value}
 use Rattle.py_imports.specs.declared.binding.Binding.{Binding}
 use Rattle.py_imports.specs.declared.error.ImportError.{ImportError}
 use Rattle.py_imports.specs.declared.error.ImportError.TheVariants as import
@@ -21,14 +21,14 @@ use Rattle.isort_sort.specs.Line.{imported_of}
 use Rattle.isort_sort.proofs.Readings.Lines.{any_match}
 use Rattle.isort_sort.proofs.Rows.Texts.{given_after}
 
-pub imports_of_bindings : (bindings : List Binding) → map (λ b. imported_of (bound_of b)) bindings ≡ map imported_of (map bound_of bindings)
+pub imports_of_bindings : (bindings : List Binding) → map (λ b. imported_of (binding_value b)) bindings ≡ map imported_of (map binding_value bindings)
 imports_of_bindings [] = refl
-imports_of_bindings (b ∷ bs) = ap (λ l. imported_of (bound_of b) ∷ l) (imports_of_bindings bs)
+imports_of_bindings (b ∷ bs) = ap (λ l. imported_of (binding_value b) ∷ l) (imports_of_bindings bs)
 
 -- one line more binds
-pub BindAll-snoc : (lines : List LogicalLine) (line : LogicalLine) (bounds more : List Bound) → BindAll lines bounds → Binds line more → BindAll (lines ++ line ∷ []) (bounds ++ more)
-BindAll-snoc [] line bounds more h b = (more, [], ap (λ x. x ++ more) h ∙ sym (append-nil more), b, refl)
-BindAll-snoc (l ∷ ls) line bounds more h b = (h.0, h.1 ++ more, ap (λ x. x ++ more) h.2 ∙ append_assoc h.0 h.1 more, h.3, BindAll-snoc ls line h.1 more h.4 b)
+pub BindAll-snoc : (lines : List LogicalLine) (line : LogicalLine) (values more : List BindingValue) → BindAll lines values → Binds line more → BindAll (lines ++ line ∷ []) (values ++ more)
+BindAll-snoc [] line values more h b = (more, [], ap (λ x. x ++ more) h ∙ sym (append-nil more), b, refl)
+BindAll-snoc (l ∷ ls) line values more h b = (h.0, h.1 ++ more, ap (λ x. x ++ more) h.2 ∙ append_assoc h.0 h.1 more, h.3, BindAll-snoc ls line h.1 more h.4 b)
 
 -- a line that was read continues the lines before it
 pub continues : (old new : Reader) (result : Result (Option unit.Unit) LexError) (found : Option unit.Unit) (u : unit.Unit) → ReadsNext old result new → result ≡ Ok found → found ≡ Some u → Continues old (line_in u) new
@@ -49,25 +49,25 @@ further_on old new r line on known =
     any_match r.blocks.opened (omega (arith, on.some_text, stands, known.so_far.place))
 
 -- what is known is known with one line more
-pub known_on : (old new : Reader) (r next : LineReader) (line : LogicalLine) (more : List Bound) → Continues old line new → Binds line more → ReadsLine line r next → IsKnown old r → IsKnown new next
+pub known_on : (old new : Reader) (r next : LineReader) (line : LogicalLine) (more : List BindingValue) → Continues old line new → Binds line more → ReadsLine line r next → IsKnown old r → IsKnown new next
 known_on old new r next line more on binds reads known = record {
   given = known.given ++ line ∷ [];
-  bounds = known.bounds ++ more;
+  values = known.values ++ more;
   within = on.within;
   are_given = on.given known.given known.are_given;
-  bind = BindAll-snoc known.given line known.bounds more known.bind binds;
+  bind = BindAll-snoc known.given line known.values more known.bind binds;
   so_far = reads known.given (stands_after old new known.given line on known.are_given) known.so_far;
 }
 
 -- the next line was read
-pub reads_line : (old new : Reader) (r next : LineReader) (line : LogicalLine) (more : List Bound) → Continues old line new → Binds line more → ReadsLine line r next → IsKnown old r → ReadsOver old (Ok true) new next
+pub reads_line : (old new : Reader) (r next : LineReader) (line : LogicalLine) (more : List BindingValue) → Continues old line new → Binds line more → ReadsLine line r next → IsKnown old r → ReadsOver old (Ok true) new next
 reads_line old new r next line more on binds reads known = (known_on old new r next line more on binds reads known, on.text, omega (arith, on.place, on.some_text))
 
 -- no line is left
 pub reads_end : (old new : Reader) (r : LineReader) → Ends old new → IsKnown old r → ReadsOver old (Ok false) new r
 reads_end old new r ends known = record {
   lines = known.given;
-  accepted = record { bounds = known.bounds; lexed = ends.all known.given known.are_given; good = known.bind };
+  accepted = record { values = known.values; lexed = ends.all known.given known.are_given; good = known.bind };
   so_far = known.so_far;
 }
 
@@ -76,7 +76,7 @@ pub refuses_text : (old new : Reader) (r : LineReader) (e : LexError) → ReadsN
 refuses_text old new r lex.Memory reads known = tt
 refuses_text old new r (lex.Fault fault) reads known = inr (record {
   lines = known.given;
-  bounds = known.bounds;
+  values = known.values;
   lexed = reads.all known.given known.are_given;
   good = known.bind;
 })
@@ -92,7 +92,7 @@ refuses_line old new r line (import.Fault fault) on bad known =
       line = line;
       after = begins.more;
       end = begins.end;
-      bounds = known.bounds;
+      values = known.values;
       lexed = subst (λ t. IsLexed t (lines ++ line ∷ begins.more) begins.end) on.text (subst (λ ls. IsLexed new.text ls begins.end) (append_assoc lines (line ∷ []) begins.more) begins.lexed);
       good = known.bind;
       bad = bad;

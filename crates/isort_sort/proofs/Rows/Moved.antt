@@ -5,8 +5,8 @@ use Rattle.std.specs.List.{prefix_len}
 use Rattle.py_lines.specs.LogicalLine.{LogicalLine}
 use Rattle.py_lines.specs.Words.{Extent, extent_of}
 use Rattle.py_lines.specs.declared.token.Token.{Token}
-use Rattle.py_imports.specs.Binds.{Binds, BindEach, BindsAt, nothing, imports, bounds_at, terminals_at, terminal_in}
-use Rattle.py_imports.specs.Bound.{Bound, bound_at}
+use Rattle.py_imports.specs.Binds.{Binds, BindEach, BindsAt, nothing, imports, values_at, terminals_at, terminal_in}
+use Rattle.py_imports.specs.BindingValue.{BindingValue, binding_at}
 use Rattle.py_imports.specs.Grammar.{Terminal, Imported, IsImport, begins_import}
 use Rattle.py_imports.specs.Statement.{is_comment, is_semicolon, is_divider, significant, depth_past, depth_after_tokens, ends_in_divider, may_start_after, TokenPlace, places_from, starts, is_end, statement_at}
 use Rattle.isort_sort.specs.Line.{imported_of}
@@ -152,37 +152,37 @@ terminal_alike text (t ∷ ts) (u ∷ us) h = λ i. of (h.0 i) ∷ terminal_alik
     of e = terminal_in text (record { kind = e.kind; start = e.start; stop = e.stop; line = 0 })
 
 -- what a bound imports is what it was made of
-pub imported_again : (line : ℕ) (indented : Bool) (is : List Imported) → map imported_of (map (bound_at line indented) is) ≡ is
+pub imported_again : (line : ℕ) (indented : Bool) (is : List Imported) → map imported_of (map (binding_at line indented) is) ≡ is
 imported_again line indented [] = refl
 imported_again line indented (i ∷ is) = ap (λ l. i ∷ l) (imported_again line indented is)
 
 -- the same is imported
-record ImportsSame (P : List Bound → Type 0) (bounds : List Bound) : Type 0 where
-  others : List Bound
+record ImportsSame (P : List BindingValue → Type 0) (values : List BindingValue) : Type 0 where
+  others : List BindingValue
   holds : P others
-  same : map imported_of others ≡ map imported_of bounds
+  same : map imported_of others ≡ map imported_of values
 
 map-append : {A B : Type 0} (f : A → B) (xs ys : List A) → map f (xs ++ ys) ≡ map f xs ++ map f ys
 map-append f [] ys = refl
 map-append f (x ∷ xs) ys = ap (λ l. f x ∷ l) (map-append f xs ys)
 
-at_place : (l m : LogicalLine) (p q : TokenPlace) (bounds : List Bound) → l.text ≡ m.text → PlaceAlike p q → BindsAt l p bounds → ImportsSame (BindsAt m q) bounds
-at_place l m p q bounds text h (nothing _ _ _ begins none) =
+at_place : (l m : LogicalLine) (p q : TokenPlace) (values : List BindingValue) → l.text ≡ m.text → PlaceAlike p q → BindsAt l p values → ImportsSame (BindsAt m q) values
+at_place l m p q values text h (nothing _ _ _ begins none) =
     let same : terminals_at l p ≡ terminals_at m q = ap (λ t. map (terminal_in t) (statement_at p)) text ∙ terminal_alike m.text (statement_at p) (statement_at q) (statement_alike p q h) in
     record { others = []; holds = nothing m q [] (sym (ap begins_import same) ∙ begins) refl; same = sym (ap (map imported_of) none) }
-at_place l m p q bounds text h (imports _ _ _ is begins import are) =
+at_place l m p q values text h (imports _ _ _ is begins import are) =
     let same : terminals_at l p ≡ terminals_at m q = ap (λ t. map (terminal_in t) (statement_at p)) text ∙ terminal_alike m.text (statement_at p) (statement_at q) (statement_alike p q h) in
     record {
-      others = bounds_at m q is;
-      holds = imports m q (bounds_at m q is) is (sym (ap begins_import same) ∙ begins) (subst (λ (ts : List Terminal). IsImport ts is) same import) refl;
+      others = values_at m q is;
+      holds = imports m q (values_at m q is) is (sym (ap begins_import same) ∙ begins) (subst (λ (ts : List Terminal). IsImport ts is) same import) refl;
       same = imported_again q.token.line (nat_lt 0 m.indent) is ∙ sym (ap (map imported_of) are ∙ imported_again p.token.line (nat_lt 0 l.indent) is);
     }
 
-at_places : (l m : LogicalLine) (ps qs : List TokenPlace) (bounds : List Bound) → l.text ≡ m.text → PlacesAlike ps qs → BindEach l ps bounds → ImportsSame (BindEach m qs) bounds
-at_places l m [] [] bounds text h b = record { others = []; holds = refl; same = sym (ap (map imported_of) b) }
-at_places l m [] (q ∷ qs) bounds text h b = absurd h
-at_places l m (p ∷ ps) [] bounds text h b = absurd h
-at_places l m (p ∷ ps) (q ∷ qs) bounds text h (first, rest, is, one, more) =
+at_places : (l m : LogicalLine) (ps qs : List TokenPlace) (values : List BindingValue) → l.text ≡ m.text → PlacesAlike ps qs → BindEach l ps values → ImportsSame (BindEach m qs) values
+at_places l m [] [] values text h b = record { others = []; holds = refl; same = sym (ap (map imported_of) b) }
+at_places l m [] (q ∷ qs) values text h b = absurd h
+at_places l m (p ∷ ps) [] values text h b = absurd h
+at_places l m (p ∷ ps) (q ∷ qs) values text h (first, rest, is, one, more) =
     let a = at_place l m p q first text h.0 one in
     let c = at_places l m ps qs rest text h.1 more in
     record {
@@ -191,9 +191,9 @@ at_places l m (p ∷ ps) (q ∷ qs) bounds text h (first, rest, is, one, more) =
       same = map-append imported_of a.others c.others ∙ (λ i. a.same i ++ c.same i) ∙ sym (ap (map imported_of) is ∙ map-append imported_of first rest);
     }
 
-pub moved : (l m : LogicalLine) → l.text ≡ m.text → map extent_of l.tokens ≡ map extent_of m.tokens → (bounds : List Bound) → Binds l bounds → (others : List Bound) × Binds m others × (map imported_of others ≡ map imported_of bounds)
-moved l m text tokens bounds binds =
-    let found = at_places l m (starts (significant l.tokens)) (starts (significant m.tokens)) bounds text
+pub moved : (l m : LogicalLine) → l.text ≡ m.text → map extent_of l.tokens ≡ map extent_of m.tokens → (values : List BindingValue) → Binds l values → (others : List BindingValue) × Binds m others × (map imported_of others ≡ map imported_of values)
+moved l m text tokens values binds =
+    let found = at_places l m (starts (significant l.tokens)) (starts (significant m.tokens)) values text
     (starts_alike (places_from [] (significant l.tokens)) (places_from [] (significant m.tokens))
     (places_alike [] [] (significant l.tokens) (significant m.tokens) tt (significant_alike l.tokens m.tokens (alike l.tokens m.tokens tokens)))) binds in
     (found.others, found.holds, found.same)

@@ -169,8 +169,8 @@ same_before : (l m : LogicalLine) (s : Shape) → SameLine l m → before_line l
 same_before l m s h = λ i. if same_declaration l m h i then two else (if is_comment_kind (h.kind i) then as_many else before_shape s)
 
 imports_moved : (l m : LogicalLine) (is : List Imported) → IsMoved l m → Imports l is → Imports m is
-imports_moved l m is h (sortable, (bounds, binds, are)) =
-    let found = moved l m h.text h.tokens bounds binds in
+imports_moved l m is h (sortable, (values, binds, are)) =
+    let found = moved l m h.text h.tokens values binds in
     (sortable_moved l m (same_line l m h) sortable, (found.0, found.1, are ∙ sym found.2))
 
 pub role_moved : (off : Bool) (l m : LogicalLine) (role : Role) → IsMoved l m → HasRole off l role → HasRole off m role

@@ -6,7 +6,7 @@ use Rattle.py_lines.specs.LogicalLine.{LogicalLine}
 use Rattle.py_lines.specs.declared.unit.UnitKind.TheVariants as unit_kind
 use Rattle.py_imports.specs.ActionComment.{says}
 use Rattle.py_imports.specs.Binds.{Binds}
-use Rattle.py_imports.specs.Bound.{Bound}
+use Rattle.py_imports.specs.BindingValue.{BindingValue}
 use Rattle.py_imports.specs.Grammar.{Imported}
 use Rattle.py_imports.specs.Shape.{IsSortable, HasShape}
 use Rattle.py_imports.specs.declared.action_comment.ActionComment.TheVariants as action
@@ -17,7 +17,7 @@ use Rattle.isort_sort.specs.Row.{is_comment_kind, parts_blocks, is_off_after, be
 
 -- a logical line binds one list
 abbrev pub BindsOneList : Type 0
-BindsOneList = (line : LogicalLine) (bounds others : List Bound) → Binds line bounds → Binds line others → bounds ≡ others
+BindsOneList = (line : LogicalLine) (values others : List BindingValue) → Binds line values → Binds line others → values ≡ others
 
 -- a line has one shape, as far as the blank lines before it go
 same_before : (line : LogicalLine) (s t : Shape) → HasShape line s → HasShape line t → before_line line s ≡ before_line line t

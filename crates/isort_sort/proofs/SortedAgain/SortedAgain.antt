@@ -52,11 +52,11 @@ first_seen laws u us row rows h =
 -- logical lines and rows make a text that is cut at its blocks
 pub text_again : (v : Values) → SortLaws v → (text : List ℕ) (u : List Piece) (us : List (List Piece)) (row : Row) (rows : List Row) (new : Cut) → AreUnits (u ∷ us) → bytes_of (u ∷ us) ≡ text → StartsWithNoChar [] → IsRow [] (unit_line u) row → AreUnitRows (off_past false (unit_line u)) us rows → EachBinds (u ∷ us) → list_any says_skip_file (u ∷ us) ≡ false → first_string_skips (map unit_line (u ∷ us)) ≡ false → cut_rows new ≡ row ∷ rows → AreBlocks new → HasBlocks text (lines_from 0 1 (u ∷ us)) new
 text_again v laws text u us row rows new are bytes done first later binds unskipped no_string all blocks =
-    let bounds = binds_from laws.tokens 0 1 (u ∷ us) binds in
+    let values = binds_from laws.tokens 0 1 (u ∷ us) binds in
     let whole : List Piece = flat (u ∷ us) in
     record {
       accepted = record {
-        bounds = bounds.0;
+        values = values.0;
         lexed = record {
           characters = spelled whole;
           pieces = whole;
@@ -64,7 +64,7 @@ text_again v laws text u us row rows new are bytes done first later binds unskip
           reading = read_units laws.lines (u ∷ us) are;
           cut = ap (lines_from 0 1) (sym (cut_units laws.lines (u ∷ us) are));
         };
-        good = bounds.1;
+        good = values.1;
       };
       unskipped = λ i. (comments_skip laws.tokens 0 1 (u ∷ us) ∙ unskipped) i || (strings_skip laws.tokens 0 1 (u ∷ us) ∙ no_string) i;
       rows = row ∷ rows;
@@ -84,7 +84,7 @@ cut_text line_laws tokens text lines rows h =
       lexed.cut,
       record {
         are = are;
-        binds = binds_to tokens 0 1 us h.accepted.bounds (subst (λ (l : List LogicalLine). BindAll l h.accepted.bounds) lexed.cut h.accepted.good);
+        binds = binds_to tokens 0 1 us h.accepted.values (subst (λ (l : List LogicalLine). BindAll l h.accepted.values) lexed.cut h.accepted.good);
         unskipped = sym (ap (list_any (λ l. list_any (says action.SkipFile) (comment_texts l))) lexed.cut ∙ comments_skip tokens 0 1 us) ∙ asks.0;
         no_string = sym (ap first_string_skips lexed.cut ∙ strings_skip tokens 0 1 us) ∙ asks.1;
         seen = subst (λ (l : List LogicalLine). AreRows [] l (cut_rows rows)) lexed.cut (subst (AreRows [] lines) (sym h.cut_at.all) h.seen);

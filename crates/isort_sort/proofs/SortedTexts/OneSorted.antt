@@ -31,7 +31,7 @@ cuts text lines accepted = by (skips_file lines) refl
     by : (b : Bool) → skips_file lines ≡ b → Cuts text lines
     by true e = inl (lines, accepted, e)
     by false e =
-        let rows = some_rows [] lines accepted.bounds accepted.good in
+        let rows = some_rows [] lines accepted.values accepted.good in
         let cut = some_cut_at_blocks rows.0 in
         inr (cut.0, record { accepted = accepted; unskipped = e; rows = rows.0; seen = rows.1; cut_at = cut.1 })
 

@@ -10,7 +10,7 @@ use Rattle.py_lines.specs.declared.unit.UnitKind.{UnitKind}
 use Rattle.py_lines.specs.declared.unit.UnitKind.TheVariants as unit_kind
 use Rattle.py_imports.specs.ActionComment.{says}
 use Rattle.py_imports.specs.Binds.{Binds, BindEach, BindAll}
-use Rattle.py_imports.specs.Bound.{Bound}
+use Rattle.py_imports.specs.BindingValue.{BindingValue}
 use Rattle.py_imports.specs.Shape.{is_nothing}
 use Rattle.py_imports.specs.Statement.{significant, starts}
 use Rattle.py_imports.specs.declared.action_comment.ActionComment.TheVariants as action
@@ -21,12 +21,12 @@ use Rattle.isort_sort.proofs.WrittenLines.UnitRows.{TokenLaws, unit_line, commen
 use Rattle.isort_sort.proofs.WrittenLines.LineUnits.{AreLines, says_skip_file}
 
 -- a line binds something, or nothing, and has no fault
-abbrev pub HasBounds : LogicalLine → Type 0
-HasBounds line = (bounds : List Bound) × Binds line bounds
+abbrev pub HasValues : LogicalLine → Type 0
+HasValues line = (values : List BindingValue) × Binds line values
 
 abbrev pub EachBinds : List (List Piece) → Type 0
 EachBinds [] = Unit {0}
-EachBinds (u ∷ us) = HasBounds (unit_line u) × EachBinds us
+EachBinds (u ∷ us) = HasValues (unit_line u) × EachBinds us
 
 pub binds_append : (us vs : List (List Piece)) → EachBinds us → EachBinds vs → EachBinds (us ++ vs)
 binds_append [] vs h k = k
@@ -67,7 +67,7 @@ uncoded u h = by (list_any (λ p. is_code_class p.class) u) refl
 nothing_said : (offset line : ℕ) (u : List Piece) → is_code_kind (kind_of u) ≡ false → significant (line_of offset line u).tokens ≡ []
 nothing_said offset line u h = no_code 0 line u (uncoded u h)
 
-nothing_binds : (line : LogicalLine) → significant line.tokens ≡ [] → HasBounds line
+nothing_binds : (line : LogicalLine) → significant line.tokens ≡ [] → HasValues line
 nothing_binds line e = ([], subst (λ (ts : List Token). BindEach line (starts ts) []) (sym e) refl)
 
 comment_uncoded : (k : UnitKind) → is_comment_kind k ≡ true → is_code_kind k ≡ false
@@ -76,7 +76,7 @@ comment_uncoded unit_kind.Comment h = refl
 comment_uncoded unit_kind.Code h = absurd (cc)
 comment_uncoded unit_kind.Blank h = absurd (cc)
 
-pub role_binds : (off : Bool) (offset line : ℕ) (u : List Piece) (role : Role) → HasRole off (line_of offset line u) role → role_in_block role ≡ true → HasBounds (line_of offset line u)
+pub role_binds : (off : Bool) (offset line : ℕ) (u : List Piece) (role : Role) → HasRole off (line_of offset line u) role → role_in_block role ≡ true → HasValues (line_of offset line u)
 unfolding is_code_kind
 role_binds off offset line u (member is cs) h k = (h.1.1.0, h.1.1.1)
 role_binds off offset line u (comments cs) h k = nothing_binds (line_of offset line u) (nothing_said offset line u (comment_uncoded (kind_of u) h.0))
@@ -89,16 +89,16 @@ lines_bind end ended (u ∷ us) [] h = absurd h
 lines_bind end ended (u ∷ us) (row ∷ rows) h = (role_binds false 0 1 u row.role h.0.is.role h.0.inside, lines_bind end ended us rows h.1)
 
 -- what lines bind elsewhere
-pub binds_from : TokenLaws → (offset line : ℕ) (us : List (List Piece)) → EachBinds us → (bounds : List Bound) × BindAll (lines_from offset line us) bounds
+pub binds_from : TokenLaws → (offset line : ℕ) (us : List (List Piece)) → EachBinds us → (values : List BindingValue) × BindAll (lines_from offset line us) values
 binds_from laws offset line [] h = ([], refl)
 binds_from laws offset line (u ∷ us) h =
     let first = moved (unit_line u) (line_of offset line u) refl (laws.anywhere 0 1 offset line u) h.0.0 h.0.1 in
     let later = binds_from laws (offset + byte_len (spelled u)) (line + line_ends (spelled u)) us h.1 in
     (first.0 ++ later.0, (first.0, later.0, refl, first.1, later.1))
 
-pub binds_to : TokenLaws → (offset line : ℕ) (us : List (List Piece)) (bounds : List Bound) → BindAll (lines_from offset line us) bounds → EachBinds us
-binds_to laws offset line [] bounds h = tt
-binds_to laws offset line (u ∷ us) bounds h =
+pub binds_to : TokenLaws → (offset line : ℕ) (us : List (List Piece)) (values : List BindingValue) → BindAll (lines_from offset line us) values → EachBinds us
+binds_to laws offset line [] values h = tt
+binds_to laws offset line (u ∷ us) values h =
     let first = moved (line_of offset line u) (unit_line u) refl (laws.anywhere offset line 0 1 u) h.0 h.3 in
     ((first.0, first.1), binds_to laws (offset + byte_len (spelled u)) (line + line_ends (spelled u)) us h.1 h.4)
 

@@ -10,7 +10,7 @@ use Rattle.py_lines.specs.Piece.{space, word, Piece, begins, spelled}
 use Rattle.py_lines.specs.PieceGrammar.{IsLineEnd, feed, return_feed, return}
 use Rattle.py_lines.specs.Words.{word_in, words_of}
 use Rattle.py_imports.specs.ActionComment.{says}
-use Rattle.py_imports.specs.Bound.{bound_at}
+use Rattle.py_imports.specs.BindingValue.{binding_at}
 use Rattle.py_imports.specs.Grammar.{Terminal, import_word, from_word, Imported, IsImport, begins_import}
 use Rattle.py_imports.specs.Names.{terminals_in}
 use Rattle.py_imports.specs.Shape.{terminals_of, is_nothing, IsSortable}
@@ -76,7 +76,7 @@ same-words true ps false end = ap words_of (append-nil ps)
 same-words false ps true end = words-append ps (end_pieces true end) ∙ append-nil (words_of ps)
 same-words false ps false end = ap words_of (append-nil ps)
 
-imports-back : (row : ℕ) (indented : Bool) (is : List Imported) → is ≡ map imported_of (map (bound_at row indented) is)
+imports-back : (row : ℕ) (indented : Bool) (is : List Imported) → is ≡ map imported_of (map (binding_at row indented) is)
 imports-back row indented [] = refl
 imports-back row indented (i ∷ is) = ap (λ l. i ∷ l) (imports-back row indented is)
 
@@ -130,7 +130,7 @@ line-read laws indentation end s from phrase bytes terminals g marked closed off
     record {
       role = (
         refl,
-        (sortable, (map (bound_at first.token.line (nat_lt 0 l.indent)) is, bound, imports-back first.token.line (nat_lt 0 l.indent) is)),
+        (sortable, (map (binding_at first.token.line (nat_lt 0 l.indent)) is, bound, imports-back first.token.line (nat_lt 0 l.indent) is)),
         own-again s.comments g.remarks ∙ ap (λ ts. filter is_text (map (λ t. stripped (without_hash t)) ts)) (sym comments),
       );
       indentation = line-indentation offset row marked indentation (ps ++ ends) (statement-indented indentation from phrase ends g.spaces);

@@ -6,7 +6,7 @@ use Rattle.std.specs.Str.{IsUtf8}
 use Rattle.py_lines.specs.LogicalLine.{LogicalLine}
 use Rattle.py_lines.specs.Reader.{Reader, HasGiven}
 use Rattle.py_imports.specs.Binds.{BindAll}
-use Rattle.py_imports.specs.Bound.{Bound}
+use Rattle.py_imports.specs.BindingValue.{BindingValue}
 use Rattle.py_imports.specs.Shape.{is_nothing}
 use Rattle.py_imports.specs.Statement.{significant}
 use Rattle.isort_sort.specs.Answers.{IsRefused}
@@ -101,10 +101,10 @@ MayPass r = (r.skip.begun ≡ true) × (r.blocks.opened ≡ None)
 -- the lines that were given bind something, and the blocks of their rows are found
 pub record IsKnown (reader : Reader) (r : LineReader) : Type 0 where
   pub given : List LogicalLine
-  pub bounds : List Bound
+  pub values : List BindingValue
   pub within : reader.place ≤ length reader.text
   pub are_given : HasGiven reader given
-  pub bind : BindAll given bounds
+  pub bind : BindAll given values
   pub so_far : IsReadSoFar given r
 
 -- the text was read to its end: its lines are accepted, and their rows' blocks are found

@@ -1,7 +1,7 @@
 -- Items, statements, members and groups as contracts see them.
 use Rattle.std.specs.Prelude.{map, string_bytes}
 use Rattle.std.specs.Option.{option_map}
-use Rattle.py_imports.specs.Bound.{bound_of}
+use Rattle.py_imports.specs.BindingValue.{binding_value}
 use Rattle.py_imports.specs.Grammar as grammar
 use Rattle.isort_sort.specs.Line.{imported_of}
 use Rattle.isort_sort.specs.Member as member
@@ -25,7 +25,7 @@ statement_value (form.Single m i) = statement.single (string_bytes m) (item_valu
 -- a member
 abbrev pub member_value : code_member.Member → member.Member
 member_value m = record {
-  imports = map (λ b. imported_of (bound_of b)) m.bindings.items;
+  imports = map (λ b. imported_of (binding_value b)) m.bindings.items;
   comments = map string_bytes m.comments.items;
   above = map string_bytes m.above.items;
 }

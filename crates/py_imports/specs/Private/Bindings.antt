@@ -3,7 +3,7 @@ use Rattle.std.specs.Prelude.{◌≡◌, ℕ, ◌+◌, Bool, Some, List, [], ◌
 use Rattle.py_imports.specs.Grammar.{begins_import, Imported}
 use Rattle.py_imports.specs.Statement.{significant, TokenPlace}
 use Rattle.py_imports.specs.Binds.{terminal_in, BindsAt, IsBadStart}
-use Rattle.py_imports.specs.Bound.{Bound, bound_at, bound_of}
+use Rattle.py_imports.specs.BindingValue.{BindingValue, binding_at, binding_value}
 use Rattle.py_imports.specs.declared.binding.Binding.{Binding}
 use Rattle.py_imports.specs.declared.bindings.Head.{Head}
 use Rattle.py_imports.specs.declared.error.ImportError.{ImportError}
@@ -21,7 +21,7 @@ is_first_word text t = begins_import (terminal_in text t ∷ [])
 pub record BindsOne (Are : List Imported → Type 0) (head : Head) (old new : List Binding) : Type 0 where
   pub imported : List Imported
   pub are : Are imported
-  pub adds : map bound_of new ≡ map bound_of old ++ map (bound_at head.line head.indented) imported
+  pub adds : map binding_value new ≡ map binding_value old ++ map (binding_at head.line head.indented) imported
 
 -- why the items of a statement weren't bound: the fault that was to be answered, where it has no such list
 abbrev pub RefusesItems : (List Imported → Type 0) → Fault → ImportError → Type 0
@@ -38,9 +38,9 @@ statement_fault offset t = record { kind = BadImport; offset = offset + t.start;
 
 -- what the statement that starts here binds was put after others
 pub record BindsMore (line : LogicalLine) (p : TokenPlace) (old new : List Binding) : Type 0 where
-  pub bounds : List Bound
-  pub binds : BindsAt line p bounds
-  pub adds : map bound_of new ≡ map bound_of old ++ bounds
+  pub values : List BindingValue
+  pub binds : BindsAt line p values
+  pub adds : map binding_value new ≡ map binding_value old ++ values
 
 -- the same of the statement that starts with the token at this place
 abbrev pub BindsMoreAt : LogicalLine → ℕ → List Binding → List Binding → Type 0

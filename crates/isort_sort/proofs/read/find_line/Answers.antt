@@ -1,6 +1,6 @@
 use Rattle.std.proofs.Common.{[], ◌≡◌, map, string_bytes, sym, ap, ◌∙◌, MatchOption}
 use Rattle.py_lines.specs.Lines.{line_in}
-use Rattle.py_imports.specs.Bound.{bound_of}
+use Rattle.py_imports.specs.BindingValue.{binding_value}
 use Rattle.isort_sort.specs.Line.{comment_texts, own_comments, imported_of}
 use Rattle.isort_sort.specs.Private.LineRole.{before_of}
 use Rattle.isort_sort.specs.Private.Values.{member_value}
@@ -27,9 +27,9 @@ returns-in_ok-push_comments-in-Comments c =
 pub returns-in_ok-push_member-in-Member : goal.returns-in_ok-push_member-in-Member
 returns-in_ok-push_member-in-Member c =
     let line = line_in c.args.unit.now in
-    let value : member_value (record { bindings = c.args.bindings; comments = c.in_ok-own_comments-in-Member.field-0; above = c.new.result }) ≡ record { imports = map imported_of (map bound_of c.args.bindings.items); comments = own_comments line; above = [] } =
+    let value : member_value (record { bindings = c.args.bindings; comments = c.in_ok-own_comments-in-Member.field-0; above = c.new.result }) ≡ record { imports = map imported_of (map binding_value c.args.bindings.items); comments = own_comments line; above = [] } =
     λ i. record { imports = imports_of_bindings c.args.bindings.items i; comments = c.in_ok-own_comments-in-Member.ensures i; above = map string_bytes (c.new.ensures.items i) } in
-    finds_member c.args.off line c.of-line.ensures.utf8 c.args.blocks.now _ _ c.of-line.ensures.stop _ _ _ (map bound_of c.args.bindings.items)
+    finds_member c.args.off line c.of-line.ensures.utf8 c.args.blocks.now _ _ c.of-line.ensures.stop _ _ _ (map binding_value c.args.bindings.items)
     c.in_ok-push_member-in-Member.ensures c.in-Member.ensures c.requires.binds value c.indentation.ensures c.of-line.ensures.ended
 
 pub returns-in_ok-push_other-in-Other : goal.returns-in_ok-push_other-in-Other

@@ -9,14 +9,14 @@ use Rattle.isort_sort.proofs.row.role_of_code.Goals.{else-not-off-via-then-not-o
 
 pub returns-else-not-off : goal.returns-else-not-off
 returns-else-not-off c = (
-  c.shape_of_bound-shape.result,
-  c.shape_of_bound-shape.ensures,
+  c.shape_of_binding-shape.result,
+  c.shape_of_binding-shape.ensures,
   c.blank_lines_before.ensures,
   inl (
     c.requires.code,
     elim c.else-not-off.branch [
       | else-not-off-via-then-not-off+else-eq w ↦
-          inr (unsortable (line_in c.args.unit.now) c.shape_of_bound-shape.result (λ s. sameb shape_type.the_type s shape.Sortable) refl c.shape_of_bound-shape.ensures (sym w.eq.ensures ∙ w.if-eq.false))
+          inr (unsortable (line_in c.args.unit.now) c.shape_of_binding-shape.result (λ s. sameb shape_type.the_type s shape.Sortable) refl c.shape_of_binding-shape.ensures (sym w.eq.ensures ∙ w.if-eq.false))
       | else-not-off-via-else-not-off w ↦ inl w.if-not-off.false
     ],
   ),

@@ -1,7 +1,7 @@
 -- The next import was listed, or none is ready.
 use Rattle.std.proofs.Common.{◌∙◌, ap, Ok, string_bytes, refl}
 use Rattle.std.proofs.lemmas.Result.{err_from_is_err_and}
-use Rattle.py_imports.specs.Bound.{bound_of}
+use Rattle.py_imports.specs.BindingValue.{binding_value}
 use Rattle.isort_cmd.proofs.ListingLemmas.{gave_one, gave_none, gave_error}
 use Rattle.isort_cmd.proofs.StageLemmas.{lists_one, lists_none, stops_at_find, stops_at_memory, stops_at_write, tells_line, tells_none}
 use Rattle.isort_cmd.proofs.listing.Listing.list_next.Goals as goal
@@ -28,7 +28,7 @@ returns-in_err-write_whole g c =
     let put = rw c.clear.ensures.bytes at c.in_ok-push_line.ensures.ok in
     let wrote = rw c.as_bytes.ensures.value at c.in_err-write_whole.ensures.prefix in
     let gives = gave_one _ c.next_ready.result c.in-Some.binding c.next_ready.new.self c.next_ready.ensures.next (c.in_ok-binding.was ∙ ap Ok c.in-Some.is) in
-    rw (p.1, p.2, c.in_err-write_whole.ensures.err) (record { lists = stops_at_write c.given_begin_the_found.ensures.stopped _ _ (bound_of c.in-Some.binding) (string_bytes c.push_line.new.out) c.in_err-write_whole.ensures.stopped gives put wrote; some = tt })
+    rw (p.1, p.2, c.in_err-write_whole.ensures.err) (record { lists = stops_at_write c.given_begin_the_found.ensures.stopped _ _ (binding_value c.in-Some.binding) (string_bytes c.push_line.new.out) c.in_err-write_whole.ensures.stopped gives put wrote; some = tt })
 
 pub returns : goal.returns
 returns g c =
@@ -36,6 +36,6 @@ returns g c =
     let wrote = rw c.as_bytes.ensures.value at c.in_ok-write_whole.ensures.ok in
     let gives = gave_one _ c.next_ready.result c.in-Some.binding c.next_ready.new.self c.next_ready.ensures.next (c.in_ok-binding.was ∙ ap Ok c.in-Some.is) in
     record {
-      lists = lists_one _ _ (bound_of c.in-Some.binding) (string_bytes c.push_line.new.out) refl c.in_ok-write_whole.ensures.fine gives put wrote;
-      some = tells_line _ (bound_of c.in-Some.binding) (string_bytes c.push_line.new.out) _ _ put wrote;
+      lists = lists_one _ _ (binding_value c.in-Some.binding) (string_bytes c.push_line.new.out) refl c.in_ok-write_whole.ensures.fine gives put wrote;
+      some = tells_line _ (binding_value c.in-Some.binding) (string_bytes c.push_line.new.out) _ _ put wrote;
     }

@@ -5,7 +5,7 @@ use Rattle.py_imports.specs.Grammar.{Imported}
 use Rattle.py_imports.specs.declared.binding.Binding.{Binding}
 
 -- the line of its statement's first token, whether its logical line is indented, and the names
-pub record Bound : Type 0 where
+pub record BindingValue : Type 0 where
   pub line : ℕ
   pub indented : Bool
   pub module_name : List ℕ
@@ -13,8 +13,8 @@ pub record Bound : Type 0 where
   pub alias_name : Option (List ℕ)
 
 -- what is imported by a statement on this line
-abbrev pub bound_at : ℕ → Bool → Imported → Bound
-bound_at line indented i = record {
+abbrev pub binding_at : ℕ → Bool → Imported → BindingValue
+binding_at line indented i = record {
   line = line;
   indented = indented;
   module_name = i.module_name;
@@ -23,8 +23,8 @@ bound_at line indented i = record {
 }
 
 -- what a `Binding` says
-abbrev pub bound_of : Binding → Bound
-bound_of b = record {
+abbrev pub binding_value : Binding → BindingValue
+binding_value b = record {
   line = b.line;
   indented = b.indented;
   module_name = string_bytes b.module_name;
