@@ -116,6 +116,10 @@ impl PieceFinder {
             return 0;
         }
         let before = words.clear_up_to(start) - start;
+        // Most lines with an import follow another one.
+        if before == 0 {
+            return 0;
+        }
         self.scanner.pass_lines(&piece[start..], before)
     }
 
