@@ -52,12 +52,16 @@ const PASSING: &[Passing] = &[
     Passing("a\n'''b\\\n'''\n", 12, 10, (12, 4)),
     Passing("a\n'b\\\n'\n", 8, 6, (8, 4)),
     Passing("a\nb = \\\n c\n", 11, 9, (11, 4)),
+    // Short strings with fields.
+    Passing("a\nf'{b}'\n", 9, 7, (9, 3)),
+    Passing("a\nb = rF\"{c(d)[0]:>9} {{}} \\t{e!r}\"\n", 36, 34, (36, 3)),
     // A line that goes past the byte, and one without a line end.
     Passing("a\nb\nc = d\n", 9, 2, (4, 3)),
     Passing("a\nb\nc = d", 9, 2, (4, 3)),
-    // What is left to the scan: fields, a word before a string, two quotes in a string of three, a quote before a backslash, a backslash
-    // before a space, CR, and a character outside ASCII.
-    Passing("a\nf'{b}'\n", 9, 0, (2, 2)),
+    // What is left to the scan: a long string with fields, a field in another, an empty string with fields, a word before a string,
+    // two quotes in a string of three, a quote before a backslash, a backslash before a space, CR, and a character outside ASCII.
+    Passing("a\nf'''{b}'''\n", 13, 0, (2, 2)),
+    Passing("a\nf'{b:{c}}'\n", 13, 0, (2, 2)),
     Passing("a\nRT\"\"\n", 7, 0, (2, 2)),
     Passing("a\nbar'c'\n", 9, 0, (2, 2)),
     Passing("a\n'''b''c'''\n", 13, 0, (2, 2)),
