@@ -34,10 +34,10 @@ looks_at_memory begin old new = (refl, λ path known options start now to. prefi
 -- all is well
 pub looks_at_none : FoundLaws → (old : PieceFinderState) (n : ℕ) (new : PieceFinderState) → old.scanning.ended ≡ false → TakesFromPiece old [] n new → has_ready new ≡ false → HoldsNone old new
 looks_at_none laws old n new open_yet takes none =
-    let no_byte : n ≡ 0 = takes.whole none in
+    let no_byte : n ≡ 0 = takes.takes.whole none in
     record {
-      fed = takes.fed ∙ ap (λ (m : ℕ). fed_by old + m) no_byte ∙ omega arith;
-      open_yet = takes.open_yet ∙ open_yet;
+      fed = takes.takes.fed ∙ ap (λ (m : ℕ). fed_by old + m) no_byte ∙ omega arith;
+      open_yet = takes.after.yet;
       none_ready = none;
       listed = λ path known options start now to. looked_listed laws path known options old n new start now open_yet takes none to;
     }
@@ -79,19 +79,19 @@ parts_of n bytes within = grind (arith, common_steps)
 pub amid_next : FoundLaws → (chunk rest : List ℕ) (old now : ListingState) (n : ℕ) (mid : PieceFinderState) (new : ListingState) → IsAmid chunk rest old now → TakesFromPiece now.finder rest n mid → ListsAll (record now { finder = mid }) new → IsAmid chunk (take (length rest - n) (drop n rest)) old new
 amid_next laws chunk rest old now n mid new amid takes all =
     let keeps = all.keeps in
-    let size = length-take-le n rest takes.within in
+    let size = length-take-le n rest takes.takes.within in
     let joined = length-append amid.taken (take n rest) in
     let was = amid.fed in
-    let is = takes.fed in
+    let is = takes.takes.fed in
     let same = keeps.unfed.fed in
     let left = take (length rest - n) (drop n rest) in
     record {
       same_path = keeps.goes_on.same_path ∙ amid.same_path;
       fine = keeps.goes_on.fine;
       taken = amid.taken ++ take n rest;
-      split = append_assoc amid.taken (take n rest) left ∙ ap (λ x. amid.taken ++ x) (parts_of n rest takes.within) ∙ amid.split;
+      split = append_assoc amid.taken (take n rest) left ∙ ap (λ x. amid.taken ++ x) (parts_of n rest takes.takes.within) ∙ amid.split;
       fed = omega arith;
-      open_yet = keeps.unfed.open_yet ∙ takes.open_yet ∙ amid.open_yet;
+      open_yet = keeps.unfed.open_yet ∙ takes.after.yet;
       none_ready = all.none_ready;
       listed = λ known options start so_far.
           let to = taken_listed laws old.path (known ++ amid.taken) rest options now.finder n mid start now.written amid.open_yet takes (amid.listed known options start so_far) in
@@ -114,7 +114,7 @@ amid_ready laws chunk rest old now n mid e new amid takes stops = record {
   leaves = λ known options start so_far.
       let to = taken_listed laws old.path (known ++ amid.taken) rest options now.finder n mid start now.written amid.open_yet takes (amid.listed known options start so_far) in
       let whole : ((known ++ amid.taken) ++ take n rest) ++ drop n rest ≡ known ++ chunk = append_assoc (known ++ amid.taken) (take n rest) (drop n rest) ∙ ap (λ x. (known ++ amid.taken) ++ x) (take-append-drop n rest) ∙ append_assoc known amid.taken rest ∙ ap (λ x. known ++ x) amid.split in
-      subst (λ (k : List ℕ). LeavesChunk old.path k options e start new.written) whole (leaves_each laws old.path ((known ++ amid.taken) ++ take n rest) (drop n rest) options mid e start new.written to.fed (takes.open_yet ∙ amid.open_yet) (λ text goes. stops_ready old.path (record now { finder = mid }) new e amid.same_path stops text options start (to.listed text goes)));
+      subst (λ (k : List ℕ). LeavesChunk old.path k options e start new.written) whole (leaves_each laws old.path ((known ++ amid.taken) ++ take n rest) (drop n rest) options mid e start new.written to.fed takes.after.yet (λ text goes. stops_ready old.path (record now { finder = mid }) new e amid.same_path stops text options start (to.listed text goes)));
 }
 
 -- ---- where the chunk was taken whole

@@ -10,13 +10,14 @@ use Rattle.py_imports.specs.BindingValue.{BindingValue}
 use Rattle.isort_find.specs.Cursor.{CursorState}
 use Rattle.isort_find.specs.Found.{IsFound}
 use Rattle.isort_find.specs.Settled.{IsFoundSettled, DecidesFound}
-use Rattle.isort_find.specs.Pieces.{PieceFinderState, HasNoFault, AreSettled, TakesFromPiece, MeetsFaultIn, FeedsPiece, options_for, fed_by, has_ready}
+use Rattle.isort_find.specs.Pieces.{PieceFinderState, HasNoFault, AreSettled, MeetsAt, TakesFromPiece, MeetsFaultIn, FeedsPiece, options_for, fed_by, has_ready}
 use Rattle.isort_find.specs.declared.options.FindOptions.{FindOptions}
 use Rattle.isort_find.specs.declared.error.FindError.{FindError}
 use Rattle.isort_find.specs.declared.error.FindError.TheVariants as find
 use Rattle.isort_find.specs.Position.{phase_in}
 use Rattle.isort_find.specs.declared.walker.Position.{Position}
 use Rattle.isort_find.specs.declared.walker.Position.TheVariants as position
+use Rattle.isort_find.specs.declared.walker.Phase.{Phase}
 use Rattle.isort_find.specs.declared.walker.Phase.TheVariants as phase
 use Rattle.isort_cmd.specs.Printed.{printed}
 use Rattle.isort_cmd.specs.RunError.{run_error_of}
@@ -66,16 +67,16 @@ settled_more laws old new text values n fed cursor settled found bad h =
 -- some bytes of a chunk were taken: what was listed of each text that begins with them stays so
 pub taken_listed : FoundLaws → (path known chunk : List ℕ) (options : FindOptions) (old : PieceFinderState) (n : ℕ) (new : PieceFinderState) (start now : Option (List ℕ)) → old.scanning.ended ≡ false → TakesFromPiece old chunk n new → HasListedGiven path known options old start now → HasListedGiven path (known ++ take n chunk) options new start now
 taken_listed laws path known chunk options old n new start now open_yet takes to = record {
-  fed = takes.fed ∙ ap (λ (m : ℕ). m + n) to.fed ∙ ap (λ (m : ℕ). length known + m) (sym (length-take-le n chunk takes.within)) ∙ sym (length-append known (take n chunk));
-  no_fault = takes.no_fault;
+  fed = takes.takes.fed ∙ ap (λ (m : ℕ). m + n) to.fed ∙ ap (λ (m : ℕ). length known + m) (sym (length-take-le n chunk takes.takes.within)) ∙ sym (length-append known (take n chunk));
+  no_fault = takes.after.no_fault;
   listed = λ text goes.
       let both = begins_with_both text known (take n chunk) goes in
       let listed = to.listed text both.0 in
       let after = subst (λ (m : ℕ). GoesOnWith text m (take n chunk)) (sym to.fed) both.1 in
       record {
         values = listed.values;
-        found = takes.found text listed.values listed.found after;
-        settled = λ _. settled_more laws old new text listed.values n takes.fed takes.cursor (listed.settled open_yet);
+        found = (takes.texts text listed.values listed.found after).knows.found;
+        settled = λ _. settled_more laws old new text listed.values n takes.takes.fed takes.cursor (listed.settled open_yet);
         same_options = ap (λ (c : CursorState). c.options) takes.cursor ∙ listed.same_options;
         written = listed.written;
       };
@@ -121,9 +122,10 @@ fed_fault laws path known chunk options old fault new start now meets to =
     let text = known ++ chunk in
     let listed = to.listed text (goes_begin known chunk) in
     let at : GoesOnWith text (fed_by old) chunk = subst (λ (m : ℕ). GoesOnWith text m chunk) (sym to.fed) (ap (take (length chunk)) (drop-append_seam known chunk) ∙ ap (λ x. take (length chunk) x) (sym (append-nil chunk)) ∙ take-append_seam chunk []) in
-    let found = found_fault new text listed.values fault (meets.found text listed.values listed.found at) meets.kept in
-    let lists : ListsFound path text options (Some fault) start now = record { values = listed.values; found = subst (λ (o : FindOptions). IsFound text o listed.values (Some fault)) (meets.options ∙ listed.same_options) found; written = listed.written } in
-    let decided = meets.decided text listed.values listed.found at (is_open old.position meets.was_in_top to.no_fault) in
+    let found = found_fault new text listed.values fault (meets.found text listed.values listed.found at) meets.stops.kept in
+    let lists : ListsFound path text options (Some fault) start now = record { values = listed.values; found = subst (λ (o : FindOptions). IsFound text o listed.values (Some fault)) (meets.stops.counts.options ∙ listed.same_options) found; written = listed.written } in
+    let opened = is_open old.position (λ top. subst (λ (p : Phase). MeetsAt p old fault new) top meets.stops.met) to.no_fault in
+    let decided = meets.decided opened text listed.values listed.found at in
     let n = decided.0 in
     let first = known ++ take n chunk in
     let rest = drop n chunk in
@@ -148,27 +150,28 @@ feeds_some old chunk r n new h same = subst (λ (x : Result ℕ FindError). Feed
 -- Once no byte was fed and nothing is ready, what was listed is all that the bytes settle.
 pub looked_listed : FoundLaws → (path known : List ℕ) (options : FindOptions) (old : PieceFinderState) (n : ℕ) (new : PieceFinderState) (start now : Option (List ℕ)) → old.scanning.ended ≡ false → TakesFromPiece old [] n new → has_ready new ≡ false → HasListedGiven path known options old start now → HasListedSettled path known options new start now
 looked_listed laws path known options old n new start now open_yet takes none to =
-    let no_byte : take n [] ≡ [] = ap (λ (m : ℕ). take m []) (takes.whole none) in
+    let no_byte : take n [] ≡ [] = ap (λ (m : ℕ). take m []) (takes.takes.whole none) in
     let same : known ++ take n [] ≡ known = ap (λ x. known ++ x) no_byte ∙ append-nil known in
     let done = subst (λ (k : List ℕ). HasListedGiven path k options new start now) same (taken_listed laws path known [] options old n new start now open_yet takes to) in
     record {
       fed = done.fed;
       none_ready = none;
-      open_yet = takes.open_yet ∙ open_yet;
+      open_yet = takes.after.yet;
       no_fault = done.no_fault;
       listed = λ text goes.
           let before = to.listed text goes in
           let nothing : GoesOnWith text (fed_by old) (take n []) = subst (λ (x : List ℕ). GoesOnWith text (fed_by old) x) (sym no_byte) refl in
+          let now = takes.texts text before.values before.found nothing in
           record {
             listed = record {
               values = before.values;
-              found = takes.found text before.values before.found nothing;
-              settled = λ _. settled_more laws old new text before.values n takes.fed takes.cursor (before.settled open_yet);
+              found = now.knows.found;
+              settled = λ _. settled_more laws old new text before.values n takes.takes.fed takes.cursor (before.settled open_yet);
               same_options = ap (λ (c : CursorState). c.options) takes.cursor ∙ before.same_options;
               written = before.written;
             };
-            all = takes.all text before.values before.found nothing none;
-            undecided = takes.undecided text before.values before.found nothing none;
+            all = now.knows.all takes.after none;
+            undecided = now.undecided none;
           };
     }
 

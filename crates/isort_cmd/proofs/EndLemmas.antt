@@ -28,7 +28,7 @@ ends_listed path text options finder next start now h ends =
     let same : options_for next ≡ options_for finder = ap (λ x. x.options) ends.cursor in
     record {
       values = listed.values;
-      found = ends.found text listed.values listed.found (sym h.fed);
+      found = (ends.texts text listed.values listed.found (sym h.fed)).found;
       settled = λ open_yet found bad settled. listed.settled h.open_yet found bad (subst (λ n. IsFoundSettled (take n text) (options_for finder) found bad) ends.fed (subst (λ o. IsFoundSettled (take (fed_by next) text) o found bad) same settled));
       same_options = same ∙ listed.same_options;
       written = listed.written;
@@ -43,10 +43,10 @@ still_ended next last (inr top) same stays = inr (stays top)
 ends_in_fault : (path text : List ℕ) (options : FindOptions) (finder next : PieceFinderState) (fault : Fault) (start now : Option (List ℕ)) → HasListedSettled path text options finder start now → EndsInFault finder fault next → ListsFound path text options (Some fault) start now
 ends_in_fault path text options finder next fault start now h ends =
     let listed = listed_of path text options finder start now h in
-    let found = found_fault next text listed.values fault (ends.found text listed.values listed.found (sym h.fed)) ends.kept in
+    let found = found_fault next text listed.values fault (ends.found text listed.values listed.found (sym h.fed)) ends.stops.kept in
     record {
       values = listed.values;
-      found = subst (λ o. IsFound text o listed.values (Some fault)) (ends.options ∙ listed.same_options) found;
+      found = subst (λ o. IsFound text o listed.values (Some fault)) (ends.stops.counts.options ∙ listed.same_options) found;
       written = listed.written;
     }
 

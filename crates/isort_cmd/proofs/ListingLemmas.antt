@@ -1,5 +1,5 @@
 -- What was listed of a text so far.
-use Rattle.std.proofs.Common.{◌≡◌, ℕ, Bool, true, false, Option, None, Some, Result, Ok, Err, List, [], ◌∷◌, ◌++◌, take, refl, sym, ap, ◌∙◌, subst, append_assoc}
+use Rattle.std.proofs.Common.{◌≡◌, ℕ, Option, None, Some, Result, Ok, Err, List, [], ◌∷◌, ◌++◌, take, refl, sym, ap, ◌∙◌, subst, append_assoc}
 use Rattle.std.specs.Io.KnownBytes.{Appends}
 use Rattle.std.proofs.KnownBytes.{Appends-nil, Appends-trans}
 use Rattle.py_lines.specs.declared.fault.Fault.{Fault}
@@ -8,14 +8,11 @@ use Rattle.py_imports.specs.declared.binding.Binding.{Binding}
 use Rattle.isort_find.specs.Cursor.{CursorState, HasStopped}
 use Rattle.isort_find.specs.Found.{IsFound, BeginsFound}
 use Rattle.isort_find.specs.Settled.{IsFoundSettled, DecidesFound}
-use Rattle.isort_find.specs.Pieces.{PieceFinderState, HasFoundIn, HasReachedIn, GivesBinding, GivesNone, GivesReady, has_ready, options_for, fed_by}
+use Rattle.isort_find.specs.Pieces.{PieceFinderState, HasFoundIn, HasReachedIn, GivesBinding, GivesNone, GivesReady, options_for, fed_by}
 use Rattle.isort_find.specs.declared.options.FindOptions.{FindOptions}
 use Rattle.isort_find.specs.declared.error.FindError.{FindError}
 use Rattle.isort_find.specs.declared.error.FindError.TheVariants as find
-use Rattle.isort_find.specs.Position.{phase_in, ready_in}
-use Rattle.isort_find.specs.declared.walker.Position.{Position}
 use Rattle.isort_find.specs.declared.walker.Position.TheVariants as position
-use Rattle.isort_find.specs.declared.walker.Phase.TheVariants as phase
 use Rattle.isort_cmd.specs.Printed.{printed, line_text}
 use Rattle.isort_cmd.specs.RunError.{run_error_of}
 use Rattle.isort_cmd.specs.Private.Steps.{GivenAreListed, LeavesReady}
@@ -54,9 +51,9 @@ found_fault finder text values fault found is =
 pub listed_one_more : (path text : List ℕ) (options : FindOptions) (finder next : PieceFinderState) (b : BindingValue) (out : List ℕ) (start mid now : Option (List ℕ)) → GivesBinding finder b next → out ≡ line_text path b → Appends mid now out → GivenAreListed path text options finder start mid → GivenAreListed path text options next start now
 listed_one_more path text options finder next b out start mid now gives put wrote listed = record {
   values = listed.values ++ b ∷ [];
-  found = gives.found text listed.values listed.found;
-  settled = λ open_yet. gives.settled text listed.values listed.found (sym gives.open_yet ∙ open_yet);
-  same_options = gives.options ∙ listed.same_options;
+  found = (gives.texts text listed.values listed.found).found;
+  settled = (gives.texts text listed.values listed.found).settled;
+  same_options = gives.counts.options ∙ listed.same_options;
   written = subst (λ x. Appends start now x) (sym (printed-snoc path listed.values b)) (Appends-trans start mid now (printed path listed.values) (line_text path b) listed.written (subst (λ x. Appends mid now x) put wrote));
 }
 
@@ -64,9 +61,9 @@ listed_one_more path text options finder next b out start mid now gives put wrot
 pub listed_none : (path text : List ℕ) (options : FindOptions) (finder next : PieceFinderState) (start now : Option (List ℕ)) → GivesNone finder next → GivenAreListed path text options finder start now → GivenAreListed path text options next start now
 listed_none path text options finder next start now none listed = record {
   values = listed.values;
-  found = none.found text listed.values listed.found;
-  settled = λ open_yet found bad h. listed.settled (sym none.open_yet ∙ open_yet) found bad (subst (λ (o : FindOptions). IsFoundSettled (take (fed_by finder) text) o found bad) none.options (subst (λ (n : ℕ). IsFoundSettled (take n text) (options_for next) found bad) none.fed h));
-  same_options = none.options ∙ listed.same_options;
+  found = (none.texts text listed.values listed.found).found;
+  settled = λ open_yet found bad h. listed.settled (sym none.unfed.open_yet ∙ open_yet) found bad (subst (λ (o : FindOptions). IsFoundSettled (take (fed_by finder) text) o found bad) none.counts.options (subst (λ (n : ℕ). IsFoundSettled (take n text) (options_for next) found bad) none.unfed.fed h));
+  same_options = none.counts.options ∙ listed.same_options;
   written = listed.written;
 }
 
@@ -88,13 +85,13 @@ pub lists_stopped : GivenBegin → (path text : List ℕ) (options : FindOptions
 lists_stopped begin path text options finder next b out start mid now gives put wrote listed =
     let before = printed path listed.values in
     let values = listed.values ++ b ∷ [] in
-    let begins = begin text next.cursor values (gives.found text listed.values listed.found).stopped in
+    let begins = begin text next.cursor values (gives.texts text listed.values listed.found).found.stopped in
     let after = printed path begins.more in
     let line : (before ++ wrote.prefix) ++ wrote.rest ≡ printed path values = append_assoc before wrote.prefix wrote.rest ∙ ap (λ x. before ++ x) (wrote.split ∙ put) ∙ sym (printed-snoc path listed.values b) in
     record {
       values = values ++ begins.more;
       end = begins.end;
-      found = subst (λ (o : FindOptions). IsFound text o (values ++ begins.more) begins.end) (gives.options ∙ listed.same_options) begins.found;
+      found = subst (λ (o : FindOptions). IsFound text o (values ++ begins.more) begins.end) (gives.counts.options ∙ listed.same_options) begins.found;
       written = record {
         prefix = before ++ wrote.prefix;
         rest = wrote.rest ++ after;
@@ -113,27 +110,16 @@ gave_none old r new h e = subst (λ x. GivesReady old x new) e h
 pub gave_error : (old : PieceFinderState) (r : Result (Option Binding) FindError) (e : FindError) (new : PieceFinderState) → GivesReady old r new → r ≡ Err e → GivesReady old (Err e) new
 gave_error old r e new h same = subst (λ x. GivesReady old x new) same h
 
--- nothing is ready after the top
-pub not_after_top : (finder : PieceFinderState) → has_ready finder ≡ true → phase_in finder.position ≡ phase.End → ⊥
-not_after_top finder ready top = by finder.position ready top
-  where
-    not_both : (b : Bool) → b ≡ false → b ≡ true → ⊥
-    not_both b h k = cc
-
-    by : (s : Position) → ready_in s ≡ true → phase_in s ≡ phase.End → ⊥
-    by (position.End passed) h k = cc
-    by other h k = cc
-
 -- what the errors of a call that asks for what is ready leave
 pub leaves_at_find_error : GivenBegin → (path text : List ℕ) (options : FindOptions) (finder next : PieceFinderState) (e : FindError) (start now : Option (List ℕ)) → GivesReady finder (Err e) next → GivenAreListed path text options finder start now → LeavesReady path text options finder (run_error_of e) start now
 leaves_at_find_error begin path text options finder next (find.Fault f) start now gives listed =
-    let found = found_fault next text listed.values f (gives.found text listed.values listed.found) gives.kept in (
+    let found = found_fault next text listed.values f (gives.found text listed.values listed.found) gives.stops.kept in (
       record {
         values = listed.values;
-        found = subst (λ (o : FindOptions). IsFound text o listed.values (Some f)) (gives.options ∙ listed.same_options) found;
+        found = subst (λ (o : FindOptions). IsFound text o listed.values (Some f)) (gives.stops.counts.options ∙ listed.same_options) found;
         written = listed.written;
       },
-      λ open_yet. subst (λ (o : FindOptions). DecidesFound (take (fed_by finder) text) o f) listed.same_options (gives.decided text listed.values listed.found open_yet),
+      λ open_yet. subst (λ (o : FindOptions). DecidesFound (take (fed_by finder) text) o f) listed.same_options (gives.decided open_yet text listed.values listed.found),
     )
 leaves_at_find_error begin path text options finder next find.Memory start now gives listed = lists_prefix begin path text options finder start now listed
 

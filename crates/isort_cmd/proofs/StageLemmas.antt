@@ -1,19 +1,14 @@
 -- What listing all that is ready leaves.
-use Rattle.std.proofs.Common.{◌≡◌, ℕ, Bool, true, false, Option, None, Ok, Err, List, [], ◌∷◌, ◌++◌, refl, sym, ap, ◌∙◌, subst}
+use Rattle.std.proofs.Common.{◌≡◌, ℕ, Bool, true, false, Option, None, Ok, Err, List, [], ◌∷◌, ◌++◌, refl, sym, ◌∙◌, subst}
 use Rattle.std.proofs.KnownBytes.{Appends-nil, Appends-trans}
 use Rattle.std.specs.Io.KnownBytes.{Appends}
 use Rattle.std.specs.List.{list_any}
-use Rattle.py_lines.specs.declared.fault.Fault.{Fault}
 use Rattle.py_imports.specs.BindingValue.{BindingValue}
 use Rattle.isort_find.specs.Found.{IsFound}
 use Rattle.isort_find.specs.Pieces.{PieceFinderState, GivesBinding, GivesNone, GivesReady, EndsFeeding}
 use Rattle.isort_find.specs.declared.options.FindOptions.{FindOptions}
 use Rattle.isort_find.specs.declared.error.FindError.{FindError}
 use Rattle.isort_find.specs.declared.error.FindError.TheVariants as find
-use Rattle.isort_find.specs.Position.{phase_in}
-use Rattle.isort_find.specs.declared.walker.Position.{Position}
-use Rattle.isort_find.specs.declared.walker.Position.TheVariants as position
-use Rattle.isort_find.specs.declared.walker.Phase.TheVariants as phase
 use Rattle.isort_sort.specs.Metered.{IsGivenUp}
 use Rattle.isort_sort.specs.Written.{AppendsPrefix}
 use Rattle.isort_sort.specs.declared.metered.Last.{Last}
@@ -26,15 +21,12 @@ use Rattle.isort_cmd.specs.Written.{ListsFound}
 use Rattle.isort_cmd.specs.declared.error.RunError.{RunError}
 use Rattle.isort_cmd.specs.declared.error.RunError.TheVariants as run
 use Rattle.isort_cmd.proofs.EndLemmas.{ends_listed, leaves_at_end, leaves_ready, still_ended}
-use Rattle.isort_cmd.proofs.ListingLemmas.{GivenBegin, leaves_at_find_error, leaves_from, listed_one_more, listed_none, lists_prefix, lists_stopped, not_after_top}
+use Rattle.isort_cmd.proofs.ListingLemmas.{GivenBegin, leaves_at_find_error, leaves_from, listed_one_more, listed_none, lists_prefix, lists_stopped}
 
 -- the errors of a finder are those of listing
 pub error_of_find : (e : FindError) (l : Last) → l ≡ last.Fine → IsOutputError (run_error_of e) l
 error_of_find find.Memory l fine = fine
 error_of_find (find.Fault f) l fine = fine
-
-open_has_no_fault : (s : Position) (fault : Fault) → phase_in s ≡ phase.Open → s ≡ position.Fault fault → ⊥
-open_has_no_fault s fault is other = let both : phase_in s ≡ phase.Fault fault = ap phase_in other in cc
 
 -- ---- one import
 
@@ -43,12 +35,7 @@ pub lists_one : (old new : ListingState) (b : BindingValue) (out : List ℕ) →
 lists_one old new b out same fine gives put wrote = record {
   keeps = record {
     goes_on = record { same_path = same; fine = fine };
-    unfed = record {
-      fed = gives.fed;
-      open_yet = gives.open_yet;
-      no_fault = λ h fault is. open_has_no_fault new.finder.position fault gives.is_open is;
-      stays = λ top. absurd (not_after_top old.finder gives.was_ready top);
-    };
+    unfed = gives.unfed;
     listed = λ text options start h. listed_one_more old.path text options old.finder new.finder b out start old.written new.written gives put wrote h;
   };
   falls = gives.falls;
@@ -59,13 +46,13 @@ pub lists_none : (old : ListingState) (next : PieceFinderState) → old.last ≡
 lists_none old next fine none = record {
   keeps = record {
     goes_on = record { same_path = refl; fine = fine };
-    unfed = record { fed = none.fed; open_yet = none.open_yet; no_fault = none.no_fault; stays = none.stays };
+    unfed = none.unfed;
     listed = λ text options start h. listed_none old.path text options old.finder next start old.written none h;
   };
   none_ready = none.none_ready;
   whole = λ text options start h no_fault over. record {
     values = h.values;
-    found = subst (λ (o : FindOptions). IsFound text o h.values None) h.same_options (none.whole text h.values h.found over no_fault).0;
+    found = subst (λ (o : FindOptions). IsFound text o h.values None) (none.counts.options ∙ h.same_options) ((none.rests no_fault text h.values h.found).whole over).0;
     written = h.written;
   };
 }

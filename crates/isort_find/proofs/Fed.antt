@@ -13,3 +13,4 @@ pub mod NothingFed
 pub mod Ready
 pub mod NoneReady
 pub mod OpenYet
+pub mod AfterFault

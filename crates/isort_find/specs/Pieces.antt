@@ -23,6 +23,7 @@ use Rattle.isort_find.specs.declared.error.FindError.{FindError}
 use Rattle.isort_find.specs.declared.error.FindError.TheVariants as error
 use Rattle.isort_find.specs.declared.walker.Position.{Position}
 use Rattle.isort_find.specs.declared.walker.Position.TheVariants as position
+use Rattle.isort_find.specs.declared.walker.Phase.{Phase}
 use Rattle.isort_find.specs.declared.walker.Phase.TheVariants as phase
 
 -- The scanner, which holds the logical line that was read last until all of it was given; where the finder stands; and the
@@ -73,6 +74,11 @@ HasNoFault f = (fault : Fault) → f.position ≡ position.Fault fault → ⊥
 -- the text hasn't ended, or a fault was met: bytes may be fed, and the text may end
 abbrev pub IsOpenYet : PieceFinderState → Type 0
 IsOpenYet f = HasNoFault f → f.scanning.ended ≡ false
+
+-- bytes may be fed: no fault was met, and the text hasn't ended
+pub record MayBeFed (f : PieceFinderState) : Type 0 where
+  pub no_fault : HasNoFault f
+  pub yet : f.scanning.ended ≡ false
 
 -- how many bindings are left at most, where a line that was left unread has any number of them
 abbrev pub due_in : Position → ℕ
@@ -199,61 +205,100 @@ pub record HoldsLine (f : PieceFinderState) (text : List ℕ) : Type 0 where
   pub last : f.scanning.ended ≡ true → more ≡ []
   pub known : 0 < length (held_by f) → AreKnown f.scanning text (lines ++ line ∷ [])
 
--- The finder took so many bytes of a piece: none of some only where something was ready, and after the top all. Where
--- nothing is ready in the end, it took all, all that is settled was given, no fault is decided, and before the top's end
--- it holds what is not settled. Else it holds the line that is ready, or a refused growth left open whether one is.
-pub record TakesFromPiece (old : PieceFinderState) (piece : List ℕ) (n : ℕ) (new : PieceFinderState) : Type 0 where
-  pub within : n ≤ length piece
-  pub found : InEachText old (take n piece) (HasFoundIn new)
-  pub all : InEachText old (take n piece) (λ text values. has_ready new ≡ false → AreAllSettled new text values)
-  pub undecided : InEachText old (take n piece) (λ text values. has_ready new ≡ false → IsUndecided new text)
-  pub rest : InEachText old (take n piece)
-      (λ text values. has_ready new ≡ false → phase_in new.position ≡ phase.Open → HoldsRest new text)
-  pub line : InEachText old (take n piece)
-      (λ text values. has_ready new ≡ true → HoldsLine new text ⊎ ((is_unread new.position ≡ true) × HoldsRest new text))
-  pub some : n ≡ 0 → (piece ≡ []) ⊎ (has_ready old ≡ true)
-  pub waits : has_ready old ≡ true → (n ≡ 0) × (new ≡ old)
-  pub next_new : has_ready old ≡ false → IsNextNew new
-  pub whole : has_ready new ≡ false → n ≡ length piece
-  pub top : phase_in new.position ≡ phase.End → n ≡ length piece
-  pub fed : fed_by new ≡ fed_by old + n
-  pub cursor : new.cursor ≡ old.cursor
-  pub stays : phase_in old.position ≡ phase.End → phase_in new.position ≡ phase.End
-  pub was_no_fault : HasNoFault old
-  pub no_fault : HasNoFault new
+-- the next logical line was left unread before it was whole: what isn't settled is held
+pub record LeavesUnread (f : PieceFinderState) (text : List ℕ) : Type 0 where
+  pub unread : is_unread f.position ≡ true
+  pub yet : f.scanning.ended ≡ false
+  pub rest : HoldsRest f text
+
+-- What a finder holds of the text, by what it is. Something is ready: the logical line that is ready, or one was left unread
+-- before it was whole. Nothing is ready, and the text goes on: what isn't settled. After the top: nothing.
+abbrev pub HoldsBy : Phase → Bool → PieceFinderState → List ℕ → Type 0
+HoldsBy phase.Open true f text = HoldsLine f text ⊎ LeavesUnread f text
+HoldsBy phase.Open false f text = f.scanning.ended ≡ false → HoldsRest f text
+HoldsBy phase.End ready f text = held_by f ≡ []
+HoldsBy (phase.Fault fault) ready f text = Unit {0}
+
+-- What is known of a text of which the finder has found these bindings. While bytes may be fed and nothing is ready, they
+-- are all that the bytes fed settle.
+pub record KnowsText (f : PieceFinderState) (text : List ℕ) (values : List BindingValue) : Type 0 where
+  pub found : HasFoundIn f text values
+  pub all : MayBeFed f → has_ready f ≡ false → AreAllSettled f text values
+  pub holds : HoldsBy (phase_in f.position) (has_ready f) f text
+
+-- the options are the same, and so many bindings were given in all
+pub record CountsGiven (old : PieceFinderState) (count : ℕ) (new : PieceFinderState) : Type 0 where
+  pub options : options_for new ≡ options_for old
+  pub given : new.cursor.given ≡ count
+
+-- no byte was taken and no fault met, and the end of the text and that of the top stay as they were
+pub record IsFedNothing (old new : PieceFinderState) : Type 0 where
+  pub fed : fed_by new ≡ fed_by old
   pub open_yet : new.scanning.ended ≡ old.scanning.ended
+  pub no_fault : HasNoFault old → HasNoFault new
+  pub stays : phase_in old.position ≡ phase.End → phase_in new.position ≡ phase.End
+
+-- where a fault may be met: before the top's end, or once it was met, and then nothing changes
+abbrev pub MeetsAt : Phase → PieceFinderState → Fault → PieceFinderState → Type 0
+MeetsAt phase.Open old fault new = Unit {0}
+MeetsAt phase.End old fault new = ⊥
+MeetsAt (phase.Fault first) old fault new = (fault ≡ first) × (new ≡ old)
+
+-- This fault was met, and is kept. No binding was given, and the finder may be called again.
+pub record StopsAtFault (old : PieceFinderState) (fault : Fault) (new : PieceFinderState) : Type 0 where
+  pub kept : new.position ≡ position.Fault fault
+  pub met : MeetsAt (phase_in old.position) old fault new
+  pub counts : CountsGiven old old.cursor.given new
+
+-- So many bytes of a piece were taken: none where something was ready. Else some, if there are any, and all of them, unless
+-- something is ready then.
+pub record TakesSome (old : PieceFinderState) (piece : List ℕ) (n : ℕ) (new : PieceFinderState) : Type 0 where
+  pub within : n ≤ length piece
+  pub fed : fed_by new ≡ fed_by old + n
+  pub waits : has_ready old ≡ true → (n ≡ 0) × (new ≡ old)
+  pub some : n ≡ 0 → (piece ≡ []) ⊎ (has_ready old ≡ true)
+  pub whole : has_ready new ≡ false → n ≡ length piece
+
+-- what is known of a text once a piece was taken: where nothing is ready, no fault is decided
+pub record KnowsFed (f : PieceFinderState) (text : List ℕ) (values : List BindingValue) : Type 0 where
+  pub knows : KnowsText f text values
+  pub undecided : has_ready f ≡ false → IsUndecided f text
+
+-- The finder took so many bytes of a piece, and gave nothing. What is ready then begins with a new key.
+pub record TakesFromPiece (old : PieceFinderState) (piece : List ℕ) (n : ℕ) (new : PieceFinderState) : Type 0 where
+  pub takes : TakesSome old piece n new
+  pub before : MayBeFed old
+  pub after : MayBeFed new
+  pub stays : phase_in old.position ≡ phase.End → phase_in new.position ≡ phase.End
+  pub cursor : new.cursor ≡ old.cursor
+  pub next_new : has_ready old ≡ false → IsNextNew new
+  pub texts : InEachText old (take n piece) (KnowsFed new)
 
 -- the text fed, with some of the piece, decides this fault
 abbrev pub DecidesWithin : PieceFinderState → List ℕ → List ℕ → Fault → Type 0
 DecidesWithin f piece text fault =
     (n : ℕ) × (n ≤ length piece) × DecidesFound (take (fed_by f + n) text) (options_for f) fault
 
--- The text fed, with some of the piece, decides this fault, after the bindings given; nothing was ready. It is kept,
--- the cursor stands at the logical line that has it, and the finder may be called again.
+-- The text fed, with some of the piece, decides this fault, after the bindings given; nothing was ready. The cursor stands
+-- at the logical line that has it.
 pub record MeetsFaultIn (old : PieceFinderState) (piece : List ℕ) (fault : Fault) (new : PieceFinderState) : Type 0 where
-  pub found : InEachText old piece (HasFoundIn new)
-  pub decided : InEachText old piece (λ text values. phase_in old.position ≡ phase.Open → DecidesWithin old piece text fault)
+  pub stops : StopsAtFault old fault new
   pub none_ready : has_ready old ≡ false
-  pub again : (first : Fault) → old.position ≡ position.Fault first → (fault ≡ first) × (new ≡ old)
-  pub was_in_top : phase_in old.position ≡ phase.End → ⊥
-  pub options : options_for new ≡ options_for old
-  pub given : new.cursor.given ≡ old.cursor.given
   pub fed : fed_by new ≤ fed_by old + length piece
   pub open_yet : new.scanning.ended ≡ old.scanning.ended
-  pub kept : new.position ≡ position.Fault fault
+  pub found : InEachText old piece (HasFoundIn new)
+  pub decided : phase_in old.position ≡ phase.Open
+      → InEachText old piece (λ text values. DecidesWithin old piece text fault)
 
--- A growth was refused: the finder means what it meant, and no byte was taken. Where nothing is ready it holds what is not
--- settled, and else what it held.
+-- A growth was refused: the finder means what it meant. Where something is ready, it holds what it held.
 pub record PieceFinderRunsOut (old new : PieceFinderState) : Type 0 where
-  pub found : OfEachText old (HasFoundIn new)
-  pub rest : OfEachText old (λ text values. old.scanning.ended ≡ false → has_ready old ≡ false → HoldsRest new text)
-  pub scanning : has_ready old ≡ true → new.scanning ≡ old.scanning
-  pub fed : fed_by new ≡ fed_by old
+  pub unfed : IsFedNothing old new
   pub cursor : new.cursor ≡ old.cursor
-  pub ready : has_ready new ≡ has_ready old
   pub was_open : phase_in old.position ≡ phase.Open
   pub is_open : phase_in new.position ≡ phase.Open
-  pub open_yet : new.scanning.ended ≡ old.scanning.ended
+  pub ready : has_ready new ≡ has_ready old
+  pub scanning : has_ready old ≡ true → new.scanning ≡ old.scanning
+  pub texts : OfEachText old (KnowsText new)
 
 -- what a call that is fed a piece answers
 abbrev pub FeedsPiece : PieceFinderState → List ℕ → Result ℕ FindError → PieceFinderState → Type 0
@@ -261,58 +306,53 @@ FeedsPiece old piece (Ok n) new = TakesFromPiece old piece n new
 FeedsPiece old piece (Err (error.Fault fault)) new = MeetsFaultIn old piece fault new
 FeedsPiece old piece (Err error.Memory) new = PieceFinderRunsOut old new × (has_ready old ≡ false)
 
--- This binding was given, the next that is found, and before the text's end it is settled. The cursor stands at its logical
--- line, which is held.
+-- What is known of a text once this binding was given: it is the next that is found, and settled before the text's end. The
+-- cursor stands at its logical line, which is held.
+pub record KnowsGiven (f : PieceFinderState) (b : BindingValue) (text : List ℕ) (values : List BindingValue) : Type 0 where
+  pub found : HasFoundIn f text (values ++ b ∷ [])
+  pub settled : f.scanning.ended ≡ false → AreSettled f text (values ++ b ∷ [])
+  pub from : BindsFrom text f.cursor.offset b
+  pub line : HoldsLine f text
+
+-- this binding was given, which was ready, and what is ready then begins with a new key
 pub record GivesBinding (old : PieceFinderState) (b : BindingValue) (new : PieceFinderState) : Type 0 where
-  pub found : OfEachText old (λ text values. HasFoundIn new text (values ++ b ∷ []))
-  pub settled : OfEachText old (λ text values. old.scanning.ended ≡ false → AreSettled new text (values ++ b ∷ []))
-  pub offset : OfEachText old (λ text values. BindsFrom text new.cursor.offset b)
-  pub line : OfEachText old (λ text values. HoldsLine new text)
+  pub unfed : IsFedNothing old new
+  pub counts : CountsGiven old (next_count old.cursor.given) new
   pub was_ready : has_ready old ≡ true
+  pub is_open : phase_in new.position ≡ phase.Open
   pub next_new : IsNextNew new
   pub falls : due_by new < due_by old
-  pub options : options_for new ≡ options_for old
-  pub given : new.cursor.given ≡ next_count old.cursor.given
-  pub fed : fed_by new ≡ fed_by old
-  pub is_open : phase_in new.position ≡ phase.Open
-  pub open_yet : new.scanning.ended ≡ old.scanning.ended
+  pub texts : OfEachText old (KnowsGiven new b)
 
 -- these bindings are all that is found in the text, whose end is met at this byte
 abbrev pub FindsAll : PieceFinderState → List ℕ → List BindingValue → ℕ → Type 0
 FindsAll f text values offset = IsFound text (options_for f) values None × MeetsEndAt text (options_for f) offset
 
--- Nothing is ready. All that is settled was given, and after the text's end all that is found. Before these ends what is not
--- settled is held. The cursor stands where the lines end that were read, which after the top is the line that ends it.
--- After a fault nothing changes.
-pub record GivesNone (old new : PieceFinderState) : Type 0 where
-  pub found : OfEachText old (HasFoundIn new)
-  pub all : OfEachText old (λ text values. old.scanning.ended ≡ false → HasNoFault old → AreAllSettled new text values)
-  pub whole : OfEachText old (λ text values. IsOver new → HasNoFault old → FindsAll old text values new.cursor.offset)
-  pub rest : OfEachText old (λ text values. old.scanning.ended ≡ false → phase_in new.position ≡ phase.Open → HoldsRest new text)
-  pub offset : HasNoFault old → OfEachText old (λ text values. new.cursor.offset ≡ new.scanning.place)
-  pub unsure : has_ready old ≡ true → IsUnsure old
-  pub none_ready : has_ready new ≡ false
-  pub after_fault : (fault : Fault) → old.position ≡ position.Fault fault → new ≡ old
-  pub no_fault : HasNoFault old → HasNoFault new
-  pub stays : phase_in old.position ≡ phase.End → phase_in new.position ≡ phase.End
-  pub options : options_for new ≡ options_for old
-  pub given : new.cursor.given ≡ old.cursor.given
-  pub fed : fed_by new ≡ fed_by old
-  pub open_yet : new.scanning.ended ≡ old.scanning.ended
+-- The cursor stands where the lines end that were read, which after the top is the line that ends it. Once the text or the
+-- top is over, these bindings are all that is found.
+pub record RestsIn (f : PieceFinderState) (text : List ℕ) (values : List BindingValue) : Type 0 where
+  pub offset : f.cursor.offset ≡ f.scanning.place
+  pub whole : IsOver f → FindsAll f text values f.cursor.offset
 
--- The last logical line, which was left unread, is bad: this is the fault. Before the text's end the bytes fed decide it.
--- It is kept, and the finder may be called again.
+-- nothing is ready, and nothing was, except where that was left open; after a fault nothing changes
+pub record GivesNone (old new : PieceFinderState) : Type 0 where
+  pub unfed : IsFedNothing old new
+  pub counts : CountsGiven old old.cursor.given new
+  pub none_ready : has_ready new ≡ false
+  pub unsure : has_ready old ≡ true → IsUnsure old
+  pub after_fault : (fault : Fault) → old.position ≡ position.Fault fault → new ≡ old
+  pub texts : OfEachText old (KnowsText new)
+  pub rests : HasNoFault old → OfEachText old (RestsIn new)
+
+-- the last logical line, which was left unread, is bad: before the text's end the bytes fed decide this fault
 pub record GivesFault (old : PieceFinderState) (fault : Fault) (new : PieceFinderState) : Type 0 where
-  pub found : OfEachText old (HasFoundIn new)
-  pub decided : OfEachText old
-      (λ text values. old.scanning.ended ≡ false → DecidesFound (take (fed_by old) text) (options_for old) fault)
+  pub stops : StopsAtFault old fault new
   pub unread : is_unread old.position ≡ true
-  pub was_open : phase_in old.position ≡ phase.Open
-  pub options : options_for new ≡ options_for old
-  pub given : new.cursor.given ≡ old.cursor.given
   pub fed : fed_by new ≡ fed_by old
   pub open_yet : new.scanning.ended ≡ old.scanning.ended
-  pub kept : new.position ≡ position.Fault fault
+  pub found : OfEachText old (HasFoundIn new)
+  pub decided : old.scanning.ended ≡ false
+      → OfEachText old (λ text values. DecidesFound (take (fed_by old) text) (options_for old) fault)
 
 -- if no line was left unread, and the next binding had a new key, so has the next one now
 abbrev pub StaysNew : PieceFinderState → PieceFinderState → Type 0
@@ -325,26 +365,21 @@ GivesReady old (Ok None) new = GivesNone old new
 GivesReady old (Err (error.Fault fault)) new = GivesFault old fault new
 GivesReady old (Err error.Memory) new = PieceFinderRunsOut old new × (has_ready old ≡ true) × StaysNew old new
 
--- the text ends here: its last logical line was made, if one is left, and is held where it is ready
+-- the text ends here: its last logical line was made, if one is left, and what is ready of it begins with a new key
 pub record FinishesText (old new : PieceFinderState) : Type 0 where
-  pub found : InEachWhole old (HasFoundIn new)
-  pub line : InEachWhole old (λ text values. has_ready new ≡ true → HoldsLine new text)
-  pub next_new : IsNextNew new
-  pub cursor : new.cursor ≡ old.cursor
-  pub fed : fed_by new ≡ fed_by old
   pub ended : IsOver new
   pub was_no_fault : HasNoFault old
   pub no_fault : HasNoFault new
+  pub fed : fed_by new ≡ fed_by old
+  pub cursor : new.cursor ≡ old.cursor
+  pub next_new : IsNextNew new
+  pub texts : InEachWhole old (KnowsText new)
 
 -- the text that ends here has this fault, after the bindings given
 pub record EndsInFault (old : PieceFinderState) (fault : Fault) (new : PieceFinderState) : Type 0 where
-  pub found : InEachWhole old (HasFoundIn new)
-  pub again : (first : Fault) → old.position ≡ position.Fault first → (fault ≡ first) × (new ≡ old)
-  pub was_in_top : phase_in old.position ≡ phase.End → ⊥
-  pub options : options_for new ≡ options_for old
-  pub given : new.cursor.given ≡ old.cursor.given
+  pub stops : StopsAtFault old fault new
   pub fed : fed_by new ≡ fed_by old
-  pub kept : new.position ≡ position.Fault fault
+  pub found : InEachWhole old (HasFoundIn new)
 
 -- what a call that ends the text answers
 abbrev pub EndsFeeding : PieceFinderState → Result (Unit {0}) FindError → PieceFinderState → Type 0

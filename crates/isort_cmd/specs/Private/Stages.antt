@@ -2,10 +2,8 @@
 use Rattle.std.specs.Prelude.{◌≡◌, ◌<◌, ◌+◌, ℕ, Bool, true, false, Option, None, IfSome, Result, Ok, Err, List, ◌++◌, length}
 use Rattle.std.specs.Io.KnownBytes.{Appends, IsAtEnd}
 use Rattle.std.specs.List.{list_any}
-use Rattle.isort_find.specs.Pieces.{PieceFinderState, IsOver, HasNoFault, options_for, due_by, fed_by, has_ready}
+use Rattle.isort_find.specs.Pieces.{PieceFinderState, IsOver, HasNoFault, IsFedNothing, options_for, due_by, fed_by, has_ready}
 use Rattle.isort_find.specs.declared.options.FindOptions.{FindOptions}
-use Rattle.isort_find.specs.Position.{phase_in}
-use Rattle.isort_find.specs.declared.walker.Phase.TheVariants as phase
 use Rattle.isort_sort.specs.Metered.{inner_of, last_of}
 use Rattle.isort_sort.specs.declared.metered.Last.{Last}
 use Rattle.isort_sort.specs.declared.metered.Last.TheVariants as last
@@ -37,13 +35,6 @@ listing_state contents listing writer = record {
 pub record GoesOn (old new : ListingState) : Type 0 where
   pub same_path : new.path ≡ old.path
   pub fine : new.last ≡ last.Fine
-
--- a finder was fed nothing and met no fault, and after the top it stays so
-pub record IsFedNothing (old new : PieceFinderState) : Type 0 where
-  pub fed : fed_by new ≡ fed_by old
-  pub open_yet : new.scanning.ended ≡ old.scanning.ended
-  pub no_fault : HasNoFault old → HasNoFault new
-  pub stays : phase_in old.position ≡ phase.End → phase_in new.position ≡ phase.End
 
 -- what holds of each text, where what was given of it was listed
 abbrev pub WhereGivenListed : ListingState → (List ℕ → FindOptions → Option (List ℕ) → Type 0) → Type 0

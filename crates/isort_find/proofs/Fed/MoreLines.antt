@@ -20,6 +20,7 @@ use Rattle.isort_find.specs.declared.walker.Phase.TheVariants as phase
 use Rattle.isort_find.proofs.Fed.Known.{true_or_false, none_or_some}
 use Rattle.isort_find.proofs.Fed.LetGo.{fed_open}
 use Rattle.isort_find.proofs.Fed.OneLine.{goes_on_with_both, open_or_fault, open_or_end}
+use Rattle.isort_find.proofs.Fed.TriedLines.{meets_open}
 
 -- the text goes on with the bytes taken first, and then with those taken next
 pub goes_then : (text : List ℕ) (place : ℕ) (piece : List ℕ) (t n : ℕ) → t ≤ length piece → n ≤ length (drop t piece) → GoesOnWith text place (take (t + n) piece) → GoesOnWith text place (take t piece) × GoesOnWith text (place + t) (take n (drop t piece))
@@ -60,7 +61,6 @@ takes_more old mid new piece t n first next =
     let goes = goes_both old mid piece t n first next.advances.within in
     record {
       advances = advances_more old mid new piece t n first next.advances;
-      all = λ text values h whole none. let g = goes text whole in next.all text values (first.found text values h g.0) g.1 none;
       undecided = λ text values h whole none drained. let g = goes text whole in next.undecided text values (first.found text values h g.0) g.1 none drained;
       next_new = next.next_new;
       some = λ none_taken. let none : t ≡ 0 = omega (arith, none_taken) in subst (λ (k : ℕ). drop k piece ≡ []) none (next.some (omega (arith, none_taken)));
@@ -73,21 +73,17 @@ fault_after old mid new piece t fault opened none going first next =
     let goes : (text : List ℕ) → GoesOnWith text (fed_by old) piece → GoesOnWith text (fed_by old) (take t piece) × GoesOnWith text (fed_by mid) (drop t piece) = λ text whole. let both = goes_on_with_both text (fed_by old) piece t first.within whole in (both.0, subst (λ (p : ℕ). GoesOnWith text p (drop t piece)) (sym first.fed) both.1) in
     let options : options_for mid ≡ options_for old = ap (λ (c : CursorState). c.options) first.cursor in
     record {
+      stops = record { kept = next.stops.kept; met = meets_open old fault new opened; counts = record { options = next.stops.counts.options ∙ options; given = next.stops.counts.given ∙ ap (λ (c : CursorState). c.given) first.cursor } };
+      none_ready = none;
+      fed = let k = first.fed in let m = next.fed in let within = first.within in omega (arith, k, m, within, length-drop t piece);
+      open_yet = next.open_yet ∙ first.open_yet;
       found = λ text values h whole. let g = goes text whole in next.found text values (first.found text values h g.0) g.1;
-      decided = λ text values h whole was.
+      decided = λ was text values h whole.
           let g = goes text whole in
-          let d = next.decided text values (first.found text values h g.0) g.1 going in
+          let d = next.decided going text values (first.found text values h g.0) g.1 in
           let size = length-drop t piece in
           let place : fed_by mid + d.0 ≡ fed_by old + (t + d.0) = ap (λ k. k + d.0) first.fed ∙ omega arith in
           (t + d.0, (let k = first.within in let m = d.1 in omega (arith, size, k, m)), subst (λ (o : FindOptions). DecidesFound (take (fed_by old + (t + d.0)) text) o fault) options (subst (λ (p : ℕ). DecidesFound (take p text) (options_for mid) fault) place d.2));
-      none_ready = none;
-      again = λ other was. absurd (open_or_fault old.position other opened was);
-      was_in_top = λ top. open_or_end _ opened top;
-      options = next.options ∙ options;
-      given = next.given ∙ ap (λ (c : CursorState). c.given) first.cursor;
-      fed = let k = first.fed in let m = next.fed in let within = first.within in omega (arith, k, m, within, length-drop t piece);
-      open_yet = next.open_yet ∙ first.open_yet;
-      kept = next.kept;
     }
 
 -- how much is left to take of a piece with so many bytes left: a line that gets ready, or is let go, is a step where no byte is taken
@@ -130,13 +126,12 @@ lost_after old mid last piece t start some first nothing =
     record {
       advances = record {
         within = first.within;
-        found = λ text values h goes. lost_found last.scanning last.position last.cursor start text values keeps.is_open nothing.none_ready (keeps.found text values (first.found text values h goes));
+        found = λ text values h goes. lost_found last.scanning last.position last.cursor start text values keeps.is_open nothing.none_ready (keeps.texts text values (first.found text values h goes)).found;
         held = let k = first.held in let shorter = nothing.held in omega (arith, k, shorter);
-        fed = sym (fed_open last keeps.is_open) ∙ keeps.fed ∙ first.fed;
+        fed = sym (fed_open last keeps.is_open) ∙ keeps.unfed.fed ∙ first.fed;
         cursor = keeps.cursor ∙ first.cursor;
-        open_yet = keeps.open_yet ∙ first.open_yet;
+        open_yet = keeps.unfed.open_yet ∙ first.open_yet;
       };
-      all = λ text values h goes none. absurd (true_or_false _ none refl);
       undecided = λ text values h goes none drained. absurd (true_or_false _ none refl);
       next_new = tt;
       some = λ none_taken. absurd (some none_taken);
@@ -148,15 +143,18 @@ keeps_none : (old mid last : PieceFinderState) (piece : List ℕ) → phase_in o
 keeps_none old mid last piece opened none none_mid first keeps =
     let found : (text : List ℕ) (values : List BindingValue) → HasFoundIn old text values → HasFoundIn mid text values = λ text values h. first.found text values h refl in
     record {
-      found = λ text values h. keeps.found text values (found text values h);
-      rest = λ text values h yet is. keeps.rest text values (found text values h) (first.open_yet ∙ yet) none_mid;
-      scanning = λ ready. absurd (true_or_false _ none ready);
-      fed = (let k = keeps.fed in let m = first.fed in omega (arith, k, m));
+      unfed = record {
+        fed = (let k = keeps.unfed.fed in let m = first.fed in omega (arith, k, m));
+        open_yet = keeps.unfed.open_yet ∙ first.open_yet;
+        no_fault = λ fine fault is. open_or_fault last.position fault keeps.is_open is;
+        stays = λ top. absurd (open_or_end _ opened top);
+      };
       cursor = keeps.cursor ∙ first.cursor;
-      ready = keeps.ready ∙ none_mid ∙ sym none;
       was_open = opened;
       is_open = keeps.is_open;
-      open_yet = keeps.open_yet ∙ first.open_yet;
+      ready = keeps.ready ∙ none_mid ∙ sym none;
+      scanning = λ ready. absurd (true_or_false _ none ready);
+      texts = λ text values h. keeps.texts text values (found text values h);
     }
 
 pub keeps_after : (old mid last : PieceFinderState) (piece : List ℕ) (t : ℕ) → t ≡ 0 → phase_in old.position ≡ phase.Open → has_ready old ≡ false → has_ready mid ≡ false → Advances old piece t mid → TakesNothing mid last → TakesNothing old last

@@ -1,5 +1,5 @@
 -- What a finder over pieces answers where nothing is ready.
-use Rattle.std.proofs.Common.{◌≡◌, ℕ, true, false, Option, None, Result, Ok, Err, List, [], ◌∷◌, ◌++◌, inl, inr, ◌⊎◌, refl, sym, ap, ◌∙◌, subst, append-nil, arith}
+use Rattle.std.proofs.Common.{◌≡◌, ℕ, true, false, Option, None, Result, Ok, Err, List, [], ◌∷◌, ◌++◌, inl, inr, ◌⊎◌, refl, sym, ap, ◌∙◌, subst, append-nil}
 use Rattle.std.proofs.lemmas.List.{nil_from_length}
 use Rattle.std.specs.List.{list_all}
 use Rattle.py_lines.specs.LogicalLine.{LogicalLine}
@@ -12,7 +12,7 @@ use Rattle.isort_find.specs.Found.{firsts, IsFound}
 use Rattle.isort_find.specs.Cursor.{CursorState, IsAfter, HasStopped, BeginsNew, knows_key}
 use Rattle.isort_find.specs.Pending.{PendingState}
 use Rattle.isort_find.specs.Position.{phase_in, skip_in, left_in, is_unread, are_left, ready_in, MeetsEndAt}
-use Rattle.isort_find.specs.Pieces.{PieceFinderState, piece_finder_state, options_for, fed_in, fed_by, has_ready, IsOver, IsUnsure, HasReleased, IsBetweenLines, IsAtTopEnd, HasFoundIn, FindsAll, GivesNone}
+use Rattle.isort_find.specs.Pieces.{PieceFinderState, piece_finder_state, options_for, fed_by, has_ready, IsOver, IsUnsure, HasReleased, IsBetweenLines, IsAtTopEnd, HasFoundIn, FindsAll, GivesNone}
 use Rattle.isort_find.specs.Private.CursorMoves.{cursor_before}
 use Rattle.isort_find.specs.Private.KnownLaws.{SettledLaws, OneSettled, AscentLaws}
 use Rattle.isort_find.specs.Private.LooksAtBindings.{PassesBindings}
@@ -31,9 +31,8 @@ use Rattle.isort_find.proofs.Walks.Inside.{nothing_dropped, inside_passed}
 use Rattle.isort_find.proofs.Walks.NextLine.{IsAtNothing, nothing_at_end, found_whole, found_lexed, found_at_top, stops_before}
 use Rattle.isort_find.proofs.Fed.Known.{next_start, known_begins, true_or_false}
 use Rattle.isort_find.proofs.Fed.LetGo.{begun_is, gone_between, fed_gone, ended_gone, fed_open}
-use Rattle.isort_find.proofs.Fed.Settled.{gap_settled, top_settled}
-use Rattle.isort_find.proofs.Fed.Held.{between_rest}
-use Rattle.isort_find.proofs.Fed.OneLine.{open_or_fault, open_or_end}
+use Rattle.isort_find.proofs.Fed.Held.{knows_any, knows_top}
+use Rattle.isort_find.proofs.Fed.OneLine.{open_or_fault, open_or_end, end_or_fault}
 use Rattle.isort_find.proofs.Fed.Ready.{unread_found, unread_so, unread_read}
 
 -- after all lines of a text
@@ -106,37 +105,31 @@ none_open laws one ascent old f t new left opened none gone nothing r =
     let ended : t.ended ≡ old.scanning.ended = ended_gone f.scanning t gone ∙ left.ended in
     let resting : (text : List ℕ) (values : List BindingValue) → HasFoundIn old text values → IsResting t r.last text skip values = λ text values h. let q = left.found text values h in r.rests text values (gone_between f.scanning t f.position f.cursor text values opened none gone q) q.stopped in
     subst (GivesNone old) (sym r.same) (record {
-      found = λ text values h. let q = resting text values h in record { stopped = q.stopped; reached = (q.between, nothing) };
-      all = λ text values h yet fine. gap_settled laws one ascent t r.last text skip values (ended ∙ yet) nothing (resting text values h).between;
-      whole = λ text values h over fine. whole g refl nothing options (not_over g refl over) text values (resting text values h);
-      rest = λ text values h yet going. between_rest t skip r.last text values (ended ∙ yet) nothing (resting text values h).between;
-      offset = λ fine text values h. (resting text values h).stands;
-      unsure = left.unsure;
+      unfed = record {
+        fed = fed_gone f.scanning t gone ∙ sym (fed_open f opened) ∙ left.fed;
+        open_yet = ended;
+        no_fault = λ fine fault is. open_or_fault g.position fault refl is;
+        stays = λ top. absurd (open_or_end (phase_in f.position) opened (left.stays top));
+      };
+      counts = record { options = options; given = r.given ∙ left.given };
       none_ready = refl;
+      unsure = left.unsure;
       after_fault = λ fault was. absurd (left.was_fine fault was);
-      no_fault = λ fine fault is. open_or_fault g.position fault refl is;
-      stays = λ top. absurd (open_or_end (phase_in f.position) opened (left.stays top));
-      options = options;
-      given = r.given ∙ left.given;
-      fed = fed_gone f.scanning t gone ∙ sym (fed_open f opened) ∙ left.fed;
-      open_yet = ended;
+      texts = λ text values h. let q = resting text values h in knows_any laws one ascent g text values (λ yet none. nothing) (λ over ready. absurd (true_or_false _ refl ready)) (record { stopped = q.stopped; reached = (q.between, nothing) });
+      rests = λ fine text values h. let q = resting text values h in record { offset = q.stands; whole = λ over. whole g nothing (not_over g refl over) text values q };
     })
   where
-    whole : (g : PieceFinderState) → phase_in g.position ≡ phase.Open → g.scanning.ready ≡ None → options_for g ≡ options_for old → g.scanning.ended ≡ true → (text : List ℕ) (values : List BindingValue) → IsResting g.scanning g.cursor text (skip_in f.position) values → FindsAll old text values g.cursor.offset
-    whole g here nothing options over text values q =
+    whole : (g : PieceFinderState) → g.scanning.ready ≡ None → g.scanning.ended ≡ true → (text : List ℕ) (values : List BindingValue) → IsResting g.scanning g.cursor text (skip_in f.position) values → FindsAll g text values g.cursor.offset
+    whole g nothing over text values q =
         let b = q.between.after in
         let lexed = all_lexed g.scanning g.cursor text (skip_in f.position) values over nothing q.between in
         let n = nothing_at_end laws.ends.laws b None lexed in
         let found = found_lexed text (options_for g) b.lines b.before values None lexed b.in_top b.binds n.found in
-        (subst (λ (o : FindOptions). IsFound text o values None) options found, inl (q.stands ∙ sym (bytes_given _ b.lines b.given) ∙ bytes_lexed text b.lines lexed))
+        (found, inl (q.stands ∙ sym (bytes_given _ b.lines b.given) ∙ bytes_lexed text b.lines lexed))
 
 -- these bindings are all, whatever the finder
 abbrev AllOf : List ℕ → List BindingValue → FindOptions → ℕ → Type 0
 AllOf text values options offset = IsFound text options values None × MeetsEndAt text options offset
-
--- the top's end is no fault
-end_or_fault : (s : Position) (fault : Fault) → phase_in s ≡ phase.End → s ≡ position.Fault fault → ⊥
-end_or_fault s fault h k = let both : phase_in s ≡ phase.Fault fault = ap phase_in k in cc
 
 -- nothing is ready after the top
 none_top : SettledLaws → AscentLaws → (old : PieceFinderState) (s : ScannerState) (passed : ℕ) (cursor : CursorState) (start : LineStart) → IsNextStart s start → IsLeft old (piece_finder_state s (position.End passed) cursor) → GivesNone old (piece_finder_state s (position.End passed) (cursor_before cursor start))
@@ -144,20 +137,13 @@ none_top laws ascent old s passed cursor start here left =
     let top : (text : List ℕ) (values : List BindingValue) → HasFoundIn old text values → IsAtTopEnd s cursor.options text values = λ text values h. (left.found text values h).reached in
     let is : start ≡ next_start s = (λ i. record { offset = here.offset i; line = here.line i }) in
     record {
-      found = λ text values h. record { stopped = subst (λ (x : LineStart). HasStopped text (cursor_before cursor x) values) (sym is) (stops text values (top text values h) (left.found text values h).stopped); reached = top text values h };
-      all = λ text values h yet fine. top_settled laws ascent s cursor.options text (fed_in (position.End passed) s) values (left.ended ∙ yet) (omega arith) (top text values h);
-      whole = λ text values h over fine. subst (λ (o : FindOptions). AllOf text values o start.offset) left.options (subst (AllOf text values cursor.options) (sym here.offset) (top_found text values (top text values h)));
-      rest = λ text values h yet going. absurd (open_or_end _ going refl);
-      offset = λ fine text values h. here.offset;
-      unsure = left.unsure;
+      unfed = record { fed = left.fed; open_yet = left.ended; no_fault = λ fine fault is. end_or_fault (position.End passed) fault refl is; stays = λ was. refl };
+      counts = record { options = left.options; given = left.given };
       none_ready = refl;
+      unsure = left.unsure;
       after_fault = λ fault was. absurd (left.was_fine fault was);
-      no_fault = λ fine fault is. end_or_fault (position.End passed) fault refl is;
-      stays = λ was. refl;
-      options = left.options;
-      given = left.given;
-      fed = left.fed;
-      open_yet = left.ended;
+      texts = λ text values h. knows_top laws ascent s passed (cursor_before cursor start) text values (record { stopped = subst (λ (x : LineStart). HasStopped text (cursor_before cursor x) values) (sym is) (stops text values (top text values h) (left.found text values h).stopped); reached = top text values h });
+      rests = λ fine text values h. record { offset = here.offset; whole = λ over. subst (AllOf text values cursor.options) (sym here.offset) (top_found text values (top text values h)) };
     }
   where
     stops : (text : List ℕ) (values : List BindingValue) → IsAtTopEnd s cursor.options text values → HasStopped text cursor values → HasStopped text (cursor_before cursor (next_start s)) values

@@ -1,5 +1,5 @@
 -- What a finder over pieces is once bytes were taken up to a line's end, or the text has ended.
-use Rattle.std.proofs.Common.{◌≡◌, ℕ, ◌+◌, ◌≤◌, Option, None, Some, Result, Ok, Err, List, [], ◌++◌, length, take, drop, inl, inr, ◌⊎◌, refl, sym, ap, ◌∙◌, subst, append-nil, length-append, arith}
+use Rattle.std.proofs.Common.{◌≡◌, ℕ, ◌+◌, ◌≤◌, true, Option, None, Some, Result, Ok, Err, List, [], ◌++◌, length, take, drop, inl, inr, ◌⊎◌, refl, sym, ap, ◌∙◌, subst, append-nil, length-append, arith}
 use Rattle.std.proofs.lemmas.List.{length-take-le, take-append-drop, drop-drop, drop-take}
 use Rattle.std.proofs.Math.Seq.{take-add, take-append_seam, drop-append_seam}
 use Rattle.py_lines.specs.LogicalLine.{LogicalLine}
@@ -11,7 +11,7 @@ use Rattle.py_imports.specs.BindingValue.{BindingValue}
 use Rattle.isort_find.specs.Settled.{DecidesFound}
 use Rattle.isort_find.specs.Cursor.{CursorState, HasStopped}
 use Rattle.isort_find.specs.Position.{phase_in, skip_in}
-use Rattle.isort_find.specs.Pieces.{PieceFinderState, piece_finder_state, options_for, fed_by, HasReleased, IsBetweenLines, HasFoundIn, DecidesWithin, MeetsFaultIn, FinishesText, EndsInFault, EndsFeeding}
+use Rattle.isort_find.specs.Pieces.{PieceFinderState, piece_finder_state, options_for, fed_by, has_ready, HasReleased, IsBetweenLines, HasFoundIn, StopsAtFault, DecidesWithin, MeetsFaultIn, FinishesText, EndsInFault, EndsFeeding}
 use Rattle.isort_find.specs.Private.CursorMoves.{cursor_before}
 use Rattle.isort_find.specs.Private.PieceSteps.{IsNextStart, TriesReady, TakesLines, TakesNothing, TakesBytesOf, walker_of, with_walker}
 use Rattle.isort_find.specs.Private.Walks.{WalkerState, with_fault}
@@ -25,9 +25,9 @@ use Rattle.isort_find.specs.Private.KnownLaws.{AscentLaws, EachIsLexed, OneSettl
 use Rattle.isort_find.proofs.Walks.NextLine.{nothing_at_end, stops_before, found_lexed, meets_lexical}
 use Rattle.isort_find.proofs.Fed.Known.{next_start, given_of, true_or_false, none_or_some}
 use Rattle.isort_find.proofs.Fed.LetGo.{BeginsLine, line_begun, begun_between, begun_fed, begun_held, begun_scanning, ended_gone}
-use Rattle.isort_find.proofs.Fed.Settled.{all_settled, all_undecided}
-use Rattle.isort_find.proofs.Fed.Held.{between_rest, line_any, open_ready}
-use Rattle.isort_find.proofs.Fed.TriedLines.{IsBadReady, tried_found, tried_so, tried_new, tried_ready, tried_bad, bad_decided}
+use Rattle.isort_find.proofs.Fed.Settled.{all_undecided}
+use Rattle.isort_find.proofs.Fed.Held.{knows_any, knows_top}
+use Rattle.isort_find.proofs.Fed.TriedLines.{IsBadReady, tried_found, tried_so, tried_new, tried_ready, tried_bad, bad_decided, meets_open, stops_bad}
 
 -- the scanner has gone on, and the lines released are the same
 moved_on : (s t : ScannerState) (cursor : CursorState) (text : List ℕ) (skip : ℕ) (values : List BindingValue) (b : IsBetweenLines s cursor text skip values) → HasReleased t text b.after.lines → t.place ≡ s.place → IsBetweenLines t cursor text skip values
@@ -69,7 +69,6 @@ takes_line laws one ascent old t b s piece n takes new result ok tries =
         cursor = so.cursor;
         open_yet = ended;
       };
-      all = λ text values h goes none. all_settled laws one ascent new.scanning new.position new.cursor text values (ended ∙ b.yet) so.fine none (found text values h goes);
       undecided = λ text values h goes none drained. all_undecided laws one ascent new.scanning new.position new.cursor text values (ended ∙ b.yet) so.fine drained (λ ready. lexical new so.scanning text values h goes ready) (found text values h goes);
       next_new = tried_new s skip old.cursor new result tries;
       some = λ zero. by_some (takes.some zero);
@@ -88,6 +87,9 @@ takes_line laws one ascent old t b s piece n takes new result ok tries =
 
 pub open_or_fault : (s : Position) (fault : Fault) → phase_in s ≡ phase.Open → s ≡ position.Fault fault → ⊥
 open_or_fault s fault h k = let both : phase_in s ≡ phase.Fault fault = ap phase_in k in cc
+
+pub end_or_fault : (s : Position) (fault : Fault) → phase_in s ≡ phase.End → s ≡ position.Fault fault → ⊥
+end_or_fault s fault h k = let both : phase_in s ≡ phase.Fault fault = ap phase_in k in cc
 
 pub open_or_end : (p : Phase) → p ≡ phase.Open → p ≡ phase.End → ⊥
 open_or_end p h k = cc
@@ -133,6 +135,9 @@ failed f s start fault = with_walker (line_begun f s) (with_fault (walker_of (li
 pub failed_is : (old : PieceFinderState) (w new : WalkerState) (t s : ScannerState) (start : LineStart) (fault : Fault) → piece_finder_state t w.position w.cursor ≡ line_begun old t → new ≡ with_fault w start fault → piece_finder_state s new.position new.cursor ≡ failed old s start fault
 failed_is old w new t s start fault is kept = ap (λ (x : WalkerState). piece_finder_state s x.position x.cursor) kept ∙ ap (λ (f : PieceFinderState). piece_finder_state s (position.Fault fault) (cursor_before f.cursor start)) is
 
+stops_failed : (old : PieceFinderState) (s : ScannerState) (start : LineStart) (fault : Fault) → phase_in old.position ≡ phase.Open → StopsAtFault old fault (failed old s start fault)
+stops_failed old s start fault opened = record { kept = refl; met = meets_open old fault (failed old s start fault) opened; counts = record { options = refl; given = refl } }
+
 -- what is found up to a lexical fault, which the finder then has
 lexical_found : SettledLaws → (t s : ScannerState) (cursor : CursorState) (text : List ℕ) (skip : ℕ) (values : List BindingValue) (start : LineStart) (fault : Fault) (b : IsBetweenLines t cursor text skip values) → IsNextStart t start → IsLexed text b.after.lines (Some fault) → HasStopped text cursor values → HasFoundIn (piece_finder_state s (position.Fault fault) (cursor_before cursor start)) text values
 lexical_found laws t s cursor text skip values start fault b here lexed stopped =
@@ -145,16 +150,12 @@ lexical_found laws t s cursor text skip values start fault b here lexed stopped 
 -- the scanner meets a fault
 pub meets_fault : SettledLaws → EachIsLexed → (old : PieceFinderState) (t : ScannerState) → BeginsLine old t → (s : ScannerState) (piece : List ℕ) (fault : Fault) (start : LineStart) → IsNextStart t start → MeetsFault t piece fault s → MeetsFaultIn old piece fault (failed old s start fault)
 meets_fault laws each old t b s piece fault start here meets = record {
-  found = λ text values h goes. lexical_found laws t s old.cursor text (skip_in old.position) values start fault (begun_between old t b text values h) here (met text values h goes).3 h.stopped;
-  decided = λ text values h goes opened. decided text values h goes;
+  stops = stops_failed old s start fault b.opened;
   none_ready = b.none;
-  again = λ first was. absurd (open_or_fault old.position first b.opened was);
-  was_in_top = λ top. open_or_end _ b.opened top;
-  options = refl;
-  given = refl;
   fed = let start = begun_fed old t b in let bound = meets.fed in omega (arith, start, bound);
   open_yet = meets.open_yet ∙ ended_gone old.scanning t b.scanner;
-  kept = refl;
+  found = λ text values h goes. lexical_found laws t s old.cursor text (skip_in old.position) values start fault (begun_between old t b text values h) here (met text values h goes).3 h.stopped;
+  decided = λ opened text values h goes. decided text values h goes;
 }
   where
     met : (text : List ℕ) (values : List BindingValue) (h : HasFoundIn old text values) → GoesOnWith text (fed_by old) piece → (n : ℕ) × (n ≤ length piece) × Decides (take (fed_of t + n) text) fault × IsLexed text (begun_between old t b text values h).after.lines (Some fault)
@@ -175,19 +176,15 @@ meets_fault laws each old t b s piece fault start here meets = record {
 -- the line that got ready is bad
 meets_bad_line : SettledLaws → (old : PieceFinderState) (t : ScannerState) → BeginsLine old t → (s : ScannerState) (piece : List ℕ) (n : ℕ) → TakesBytes t piece n s → (new : PieceFinderState) (result : Result (Unit {0}) FindError) (fault : Fault) → TriesReady (line_begun old s) result new → IsBadReady (line_begun old s) fault new → MeetsFaultIn old piece fault new
 meets_bad_line laws old t b s piece n takes new result fault tries bad = record {
+  stops = stops_bad old (line_begun old s) new fault b.opened refl bad;
+  none_ready = b.none;
+  fed = let is = ap fed_by bad.kept in let fed = taken_fed old t b s piece n takes in let within = takes.within in omega (arith, is, fed, within);
+  open_yet = ap (λ (f : PieceFinderState). f.scanning.ended) bad.kept ∙ takes.open_yet ∙ ended_gone old.scanning t b.scanner;
   found = λ text values h goes. tried_found laws s (skip_in old.position) old.cursor new text values result (taken_between old t b s piece n takes text values h (goes_on_with_both text (fed_by old) piece n takes.within goes).0) h.stopped tries;
-  decided = λ text values h goes was.
+  decided = λ opened text values h goes.
       let between = taken_between old t b s piece n takes text values h (goes_on_with_both text (fed_by old) piece n takes.within goes).0 in
       let now = bad_decided laws (line_begun old s) new text (skip_in old.position) values fault (takes.open_yet ∙ ended_gone old.scanning t b.scanner ∙ b.yet) bad between in
       (n, takes.within, subst (λ (p : ℕ). DecidesFound (take p text) (options_for old) fault) (taken_fed old t b s piece n takes) now);
-  none_ready = b.none;
-  again = λ first was. absurd (open_or_fault old.position first b.opened was);
-  was_in_top = λ top. open_or_end _ b.opened top;
-  options = ap options_for bad.kept;
-  given = ap (λ (f : PieceFinderState). f.cursor.given) bad.kept;
-  fed = let is = ap fed_by bad.kept in let fed = taken_fed old t b s piece n takes in let within = takes.within in omega (arith, is, fed, within);
-  open_yet = ap (λ (f : PieceFinderState). f.scanning.ended) bad.kept ∙ takes.open_yet ∙ ended_gone old.scanning t b.scanner;
-  kept = ap (λ (f : PieceFinderState). f.position) bad.kept;
 }
 
 pub tries_bad : SettledLaws → (old : PieceFinderState) (t : ScannerState) → BeginsLine old t → (s : ScannerState) (piece : List ℕ) (n : ℕ) → TakesBytes t piece n s → (new : PieceFinderState) (result : Result (Unit {0}) FindError) (e : FindError) (answer : Result ℕ FindError) → result ≡ Err e → answer ≡ Err e → TriesReady (line_begun old s) result new → TakesBytesOf old piece answer new
@@ -196,22 +193,27 @@ tries_bad laws old t b s piece n takes new result e answer err is tries =
     subst (λ (r : Result ℕ FindError). TakesBytesOf old piece r new) (sym (is ∙ ap Err bad.is)) (meets_bad_line laws old t b s piece n takes new result bad.fault tries bad.bad)
 
 -- the line was let go, and nothing else changed
-pub takes_no_byte : (old : PieceFinderState) (t : ScannerState) → BeginsLine old t → TakesNothing old (line_begun old t)
-takes_no_byte old t b = record {
-  keeps = record {
-    found = λ text values h. record { stopped = h.stopped; reached = (begun_between old t b text values h, b.none_ready) };
-    rest = λ text values h yet none. between_rest t (skip_in old.position) old.cursor text values (ended_gone old.scanning t b.scanner ∙ yet) b.none_ready (begun_between old t b text values h);
-    scanning = λ ready. absurd (true_or_false _ b.none ready);
-    fed = sym (begun_fed old t b);
-    cursor = refl;
-    ready = sym b.none;
-    was_open = b.opened;
-    is_open = refl;
-    open_yet = ended_gone old.scanning t b.scanner;
-  };
-  none_ready = b.none_ready;
-  held = begun_held old t b;
-}
+pub takes_no_byte : SettledLaws → OneSettled → AscentLaws → (old : PieceFinderState) (t : ScannerState) → BeginsLine old t → TakesNothing old (line_begun old t)
+takes_no_byte laws one ascent old t b =
+    let g = line_begun old t in
+    record {
+      keeps = record {
+        unfed = record {
+          fed = sym (begun_fed old t b);
+          open_yet = ended_gone old.scanning t b.scanner;
+          no_fault = λ fine fault is. open_or_fault g.position fault refl is;
+          stays = λ top. absurd (open_or_end _ b.opened top);
+        };
+        cursor = refl;
+        was_open = b.opened;
+        is_open = refl;
+        ready = sym b.none;
+        scanning = λ ready. absurd (true_or_false _ b.none ready);
+        texts = λ text values h. knows_any laws one ascent g text values (λ yet none. b.none_ready) (λ over ready. absurd (true_or_false _ refl ready)) (record { stopped = h.stopped; reached = (begun_between old t b text values h, b.none_ready) });
+      };
+      none_ready = b.none_ready;
+      held = begun_held old t b;
+    }
 
 -- the scanner's text has ended
 ended_between : (old : PieceFinderState) (t : ScannerState) → BeginsLine old t → (s : ScannerState) → EndsScan t s → (text : List ℕ) (values : List BindingValue) → HasFoundIn old text values → length text ≡ fed_by old → IsBetweenLines s old.cursor text (skip_in old.position) values
@@ -224,50 +226,57 @@ ended_fed : (old : PieceFinderState) (t : ScannerState) → BeginsLine old t →
 ended_fed old t b s ends = let held = ap length ends.held in let start = begun_fed old t b in omega (arith, ends.place, held, start)
 
 -- the text has ended, and its last line was tried
-ends_line : SettledLaws → (old : PieceFinderState) (t : ScannerState) → BeginsLine old t → (s : ScannerState) → EndsScan t s → (new : PieceFinderState) (result : Result (Unit {0}) FindError) → result ≡ Ok tt → TriesReady (line_begun old s) result new → FinishesText old new
-ends_line laws old t b s ends new result ok tries =
+ends_line : SettledLaws → OneSettled → AscentLaws → (old : PieceFinderState) (t : ScannerState) → BeginsLine old t → (s : ScannerState) → EndsScan t s → (new : PieceFinderState) (result : Result (Unit {0}) FindError) → result ≡ Ok tt → TriesReady (line_begun old s) result new → FinishesText old new
+ends_line laws one ascent old t b s ends new result ok tries =
     let so = tried_so s (skip_in old.position) old.cursor new result ok tries in
     let found : (text : List ℕ) (values : List BindingValue) → HasFoundIn old text values → length text ≡ fed_by old → HasFoundIn new text values = λ text values h all. tried_found laws s (skip_in old.position) old.cursor new text values result (ended_between old t b s ends text values h all) h.stopped tries in
+    let over : new.scanning.ended ≡ true = ap (λ (x : ScannerState). x.ended) so.scanning ∙ ends.ended in
+    let line : has_ready new ≡ true → (line : LogicalLine) × (new.scanning.ready ≡ Some line) = λ ready. let is = tried_ready (line_begun old s) new result refl tries ready in (is.0, ap (λ (x : ScannerState). x.ready) so.scanning ∙ is.1) in
     record {
-      found = found;
-      line = λ text values h all ready.
-          let line = tried_ready (line_begun old s) new result refl tries ready in
-          line_any new.scanning new.position new.cursor text values line.0 (open_ready new.position ready) (ap (λ (x : ScannerState). x.ready) so.scanning ∙ line.1) (found text values h all);
-      next_new = tried_new s (skip_in old.position) old.cursor new result tries;
-      cursor = so.cursor;
-      fed = so.fed ∙ ended_fed old t b s ends;
-      ended = inl (ap (λ (x : ScannerState). x.ended) so.scanning ∙ ends.ended);
+      ended = inl over;
       was_no_fault = λ fault at. open_or_fault old.position fault b.opened at;
       no_fault = so.fine;
+      fed = so.fed ∙ ended_fed old t b s ends;
+      cursor = so.cursor;
+      next_new = tried_new s (skip_in old.position) old.cursor new result tries;
+      texts = λ text values h all. knows_any laws one ascent new text values (λ yet none. absurd (true_or_false _ yet over)) (λ ended ready. line ready) (found text values h all);
     }
 
 ends_bad : SettledLaws → (old : PieceFinderState) (t : ScannerState) → BeginsLine old t → (s : ScannerState) → EndsScan t s → (new : PieceFinderState) (result : Result (Unit {0}) FindError) (e : FindError) → result ≡ Err e → TriesReady (line_begun old s) result new → EndsFeeding old (Err e) new
 ends_bad laws old t b s ends new result e err tries =
     let bad = tried_bad (line_begun old s) new result e err tries in
     subst (λ (x : FindError). EndsFeeding old (Err x) new) (sym bad.is) (record {
-      found = λ text values h all. tried_found laws s (skip_in old.position) old.cursor new text values result (ended_between old t b s ends text values h all) h.stopped tries;
-      again = λ first was. absurd (open_or_fault old.position first b.opened was);
-      was_in_top = λ top. open_or_end _ b.opened top;
-      options = ap options_for bad.bad.kept;
-      given = ap (λ (f : PieceFinderState). f.cursor.given) bad.bad.kept;
+      stops = stops_bad old (line_begun old s) new bad.fault b.opened refl bad.bad;
       fed = ap fed_by bad.bad.kept ∙ ended_fed old t b s ends;
-      kept = ap (λ (f : PieceFinderState). f.position) bad.bad.kept;
+      found = λ text values h all. tried_found laws s (skip_in old.position) old.cursor new text values result (ended_between old t b s ends text values h all) h.stopped tries;
     })
 
-pub ends_tried : SettledLaws → (old : PieceFinderState) (t : ScannerState) → BeginsLine old t → (s : ScannerState) → EndsScan t s → (new : PieceFinderState) (result : Result (Unit {0}) FindError) → TriesReady (line_begun old s) result new → EndsFeeding old result new
-ends_tried laws old t b s ends new (Ok done) tries = ends_line laws old t b s ends new (Ok done) refl tries
-ends_tried laws old t b s ends new (Err e) tries = ends_bad laws old t b s ends new (Err e) e refl tries
+pub ends_tried : SettledLaws → OneSettled → AscentLaws → (old : PieceFinderState) (t : ScannerState) → BeginsLine old t → (s : ScannerState) → EndsScan t s → (new : PieceFinderState) (result : Result (Unit {0}) FindError) → TriesReady (line_begun old s) result new → EndsFeeding old result new
+ends_tried laws one ascent old t b s ends new (Ok done) tries = ends_line laws one ascent old t b s ends new (Ok done) refl tries
+ends_tried laws one ascent old t b s ends new (Err e) tries = ends_bad laws old t b s ends new (Err e) e refl tries
 
 -- the text may not end so
 pub ends_lexical : SettledLaws → (old : PieceFinderState) (t : ScannerState) → BeginsLine old t → (s : ScannerState) (fault : Fault) (start : LineStart) → IsNextStart t start → EndsFaulty t fault s → EndsInFault old fault (failed old s start fault)
 ends_lexical laws old t b s fault start here ends = record {
+  stops = stops_failed old s start fault b.opened;
+  fed = ends.fed ∙ sym (begun_fed old t b);
   found = λ text values h all.
       let r = begun_between old t b text values h in
       lexical_found laws t s old.cursor text (skip_in old.position) values start fault r here (ends.all text r.after.lines (begun_scanning old t b text r.after.lines r.released) (all ∙ begun_fed old t b)) h.stopped;
-  again = λ first was. absurd (open_or_fault old.position first b.opened was);
-  was_in_top = λ top. open_or_end _ b.opened top;
-  options = refl;
-  given = refl;
-  fed = ends.fed ∙ sym (begun_fed old t b);
-  kept = refl;
 }
+
+-- the text ends after the top
+ends_top_at : SettledLaws → AscentLaws → (s : ScannerState) (at : Position) (cursor : CursorState) → phase_in at ≡ phase.End → FinishesText (piece_finder_state s at cursor) (piece_finder_state s at cursor)
+ends_top_at laws ascent s (position.End passed) cursor top = record {
+  ended = inr refl;
+  was_no_fault = λ fault is. end_or_fault (position.End passed) fault refl is;
+  no_fault = λ fault is. end_or_fault (position.End passed) fault refl is;
+  fed = refl;
+  cursor = refl;
+  next_new = tt;
+  texts = λ text values h all. knows_top laws ascent s passed cursor text values h;
+}
+ends_top_at laws ascent s other cursor top = absurd cc
+
+pub ends_after_top : SettledLaws → AscentLaws → (f : PieceFinderState) → phase_in f.position ≡ phase.End → FinishesText f f
+ends_after_top laws ascent f top = ends_top_at laws ascent f.scanning f.position f.cursor top

@@ -10,7 +10,7 @@ use Rattle.py_imports.specs.declared.binding.Binding.{Binding}
 use Rattle.isort_find.specs.Cursor.{CursorState, next_count, knows_key, BeginsNew}
 use Rattle.isort_find.specs.Pending.{PendingState}
 use Rattle.isort_find.specs.Position.{phase_in, is_unread, are_left, ready_in, BindsFrom}
-use Rattle.isort_find.specs.Pieces.{PieceFinderState, piece_finder_state, options_for, fed_by, has_ready, due_in, due_by, IsWithinLine, HasFoundIn, AreSettled, HoldsLine, PieceFinderRunsOut, GivesBinding, GivesFault, GivesReady, IsNextNew, StaysNew}
+use Rattle.isort_find.specs.Pieces.{PieceFinderState, piece_finder_state, options_for, fed_by, has_ready, due_in, due_by, IsWithinLine, HasFoundIn, KnowsGiven, PieceFinderRunsOut, GivesBinding, GivesFault, GivesReady, IsNextNew, StaysNew}
 use Rattle.isort_find.specs.Private.KnownLaws.{SettledLaws, OneSettled}
 use Rattle.isort_find.specs.Private.LineSteps.{Judges}
 use Rattle.isort_find.specs.Private.LooksAtBindings.{PassesBindings, TakesNew}
@@ -29,9 +29,9 @@ use Rattle.isort_find.proofs.Walks.Inside.{inside_passed, gives_at, one_given}
 use Rattle.isort_find.proofs.Fed.Known.{true_or_false}
 use Rattle.isort_find.proofs.Fed.LetGo.{fed_open}
 use Rattle.isort_find.proofs.Fed.Settled.{given_settled}
-use Rattle.isort_find.proofs.Fed.Held.{line_any}
-use Rattle.isort_find.proofs.Fed.OneLine.{open_or_fault}
-use Rattle.isort_find.proofs.Fed.TriedLines.{TriedSo, IsBadReady, held_found, trial_so, bad_decided, tried_result, reads_tries}
+use Rattle.isort_find.proofs.Fed.Held.{line_any, knows_ready}
+use Rattle.isort_find.proofs.Fed.OneLine.{open_or_fault, open_or_end}
+use Rattle.isort_find.proofs.Fed.TriedLines.{TriedSo, IsBadReady, held_found, trial_so, bad_decided, stops_bad, tried_result, reads_tries}
 
 not_ok : (e : FindError) (r : Result (Unit {0}) FindError) → r ≡ Err e → r ≡ Ok tt → ⊥
 not_ok e r h k = cc
@@ -159,12 +159,21 @@ given_after laws one old mid new b opened reads k =
     let scanning : new.scanning ≡ old.scanning = ap (λ (f : PieceFinderState). f.scanning) k.same ∙ so.scanning in
     let here : (text : List ℕ) (values : List BindingValue) → HasFoundIn old text values → HasTookOne mid.scanning k.cursor k.last text values b = λ text values h. took_one mid.scanning mid.cursor k.cursor k.pending k.rest k.last b text values k.takes k.passes (subst (λ (f : PieceFinderState). HasFoundIn f text values) at (unread_found laws old mid text values (Ok tt) reads h)) in
     let ready : ready_in mid.position ≡ true = ap ready_in k.at ∙ left_of_split k.takes.passes.dropped k.pending.left b k.rest.left (k.takes.passes.split ∙ ap (λ l. k.takes.passes.dropped ++ l) k.takes.looks.left) in
+    let was_ready : has_ready old ≡ true = ready_before old mid [] (Ok tt) reads ready in
+    let is_open : phase_in new.position ≡ phase.Open = ap (λ (f : PieceFinderState). phase_in f.position) k.same in
     record {
-      found = λ text values h. subst (λ (f : PieceFinderState). HasFoundIn f text (values ++ b ∷ [])) (sym k.same) (here text values h).found;
-      settled = λ text values h yet. subst (λ (f : PieceFinderState). AreSettled f text (values ++ b ∷ [])) (sym k.same) (given_settled laws one mid.scanning k.cursor text k.last (values ++ b ∷ []) (ap (λ (s : ScannerState). s.ended) so.scanning ∙ yet) (here text values h).within);
-      offset = λ text values h. subst (λ (f : PieceFinderState). BindsFrom text f.cursor.offset b) (sym k.same) (here text values h).from;
-      line = λ text values h. subst (λ (f : PieceFinderState). HoldsLine f text) (sym k.same) (line_any mid.scanning (position.Within k.last) k.cursor text (values ++ b ∷ []) (here text values h).within.line refl (here text values h).within.ready (here text values h).found);
-      was_ready = ready_before old mid [] (Ok tt) reads ready;
+      unfed = record {
+        fed = ap fed_by k.same ∙ ap fed_of so.scanning ∙ sym (fed_open old opened);
+        open_yet = ap (λ (s : ScannerState). s.ended) scanning;
+        no_fault = λ fine fault is. open_or_fault new.position fault is_open is;
+        stays = λ top. absurd (open_or_end _ opened top);
+      };
+      counts = record {
+        options = ap options_for k.same ∙ ap (λ (c : CursorState). c.options) cursor ∙ ap (λ (c : CursorState). c.options) so.cursor;
+        given = ap (λ (f : PieceFinderState). f.cursor.given) k.same ∙ ap (λ (c : CursorState). c.given) cursor ∙ ap (λ (c : CursorState). next_count c.given) so.cursor;
+      };
+      was_ready = was_ready;
+      is_open = is_open;
       next_new = subst IsNextNew (sym k.same) k.ahead;
       falls =
           (let before = unread_due old mid reads in
@@ -174,11 +183,14 @@ given_after laws one old mid new b opened reads k =
           let taken = ap length k.takes.looks.left in
           let ahead = ap length k.passes.split in
           omega (arith, before, due, now, passed, taken, ahead, length-append k.takes.passes.dropped k.takes.between.left, length-append k.passes.dropped k.last.left));
-      options = ap options_for k.same ∙ ap (λ (c : CursorState). c.options) cursor ∙ ap (λ (c : CursorState). c.options) so.cursor;
-      given = ap (λ (f : PieceFinderState). f.cursor.given) k.same ∙ ap (λ (c : CursorState). c.given) cursor ∙ ap (λ (c : CursorState). next_count c.given) so.cursor;
-      fed = ap fed_by k.same ∙ ap fed_of so.scanning ∙ sym (fed_open old opened);
-      is_open = ap (λ (f : PieceFinderState). phase_in f.position) k.same;
-      open_yet = ap (λ (s : ScannerState). s.ended) scanning;
+      texts = λ text values h.
+          let it = here text values h in
+          subst (λ (f : PieceFinderState). KnowsGiven f b text values) (sym k.same) (record {
+            found = it.found;
+            settled = λ yet. given_settled laws one mid.scanning k.cursor text k.last (values ++ b ∷ []) yet it.within;
+            from = it.from;
+            line = line_any mid.scanning (position.Within k.last) k.cursor text (values ++ b ∷ []) it.within.line refl it.within.ready it.found;
+          });
     }
 
 ok_or_error : (x : Option Binding) (e : FindError) (r : Result (Option Binding) FindError) → r ≡ Ok x → r ≡ Err e → ⊥
@@ -194,31 +206,33 @@ gives_binding laws one old new x opened t = gives_by laws one old t.mid new x t.
 
 -- the last line is bad
 bad_line : SettledLaws → (s : ScannerState) (start : LineStart) (skip : ℕ) (cursor : CursorState) (new : PieceFinderState) (fault : Fault) → IsBadReady (piece_finder_state s (position.Unread start skip) cursor) fault new → ((text : List ℕ) (values : List BindingValue) → HasFoundIn (piece_finder_state s (position.Unread start skip) cursor) text values → HasFoundIn new text values) → GivesFault (piece_finder_state s (position.Unread start skip) cursor) fault new
-bad_line laws s start skip cursor new fault bad found = record {
-  found = found;
-  decided = λ text values h yet. bad_decided laws (piece_finder_state s (position.Unread start skip) cursor) new text skip values fault yet bad h.reached;
-  unread = refl;
-  was_open = refl;
-  options = ap options_for bad.kept;
-  given = ap (λ (f : PieceFinderState). f.cursor.given) bad.kept;
-  fed = ap fed_by bad.kept;
-  open_yet = ap (λ (f : PieceFinderState). f.scanning.ended) bad.kept;
-  kept = ap (λ (f : PieceFinderState). f.position) bad.kept;
-}
+bad_line laws s start skip cursor new fault bad found =
+    let f = piece_finder_state s (position.Unread start skip) cursor in
+    record {
+      stops = stops_bad f f new fault refl refl bad;
+      unread = refl;
+      fed = ap fed_by bad.kept;
+      open_yet = ap (λ (f : PieceFinderState). f.scanning.ended) bad.kept;
+      found = found;
+      decided = λ yet text values h. bad_decided laws f new text skip values fault yet bad h.reached;
+    }
 
 -- memory ran out for it
-lost_again : (s : ScannerState) (start here : LineStart) (skip : ℕ) (cursor : CursorState) (new : PieceFinderState) → new ≡ piece_finder_state s (position.Unread here skip) cursor → PieceFinderRunsOut (piece_finder_state s (position.Unread start skip) cursor) new × (true ≡ true) × StaysNew (piece_finder_state s (position.Unread start skip) cursor) new
-lost_again s start here skip cursor new is = (
+lost_again : (s : ScannerState) (start here : LineStart) (skip : ℕ) (cursor : CursorState) (new : PieceFinderState) (line : LogicalLine) → s.ready ≡ Some line → new ≡ piece_finder_state s (position.Unread here skip) cursor → PieceFinderRunsOut (piece_finder_state s (position.Unread start skip) cursor) new × (true ≡ true) × StaysNew (piece_finder_state s (position.Unread start skip) cursor) new
+lost_again s start here skip cursor new line ready is = (
   subst (PieceFinderRunsOut (piece_finder_state s (position.Unread start skip) cursor)) (sym is) (record {
-    found = λ text values h. record { stopped = h.stopped; reached = h.reached };
-    rest = λ text values h yet none. absurd (true_or_false _ none refl);
-    scanning = λ was. refl;
-    fed = refl;
+    unfed = record {
+      fed = refl;
+      open_yet = refl;
+      no_fault = λ fine fault at. open_or_fault (position.Unread here skip) fault refl at;
+      stays = λ top. absurd (open_or_end _ refl top);
+    };
     cursor = refl;
-    ready = refl;
     was_open = refl;
     is_open = refl;
-    open_yet = refl;
+    ready = refl;
+    scanning = λ was. refl;
+    texts = λ text values h. knows_ready (piece_finder_state s (position.Unread here skip) cursor) text values line refl ready (record { stopped = h.stopped; reached = h.reached });
   }),
   refl,
   λ read next. absurd (true_or_false _ read refl),
@@ -239,7 +253,7 @@ step_error laws s start here skip cursor new line (step.Fault fault) w e at judg
     let f = piece_finder_state s (position.Unread start skip) cursor in
     let bad : IsBadReady f fault new = record { line = line; start = here; at = at; bad = judged.0; counts = judged.1; kept = same ∙ ap (with_walker f) follows.1 } in
     subst (λ (y : FindError). GivesReady f (Err y) new) (sym (error_is e (error.Fault fault) (Err e) refl follows.0)) (bad_line laws s start skip cursor new fault bad found)
-step_error laws s start here skip cursor new line step.LineLost w e at judged follows same found = subst (λ (y : FindError). GivesReady (piece_finder_state s (position.Unread start skip) cursor) (Err y) new) (sym (error_is e error.Memory (Err e) refl follows.0)) (lost_again s start here skip cursor new (same ∙ ap (λ (v : WalkerState). piece_finder_state s v.position v.cursor) follows.1))
+step_error laws s start here skip cursor new line step.LineLost w e at judged follows same found = subst (λ (y : FindError). GivesReady (piece_finder_state s (position.Unread start skip) cursor) (Err y) new) (sym (error_is e error.Memory (Err e) refl follows.0)) (lost_again s start here skip cursor new line at.ready (same ∙ ap (λ (v : WalkerState). piece_finder_state s v.position v.cursor) follows.1))
 step_error laws s start here skip cursor new line step.NoMemory w e at judged follows same found = absurd judged
 
 read_error : SettledLaws → (s : ScannerState) (at : Position) (cursor : CursorState) (new : PieceFinderState) (e : FindError) → is_unread at ≡ true → ReadsReady (piece_finder_state s at cursor) (Err e) new → GivesReady (piece_finder_state s at cursor) (Err e) new
@@ -272,18 +286,21 @@ passed_over laws old s p q cursor new opened reads passes some is =
     let so = unread_so old mid opened reads in
     let before = ready_before old mid [] (Ok tt) reads (ap are_left passes.split ∙ split_nonempty passes.dropped q.left some) in (
       subst (PieceFinderRunsOut old) (sym is) (record {
-        found = λ text values h.
-            let g = unread_found laws old mid text values (Ok tt) reads h in
-            let w = g.reached in
-            record { stopped = g.stopped; reached = record { lines = w.lines; line = w.line; released = w.released; ready = w.ready; known = w.known; inside = inside_passed text cursor w.lines w.line p q values g.stopped passes w.inside } };
-        rest = λ text values h yet none. absurd (true_or_false _ none before);
-        scanning = λ was. so.scanning;
-        fed = so.fed ∙ sym (fed_open old opened);
+        unfed = record {
+          fed = so.fed ∙ sym (fed_open old opened);
+          open_yet = ap (λ (x : ScannerState). x.ended) so.scanning;
+          no_fault = λ fine fault at. open_or_fault (position.Within q) fault refl at;
+          stays = λ top. absurd (open_or_end _ opened top);
+        };
         cursor = so.cursor;
-        ready = nonempty q.left some ∙ sym before;
         was_open = opened;
         is_open = refl;
-        open_yet = ap (λ (x : ScannerState). x.ended) so.scanning;
+        ready = nonempty q.left some ∙ sym before;
+        scanning = λ was. so.scanning;
+        texts = λ text values h.
+            let g = unread_found laws old mid text values (Ok tt) reads h in
+            let w = g.reached in
+            knows_ready (piece_finder_state s (position.Within q) cursor) text values w.line (nonempty q.left some) w.ready (record { stopped = g.stopped; reached = record { lines = w.lines; line = w.line; released = w.released; ready = w.ready; known = w.known; inside = inside_passed text cursor w.lines w.line p q values g.stopped passes w.inside } });
       }),
       before,
       λ read next. subst IsNextNew (sym is) (left_new cursor passes.dropped q.left passes.known (subst (BeginsNew cursor) passes.split (read_new old mid reads read next))),

@@ -10,8 +10,8 @@ use Rattle.isort_find.specs.Found.{ends_top}
 use Rattle.isort_find.specs.Settled.{DecidesFound}
 use Rattle.isort_find.specs.Cursor.{CursorState, HasStopped}
 use Rattle.isort_find.specs.Pending.{pending_after}
-use Rattle.isort_find.specs.Position.{skip_in}
-use Rattle.isort_find.specs.Pieces.{PieceFinderState, piece_finder_state, options_for, fed_by, has_ready, HasNoFault, IsNextNew, AreKnown, IsBetweenLines, HasFoundIn}
+use Rattle.isort_find.specs.Position.{phase_in, skip_in}
+use Rattle.isort_find.specs.Pieces.{PieceFinderState, piece_finder_state, options_for, fed_by, has_ready, HasNoFault, IsNextNew, AreKnown, IsBetweenLines, HasFoundIn, MeetsAt, StopsAtFault}
 use Rattle.isort_find.specs.Private.LineSteps.{Judges, Trial, TurnsOut, binding, ending, failing, lost}
 use Rattle.isort_find.specs.Private.PieceSteps.{HasReady, HandsLine, TriesReady, walker_of, with_walker}
 use Rattle.isort_find.specs.Private.Walks.{WalkerState, FollowsStep, FollowsTrial, LearnsLine, ReadsOrLosesLine, TriesLine, walker_state, with_fault}
@@ -22,6 +22,8 @@ use Rattle.isort_find.specs.declared.step.Step.{Step}
 use Rattle.isort_find.specs.declared.step.Step.TheVariants as step
 use Rattle.isort_find.specs.declared.walker.Position.{Position}
 use Rattle.isort_find.specs.declared.walker.Position.TheVariants as position
+use Rattle.isort_find.specs.declared.walker.Phase.{Phase}
+use Rattle.isort_find.specs.declared.walker.Phase.TheVariants as phase
 use Rattle.isort_find.specs.Private.KnownLaws.{SettledLaws}
 use Rattle.isort_find.proofs.Walks.Inside.{inside_passed}
 use Rattle.isort_find.proofs.Walks.NextLine.{IsAtLine, nothing_at_top, nothing_at_bad, stops_before, reads_bindings, reads_bad, found_at_bad}
@@ -176,3 +178,15 @@ step_tries old w line start step.NoMemory result judged follows = absurd judged
 
 pub reads_tries : (old w : WalkerState) (line : LogicalLine) (start : LineStart) (result : Result (Unit {0}) FindError) → ReadsOrLosesLine old line start result w → LearnsLine old line start (tried_result result) w
 reads_tries old w line start result r = step_tries old w line start r.step result r.judges r.follows
+
+-- a fault may be met where the finder goes on
+pub meets_open : (old : PieceFinderState) (fault : Fault) (new : PieceFinderState) → phase_in old.position ≡ phase.Open → MeetsAt (phase_in old.position) old fault new
+meets_open old fault new opened = subst (λ (p : Phase). MeetsAt p old fault new) (sym opened) tt
+
+-- a bad line is a fault that is met
+pub stops_bad : (old f new : PieceFinderState) (fault : Fault) → phase_in old.position ≡ phase.Open → f.cursor ≡ old.cursor → IsBadReady f fault new → StopsAtFault old fault new
+stops_bad old f new fault opened same bad = record {
+  kept = ap (λ (g : PieceFinderState). g.position) bad.kept;
+  met = meets_open old fault new opened;
+  counts = record { options = ap options_for bad.kept ∙ ap (λ (c : CursorState). c.options) same; given = ap (λ (g : PieceFinderState). g.cursor.given) bad.kept ∙ ap (λ (c : CursorState). c.given) same };
+}

@@ -3,7 +3,7 @@ use Rattle.std.specs.Prelude.{◌≡◌, ℕ, ◌+◌, ◌<◌, ◌≤◌, ◌�
 use Rattle.py_lines.specs.LogicalLine.{LogicalLine}
 use Rattle.py_lines.specs.ScannerState.{ScannerState, Releases}
 use Rattle.py_imports.specs.declared.binding.Binding.{Binding}
-use Rattle.isort_find.specs.Pieces.{PieceFinderState, HasFoundIn, InEachText, HasNoFault, AreAllSettled, IsUndecided, IsNextNew, PieceFinderRunsOut, MeetsFaultIn, piece_finder_state, fed_by, has_ready}
+use Rattle.isort_find.specs.Pieces.{PieceFinderState, HasFoundIn, InEachText, HasNoFault, IsUndecided, IsNextNew, PieceFinderRunsOut, MeetsFaultIn, piece_finder_state, fed_by, has_ready}
 use Rattle.isort_find.specs.Position.{phase_in, is_unread, skip_in}
 use Rattle.isort_find.specs.Private.CursorMoves.{cursor_before}
 use Rattle.isort_find.specs.Private.Walks.{WalkerState, LooksAhead, ReadsOrLosesLine, TakesOne, TriesLine, after_line, passed_up_to, read_again, walker_state}
@@ -86,7 +86,6 @@ pub record PassesLines (old : PieceFinderState) (piece : List ℕ) (n : ℕ) (ne
 -- be held, which wasn't looked at yet.
 pub record TakesLines (old : PieceFinderState) (piece : List ℕ) (n : ℕ) (new : PieceFinderState) : Type 0 where
   pub advances : Advances old piece n new
-  pub all : InEachText old (take n piece) (λ text values. has_ready new ≡ false → AreAllSettled new text values)
   pub undecided : InEachText old (take n piece) (λ text values. has_ready new ≡ false → IsDrained new → IsUndecided new text)
   pub next_new : IsNextNew new
   pub some : n ≡ 0 → piece ≡ []

@@ -20,8 +20,8 @@ fed_fits chunk rest old now amid few = omega (arith, rest_fits chunk rest old no
 shorter : (old new : PieceFinderState) (rest : List ℕ) (n : ℕ) → TakesFromPiece old rest n new → has_ready old ≡ false → (length rest == 0) ≡ false
     → length (take (length rest - n) (drop n rest)) < length rest
 shorter old new rest n takes none more =
-    let some : (n ≡ 0 → ⊥) = λ zero. elim (takes.some zero) [ inl nil ↦ eqb-false _ _ more (ap length nil) | inr ready ↦ cc ] in
-    omega (arith, length-take (length rest - n) (drop n rest), length-drop n rest, takes.within, some, eqb-false _ _ more)
+    let some : (n ≡ 0 → ⊥) = λ zero. elim (takes.takes.some zero) [ inl nil ↦ eqb-false _ _ more (ap length nil) | inr ready ↦ cc ] in
+    omega (arith, length-take (length rest - n) (drop n rest), length-drop n rest, takes.takes.within, some, eqb-false _ _ more)
 
 pub lines-init : goal.lines-init
 lines-init g c = amid_first c.args.chunk.now _ c.requires.fine c.requires.open_yet c.requires.none_ready

@@ -4,10 +4,16 @@ use Rattle.py_imports.specs.declared.binding.Binding.{Binding}
 use Rattle.isort_find.specs.Position.{phase_in}
 use Rattle.isort_find.specs.Pieces.{PieceFinderState}
 use Rattle.isort_find.specs.Private.PieceSteps.{TakesReady}
+use Rattle.isort_find.proofs.Fed.AfterFault.{faulty_again}
 use Rattle.isort_find.proofs.Fed.NoneReady.{gives_none_at_top, answers_none}
 use Rattle.isort_find.proofs.Fed.OpenYet.{stays_open}
 use Rattle.isort_find.proofs.Fed.Ready.{gives_binding, answers_error}
 use Rattle.isort_find.proofs.pieces.PieceFinder.next_ready.Goals as goal
+
+pub returns-in-Fault : goal.returns-in-Fault
+returns-in-Fault c =
+    let at = ap (λ (f : PieceFinderState). phase_in f.position) (sym c.self.view_is) ∙ sym c.phase.ensures ∙ c.in-Fault.is in
+    record { next = (faulty_again c.args.self.now c.in-Fault.field-0 at).asked; open_yet = λ yet. yet }
 
 pub returns-in-Ok-Some : goal.returns-in-Ok-Some
 returns-in-Ok-Some c =

@@ -42,4 +42,4 @@ returns-in-Err-Memory c =
     let gone = begun_here old _ c.self.view_is c.requires.between c.requires.open_yet in
     let short = subst (λ (e : LexError). Feeds c.self.inside.scanner c.args.piece.now (Err e) c.feed.new.self) c.in-Err-Memory.field-0-is c.in-Err-Memory.ensures.feeds in
     let w = c.self.inside.walker in
-    subst (TakesNothing old) (sym (ap (λ (s : ScannerState). piece_finder_state s w.position w.cursor) short.same ∙ gone.is)) (takes_no_byte old c.self.inside.scanner gone.begins)
+    subst (TakesNothing old) (sym (ap (λ (s : ScannerState). piece_finder_state s w.position w.cursor) short.same ∙ gone.is)) (takes_no_byte c.known_laws.ensures.settled c.known_laws.ensures.one_settled c.known_laws.ensures.ascent old c.self.inside.scanner gone.begins)
