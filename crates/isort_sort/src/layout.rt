@@ -107,15 +107,15 @@ impl Layout<'_> {
     ghost use Rattle.isort_sort.specs.Wrapping.{is_forced, trailing_comma};
 
     /// How many characters the names on a line of a wrapped statement may have, where they are several.
-    fn line_room(&self, module: &str) -> usize
-        ensures { result ≡ line_room (values_by self.now) self.now.indentation.now module.now }
+    fn line_room(&self, path: &str) -> usize
+        ensures { result ≡ line_room (values_by self.now) self.now.indentation.now path.now }
     {
         let room = (self.settings.line_length as usize).saturating_sub(width(
             self.indentation.as_bytes(),
         ));
         match WrapMode::of(self.settings) {
             WrapMode::Grid => room
-                .saturating_sub(bracket_width(module))
+                .saturating_sub(bracket_width(path))
                 .saturating_sub(",".len()),
             WrapMode::HangingIndent => room.saturating_sub("    ".len() + ", \\".len()),
             WrapMode::Vertical | WrapMode::VerticalHangingIndent => 0,
@@ -133,12 +133,12 @@ impl Layout<'_> {
     }
 
     /// Puts the beginning of a `from` statement after `out`, and `opening`, which its names or its joined comment follow.
-    fn push_opening(&self, out: &mut String, module: &str, opening: &str) -> Result<(), AllocError>
+    fn push_opening(&self, out: &mut String, path: &str, opening: &str) -> Result<(), AllocError>
         ensures { OnOk result
-            (Writes out.old out.new (opening_text self.now module.now opening.now)) }
+            (Writes out.old out.new (opening_text self.now path.now opening.now)) }
     {
         out.push_str(self.indentation)?;
-        push_head(out, module)?;
+        push_head(out, path)?;
         out.push_str(opening)
     }
 
@@ -284,32 +284,27 @@ impl Layout<'_> {
     fn push_straight(
         &self,
         out: &mut String,
-        module: &str,
+        path: &str,
         alias: &Option<String>,
         comments: &[String],
     ) -> Result<(), AllocError>
         ensures { OnOk result (Writes out.old out.new (plain_text self.now
-            (straight module.now (option_map string_bytes alias.now))
+            (straight path.now (option_map string_bytes alias.now))
             (map string_bytes comments.now))) }
     {
         out.push_str(self.indentation)?;
         out.push_str("import ")?;
-        out.push_str(module)?;
+        out.push_str(path)?;
         push_alias(out, alias)?;
         self.push_line_end(out, comments)
     }
 
     /// Puts `from MODULE import *` after `out`.
-    fn push_star(
-        &self,
-        out: &mut String,
-        module: &str,
-        comments: &[String],
-    ) -> Result<(), AllocError>
+    fn push_star(&self, out: &mut String, path: &str, comments: &[String]) -> Result<(), AllocError>
         ensures { OnOk result (Writes out.old out.new
-            (plain_text self.now (star module.now) (map string_bytes comments.now))) }
+            (plain_text self.now (star path.now) (map string_bytes comments.now))) }
     {
-        self.push_opening(out, module, "*")?;
+        self.push_opening(out, path, "*")?;
         self.push_line_end(out, comments)
     }
 

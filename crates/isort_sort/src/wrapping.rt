@@ -61,19 +61,19 @@ pub(crate) fn push_remark(out: &mut String, comments: &[String]) -> Result<(), A
 }
 
 /// Puts `from MODULE import ` after `out`.
-pub(crate) fn push_head(out: &mut String, module: &str) -> Result<(), AllocError>
-    ensures { OnOk result (Writes out.old out.new (head module.now)) }
+pub(crate) fn push_head(out: &mut String, path: &str) -> Result<(), AllocError>
+    ensures { OnOk result (Writes out.old out.new (head path.now)) }
 {
     out.push_str("from ")?;
-    out.push_str(module)?;
+    out.push_str(path)?;
     out.push_str(" import ")
 }
 
 /// How many characters `from MODULE import (` has: where the names stand on the next lines, after the indentation.
-pub(crate) fn bracket_width(module: &str) -> usize
-    ensures { result ≡ width.width (head module.now) + 1 }
+pub(crate) fn bracket_width(path: &str) -> usize
+    ensures { result ≡ width.width (head path.now) + 1 }
 {
-    "from ".len() + width(module.as_bytes()) + " import (".len()
+    "from ".len() + width(path.as_bytes()) + " import (".len()
 }
 
 /// What is left of so many characters after an item, if it isn't longer.

@@ -5,5 +5,5 @@ use Rattle.isort_sort.proofs.wrapping.bracket_width.Goals as goal
 
 pub returns : goal.returns
 returns c =
-    let module_width : c.width.result ≡ width c.args.module.now = c.width.ensures.value ∙ ap width c.as_bytes.ensures.value in
-    omega (arith, width-append c.args.module.now (codes " import "))
+    let module_width : c.width.result ≡ width c.args.path.now = c.width.ensures.value ∙ ap width c.as_bytes.ensures.value in
+    omega (arith, width-append c.args.path.now (codes " import "))

@@ -7,4 +7,4 @@ use Rattle.isort_sort.proofs.layout.Layout.push_star.Goals as goal
 pub returns : goal.returns
 returns c =
     last_extended _ _ _ _ _ _ _ c.in_ok-push_opening.ensures c.push_line_end.ensures
-    (star_line c.args.self.now.indentation.now (head c.args.module.now) (codes "*") (remark (map string_bytes c.args.comments.now)) c.args.self.now.end.now)
+    (star_line c.args.self.now.indentation.now (head c.args.path.now) (codes "*") (remark (map string_bytes c.args.comments.now)) c.args.self.now.end.now)

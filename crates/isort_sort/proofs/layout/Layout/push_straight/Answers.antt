@@ -11,4 +11,4 @@ returns c =
     last_extended _ _ _ _ _ _ _
     (extend _ _ _ _ _ (extend _ _ _ _ _ (extend _ _ _ _ _ c.in_ok-push_str.ensures.bytes c.in_ok-push_str-2.ensures.bytes) c.in_ok-push_str-3.ensures.bytes) c.in_ok-push_alias.ensures)
     c.push_line_end.ensures
-    (straight_line c.args.self.now.indentation.now (codes "import ") c.args.module.now (alias_text (option_map string_bytes c.args.alias.now)) (remark (map string_bytes c.args.comments.now)) c.args.self.now.end.now)
+    (straight_line c.args.self.now.indentation.now (codes "import ") c.args.path.now (alias_text (option_map string_bytes c.args.alias.now)) (remark (map string_bytes c.args.comments.now)) c.args.self.now.end.now)
