@@ -30,7 +30,8 @@
 -- One call: `find_blocks` answers the blocks of a cut (`IsFoundIn`), and `arrange` the layout of each (`IsArranged`), of which
 -- `text_left` is what `push_next` still has to put.
 -- What `Parts` has handed out is sorted whatever sorts the rest of the cut (`HasMade`; proofs/SortedTexts: Arranging,
--- Parts), and so the parts with the last of the text are the sorted text (SortedTexts/OfParts, Finding/Spans). Where
+-- Parts), and so the parts with the last of the text are the sorted text (SortedTexts/OfParts, Finding/Spans). A text is compared
+-- piece by piece (`Takes`; SortedTexts/Comparing). Where
 -- `sort_outcome` stops early, there is a sorted text that goes on from the parts so far, since each block has a layout.
 --
 -- Writers. The loop of write.rt counts interruptions in a row by `Metered`, so it ends whatever the writer does.

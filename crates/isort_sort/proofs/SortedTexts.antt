@@ -1,7 +1,7 @@
 -- The sorted text, block by block.
 pub mod Arranging
 pub mod Parts
-pub mod CutOffs
+pub mod Comparing
 pub mod OfParts
 pub mod Written
 pub mod SortedCuts

@@ -9,6 +9,7 @@ pub mod Actions
 pub mod Markers
 pub mod Reading
 pub mod Arranged
+pub mod Compared
 pub mod LineEnd
 pub mod Gathered
 pub mod GroupOrder

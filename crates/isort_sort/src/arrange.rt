@@ -1,11 +1,13 @@
 //! The layout of a block that was found, statement by statement.
 ghost use Rattle.std.specs.Prelude.{◌≡◌, ◌<◌, ◌++◌, ℕ, List, [], IfOk, OnOk, MatchBool, string_bytes, if◌then◌else◌};
 ghost use Rattle.isort_settings.specs.Values.{values};
-ghost use Rattle.isort_sort.specs.Private.Arranged.{pieces_left, text_left, IsArranged, IsCutOff, IsReady};
+ghost use Rattle.isort_sort.specs.Private.Arranged.{pieces_left, text_left, IsArranged, IsReady};
+ghost use Rattle.isort_sort.specs.Private.Compared.{Takes};
 ghost use Rattle.isort_sort.specs.Private.Found.{blanks_of, found_value};
 ghost use Rattle.isort_sort.specs.Private.LineEnd.{end_bytes};
 ghost use Rattle.isort_sort.specs.Private.Writes.{Writes};
 
+use crate::comparison::Comparison;
 use crate::finder::FoundBlock;
 use crate::group::{Group, group_members};
 use crate::layout::Layout;
@@ -134,25 +136,24 @@ impl Arrangement<'_> {
         Ok(text)
     }
 
-    /// What follows the text of the layout, where the bytes begin with it. It is made statement by statement in `buffer`, and
-    /// no more of it than up to the first statement that differs.
-    pub(crate) fn cut_off<'b>(
-        mut self,
+    /// Compares what is left of the layout with a text. It is made statement by statement in `buffer`, and no more of it than up
+    /// to the first statement that differs.
+    pub(crate) fn compare(
+        &mut self,
         buffer: &mut String,
-        bytes: &'b [u8],
-    ) -> Result<Option<&'b [u8]>, AllocError>
-        requires { IsReady self }
-        ensures { IfOk result (λ rest. IsCutOff bytes.now (text_left self.entry) rest) }
+        compared: &mut Comparison<'_>,
+    ) -> Result<(), AllocError>
+        requires { IsReady self.old }
+        ensures { OnOk result (Takes compared.old (text_left self.old) compared.new) }
     {
-        let mut left = bytes;
         buffer.clear();
         'pieces: while self.push_next(buffer)? {
-            match left.strip_prefix(buffer.as_bytes()) {
-                Some(rest) => left = rest,
-                None => return Ok(None),
+            compared.take(buffer.as_bytes());
+            if !compared.agrees() {
+                return Ok(());
             }
             buffer.clear();
         }
-        Ok(Some(left))
+        Ok(())
     }
 }

@@ -5,6 +5,7 @@ mod actions;
 mod answer;
 mod arrange;
 mod comment;
+mod comparison;
 mod finder;
 mod group;
 pub mod laws;

@@ -1,13 +1,15 @@
 //! A sorted text, part by part, as it is made.
-ghost use Rattle.std.specs.Prelude.{◌≡◌, ◌++◌, ◌≤◌, ℕ, List, [], length, slice_range, IfOk, IfSome};
+ghost use Rattle.std.specs.Prelude.{◌≡◌, ◌++◌, ◌≤◌, ℕ, List, [], length, slice_range, IfOk, IfSome, OnOk};
 ghost use Rattle.std.specs.Str.{IsUtf8};
 ghost use Rattle.isort_settings.specs.Values.{Values, values};
-ghost use Rattle.isort_sort.specs.Private.Arranged.{IsCutOff, IsReady};
+ghost use Rattle.isort_sort.specs.Private.Arranged.{IsReady};
+ghost use Rattle.isort_sort.specs.Private.Compared.{Takes};
 ghost use Rattle.isort_sort.specs.Private.Parts.{part_text, parts_left, HasMade, Makes};
 ghost use Rattle.isort_sort.specs.Private.Reading.{IsFoundIn};
 ghost use Rattle.isort_sort.specs.Sorted.{IsLaidOut};
 
 use crate::arrange::{Arrangement, arrange};
+use crate::comparison::Comparison;
 use crate::finder::FoundBlock;
 use crate::line_end::LineEnd;
 use crate::read::FoundText;
@@ -34,20 +36,18 @@ fn between(text: &[u8], start: usize, stop: usize) -> &[u8]
 }
 
 impl Part<'_> {
-    /// What follows the part, where the bytes begin with it. Its layout is made statement by statement in `buffer`, and no more
-    /// of it than up to the first statement that differs.
-    pub(crate) fn cut_off<'b>(
-        self,
+    /// Compares the part with a text. Its layout is made statement by statement in `buffer`, and no more of it than up to the
+    /// first statement that differs.
+    pub(crate) fn compare(
+        mut self,
         buffer: &mut String,
-        bytes: &'b [u8],
-    ) -> Result<Option<&'b [u8]>, AllocError>
+        compared: &mut Comparison<'_>,
+    ) -> Result<(), AllocError>
         requires { IsReady self.layout }
-        ensures { IfOk result (λ rest. IsCutOff bytes.now (part_text self.entry) rest) }
+        ensures { OnOk result (Takes compared.old (part_text self.entry) compared.new) }
     {
-        match bytes.strip_prefix(self.before) {
-            Some(rest) => self.layout.cut_off(buffer, rest),
-            None => Ok(None),
-        }
+        compared.take(self.before);
+        self.layout.compare(buffer, compared)
     }
 }
 

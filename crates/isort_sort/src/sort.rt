@@ -7,6 +7,7 @@ ghost use Rattle.isort_sort.specs.Metered.{inner_of, last_of, IsGivenUp};
 ghost use Rattle.isort_sort.specs.Written.{LeavesUnwritten, WritesSorted};
 
 use crate::answer::{Block, Outcome, SortError, Sorted};
+use crate::comparison::Comparison;
 use crate::finder::FoundBlock;
 use crate::laws::sorted_texts_stay;
 use crate::metered::{Last, Metered};
@@ -88,18 +89,19 @@ pub fn sort_outcome(alloc: Global, text: &[u8], settings: &Settings) -> Result<O
         return Ok(Outcome::Skipped);
     };
     let mut parts = Parts::new(text, settings, found);
+    let mut compared = Comparison::of(text);
     let mut buffer = String::new(alloc);
-    let mut left = text;
     'parts: while let Some(part) = parts.next(alloc)? {
-        match part.cut_off(&mut buffer, left)? {
-            Some(rest) => left = rest,
-            None => return Ok(Outcome::Changed),
+        part.compare(&mut buffer, &mut compared)?;
+        if !compared.agrees() {
+            return Ok(Outcome::Changed);
         }
     }
-    if left == parts.rest() {
-        return Ok(Outcome::Same);
-    }
-    Ok(Outcome::Changed)
+    Ok(if compared.ends_with(parts.rest()) {
+        Outcome::Same
+    } else {
+        Outcome::Changed
+    })
 }
 
 /// Whether the text is its own sorted text, as a text is that asks to be left as it is.

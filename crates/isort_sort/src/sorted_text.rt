@@ -4,13 +4,14 @@ ghost use Rattle.std.specs.Io.KnownBytes.{Appends};
 ghost use Rattle.std.specs.Str.{IsUtf8};
 ghost use Rattle.isort_settings.specs.Values.{values};
 ghost use Rattle.isort_sort.specs.Metered.{inner_of, last_of, IsGivenUp};
-ghost use Rattle.isort_sort.specs.Private.Arranged.{IsCutOff, IsReady};
+ghost use Rattle.isort_sort.specs.Private.Arranged.{IsReady};
 ghost use Rattle.isort_sort.specs.Private.Parts.{part_text, sorted_bytes, sorted_part_text, AreTexts};
 ghost use Rattle.isort_sort.specs.Private.Reading.{IsFoundIn};
 ghost use Rattle.isort_sort.specs.Sorted.{IsLaidOut};
 ghost use Rattle.isort_sort.specs.Written.{AppendsPrefix};
 
 use crate::answer::SortError;
+use crate::comparison::Comparison;
 use crate::finder::FoundBlock;
 use crate::metered::{Last, Metered};
 use crate::parts::{Part, Parts};
@@ -41,15 +42,6 @@ impl<'t> SortedPart<'t> {
             before: part.before,
             layout: part.layout.into_text(alloc)?,
         })
-    }
-
-    /// What follows the part, where the bytes begin with it.
-    fn cut_off<'b>(&self, bytes: &'b [u8]) -> Option<&'b [u8]>
-        ensures { IsCutOff bytes.now (sorted_part_text self.now) result }
-    {
-        bytes
-            .strip_prefix(self.before)?
-            .strip_prefix(self.layout.as_bytes())
     }
 }
 
@@ -93,14 +85,12 @@ impl<'t> SortedText<'t> {
         ensures { MatchBool result (sorted_bytes self.now ≡ text.now)
             (sorted_bytes self.now ≢ text.now) }
     {
-        let mut left = text;
+        let mut compared = Comparison::of(text);
         'parts: for part in &self.parts {
-            match part.cut_off(left) {
-                Some(rest) => left = rest,
-                None => return false,
-            }
+            compared.take(part.before);
+            compared.take(part.layout.as_bytes());
         }
-        left == self.rest
+        compared.ends_with(self.rest)
     }
 
     /// It as one text.

@@ -1,21 +1,22 @@
 -- A sorted text in parts is the text of its parts.
-use Rattle.std.proofs.Common.{◌≡◌, ◌≢◌, ◌⊎◌, inl, inr, ℕ, ◌+◌, ◌<◌, ◌≤◌, Bool, true, false, MatchBool, Option, Result, Ok, Err, OnErr, List, [], ◌∷◌, ◌++◌, length, drop, get_or, flat_map, sym, ap, ◌∙◌, append_assoc, append-nil}
-use Rattle.std.specs.Cmp.Lexicographic.{bytes_decides, pointwise}
+use Rattle.std.proofs.Common.{◌≡◌, ◌⊎◌, inl, inr, ℕ, ◌+◌, ◌<◌, ◌≤◌, true, false, is_some, Option, Result, Ok, Err, OnErr, List, [], ◌∷◌, ◌++◌, length, drop, get_or, flat_map, sym, ap, ◌∙◌, append_assoc, append-nil}
 use Rattle.std.specs.Io.KnownBytes.{Appends}
 use Rattle.std.specs.Str.{IsUtf8}
 use Rattle.std.proofs.KnownBytes.{Appends-trans}
-use Rattle.std.proofs.Math.Dec.{eqb}
-use Rattle.std.proofs.lemmas.List.{append_cancel_left, drop_all, drop_more}
+use Rattle.std.proofs.lemmas.List.{drop_all, drop_more}
 use Rattle.std.proofs.lemmas.List.Concat.{flat_map-append}
 use Rattle.isort_settings.specs.Values.{Values}
+use Rattle.isort_sort.specs.Private.Compared.{IsCompared}
 use Rattle.isort_sort.specs.Private.Parts.{sorted_part_text, AreTexts, HasMade}
 use Rattle.isort_sort.specs.Answers.{Checks, IsSortedAs, TellsOutcome}
+use Rattle.isort_sort.specs.declared.comparison.Comparison.{Comparison}
 use Rattle.isort_sort.specs.declared.answer.Outcome.{Outcome}
 use Rattle.isort_sort.specs.declared.answer.Outcome.TheVariants as outcome
 use Rattle.isort_sort.specs.Written.{AppendsPrefix}
 use Rattle.isort_sort.specs.declared.answer.SortError.{SortError}
 use Rattle.isort_sort.specs.declared.sorted_text.SortedPart.{SortedPart}
 use Rattle.isort_sort.specs.declared.parts.Parts.{Parts}
+use Rattle.isort_sort.proofs.SortedTexts.Comparing.{ends_no_more, none_left}
 use Rattle.isort_sort.proofs.SortedTexts.Parts.{goes_on_sorted}
 use Rattle.isort_sort.proofs.Orders.Statements.{AreOrders}
 
@@ -39,19 +40,11 @@ bytes_last sorted done rest parts i is past = is ∙ ap (λ (l : List SortedPart
 pub regrouped : (all done part more : List ℕ) → all ≡ done ++ (part ++ more) → all ≡ (done ++ part) ++ more
 regrouped all done part more is = is ∙ sym (append_assoc done part more)
 
--- a text that begins as the sorted text does, and goes on in another way, is another text
-pub differs : (text sorted done left rest : List ℕ) → text ≡ done ++ left → sorted ≡ done ++ rest → (left ≡ rest → ⊥) → sorted ≢ text
-differs text sorted done left rest split is other = λ same. other (append_cancel_left done left rest (sym split ∙ sym same ∙ is))
-
-pub same_or_not : (text sorted done left rest : List ℕ) (same : Bool) → text ≡ done ++ left → sorted ≡ done ++ rest → same ≡ pointwise eqb left rest → MatchBool same (sorted ≡ text) (sorted ≢ text)
-same_or_not text sorted done left rest true split is e = is ∙ ap (λ (t : List ℕ). done ++ t) (sym ((bytes_decides left rest).0 (sym e))) ∙ sym split
-same_or_not text sorted done left rest false split is e = differs text sorted done left rest split is (λ equal. let yes : pointwise eqb left rest ≡ true = (bytes_decides left rest).1 equal in cc)
-
--- the text goes on in another way than with the next part
-pub checked_early : (text : List ℕ) (v : Values) (p : Parts) (out left part : List ℕ) → AreOrders v → text ≡ out ++ left → HasMade text v p (out ++ part) → ((rest : List ℕ) → left ≡ part ++ rest → ⊥) → (sorted : List ℕ) × IsSortedAs text v outcome.Changed sorted
-checked_early text v p out left part orders split made other =
-    let s = goes_on_sorted text v p (out ++ part) orders made in
-    ((out ++ part) ++ s.0, (s.1, differs text ((out ++ part) ++ s.0) out left (part ++ s.0) split (append_assoc out part s.0) (other s.0)))
+-- the text doesn't begin with the parts so far
+pub checked_early : (text : List ℕ) (v : Values) (p : Parts) (out : List ℕ) (c : Comparison) → AreOrders v → HasMade text v p out → IsCompared text out c → is_some c.left ≡ false → (sorted : List ℕ) × IsSortedAs text v outcome.Changed sorted
+checked_early text v p out c orders made compared differs =
+    let s = goes_on_sorted text v p out orders made in
+    (out ++ s.0, (s.1, ends_no_more text out s.0 c (none_left c.left differs) compared))
 
 -- what sorting comes to tells whether the text is its own sorted text
 pub unchanged_is_sorted : (text : List ℕ) (v : Values) (o : Outcome) → (o ≡ outcome.Same) ⊎ (o ≡ outcome.Skipped) → TellsOutcome text v (Ok o) → Checks text v (Ok true)
@@ -80,7 +73,3 @@ appends_prefix old mid new all done bytes more before f is = record {
 pub on_err : {T : Type 0} (r : Result T SortError) (P : Type 0) → P → OnErr r P
 on_err (Ok x) P h = tt
 on_err (Err e) P h = h
-
-pub on_err_map : {T : Type 0} (r : Result T SortError) (P Q : Type 0) → OnErr r P → (P → Q) → OnErr r Q
-on_err_map (Ok x) P Q h f = tt
-on_err_map (Err e) P Q h f = f h

@@ -1,7 +1,6 @@
 -- The layout of a block that was found, with what is left of it to be written, and how far the program is in a sorted text.
-use Rattle.std.specs.Prelude.{◌≡◌, ℕ, ◌+◌, false, List, [], ◌++◌, Option, None, Some, MatchOption, option_map}
+use Rattle.std.specs.Prelude.{◌≡◌, ℕ, ◌+◌, false, List, [], ◌++◌, MatchOption, option_map}
 use Rattle.std.specs.Prelude.{◌∷◌, length, map, string_bytes}
-use Rattle.std.specs.Borrow.{Bor}
 use Rattle.std.specs.List.{AllByRecursion}
 use Rattle.std.specs.Str.{IsUtf8}
 use Rattle.isort_settings.specs.Values.{Values, values}
@@ -37,11 +36,6 @@ pub record IsReady (a : Arrangement) : Type 0 where
   pub before : MatchOption a.before (Unit {0}) (HasSection (values a.settings.now))
   pub sections : AllByRecursion (HasSection (values a.settings.now)) a.groups.rest.items
   pub blanks : a.ended ≡ false → a.blanks ≡ 0
-
--- what follows a text in bytes that begin with it; nothing where they don't
-abbrev pub IsCutOff : List ℕ → List ℕ → Option (Bor (List ℕ)) → Type 0
-IsCutOff bytes text None = (rest : List ℕ) → bytes ≡ text ++ rest → ⊥
-IsCutOff bytes text (Some rest) = bytes ≡ text ++ rest.now
 
 -- the texts of rows are UTF-8
 abbrev pub AreUtf8 : List Row → Type 0

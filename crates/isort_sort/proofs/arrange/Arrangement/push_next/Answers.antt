@@ -1,6 +1,7 @@
 -- What was put is the next piece of what was left.
-use Rattle.std.proofs.Common.{◌≡◌, ◌++◌, ℕ, List, [], ◌∷◌, Some, length, map, replicate, flat_map, string_bytes, refl, sym, ap, ◌∙◌, arith, false}
+use Rattle.std.proofs.Common.{◌≡◌, ◌++◌, ℕ, List, [], Some, length, map, replicate, flat_map, string_bytes, sym, ap, ◌∙◌, arith, false}
 use Rattle.std.specs.Option.{option_map}
+use Rattle.std.proofs.lemmas.List.{nil_from_length}
 use Rattle.std.specs.Vec.Iter.{into_iter_items}
 use Rattle.isort_settings.specs.Values.{values}
 use Rattle.isort_sort.specs.Layout.{text_of_lines}
@@ -11,10 +12,6 @@ use Rattle.isort_sort.proofs.Layouts.Pieces.{blanks_left, last_text, left_line, 
 use Rattle.isort_sort.proofs.arrange.Arrangement.push_next.Goals as goal
 use Rattle.isort_sort.proofs.arrange.Arrangement.push_next.Goals.{then-not-self+then-len-eq0, else-not-self, else-not-self-via-then-not-self+else-len-eq0, else-not-self-via-else-not-self}
 
-nothing_left : {X : Type 0} (xs : List X) → length xs ≡ 0 → xs ≡ []
-nothing_left [] e = refl
-nothing_left (x ∷ xs) e = absurd (omega (arith, e))
-
 pub returns-in_default-clause-piece : goal.returns-in_default-clause-piece
 returns-in_default-clause-piece c =
     let a = c.args.self.now in
@@ -23,7 +20,7 @@ returns-in_default-clause-piece c =
     let before = option_map group_value a.before in
     let end = end_bytes a.end in
     let lines = lines_left v indentation end before in
-    let none : a.groups.rest.items ≡ [] = nothing_left _ (omega (arith, c.in_default.ensures.cases.0, a.groups.rest.ok)) in
+    let none : a.groups.rest.items ≡ [] = nil_from_length _ (omega (arith, c.in_default.ensures.cases.0, a.groups.rest.ok)) in
     let nothing : into_iter_items c.next.new.self ≡ [] = sym c.in_default.ensures.items ∙ none in (
       flat_map (λ (t : List ℕ). t) (replicate c.replace-blanks.result c.as_str.result.now),
       c.in_ok-push_times.ensures,
@@ -64,7 +61,7 @@ returns-clause-piece c =
         text_of_lines end false 0 lines,
         text_trimmed end out lines (string_bytes whole) _ w.saturating_sub.result (next_line v indentation end before g) written (omega (arith, whole.bytes.ok.0, ap length c.as_str-end.ensures)) (ap string_bytes w.out-is ∙ w.truncate.ensures.bytes),
         last_text v end a.ended a.blanks indentation before g (map group_value left) (map group_value a.groups.rest.items) all
-            (ap (map group_value) (nothing_left left (omega (arith, c.next.new.self.rest.ok, w.len.ensures, w.if-len-eq0.true)))) w.if-not-self.true,
+            (ap (map group_value) (nil_from_length left (omega (arith, c.next.new.self.rest.ok, w.len.ensures, w.if-len-eq0.true)))) w.if-not-self.true,
       )
       | else-not-self w ↦ (
         text_with end lines,

@@ -1,5 +1,6 @@
-use Rattle.std.proofs.Common.{◌≡◌, [], ◌∷◌, ap, ◌∙◌, sym, refl, length, map, subst, List, ℕ, arith}
+use Rattle.std.proofs.Common.{◌≡◌, ap, ◌∙◌, sym, refl, length, map, subst, List, ℕ, arith}
 use Rattle.std.specs.Prelude.{slice_range}
+use Rattle.std.proofs.lemmas.List.{nil_from_length}
 use Rattle.std.specs.Str.{IsUtf8}
 use Rattle.std.specs.Vec.Iter.{into_iter_items}
 use Rattle.isort_sort.specs.Private.Arranged.{text_left, IsArranged}
@@ -8,13 +9,9 @@ use Rattle.isort_sort.specs.Private.LineEnd.{end_bytes}
 use Rattle.isort_sort.proofs.SortedTexts.Parts.{made_gap, next_made, same_made}
 use Rattle.isort_sort.proofs.parts.Parts.next.Goals as goal
 
-nothing_left : {X : Type 0} (xs : List X) → length xs ≡ 0 → xs ≡ []
-nothing_left [] e = refl
-nothing_left (x ∷ xs) e = absurd (omega (arith, e))
-
 pub returns-in_default-clause-makes : goal.returns-in_default-clause-makes
 returns-in_default-clause-makes c = (
-  ap (map found_value) (sym c.in_default.ensures.items ∙ nothing_left _ (omega (arith, c.in_default.ensures.cases.0, c.args.self.now.blocks.rest.ok))),
+  ap (map found_value) (sym c.in_default.ensures.items ∙ nil_from_length _ (omega (arith, c.in_default.ensures.cases.0, c.args.self.now.blocks.rest.ok))),
   λ text v out h. same_made text v c.args.self.now _ out h refl refl refl refl (ap (map found_value) (sym c.in_default.ensures.items)),
 )
 

@@ -1,15 +1,11 @@
-use Rattle.std.proofs.Common.{Result, Ok, Err, OnOk, [], ◌++◌, ◌∙◌, ◌+◌, ap, sym, subst, flat_map, drop, List, ℕ, append-nil, append_assoc, string_bytes}
+use Rattle.std.proofs.Common.{[], ◌++◌, ◌∙◌, ◌+◌, ap, sym, subst, flat_map, drop, List, ℕ, append-nil, append_assoc, string_bytes}
 use Rattle.std.specs.Io.KnownBytes.{Appends}
 use Rattle.std.proofs.KnownBytes.{Appends-trans}
+use Rattle.std.proofs.lemmas.Result.{on_err_weaker, on_ok_weaker}
 use Rattle.isort_sort.specs.Private.Parts.{sorted_part_text, sorted_bytes}
 use Rattle.isort_sort.specs.Written.{AppendsPrefix}
-use Rattle.isort_sort.proofs.SortedTexts.OfParts.{bytes_from, bytes_last, regrouped, appends_prefix, on_err, on_err_map}
+use Rattle.isort_sort.proofs.SortedTexts.OfParts.{bytes_from, bytes_last, regrouped, appends_prefix, on_err}
 use Rattle.isort_sort.proofs.sorted_text.SortedText.write_to.Goals as goal
-
--- a fact of what went well proves another one
-on_ok_map : {T E : Type 0} (r : Result T E) (P Q : Type 0) → OnOk r P → (P → Q) → OnOk r Q
-on_ok_map (Ok x) P Q h f = f h
-on_ok_map (Err e) P Q h f = tt
 
 pub returns-in_err-write_whole-clause-stopped : goal.returns-in_err-write_whole-clause-stopped
 returns-in_err-write_whole-clause-stopped g c = on_err c.from_residual.result _ c.in_err-write_whole.ensures.stopped
@@ -58,14 +54,15 @@ returns-clause-prefix g c =
     let i = c.parts.invariant in
     let rest = c.args.self.now.rest.now in
     let all = bytes_last (sorted_bytes c.args.self.now) i.done rest c.deref-part-items.result.now c.parts.part-index i.sorted c.parts-test.false in
-    on_err_map c.write_whole-2.result _ _ c.write_whole-2.ensures.prefix
+    on_err_weaker c.write_whole-2.result
     (λ f. appends_prefix _ _ _ (sorted_bytes c.args.self.now) i.done rest [] i.written f (all ∙ ap (λ (t : List ℕ). i.done ++ t) (sym (append-nil rest))))
+    c.write_whole-2.ensures.prefix
 
 pub returns-clause-ok : goal.returns-clause-ok
 returns-clause-ok g c =
     let i = c.parts.invariant in
     let all = bytes_last (sorted_bytes c.args.self.now) i.done c.args.self.now.rest.now c.deref-part-items.result.now c.parts.part-index i.sorted c.parts-test.false in
-    on_ok_map c.write_whole-2.result _ _ c.write_whole-2.ensures.ok (λ h. subst (Appends _ _) (sym all) (Appends-trans _ _ _ _ _ i.written h))
+    on_ok_weaker c.write_whole-2.result (λ h. subst (Appends _ _) (sym all) (Appends-trans _ _ _ _ _ i.written h)) c.write_whole-2.ensures.ok
 
 pub returns-clause-fine : goal.returns-clause-fine
 returns-clause-fine g c = c.write_whole-2.ensures.fine

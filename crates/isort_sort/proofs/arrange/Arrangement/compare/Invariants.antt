@@ -1,14 +1,15 @@
--- The bytes and the text of the layout begin alike.
+-- The pieces so far were compared.
 use Rattle.std.proofs.Common.{◌≡◌, ◌++◌, ℕ, List, [], string_bytes}
 use Rattle.isort_sort.specs.Private.Arranged.{pieces_left, text_left, IsReady}
-use Rattle.isort_sort.proofs.arrange.Arrangement.cut_off.Given as goal
+use Rattle.isort_sort.specs.Private.Compared.{Takes}
+use Rattle.isort_sort.proofs.arrange.Arrangement.compare.Given as goal
 
 abbrev pub invariant-pieces : goal.invariant-pieces
 invariant-pieces l = record {
   ready : IsReady l.self;
   empty : string_bytes l.buffer ≡ [];
   done : List ℕ;
-  split : l.bytes ≡ done ++ l.left;
+  takes : Takes l.initial.compared done l.compared;
   text : text_left l.initial.self ≡ done ++ text_left l.self;
 }
 
