@@ -1,6 +1,6 @@
 -- A statement that sorting has written, read back: the pieces of its lines, and the one logical line that they are.
 use Rattle.std.specs.Prelude.{◌≡◌, ℕ, Bool, true, false, nat_lt, List, [], ◌∷◌, ◌++◌, map, encode_utf8_all}
-use Rattle.std.specs.List.{list_any, list_all}
+use Rattle.std.specs.List.{AllByRecursion, list_any, list_all}
 use Rattle.std.specs.Str.{all_scalars}
 use Rattle.py_lines.specs.Balance.{IsBalanced, depth_through}
 use Rattle.py_lines.specs.Fields.{IsShallow}
@@ -48,8 +48,7 @@ pub record IsRemark (text : List ℕ) : Type 0 where
   pub unskipped : says action.Skip text ≡ false
 
 abbrev pub AreRemarks : List (List ℕ) → Type 0
-AreRemarks [] = Unit {0}
-AreRemarks (c ∷ cs) = IsRemark c × AreRemarks cs
+AreRemarks texts = AllByRecursion IsRemark texts
 
 -- a member as it comes from a line that is read: its names are words, and its comments such comments
 pub record IsReadMember (m : Member) : Type 0 where
@@ -57,8 +56,7 @@ pub record IsReadMember (m : Member) : Type 0 where
   pub comments : AreRemarks m.comments
 
 abbrev pub AreReadMembers : List Member → Type 0
-AreReadMembers [] = Unit {0}
-AreReadMembers (m ∷ ms) = IsReadMember m × AreReadMembers ms
+AreReadMembers members = AllByRecursion IsReadMember members
 
 -- a run as it comes from lines that are read: it is indented by spaces, tabs and form feeds
 pub record IsReadRun (run : Run) : Type 0 where

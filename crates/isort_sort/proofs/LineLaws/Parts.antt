@@ -3,16 +3,17 @@ use Rattle.std.proofs.Common.{◌≡◌, ℕ, ◌<◌, Bool, true, false, not, c
 use Rattle.std.specs.Prelude.{encode_utf8_all, filter}
 use Rattle.std.specs.Char.{is_ascii_alphabetic}
 use Rattle.std.specs.List.{list_any, list_all}
-use Rattle.std.specs.Str.{all_scalars, chars}
+use Rattle.std.specs.Str.{all_scalars}
 use Rattle.std.proofs.Math.Utf8.{low_scalar}
 use Rattle.std.proofs.lemmas.Bool.{and_parts, and_from, or_parts, false_from_ne_true, lt-ltb}
 use Rattle.std.proofs.lemmas.List.{map-append}
 use Rattle.std.proofs.lemmas.List.Elements.{filter-append}
 use Rattle.std.proofs.lemmas.List.Folds.{list_any-append}
-use Rattle.std.proofs.lemmas.Str.{encodes-append, encode_ascii, chars-encodes}
+use Rattle.std.proofs.lemmas.Str.{encodes-append, encode_ascii}
 use Rattle.py_lines.specs.Character.{is_space, is_digit, is_operator, is_break, is_hash, is_backslash}
-use Rattle.py_lines.specs.Neighbours.{AreSimple}
-use Rattle.py_lines.specs.Piece.{Class, space, word, operator, comment, join, line_end, Piece, spelled}
+use Rattle.py_lines.specs.Fields.{InClass}
+use Rattle.py_lines.specs.Neighbours.{is_simple, AreSimple}
+use Rattle.py_lines.specs.Piece.{Class, space, word, operator, comment, join, line_end, Piece, begins, spelled}
 use Rattle.py_lines.specs.PieceGrammar.{IsWord, IsLineEnd, feed, return_feed, return}
 use Rattle.py_lines.specs.Words.{Word, words_of_piece, words_of}
 use Rattle.py_lines.specs.declared.token.TokKind.TheVariants as kind
@@ -35,6 +36,13 @@ remarks_in words = map (λ w. w.bytes) (filter (λ w. is_comment w.kind) words)
 -- whether a word is `;` or `:`
 abbrev pub divides : Word → Bool
 divides w = is_divider w.kind
+
+-- characters of a text without line ends
+pub record IsUnbrokenText (text : List ℕ) : Type 0 where
+  pub characters : List ℕ
+  pub spell : encode_utf8_all characters ≡ text
+  pub scalars : all_scalars characters ≡ true
+  pub unbroken : list_any is_break characters ≡ false
 
 -- simple pieces of scalar characters, with their bytes, what they say to the import grammar, and their comments
 pub record IsStatementPart (pieces : List Piece) (bytes : List ℕ) (terminals : List Terminal) (said : List (List ℕ)) : Type 0 where
@@ -107,19 +115,20 @@ pub spaces_low : (cs : List ℕ) → list_all is_space cs ≡ true → list_all 
 spaces_low [] h = refl
 spaces_low (c ∷ cs) h = let both = and_parts _ _ h in and_from _ _ (lt-ltb c 128 (space_low c both.0)) (spaces_low cs both.1)
 
+-- a piece of ASCII that has no words
+part-silent : (class : Class) (t : List ℕ) → is_simple class ≡ true → InClass class t → list_all (λ c. nat_lt c 128) t ≡ true → words_of (piece class t ∷ []) ≡ [] → IsStatementPart (piece class t ∷ []) t [] []
+part-silent class t simple is low none = record {
+  simple = (simple, is, tt);
+  scalars = ap all_scalars (append-nil t) ∙ low-scalars t low;
+  spell = ap encode_utf8_all (append-nil t) ∙ low-spell t low;
+  says = ap terminals_in none;
+  remarks = ap remarks_in none;
+  undivided = ap (list_any divides) none;
+}
+
 pub part-space : (t : List ℕ) → list_all is_space t ≡ true → IsStatementPart (space_pieces t) t [] []
 part-space [] h = part-nil
-part-space (c ∷ cs) h =
-    let low = spaces_low (c ∷ cs) h in
-    let nil = append-nil (c ∷ cs) in
-    record {
-      simple = (refl, (c, cs, refl, h), tt);
-      scalars = ap all_scalars nil ∙ low-scalars (c ∷ cs) low;
-      spell = ap encode_utf8_all nil ∙ low-spell (c ∷ cs) low;
-      says = refl;
-      remarks = refl;
-      undivided = refl;
-    }
+part-space (c ∷ cs) h = part-silent space (c ∷ cs) refl (c, cs, refl, h) (spaces_low (c ∷ cs) h) refl
 
 -- one character of an operator
 pub part-operator : (c : ℕ) → is_operator c ≡ true → nat_lt c 128 ≡ true → is_divider (kind.Op c) ≡ false → IsStatementPart (piece operator (c ∷ []) ∷ []) (c ∷ []) (terminal_of_operator c ∷ []) []
@@ -141,29 +150,11 @@ end_low end (return_feed e) = ap (list_all (λ c. nat_lt c 128)) e
 end_low end (return e) = ap (list_all (λ c. nat_lt c 128)) e
 
 pub part-end : (end : List ℕ) → IsLineEnd end → IsStatementPart (piece line_end end ∷ []) end [] []
-part-end end e =
-    let nil = append-nil end in
-    record {
-      simple = (refl, e, tt);
-      scalars = ap all_scalars nil ∙ low-scalars end (end_low end e);
-      spell = ap encode_utf8_all nil ∙ low-spell end (end_low end e);
-      says = refl;
-      remarks = refl;
-      undivided = refl;
-    }
+part-end end e = part-silent line_end end refl e (end_low end e) refl
 
 pub part-join : (end : List ℕ) → IsLineEnd end → IsStatementPart (piece join (92 ∷ end) ∷ []) (92 ∷ end) [] []
 unfolding is_backslash
-part-join end e =
-    let nil = append-nil (92 ∷ end) in
-    record {
-      simple = (refl, (92, end, refl, refl, e), tt);
-      scalars = ap all_scalars nil ∙ low-scalars (92 ∷ end) (end_low end e);
-      spell = ap encode_utf8_all nil ∙ low-spell (92 ∷ end) (end_low end e);
-      says = refl;
-      remarks = refl;
-      undivided = refl;
-    }
+part-join end e = part-silent join (92 ∷ end) refl (92, end, refl, refl, e) (end_low end e) refl
 
 -- a comment, by its characters after the `#`
 pub part-comment : (body : List ℕ) → all_scalars body ≡ true → list_any is_break body ≡ false → IsStatementPart (piece comment (35 ∷ body) ∷ []) (35 ∷ encode_utf8_all body) [] ((35 ∷ encode_utf8_all body) ∷ [])
@@ -180,22 +171,25 @@ part-comment body fine unbroken =
       undivided = refl;
     }
 
+-- a word that is no number
+part-word : (t b : List ℕ) (u : Terminal) → IsWord t → all_scalars t ≡ true → encode_utf8_all t ≡ b → begins is_digit t ≡ false → terminal_of_word b ≡ u → IsStatementPart (piece word t ∷ []) b (u ∷ []) []
+part-word t b u is scalars spell no_number says =
+    let words : words_of (piece word t ∷ []) ≡ record { kind = kind.Name; bytes = b } ∷ [] = λ i. record { kind = cond (no_number i) kind.Number kind.Name; bytes = spell i } ∷ [] in
+    record {
+      simple = (refl, is, tt);
+      scalars = ap all_scalars (append-nil t) ∙ scalars;
+      spell = ap encode_utf8_all (append-nil t) ∙ spell;
+      says = ap terminals_in words ∙ ap (λ x. x ∷ []) says;
+      remarks = ap remarks_in words;
+      undivided = ap (list_any divides) words;
+    }
+
 -- words of letters are words, as a law of py_lines has it
 abbrev pub LettersAreWords : Type 0
 LettersAreWords = (first : ℕ) (others : List ℕ) → list_all is_ascii_alphabetic (first ∷ others) ≡ true → IsWord (first ∷ others)
 
 pub part-letters : LettersAreWords → (c : ℕ) (cs : List ℕ) → list_all is_ascii_alphabetic (c ∷ cs) ≡ true → list_all (λ d. nat_lt d 128) (c ∷ cs) ≡ true → is_digit c ≡ false → IsStatementPart (piece word (c ∷ cs) ∷ []) (c ∷ cs) (terminal_of_word (c ∷ cs) ∷ []) []
-part-letters law c cs letters low no_digit =
-    let nil = append-nil (c ∷ cs) in
-    let bytes = low-spell (c ∷ cs) low in
-    record {
-      simple = (refl, law c cs letters, tt);
-      scalars = ap all_scalars nil ∙ low-scalars (c ∷ cs) low;
-      spell = ap encode_utf8_all nil ∙ bytes;
-      says = ap (λ (d : Bool). terminals_in (record { kind = cond d kind.Number kind.Name; bytes = encode_utf8_all (c ∷ cs) } ∷ [])) no_digit ∙ ap (λ (t : List ℕ). terminal_of_word t ∷ []) bytes;
-      remarks = ap (λ (d : Bool). remarks_in (record { kind = cond d kind.Number kind.Name; bytes = encode_utf8_all (c ∷ cs) } ∷ [])) no_digit;
-      undivided = ap (λ (d : Bool). list_any divides (record { kind = cond d kind.Number kind.Name; bytes = encode_utf8_all (c ∷ cs) } ∷ [])) no_digit;
-    }
+part-letters law c cs letters low no_digit = part-word (c ∷ cs) (c ∷ cs) _ (law c cs letters) (low-scalars (c ∷ cs) low) (low-spell (c ∷ cs) low) no_digit refl
 
 -- a name is none of the keywords
 none_at : (p : List ℕ → Bool) (ws : List (List ℕ)) (i : ℕ) → list_any p ws ≡ false → p (get_or ws i []) ≡ true → i < length ws → ⊥
@@ -223,18 +217,6 @@ name_terminal b h =
     by_tests false false false true b h x y z = absurd (cc)
     by_tests false false false false b h x y z = refl
 
--- a name as a word
-abbrev pub name_piece : List ℕ → Piece
-name_piece bytes = piece word (chars bytes)
-
-pub part-name : (b : List ℕ) → IsName b → IsStatementPart (name_piece b ∷ []) b (name b ∷ []) []
-part-name b n =
-    subst (λ (t : List ℕ). IsStatementPart (piece word t ∷ []) b (name b ∷ []) []) (sym (ap chars (sym n.spell) ∙ chars-encodes n.characters n.scalars))
-    (record {
-      simple = (refl, n.word, tt);
-      scalars = ap all_scalars (append-nil n.characters) ∙ n.scalars;
-      spell = ap encode_utf8_all (append-nil n.characters) ∙ n.spell;
-      says = ap (λ (d : Bool). terminals_in (record { kind = cond d kind.Number kind.Name; bytes = encode_utf8_all n.characters } ∷ [])) n.no_number ∙ ap (λ (t : List ℕ). terminal_of_word t ∷ []) n.spell ∙ ap (λ t. t ∷ []) (name_terminal b n.no_keyword);
-      remarks = ap (λ (d : Bool). remarks_in (record { kind = cond d kind.Number kind.Name; bytes = encode_utf8_all n.characters } ∷ [])) n.no_number;
-      undivided = ap (λ (d : Bool). list_any divides (record { kind = cond d kind.Number kind.Name; bytes = encode_utf8_all n.characters } ∷ [])) n.no_number;
-    })
+-- a name
+pub part-name : (b : List ℕ) (n : IsName b) → IsStatementPart (piece word n.characters ∷ []) b (name b ∷ []) []
+part-name b n = part-word n.characters b (name b) n.word n.scalars n.spell n.no_number (name_terminal b n.no_keyword)

@@ -1,24 +1,21 @@
 -- What is known of tokens by the words that they are.
-use Rattle.std.proofs.Common.{◌≡◌, ℕ, ◌==◌, Bool, true, false, cond, not, ◌||◌, ◌&&◌, List, [], ◌∷◌, ◌++◌, map, refl, ap, ◌∙◌}
+use Rattle.std.proofs.Common.{◌≡◌, ℕ, ◌==◌, Bool, true, false, cond, not, ◌||◌, ◌&&◌, List, [], ◌∷◌, ◌++◌, map, refl, sym, ap, ◌∙◌}
 use Rattle.std.specs.Prelude.{filter, slice_range}
 use Rattle.std.specs.List.{list_any, list_all}
 use Rattle.std.proofs.lemmas.Bool.{or_parts}
+use Rattle.std.proofs.lemmas.Simd.{map-map}
 use Rattle.py_lines.specs.Words.{Word, word_in}
 use Rattle.py_lines.specs.declared.token.Token.{Token}
 use Rattle.py_imports.specs.ActionComment.{says}
 use Rattle.py_imports.specs.Shape.{is_parenthesis, is_nothing, ends_with_opening, stands_well, says_skip}
 use Rattle.py_imports.specs.Statement.{is_comment, is_semicolon, is_divider, significant, depth_after_tokens, places_from, is_end}
 use Rattle.py_imports.specs.declared.action_comment.ActionComment.TheVariants as action
+use Rattle.isort_sort.proofs.LineLaws.Each.{each-filter, each-false, none-of, filter-map, any-map}
 use Rattle.isort_sort.proofs.LineLaws.Parts.{remarks_in, divides}
 
 -- the comments among tokens
 pub remarks-of : (text : List ℕ) (ts : List Token) → map (λ t. slice_range text t.start t.stop) (filter (λ t. is_comment t.kind) ts) ≡ remarks_in (map (word_in text) ts)
-remarks-of text [] = refl
-remarks-of text (t ∷ ts) = by (is_comment t.kind) (remarks-of text ts)
-  where
-    by : (b : Bool) → map (λ (u : Token). slice_range text u.start u.stop) (filter (λ u. is_comment u.kind) ts) ≡ remarks_in (map (word_in text) ts) → map (λ (u : Token). slice_range text u.start u.stop) (cond b (t ∷ filter (λ u. is_comment u.kind) ts) (filter (λ u. is_comment u.kind) ts)) ≡ map (λ (w : Word). w.bytes) (cond b (word_in text t ∷ filter (λ w. is_comment w.kind) (map (word_in text) ts)) (filter (λ w. is_comment w.kind) (map (word_in text) ts)))
-    by true e = ap (λ l. slice_range text t.start t.stop ∷ l) e
-    by false e = e
+remarks-of text ts = sym (ap (map (λ w. w.bytes)) (filter-map (λ w. is_comment w.kind) (word_in text) ts) ∙ map-map (λ (w : Word). w.bytes) (word_in text) (filter (λ t. is_comment t.kind) ts))
 
 -- none of them says `skip`
 pub skips-of : (text : List ℕ) (ts : List Token) → list_any (says_skip text) ts ≡ list_any (says action.Skip) (remarks_in (map (word_in text) ts))
@@ -34,12 +31,9 @@ skips-of text (t ∷ ts) = by (is_comment t.kind) (skips-of text ts)
 
 -- no `;` and no `:` among them
 pub undivided-of : (text : List ℕ) (ts : List Token) → list_any divides (map (word_in text) ts) ≡ false → list_any (λ t. is_divider t.kind) (significant ts) ≡ false
-undivided-of text [] h = refl
-undivided-of text (t ∷ ts) h = let both = or_parts _ _ h in by (is_comment t.kind) both.0 (undivided-of text ts both.1)
-  where
-    by : (b : Bool) → is_divider t.kind ≡ false → list_any (λ u. is_divider u.kind) (significant ts) ≡ false → list_any (λ u. is_divider u.kind) (cond (not b) (t ∷ significant ts) (significant ts)) ≡ false
-    by true e k = k
-    by false e k = ap (λ x. x || list_any (λ u. is_divider u.kind) (significant ts)) e ∙ k
+undivided-of text ts h =
+    none-of (λ t. is_divider t.kind) (significant ts) (each-filter (λ t. is_divider t.kind ≡ false) (λ t. not (is_comment t.kind)) ts
+    (each-false (λ t. is_divider t.kind) ts (sym (any-map divides (word_in text) ts) ∙ h)))
 
 pub alone-of : (before ts : List Token) → list_any (λ t. is_divider t.kind) ts ≡ false → list_any is_end (places_from before ts) ≡ false
 alone-of before [] h = refl

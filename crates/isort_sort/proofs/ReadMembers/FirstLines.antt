@@ -18,8 +18,7 @@ use Rattle.isort_sort.specs.Wrapping.{item_text, items_text, head, four_spaces, 
 use Rattle.isort_sort.specs.WrittenLine.{IsRemark, AreRemarks, AreReadMembers}
 use Rattle.isort_sort.proofs.Orders.InOrder.{head_in}
 use Rattle.isort_sort.proofs.Orders.Statements.{AreOrders}
-use Rattle.isort_sort.proofs.WrittenStatements.Items.{AreNameItems, AreLines}
-use Rattle.isort_sort.proofs.WrittenStatements.NamesPhrases.{IsPad}
+use Rattle.isort_sort.proofs.WrittenStatements.NamesRests.{AreNameItems, AreLines, IsPad}
 use Rattle.isort_sort.proofs.WrittenStatements.Written.{four-pad, many-pad}
 use Rattle.isort_sort.proofs.LineLaws.Joined.{none-append}
 use Rattle.isort_sort.proofs.WrittenLines.LineUnits.{AreAbove}

@@ -12,7 +12,8 @@ use Rattle.isort_sort.specs.Blocks.{is_member, stands_between, is_blank, role_is
 use Rattle.isort_sort.specs.Row.{Role, member, comments, blank, Row, HasRole, indentation_of}
 use Rattle.isort_sort.specs.Sorted.{last_row}
 use Rattle.isort_sort.proofs.LineLaws.Units.{IsUnit, AreUnits, first_character}
-use Rattle.isort_sort.proofs.WrittenLines.UnitRows.{unit_line, off_past, AreUnitRows, off_through, role_in_block, silent}
+use Rattle.isort_sort.specs.Private.LineRole.{turned}
+use Rattle.isort_sort.proofs.WrittenLines.UnitRows.{unit_line, AreUnitRows, off_through, role_in_block, silent}
 use Rattle.isort_sort.proofs.LineLaws.Joined.{AreSome}
 use Rattle.isort_sort.proofs.Finding.RoleTests.{of_blank}
 
@@ -68,7 +69,7 @@ through_block off (u ∷ us) [] h k = absurd h
 through_block off (u ∷ us) (row ∷ rows) h k =
     let parts = and_parts (in_block row) (list_all in_block rows) k in
     let same = silent off off (unit_line u) row.role h.0.role parts.0 in
-    through_block (off_past off (unit_line u)) us rows h.1 parts.1 ∙ same
+    through_block (turned off (unit_line u)) us rows h.1 parts.1 ∙ same
 
 pub seen_rows : (us : List (List Piece)) (rows : List Row) → AreUnitRows false us rows → list_all in_block rows ≡ true → AreSeen us rows
 seen_rows [] [] h k = tt

@@ -7,11 +7,13 @@ use Rattle.py_lines.specs.Piece.{Piece}
 use Rattle.isort_sort.specs.Blocks.{is_member, Run, run_rows, further_rows, is_run, members_of, Cut, rest, block, cut_rows, AreBlocks}
 use Rattle.isort_sort.specs.Sorted.{HasBlocks}
 use Rattle.isort_sort.specs.WrittenLine.{AreReadBlocks, IsReadRun}
-use Rattle.isort_sort.proofs.LineLaws.Units.{LineLaws, AreUnits, units_after}
-use Rattle.isort_sort.proofs.WrittenLines.UnitRows.{TokenLaws, unit_line, off_past, AreUnitRows, off_through, rows_apart}
+use Rattle.isort_sort.proofs.LineLaws.Each.{each-parts}
+use Rattle.isort_sort.proofs.LineLaws.Units.{LineLaws, IsUnit, AreUnits, units_after}
+use Rattle.isort_sort.specs.Private.LineRole.{turned}
+use Rattle.isort_sort.proofs.WrittenLines.UnitRows.{TokenLaws, unit_line, AreUnitRows, off_through, rows_apart}
 use Rattle.isort_sort.proofs.WrittenLines.LineUnits.{says_skip_file}
 use Rattle.isort_sort.proofs.ReadMembers.OldBlock.{AreSeen, run_in_block, seen_rows}
-use Rattle.isort_sort.proofs.SortedAgain.Again.{each_unit, first_units, none_first, run_on}
+use Rattle.isort_sort.proofs.SortedAgain.Again.{each_unit, none_first, run_on}
 use Rattle.isort_sort.proofs.SortedAgain.SortedAgain.{IsCutText, first_seen, cut_text}
 use Rattle.isort_sort.proofs.SortedAgain.AtStart.{split_rows}
 use Rattle.isort_sort.proofs.ReadMembers.ReadImports.{ImportLaws}
@@ -20,7 +22,7 @@ use Rattle.isort_sort.proofs.SortedAgain.Sorted.{read_lines}
 
 read_run : TokenLaws → ImportLaws → OwnLaw → (us vs : List (List Piece)) (run : Run) → AreUnits (us ++ vs) → list_any says_skip_file us ≡ false → AreSeen us (run_rows run) → is_run run ≡ true → IsReadRun run
 read_run tokens imports own us vs run are skips seen run_is =
-    let fine = fine_run tokens imports own us run (read_lines us (first_units us vs (each_unit (us ++ vs) are)) skips) seen run_is in
+    let fine = fine_run tokens imports own us run (read_lines us (each-parts IsUnit us vs (each_unit (us ++ vs) are)).0 skips) seen run_is in
     record { spaces = fine.spaces; members = read_members (members_of run) fine.members }
 
 -- block by block
@@ -52,7 +54,7 @@ read_text tokens imports own text (u ∷ us) (block (row ∷ before) run blanks 
     let skips = none_first says_skip_file (u ∷ []) us c.unskipped in
     let is = c.blocks in
     let later = or_parts (is_member row) (list_any is_member before) is.0 in
-    read_later tokens imports own (off_past false (unit_line u)) us (block before run blanks cut) (later.1, is.1, is.2, is.3, is.4, is.5) (units_after (u ∷ []) us c.are) seen.1 skips.1
+    read_later tokens imports own (turned false (unit_line u)) us (block before run blanks cut) (later.1, is.1, is.2, is.3, is.4, is.5) (units_after (u ∷ []) us c.are) seen.1 skips.1
 read_text tokens imports own text (u ∷ us) (block [] run blanks cut) c =
     let seen = first_seen tokens u us run.first (flat_map further_rows run.others ++ (blanks ++ cut_rows cut)) c.seen in
     let split = split_rows u us run blanks cut c.blocks.1 c.blocks.3 seen.0 seen.1 in

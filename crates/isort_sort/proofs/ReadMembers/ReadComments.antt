@@ -20,11 +20,13 @@ use Rattle.py_imports.specs.declared.action_comment.ActionComment.TheVariants as
 use Rattle.isort_sort.specs.Line.{word_of, comment_texts, own_comments, is_text, stripped, without_hash, IsOwnComment, AreOwnComments}
 use Rattle.isort_sort.specs.Row.{says_alone, comments, HasRole}
 use Rattle.isort_sort.specs.WrittenLine.{IsRemark, AreRemarks}
+use Rattle.isort_sort.proofs.LineLaws.Each.{each-map, each-filter, each-false, none-of, each-mapped}
+use Rattle.isort_sort.proofs.LineLaws.Tokens.{remarks-of, skips-of}
 use Rattle.isort_sort.proofs.LineLaws.Units.{IsUnit, scalars-parts}
 use Rattle.isort_sort.proofs.WrittenLines.UnitRows.{TokenLaws, unit_line, comments_of_unit}
-use Rattle.isort_sort.proofs.LineLaws.Parts.{remarks_in}
+use Rattle.isort_sort.proofs.LineLaws.Parts.{remarks_in, IsUnbrokenText}
 use Rattle.isort_sort.proofs.WrittenLines.LineUnits.{says_skip_file, AreAbove}
-use Rattle.isort_sort.proofs.ReadMembers.Stripped.{IsUnbrokenText, stripped_text, bare_comment, stripped_says}
+use Rattle.isort_sort.proofs.ReadMembers.Stripped.{stripped_text, bare_comment, stripped_says}
 
 -- the bytes of a comment
 pub record IsCommentText (text : List ℕ) : Type 0 where
@@ -79,12 +81,7 @@ comments_above laws off u cs is skip h =
 
 -- the comments that a statement joins
 skip_texts : (line : LogicalLine) (ts : List Token) → list_any (says_skip line.text) ts ≡ false → list_any (says action.Skip) (map (word_of line) (filter (λ t. is_comment t.kind) ts)) ≡ false
-skip_texts line [] h = refl
-skip_texts line (t ∷ ts) h = by (is_comment t.kind) h (skip_texts line ts)
-  where
-    by : (b : Bool) → (b && says action.Skip (slice_range line.text t.start t.stop)) || list_any (says_skip line.text) ts ≡ false → (list_any (says_skip line.text) ts ≡ false → list_any (says action.Skip) (map (word_of line) (filter (λ u. is_comment u.kind) ts)) ≡ false) → list_any (says action.Skip) (map (word_of line) (cond b (t ∷ filter (λ u. is_comment u.kind) ts) (filter (λ u. is_comment u.kind) ts))) ≡ false
-    by true e later = let parts = or_parts (says action.Skip (slice_range line.text t.start t.stop)) (list_any (says_skip line.text) ts) e in λ i. parts.0 i || later parts.1 i
-    by false e later = later e
+skip_texts line ts h = ap (list_any (says action.Skip)) (remarks-of line.text ts) ∙ sym (skips-of line.text ts) ∙ h
 
 own_of : List (List ℕ) → List (List ℕ)
 own_of cs = filter is_text (map (λ t. stripped (without_hash t)) cs)
@@ -109,14 +106,11 @@ own_remarks (c ∷ cs) h skip own =
 
 own_says : (a : ActionComment) (cs : List (List ℕ)) → list_any (says a) cs ≡ false → list_any (says a) (own_of cs) ≡ false
 unfolding own_of
-own_says a [] h = refl
-own_says a (c ∷ cs) h =
-    let parts = or_parts (says a c) (list_any (says a) cs) h in
-    by (is_text (stripped (without_hash c))) parts.0 (own_says a cs parts.1)
-  where
-    by : (b : Bool) → says a c ≡ false → list_any (says a) (own_of cs) ≡ false → list_any (says a) (cond b (stripped (without_hash c) ∷ own_of cs) (own_of cs)) ≡ false
-    by true k later = λ i. stripped_says a c k i || later i
-    by false k later = later
+own_says a cs h =
+    let IsSilent : List ℕ → Type 0 = λ c. says a c ≡ false in
+    let own : List ℕ → List ℕ = λ t. stripped (without_hash t) in
+    none-of (says a) (own_of cs) (each-filter IsSilent is_text (map own cs)
+    (each-mapped IsSilent own cs (each-map IsSilent (λ c. IsSilent (own c)) (stripped_says a) cs (each-false (says a) cs h))))
 
 pub remarks_of_unit : TokenLaws → (u : List Piece) → IsUnit u → list_any (says_skip (unit_line u).text) (unit_line u).tokens ≡ false → AreOwnComments (own_comments (unit_line u)) → AreRemarks (own_comments (unit_line u))
 unfolding own_of

@@ -4,6 +4,7 @@ use Rattle.std.specs.Prelude.{filter, nat_lt, slice_range}
 use Rattle.std.specs.List.{list_any, list_all, prefix_len}
 use Rattle.std.specs.Str.{all_scalars}
 use Rattle.std.proofs.lemmas.Bool.{both_ways, cases_Bool, eqb-true}
+use Rattle.std.proofs.lemmas.List.{map-append}
 use Rattle.py_lines.specs.Character.{is_mark, is_space}
 use Rattle.py_lines.specs.LogicalLine.{LogicalLine, indent_of, line_of}
 use Rattle.py_lines.specs.Piece.{Class, mark, space, word, string, operator, comment, join, line_end, Piece, is_mark_class, begins_marked, spelled}
@@ -67,10 +68,6 @@ named_append : (a b : List Imported) → AreNamed a → AreNamed b → AreNamed 
 named_append [] b h k = k
 named_append (i ∷ is) b h k = (h.0, named_append is b h.1 k)
 
-map_append : {X Y : Type 0} (f : X → Y) (a b : List X) → map f a ++ map f b ≡ map f (a ++ b)
-map_append f [] b = refl
-map_append f (x ∷ xs) b = ap (λ l. f x ∷ l) (map_append f xs b)
-
 value_named : ImportLaws → (line : LogicalLine) (p : TokenPlace) (values : List BindingValue) → TokensNamed line.text (p.token ∷ p.after) → BindsAt line p values → AreNamed (map imported_of values)
 value_named laws line p values h (nothing l q bs none e) = subst (λ (b : List BindingValue). AreNamed (map imported_of b)) (sym e) tt
 value_named laws line p values h (imports l q bs is begins import e) =
@@ -79,7 +76,7 @@ value_named laws line p values h (imports l q bs is begins import e) =
 each_named : ImportLaws → (line : LogicalLine) (ps : List TokenPlace) (values : List BindingValue) → PlacesNamed line.text ps → BindEach line ps values → AreNamed (map imported_of values)
 each_named laws line [] values h b = subst (λ (l : List BindingValue). AreNamed (map imported_of l)) (sym b) tt
 each_named laws line (p ∷ ps) values h b =
-    subst AreNamed (map_append imported_of b.0 b.1 ∙ ap (map imported_of) (sym b.2))
+    subst AreNamed (sym (ap (map imported_of) b.2 ∙ map-append imported_of b.0 b.1))
     (named_append (map imported_of b.0) (map imported_of b.1) (value_named laws line p b.0 h.0 b.3) (each_named laws line ps b.1 h.1 b.4))
 
 pub imports_named : ImportLaws → (u : List Piece) (is : List Imported) → IsUnit u → Imports (unit_line u) is → AreNamed is

@@ -1,7 +1,7 @@
 -- The members of a block, as their logical lines are read.
 use Rattle.std.proofs.Common.{◌≡◌, ℕ, Bool, true, false, cond, not, ◌&&◌, ◌||◌, List, [], ◌∷◌, ◌++◌, map, flat_map, refl, sym, ap, ◌∙◌, subst}
 use Rattle.std.specs.Prelude.{filter, bytes_eq}
-use Rattle.std.specs.List.{Contains, list_any, list_all}
+use Rattle.std.specs.List.{AllByRecursion, Contains, list_any, list_all}
 use Rattle.std.proofs.lemmas.Bool.{and_parts, or_parts}
 use Rattle.py_lines.specs.Character.{is_space}
 use Rattle.py_lines.specs.LogicalLine.{LogicalLine}
@@ -13,7 +13,7 @@ use Rattle.isort_settings.specs.Values.{Values}
 use Rattle.isort_sort.specs.Blocks.{role_is_member, role_stands_between, role_imports, role_own, role_comments, is_member, stands_between, comments_in, Further, further_rows, Run, run_rows, goes_on, is_run, member_of, members_of}
 use Rattle.isort_sort.specs.Layout.{Laid, EachIsLaid, AreLaid}
 use Rattle.isort_sort.specs.Line.{own_comments, AreOwnComments}
-use Rattle.isort_sort.specs.Member.{Member, imports_of, begins_with, owned, first_texts}
+use Rattle.isort_sort.specs.Member.{Member, imports_of, owned, comments_of}
 use Rattle.isort_sort.specs.Row.{Role, member, comments, blank, Row, HasRole}
 use Rattle.isort_sort.specs.Statement.{Statement, statement_of}
 use Rattle.isort_sort.specs.WrittenLine.{AreRemarks, IsReadMember, AreReadMembers, EachIsWritten}
@@ -21,8 +21,10 @@ use Rattle.isort_sort.proofs.Orders.Contained.{map_in}
 use Rattle.isort_sort.proofs.Orders.InOrder.{nothing_in, head_in}
 use Rattle.isort_sort.proofs.LineLaws.Units.{IsUnit}
 use Rattle.isort_sort.proofs.WrittenLines.UnitRows.{TokenLaws, unit_line}
-use Rattle.isort_sort.proofs.WrittenLines.LineUnits.{says_skip_file, AreAbove}
-use Rattle.isort_sort.proofs.LineLaws.Joined.{AreSome, some_first, none-append}
+use Rattle.isort_sort.proofs.WrittenLines.LineUnits.{says_skip_file, IsAbove, AreAbove}
+use Rattle.isort_sort.proofs.LineLaws.Each.{each-append, each-map, each-false, none-of}
+use Rattle.isort_sort.proofs.WrittenStatements.Sources.{each-first_texts, each-owned}
+use Rattle.isort_sort.proofs.LineLaws.Joined.{AreSome, some_first}
 use Rattle.isort_sort.proofs.WrittenLines.BlockUnits.{AreWritable}
 use Rattle.isort_sort.proofs.ReadMembers.OldBlock.{IsSeen, AreSeen}
 use Rattle.isort_sort.proofs.ReadMembers.ReadComments.{comments_above, remarks_of_unit, own_unskipped}
@@ -44,8 +46,7 @@ pub record IsFine (m : Member) : Type 0 where
   pub unskipped : list_any (says action.SkipFile) m.comments ≡ false
 
 abbrev pub AreFine : List Member → Type 0
-AreFine [] = Unit {0}
-AreFine (m ∷ ms) = IsFine m × AreFine ms
+AreFine members = AllByRecursion IsFine members
 
 fine_row : TokenLaws → ImportLaws → OwnLaw → (u : List Piece) (above : List Row) (row : Row) → IsUnit u → says_skip_file u ≡ false → HasRole false (unit_line u) row.role → is_member row ≡ true → AreAbove (comments_in above) → IsFine (member_of above row)
 fine_row tokens laws own u above row is skip role m h = by row.role role m
@@ -60,10 +61,6 @@ fine_row tokens laws own u above row is skip role m h = by row.role role m
       unskipped = ap (list_any (says action.SkipFile)) k.2 ∙ own_unskipped u skip;
     }
     by _ k e = absurd (cc)
-
-above_append : (a b : List (List ℕ)) → AreAbove a → AreAbove b → AreAbove (a ++ b)
-above_append [] b h k = k
-above_append (c ∷ cs) b h k = (h.0, above_append cs b h.1 k)
 
 between_above : TokenLaws → (u : List Piece) (role : Role) → IsUnit u → says_skip_file u ≡ false → HasRole false (unit_line u) role → role_stands_between role ≡ true → AreAbove (role_comments role)
 between_above tokens u (comments cs) is skip h k = comments_above tokens false u cs is skip h
@@ -91,7 +88,7 @@ read_further tokens (u ∷ us) (b ∷ bs) row rows h seen all =
     record {
       u = more.u;
       us = more.us;
-      above = above_append (role_comments b.role) (comments_in bs) (between_above tokens u b.role h.0 h.1 seen.0.role parts.0) more.above;
+      above = each-append IsAbove (role_comments b.role) (comments_in bs) (between_above tokens u b.role h.0 h.1 seen.0.role parts.0) more.above;
       is = more.is;
       skip = more.skip;
       seen = more.seen;
@@ -134,39 +131,18 @@ fine_run tokens laws own (u ∷ us) run h seen is =
     }
 
 pub read_members : (ms : List Member) → AreFine ms → AreReadMembers ms
-read_members [] h = tt
-read_members (m ∷ ms) h = (h.0.read, read_members ms h.1)
+read_members ms h = each-map IsFine IsReadMember (λ m f. f.read) ms h
 
 -- what a statement takes of them
 pub owned_above : (v : Values) (s : Statement) (ms : List Member) → AreFine ms → AreAbove (flat_map (λ m. m.above) (owned v ms s))
-owned_above v s [] h = tt
-owned_above v s (m ∷ ms) h = by (begins_with v s m.imports) (owned_above v s ms h.1)
-  where
-    by : (b : Bool) → AreAbove (flat_map (λ (n : Member). n.above) (owned v ms s)) → AreAbove (flat_map (λ (n : Member). n.above) (cond b (m ∷ owned v ms s) (owned v ms s)))
-    by true k = above_append m.above (flat_map (λ (n : Member). n.above) (owned v ms s)) h.0.above k
-    by false k = k
+owned_above v s ms h = each-owned IsAbove (λ m. m.above) v s ms (each-map IsFine (λ m. AreAbove m.above) (λ m f. f.above) ms h)
 
-owned_silent : (v : Values) (s : Statement) (ms : List Member) → AreFine ms → list_any (says action.SkipFile) (flat_map (λ m. m.comments) (owned v ms s)) ≡ false
-owned_silent v s [] h = refl
-owned_silent v s (m ∷ ms) h = by (begins_with v s m.imports) (owned_silent v s ms h.1)
-  where
-    by : (b : Bool) → list_any (says action.SkipFile) (flat_map (λ (n : Member). n.comments) (owned v ms s)) ≡ false → list_any (says action.SkipFile) (flat_map (λ (n : Member). n.comments) (cond b (m ∷ owned v ms s) (owned v ms s))) ≡ false
-    by true k = none-append (says action.SkipFile) m.comments (flat_map (λ (n : Member). n.comments) (owned v ms s)) h.0.unskipped k
-    by false k = k
-
-filter_silent : (test says_so : List ℕ → Bool) (ts : List (List ℕ)) → list_any says_so ts ≡ false → list_any says_so (filter test ts) ≡ false
-filter_silent test says_so [] h = refl
-filter_silent test says_so (t ∷ ts) h = let parts = or_parts (says_so t) (list_any says_so ts) h in by (test t) parts.0 (filter_silent test says_so ts parts.1)
-  where
-    by : (b : Bool) → says_so t ≡ false → list_any says_so (filter test ts) ≡ false → list_any says_so (cond b (t ∷ filter test ts) (filter test ts)) ≡ false
-    by true k l = λ i. k i || l i
-    by false k l = l
-
-first_silent : (says_so : List ℕ → Bool) (ts : List (List ℕ)) → list_any says_so ts ≡ false → list_any says_so (first_texts ts) ≡ false
-first_silent says_so [] h = refl
-first_silent says_so (t ∷ ts) h =
-    let parts = or_parts (says_so t) (list_any says_so ts) h in
-    λ i. parts.0 i || filter_silent (λ u. not (bytes_eq t u)) says_so (first_texts ts) (first_silent says_so ts parts.1) i
+owned_silent : (v : Values) (s : Statement) (ms : List Member) → AreFine ms → list_any (says action.SkipFile) (comments_of v ms s) ≡ false
+owned_silent v s ms h =
+    let IsSilent : List ℕ → Type 0 = λ c. says action.SkipFile c ≡ false in
+    none-of (says action.SkipFile) (comments_of v ms s)
+    (each-first_texts IsSilent (flat_map (λ m. m.comments) (owned v ms s))
+    (each-owned IsSilent (λ m. m.comments) v s ms (each-map IsFine (λ m. AllByRecursion IsSilent m.comments) (λ m f. each-false (says action.SkipFile) m.comments f.unskipped) ms h)))
 
 pub each_ready : (v : Values) (indentation end : List ℕ) (ms : List Member) (laid : List Laid) → AreFine ms → EachIsLaid v indentation ms laid → EachIsWritten v indentation end laid → AreWritable v indentation end laid
 each_ready v indentation end ms [] h is w = tt
@@ -175,7 +151,7 @@ each_ready v indentation end ms (s ∷ ss) h is w = (
     pieces = w.0.0;
     written = w.0.1;
     above = subst AreAbove (sym is.0.above) (owned_above v s.statement ms h);
-    unskipped = ap (list_any (says action.SkipFile)) is.0.comments ∙ first_silent (says action.SkipFile) (flat_map (λ m. m.comments) (owned v ms s.statement)) (owned_silent v s.statement ms h);
+    unskipped = ap (list_any (says action.SkipFile)) is.0.comments ∙ owned_silent v s.statement ms h;
   },
   each_ready v indentation end ms ss h is.1 w.1,
 )

@@ -15,6 +15,7 @@ use Rattle.isort_sort.specs.Line.{without_hash, without_start, without_end, stri
 use Rattle.isort_sort.proofs.LineLaws.Units.{scalars-parts}
 use Rattle.isort_sort.proofs.WrittenLines.FirstEnds.{is_end_byte}
 use Rattle.isort_sort.proofs.LineLaws.Joined.{none-append}
+use Rattle.isort_sort.proofs.LineLaws.Parts.{IsUnbrokenText}
 use Rattle.isort_sort.proofs.Rows.Spaces.{space_low}
 use Rattle.std.proofs.Math.Bool.{or-true}
 use Rattle.std.proofs.Math.Seq.{drop-append_seam}
@@ -44,13 +45,6 @@ unbroken_bytes [] h = refl
 unbroken_bytes (c ∷ cs) h =
     let parts = or_parts (is_break c) (list_any is_break cs) h in
     none-append is_end_byte (encode c) (encode_utf8_all cs) (none_inside is_end_byte end_low c (break_byte c parts.0)) (unbroken_bytes cs parts.1)
-
--- characters of a text without line ends
-pub record IsUnbrokenText (text : List ℕ) : Type 0 where
-  pub characters : List ℕ
-  pub spell : encode_utf8_all characters ≡ text
-  pub scalars : all_scalars characters ≡ true
-  pub unbroken : list_any is_break characters ≡ false
 
 bare_start : (xs rest : List ℕ) → 0 < length xs → list_any is_space xs ≡ false → without_start (xs ++ rest) ≡ xs ++ rest
 bare_start [] rest some h = absurd (omega arith)

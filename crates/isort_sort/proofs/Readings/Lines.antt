@@ -17,7 +17,6 @@ use Rattle.isort_sort.specs.Member.{Member}
 use Rattle.isort_sort.specs.Private.Reading.{stop_of, IsRowOf, FindsLine}
 use Rattle.isort_sort.specs.Row.{Before, one, Role, member, comments, blank, other, HasRole, is_comment_kind, says_off, says_on, is_off_after, mark_after, indentation_of, Row, IsRow, AreRows}
 use Rattle.isort_sort.specs.declared.row.Role.TheVariants as role
-use Rattle.isort_sort.proofs.Rows.Skips.{any_push}
 use Rattle.isort_sort.proofs.Finding.Rows.{found_blank, found_comments, found_member, found_other}
 
 -- one more row
@@ -34,35 +33,6 @@ rows_push before (l ∷ ls) rows line row are is = (
 pub utf8_push : (rows : List Row) (row : Row) → AreUtf8 rows → IsUtf8 row.text → AreUtf8 (rows ++ row ∷ [])
 utf8_push [] row are is = (is, tt)
 utf8_push (r ∷ rs) row are is = (are.0, utf8_push rs row are.1 is)
-
--- a line that says `off` turns sorting off, and one that says `on` turns it on
-turns : (off on off_now : Bool) (was any : Bool) → on && off_now ≡ false → (off && not (any || on)) || cond off_now true (cond on false was) ≡ cond off_now true (cond on false ((off && not any) || was))
-turns false on off_now was any h = refl
-turns true on off_now was true h = refl
-turns true false true was false h = refl
-turns true false false was false h = refl
-turns true true true was false h = absurd (cc)
-turns true true false was false h = refl
-
-never_both : (line : LogicalLine) → says_on line && says_off line ≡ false
-never_both line = by (is_comment_kind line.kind) (list_any (says action.On) (comment_texts line)) (says_off line)
-  where
-    by : (a b c : Bool) → (a && b && not c) && c ≡ false
-    by true true true = refl
-    by true true false = refl
-    by true false c = refl
-    by false b c = refl
-
-pub off_push : (lines : List LogicalLine) (line : LogicalLine) → is_off_after (lines ++ line ∷ []) ≡ turned (is_off_after lines) line
-off_push [] line = by (says_off line) (says_on line)
-  where
-    by : (a b : Bool) → (a && true) || false ≡ cond a true (cond b false false)
-    by true b = refl
-    by false true = refl
-    by false false = refl
-off_push (l ∷ ls) line =
-    (λ i. (says_off l && not (any_push says_on ls line i)) || off_push ls line i)
-    ∙ turns (says_off l) (says_on line) (says_off line) (is_off_after ls) (list_any says_on ls) (never_both line)
 
 -- the row of a line after others
 pub row_after : (lines : List LogicalLine) (line : LogicalLine) (off : Bool) (mark : ℕ) (row : Row) → off ≡ is_off_after lines → mark ≡ mark_after lines line → IsRowOf off mark line row → IsRow lines line row

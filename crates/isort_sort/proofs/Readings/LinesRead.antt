@@ -13,7 +13,8 @@ use Rattle.isort_sort.specs.Row.{mark_after}
 use Rattle.isort_sort.specs.Sorted.{texts_of, mark_of, IsAccepted, HasBlocks}
 use Rattle.isort_sort.specs.declared.read.LineReader.{LineReader}
 use Rattle.isort_sort.proofs.Finding.Rows.{nothing_found, AreAll, all_found}
-use Rattle.isort_sort.proofs.Readings.Lines.{rows_push, utf8_push, off_push, row_after}
+use Rattle.isort_sort.proofs.Readings.Lines.{rows_push, utf8_push, row_after}
+use Rattle.isort_sort.proofs.Rows.Switches.{off_push}
 use Rattle.isort_sort.proofs.Rows.Marks.{rest_utf8, mark_utf8, mark_taken, mark_within}
 use Rattle.isort_sort.proofs.Rows.Texts.{text_of_rows, texts_snoc}
 

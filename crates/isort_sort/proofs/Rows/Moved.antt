@@ -1,155 +1,95 @@
 -- A logical line imports the same wherever it stands.
-use Rattle.std.proofs.Common.{◌≡◌, ℕ, ◌+◌, ◌==◌, suc, Bool, true, false, cond, not, ◌&&◌, List, [], ◌∷◌, ◌++◌, map, take, refl, sym, ap, ◌∙◌, subst, arith}
+use Rattle.std.proofs.Common.{◌≡◌, ℕ, ◌+◌, ◌==◌, Bool, true, false, cond, not, ◌&&◌, List, [], ◌∷◌, ◌++◌, map, take, refl, sym, ap, ◌∙◌, subst}
 use Rattle.std.specs.Prelude.{filter, nat_lt, take_while}
 use Rattle.std.specs.List.{prefix_len}
+use Rattle.std.proofs.lemmas.List.{map-append, take-map}
+use Rattle.std.proofs.lemmas.Simd.{map-map}
 use Rattle.py_lines.specs.LogicalLine.{LogicalLine}
 use Rattle.py_lines.specs.Words.{Extent, extent_of}
 use Rattle.py_lines.specs.declared.token.Token.{Token}
 use Rattle.py_imports.specs.Binds.{Binds, BindEach, BindsAt, nothing, imports, values_at, terminals_at, terminal_in}
 use Rattle.py_imports.specs.BindingValue.{BindingValue, binding_at}
 use Rattle.py_imports.specs.Grammar.{Terminal, Imported, IsImport, begins_import}
-use Rattle.py_imports.specs.Statement.{is_comment, is_semicolon, is_divider, significant, depth_past, depth_after_tokens, ends_in_divider, may_start_after, TokenPlace, places_from, starts, is_end, statement_at}
+use Rattle.py_imports.specs.Statement.{is_comment, is_semicolon, significant, depth_past, depth_after_tokens, ends_in_divider, may_start_after, TokenPlace, places_from, starts, is_end, statement_at}
 use Rattle.isort_sort.specs.Line.{imported_of}
+use Rattle.isort_sort.proofs.LineLaws.Each.{filter-map}
 
--- tokens that differ in their lines alone
-abbrev pub DifferInLinesAlone : List Token → List Token → Type 0
-DifferInLinesAlone [] [] = Unit {0}
-DifferInLinesAlone (t ∷ ts) (u ∷ us) = (extent_of t ≡ extent_of u) × DifferInLinesAlone ts us
-DifferInLinesAlone _ _ = ⊥
+prefix-map : {X Y : Type 0} (test : Y → Bool) (f : X → Y) (xs : List X) → prefix_len test (map f xs) ≡ prefix_len (λ x. test (f x)) xs
+prefix-map test f [] = refl
+prefix-map test f (x ∷ xs) = ap (λ n. cond (test (f x)) (1 + n) 0) (prefix-map test f xs)
 
-same_heads : (a b : Extent) (xs ys : List Extent) → a ∷ xs ≡ b ∷ ys → (a ≡ b) × (xs ≡ ys)
-same_heads a b xs ys h = let first : a ≡ b = cc in let others : xs ≡ ys = cc in (first, others)
+-- a token without its line
+abbrev pub still : Token → Token
+still t = record { kind = t.kind; start = t.start; stop = t.stop; line = 0 }
 
-pub alike : (ts us : List Token) → map extent_of ts ≡ map extent_of us → DifferInLinesAlone ts us
-alike [] [] h = tt
-alike [] (u ∷ us) h = absurd (cc)
-alike (t ∷ ts) [] h = absurd (cc)
-alike (t ∷ ts) (u ∷ us) h = let both = same_heads (extent_of t) (extent_of u) (map extent_of ts) (map extent_of us) h in (both.0, alike ts us both.1)
+abbrev pub still_place : TokenPlace → TokenPlace
+still_place p = record { before = map still p.before; token = still p.token; after = map still p.after }
 
-pub kind_alike : (t u : Token) → extent_of t ≡ extent_of u → t.kind ≡ u.kind
-kind_alike t u h = ap (λ (e : Extent). e.kind) h
+still_extent : Extent → Token
+still_extent e = record { kind = e.kind; start = e.start; stop = e.stop; line = 0 }
 
-alike-append : (ts us vs ws : List Token) → DifferInLinesAlone ts us → DifferInLinesAlone vs ws → DifferInLinesAlone (ts ++ vs) (us ++ ws)
-alike-append [] [] vs ws h k = k
-alike-append [] (u ∷ us) vs ws h k = absurd h
-alike-append (t ∷ ts) [] vs ws h k = absurd h
-alike-append (t ∷ ts) (u ∷ us) vs ws h k = (h.0, alike-append ts us vs ws h.1 k)
+pub still_alike : (ts us : List Token) → map extent_of ts ≡ map extent_of us → map still ts ≡ map still us
+unfolding still_extent
+still_alike ts us h = sym (map-map still_extent extent_of ts) ∙ ap (map still_extent) h ∙ map-map still_extent extent_of us
 
-pub significant_alike : (ts us : List Token) → DifferInLinesAlone ts us → DifferInLinesAlone (significant ts) (significant us)
-significant_alike [] [] h = tt
-significant_alike [] (u ∷ us) h = absurd h
-significant_alike (t ∷ ts) [] h = absurd h
-significant_alike (t ∷ ts) (u ∷ us) h = by (is_comment t.kind) (is_comment u.kind) (ap is_comment (kind_alike t u h.0)) (significant_alike ts us h.1)
-  where
-    by : (a b : Bool) → a ≡ b → DifferInLinesAlone (significant ts) (significant us) → DifferInLinesAlone (cond (not a) (t ∷ significant ts) (significant ts)) (cond (not b) (u ∷ significant us) (significant us))
-    by true true e k = k
-    by false false e k = (h.0, k)
-    by true false e k = absurd (cc)
-    by false true e k = absurd (cc)
+-- what is the same without lines is the same of tokens that differ in their lines alone
+pub across : {X : Type 0} (f : List Token → X) → ((ts : List Token) → f (map still ts) ≡ f ts) → (ts us : List Token) → map still ts ≡ map still us → f ts ≡ f us
+across f same ts us e = sym (same ts) ∙ ap f e ∙ same us
 
-divider_alike : (d : ℕ) (ts us : List Token) → DifferInLinesAlone ts us → ends_in_divider d ts ≡ ends_in_divider d us
-divider_alike d [] [] h = refl
-divider_alike d [] (u ∷ us) h = absurd h
-divider_alike d (t ∷ ts) [] h = absurd h
-divider_alike d (t ∷ []) (u ∷ []) h = ap (λ k. is_divider k && (d == 0)) (kind_alike t u h.0)
-divider_alike d (t ∷ []) (u ∷ v ∷ us) h = absurd h.1
-divider_alike d (t ∷ s ∷ ts) (u ∷ []) h = absurd h.1
-divider_alike d (t ∷ s ∷ ts) (u ∷ v ∷ us) h = divider_alike (depth_past d t.kind) (s ∷ ts) (v ∷ us) h.1 ∙ ap (λ k. ends_in_divider (depth_past d k) (v ∷ us)) (kind_alike t u h.0)
+pub significant_still : (ts : List Token) → significant (map still ts) ≡ map still (significant ts)
+significant_still ts = filter-map (λ t. not (is_comment t.kind)) still ts
 
-start_alike : (ts us : List Token) → DifferInLinesAlone ts us → may_start_after ts ≡ may_start_after us
-start_alike [] [] h = refl
-start_alike [] (u ∷ us) h = absurd h
-start_alike (t ∷ ts) [] h = absurd h
-start_alike (t ∷ ts) (u ∷ us) h = divider_alike 0 (t ∷ ts) (u ∷ us) h
+pub significant_alike : (ts us : List Token) → map still ts ≡ map still us → map still (significant ts) ≡ map still (significant us)
+significant_alike ts us e = sym (significant_still ts) ∙ ap significant e ∙ significant_still us
 
-depth_alike : (d : ℕ) (ts us : List Token) → DifferInLinesAlone ts us → depth_after_tokens d ts ≡ depth_after_tokens d us
-depth_alike d [] [] h = refl
-depth_alike d [] (u ∷ us) h = absurd h
-depth_alike d (t ∷ ts) [] h = absurd h
-depth_alike d (t ∷ ts) (u ∷ us) h = depth_alike (depth_past d t.kind) ts us h.1 ∙ ap (λ k. depth_after_tokens (depth_past d k) us) (kind_alike t u h.0)
+divider_still : (d : ℕ) (ts : List Token) → ends_in_divider d (map still ts) ≡ ends_in_divider d ts
+divider_still d [] = refl
+divider_still d (t ∷ []) = refl
+divider_still d (t ∷ u ∷ ts) = divider_still (depth_past d t.kind) (u ∷ ts)
 
--- places among such tokens
-pub record PlaceAlike (p q : TokenPlace) : Type 0 where
-  pub before : DifferInLinesAlone p.before q.before
-  pub token : extent_of p.token ≡ extent_of q.token
-  pub after : DifferInLinesAlone p.after q.after
+start_still : (ts : List Token) → may_start_after (map still ts) ≡ may_start_after ts
+start_still [] = refl
+start_still (t ∷ ts) = divider_still 0 (t ∷ ts)
 
-abbrev pub PlacesAlike : List TokenPlace → List TokenPlace → Type 0
-PlacesAlike [] [] = Unit {0}
-PlacesAlike (p ∷ ps) (q ∷ qs) = PlaceAlike p q × PlacesAlike ps qs
-PlacesAlike _ _ = ⊥
+depth_still : (d : ℕ) (ts : List Token) → depth_after_tokens d (map still ts) ≡ depth_after_tokens d ts
+depth_still d [] = refl
+depth_still d (t ∷ ts) = depth_still (depth_past d t.kind) ts
 
-pub places_alike : (b c ts us : List Token) → DifferInLinesAlone b c → DifferInLinesAlone ts us → PlacesAlike (places_from b ts) (places_from c us)
-places_alike b c [] [] h k = tt
-places_alike b c [] (u ∷ us) h k = absurd k
-places_alike b c (t ∷ ts) [] h k = absurd k
-places_alike b c (t ∷ ts) (u ∷ us) h k = (record { before = h; token = k.0; after = k.1 }, places_alike (b ++ t ∷ []) (c ++ u ∷ []) ts us (alike-append b c (t ∷ []) (u ∷ []) h (k.0, tt)) k.1)
+pub end_still : (p : TokenPlace) → is_end (still_place p) ≡ is_end p
+end_still p = ap (λ (d : ℕ). is_semicolon p.token.kind && (d == 0)) (depth_still 0 p.before)
 
-starts_alike : (ps qs : List TokenPlace) → PlacesAlike ps qs → PlacesAlike (filter (λ p. may_start_after p.before) ps) (filter (λ p. may_start_after p.before) qs)
-starts_alike [] [] h = tt
-starts_alike [] (q ∷ qs) h = absurd h
-starts_alike (p ∷ ps) [] h = absurd h
-starts_alike (p ∷ ps) (q ∷ qs) h = by (may_start_after p.before) (may_start_after q.before) (start_alike p.before q.before h.0.before) (starts_alike ps qs h.1)
-  where
-    rest : List TokenPlace → List TokenPlace
-    rest l = filter (λ p. may_start_after p.before) l
+-- places among tokens
+pub places_still : (b ts : List Token) → places_from (map still b) (map still ts) ≡ map still_place (places_from b ts)
+places_still b [] = refl
+places_still b (t ∷ ts) =
+    ap (λ l. still_place (record { before = b; token = t; after = ts }) ∷ l)
+    (ap (λ c. places_from c (map still ts)) (sym (map-append still b (t ∷ []))) ∙ places_still (b ++ t ∷ []) ts)
 
-    by : (a b : Bool) → a ≡ b → PlacesAlike (rest ps) (rest qs) → PlacesAlike (cond a (p ∷ rest ps) (rest ps)) (cond b (q ∷ rest qs) (rest qs))
-    by true true e k = (h.0, k)
-    by false false e k = k
-    by true false e k = absurd (cc)
-    by false true e k = absurd (cc)
+starts_still : (ts : List Token) → starts (map still ts) ≡ map still_place (starts ts)
+starts_still ts =
+    ap (filter (λ p. may_start_after p.before)) (places_still [] ts)
+    ∙ filter-map (λ p. may_start_after p.before) still_place (places_from [] ts)
+    ∙ (λ i. map still_place (filter (λ p. start_still p.before i) (places_from [] ts)))
 
-pub end_alike : (p q : TokenPlace) → PlaceAlike p q → is_end p ≡ is_end q
-end_alike p q h =
-    ap (λ k. is_semicolon k && (depth_after_tokens 0 p.before == 0)) (kind_alike p.token q.token h.token)
-    ∙ ap (λ (d : ℕ). is_semicolon q.token.kind && (d == 0)) (depth_alike 0 p.before q.before h.before)
-
--- the tokens up to the end of a statement, one by one
-abbrev till_end : List TokenPlace → List Token
-till_end [] = []
-till_end (p ∷ ps) = cond (is_end p) [] (p.token ∷ till_end ps)
-
-by_one : (p : TokenPlace) (ps : List TokenPlace) → map (λ q. q.token) (take_while (λ q. not (is_end q)) (p ∷ ps)) ≡ cond (is_end p) [] (p.token ∷ map (λ q. q.token) (take_while (λ q. not (is_end q)) ps))
-by_one p ps = by (is_end p)
-  where
-    more : 1 + prefix_len (λ q. not (is_end q)) ps ≡ suc (prefix_len (λ q. not (is_end q)) ps)
-    more = omega arith
-
-    by : (b : Bool) → map (λ (q : TokenPlace). q.token) (take (cond (not b) (1 + prefix_len (λ q. not (is_end q)) ps) 0) (p ∷ ps)) ≡ cond b [] (p.token ∷ map (λ (q : TokenPlace). q.token) (take (prefix_len (λ q. not (is_end q)) ps) ps))
-    by true = refl
-    by false = ap (λ (n : ℕ). map (λ (q : TokenPlace). q.token) (take n (p ∷ ps))) more
-
-till : (ps : List TokenPlace) → map (λ q. q.token) (take_while (λ q. not (is_end q)) ps) ≡ till_end ps
-till [] = refl
-till (p ∷ ps) = by_one p ps ∙ ap (λ l. cond (is_end p) [] (p.token ∷ l)) (till ps)
-
-till_alike : (ps qs : List TokenPlace) → PlacesAlike ps qs → DifferInLinesAlone (till_end ps) (till_end qs)
-till_alike [] [] h = tt
-till_alike [] (q ∷ qs) h = absurd h
-till_alike (p ∷ ps) [] h = absurd h
-till_alike (p ∷ ps) (q ∷ qs) h = by (is_end p) (is_end q) (end_alike p q h.0) (till_alike ps qs h.1)
-  where
-    by : (a b : Bool) → a ≡ b → DifferInLinesAlone (till_end ps) (till_end qs) → DifferInLinesAlone (cond a [] (p.token ∷ till_end ps)) (cond b [] (q.token ∷ till_end qs))
-    by true true e k = tt
-    by false false e k = (h.0.token, k)
-    by true false e k = absurd (cc)
-    by false true e k = absurd (cc)
-
-statement_alike : (p q : TokenPlace) → PlaceAlike p q → DifferInLinesAlone (statement_at p) (statement_at q)
-statement_alike p q h =
+statement_still : (p : TokenPlace) → statement_at (still_place p) ≡ map still (statement_at p)
+statement_still p =
     let ps = places_from [] (p.token ∷ p.after) in
-    let qs = places_from [] (q.token ∷ q.after) in
-    subst (λ (l : List Token). DifferInLinesAlone l (statement_at q)) (sym (till ps)) (subst (DifferInLinesAlone (till_end ps)) (sym (till qs)) (till_alike ps qs (places_alike [] [] (p.token ∷ p.after) (q.token ∷ q.after) tt (h.token, h.after))))
+    let goes_on : TokenPlace → Bool = λ q. not (is_end q) in
+    ap (λ l. map (λ (q : TokenPlace). q.token) (take_while goes_on l)) (places_still [] (p.token ∷ p.after))
+    ∙ (λ i. map (λ (q : TokenPlace). q.token) (take (prefix-map goes_on still_place ps i) (map still_place ps)))
+    ∙ (λ i. map (λ (q : TokenPlace). q.token) (take (prefix_len (λ q. not (end_still q i)) ps) (map still_place ps)))
+    ∙ ap (map (λ (q : TokenPlace). q.token)) (take-map still_place (prefix_len goes_on ps) ps)
+    ∙ map-map (λ (q : TokenPlace). q.token) still_place (take_while goes_on ps)
+    ∙ sym (map-map still (λ (q : TokenPlace). q.token) (take_while goes_on ps))
 
-pub terminal_alike : (text : List ℕ) (ts us : List Token) → DifferInLinesAlone ts us → map (terminal_in text) ts ≡ map (terminal_in text) us
-terminal_alike text [] [] h = refl
-terminal_alike text [] (u ∷ us) h = absurd h
-terminal_alike text (t ∷ ts) [] h = absurd h
-terminal_alike text (t ∷ ts) (u ∷ us) h = λ i. of (h.0 i) ∷ terminal_alike text ts us h.1 i
-  where
-    of : Extent → Terminal
-    of e = terminal_in text (record { kind = e.kind; start = e.start; stop = e.stop; line = 0 })
+pub terminals_still : (text : List ℕ) (ts : List Token) → map (terminal_in text) (map still ts) ≡ map (terminal_in text) ts
+terminals_still text ts = map-map (terminal_in text) still ts
+
+terminals_alike : (l m : LogicalLine) (p q : TokenPlace) → l.text ≡ m.text → still_place p ≡ still_place q → terminals_at l p ≡ terminals_at m q
+terminals_alike l m p q text e =
+    sym (terminals_still l.text (statement_at p)) ∙ ap (map (terminal_in l.text)) (sym (statement_still p))
+    ∙ (λ i. map (terminal_in (text i)) (statement_at (e i)))
+    ∙ ap (map (terminal_in m.text)) (statement_still q) ∙ terminals_still m.text (statement_at q)
 
 -- what a bound imports is what it was made of
 pub imported_again : (line : ℕ) (indented : Bool) (is : List Imported) → map imported_of (map (binding_at line indented) is) ≡ is
@@ -162,29 +102,27 @@ record ImportsSame (P : List BindingValue → Type 0) (values : List BindingValu
   holds : P others
   same : map imported_of others ≡ map imported_of values
 
-map-append : {A B : Type 0} (f : A → B) (xs ys : List A) → map f (xs ++ ys) ≡ map f xs ++ map f ys
-map-append f [] ys = refl
-map-append f (x ∷ xs) ys = ap (λ l. f x ∷ l) (map-append f xs ys)
-
-at_place : (l m : LogicalLine) (p q : TokenPlace) (values : List BindingValue) → l.text ≡ m.text → PlaceAlike p q → BindsAt l p values → ImportsSame (BindsAt m q) values
-at_place l m p q values text h (nothing _ _ _ begins none) =
-    let same : terminals_at l p ≡ terminals_at m q = ap (λ t. map (terminal_in t) (statement_at p)) text ∙ terminal_alike m.text (statement_at p) (statement_at q) (statement_alike p q h) in
+at_place : (l m : LogicalLine) (p q : TokenPlace) (values : List BindingValue) → terminals_at l p ≡ terminals_at m q → BindsAt l p values → ImportsSame (BindsAt m q) values
+at_place l m p q values same (nothing _ _ _ begins none) =
     record { others = []; holds = nothing m q [] (sym (ap begins_import same) ∙ begins) refl; same = sym (ap (map imported_of) none) }
-at_place l m p q values text h (imports _ _ _ is begins import are) =
-    let same : terminals_at l p ≡ terminals_at m q = ap (λ t. map (terminal_in t) (statement_at p)) text ∙ terminal_alike m.text (statement_at p) (statement_at q) (statement_alike p q h) in
+at_place l m p q values same (imports _ _ _ is begins import are) =
     record {
       others = values_at m q is;
       holds = imports m q (values_at m q is) is (sym (ap begins_import same) ∙ begins) (subst (λ (ts : List Terminal). IsImport ts is) same import) refl;
       same = imported_again q.token.line (nat_lt 0 m.indent) is ∙ sym (ap (map imported_of) are ∙ imported_again p.token.line (nat_lt 0 l.indent) is);
     }
 
-at_places : (l m : LogicalLine) (ps qs : List TokenPlace) (values : List BindingValue) → l.text ≡ m.text → PlacesAlike ps qs → BindEach l ps values → ImportsSame (BindEach m qs) values
-at_places l m [] [] values text h b = record { others = []; holds = refl; same = sym (ap (map imported_of) b) }
-at_places l m [] (q ∷ qs) values text h b = absurd h
-at_places l m (p ∷ ps) [] values text h b = absurd h
-at_places l m (p ∷ ps) (q ∷ qs) values text h (first, rest, is, one, more) =
-    let a = at_place l m p q first text h.0 one in
-    let c = at_places l m ps qs rest text h.1 more in
+same_heads : {X : Type 0} (a b : X) (xs ys : List X) → a ∷ xs ≡ b ∷ ys → (a ≡ b) × (xs ≡ ys)
+same_heads a b xs ys h = let first : a ≡ b = cc in let others : xs ≡ ys = cc in (first, others)
+
+at_places : (l m : LogicalLine) (ps qs : List TokenPlace) (values : List BindingValue) → l.text ≡ m.text → map still_place ps ≡ map still_place qs → BindEach l ps values → ImportsSame (BindEach m qs) values
+at_places l m [] [] values text e b = record { others = []; holds = refl; same = sym (ap (map imported_of) b) }
+at_places l m [] (q ∷ qs) values text e b = absurd (cc)
+at_places l m (p ∷ ps) [] values text e b = absurd (cc)
+at_places l m (p ∷ ps) (q ∷ qs) values text e (first, rest, is, one, more) =
+    let both = same_heads (still_place p) (still_place q) (map still_place ps) (map still_place qs) e in
+    let a = at_place l m p q first (terminals_alike l m p q text both.0) one in
+    let c = at_places l m ps qs rest text both.1 more in
     record {
       others = a.others ++ c.others;
       holds = (a.others, c.others, refl, a.holds, c.holds);
@@ -193,7 +131,6 @@ at_places l m (p ∷ ps) (q ∷ qs) values text h (first, rest, is, one, more) =
 
 pub moved : (l m : LogicalLine) → l.text ≡ m.text → map extent_of l.tokens ≡ map extent_of m.tokens → (values : List BindingValue) → Binds l values → (others : List BindingValue) × Binds m others × (map imported_of others ≡ map imported_of values)
 moved l m text tokens values binds =
-    let found = at_places l m (starts (significant l.tokens)) (starts (significant m.tokens)) values text
-    (starts_alike (places_from [] (significant l.tokens)) (places_from [] (significant m.tokens))
-    (places_alike [] [] (significant l.tokens) (significant m.tokens) tt (significant_alike l.tokens m.tokens (alike l.tokens m.tokens tokens)))) binds in
+    let same = significant_alike l.tokens m.tokens (still_alike l.tokens m.tokens tokens) in
+    let found = at_places l m (starts (significant l.tokens)) (starts (significant m.tokens)) values text (sym (starts_still (significant l.tokens)) ∙ ap starts same ∙ starts_still (significant m.tokens)) binds in
     (found.others, found.holds, found.same)

@@ -13,19 +13,16 @@ use Rattle.isort_sort.specs.Private.Markers.{HoldsLineAt}
 use Rattle.isort_sort.specs.Private.Reading.{texts_of_lines, StandsAfter}
 use Rattle.isort_sort.specs.Row.{Row, AreRows}
 use Rattle.isort_sort.specs.Sorted.{texts_of, mark_of}
+use Rattle.isort_sort.proofs.LineLaws.Parts.{spelled-append}
+use Rattle.isort_sort.proofs.LineLaws.Units.{flat, flat_cut}
 
 -- the characters of parts, one part after another
-put_spelled : (p : Piece) (us : List (List Piece)) → flat_map spelled (put_first p us) ≡ p.text ++ flat_map spelled us
-put_spelled p [] = append-nil (p.text ++ [])
-put_spelled p (u ∷ us) = append_assoc p.text (spelled u) (flat_map spelled us)
+spelled_flat : (us : List (List Piece)) → spelled (flat us) ≡ flat_map spelled us
+spelled_flat [] = refl
+spelled_flat (u ∷ us) = spelled-append u (flat us) ∙ ap (λ (t : List ℕ). spelled u ++ t) (spelled_flat us)
 
 pub cut_spelled : (depth : ℕ) (ps : List Piece) → flat_map spelled (cut depth ps) ≡ spelled ps
-cut_spelled depth [] = refl
-cut_spelled depth (p ∷ ps) = by (is_line_end_class p.class && (depth == 0)) (cut_spelled depth ps) (cut_spelled (depth_after depth p) ps)
-  where
-    by : (b : Bool) → flat_map spelled (cut depth ps) ≡ spelled ps → flat_map spelled (cut (depth_after depth p) ps) ≡ spelled ps → flat_map spelled (cond b ((p ∷ []) ∷ cut depth ps) (put_first p (cut (depth_after depth p) ps))) ≡ p.text ++ spelled ps
-    by true ended goes_on = (λ i. append-nil p.text i ++ ended i)
-    by false ended goes_on = put_spelled p (cut (depth_after depth p) ps) ∙ ap (λ (t : List ℕ). p.text ++ t) goes_on
+cut_spelled depth ps = sym (spelled_flat (cut depth ps)) ∙ ap spelled (flat_cut depth ps)
 
 pub lines_spelled : (offset line : ℕ) (us : List (List Piece)) → texts_of_lines (lines_from offset line us) ≡ encode_utf8_all (flat_map spelled us)
 lines_spelled offset line [] = refl

@@ -1,7 +1,7 @@
 -- The logical lines of a text in which each block was replaced by its layout, and their rows.
 use Rattle.std.proofs.Common.{◌≡◌, ℕ, Bool, true, false, cond, ◌&&◌, ◌||◌, ◌⊎◌, inl, inr, Some, List, [], ◌∷◌, ◌++◌, map, refl, sym, ap, ◌∙◌, subst, append_assoc}
 use Rattle.std.specs.Prelude.{count_by, slice_get}
-use Rattle.std.specs.List.{list_any, list_all}
+use Rattle.std.specs.List.{AllByRecursion, list_any, list_all}
 use Rattle.std.proofs.lemmas.Bool.{and_parts, both_ways, or_parts}
 use Rattle.std.proofs.lemmas.Grind.{flat_map-append}
 use Rattle.std.proofs.lemmas.List.{map-append}
@@ -30,7 +30,8 @@ use Rattle.isort_sort.proofs.WrittenLines.BlockUnits.{AreWritable}
 use Rattle.isort_sort.proofs.WrittenLines.FirstEnds.{IsFirstLine}
 use Rattle.isort_sort.proofs.ReadMembers.OldBlock.{AreSeen, run_in_block, blanks_in_block, through_block, seen_rows, member_off, run_ended}
 use Rattle.isort_sort.proofs.WrittenLines.FirstCharacters.{WordsLaw, first_feed}
-use Rattle.isort_sort.proofs.WrittenLines.UnitBinds.{EachBinds, binds_append, binds_first}
+use Rattle.isort_sort.proofs.WrittenLines.UnitBinds.{UnitBinds, EachBinds}
+use Rattle.isort_sort.proofs.LineLaws.Each.{each-append, each-parts}
 use Rattle.isort_sort.proofs.SortedAgain.WrittenBlocks.{first_line, IsWrittenBlock, read_back, written_block}
 use Rattle.isort_sort.proofs.Finding.Replaced.{run_member}
 use Rattle.isort_sort.proofs.Finding.RoleTests.{of_member, of_comments}
@@ -38,8 +39,7 @@ use Rattle.std.proofs.Math.Bool.{and-false}
 
 -- each is a logical line that is read
 abbrev pub EachIsUnit : List (List Piece) → Type 0
-EachIsUnit [] = Unit {0}
-EachIsUnit (u ∷ us) = IsUnit u × EachIsUnit us
+EachIsUnit us = AllByRecursion IsUnit us
 
 -- what the statements of a block are known for, as its members are read
 pub record IsReadable (v : Values) (end : List ℕ) (run : Run) (laid : List Laid) : Type 0 where
@@ -92,10 +92,6 @@ pub each_unit : (us : List (List Piece)) → AreUnits us → EachIsUnit us
 each_unit [] are = tt
 each_unit (u ∷ us) are = (are.0, each_unit us are.2)
 
-pub first_units : (us vs : List (List Piece)) → EachIsUnit (us ++ vs) → EachIsUnit us
-first_units [] vs h = tt
-first_units (u ∷ us) vs h = (h.0, first_units us vs h.1)
-
 pub none_first : {X : Type 0} (test : X → Bool) (xs ys : List X) → list_any test (xs ++ ys) ≡ false → (list_any test xs ≡ false) × (list_any test ys ≡ false)
 none_first test [] ys h = (refl, h)
 none_first test (x ∷ xs) ys h =
@@ -128,7 +124,7 @@ seen_some (u ∷ us) run h = (u, us, refl)
 -- the block, as it is written before the other lines
 pub block_again : (v : Values) → SortLaws v → (end : List ℕ) → IsLineEnd end → (rs bs cs : List (List Piece)) (run : Run) (blanks : List Row) (cut : Cut) (own others : List ℕ) → is_run run ≡ true → begins_blank (cut_rows cut) ≡ false → AreUnits (rs ++ (bs ++ cs)) → AreSeen rs (run_rows run) → AreUnitRows false cs (cut_rows cut) → list_any says_skip_file rs ≡ false → (layout : IsLayout v end run blanks (cut_rows cut) own) → (z : IsAgain v end false cs cut others) → IsWrittenBlock v end run layout.0 own z.units (cut_rows z.cut)
 block_again v laws end is rs bs cs run blanks cut own others run_is unblank are seen rows unskipped layout z =
-    let read = laws.reads end rs run layout.0 is (first_units rs (bs ++ cs) (each_unit (rs ++ (bs ++ cs)) are)) seen run_is unskipped layout.1 in
+    let read = laws.reads end rs run layout.0 is (each-parts IsUnit rs (bs ++ cs) (each_unit (rs ++ (bs ++ cs)) are)).0 seen run_is unskipped layout.1 in
     let s = read.some.0 in
     let ss = read.some.1 in
     let same = read.some.2 in
@@ -179,9 +175,9 @@ again_block v end off a rs bs cs before run blanks cut own others body run_is ar
   asked = asked_again before w.above run w.new _ _ w.comments run_is w.is;
   unskipped = none-append says_skip_file a us unskipped (none-append says_skip_file (w.first ∷ w.later) z.units w.unskipped z.unskipped);
   binds = λ h.
-      let parts = binds_first a (rs ++ more) h in
-      let later = binds_first bs cs (binds_first rs more parts.1).1 in
-      binds_append a us parts.0 (binds_append (w.first ∷ w.later) z.units w.binds (z.binds later.1));
+      let parts = each-parts UnitBinds a (rs ++ more) h in
+      let later = each-parts UnitBinds bs cs (each-parts UnitBinds rs more parts.1).1 in
+      each-append UnitBinds a us parts.0 (each-append UnitBinds (w.first ∷ w.later) z.units w.binds (z.binds later.1));
   no_string = λ h.
       ap first_string_skips (map-append unit_line a us)
       ∙ strings_before (map unit_line a) (map unit_line (rs ++ more)) (map unit_line us) (λ k. ap (λ l. first_string_skips (unit_line w.first ∷ l)) (map-append unit_line w.later z.units) ∙ w.top.no_string false (map unit_line z.units)) (ap first_string_skips (sym (map-append unit_line a (rs ++ more))) ∙ h);

@@ -30,15 +30,17 @@ use Rattle.isort_sort.proofs.Rows.OneRows.{BindsOneList}
 use Rattle.isort_sort.proofs.Rows.Texts.{text_of_rows}
 use Rattle.isort_sort.proofs.SortedTexts.OneSorted.{HasOneLexing, never_both, same_cut}
 use Rattle.isort_sort.proofs.LineLaws.Units.{IsUnit, MayFollowUnit, AreUnits, first_character, units_after}
-use Rattle.isort_sort.proofs.WrittenLines.UnitRows.{TokenLaws, unit_line, comments_of_unit, off_past, AreUnitRows, off_through, rows_apart, silent}
+use Rattle.isort_sort.specs.Private.LineRole.{turned}
+use Rattle.isort_sort.proofs.WrittenLines.UnitRows.{TokenLaws, unit_line, comments_of_unit, AreUnitRows, off_through, rows_apart, silent}
 use Rattle.isort_sort.proofs.WrittenLines.LineUnits.{are_some, says_skip_file}
 use Rattle.isort_sort.proofs.LineLaws.Joined.{some_append, bytes_of, bytes_of-cons, bytes_of-append, none-append}
 use Rattle.isort_sort.proofs.WrittenLines.BlockUnits.{closing}
-use Rattle.isort_sort.proofs.WrittenLines.UnitBinds.{EachBinds, binds_append, binds_first, role_binds}
+use Rattle.isort_sort.proofs.WrittenLines.UnitBinds.{UnitBinds, EachBinds, role_binds}
+use Rattle.isort_sort.proofs.LineLaws.Each.{each-append, each-parts}
 use Rattle.isort_sort.proofs.ReadMembers.OldBlock.{AreSeen, in_block, run_in_block, blanks_in_block, through_block, seen_rows, run_ended}
 use Rattle.isort_sort.proofs.WrittenLines.FirstEnds.{is_end_byte, Breaks, first_is_end, breaks_first, ends_first}
 use Rattle.isort_sort.proofs.SortedAgain.WrittenBlocks.{first_line, IsWrittenBlock, read_back}
-use Rattle.isort_sort.proofs.SortedAgain.Again.{SortLaws, IsReadable, IsAgain, each_unit, first_units, none_first, some_from, block_again, again}
+use Rattle.isort_sort.proofs.SortedAgain.Again.{SortLaws, IsReadable, IsAgain, each_unit, none_first, some_from, block_again, again}
 use Rattle.isort_sort.proofs.SortedAgain.SortedAgain.{IsCutText, first_seen, text_again, cut_text, IsLaidBack, ahead}
 
 -- a byte order mark before pieces
@@ -111,11 +113,11 @@ pub record IsSplit (us : List (List Piece)) (run : Run) (blanks : List Row) (lat
   pub seen : AreSeen rs (run_rows run)
   pub rows : AreUnitRows false cs (cut_rows later)
 
-pub split_rows : (u : List Piece) (us : List (List Piece)) (run : Run) (blanks : List Row) (later : Cut) → is_run run ≡ true → list_all is_blank blanks ≡ true → IsRow [] (unit_line u) run.first → AreUnitRows (off_past false (unit_line u)) us (flat_map further_rows run.others ++ (blanks ++ cut_rows later)) → IsSplit (u ∷ us) run blanks later
+pub split_rows : (u : List Piece) (us : List (List Piece)) (run : Run) (blanks : List Row) (later : Cut) → is_run run ≡ true → list_all is_blank blanks ≡ true → IsRow [] (unit_line u) run.first → AreUnitRows (turned false (unit_line u)) us (flat_map further_rows run.others ++ (blanks ++ cut_rows later)) → IsSplit (u ∷ us) run blanks later
 split_rows u us run blanks later is blank first rows =
     let inside = run_in_block run is in
     let parts = and_parts (in_block run.first) (list_all in_block (flat_map further_rows run.others)) inside in
-    let on : off_past false (unit_line u) ≡ false = silent false false (unit_line u) run.first.role first.role parts.0 in
+    let on : turned false (unit_line u) ≡ false = silent false false (unit_line u) run.first.role first.role parts.0 in
     let r = rows_apart false us (flat_map further_rows run.others) (blanks ++ cut_rows later) (subst (λ (b : Bool). AreUnitRows b us (flat_map further_rows run.others ++ (blanks ++ cut_rows later))) on rows) in
     let b = rows_apart (off_through false r.front) r.back blanks (cut_rows later) r.second in
     let on_after : off_through false r.front ≡ false = through_block false r.front (flat_map further_rows run.others) r.first parts.1 in
@@ -155,7 +157,7 @@ first_block v laws text u us run blanks later c =
       all_blocks = c.blocks;
       unskipped_run = none_r.0;
       unskipped_later = (none_first says_skip_file split.bs split.cs none_r.1).1;
-      binds = (binds_first split.bs split.cs (binds_first split.rs (split.bs ++ split.cs) (subst EachBinds split.whole c.binds)).1).1;
+      binds = (each-parts UnitBinds split.bs split.cs (each-parts UnitBinds split.rs (split.bs ++ split.cs) (subst EachBinds split.whole c.binds)).1).1;
     }
 
 -- the rest of the text, and the block before it
@@ -166,7 +168,7 @@ rest_again v laws us run blanks later f end others is sorted =
 -- such a text is its own sorted text, as soon as its first line end is the one that was written; its layouts may have been
 -- found with another
 laid_first : (v : Values) (laws : SortLaws v) (sorted : List ℕ) (us : List (List Piece)) (run : Run) (blanks : List Row) (later : Cut) (f : IsFirstBlock v laws us run blanks later) (marked : Bool) (end wanted own others : List ℕ) → IsLineEnd end → (layout : IsLayout v end run blanks (cut_rows later) own) → own ≡ text_of_lines wanted (last_row run.first run.others).ended (blanks_after v run (count_by (λ (row : Row). row.ended) blanks) (cut_rows later)) (block_lines v run.first.indentation wanted layout.0) → IsSortedCut v end later others → ((new : Cut) → AreReadBack v end later new → AreReadBack v wanted later new) → sorted ≡ encode_utf8_all (spelled (mark_pieces marked)) ++ (own ++ others) → first_end sorted ≡ end → StartsWithNoChar [] → IsLaidBack v wanted (block [] run blanks later) sorted sorted
-laid_first v laws sorted us run blanks later f marked end wanted own others is layout spelled_so layouts turned text same done =
+laid_first v laws sorted us run blanks later f marked end wanted own others is layout spelled_so layouts turns text same done =
     let z = rest_again v laws us run blanks later f end others is layouts in
     let w = block_again v laws end is f.split.rs f.split.bs f.split.cs run blanks later own others f.run_is f.unblank f.are f.split.seen f.split.rows f.unskipped_run layout z in
     finish z w
@@ -178,9 +180,9 @@ laid_first v laws sorted us run blanks later f marked end wanted own others is l
         let new : Cut = block w.above w.new w.blanks z.cut in
         let rows = subst (AreUnitRows false (w.first ∷ rest_units)) w.top.is w.rows in
         let row = w.top.starts marked in
-        let plain : off_past false (unit_line w.first) ≡ false = silent false false (unit_line w.first) w.top.row.role rows.0.role w.top.inside in
-        let on : off_past false (unit_line u) ≡ false = silent false false (unit_line u) w.top.row.role row.role w.top.inside in
-        let below : AreUnitRows (off_past false (unit_line u)) rest_units w.top.below = subst (λ (b : Bool). AreUnitRows b rest_units w.top.below) (plain ∙ sym on) rows.1 in
+        let plain : turned false (unit_line w.first) ≡ false = silent false false (unit_line w.first) w.top.row.role rows.0.role w.top.inside in
+        let on : turned false (unit_line u) ≡ false = silent false false (unit_line u) w.top.row.role row.role w.top.inside in
+        let below : AreUnitRows (turned false (unit_line u)) rest_units w.top.below = subst (λ (b : Bool). AreUnitRows b rest_units w.top.below) (plain ∙ sym on) rows.1 in
         let bytes : bytes_of (u ∷ rest_units) ≡ sorted =
         marked_bytes marked w.first rest_units
         ∙ ap (λ (t : List ℕ). encode_utf8_all (spelled (mark_pieces marked)) ++ t) (bytes_of-append (w.first ∷ w.later) z.units ∙ (λ i. w.text i ++ z.text i))
@@ -195,7 +197,7 @@ laid_first v laws sorted us run blanks later f marked end wanted own others is l
             blocks = text_again v laws sorted u rest_units w.top.row w.top.below new
                 (marked_unit marked w.first w.are.0 w.top.unmarked, marked_follows marked w.first rest_units w.are.0 w.are.1, w.are.2)
                 bytes done row below
-                (role_binds false 0 1 u w.top.row.role row.role w.top.inside, binds_append w.later z.units w.binds.1 (z.binds f.binds))
+                (role_binds false 0 1 u w.top.row.role row.role w.top.inside, each-append UnitBinds w.later z.units w.binds.1 (z.binds f.binds))
                 (ap (λ (b : Bool). b || list_any says_skip_file rest_units) (marked_skips laws.tokens marked w.first) ∙ skip_rest)
                 (ap (λ l. first_string_skips (unit_line u ∷ l)) (map-append unit_line w.later z.units) ∙ w.top.no_string marked (map unit_line z.units))
                 w.top.is (blocks_again (block [] run blanks later) new f.all_blocks replaced);
@@ -203,7 +205,7 @@ laid_first v laws sorted us run blanks later f marked end wanted own others is l
             layouts = subst (λ (e : List ℕ). IsSortedCut v e new (own ++ others)) (sym same) sorted_again;
             is = text ∙ ap (λ (t : List ℕ). t ++ (own ++ others)) (sym (ap (λ (n : ℕ). take n (encode_utf8_all (spelled u))) (w.top.mark marked) ∙ marked_take marked w.first));
           };
-          back = ((w.above, refl, read_back v wanted end run blanks (cut_rows later) own z.units (cut_rows z.cut) (layout.0, layout.1, spelled_so) w), turned z.cut z.back);
+          back = ((w.above, refl, read_back v wanted end run blanks (cut_rows later) own z.units (cut_rows z.cut) (layout.0, layout.1, spelled_so) w), turns z.cut z.back);
         }
 
 -- its first line end is the one that was written, or it is one line without any
@@ -256,7 +258,7 @@ at_start v laws sorted us run blanks later f marked end own others is layout lay
     w = block_again v laws end is f.split.rs f.split.bs f.split.cs run blanks later own others f.run_is f.unblank f.are f.split.seen f.split.rows f.unskipped_run layout z
 
     read : IsReadable v end run layout.0
-    read = laws.reads end f.split.rs run layout.0 is (first_units f.split.rs (f.split.bs ++ f.split.cs) (each_unit (f.split.rs ++ (f.split.bs ++ f.split.cs)) f.are)) f.split.seen f.run_is f.unskipped_run layout.1
+    read = laws.reads end f.split.rs run layout.0 is (each-parts IsUnit f.split.rs (f.split.bs ++ f.split.cs) (each_unit (f.split.rs ++ (f.split.bs ++ f.split.cs)) f.are)).0 f.split.seen f.run_is f.unskipped_run layout.1
 
     rest : List ℕ
     rest = bytes_of (w.later ++ z.units)

@@ -21,7 +21,9 @@ use Rattle.isort_sort.specs.Row.{Row, IsRow, AreRows, is_off_after, first_string
 use Rattle.isort_sort.specs.Sorted.{first_end, texts_of, IsSortedCut, HasBlocks, IsLaidOut}
 use Rattle.isort_sort.proofs.Finding.Replaced.{blocks_again}
 use Rattle.isort_sort.proofs.LineLaws.Units.{LineLaws, AreUnits, flat, read_units, cut_units, scalar_units, flat_cut, text_units}
-use Rattle.isort_sort.proofs.WrittenLines.UnitRows.{TokenLaws, unit_line, off_past, off_step, AreUnitRows, rows_from, rows_to}
+use Rattle.isort_sort.specs.Private.LineRole.{turned}
+use Rattle.isort_sort.proofs.Rows.Switches.{off_push}
+use Rattle.isort_sort.proofs.WrittenLines.UnitRows.{TokenLaws, unit_line, AreUnitRows, rows_from, rows_to}
 use Rattle.isort_sort.proofs.WrittenLines.LineUnits.{says_skip_file}
 use Rattle.isort_sort.proofs.LineLaws.Joined.{bytes_of, bytes_of-cons}
 use Rattle.isort_sort.proofs.WrittenLines.UnitBinds.{EachBinds, binds_from, binds_to, comments_skip, strings_skip}
@@ -40,17 +42,17 @@ pub record IsCutText (text : List ℕ) (us : List (List Piece)) (rows : Cut) : T
   pub done : StartsWithNoChar []
 
 -- the first row, and those after it
-pub first_seen : TokenLaws → (u : List Piece) (us : List (List Piece)) (row : Row) (rows : List Row) → AreRows [] (lines_from 0 1 (u ∷ us)) (row ∷ rows) → IsRow [] (unit_line u) row × AreUnitRows (off_past false (unit_line u)) us rows
+pub first_seen : TokenLaws → (u : List Piece) (us : List (List Piece)) (row : Row) (rows : List Row) → AreRows [] (lines_from 0 1 (u ∷ us)) (row ∷ rows) → IsRow [] (unit_line u) row × AreUnitRows (turned false (unit_line u)) us rows
 first_seen laws u us row rows h =
     let first : h.0 ≡ row = let e = h.2 in cc in
     let later : h.1 ≡ rows = let e = h.2 in cc in
     let after = rows_from laws (unit_line u) [] (0 + byte_len (spelled u)) (1 + line_ends (spelled u)) us h.1 h.4 in (
       subst (IsRow [] (unit_line u)) first h.3,
-      subst (λ (b : Bool). AreUnitRows b us rows) (off_step [] (unit_line u)) (subst (AreUnitRows (is_off_after (unit_line u ∷ [])) us) later after),
+      subst (λ (b : Bool). AreUnitRows b us rows) (off_push [] (unit_line u)) (subst (AreUnitRows (is_off_after (unit_line u ∷ [])) us) later after),
     )
 
 -- logical lines and rows make a text that is cut at its blocks
-pub text_again : (v : Values) → SortLaws v → (text : List ℕ) (u : List Piece) (us : List (List Piece)) (row : Row) (rows : List Row) (new : Cut) → AreUnits (u ∷ us) → bytes_of (u ∷ us) ≡ text → StartsWithNoChar [] → IsRow [] (unit_line u) row → AreUnitRows (off_past false (unit_line u)) us rows → EachBinds (u ∷ us) → list_any says_skip_file (u ∷ us) ≡ false → first_string_skips (map unit_line (u ∷ us)) ≡ false → cut_rows new ≡ row ∷ rows → AreBlocks new → HasBlocks text (lines_from 0 1 (u ∷ us)) new
+pub text_again : (v : Values) → SortLaws v → (text : List ℕ) (u : List Piece) (us : List (List Piece)) (row : Row) (rows : List Row) (new : Cut) → AreUnits (u ∷ us) → bytes_of (u ∷ us) ≡ text → StartsWithNoChar [] → IsRow [] (unit_line u) row → AreUnitRows (turned false (unit_line u)) us rows → EachBinds (u ∷ us) → list_any says_skip_file (u ∷ us) ≡ false → first_string_skips (map unit_line (u ∷ us)) ≡ false → cut_rows new ≡ row ∷ rows → AreBlocks new → HasBlocks text (lines_from 0 1 (u ∷ us)) new
 text_again v laws text u us row rows new are bytes done first later binds unskipped no_string all blocks =
     let values = binds_from laws.tokens 0 1 (u ∷ us) binds in
     let whole : List Piece = flat (u ∷ us) in
@@ -68,7 +70,7 @@ text_again v laws text u us row rows new are bytes done first later binds unskip
       };
       unskipped = λ i. (comments_skip laws.tokens 0 1 (u ∷ us) ∙ unskipped) i || (strings_skip laws.tokens 0 1 (u ∷ us) ∙ no_string) i;
       rows = row ∷ rows;
-      seen = (row, rows, refl, first, rows_to laws.tokens (unit_line u) [] (0 + byte_len (spelled u)) (1 + line_ends (spelled u)) us rows (subst (λ (b : Bool). AreUnitRows b us rows) (sym (off_step [] (unit_line u))) later));
+      seen = (row, rows, refl, first, rows_to laws.tokens (unit_line u) [] (0 + byte_len (spelled u)) (1 + line_ends (spelled u)) us rows (subst (λ (b : Bool). AreUnitRows b us rows) (sym (off_push [] (unit_line u))) later));
       cut_at = record { all = all; blocks = blocks };
     }
 
@@ -128,7 +130,7 @@ pub ahead : (v : Values) → SortLaws v → (text sorted : List ℕ) (u : List P
 ahead v laws text sorted u us row rows body c blocks layouts is =
     let seen = first_seen laws.tokens u us row (cut_rows rows) (subst (AreRows [] (lines_from 0 1 (u ∷ us))) (prepend_rows row rows) c.seen) in
     let asks = or_parts (says_skip_file u) (list_any says_skip_file us) c.unskipped in
-    let z = again v laws (first_end text) (first_is_end text) (off_past false (unit_line u)) us rows body blocks c.are.2 seen.1 asks.1 layouts in
+    let z = again v laws (first_end text) (first_is_end text) (turned false (unit_line u)) us rows body blocks c.are.2 seen.1 asks.1 layouts in
     let plain : List ℕ = encode_utf8_all (spelled u) in
     let n : ℕ = mark_len (unit_line u) in
     let bytes : bytes_of (u ∷ z.units) ≡ sorted =

@@ -14,8 +14,8 @@ use Rattle.isort_sort.specs.Order.{AreInOrder}
 use Rattle.isort_sort.specs.Blocks.{Run}
 use Rattle.isort_sort.specs.Row.{Before, two, as_many, one, Row}
 use Rattle.isort_sort.specs.Sorted.{before_role, number_before, asked, is_indented, blanks_after}
-use Rattle.isort_sort.specs.Statement.{Statement, star, names, single, stands_alone, statement_of, statement_with, statement_cmp, item_cmp, same_statement}
-use Rattle.isort_sort.specs.Wrapping.{remark, statement_text}
+use Rattle.isort_sort.specs.Statement.{Statement, module_of, star, names, single, stands_alone, statement_of, statement_with, statement_cmp, item_cmp, same_statement}
+use Rattle.isort_sort.specs.Wrapping.{remark, statement_text, fits_line, IsCut}
 use Rattle.isort_sort.specs.LaidAgain.{asked_by, import_of, joined_comments, as_member, with_joined_comments, without_above}
 use Rattle.isort_sort.proofs.Orders.Contained.{in_map, map_in, in_filter, filter_in}
 use Rattle.isort_sort.proofs.Orders.Equality.{is_same, itself}
@@ -82,6 +82,17 @@ pub laid_at : (v : Values) (indentation : List ℕ) (members : List Member) (lai
 laid_at v indentation members [] s each h = absurd (nothing_in s h)
 laid_at v indentation members (t ∷ ts) s each h = ⊎_elim (λ (e : t ≡ s). subst (IsLaid v indentation members) e each.0) (λ k. laid_at v indentation members ts s each.1 k) (in_cons t ts s h)
 
+-- the statements of a block with their items and lines, whatever their comments
+abbrev pub IsInLines : Values → List ℕ → List Member → Laid → Type 0
+IsInLines v indentation members s = AreItemsOf v members s.statement s.items × IsCut (fits_line v indentation (module_of s.statement)) s.items s.cut
+
+pub record AreInLines (v : Values) (indentation : List ℕ) (members : List Member) (laid : List Laid) : Type 0 where
+  pub statements : AreStatements v members (map (λ s. s.statement) laid)
+  pub each : (s : Laid) → Contains laid s → IsInLines v indentation members s
+
+pub in_lines : (v : Values) (indentation : List ℕ) (members : List Member) (laid : List Laid) → AreLaid v indentation members laid → AreInLines v indentation members laid
+in_lines v indentation members laid is = record { statements = is.statements; each = λ s h. let own = laid_at v indentation members laid s is.each h in (own.items, own.cut) }
+
 -- an item of a statement is that of an import, which it imports again
 pub item_import : (v : Values) (members : List Member) (s : Statement) (items : List Item) (i : Item) → AreItemsOf v members s items → Contains items i → Contains (imports_of members) (import_of s i) × (statement_of v (import_of s i) ≡ s)
 item_import v members s items i o h =
@@ -92,15 +103,14 @@ item_import v members s items i o h =
     (subst (Contains (imports_of members)) again found.0, subst (λ (x : Imported). statement_of v x ≡ s) again of)
 
 -- the same is imported
-imports_again : (v : Values) (indentation : List ℕ) (members : List Member) (laid : List Laid) → AreLaid v indentation members laid → SameImports (imports_of members) (imports_of (map as_member laid))
+imports_again : (v : Values) (indentation : List ℕ) (members : List Member) (laid : List Laid) → AreInLines v indentation members laid → SameImports (imports_of members) (imports_of (map as_member laid))
 imports_again v indentation members laid o x = (there, back)
   where
     there : Contains (imports_of members) x → Contains (imports_of (map as_member laid)) x
     there h =
         let s = statement_of v x in
         let l = in_map (λ (t : Laid). t.statement) laid s ((o.statements.exactly s).1 (map_in (statement_of v) (imports_of members) x h)) in
-        let is = laid_at v indentation members laid l.0 o.each l.1 in
-        let item = (is.items.exactly (item_of x)).1 (map_in item_of (filter (belongs v l.0.statement) (imports_of members)) x (filter_in (belongs v l.0.statement) (imports_of members) x h (subst (λ (t : Statement). same_statement s t ≡ true) (sym l.2) (itself s)))) in
+        let item = ((o.each l.0 l.1).0.exactly (item_of x)).1 (map_in item_of (filter (belongs v l.0.statement) (imports_of members)) x (filter_in (belongs v l.0.statement) (imports_of members) x h (subst (λ (t : Statement). same_statement s t ≡ true) (sym l.2) (itself s)))) in
         let made : import_of l.0.statement (item_of x) ≡ x = ap (λ t. import_of t (item_of x)) l.2 ∙ import_again v x in
         flat_map_in (λ (m : Member). m.imports) (map as_member laid) (as_member l.0) x (map_in as_member laid l.0 l.1) (subst (Contains (map (import_of l.0.statement) l.0.items)) made (map_in (import_of l.0.statement) l.0.items (item_of x) item))
 
@@ -109,8 +119,7 @@ imports_again v indentation members laid o x = (there, back)
         let m = in_flat_map (λ (m : Member). m.imports) (map as_member laid) x h in
         let l = in_map as_member laid m.0 m.1 in
         let i = in_map (import_of l.0.statement) l.0.items x (subst (λ (t : Member). Contains t.imports x) (sym l.2) m.2) in
-        let is = laid_at v indentation members laid l.0 o.each l.1 in
-        subst (Contains (imports_of members)) i.2 (item_import v members l.0.statement l.0.items i.0 is.items i.1).0
+        subst (Contains (imports_of members)) i.2 (item_import v members l.0.statement l.0.items i.0 (o.each l.0 l.1).0 i.1).0
 
 -- the first import of a member that a statement is written as is that statement's
 begins_itself : (v : Values) (members : List Member) (t : Laid) (s : Statement) → AreItemsOf v members t.statement t.items → (some : Item) → Contains t.items some → begins_with v s (as_member t).imports ≡ same_statement t.statement s
@@ -121,11 +130,10 @@ begins_itself v members t s o some h = by t.items (λ i k. (item_import v member
     by (i ∷ is) each k = ap (λ w. same_statement w s) (each i (head_in i is))
 
 -- each statement has an item
-pub some_item : (v : Values) (indentation : List ℕ) (members : List Member) (laid : List Laid) (t : Laid) → AreLaid v indentation members laid → Contains laid t → (i : Item) × Contains t.items i
+pub some_item : (v : Values) (indentation : List ℕ) (members : List Member) (laid : List Laid) (t : Laid) → AreInLines v indentation members laid → Contains laid t → (i : Item) × Contains t.items i
 some_item v indentation members laid t o h =
     let x = in_map (statement_of v) (imports_of members) t.statement ((o.statements.exactly t.statement).0 (map_in (λ (l : Laid). l.statement) laid t h)) in
-    let is = laid_at v indentation members laid t o.each h in
-    (item_of x.0, (is.items.exactly (item_of x.0)).1 (map_in item_of (filter (belongs v t.statement) (imports_of members)) x.0 (filter_in (belongs v t.statement) (imports_of members) x.0 x.1 (subst (λ (w : Statement). same_statement w t.statement ≡ true) (sym x.2) (itself t.statement)))))
+    (item_of x.0, ((o.each t h).0.exactly (item_of x.0)).1 (map_in item_of (filter (belongs v t.statement) (imports_of members)) x.0 (filter_in (belongs v t.statement) (imports_of members) x.0 x.1 (subst (λ (w : Statement). same_statement w t.statement ≡ true) (sym x.2) (itself t.statement)))))
 
 -- of statements that strictly ascend, one member begins with each
 abbrev BeginWithOne : Values → List Laid → Type 0
@@ -155,8 +163,8 @@ one_said : (cs : List (List ℕ)) → first_texts (joined_comments cs ++ []) ≡
 one_said [] = refl
 one_said (c ∷ cs) = refl
 
--- the written block is laid out as it was
-pub laid_again : (v : Values) → AreOrders v → (indentation : List ℕ) (members : List Member) (laid : List Laid) → AreLaid v indentation members laid → AreLaid v indentation (map as_member laid) (map with_joined_comments laid)
+-- the written block is laid out as it was, whatever comments it was written with
+pub laid_again : (v : Values) → AreOrders v → (indentation : List ℕ) (members : List Member) (laid : List Laid) → AreInLines v indentation members laid → AreLaid v indentation (map as_member laid) (map with_joined_comments laid)
 laid_again v o indentation members laid is = record {
   statements = subst (AreStatements v (map as_member laid)) (same_names laid) (same_statements v members (map as_member laid) (map (λ (l : Laid). l.statement) laid) same is.statements);
   each = each laid (λ s h. h);
@@ -170,15 +178,14 @@ laid_again v o indentation members laid is = record {
     same_names (l ∷ ls) = ap (λ ss. l.statement ∷ ss) (same_names ls)
 
     alike : BeginWithOne v laid
-    alike t h s = let i = some_item v indentation members laid t is h in begins_itself v members t s (laid_at v indentation members laid t is.each h).items i.0 i.1
+    alike t h s = let i = some_item v indentation members laid t is h in begins_itself v members t s (is.each t h).0 i.0 i.1
 
     one_again : (s : Laid) → Contains laid s → IsLaid v indentation (map as_member laid) (with_joined_comments s)
     one_again s h =
-        let old = laid_at v indentation members laid s is.each h in
         let mine = one_owned v o laid s is.statements.ascend alike h in
         record {
-          items = same_items v members (map as_member laid) s.statement s.items same old.items;
-          cut = old.cut;
+          items = same_items v members (map as_member laid) s.statement s.items same (is.each s h).0;
+          cut = (is.each s h).1;
           comments = sym (ap (λ (ms : List Member). first_texts (flat_map (λ m. m.comments) ms)) mine ∙ one_said s.comments);
           above = sym (ap (λ (ms : List Member). flat_map (λ m. m.above) ms) mine ∙ append-nil s.above);
         }
@@ -255,119 +262,11 @@ blanks_kept v run new kept row rows (o ∷ os) same asks =
     by true = refl
     by false = twice v.lines_after_imports (number_before kept (before_role row.role))
 
--- members, of which those that a statement begins have no comments above
-quiet : Values → Statement → Member → Member
-quiet v s m = if begins_with v s m.imports then record { imports = m.imports; comments = m.comments; above = [] } else m
-
-quiet_true : (v : Values) (s : Statement) (m : Member) → begins_with v s m.imports ≡ true → quiet v s m ≡ record { imports = m.imports; comments = m.comments; above = [] }
-unfolding quiet
-quiet_true v s m h = ap (λ b. if b then record { imports = m.imports; comments = m.comments; above = [] } else m) h
-
-quiet_false : (v : Values) (s : Statement) (m : Member) → begins_with v s m.imports ≡ false → quiet v s m ≡ m
-unfolding quiet
-quiet_false v s m h = ap (λ b. if b then record { imports = m.imports; comments = m.comments; above = [] } else m) h
-
-record IsQuietMember (m n : Member) : Type 0 where
-  imports_same : n.imports ≡ m.imports
-  comments_same : n.comments ≡ m.comments
-
-quiet_same : (v : Values) (s : Statement) (m : Member) → IsQuietMember m (quiet v s m)
-unfolding quiet
-quiet_same v s m = by (begins_with v s m.imports)
-  where
-    by : (b : Bool) → IsQuietMember m (if b then record { imports = m.imports; comments = m.comments; above = [] } else m)
-    by true = record { imports_same = refl; comments_same = refl }
-    by false = record { imports_same = refl; comments_same = refl }
-
-quiet_imports : (v : Values) (s : Statement) (ms : List Member) → imports_of ms ≡ imports_of (map (quiet v s) ms)
-quiet_imports v s [] = refl
-quiet_imports v s (m ∷ ms) = λ i. sym (quiet_same v s m).imports_same i ++ quiet_imports v s ms i
-
--- what a statement takes of members, one by one
-taken : {X : Type 0} (f : Member → List X) (v : Values) (t : Statement) (m : Member) (ms : List Member) → flat_map f (owned v (m ∷ ms) t) ≡ cond (begins_with v t m.imports) (f m) [] ++ flat_map f (owned v ms t)
-taken f v t m ms = by (begins_with v t m.imports)
-  where
-    by : (b : Bool) → flat_map f (cond b (m ∷ owned v ms t) (owned v ms t)) ≡ cond b (f m) [] ++ flat_map f (owned v ms t)
-    by true = refl
-    by false = refl
-
-quiet_comments : (v : Values) (s t : Statement) (ms : List Member) → flat_map (λ m. m.comments) (owned v ms t) ≡ flat_map (λ m. m.comments) (owned v (map (quiet v s) ms) t)
-quiet_comments v s t [] = refl
-quiet_comments v s t (m ∷ ms) =
-    let q = quiet_same v s m in
-    taken (λ n. n.comments) v t m ms
-    ∙ (λ i. cond (begins_with v t (sym q.imports_same i)) (sym q.comments_same i) [] ++ quiet_comments v s t ms i)
-    ∙ sym (taken (λ n. n.comments) v t (quiet v s m) (map (quiet v s) ms))
-
-quiet_own : (v : Values) (s : Statement) (ms : List Member) → flat_map (λ m. m.above) (owned v (map (quiet v s) ms) s) ≡ []
-quiet_own v s [] = refl
-quiet_own v s (m ∷ ms) =
-    taken (λ n. n.above) v s (quiet v s m) (map (quiet v s) ms)
-    ∙ (λ i. by (begins_with v s m.imports) refl i ++ quiet_own v s ms i)
-  where
-    by : (b : Bool) → begins_with v s m.imports ≡ b → cond (begins_with v s (quiet v s m).imports) (quiet v s m).above [] ≡ []
-    by true e = (λ i. cond (begins_with v s (quiet_true v s m e i).imports) (quiet_true v s m e i).above []) ∙ ap (λ b. cond b [] []) e
-    by false e = (λ i. cond (begins_with v s (quiet_false v s m e i).imports) (quiet_false v s m e i).above []) ∙ ap (λ b. cond b m.above []) e
-
--- another statement takes what it took
-begins_one : (v : Values) (s t : Statement) (is : List Imported) → (s ≡ t → ⊥) → begins_with v t is ≡ true → begins_with v s is ≡ false
-begins_one v s t [] apart h = refl
-begins_one v s t (i ∷ is) apart h = false_from_ne_true _ (λ k. apart (sym (is_same (statement_of v i) s k) ∙ is_same (statement_of v i) t h))
-
-quiet_other : (v : Values) (s t : Statement) (ms : List Member) → (s ≡ t → ⊥) → flat_map (λ m. m.above) (owned v ms t) ≡ flat_map (λ m. m.above) (owned v (map (quiet v s) ms) t)
-quiet_other v s t [] apart = refl
-quiet_other v s t (m ∷ ms) apart =
-    taken (λ n. n.above) v t m ms
-    ∙ (λ i. by (begins_with v t m.imports) refl i ++ quiet_other v s t ms apart i)
-    ∙ sym (taken (λ n. n.above) v t (quiet v s m) (map (quiet v s) ms))
-  where
-    by : (b : Bool) → begins_with v t m.imports ≡ b → cond (begins_with v t m.imports) m.above [] ≡ cond (begins_with v t (quiet v s m).imports) (quiet v s m).above []
-    by true e = let same = quiet_false v s m (begins_one v s t m.imports apart e) in λ i. cond (begins_with v t (sym same i).imports) (sym same i).above []
-    by false e =
-        ap (λ b. cond b m.above []) e
-        ∙ sym (ap (λ (is : List Imported). cond (begins_with v t is) (quiet v s m).above []) (quiet_same v s m).imports_same ∙ ap (λ b. cond b (quiet v s m).above []) e)
-
--- a block whose first statement has no comments above is laid out as the others are
+-- the comments above the first statement may be left out
 pub first_again : (v : Values) → AreOrders v → (indentation : List ℕ) (members : List Member) (s : Laid) (ss : List Laid) → AreLaid v indentation members (s ∷ ss) → AreLaid v indentation (map as_member (without_above s ∷ ss)) (map with_joined_comments (without_above s ∷ ss))
-unfolding IsStrictlySortedBy
-first_again v o indentation members s ss is = laid_again v o indentation others (without_above s ∷ ss) quieted
+first_again v o indentation members s ss is = laid_again v o indentation members (without_above s ∷ ss) (record { statements = is.statements; each = each })
   where
-    others : List Member
-    others = map (quiet v s.statement) members
-
-    same : imports_of members ≡ imports_of others
-    same = quiet_imports v s.statement members
-
-    apart : (t : Laid) → Contains ss t → (s.statement ≡ t.statement → ⊥)
-    apart t h e =
-        never_less (statement_cmp_total v o) t.statement
-        (subst (λ (x : Statement). statement_cmp v x t.statement ≡ Less) e (all_in (λ w. statement_cmp v s.statement w ≡ Less) (map (λ (l : Laid). l.statement) ss) t.statement is.statements.ascend.0 (map_in (λ (l : Laid). l.statement) ss t h)))
-
-    items : (t : Laid) → AreItemsOf v members t.statement t.items → AreItemsOf v others t.statement t.items
-    items t h = subst (λ (l : List Imported). AreInOrder (item_cmp v) (map item_of (filter (belongs v t.statement) l)) t.items) same h
-
-    one : (t : Laid) → Contains ss t → IsLaid v indentation members t → IsLaid v indentation others t
-    one t h l = record {
-      items = items t l.items;
-      cut = l.cut;
-      comments = l.comments ∙ ap first_texts (quiet_comments v s.statement t.statement members);
-      above = l.above ∙ quiet_other v s.statement t.statement members (apart t h);
-    }
-
-    each : (ls : List Laid) → ((t : Laid) → Contains ls t → Contains ss t) → EachIsLaid v indentation members ls → EachIsLaid v indentation others ls
-    each [] inside h = tt
-    each (l ∷ ls) inside h = (one l (inside l (head_in l ls)) h.0, each ls (λ t k. inside t (tail_in l ls t k)) h.1)
-
-    first : IsLaid v indentation members s → IsLaid v indentation others (without_above s)
-    first l = record {
-      items = items s l.items;
-      cut = l.cut;
-      comments = l.comments ∙ ap first_texts (quiet_comments v s.statement s.statement members);
-      above = sym (quiet_own v s.statement members);
-    }
-
-    quieted : AreLaid v indentation others (without_above s ∷ ss)
-    quieted = record {
-      statements = subst (λ (l : List Imported). AreInOrder (statement_cmp v) (map (statement_of v) l) (map (λ (l : Laid). l.statement) (s ∷ ss))) same is.statements;
-      each = (first is.each.0, each ss (λ t k. k) is.each.1);
-    }
+    each : (t : Laid) → Contains (without_above s ∷ ss) t → IsInLines v indentation members t
+    each t h =
+        ⊎_elim (λ (e : without_above s ≡ t). subst (IsInLines v indentation members) e (is.each.0.items, is.each.0.cut))
+        (λ k. (in_lines v indentation members (s ∷ ss) is).each t (tail_in s ss t k)) (in_cons (without_above s) ss t h)

@@ -22,12 +22,12 @@ use Rattle.isort_sort.specs.Sorted.{last_row}
 use Rattle.isort_sort.specs.WrittenLine.{mark_pieces, mark_bytes, end_pieces, IsWritten}
 use Rattle.isort_sort.proofs.LineLaws.Units.{IsUnit, begins-first}
 use Rattle.isort_sort.proofs.WrittenLines.UnitRows.{TokenLaws}
-use Rattle.isort_sort.proofs.WrittenLines.LineUnits.{NeighbourLaw, ended_unit, blank_row, IsEndedUnit, IsLine, AreLines, lines_append, row_of, end_encoded, blank_units, blank_rows, blank_is_ended, blank_lines, blank_text, blank_between, blank_blank, blank_no_comments, AreAbove, above_units, above_rows, above_lines, above_text, above_comments, above_between}
+use Rattle.isort_sort.proofs.WrittenLines.LineUnits.{NeighbourLaw, ended_unit, blank_row, IsEndedUnit, IsLine, AreLines, lines_append, row_of, blank_units, blank_rows, blank_is_ended, blank_lines, blank_text, blank_between, blank_blank, blank_no_comments, AreAbove, above_units, above_rows, above_lines, above_text, above_comments, above_between}
 use Rattle.isort_sort.proofs.LineLaws.Joined.{ended_lines, bytes_of, bytes_of-cons, bytes_of-append, all-append, count-replicate, regroup}
 use Rattle.std.proofs.lemmas.List.Concat.{flat_map-append}
 use Rattle.isort_sort.proofs.LineLaws.Indented.{after_mark}
 use Rattle.std.proofs.Math.Bool.{and-false}
-use Rattle.isort_sort.proofs.LineLaws.Parts.{spelled-append}
+use Rattle.isort_sort.proofs.LineLaws.Parts.{spelled-append, part-end}
 
 -- a statement that can be written: its pieces, and that neither its comments nor those above say that the file is skipped
 pub record IsWritable (v : Values) (indentation end : List ℕ) (s : Laid) : Type 0 where
@@ -105,7 +105,7 @@ missing false end = end
 -- a statement's bytes
 statement_bytes : (v : Values) (indentation end : List ℕ) (a : Laid) (ended : Bool) → IsLineEnd end → (r : IsWritable v indentation end a) → encode_utf8_all (spelled (r.pieces ++ end_pieces ended end)) ≡ own_text v indentation end a ++ closing ended end
 statement_bytes v indentation end a true is r =
-    ap encode_utf8_all (spelled-append r.pieces (end_pieces true end)) ∙ encodes-append (spelled r.pieces) (end ++ []) ∙ (λ i. r.written.spell i ++ end_encoded end is i)
+    ap encode_utf8_all (spelled-append r.pieces (end_pieces true end)) ∙ encodes-append (spelled r.pieces) (end ++ []) ∙ (λ i. r.written.spell i ++ (part-end end is).spell i)
 statement_bytes v indentation end a false is r = ap (λ l. encode_utf8_all (spelled l)) (append-nil r.pieces) ∙ r.written.spell ∙ sym (append-nil (own_text v indentation end a))
 
 last_bytes : (v : Values) (indentation end : List ℕ) (a : Laid) (ended : Bool) (n : ℕ) → IsLineEnd end → (r : IsWritable v indentation end a) → bytes_of ((r.pieces ++ end_pieces ended end) ∷ blank_units (blanks_of ended n) end) ++ missing ended end ≡ ended_lines end (own_text v indentation end a ∷ replicate (blanks_of ended n) [])

@@ -32,29 +32,17 @@ feed_is c h = eqb-true c 10 (⊎_elim (λ (e : (c == 10) ≡ true). e) (λ (e : 
 other_test : (test : ℕ → Bool) (c : ℕ) → test 10 ≡ false → test c ≡ true → is_line_feed c ≡ false
 other_test test c none passes = false_from_ne_true _ (λ h. both_ways _ none (sym (ap test (feed_is c h)) ∙ passes))
 
-mark_ten : is_mark 10 ≡ false
-unfolding is_mark
-mark_ten = refl
+record TenBeginsNone : Type 0 where
+  mark_ten : is_mark 10 ≡ false
+  space_ten : is_space 10 ≡ false
+  operator_ten : is_operator 10 ≡ false
+  hash_ten : is_hash 10 ≡ false
+  slash_ten : is_backslash 10 ≡ false
+  quote_ten : is_quote 10 ≡ false
 
-space_ten : is_space 10 ≡ false
-unfolding is_space
-space_ten = refl
-
-operator_ten : is_operator 10 ≡ false
-unfolding is_operator
-operator_ten = refl
-
-hash_ten : is_hash 10 ≡ false
-unfolding is_hash
-hash_ten = refl
-
-slash_ten : is_backslash 10 ≡ false
-unfolding is_backslash
-slash_ten = refl
-
-quote_ten : is_quote 10 ≡ false
-unfolding is_quote
-quote_ten = refl
+ten : TenBeginsNone
+unfolding is_mark is_space is_operator is_hash is_backslash is_quote
+ten = record { mark_ten = refl; space_ten = refl; operator_ten = refl; hash_ten = refl; slash_ten = refl; quote_ten = refl }
 
 feed_breaks : (c : ℕ) → is_line_feed c ≡ true → is_break c ≡ true
 unfolding is_break
@@ -67,7 +55,7 @@ prefix_ten (b ∷ []) = refl
 prefix_ten (b ∷ c ∷ cs) = refl
 
 prefix_feed : (prefix : List ℕ) (q : ℕ) (more : List ℕ) → IsPrefix prefix → is_quote q ≡ true → begins is_line_feed (prefix ++ q ∷ more) ≡ false
-prefix_feed [] q more is quote = other_test is_quote q quote_ten quote
+prefix_feed [] q more is quote = other_test is_quote q ten.quote_ten quote
 prefix_feed (c ∷ cs) q more (inl none) quote = absurd (cc)
 prefix_feed (c ∷ cs) q more (inr is) quote = false_from_ne_true _ (λ h. both_ways _ (prefix_ten cs) (sym (ap (λ (x : ℕ). is_prefix (x ∷ cs)) (feed_is c h)) ∙ is))
 
@@ -82,8 +70,8 @@ field_prefix_feed [] more is = absurd (cc)
 field_prefix_feed (c ∷ cs) more is = false_from_ne_true _ (λ h. both_ways _ (field_prefix_ten cs) (sym (ap (λ (x : ℕ). is_field_prefix (x ∷ cs)) (feed_is c h)) ∙ is))
 
 piece_feed : WordsLaw → (class : Class) (text rest : List ℕ) → InClass class text → is_line_end_class class ≡ false → begins is_line_feed (text ++ rest) ≡ false
-piece_feed law mark text rest is h = ap (λ (t : List ℕ). begins is_line_feed (t ++ rest)) is.1 ∙ other_test is_mark is.0 mark_ten is.2
-piece_feed law space text rest is h = ap (λ (t : List ℕ). begins is_line_feed (t ++ rest)) is.2 ∙ other_test is_space is.0 space_ten (and_parts (is_space is.0) (list_all is_space is.1) (ap (list_all is_space) (sym is.2) ∙ is.3)).0
+piece_feed law mark text rest is h = ap (λ (t : List ℕ). begins is_line_feed (t ++ rest)) is.1 ∙ other_test is_mark is.0 ten.mark_ten is.2
+piece_feed law space text rest is h = ap (λ (t : List ℕ). begins is_line_feed (t ++ rest)) is.2 ∙ other_test is_space is.0 ten.space_ten (and_parts (is_space is.0) (list_all is_space is.1) (ap (list_all is_space) (sym is.2) ∙ is.3)).0
 piece_feed law word text rest is h =
     let none = law text is in
     let first = (or_parts (is_break is.0) (list_any is_break is.1) (ap (list_any is_break) (sym is.2) ∙ none)).0 in
@@ -98,9 +86,9 @@ piece_feed law string text rest (inl (inr (s, none))) h =
     let q = s.quote in
     ap (λ (t : List ℕ). begins is_line_feed (t ++ rest)) s.spell ∙ ap (begins is_line_feed) (append_assoc s.prefix (q ∷ q ∷ q ∷ (joined s.items ++ q ∷ q ∷ q ∷ [])) rest)
     ∙ prefix_feed s.prefix q ((q ∷ q ∷ (joined s.items ++ q ∷ q ∷ q ∷ [])) ++ rest) s.begun s.opens
-piece_feed law operator text rest is h = ap (λ (t : List ℕ). begins is_line_feed (t ++ rest)) is.1 ∙ other_test is_operator is.0 operator_ten is.2
-piece_feed law comment text rest is h = ap (λ (t : List ℕ). begins is_line_feed (t ++ rest)) is.2 ∙ other_test is_hash is.0 hash_ten is.3
-piece_feed law join text rest is h = ap (λ (t : List ℕ). begins is_line_feed (t ++ rest)) is.2 ∙ other_test is_backslash is.0 slash_ten is.3
+piece_feed law operator text rest is h = ap (λ (t : List ℕ). begins is_line_feed (t ++ rest)) is.1 ∙ other_test is_operator is.0 ten.operator_ten is.2
+piece_feed law comment text rest is h = ap (λ (t : List ℕ). begins is_line_feed (t ++ rest)) is.2 ∙ other_test is_hash is.0 ten.hash_ten is.3
+piece_feed law join text rest is h = ap (λ (t : List ℕ). begins is_line_feed (t ++ rest)) is.2 ∙ other_test is_backslash is.0 ten.slash_ten is.3
 piece_feed law line_end text rest is h = absurd (cc)
 
 -- a line that is blank has no row of another kind

@@ -13,9 +13,9 @@ use Rattle.py_lines.specs.Piece.{Class, line_end, Piece, begins, ends, spelled}
 use Rattle.isort_sort.specs.Sorted.{first_end}
 use Rattle.isort_sort.specs.WrittenLine.{end_pieces}
 use Rattle.isort_sort.proofs.LineLaws.Units.{IsUnit, MayFollowUnit, AreUnits, flat, begins-first, ends-last}
-use Rattle.isort_sort.proofs.WrittenLines.LineUnits.{end_encoded, are_some, IsEndedUnit}
+use Rattle.isort_sort.proofs.WrittenLines.LineUnits.{are_some, IsEndedUnit}
 use Rattle.isort_sort.proofs.LineLaws.Joined.{none-append, bytes_of, bytes_of-cons}
-use Rattle.isort_sort.proofs.LineLaws.Parts.{spelled-append}
+use Rattle.isort_sort.proofs.LineLaws.Parts.{spelled-append, part-end}
 
 -- bytes of line ends
 abbrev pub is_end_byte : ℕ → Bool
@@ -98,7 +98,7 @@ closed_unit u is (inr (body, last, same, class, deep)) =
       text = encode_utf8_all (spelled body);
       end = last.text;
       is = closes;
-      bytes = ap (λ l. encode_utf8_all (spelled l)) same ∙ ap encode_utf8_all (spelled-append body (last ∷ [])) ∙ encodes-append (spelled body) (last.text ++ []) ∙ ap (λ (t : List ℕ). encode_utf8_all (spelled body) ++ t) (end_encoded last.text closes);
+      bytes = ap (λ l. encode_utf8_all (spelled l)) same ∙ ap encode_utf8_all (spelled-append body (last ∷ [])) ∙ encodes-append (spelled body) (last.text ++ []) ∙ ap (λ (t : List ℕ). encode_utf8_all (spelled body) ++ t) (part-end last.text closes).spell;
       last = ap (λ l. ends is_return (spelled l)) same ∙ ends-last is_return body last good;
     }
 

@@ -1,7 +1,7 @@
 -- Logical lines that sorting writes, one after another: blank lines, and comments above a statement.
 use Rattle.std.proofs.Common.{◌≡◌, ℕ, suc, zero, Bool, true, false, ◌&&◌, ◌||◌, List, [], ◌∷◌, ◌++◌, map, refl, sym, ap, ◌∙◌, subst, append_assoc, append-nil, inr, arith}
 use Rattle.std.specs.Prelude.{encode_utf8_all, nat_lt, replicate}
-use Rattle.std.specs.List.{list_any, list_all}
+use Rattle.std.specs.List.{AllByRecursion, list_any, list_all}
 use Rattle.std.specs.Str.{all_scalars}
 use Rattle.std.proofs.lemmas.Bool.{and_parts}
 use Rattle.std.proofs.lemmas.Bool.Decides.{nat_tests}
@@ -32,7 +32,7 @@ use Rattle.isort_sort.proofs.LineLaws.Joined.{ended_lines, bytes_of, bytes_of-co
 use Rattle.isort_sort.proofs.WrittenLines.UnitRows.{TokenLaws, unit_line, comments_of_unit, IsUnitRow, AreUnitRows, role_in_block, silent}
 use Rattle.isort_sort.proofs.Rows.Spaces.{space_no_feed}
 use Rattle.std.proofs.Math.Bool.{and-false, or-false, or-true}
-use Rattle.isort_sort.proofs.LineLaws.Parts.{remarks_in, spelled-append, scalars-append, space_pieces, spaces_low, low-spell, low-scalars}
+use Rattle.isort_sort.proofs.LineLaws.Parts.{remarks_in, spelled-append, scalars-append, space_pieces, spaces_low, low-spell, low-scalars, part-end}
 
 -- simple neighbouring pieces are read
 abbrev pub NeighbourLaw : Type 0
@@ -151,9 +151,6 @@ shallow_end : (d : ℕ) (ps : List Piece) (end : List ℕ) → IsShallow d ps �
 shallow_end d [] end h = ((λ e. absurd (cc)), (λ e. absurd (cc)), tt)
 shallow_end d (p ∷ ps) end h = (h.0, h.1, shallow_end (depth_after d p) ps end h.2)
 
-end_scalars : (end : List ℕ) → IsLineEnd end → all_scalars (end ++ []) ≡ true
-end_scalars end is = by_end (λ e. all_scalars (e ++ []) ≡ true) end refl refl refl is
-
 -- pieces that are read alone and before a line end, as one logical line with it
 pub ended_unit : NeighbourLaw → (end : List ℕ) (ps : List Piece) → IsLineEnd end → AreSimple ps → MayTouch (ps ++ end_pieces true end) → all_scalars (spelled ps) ≡ true → IsBalanced ps → IsShallow 0 ps → cut 0 (ps ++ end_pieces true end) ≡ (ps ++ end_pieces true end) ∷ [] → IsUnit (ps ++ end_pieces true end)
 ended_unit law end ps is simple touch scalars balanced shallow whole = record {
@@ -162,7 +159,7 @@ ended_unit law end ps is simple touch scalars balanced shallow whole = record {
     balanced = balance.both (ps ++ end_pieces true end) ps (end_pieces true end) refl balanced (balance.one (end_pieces true end) (record { class = line_end; text = end }) refl refl);
     shallow = shallow_end 0 ps end shallow;
   };
-  scalars = ap all_scalars (spelled-append ps (end_pieces true end)) ∙ scalars-append (spelled ps) (end ++ []) scalars (end_scalars end is);
+  scalars = ap all_scalars (spelled-append ps (end_pieces true end)) ∙ scalars-append (spelled ps) (end ++ []) scalars (part-end end is).scalars;
   whole = whole;
 }
 
@@ -199,16 +196,11 @@ pub blank_lines : NeighbourLaw → (n : ℕ) (end : List ℕ) → IsLineEnd end 
 blank_lines law zero end is = tt
 blank_lines law (suc n) end is = (blank_line law end is, blank_lines law n end is)
 
--- a line end is its own UTF-8
-pub end_encoded : (end : List ℕ) → IsLineEnd end → encode_utf8_all (end ++ []) ≡ end
-unfolding encode
-end_encoded end is = by_end (λ e. encode_utf8_all (e ++ []) ≡ e) end refl refl refl is
-
 pub blank_text : (n : ℕ) (end : List ℕ) → IsLineEnd end → bytes_of (blank_units n end) ≡ ended_lines end (replicate n [])
 blank_text zero end is = refl
 blank_text (suc n) end is =
     bytes_of-cons (end_pieces true end) (blank_units n end)
-    ∙ (λ i. end_encoded end is i ++ blank_text n end is i)
+    ∙ (λ i. (part-end end is).spell i ++ blank_text n end is i)
 
 pub blank_between : (n : ℕ) (end : List ℕ) → list_all stands_between (blank_rows n end) ≡ true
 blank_between zero end = refl
@@ -234,8 +226,7 @@ pub record IsAbove (text : List ℕ) : Type 0 where
   pub unskipped : says action.SkipFile text ≡ false
 
 abbrev pub AreAbove : List (List ℕ) → Type 0
-AreAbove [] = Unit {0}
-AreAbove (c ∷ cs) = IsAbove c × AreAbove cs
+AreAbove texts = AllByRecursion IsAbove texts
 
 -- indentation is ASCII
 pub indentation_encoded : (indentation : List ℕ) → list_all is_space indentation ≡ true → encode_utf8_all indentation ≡ indentation
@@ -256,7 +247,7 @@ pub comment_text : (indentation text end : List ℕ) (above : IsAbove text) → 
 comment_text indentation text end above spaces is =
     ap encode_utf8_all (space_spelled indentation (record { class = comment; text = above.characters } ∷ end_pieces true end))
     ∙ encodes-append indentation (above.characters ++ (end ++ []))
-    ∙ (λ i. indentation_encoded indentation spaces i ++ (encodes-append above.characters (end ++ []) ∙ (λ j. sym above.spell j ++ end_encoded end is j)) i)
+    ∙ (λ i. indentation_encoded indentation spaces i ++ (encodes-append above.characters (end ++ []) ∙ (λ j. sym above.spell j ++ (part-end end is).spell j)) i)
     ∙ sym (append_assoc indentation text end)
 
 -- it is read as one line, begins no mark, and doesn't begin with LF

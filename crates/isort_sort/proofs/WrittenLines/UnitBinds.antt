@@ -1,7 +1,7 @@
 -- What logical lines bind, and whether they ask for the text to be left as it is, wherever they stand.
 use Rattle.std.proofs.Common.{◌≡◌, ℕ, ◌+◌, Bool, true, false, cond, ◌&&◌, ◌||◌, List, [], ◌∷◌, ◌++◌, map, refl, sym, ap, ◌∙◌, subst}
-use Rattle.std.specs.Prelude.{slice_get, slice_range}
-use Rattle.std.specs.List.{list_any}
+use Rattle.std.specs.Prelude.{slice_get, slice_range, if◌then◌else◌}
+use Rattle.std.specs.List.{AllByRecursion, list_any}
 use Rattle.std.proofs.lemmas.Bool.{both_ways, or_parts}
 use Rattle.py_lines.specs.LogicalLine.{LogicalLine, byte_len, line_ends, is_code_class, is_comment_class, tokens_of_piece, tokens_from, kind_of, line_of, lines_from}
 use Rattle.py_lines.specs.Piece.{Class, word, string, operator, join, Piece, spelled}
@@ -16,7 +16,7 @@ use Rattle.py_imports.specs.Statement.{significant, starts}
 use Rattle.py_imports.specs.declared.action_comment.ActionComment.TheVariants as action
 use Rattle.isort_sort.specs.Line.{comment_texts}
 use Rattle.isort_sort.specs.Row.{is_comment_kind, Role, member, comments, blank, other, Row, HasRole, is_string, string_skips, first_string_skips}
-use Rattle.isort_sort.proofs.Rows.Moved.{DifferInLinesAlone, alike, significant_alike, moved}
+use Rattle.isort_sort.proofs.Rows.Moved.{still, still_alike, significant_alike, moved}
 use Rattle.isort_sort.proofs.WrittenLines.UnitRows.{TokenLaws, unit_line, comments_of_unit, role_in_block}
 use Rattle.isort_sort.proofs.WrittenLines.LineUnits.{AreLines, says_skip_file}
 
@@ -24,17 +24,11 @@ use Rattle.isort_sort.proofs.WrittenLines.LineUnits.{AreLines, says_skip_file}
 abbrev pub HasValues : LogicalLine → Type 0
 HasValues line = (values : List BindingValue) × Binds line values
 
+abbrev pub UnitBinds : List Piece → Type 0
+UnitBinds u = HasValues (unit_line u)
+
 abbrev pub EachBinds : List (List Piece) → Type 0
-EachBinds [] = Unit {0}
-EachBinds (u ∷ us) = HasValues (unit_line u) × EachBinds us
-
-pub binds_append : (us vs : List (List Piece)) → EachBinds us → EachBinds vs → EachBinds (us ++ vs)
-binds_append [] vs h k = k
-binds_append (u ∷ us) vs h k = (h.0, binds_append us vs h.1 k)
-
-pub binds_first : (us vs : List (List Piece)) → EachBinds (us ++ vs) → EachBinds us × EachBinds vs
-binds_first [] vs h = (tt, h)
-binds_first (u ∷ us) vs h = let later = binds_first us vs h.1 in ((h.0, later.0), later.1)
+EachBinds us = AllByRecursion UnitBinds us
 
 -- comments and blank lines have no tokens of statements
 piece_no_code : (start stop line : ℕ) (class : Class) (text : List ℕ) (ts : List Token) → is_code_class class ≡ false → significant (tokens_of_piece start stop line class text ++ ts) ≡ significant ts
@@ -109,16 +103,20 @@ comments_skip laws offset line (u ∷ us) =
     λ i. list_any (says action.SkipFile) ((comments_of_unit laws offset line u ∙ sym (comments_of_unit laws 0 1 u)) i)
     || comments_skip laws (offset + byte_len (spelled u)) (line + line_ends (spelled u)) us i
 
-first_token : (l m : LogicalLine) (ts us : List Token) → l.text ≡ m.text → DifferInLinesAlone ts us → (a b : Bool) → a ≡ b → cond (is_nothing ts) a (string_skips l (slice_get ts 0)) ≡ cond (is_nothing us) b (string_skips m (slice_get us 0))
-first_token l m [] [] text h a b e = e
-first_token l m [] (u ∷ us) text h a b e = absurd h
-first_token l m (t ∷ ts) [] text h a b e = absurd h
-first_token l m (t ∷ ts) (u ∷ us) text h a b e = λ i. is_string (h.0 i).kind && says action.SkipFile (slice_range (text i) (h.0 i).start (h.0 i).stop)
+abbrev first_skips : LogicalLine → Bool → List Token → Bool
+first_skips line later ts = if is_nothing ts then later else string_skips line (slice_get ts 0)
+
+first_still : (l m : LogicalLine) → l.text ≡ m.text → (b : Bool) (ts : List Token) → first_skips l b (map still ts) ≡ first_skips m b ts
+first_still l m text b [] = refl
+first_still l m text b (t ∷ ts) = ap (λ x. is_string t.kind && says action.SkipFile (slice_range x t.start t.stop)) text
 
 pub strings_skip : TokenLaws → (offset line : ℕ) (us : List (List Piece)) → first_string_skips (lines_from offset line us) ≡ first_string_skips (map unit_line us)
 strings_skip laws offset line [] = refl
 strings_skip laws offset line (u ∷ us) =
     let here : LogicalLine = line_of offset line u in
-    first_token here (unit_line u) (significant here.tokens) (significant (unit_line u).tokens) refl
-    (significant_alike here.tokens (unit_line u).tokens (alike here.tokens (unit_line u).tokens (laws.anywhere offset line 0 1 u)))
-    _ _ (strings_skip laws (offset + byte_len (spelled u)) (line + line_ends (spelled u)) us)
+    let ts : List Token = significant (unit_line u).tokens in
+    let later : Bool = first_string_skips (lines_from (offset + byte_len (spelled u)) (line + line_ends (spelled u)) us) in
+    sym (first_still here here refl later (significant here.tokens))
+    ∙ ap (first_skips here later) (significant_alike here.tokens (unit_line u).tokens (still_alike here.tokens (unit_line u).tokens (laws.anywhere offset line 0 1 u)))
+    ∙ first_still here (unit_line u) refl later ts
+    ∙ ap (λ b. first_skips (unit_line u) b ts) (strings_skip laws (offset + byte_len (spelled u)) (line + line_ends (spelled u)) us)

@@ -11,10 +11,12 @@ use Rattle.py_imports.specs.ActionComment.{says}
 use Rattle.py_imports.specs.declared.action_comment.ActionComment.{ActionComment}
 use Rattle.py_imports.specs.declared.action_comment.ActionComment.TheVariants as action
 use Rattle.isort_sort.specs.LaidAgain.{IsMoved}
+use Rattle.isort_sort.specs.Private.LineRole.{turned}
 use Rattle.isort_sort.specs.Line.{comment_texts}
 use Rattle.isort_sort.specs.Row.{is_comment_kind, says_alone, says_off, says_on, is_off_after, Role, member, comments, blank, other, Row, HasRole, indentation_of, AreRows}
 use Rattle.isort_sort.specs.Sorted.{texts_of}
 use Rattle.isort_sort.proofs.Rows.MovedRoles.{role_moved}
+use Rattle.isort_sort.proofs.Rows.Switches.{off_push}
 use Rattle.isort_sort.proofs.LineLaws.Units.{flat}
 use Rattle.isort_sort.proofs.LineLaws.Parts.{remarks_in, spelled-append}
 use Rattle.isort_sort.proofs.LineLaws.Tokens.{remarks-of}
@@ -43,44 +45,6 @@ on_anywhere laws offset line u = λ i. alone_anywhere laws action.On offset line
 moved_unit : TokenLaws → (offset line place row : ℕ) (u : List Piece) → IsMoved (line_of offset line u) (line_of place row u)
 moved_unit laws offset line place row u = record { kind = refl; text = refl; indent = refl; tokens = laws.anywhere offset line place row u }
 
--- whether sorting is off after a line
-abbrev pub off_past : Bool → LogicalLine → Bool
-off_past off line = if says_off line then true else (if says_on line then false else off)
-
-past_step : (said_off said_on first any off : Bool) → (first && not (any || (said_on || false))) || cond said_off true (cond said_on false off) ≡ cond said_off true (cond said_on false ((first && not any) || off))
-past_step true on true true off = refl
-past_step true on true false off = by on
-  where
-    by : (b : Bool) → (true && not (false || (b || false))) || true ≡ true
-    by true = refl
-    by false = refl
-past_step true on false any off = refl
-past_step false true true true off = refl
-past_step false true true false off = refl
-past_step false true false any off = refl
-past_step false false true true off = refl
-past_step false false true false off = refl
-past_step false false false any off = refl
-
-any_push : (test : LogicalLine → Bool) (lines : List LogicalLine) (line : LogicalLine) → list_any test (lines ++ line ∷ []) ≡ (list_any test lines || (test line || false))
-any_push test [] line = refl
-any_push test (l ∷ ls) line = ap (λ b. test l || b) (any_push test ls line) ∙ assoc (test l) (list_any test ls) (test line || false)
-  where
-    assoc : (a b c : Bool) → a || (b || c) ≡ (a || b) || c
-    assoc true b c = refl
-    assoc false b c = refl
-
-pub off_step : (before : List LogicalLine) (line : LogicalLine) → is_off_after (before ++ line ∷ []) ≡ off_past (is_off_after before) line
-off_step [] line = by (says_off line) (says_on line)
-  where
-    by : (said_off said_on : Bool) → (said_off && not false) || false ≡ cond said_off true (cond said_on false false)
-    by true on = refl
-    by false true = refl
-    by false false = refl
-off_step (l ∷ ls) line =
-    (λ i. (says_off l && not (any_push says_on ls line i)) || off_step ls line i)
-    ∙ past_step (says_off line) (says_on line) (says_off l) (list_any says_on ls) (is_off_after ls)
-
 -- the pieces of a logical line, which isn't a text's first, and its row
 pub record IsUnitRow (off : Bool) (u : List Piece) (row : Row) : Type 0 where
   pub role : HasRole off (unit_line u) row.role
@@ -90,7 +54,7 @@ pub record IsUnitRow (off : Bool) (u : List Piece) (row : Row) : Type 0 where
 
 abbrev pub AreUnitRows : Bool → List (List Piece) → List Row → Type 0
 AreUnitRows off [] [] = Unit {0}
-AreUnitRows off (u ∷ us) (row ∷ rows) = IsUnitRow off u row × AreUnitRows (off_past off (unit_line u)) us rows
+AreUnitRows off (u ∷ us) (row ∷ rows) = IsUnitRow off u row × AreUnitRows (turned off (unit_line u)) us rows
 AreUnitRows off _ _ = ⊥
 
 -- the rows of a text after its first line
@@ -100,8 +64,8 @@ rows_from laws first before offset line (u ∷ us) rows h =
     let here : LogicalLine = line_of offset line u in
     let later = rows_from laws first (before ++ here ∷ []) (offset + byte_len (spelled u)) (line + line_ends (spelled u)) us h.1 h.4 in
     let off : Bool = is_off_after (first ∷ before) in
-    let same : is_off_after (first ∷ (before ++ here ∷ [])) ≡ off_past off (unit_line u) =
-    off_step (first ∷ before) here ∙ (λ i. if off_anywhere laws offset line u i then true else (if on_anywhere laws offset line u i then false else off)) in
+    let same : is_off_after (first ∷ (before ++ here ∷ [])) ≡ turned off (unit_line u) =
+    off_push (first ∷ before) here ∙ (λ i. if off_anywhere laws offset line u i then true else (if on_anywhere laws offset line u i then false else off)) in
     subst (AreUnitRows off (u ∷ us)) (sym h.2) (
       record { role = role_moved off here (unit_line u) h.0.role (moved_unit laws offset line 0 1 u) h.3.role; text = h.3.text; indentation = h.3.indentation; ended = h.3.ended },
       subst (λ (b : Bool). AreUnitRows b us h.1) same later,
@@ -114,8 +78,8 @@ rows_to laws first before offset line (u ∷ us) [] h = absurd h
 rows_to laws first before offset line (u ∷ us) (row ∷ rows) h =
     let here : LogicalLine = line_of offset line u in
     let off : Bool = is_off_after (first ∷ before) in
-    let same : is_off_after (first ∷ (before ++ here ∷ [])) ≡ off_past off (unit_line u) =
-    off_step (first ∷ before) here ∙ (λ i. if off_anywhere laws offset line u i then true else (if on_anywhere laws offset line u i then false else off)) in (
+    let same : is_off_after (first ∷ (before ++ here ∷ [])) ≡ turned off (unit_line u) =
+    off_push (first ∷ before) here ∙ (λ i. if off_anywhere laws offset line u i then true else (if on_anywhere laws offset line u i then false else off)) in (
       row,
       rows,
       refl,
@@ -129,13 +93,13 @@ rows_spelled off [] [] h = refl
 rows_spelled off [] (row ∷ rows) h = absurd h
 rows_spelled off (u ∷ us) [] h = absurd h
 rows_spelled off (u ∷ us) (row ∷ rows) h =
-    (λ i. h.0.text i ++ rows_spelled (off_past off (unit_line u)) us rows h.1 i)
+    (λ i. h.0.text i ++ rows_spelled (turned off (unit_line u)) us rows h.1 i)
     ∙ sym (encodes-append (spelled u) (spelled (flat us))) ∙ sym (ap encode_utf8_all (spelled-append u (flat us)))
 
 -- whether sorting is off after logical lines
 abbrev pub off_through : Bool → List (List Piece) → Bool
 off_through off [] = off
-off_through off (u ∷ us) = off_through (off_past off (unit_line u)) us
+off_through off (u ∷ us) = off_through (turned off (unit_line u)) us
 
 -- the pieces of the first of some rows, and of the others
 pub record AreRowsApart (off : Bool) (us : List (List Piece)) (rows others : List Row) : Type 0 where
@@ -149,14 +113,14 @@ pub rows_apart : (off : Bool) (us : List (List Piece)) (rows others : List Row) 
 rows_apart off us [] others h = record { front = []; back = us; split = refl; first = tt; second = h }
 rows_apart off [] (row ∷ rows) others h = absurd h
 rows_apart off (u ∷ us) (row ∷ rows) others h =
-    let later = rows_apart (off_past off (unit_line u)) us rows others h.1 in
+    let later = rows_apart (turned off (unit_line u)) us rows others h.1 in
     record { front = u ∷ later.front; back = later.back; split = ap (λ l. u ∷ l) later.split; first = (h.0, later.first); second = later.second }
 
 pub rows_together : (off : Bool) (us vs : List (List Piece)) (rows others : List Row) → AreUnitRows off us rows → AreUnitRows (off_through off us) vs others → AreUnitRows off (us ++ vs) (rows ++ others)
 rows_together off [] vs [] others h k = k
 rows_together off [] vs (row ∷ rows) others h k = absurd h
 rows_together off (u ∷ us) vs [] others h k = absurd h
-rows_together off (u ∷ us) vs (row ∷ rows) others h k = (h.0, rows_together (off_past off (unit_line u)) us vs rows others h.1 k)
+rows_together off (u ∷ us) vs (row ∷ rows) others h k = (h.0, rows_together (turned off (unit_line u)) us vs rows others h.1 k)
 
 -- whether the row may stand in a block
 abbrev pub role_in_block : Role → Bool
@@ -167,10 +131,10 @@ role_in_block _ = true
 alone_false : (a : ActionComment) (line : LogicalLine) → is_comment_kind line.kind ≡ false → says_alone a line ≡ false
 alone_false a line h = ap (λ b. b && list_any (says a) (comment_texts line)) h
 
-silent_past : (off : Bool) (line : LogicalLine) → says_alone action.Off line ≡ false → says_alone action.On line ≡ false → off_past off line ≡ off
+silent_past : (off : Bool) (line : LogicalLine) → says_alone action.Off line ≡ false → says_alone action.On line ≡ false → turned off line ≡ off
 silent_past off line h k = ap (λ b. cond b true (cond (says_on line) false off)) h ∙ ap (λ b. cond (b && not (says_off line)) false off) k
 
-pub silent : (off sorting : Bool) (line : LogicalLine) (role : Role) → HasRole sorting line role → role_in_block role ≡ true → off_past off line ≡ off
+pub silent : (off sorting : Bool) (line : LogicalLine) (role : Role) → HasRole sorting line role → role_in_block role ≡ true → turned off line ≡ off
 silent off sorting line (member is cs) h k =
     let kind : is_comment_kind line.kind ≡ false = ap is_comment_kind h.1.0.code in
     silent_past off line (alone_false action.Off line kind) (alone_false action.On line kind)

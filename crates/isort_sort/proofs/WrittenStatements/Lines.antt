@@ -10,7 +10,7 @@ use Rattle.py_lines.specs.declared.unit.UnitKind.TheVariants as unit_kind
 use Rattle.py_imports.specs.Shape.{mark_len, begins_at, stands_first}
 use Rattle.py_imports.specs.Statement.{significant}
 use Rattle.isort_sort.specs.WrittenLine.{mark_pieces, mark_bytes}
-use Rattle.isort_sort.proofs.WrittenStatements.Items.{a_space}
+use Rattle.isort_sort.proofs.WrittenStatements.Rests.{a_space}
 use Rattle.isort_sort.proofs.LineLaws.Indented.{AreIndented, indented, line-mark}
 use Rattle.isort_sort.proofs.LineLaws.Parts.{piece, space_pieces, spaces_low, low-spell}
 

@@ -11,7 +11,7 @@ use Rattle.isort_sort.specs.Line.{stripped, without_hash, is_text, AreOwnComment
 use Rattle.isort_sort.specs.WrittenLine.{AreRemarks}
 use Rattle.isort_sort.proofs.Rows.ReadBack.{joined_read_back}
 use Rattle.isort_sort.proofs.LineLaws.Laws.{Laws}
-use Rattle.isort_sort.proofs.WrittenStatements.Phrases.{remark_said}
+use Rattle.isort_sort.proofs.WrittenStatements.Rests.{remark_said}
 
 remarks-own : (cs : List (List ℕ)) → AreRemarks cs → AreOwnComments cs
 remarks-own [] h = tt

@@ -1,7 +1,7 @@
 -- What is known of a statement that is laid out, by the members that it comes from.
 use Rattle.std.proofs.Common.{◌≡◌, ℕ, Bool, true, false, cond, not, ◌&&◌, Option, None, Some, List, [], ◌∷◌, ◌++◌, flat_map, codes, is_some, ⊎_elim, Less, refl, sym, ap, ◌∙◌, subst}
 use Rattle.std.specs.Prelude.{filter, bytes_eq}
-use Rattle.std.specs.List.{Contains}
+use Rattle.std.specs.List.{Contains, AllByRecursion}
 use Rattle.std.specs.List.Sorted.{IsStrictlySortedBy}
 use Rattle.py_imports.specs.Grammar.{Imported, Item}
 use Rattle.py_imports.specs.Names.{IsName, IsAlias, IsModuleName, IsRelativeName, IsNamed, whole, all, part, AreNamed, IsNameItem}
@@ -10,14 +10,15 @@ use Rattle.isort_sort.specs.LaidAgain.{import_of}
 use Rattle.isort_sort.specs.Layout.{Laid, AreLaid}
 use Rattle.isort_sort.specs.Member.{Member, imports_of, item_of, belongs, begins_with, owned, first_texts, AreItemsOf, comments_of}
 use Rattle.isort_sort.specs.Statement.{Statement, straight, star, names, single, stands_alone, item_cmp, statement_of}
-use Rattle.isort_sort.specs.WrittenLine.{AreRemarks, AreReadMembers}
+use Rattle.isort_sort.specs.WrittenLine.{IsRemark, AreRemarks, IsReadMember, AreReadMembers}
 use Rattle.isort_sort.specs.Wrapping.{IsCut, ArePacked, IsFilled}
+use Rattle.isort_sort.proofs.LineLaws.Each.{each-append, each-parts, each-map, each-filter}
 use Rattle.isort_sort.proofs.Orders.Contained.{in_map, in_filter}
 use Rattle.isort_sort.proofs.Orders.Equality.{is_same}
 use Rattle.isort_sort.proofs.Orders.InOrder.{nothing_in, in_cons, head_in, tail_in, never_less}
 use Rattle.isort_sort.proofs.Orders.Statements.{AreOrders, item_cmp_total}
-use Rattle.isort_sort.proofs.SortedTexts.LaidAgain.{import_again, in_flat_map, laid_at, item_import, some_item}
-use Rattle.isort_sort.proofs.WrittenStatements.Items.{HasItem, AreNameItems, AreLines}
+use Rattle.isort_sort.proofs.SortedTexts.LaidAgain.{import_again, in_flat_map, laid_at, item_import, in_lines, some_item}
+use Rattle.isort_sort.proofs.WrittenStatements.NamesRests.{HasItem, AreNameItems, AreLines}
 
 -- each import of the members has names
 named_at : (is : List Imported) (x : Imported) → AreNamed is → Contains is x → IsNamed x
@@ -33,33 +34,23 @@ named_in members x h k =
     read_at [] m r c = absurd (nothing_in m c)
     read_at (n ∷ ns) m r c = ⊎_elim (λ (e : n ≡ m). subst (λ (o : Member). AreNamed o.imports) e r.0.named) (λ t. read_at ns m r.1 t) (in_cons n ns m c)
 
--- the comments that a statement joins are comments of the members
-remarks-append : (a b : List (List ℕ)) → AreRemarks a → AreRemarks b → AreRemarks (a ++ b)
-remarks-append [] b h k = k
-remarks-append (c ∷ cs) b h k = (h.0, remarks-append cs b h.1 k)
+-- what holds of all texts of the members holds of those that a statement takes
+pub each-first_texts : (P : List ℕ → Type 0) (ts : List (List ℕ)) → AllByRecursion P ts → AllByRecursion P (first_texts ts)
+each-first_texts P [] h = tt
+each-first_texts P (t ∷ ts) h = (h.0, each-filter P (λ u. not (bytes_eq t u)) (first_texts ts) (each-first_texts P ts h.1))
 
-remarks-filter : (p : List ℕ → Bool) (cs : List (List ℕ)) → AreRemarks cs → AreRemarks (filter p cs)
-remarks-filter p [] h = tt
-remarks-filter p (c ∷ cs) h = by (p c) (remarks-filter p cs h.1)
+pub each-owned : (P : List ℕ → Type 0) (f : Member → List (List ℕ)) (v : Values) (s : Statement) (members : List Member) → AllByRecursion (λ m. AllByRecursion P (f m)) members → AllByRecursion P (flat_map f (owned v members s))
+each-owned P f v s [] h = tt
+each-owned P f v s (m ∷ ms) h = by (begins_with v s m.imports) (each-owned P f v s ms h.1)
   where
-    by : (b : Bool) → AreRemarks (filter p cs) → AreRemarks (cond b (c ∷ filter p cs) (filter p cs))
-    by true k = (h.0, k)
-    by false k = k
-
-remarks-first : (cs : List (List ℕ)) → AreRemarks cs → AreRemarks (first_texts cs)
-remarks-first [] h = tt
-remarks-first (c ∷ cs) h = (h.0, remarks-filter (λ u. not (bytes_eq c u)) (first_texts cs) (remarks-first cs h.1))
-
-remarks-owned : (v : Values) (s : Statement) (members : List Member) → AreReadMembers members → AreRemarks (flat_map (λ m. m.comments) (owned v members s))
-remarks-owned v s [] h = tt
-remarks-owned v s (m ∷ ms) h = by (begins_with v s m.imports) (remarks-owned v s ms h.1)
-  where
-    by : (b : Bool) → AreRemarks (flat_map (λ (n : Member). n.comments) (owned v ms s)) → AreRemarks (flat_map (λ (n : Member). n.comments) (cond b (m ∷ owned v ms s) (owned v ms s)))
-    by true k = remarks-append m.comments (flat_map (λ (n : Member). n.comments) (owned v ms s)) h.0.comments k
+    by : (b : Bool) → AllByRecursion P (flat_map f (owned v ms s)) → AllByRecursion P (flat_map f (cond b (m ∷ owned v ms s) (owned v ms s)))
+    by true k = each-append P (f m) (flat_map f (owned v ms s)) h.0 k
     by false k = k
 
 pub remarks-of_statement : (v : Values) (s : Statement) (members : List Member) → AreReadMembers members → AreRemarks (comments_of v members s)
-remarks-of_statement v s members h = remarks-first (flat_map (λ m. m.comments) (owned v members s)) (remarks-owned v s members h)
+remarks-of_statement v s members h =
+    each-first_texts IsRemark (flat_map (λ m. m.comments) (owned v members s))
+    (each-owned IsRemark (λ m. m.comments) v s members (each-map IsReadMember (λ m. AreRemarks m.comments) (λ m r. r.comments) members h))
 
 -- an item is what its import is
 item-back : (v : Values) (members : List Member) (s : Statement) (items : List Item) (i : Item) → AreItemsOf v members s items → Contains items i → i ≡ item_of (import_of s i)
@@ -159,7 +150,7 @@ writable v o (single m j) items f = names-writable v m (single m j) items (λ i.
 pub laid-writable : (v : Values) → AreOrders v → (indentation : List ℕ) (members : List Member) (laid : List Laid) (s : Laid) → AreReadMembers members → AreLaid v indentation members laid → Contains laid s → IsWritable s.statement s.items
 laid-writable v o indentation members laid s read is h =
     let own = laid_at v indentation members laid s is.each h in
-    let i = some_item v indentation members laid s is h in
+    let i = some_item v indentation members laid s (in_lines v indentation members laid is) h in
     writable v o s.statement s.items
     (record {
       some = i.0;
@@ -171,17 +162,13 @@ laid-writable v o indentation members laid s read is h =
     })
 
 -- the lines of a cut
-lines-parts : (line : List Item) (rest : List Item) → AreNameItems (line ++ rest) → AreNameItems line × AreNameItems rest
-lines-parts [] rest h = (tt, h)
-lines-parts (i ∷ is) rest h = let more = lines-parts is rest h.1 in ((h.0, more.0), more.1)
-
 filled : (fits : List Item → Bool) (line : List Item) → IsFilled fits line → HasItem line
 filled fits [] h = h
 filled fits (i ∷ is) h = tt
 
 lines-of : (fits : List Item → Bool) (lines : List (List Item)) → ArePacked fits lines → AreNameItems (flat_map (λ l. l) lines) → AreLines lines
 lines-of fits [] h k = tt
-lines-of fits (l ∷ ls) h k = let both = lines-parts l (flat_map (λ x. x) ls) k in (filled fits l h.0, both.0, lines-of fits ls h.2 both.1)
+lines-of fits (l ∷ ls) h k = let both = each-parts IsNameItem l (flat_map (λ x. x) ls) k in (filled fits l h.0, both.0, lines-of fits ls h.2 both.1)
 
 pub cut-lines : (fits : List Item → Bool) (items : List Item) (lines : List (List Item)) → IsCut fits items lines → AreNameItems items → AreLines lines
 cut-lines fits items lines c h = lines-of fits lines c.packed (subst AreNameItems (sym c.all) h)

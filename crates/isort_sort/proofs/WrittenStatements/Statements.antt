@@ -21,16 +21,14 @@ use Rattle.isort_sort.specs.Layout.{Laid}
 use Rattle.isort_sort.specs.Line.{word_of, comment_texts, stripped, without_hash, is_text, imported_of}
 use Rattle.isort_sort.specs.Row.{is_string, string_skips, first_string_skips}
 use Rattle.isort_sort.specs.WrittenLine.{mark_pieces, end_pieces, AreRemarks, IsWrittenLine, IsWritten}
-use Rattle.isort_sort.proofs.WrittenStatements.Items.{a_space, part-a_space}
 use Rattle.isort_sort.proofs.LineLaws.Laws.{Laws}
 use Rattle.isort_sort.proofs.WrittenStatements.Lines.{first_word, statement_pieces, line_pieces, written_line, line-code, line-first, statement-indented, line-stands}
 use Rattle.isort_sort.proofs.LineLaws.Indented.{line-mark, line-indentation}
 use Rattle.isort_sort.proofs.LineLaws.OneLine.{IsOneLine, plain-line, line-append, one-cut, ended-cut, no-end, some-end}
 use Rattle.isort_sort.proofs.LineLaws.Parts.{piece, remarks_in, divides, IsStatementPart, words-append, part-append, part-space, space_pieces, LettersAreWords, part-letters}
-use Rattle.isort_sort.proofs.WrittenStatements.Phrases.{IsPhrase, remark_said}
+use Rattle.isort_sort.proofs.WrittenStatements.Rests.{a_space, part-a_space, IsRest, remark_said}
 use Rattle.isort_sort.proofs.WrittenStatements.Remarks.{own-again, said-silent, unskipped}
 use Rattle.isort_sort.proofs.LineLaws.Tokens.{remarks-of, skips-of, undivided-of, alone-of, are_well, well-of}
-use Rattle.isort_sort.proofs.LineLaws.Touching.{after_space, touch-space}
 use Rattle.isort_sort.proofs.Rows.Spaces.{space_no_feed}
 
 abbrev pub first_terminal : Bool → Terminal
@@ -43,16 +41,16 @@ part-first law true = part-letters law 102 (114 ∷ 111 ∷ 109 ∷ []) refl ref
 part-first law false = part-letters law 105 (109 ∷ 112 ∷ 111 ∷ 114 ∷ 116 ∷ []) refl refl refl
 
 -- what is given of a statement: where it stands, and what it says
-pub record IsGiven (indentation end : List ℕ) (s : Laid) (from : Bool) (phrase : List Piece) (bytes : List ℕ) (terminals : List Terminal) : Type 0 where
+pub record IsGiven (indentation end : List ℕ) (s : Laid) (from : Bool) (bytes : List ℕ) (terminals : List Terminal) : Type 0 where
   pub spaces : list_all is_space indentation ≡ true
   pub is_end : IsLineEnd end
   pub remarks : AreRemarks s.comments
-  pub phrase_is : IsPhrase after_space false end phrase bytes terminals (remark_said s.comments)
+  pub rest : IsRest space false end bytes terminals (remark_said s.comments)
   pub imported : IsImport (first_terminal from ∷ terminals) (map (import_of s.statement) s.items)
 
-part-statement : Laws → (indentation end : List ℕ) (s : Laid) (from : Bool) (phrase : List Piece) (bytes : List ℕ) (terminals : List Terminal) → IsGiven indentation end s from phrase bytes terminals → IsStatementPart (statement_pieces indentation from phrase) (indentation ++ (first_word from ++ (32 ∷ bytes))) (first_terminal from ∷ terminals) (remark_said s.comments)
-part-statement laws indentation end s from phrase bytes terminals g =
-    part-append (part-space indentation g.spaces) (part-append (part-first laws.letters from) (part-append part-a_space g.phrase_is.part))
+part-statement : Laws → (indentation end : List ℕ) (s : Laid) (from : Bool) (bytes : List ℕ) (terminals : List Terminal) (g : IsGiven indentation end s from bytes terminals) → IsStatementPart (statement_pieces indentation from g.rest.pieces) (indentation ++ (first_word from ++ (32 ∷ bytes))) (first_terminal from ∷ terminals) (remark_said s.comments)
+part-statement laws indentation end s from bytes terminals g =
+    part-append (part-space indentation g.spaces) (part-append (part-first laws.letters from) (part-append part-a_space g.rest.part))
 
 bare-space : (indentation : List ℕ) → IsOneLine (space_pieces indentation)
 bare-space [] = plain-line [] refl refl
@@ -104,13 +102,14 @@ line-ended marked ps false end e l =
     ∙ ap (nat_lt 0) (no-end (mark_pieces marked ++ ps) (marked-line marked ps l))
 
 -- the logical line
-pub line-read : Laws → (indentation end : List ℕ) (s : Laid) (from : Bool) (phrase : List Piece) (bytes : List ℕ) (terminals : List Terminal) → IsGiven indentation end s from phrase bytes terminals → (marked closed : Bool) (offset row : ℕ) → IsWrittenLine indentation s marked closed (written_line offset row marked indentation from phrase (end_pieces closed end))
-line-read laws indentation end s from phrase bytes terminals g marked closed offset row =
+pub line-read : Laws → (indentation end : List ℕ) (s : Laid) (from : Bool) (bytes : List ℕ) (terminals : List Terminal) (g : IsGiven indentation end s from bytes terminals) (marked closed : Bool) (offset row : ℕ) → IsWrittenLine indentation s marked closed (written_line offset row marked indentation from g.rest.pieces (end_pieces closed end))
+line-read laws indentation end s from bytes terminals g marked closed offset row =
+    let phrase = g.rest.pieces in
     let ps = statement_pieces indentation from phrase in
     let ends = end_pieces closed end in
     let l = written_line offset row marked indentation from phrase ends in
     let is : List Imported = map (import_of s.statement) s.items in
-    let part = part-statement laws indentation end s from phrase bytes terminals g in
+    let part = part-statement laws indentation end s from bytes terminals g in
     let words : map (word_in l.text) l.tokens ≡ words_of ps = laws.tokens offset row (line_pieces marked indentation from phrase ends) ∙ same-words marked ps closed end in
     let said : terminals_of l ≡ first_terminal from ∷ terminals = laws.terminals offset row (line_pieces marked indentation from phrase ends) ∙ ap terminals_in (same-words marked ps closed end) ∙ part.says in
     let comments : comment_texts l ≡ remark_said s.comments = remarks-of l.text l.tokens ∙ ap remarks_in words ∙ part.remarks in
@@ -123,7 +122,7 @@ line-read laws indentation end s from phrase bytes terminals g marked closed off
       alone = alone-of [] (significant l.tokens) undivided;
       imported = is;
       is = imported;
-      comments = well-of l.text [] l.tokens ∙ ap (are_well false) words ∙ statement-well indentation from phrase (g.phrase_is.well false);
+      comments = well-of l.text [] l.tokens ∙ ap (are_well false) words ∙ statement-well indentation from phrase (g.rest.well false);
       unskipped = skips-of l.text l.tokens ∙ ap (λ ws. list_any (says action.Skip) (remarks_in ws)) words ∙ ap (list_any (says action.Skip)) part.remarks ∙ said-silent laws action.Skip s.comments (unskipped s.comments g.remarks);
     } in
     let bound = laws.binds l first.token first.others is first.all (subst (λ ts. list_any (λ t. is_divider t.kind) ts ≡ false) first.all undivided) (ap begins_import said ∙ begins-so from terminals) imported in
@@ -135,7 +134,7 @@ line-read laws indentation end s from phrase bytes terminals g marked closed off
       );
       indentation = line-indentation offset row marked indentation (ps ++ ends) (statement-indented indentation from phrase ends g.spaces);
       mark = line-mark offset row marked indentation (ps ++ ends) (statement-indented indentation from phrase ends g.spaces);
-      ended = line-ended marked ps closed end g.is_end (statement-line indentation from phrase g.phrase_is.line);
+      ended = line-ended marked ps closed end g.is_end (statement-line indentation from phrase g.rest.line);
       code = line-code marked indentation from phrase ends;
       says_no_more = λ a silent. ap (list_any (says a)) comments ∙ said-silent laws a s.comments silent;
       no_string = λ lines.
@@ -158,14 +157,15 @@ statement-cut : (indentation : List ℕ) (from : Bool) (phrase : List Piece) →
 statement-cut [] from phrase l = one-cut (piece word (first_word from)) (a_space ∷ phrase) l
 statement-cut (c ∷ cs) from phrase l = one-cut (piece space (c ∷ cs)) (piece word (first_word from) ∷ a_space ∷ phrase) l
 
-pub written : Laws → (indentation end : List ℕ) (s : Laid) (from : Bool) (phrase : List Piece) (bytes : List ℕ) (terminals : List Terminal) (text : List ℕ) → IsGiven indentation end s from phrase bytes terminals → indentation ++ (first_word from ++ (32 ∷ bytes)) ≡ text → IsWritten indentation end s text (statement_pieces indentation from phrase)
-written laws indentation end s from phrase bytes terminals text g spelled_so =
+pub written : Laws → (indentation end : List ℕ) (s : Laid) (from : Bool) (bytes : List ℕ) (terminals : List Terminal) (text : List ℕ) (g : IsGiven indentation end s from bytes terminals) → indentation ++ (first_word from ++ (32 ∷ bytes)) ≡ text → IsWritten indentation end s text (statement_pieces indentation from g.rest.pieces)
+written laws indentation end s from bytes terminals text g spelled_so =
+    let phrase = g.rest.pieces in
     let ps = statement_pieces indentation from phrase in
-    let part = part-statement laws indentation end s from phrase bytes terminals g in
-    let one = statement-line indentation from phrase g.phrase_is.line in
+    let part = part-statement laws indentation end s from bytes terminals g in
+    let one = statement-line indentation from phrase g.rest.line in
     record {
       simple = part.simple;
-      touch = statement-touch indentation from phrase (end_pieces true end) (refl, touch-space (32 ∷ []) (phrase ++ end_pieces true end) g.phrase_is.start g.phrase_is.touch);
+      touch = statement-touch indentation from phrase (end_pieces true end) (refl, g.rest.touch (32 ∷ []));
       unbroken = statement-unbroken indentation from phrase g.spaces;
       scalars = part.scalars;
       spell = part.spell ∙ spelled_so;
@@ -174,5 +174,5 @@ written laws indentation end s from phrase bytes terminals text g spelled_so =
       deep = one.deep;
       whole = statement-cut indentation from phrase one;
       cut = λ more. ended-cut ps end more one;
-      line = λ marked closed offset row. line-read laws indentation end s from phrase bytes terminals g marked closed offset row;
+      line = λ marked closed offset row. line-read laws indentation end s from bytes terminals g marked closed offset row;
     }

@@ -4,7 +4,7 @@ use Rattle.std.specs.List.{Contains, list_all}
 use Rattle.std.proofs.lemmas.Bool.{and_from}
 use Rattle.std.proofs.lemmas.List.Folds.{list_all-append}
 use Rattle.py_lines.specs.Character.{is_space}
-use Rattle.py_lines.specs.Piece.{Piece}
+use Rattle.py_lines.specs.Piece.{Piece, space}
 use Rattle.py_lines.specs.PieceGrammar.{IsLineEnd}
 use Rattle.py_imports.specs.Grammar as grammar
 use Rattle.py_imports.specs.Grammar.{Terminal, import_word, spelling, modules, IsModule, IsItem, plain, renamed, last, no_dot, AreNames, attribute_of, IsImport, import_statement, Item}
@@ -22,10 +22,8 @@ use Rattle.isort_sort.proofs.Orders.InOrder.{head_in, tail_in}
 use Rattle.isort_sort.proofs.Orders.Statements.{AreOrders}
 use Rattle.isort_sort.proofs.SortedTexts.LaidAgain.{laid_at}
 use Rattle.isort_sort.proofs.LineLaws.Laws.{Laws}
-use Rattle.isort_sort.proofs.LineLaws.Touching.{after_space}
-use Rattle.isort_sort.proofs.WrittenStatements.Items.{alias_terminals, HasItem, AreNameItems, AreLines}
-use Rattle.isort_sort.proofs.WrittenStatements.NamesPhrases.{IsBody, IsPad, flat-body, brackets-body, hanging-body, hung-body}
-use Rattle.isort_sort.proofs.WrittenStatements.Phrases.{IsPhrase, remark_said, star-phrase, from-phrase, module-phrase}
+use Rattle.isort_sort.proofs.WrittenStatements.NamesRests.{HasItem, AreNameItems, AreLines, IsBody, IsPad, flat-body, brackets-body, hanging-body, hung-body}
+use Rattle.isort_sort.proofs.WrittenStatements.Rests.{IsRest, after-operator, star-first, remark_said, remark-rest, relative-first, from-rest, alias_terminals, alias-first}
 use Rattle.isort_sort.proofs.WrittenStatements.Sources.{IsWritable, laid-writable, remarks-of_statement, cut-lines}
 use Rattle.isort_sort.proofs.WrittenStatements.Statements.{written}
 
@@ -47,15 +45,15 @@ record NamesFromModule (s : Laid) (m : List ℕ) : Type 0 where
   items : AreNameItems s.items
 
 -- a `from` statement
-from-written : Laws → (indentation end : List ℕ) → IsPlace indentation end → (m : List ℕ) → IsRelativeName m → (s : Laid) → AreRemarks s.comments → {body : List Piece} {bytes : List ℕ} {terminals : List Terminal} → IsPhrase after_space false end body bytes terminals (remark_said s.comments) → (is : List Item) → AreNames terminals is → map (attribute_of m) is ≡ map (import_of s.statement) s.items → Writes indentation end s (indentation ++ (head m ++ bytes))
-from-written laws indentation end place m r s remarks {bytes = bytes} phrase is are same = (
+from-written : Laws → (indentation end : List ℕ) → IsPlace indentation end → (m : List ℕ) → IsRelativeName m → (s : Laid) → AreRemarks s.comments → {bytes : List ℕ} {terminals : List Terminal} → IsRest space false end bytes terminals (remark_said s.comments) → (is : List Item) → AreNames terminals is → map (attribute_of m) is ≡ map (import_of s.statement) s.items → Writes indentation end s (indentation ++ (head m ++ bytes))
+from-written laws indentation end place m r s remarks {bytes = bytes} rest is are same = (
   _,
-  written laws indentation end s true _ _ _ _
+  written laws indentation end s true _ _ _
       (record {
         spaces = place.spaces;
         is_end = place.is_end;
         remarks = remarks;
-        phrase_is = from-phrase laws.letters r.path r.is r.names phrase;
+        rest = from-rest laws.letters r.path r.is r.names rest;
         imported = subst (IsImport _) (ap (λ n. map (attribute_of n) is) (sym r.spell) ∙ same) (grammar.from_statement _ r.path _ is refl r.is are);
       })
       (ap (λ n. indentation ++ (codes "from " ++ (n ++ (codes " import " ++ bytes)))) (sym r.spell) ∙ ap (λ t. indentation ++ (codes "from " ++ t)) (sym (append_assoc m (codes " import ") bytes))),
@@ -63,7 +61,7 @@ from-written laws indentation end place m r s remarks {bytes = bytes} phrase is 
 
 names-in : Laws → (indentation end : List ℕ) → IsPlace indentation end → (m : List ℕ) (s : Laid) → NamesFromModule s m → (bytes : List ℕ) (is : List Item) → is ≡ s.items → IsBody end bytes is s.comments → Writes indentation end s (indentation ++ (head m ++ bytes))
 names-in laws indentation end place m s n bytes is e b =
-    from-written laws indentation end place m n.is s n.remarks b.phrase is b.names (ap (map (attribute_of m)) e ∙ n.same)
+    from-written laws indentation end place m n.is s n.remarks b.rest is b.names (ap (map (attribute_of m)) e ∙ n.same)
 
 -- space before the names of a line
 spaces-many : (n : ℕ) → list_all is_space (replicate n 32) ≡ true
@@ -121,12 +119,12 @@ straight-written laws v indentation end place m named alias is_alias i items one
     let imported : record { module_name = spelling path; attribute_name = None; alias_name = alias } ∷ [] ≡ map (import_of s.statement) items =
     ap (λ n. record { module_name = n; attribute_name = None; alias_name = alias } ∷ []) (sym named.spell) ∙ sym (ap (map (import_of s.statement)) one) in (
       _,
-      written laws indentation end s false _ _ (path ++ (alias_terminals alias ++ [])) _
+      written laws indentation end s false _ (path ++ (alias_terminals alias ++ [])) _
           (record {
             spaces = place.spaces;
             is_end = place.is_end;
             remarks = remarks;
-            phrase_is = module-phrase laws.letters end path (grammar.named path [] path refl no_dot named.is) named.names alias is_alias comments remarks;
+            rest = relative-first path (grammar.named path [] path refl no_dot named.is) named.names (alias-first laws.letters alias is_alias (remark-rest comments remarks));
             imported = subst (IsImport (import_word ∷ (path ++ (alias_terminals alias ++ [])))) imported (import_statement _ _ (last modules _ _ (module-item path named.is alias)));
           })
           (ap (λ n. indentation ++ (codes "import " ++ (n ++ (alias_text alias ++ remark comments)))) (sym named.spell)),
@@ -136,7 +134,7 @@ statement-written : Laws → (v : Values) (indentation end : List ℕ) → IsPla
 statement-written laws v indentation end place (straight m alias) items cut comments above remarks w c = straight-written laws v indentation end place m w.0 alias w.1 w.2.0 items w.2.1 cut comments above remarks
 statement-written laws v indentation end place (star m) items cut comments above remarks w c =
     let s = laid_with (star m) items cut comments above in
-    from-written laws indentation end place m w.0 s remarks (star-phrase end comments remarks) (record { path = codes "*"; alias = None } ∷ []) grammar.all_names (sym (ap (map (import_of s.statement)) w.1.1))
+    from-written laws indentation end place m w.0 s remarks (star-first (after-operator (remark-rest comments remarks))) (record { path = codes "*"; alias = None } ∷ []) grammar.all_names (sym (ap (map (import_of s.statement)) w.1.1))
 statement-written laws v indentation end place (names m) items cut comments above remarks w c =
     names-written laws v indentation end place m (laid_with (names m) items cut comments above)
     (record { is = w.0.from; same = refl; remarks = remarks; some = w.1; items = w.0.named }) cut (cut-lines (fits_line v indentation m) items cut c w.0.named) c.all
