@@ -11,6 +11,7 @@ use Rattle.isort_find.specs.Private.PieceSteps.{IsBetween, ReleasesAny, LetsLine
 use Rattle.isort_find.specs.Private.Walks.{after_line}
 use Rattle.isort_find.specs.declared.walker.Position.{Position}
 use Rattle.isort_find.specs.declared.walker.Position.TheVariants as position
+use Rattle.isort_find.specs.declared.walker.Phase.{Phase}
 use Rattle.isort_find.specs.declared.walker.Phase.TheVariants as phase
 use Rattle.isort_find.proofs.Walks.Inside.{line_over}
 use Rattle.isort_find.proofs.Fed.Known.{given_of, none_or_some, still_scanning}
@@ -49,6 +50,10 @@ fed_open f opened = by f.position opened
     by (position.Within pending) here = refl
     by (position.End passed) here = absurd cc
     by (position.Fault fault) here = refl
+
+-- the phase that a walker has told is that of the finder
+pub phase_at : (old f : PieceFinderState) (told is : Phase) → f ≡ old → told ≡ phase_in f.position → told ≡ is → phase_in old.position ≡ is
+phase_at old f told is view ensures same = ap (λ (g : PieceFinderState). phase_in g.position) (sym view) ∙ sym ensures ∙ same
 
 -- the finder then
 pub begun_is : (old a : PieceFinderState) → phase_in old.position ≡ phase.Open → has_ready old ≡ false → LetsLineGo old a → a ≡ line_begun old a.scanning
