@@ -4,5 +4,6 @@ pub mod NextLines
 pub mod LinePlaces
 pub mod Beginnings
 pub mod OneFound
+pub mod PassedOn
 pub mod SettledFound
 pub mod SettledGrowing

@@ -6,12 +6,11 @@ use crate::cursor::Cursor;
 use crate::error::{FindError, ResumeError};
 use crate::known::known_laws;
 use crate::options::FindOptions;
+use crate::pauses::Pauses;
 use crate::pending::LineStart;
 use crate::step::{Step, next_step};
 use crate::walker::{Phase, Walker};
-use py_imports::laws::{
-    lines_between_first_words_bind_nothing, lines_without_first_words_bind_nothing,
-};
+use py_imports::laws::lines_without_import_bind_nothing;
 use py_imports::{Binding, FirstWords};
 use py_lines::Lines;
 use std::alloc::Global;
@@ -26,6 +25,8 @@ pub struct Finder<'t> {
     text: &'t [u8],
     /// Where import statements may begin in it.
     words: FirstWords<'t>,
+    /// When to try to pass over lines.
+    pauses: Pauses,
     /// Reads its logical lines.
     lines: Lines<'t>,
     /// Goes through them.
@@ -64,6 +65,7 @@ impl<'t> Finder<'t> {
             alloc,
             text,
             words: FirstWords::new(text),
+            pauses: Pauses::new(),
             lines,
             walker,
         })
@@ -106,13 +108,15 @@ impl<'t> Finder<'t> {
         if !self.walker.may_pass_lines() {
             return;
         }
-        known_laws();
-        lines_without_first_words_bind_nothing();
-        lines_between_first_words_bind_nothing();
+        if !self.pauses.are_over() {
+            return;
+        }
+        lines_without_import_bind_nothing();
         self.walker.leave();
         let start = (self.lines.offset() as usize).min(self.text.len());
         let before = self.words.clear_up_to(start);
-        self.lines.pass_lines(before);
+        let passed = self.lines.pass_lines(before);
+        self.pauses.note(passed > 0 || before == start);
     }
 
     /// Where the next logical line begins.
@@ -215,6 +219,7 @@ impl<'t> Finder<'t> {
                     alloc,
                     text,
                     words: FirstWords::new(text),
+                    pauses: Pauses::new(),
                     lines,
                     walker,
                 })

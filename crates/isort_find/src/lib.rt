@@ -9,6 +9,7 @@ mod key;
 mod known;
 pub mod laws;
 mod options;
+mod pauses;
 mod pending;
 mod pieces;
 mod step;

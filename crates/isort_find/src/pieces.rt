@@ -6,9 +6,10 @@ use crate::cursor::Cursor;
 use crate::error::{FindError, ResumeError};
 use crate::known::known_laws;
 use crate::options::FindOptions;
+use crate::pauses::Pauses;
 use crate::pending::LineStart;
 use crate::walker::{Phase, Walker};
-use py_imports::laws::lines_between_first_words_bind_nothing;
+use py_imports::laws::lines_without_import_bind_nothing;
 use py_imports::{Binding, FirstWords};
 use py_lines::{LexError, Scanner};
 use std::alloc::Global;
@@ -100,7 +101,13 @@ impl PieceFinder {
     /// Lets the logical line go that was read last. After it, from byte `start` of the piece on, passes over lines without their
     /// tokens, as long as they are simple and bind nothing, and answers how many bytes these have. Most lines are passed over so.
     #[inline(always)]
-    fn pass_lines(&mut self, piece: &[u8], start: usize, words: &mut FirstWords<'_>) -> usize
+    fn pass_lines(
+        &mut self,
+        piece: &[u8],
+        start: usize,
+        words: &mut FirstWords<'_>,
+        pauses: &mut Pauses,
+    ) -> usize
         requires within { start ≤ length piece.now }
         requires fits { fed_by self.old + (length piece.now - start) ≤ 2 ^ 62 }
         requires open_yet { self.old.scanning.ended ≡ false }
@@ -110,9 +117,12 @@ impl PieceFinder {
         ensures passes { PassesLines self.old (drop start piece.now) result self.new }
         ensures text { words.new ≡ words.old }
     {
-        lines_between_first_words_bind_nothing();
+        lines_without_import_bind_nothing();
         self.let_go();
         if !self.walker.may_pass_lines() {
+            return 0;
+        }
+        if !pauses.are_over() {
             return 0;
         }
         let before = words.clear_up_to(start) - start;
@@ -120,7 +130,10 @@ impl PieceFinder {
         if before == 0 {
             return 0;
         }
-        self.scanner.pass_lines(&piece[start..], before)
+        let passed = self.scanner.pass_lines(&piece[start..], before);
+        // The piece may begin in mid-line.
+        pauses.note(passed > 0 || start == 0);
+        passed
     }
 
     /// Takes bytes up to the end of a logical line, and reads that line: how many.
@@ -155,9 +168,10 @@ impl PieceFinder {
             → HasTakenAll piece.now n self.new }
     {
         let mut words = FirstWords::new(piece);
+        let mut pauses = Pauses::new();
         let mut taken = 0;
         'lines: loop {
-            taken += self.pass_lines(piece, taken, &mut words);
+            taken += self.pass_lines(piece, taken, &mut words, &mut pauses);
             match self.take_line(&piece[taken..]) {
                 Ok(more) => taken += more,
                 Err(FindError::Fault(fault)) => return Err(FindError::Fault(fault)),

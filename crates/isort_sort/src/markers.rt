@@ -1,6 +1,6 @@
-//! Where `import`, `from` and `isort:` stand in a text.
+//! Where import statements may begin in a text, and where `isort:` stands.
 ghost use Rattle.std.specs.Prelude.{◌≡◌, ◌≤◌, ℕ, IsTrue, List, length};
-ghost use Rattle.py_imports.specs.FirstWords.{BeginNowhere};
+ghost use Rattle.py_imports.specs.FirstWords.{NoImportBegins};
 ghost use Rattle.py_lines.specs.Lines.{line_in};
 ghost use Rattle.isort_sort.specs.Private.Actions.{IsSilent};
 ghost use Rattle.isort_sort.specs.Private.Markers.{IsFree, IsSilentBetween, HoldsLineAt};
@@ -47,13 +47,13 @@ fn silence_at(text: &[u8], known: Silence, start: usize) -> Silence
     }
 }
 
-/// Where `import` and `from` stand in a text, as words or parts of words, and `isort:`. The text is searched once for each, from left
-/// to right, as far as is asked. Contracts see it as the text.
+/// Where import statements may begin in a text, and where `isort:` does. The text is searched once for each, from left to right, as far
+/// as is asked. Contracts see it as the text.
 #[derive(Drop)]
 pub(crate) struct Markers<'t> {
     /// The text.
     text: &'t [u8],
-    /// Where `import` and `from` stand.
+    /// Where import statements may begin.
     words: FirstWords<'t>,
     /// The bytes without `isort:` that were found last.
     silence: Silence,
@@ -91,17 +91,17 @@ impl<'t> Markers<'t> {
         self.silence.stop
     }
 
-    /// A byte, from `start` on, before which neither `import` nor `from` begins.
+    /// A byte, from `start` on, where a line begins, before which no import statement begins.
     #[inline(always)]
     fn clear_up_to(&mut self, start: usize) -> usize
         requires { start ≤ length self.old }
-        ensures clear { BeginNowhere self.old start result }
+        ensures none { NoImportBegins self.old start result }
         ensures same { self.new ≡ self.old }
     {
         self.words.clear_up_to(start)
     }
 
-    /// A byte, from `start` on, before which none of the three begins.
+    /// A byte, from `start` on, where a line begins, before which neither an import statement nor `isort:` begins.
     #[inline(always)]
     pub(crate) fn free_up_to(&mut self, start: usize) -> usize
         requires { start ≤ length self.old }

@@ -20,8 +20,8 @@ use crate::markers::Markers;
 use crate::member::Member;
 use crate::row::{Role, indentation, role_of};
 use crate::skip::SkipReader;
-use py_imports::laws::lines_without_first_words_bind_nothing;
-use py_imports::{Binding, bindings_of, mark_len};
+use py_imports::laws::lines_without_import_bind_nothing;
+use py_imports::{Binding, bindings_of, has_first_word, mark_len};
 use py_lines::{Lines, Unit};
 use std::alloc::{AllocError, Global};
 
@@ -84,8 +84,8 @@ impl LineReader {
         self.skip.begun && !self.blocks.is_open()
     }
 
-    /// Passes over the next lines without their tokens, as long as they are simple, neither `import`, `from` nor `isort:` stands in them,
-    /// and no block may go on. Most lines are passed over so.
+    /// Passes over the next lines without their tokens, as long as they are simple, no import statement begins in them, `isort:` stands
+    /// nowhere in them, and no block may go on. Most lines are passed over so.
     #[inline(always)]
     fn pass_lines(&mut self, lines: &mut Lines<'_>, markers: &mut Markers<'_>)
         requires text { markers.old ≡ lines.old.text }
@@ -98,7 +98,7 @@ impl LineReader {
         if !self.may_pass() {
             return;
         }
-        lines_without_first_words_bind_nothing();
+        lines_without_import_bind_nothing();
         let start = lines.offset() as usize;
         lines.pass_lines(markers.free_up_to(start));
         self.blocks.pass(lines.offset() as usize);
@@ -126,7 +126,8 @@ impl LineReader {
         Ok(true)
     }
 
-    /// Passes over the line, where no block needs it: neither `import`, `from` nor `isort:` stands in it, and no block may go on.
+    /// Passes over the line, where no block needs it: it has neither word `import` nor `from`, `isort:` stands nowhere in it, and no block
+    /// may go on.
     /// The result is whether it was passed over.
     #[inline(always)]
     fn pass(&mut self, unit: &Unit<'_>, markers: &mut Markers<'_>) -> bool
@@ -136,11 +137,10 @@ impl LineReader {
         ensures same { result ≡ false → self.new ≡ self.old }
         ensures markers { markers.new ≡ markers.old }
     {
-        lines_without_first_words_bind_nothing();
-        let line = LineStop::of(unit);
-        if !self.may_pass() || markers.free_up_to(unit.offset as usize) < line.stop {
+        if !self.may_pass() || has_first_word(unit) || !markers.is_silent(unit) {
             return false;
         }
+        let line = LineStop::of(unit);
         self.blocks.pass(line.stop);
         true
     }

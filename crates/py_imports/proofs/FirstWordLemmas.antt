@@ -1,7 +1,5 @@
 -- A logical line without a token that is spelled as the first word of an import statement binds nothing.
-use Rattle.std.proofs.Common.{◌≡◌, ℕ, ◌-◌, Bool, true, false, ◌||◌, Option, None, Some, List, [], ◌∷◌, ◌++◌, take, drop, filter, slice_range, codes, ◌==◌, if◌then◌else◌, refl, sym, ap, ◌∙◌}
-use Rattle.std.proofs.lemmas.List.{take-append-drop}
-use Rattle.std.proofs.lemmas.Slice.Eq.{bytes_eq-Decides}
+use Rattle.std.proofs.Common.{◌≡◌, ℕ, Bool, true, false, ◌||◌, Option, None, Some, List, [], ◌∷◌, ◌++◌, filter, codes, ◌==◌, if◌then◌else◌, refl, sym, ap, ◌∙◌}
 use Rattle.std.specs.List.{list_any}
 use Rattle.std.specs.Option.{is_some}
 use Rattle.std.specs.Str.{byte, bytes_eq}
@@ -10,9 +8,8 @@ use Rattle.py_lines.specs.declared.token.TokKind.{TokKind}
 use Rattle.py_lines.specs.declared.token.TokKind.TheVariants as kind
 use Rattle.py_lines.specs.declared.token.Token.{Token}
 use Rattle.py_imports.specs.Statement.{is_comment, significant, may_start_after, TokenPlace, places_from}
-use Rattle.py_imports.specs.Grammar.{Terminal, import_word, from_word, as_word, name, dot, comma, star, opening, closing, other, terminal_of, begins_import, is_keyword}
+use Rattle.py_imports.specs.Grammar.{Terminal, import_word, from_word, as_word, name, dot, comma, star, opening, closing, other, terminal_of, terminal_of_operator, begins_import, is_keyword}
 use Rattle.py_imports.specs.Binds.{terminal_in, nothing, BindEach, Binds}
-use Rattle.py_imports.specs.FirstWords.{Lacks, LacksFirstWords}
 use Rattle.py_imports.specs.Private.Bindings.{is_first_word}
 use Rattle.py_imports.specs.Private.Items.{BeginsForm}
 use Rattle.py_imports.specs.declared.items.Form.{Form}
@@ -43,10 +40,14 @@ neither_begins : (b : Bool) (x y : Terminal) → begins_import (x ∷ []) ≡ fa
 neither_begins true x y e f = e
 neither_begins false x y e f = f
 
+-- an operator begins none
+pub operator_begins_none : (c : ℕ) → begins_import (terminal_of_operator c ∷ []) ≡ false
+operator_begins_none c = neither_begins (c == byte ".") _ _ refl (neither_begins (c == byte ",") _ _ refl (neither_begins (c == byte "*") _ _ refl (neither_begins (c == byte "(") _ _ refl (neither_begins (c == byte ")") _ _ refl refl))))
+
 -- a token that is spelled as neither word begins none
 pub other_word : (kind : TokKind) (word : List ℕ) → bytes_eq word (codes "import") ≡ false → bytes_eq word (codes "from") ≡ false → begins_import (terminal_of kind word ∷ []) ≡ false
 other_word kind.Name word e f = rw (e, f) (neither_begins (bytes_eq word (codes "as")) _ _ refl (neither_begins (is_keyword word) _ _ refl refl))
-other_word (kind.Op c) word e f = neither_begins (c == byte ".") _ _ refl (neither_begins (c == byte ",") _ _ refl (neither_begins (c == byte "*") _ _ refl (neither_begins (c == byte "(") _ _ refl (neither_begins (c == byte ")") _ _ refl refl))))
+other_word (kind.Op c) word e f = operator_begins_none c
 other_word kind.Number word e f = refl
 other_word kind.Str word e f = refl
 other_word kind.Remark word e f = refl
@@ -85,25 +86,3 @@ none_from line before (t ∷ ts) e = by_start (none_from line (before ++ t ∷ [
 
 pub binds_no_word : (line : LogicalLine) → list_any (is_first_word line.text) line.tokens ≡ false → Binds line []
 binds_no_word line e = none_from line [] (significant line.tokens) (none_significant (is_first_word line.text) line.tokens e)
-
--- no part of a text is a word that stands nowhere in it
-no_such_part : (word text : List ℕ) (start stop : ℕ) → Lacks word text → bytes_eq (slice_range text start stop) word ≡ false
-no_such_part word text start stop lacks = by (bytes_eq (slice_range text start stop) word) refl
-  where
-    from : List ℕ
-    from = drop start text
-
-    by : (b : Bool) → bytes_eq (slice_range text start stop) word ≡ b → b ≡ false
-    by true e =
-        let same : slice_range text start stop ≡ word = (bytes_eq-Decides (slice_range text start stop) word).0 e in
-        let split : take start text ++ (slice_range text start stop ++ drop (stop - start) from) ≡ text =
-        ap (λ rest. take start text ++ rest) (take-append-drop (stop - start) from) ∙ take-append-drop start text in
-        absurd (lacks (take start text) (drop (stop - start) from) (sym split ∙ ap (λ part. take start text ++ (part ++ drop (stop - start) from)) same))
-    by false e = refl
-
--- no token is spelled as a first word where neither stands in the text
-pub none_spelled : (text : List ℕ) → LacksFirstWords text → (ts : List Token) → list_any (is_first_word text) ts ≡ false
-none_spelled text lacks [] = refl
-none_spelled text lacks (t ∷ ts) = λ i.
-    other_word t.kind (slice_range text t.start t.stop) (no_such_part (codes "import") text t.start t.stop lacks.0) (no_such_part (codes "from") text t.start t.stop lacks.1) i
-    || none_spelled text lacks ts i

@@ -30,8 +30,12 @@
 -- flag for a start are those of the tokens before.
 --
 -- A line without an import (proofs/FirstWordLemmas): where no token is spelled `import` or `from`, no statement is an
--- import statement, and the line binds nothing. A token is a part of the text, so none is spelled so where the text has no
--- such part. A part of a text that lies where neither word begins has none (proofs/WordPlaces): each `m` was looked at.
+-- import statement, and the line binds nothing.
+--
+-- Lines in which no import statement may begin, by their bytes (proofs/QuietLines): their pieces are gone through. Before a
+-- token at which a statement starts stand the line's first byte, a join, a line end, `;` or `:`, and then only spaces, since
+-- a comment goes to the line's end. So a statement may begin at its byte (proofs/BytePlaces), and neither word stands there.
+-- The search for such bytes looks at each `m` (proofs/WordPlaces).
 --
 -- Laws (proofs/OneListLemmas, DecidingLemmas, OneFaultLemmas): a statement binds one list. Parsing decides of every
 -- statement whether the grammar has it, so each logical line binds a list or has a fault. Two ways to find a first bad
@@ -46,6 +50,9 @@ pub mod BindingLemmas
 pub mod StatementLemmas
 pub mod FirstWordLemmas
 pub mod WordPlaces
+pub mod BytePlaces
+pub mod QuietLines
+pub mod PassedLines
 pub mod EndLemmas
 pub mod OneListLemmas
 pub mod DecidingLemmas

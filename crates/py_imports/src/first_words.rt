@@ -1,13 +1,48 @@
-//! Where the first words of import statements stand in a text.
-ghost use Rattle.std.specs.Prelude.{◌≡◌, ◌+◌, ◌<◌, ◌≤◌, ℕ, false, List, codes, length};
+//! Where import statements may begin in a text.
+ghost use Rattle.std.specs.Prelude.{◌≡◌, ◌+◌, ◌<◌, ◌≤◌, IsTrue, ℕ, false, List, codes, length};
 ghost use Rattle.memchr.specs.Find.{OccursAt};
-ghost use Rattle.py_imports.specs.FirstWords.{BeginNowhere};
+ghost use Rattle.py_lines.specs.Character.{is_space};
+ghost use Rattle.py_imports.specs.FirstWords.{opens_statement, MayBegin, NoImportBegins, StandsOpen};
 
 use memchr::memchr;
 use std::marker::Model;
 
 /// The letter that both words have, as few other words do: it stands at place 1 of `import`, and at place 3 of `from`.
 const LETTER: u8 = b'm';
+
+/// Whether the byte is a space, a tab or a form feed.
+#[inline(always)]
+#[tactic(auto, unfolding(py_lines::specs::Character::is_space))]
+fn is_space(b: u8) -> bool
+    ensures { result ≡ is_space b }
+{
+    matches!(b, b' ' | b'\t' | b'\x0c')
+}
+
+/// Whether a statement may begin after the byte, spaces aside: a line end, `;`, `:`, or a byte that is not ASCII, as the last one of a
+/// byte order mark is.
+#[inline(always)]
+fn opens_statement(b: u8) -> bool
+    ensures { result ≡ opens_statement b }
+{
+    matches!(b, b'\n' | b'\r' | b';' | b':') || b >= 128
+}
+
+/// Whether a statement may begin at byte `place`, where a line begins at byte `start`: only spaces stand before it in its line, or
+/// between it and a byte after which a statement may begin.
+fn may_begin(text: &[u8], start: usize, place: usize) -> bool
+    requires start { start ≤ place }
+    requires within { place ≤ length text.now }
+    ensures { result ≡ false → ¬ (MayBegin text.now start place) }
+{
+    'spaces: for from in (start..place).rev() {
+        let b = text[from];
+        if !is_space(b) {
+            return opens_statement(b);
+        }
+    }
+    true
+}
 
 /// Whether the word stands in the text at byte `place`.
 #[inline(always)]
@@ -18,38 +53,54 @@ fn stands_at(text: &[u8], word: &[u8], place: usize) -> bool
     text[place..].starts_with(word)
 }
 
-/// Whether the letter at byte `place` stands in one of the words.
+/// Whether `from` stands round the letter at byte `letter`, where a statement may begin and a line begins at byte `start`.
 #[inline(always)]
-fn is_in_word(text: &[u8], place: usize) -> bool
-    requires { place < length text.now }
-    ensures import { result ≡ false → (k : ℕ) → k + 1 ≡ place
-        → ¬ (OccursAt text.now (codes "import") k) }
-    ensures from { result ≡ false → (k : ℕ) → k + 3 ≡ place
-        → ¬ (OccursAt text.now (codes "from") k) }
+fn from_at(text: &[u8], start: usize, letter: usize) -> bool
+    requires start { start ≤ letter }
+    requires within { letter < length text.now }
+    ensures none { result ≡ false → (k : ℕ) → start ≤ k → k + 3 ≡ letter
+        → MayBegin text.now start k → ¬ (OccursAt text.now (codes "from") k) }
+    ensures room { IsTrue result → start + 3 ≤ letter }
 {
-    (place >= 1 && stands_at(text, b"import", place - 1))
-        || (place >= 3 && stands_at(text, b"from", place - 3))
+    letter - start >= 3
+        && stands_at(text, b"from", letter - 3)
+        && may_begin(text, start, letter - 3)
 }
 
-/// A byte, from `start` on, before which neither word begins: at most two bytes before one of them, or the text's end.
-fn next_word(text: &[u8], start: usize) -> usize
+/// Whether `import` stands round the letter at byte `letter`, where a statement may begin and a line begins at byte `start`.
+#[inline(always)]
+fn import_at(text: &[u8], start: usize, letter: usize) -> bool
+    requires start { start ≤ letter }
+    requires within { letter < length text.now }
+    ensures none { result ≡ false → (k : ℕ) → start ≤ k → k + 1 ≡ letter
+        → MayBegin text.now start k → ¬ (OccursAt text.now (codes "import") k) }
+    ensures room { IsTrue result → start + 1 ≤ letter }
+{
+    letter > start && stands_at(text, b"import", letter - 1) && may_begin(text, start, letter - 1)
+}
+
+/// The first byte, from `start` on, where a line begins, at which an import statement may begin, or the text's end.
+fn next_import(text: &[u8], start: usize) -> usize
     requires { start ≤ length text.now }
-    ensures clear { BeginNowhere text.now start result }
+    ensures none { NoImportBegins text.now start result }
     ensures further { start ≤ result }
     ensures within { result ≤ length text.now }
 {
     let mut place = start;
     'letters: while let Some(len) = memchr(LETTER, &text[place..]) {
         let letter = place + len;
-        if is_in_word(text, letter) {
-            return letter.saturating_sub(3).max(start);
+        if from_at(text, start, letter) {
+            return letter - 3;
+        }
+        if import_at(text, start, letter) {
+            return letter - 1;
         }
         place = letter + 1;
     }
     text.len()
 }
 
-/// The bytes of a text from `start` up to `stop`, at none of which either word begins.
+/// The bytes of a text from `start`, where a line begins, up to `stop`, at none of which an import statement begins.
 #[derive(Clone, Copy)]
 struct Gap {
     /// The first of them.
@@ -58,28 +109,42 @@ struct Gap {
     stop: usize,
 }
 
+/// Whether byte `start` is byte `first`, where a line begins, or comes directly after a byte after which a statement may begin.
+#[inline(always)]
+fn stands_open(text: &[u8], first: usize, start: usize) -> bool
+    requires first { first ≤ start }
+    requires within { start ≤ length text.now }
+    ensures { IsTrue result → StandsOpen text.now first start }
+{
+    if start == first {
+        return true;
+    }
+    opens_statement(text[start - 1])
+}
+
 /// A gap that holds byte `start`, or ends there. The text is searched only where the known one is no such gap.
 #[inline(always)]
 fn gap_at(text: &[u8], known: Gap, start: usize) -> Gap
     requires start { start ≤ length text.now }
-    requires known { BeginNowhere text.now known.start known.stop }
+    requires known { NoImportBegins text.now known.start known.stop }
     requires within { known.stop ≤ length text.now }
-    ensures gap { BeginNowhere text.now result.start result.stop }
-    ensures start { result.start ≤ start }
+    ensures gap { NoImportBegins text.now result.start result.stop }
+    ensures none { NoImportBegins text.now start result.stop }
     ensures further { start ≤ result.stop }
     ensures within { result.stop ≤ length text.now }
 {
-    if known.start <= start && start <= known.stop {
+    if known.start <= start && start <= known.stop && stands_open(text, known.start, start) {
         return known;
     }
     Gap {
         start,
-        stop: next_word(text, start),
+        stop: next_import(text, start),
     }
 }
 
-/// Where `import` and `from` stand in a text, as words or parts of words. The text is searched once, from left to right, as far as is
-/// asked. Contracts see it as the text.
+/// Where import statements may begin in a text, by its bytes alone: `import` or `from` stands there, and before it in its line stand
+/// only spaces, or directly before these `;` or `:`. The text is searched once, from left to right, as far as is asked. Contracts see
+/// it as the text.
 #[derive(Drop)]
 pub struct FirstWords<'t> {
     /// The text.
@@ -93,7 +158,7 @@ impl<'t> Model for FirstWords<'t> {
 
     ghost view = { λ f. f.text.now };
 
-    ghost invariant = { λ f. BeginNowhere f.text.now f.gap.start f.gap.stop
+    ghost invariant = { λ f. NoImportBegins f.text.now f.gap.start f.gap.stop
         × (f.gap.stop ≤ length f.text.now) };
 }
 
@@ -104,16 +169,17 @@ impl<'t> FirstWords<'t> {
     {
         FirstWords {
             text,
-            gap: Gap { start: 0, stop: 0 },
+            // It holds no byte.
+            gap: Gap { start: 1, stop: 0 },
         }
     }
 
-    /// A byte, from `start` on, before which neither word begins: as far as the text was searched, at most two bytes before one of
-    /// them, or the text's end.
+    /// The first byte, from `start` on, where a logical line begins, at which an import statement may begin, or the text's end. Words
+    /// in strings and comments may count too. Where no line begins at `start`, the text is searched anew.
     #[inline(always)]
     pub fn clear_up_to(&mut self, start: usize) -> usize
         requires { start ≤ length self.old }
-        ensures clear { BeginNowhere self.old start result }
+        ensures none { NoImportBegins self.old start result }
         ensures further { start ≤ result }
         ensures within { result ≤ length self.old }
         ensures same { self.new ≡ self.old }

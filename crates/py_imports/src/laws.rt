@@ -1,25 +1,26 @@
 //! Laws of the definitions, which the checker proves as contracts of functions that do nothing.
 
-ghost use Rattle.std.specs.Prelude.{◌≡◌, ◌∷◌, ◌++◌, ◌⊎◌, ◌≤◌, ℕ, List, [], true, false, codes, map, nat_lt, slice_range};
-ghost use Rattle.std.specs.List.{flat_map, list_any};
+ghost use Rattle.std.specs.Prelude.{◌≡◌, ◌∷◌, ◌++◌, ◌⊎◌, ◌<◌, ◌≤◌, ℕ, List, [], true, false, codes, map, nat_lt};
+ghost use Rattle.std.specs.List.{list_any};
 ghost use Rattle.std.specs.Str.{all_scalars};
 ghost use Rattle.py_lines.specs.LogicalLine.{LogicalLine, line_of};
 ghost use Rattle.py_lines.specs.Piece.{Piece, spelled};
 ghost use Rattle.py_lines.specs.Fields.{AreReadBefore};
+ghost use Rattle.py_lines.specs.Reader.{Reader, HasGiven, PassesLines};
 ghost use Rattle.py_lines.specs.Words.{words_of};
 ghost use Rattle.py_lines.specs.declared.fault.Fault.{Fault};
 ghost use Rattle.py_lines.specs.declared.token.Token.{Token};
 ghost use Rattle.py_imports.specs.Grammar.{Terminal, Imported, IsImport, begins_import};
 ghost use Rattle.py_imports.specs.BindingValue.{BindingValue, binding_at};
 ghost use Rattle.py_imports.specs.Names.{AreNamed, HaveNames, terminals_in};
-ghost use Rattle.py_imports.specs.Shape.{terminals_of};
+ghost use Rattle.py_imports.specs.Shape.{begins_so, terminals_of};
 ghost use Rattle.py_imports.specs.Statement.{is_divider, significant};
 ghost use Rattle.py_imports.specs.ActionComment.{says};
-ghost use Rattle.py_imports.specs.Binds.{terminal_in, Binds, BindAll, IsBadAt, BindsOrIsBad};
-ghost use Rattle.py_imports.specs.FirstWords.{BeginNowhere, LacksFirstWords};
+ghost use Rattle.py_imports.specs.Binds.{Binds, BindAll, IsBadAt, BindsOrIsBad};
+ghost use Rattle.py_imports.specs.FirstWords.{LieWithoutImport, NoImportBegins};
 ghost use Rattle.py_imports.specs.declared.action_comment.ActionComment.{ActionComment};
 
-use py_lines::laws::tokens_are_words;
+use py_lines::laws::{tokens_are_words, words_hold_no_line_end};
 
 /// An import statement binds one list: the grammar relates it to no other.
 pub fn binds_one_list()
@@ -67,22 +68,19 @@ pub fn one_statement_binds_its_imports()
         → Binds line (map (binding_at token.line (nat_lt 0 line.indent)) is) }
 {}
 
-/// A logical line in whose text neither `import` nor `from` stands has no token that is spelled so, and binds nothing.
-pub fn lines_without_first_words_bind_nothing()
-    ensures word { (line : LogicalLine) → LacksFirstWords line.text
-        → list_any (λ t. begins_import (terminal_in line.text t ∷ [])) line.tokens ≡ false }
-    ensures none { (line : LogicalLine) → LacksFirstWords line.text → Binds line [] }
-{}
-
-/// A part of a text that lies where neither `import` nor `from` begins lacks both, so the logical lines whose texts it is bind
-/// nothing.
-pub fn lines_between_first_words_bind_nothing()
-    ensures part { (text : List ℕ) (start stop from to : ℕ) → BeginNowhere text start stop
-        → start ≤ from → to ≤ stop → LacksFirstWords (slice_range text from to) }
-    ensures none { (text : List ℕ) (start stop from to : ℕ) (lines : List LogicalLine)
-        → BeginNowhere text start stop → start ≤ from → to ≤ stop
-        → flat_map (λ line. line.text) lines ≡ slice_range text from to → BindAll lines [] }
-{}
+/// Logical lines that lie where no import statement begins, by the text's bytes alone, bind nothing, and none of them begins with
+/// `import` or `from`. Lines that a reader passes over lie so where no import statement begins before their end.
+pub fn lines_without_import_bind_nothing()
+    ensures binds { (lines : List LogicalLine) → LieWithoutImport lines → BindAll lines [] }
+    ensures begins { (lines : List LogicalLine) → LieWithoutImport lines
+        → list_any begins_so lines ≡ false }
+    ensures passed { (old new : Reader) (given lines : List LogicalLine) (stop : ℕ)
+        → HasGiven old given → PassesLines old lines new → NoImportBegins old.text old.place stop
+        → (old.place < new.place → new.place ≤ stop) → LieWithoutImport lines }
+{
+    tokens_are_words();
+    words_hold_no_line_end();
+}
 
 /// Two texts with `; ` between them say no action that neither of them says. So what comments say when they are joined, one
 /// of them says.

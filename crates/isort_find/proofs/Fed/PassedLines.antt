@@ -1,49 +1,27 @@
 -- A finder over pieces lets its line go, and passes over logical lines that bind nothing.
-use Rattle.std.proofs.Common.{◌≡◌, ℕ, ◌+◌, ◌-◌, ◌≤◌, zero, suc, false, not, ◌&&◌, List, [], ◌∷◌, ◌++◌, length, take, drop, slice_range, inl, refl, sym, ap, ◌∙◌, subst, append-nil, arith}
-use Rattle.std.proofs.lemmas.List.{nil_from_length}
-use Rattle.std.proofs.lemmas.List.Folds.{list_all-append}
+use Rattle.std.proofs.Common.{◌≡◌, ℕ, ◌+◌, ◌-◌, ◌≤◌, zero, suc, false, List, [], ◌++◌, length, take, drop, inl, refl, sym, ap, ◌∙◌, subst, arith, length-drop}
 use Rattle.std.specs.List.{flat_map}
+use Rattle.py_lines.specs.Given.{AreFirstLines}
 use Rattle.py_lines.specs.LogicalLine.{LogicalLine}
 use Rattle.py_lines.specs.ScannerState.{ScannerState, GoesOnWith, IsScanning, PassesPieceLines}
 use Rattle.py_imports.specs.BindingValue.{BindingValue}
 use Rattle.py_imports.specs.Binds.{BindAll}
-use Rattle.py_imports.specs.Declaration.{is_declaration}
-use Rattle.py_imports.specs.FirstWords.{BeginNowhere}
-use Rattle.isort_find.specs.Found.{firsts, ends_top}
+use Rattle.py_imports.specs.FirstWords.{LieWithoutImport, NoImportBegins}
 use Rattle.isort_find.specs.Cursor.{CursorState}
 use Rattle.isort_find.specs.Pieces.{PieceFinderState, IsBetweenLines, HasFoundIn, InEachText, fed_by}
 use Rattle.isort_find.specs.Position.{skip_in}
 use Rattle.isort_find.specs.Private.PieceSteps.{PassesLines}
-use Rattle.isort_find.specs.declared.options.FindOptions.{FindOptions}
-use Rattle.isort_find.proofs.Finds.Beginnings.{BindAll-append}
-use Rattle.isort_find.proofs.Finds.CountedLines.{AllCount}
-use Rattle.isort_find.proofs.Fed.Known.{given_first}
+use Rattle.isort_find.proofs.Finds.PassedOn.{after_passed}
 use Rattle.isort_find.proofs.Fed.LetGo.{BeginsLine, line_begun, begun_between, begun_fed, begun_held, begun_gone, begun_scanning, ended_gone}
-
--- without a top that ends, each line counts
-counts_all : (options : FindOptions) (lines : List LogicalLine) → options.top_only ≡ false → AllCount options lines
-counts_all options [] counts = refl
-counts_all options (l ∷ ls) counts = (λ i. not (counts i && is_declaration l) && counts_all options ls counts i)
 
 -- after more lines, which bind nothing, the same was found
 passed_between : (t s : ScannerState) (cursor : CursorState) (text : List ℕ) (skip : ℕ) (values : List BindingValue) (lines : List LogicalLine) (b : IsBetweenLines t cursor text skip values) → skip ≡ 0 → cursor.options.top_only ≡ false → BindAll lines [] → IsScanning s text (b.after.lines ++ lines) → IsBetweenLines s cursor text skip values
-passed_between t s cursor text skip values lines b fresh counts binds scanning =
-    let after = b.after in
-    let none : after.part ≡ [] = nil_from_length after.part (sym after.is_part.0 ∙ fresh) in
-    record {
-      after = record {
-        lines = after.lines ++ lines;
-        before = after.before ++ [];
-        part = [];
-        given = given_first text s.place s.line (after.lines ++ lines) scanning.first;
-        binds = BindAll-append after.lines lines after.before [] after.binds binds;
-        in_top = list_all-append (λ l. not (ends_top cursor.options l)) after.lines lines ∙ (λ i. after.in_top i && counts_all cursor.options lines counts i);
-        is_part = (fresh, inl refl);
-        found = after.found ∙ ap (firsts cursor.options.unique []) (ap (λ x. after.before ++ x) none ∙ sym (append-nil (after.before ++ [])));
-      };
-      released = inl scanning;
-      stands = inl fresh;
-    }
+unfolding after_passed
+passed_between t s cursor text skip values lines b fresh counts binds scanning = record {
+  after = after_passed text cursor.options t.place t.line skip values b.after fresh counts lines binds s.place s.line scanning.first;
+  released = inl scanning;
+  stands = inl fresh;
+}
 
 -- the finder goes on after bytes that were passed over, with its line let go
 gone_on : (old : PieceFinderState) (t : ScannerState) → BeginsLine old t → (s : ScannerState) (piece : List ℕ) (n : ℕ) → n ≤ length piece → s.place ≡ t.place + n → s ≡ record t { place = s.place; line = s.line } → InEachText old (take n piece) (λ text values. IsBetweenLines s old.cursor text (skip_in old.position) values) → PassesLines old piece n (line_begun old s)
@@ -67,8 +45,12 @@ gone_on old t b s piece n within place same between =
 pub passes_none : (old : PieceFinderState) (t : ScannerState) → BeginsLine old t → (piece : List ℕ) → PassesLines old piece 0 (line_begun old t)
 passes_none old t b piece = gone_on old t b t piece 0 (omega arith) (omega arith) refl (λ text values h goes. begun_between old t b text values h)
 
+-- the last lines of a text that was read so far bind nothing
+abbrev pub BindNothing : List LogicalLine → Type 0
+BindNothing lines = (text : List ℕ) (place row : ℕ) (before : List LogicalLine) → AreFirstLines text place row (before ++ lines) → BindAll lines []
+
 -- lines are passed over that bind nothing
-pub passes_lines : (old : PieceFinderState) (t : ScannerState) → BeginsLine old t → (s : ScannerState) (piece : List ℕ) (before len : ℕ) (p : PassesPieceLines t piece before len s) → skip_in old.position ≡ 0 → old.cursor.options.top_only ≡ false → BindAll p.lines [] → PassesLines old piece len (line_begun old s)
+pub passes_lines : (old : PieceFinderState) (t : ScannerState) → BeginsLine old t → (s : ScannerState) (piece : List ℕ) (before len : ℕ) (p : PassesPieceLines t piece before len s) → skip_in old.position ≡ 0 → old.cursor.options.top_only ≡ false → BindNothing p.lines → PassesLines old piece len (line_begun old s)
 passes_lines old t b s piece before len p fresh counts binds = gone_on old t b s piece len p.within p.place p.others (by len refl)
   where
     by : (n : ℕ) → len ≡ n → (text : List ℕ) (values : List BindingValue) → HasFoundIn old text values → GoesOnWith text (fed_by old) (take len piece) → IsBetweenLines s old.cursor text (skip_in old.position) values
@@ -77,12 +59,27 @@ passes_lines old t b s piece before len p fresh counts binds = gone_on old t b s
         let between = begun_between old t b text values h in
         let lines = between.after.lines in
         let here = subst (λ (k : ℕ). GoesOnWith text k (take len piece)) (begun_fed old t b) goes in
-        passed_between t s old.cursor text (skip_in old.position) values p.lines between fresh counts binds (p.scans (omega (arith, some)) text lines (begun_scanning old t b text lines between.released) here).0
+        let scanning = (p.scans (omega (arith, some)) text lines (begun_scanning old t b text lines between.released) here).0 in
+        passed_between t s old.cursor text (skip_in old.position) values p.lines between fresh counts (binds text s.place s.line lines scanning.first) scanning
 
--- the lines that a scanner passes over before either word begins bind nothing
-pub passed_bind : (piece : List ℕ) (start stop before len : ℕ) (lines : List LogicalLine)
-    → ((text : List ℕ) (start stop from to : ℕ) (lines : List LogicalLine) → BeginNowhere text start stop → start ≤ from → to ≤ stop → flat_map (λ line. line.text) lines ≡ slice_range text from to → BindAll lines [])
-    → BeginNowhere piece start stop → start ≤ stop → before ≡ stop - start → len ≤ before → flat_map (λ line. line.text) lines ≡ take len (drop start piece) → BindAll lines []
-passed_bind piece start stop before len lines law nowhere further is ends texts =
+-- the lines that a scanner passes over before an import statement may begin bind nothing
+pub passed_bind : ((lines : List LogicalLine) → LieWithoutImport lines → BindAll lines []) → (piece : List ℕ) (start stop len : ℕ) (lines : List LogicalLine)
+    → NoImportBegins piece start stop → start ≤ length piece → start + len ≤ stop → len ≤ length (drop start piece) → flat_map (λ (line : LogicalLine). line.text) lines ≡ take len (drop start piece) → BindNothing lines
+passed_bind law piece start stop len lines none within clear fits texts text place row before first =
     let size : len ≡ start + len - start = omega arith in
-    law piece start stop start (start + len) lines nowhere (omega arith) (omega (arith, further, is, ends)) (texts ∙ ap (λ k. take k (drop start piece)) size)
+    law lines (record {
+      text = text;
+      place = place;
+      row = row;
+      before = before;
+      first = first;
+      part = piece;
+      start = start;
+      to = start + len;
+      stop = stop;
+      none = none;
+      ordered = omega arith;
+      clear = clear;
+      within = omega (arith, within, fits, length-drop start piece);
+      bytes = texts ∙ ap (λ k. take k (drop start piece)) size;
+    })

@@ -1,20 +1,24 @@
 -- A finder that has the whole text passes over logical lines that bind nothing.
-use Rattle.std.proofs.Common.{◌≡◌, ℕ, ◌+◌, ◌<◌, ◌≤◌, false, ◌&&◌, List, [], ◌∷◌, length, slice_range, refl, sym, ap, ◌∙◌, subst, arith}
+use Rattle.std.proofs.Common.{◌≡◌, ℕ, ◌≤◌, Bool, true, false, nat_lt, List, [], ◌∷◌, ◌++◌, length, refl, sym, ap, ◌∙◌, subst, append_assoc, arith}
+use Rattle.std.proofs.lemmas.Bool.{ltb-true, ltb-false}
+use Rattle.py_lines.specs.Given.{AreFirstLines}
 use Rattle.py_lines.specs.LogicalLine.{LogicalLine}
 use Rattle.py_lines.specs.Lines.{PassesUpTo}
-use Rattle.py_lines.specs.Reader.{Reader, PassesLines}
-use Rattle.py_imports.specs.Binds.{Binds}
-use Rattle.py_imports.specs.Declaration.{is_declaration}
-use Rattle.py_imports.specs.FirstWords.{LacksFirstWords}
-use Rattle.isort_find.specs.Finder.{FinderState, IsBeforeLine, finder_state, finder_text, options_of}
+use Rattle.py_lines.specs.Reader.{Reader, HasGiven, PassesLines}
+use Rattle.py_imports.specs.Binds.{BindAll}
+use Rattle.py_imports.specs.FirstWords.{NoImportBegins}
+use Rattle.isort_find.specs.Cursor.{HasStopped, IsAfter}
+use Rattle.isort_find.specs.Finder.{FinderState, finder_state, finder_text, options_of}
 use Rattle.isort_find.specs.Position.{phase_in, skip_in, is_unread}
-use Rattle.isort_find.specs.Private.FinderSteps.{StandsBefore, ReadsOn}
-use Rattle.isort_find.specs.Private.KnownLaws.{BasicLaws}
+use Rattle.isort_find.specs.Private.FinderSteps.{StandsBefore}
 use Rattle.isort_find.specs.Private.Walks.{after_line}
 use Rattle.isort_find.specs.declared.walker.Position.{Position}
 use Rattle.isort_find.specs.declared.walker.Phase.TheVariants as phase
 use Rattle.isort_find.specs.declared.walker.Position.TheVariants as position
-use Rattle.isort_find.proofs.Wholes.ReadLine.{before_line, bytes_read, passes_plain}
+use Rattle.isort_find.proofs.Finds.NextLines.{reader_is}
+use Rattle.isort_find.proofs.Finds.PassedOn.{after_passed}
+use Rattle.isort_find.proofs.Finds.SettledFound.{append-nil-lines}
+use Rattle.isort_find.proofs.Wholes.ReadLine.{before_line, bytes_read}
 
 -- where the line read last is left
 pub left_position : (s : Position) → phase_in s ≡ phase.Open → is_unread s ≡ false → skip_in s ≡ 0 → after_line s ≡ position.Between 0
@@ -24,58 +28,52 @@ left_position (position.Within pending) opened read fresh = refl
 left_position (position.End passed) opened read fresh = absurd cc
 left_position (position.Fault fault) opened read fresh = absurd cc
 
--- the line read last is left
-pub leaves : (old f : FinderState) → skip_in f.position ≡ 0 → StandsBefore old f → StandsBefore old (finder_state f.reader (position.Between 0) f.cursor)
-leaves old f fresh b = record {
-  found = λ values h.
-      let q = b.found values h in
-      let before = subst (λ (n : ℕ). IsBeforeLine f n values) fresh (before_line f.reader f.position f.cursor values b.is_open b.none b.read q) in
-      record { stopped = q.stopped; reached = record { no_fault = before.no_fault; after = before.after } };
-  is_open = refl;
-  none = refl;
-  read = refl;
-  text = b.text;
-  cursor = b.cursor;
-  falls = (let size = bytes_read f.position (length (finder_text f)) f.reader.place b.read in let none = ap length b.none in let k = b.falls in omega (arith, size, none, k));
-}
-
--- a line that was read is passed
-passed_one : (old f : FinderState) → ReadsOn old (finder_state f.reader (position.Between 0) f.cursor) → StandsBefore old (finder_state f.reader (position.Between 0) f.cursor)
-passed_one old f r = record {
-  found = r.keeps.kept;
-  is_open = refl;
-  none = refl;
-  read = refl;
-  text = r.keeps.task.text;
-  cursor = r.cursor refl;
-  falls = let k = r.falls refl in omega (arith, k);
-}
-
--- lines that are passed end later than they begin, and no later than this
-place_grows : (lines : List LogicalLine) (before after : Reader) → PassesLines before lines after → before.place + length lines ≤ after.place
+-- lines that are passed end no earlier than they begin
+place_grows : (lines : List LogicalLine) (before after : Reader) → PassesLines before lines after → before.place ≤ after.place
 place_grows [] before after passes = omega (arith, ap (λ (r : Reader). r.place) passes)
-place_grows (line ∷ lines) before after (mid, passes, others) = omega (arith, passes.continues.place, passes.continues.some_text, place_grows lines mid after others)
+place_grows (line ∷ lines) before after (mid, passes, others) = omega (arith, passes.continues.place, place_grows lines mid after others)
 
 -- they are passed in one text
 pub passed_text : (lines : List LogicalLine) (before after : Reader) → PassesLines before lines after → after.text ≡ before.text
 passed_text [] before after passes = ap (λ (r : Reader). r.text) passes
 passed_text (line ∷ lines) before after (mid, passes, others) = passed_text lines mid after others ∙ passes.continues.text
 
--- lines from one byte up to another, where neither word begins, are passed one after another
-all_passed : BasicLaws → (old : FinderState) (text : List ℕ) (start stop : ℕ) → ((from to : ℕ) → start ≤ from → to ≤ stop → LacksFirstWords (slice_range text from to)) → ((line : LogicalLine) → LacksFirstWords line.text → Binds line [])
-    → (lines : List LogicalLine) (f : FinderState) (r : Reader) → PassesLines f.reader lines r → finder_text f ≡ text → start ≤ f.reader.place → (0 < length lines → r.place ≤ stop) → (options_of f).top_only ≡ false → skip_in f.position ≡ 0 → StandsBefore old f → StandsBefore old (finder_state r (position.Between 0) f.cursor)
-all_passed one old text start stop part nothing [] f r passes same low high counts fresh b = subst (λ (x : Reader). StandsBefore old (finder_state x (position.Between 0) f.cursor)) (sym passes) (leaves old f fresh b)
-all_passed one old text start stop part nothing (line ∷ lines) f r (mid, passes, others) same low high counts fresh b =
-    let on = passes.continues in
-    let grows = place_grows lines mid r others in
-    let room : r.place ≤ stop = high (omega arith) in
-    let lacks = subst LacksFirstWords (sym (passes.text ∙ ap (λ t. slice_range t f.reader.place mid.place) same)) (part f.reader.place mid.place low (omega (arith, grows, room))) in
-    let next : FinderState = finder_state mid (position.Between 0) f.cursor in
-    all_passed one old text start stop part nothing lines next r others (on.text ∙ same) (omega (arith, low, on.place)) (λ more. room) counts refl (passed_one old next (passes_plain one old f (options_of f) mid b refl (line, on, (nothing line lacks, ap (λ t. t && is_declaration line) counts))))
+-- they are given after those before
+passed_given : (lines given : List LogicalLine) (before after : Reader) → PassesLines before lines after → HasGiven before given → HasGiven after (given ++ lines)
+passed_given [] given before after passes h = subst (λ (r : Reader). HasGiven r (given ++ [])) (sym passes) (subst (HasGiven before) (sym (append-nil-lines given)) h)
+passed_given (line ∷ lines) given before after (mid, passes, others) h = subst (HasGiven after) (append_assoc given (line ∷ []) lines) (passed_given lines (given ++ line ∷ []) mid after others (passes.continues.given given h))
 
--- lines are passed over that hold neither word
-pub passes_lines : BasicLaws → (f : FinderState) (start stop len : ℕ) (r : Reader) → ((from to : ℕ) → start ≤ from → to ≤ stop → LacksFirstWords (slice_range (finder_text f) from to)) → ((line : LogicalLine) → LacksFirstWords line.text → Binds line [])
-    → PassesUpTo f.reader stop len r → start ≤ f.reader.place → (options_of f).top_only ≡ false → skip_in f.position ≡ 0 → StandsBefore f f → StandsBefore f (finder_state r (position.Between 0) f.cursor)
-passes_lines one f start stop len r part nothing p low counts fresh b =
+-- the search begins where the reader stands, which is in the text
+pub from_place : (text : List ℕ) (start stop place : ℕ) → (place ≤ length text → start ≡ place) → stop ≤ length text → NoImportBegins text start stop → NoImportBegins text place stop
+from_place text start stop place same within none = by (nat_lt (length text) place) refl
+  where
+    by : (b : Bool) → nat_lt (length text) place ≡ b → NoImportBegins text place stop
+    by true e = λ k above below. absurd (omega (arith, ltb-true (length text) place e, above, below, within))
+    by false e = subst (λ (n : ℕ). NoImportBegins text n stop) (same (ltb-false (length text) place e)) none
+
+-- lines are passed over that bind nothing, after those that were given
+pub passes_lines : (f : FinderState) (stop len : ℕ) (r : Reader) (p : PassesUpTo f.reader stop len r) → ((given : List LogicalLine) → HasGiven f.reader given → BindAll p.lines [])
+    → (options_of f).top_only ≡ false → skip_in f.position ≡ 0 → StandsBefore f f → StandsBefore f (finder_state r (position.Between 0) f.cursor)
+passes_lines f stop len r p binds counts fresh b =
     let grows = place_grows p.lines f.reader r p.passes in
-    all_passed one f (finder_text f) start stop part nothing p.lines f r p.passes refl low (λ some. p.within (omega (arith, some, grows, p.place))) counts fresh b
+    let same = passed_text p.lines f.reader r p.passes in
+    let size = bytes_read f.position (length (finder_text f)) f.reader.place b.read in
+    let none = ap length b.none in
+    record {
+      found = λ values h.
+          let q = before_line f.reader f.position f.cursor values b.is_open b.none b.read h in
+          let given = subst (λ (x : Reader). HasGiven x q.after.lines) (sym (reader_is f.reader q.no_fault)) q.after.given in
+          let all = passed_given p.lines q.after.lines f.reader r p.passes given in
+          let first = subst (λ (t : List ℕ). AreFirstLines t r.place r.line (q.after.lines ++ p.lines)) same all.first in
+          let after = after_passed (finder_text f) (options_of f) f.reader.place f.reader.line (skip_in f.position) values q.after fresh counts p.lines (binds q.after.lines given) r.place r.line first in
+          record {
+            stopped = subst (λ (t : List ℕ). HasStopped t f.cursor values) (sym same) h.stopped;
+            reached = record { no_fault = all.no_fault; after = subst (λ (t : List ℕ). IsAfter t (options_of f) r.place r.line 0 values) (sym same) (subst (λ (n : ℕ). IsAfter (finder_text f) (options_of f) r.place r.line n values) fresh after) };
+          };
+      is_open = refl;
+      none = refl;
+      read = refl;
+      text = same;
+      cursor = refl;
+      falls = omega (arith, size, none, grows, ap length same);
+    }

@@ -14,7 +14,7 @@ use Rattle.isort_sort.specs.Member.{Member}
 use Rattle.isort_sort.specs.Statement.{Statement, straight, names, single, module_of}
 use Rattle.isort_sort.specs.Statement.{star as all_of}
 use Rattle.isort_sort.specs.Width.{width}
-use Rattle.isort_sort.specs.Wrapping.{item_text, items_text, head, four_spaces, remark, trailing_comma, in_brackets, hanging, hanging_in_brackets, wrapped, flat, is_wrapped, names_text, statement_text, fits_line, IsCut}
+use Rattle.isort_sort.specs.Wrapping.{item_text, items_text, head, four_spaces, remark, trailing_comma, in_brackets, hanging, hanging_in_brackets, flat, is_wrapped, names_text, statement_text, fits_line, IsCut}
 use Rattle.isort_sort.specs.WrittenLine.{IsRemark, AreRemarks, AreReadMembers}
 use Rattle.isort_sort.proofs.Orders.InOrder.{head_in}
 use Rattle.isort_sort.proofs.Orders.Statements.{AreOrders}

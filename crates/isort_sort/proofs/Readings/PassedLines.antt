@@ -1,13 +1,19 @@
--- Lines that were passed over without their tokens hold neither word and say nothing, so they are read.
-use Rattle.std.proofs.Common.{◌≡◌, ℕ, ◌+◌, ◌<◌, ◌≤◌, List, [], ◌∷◌, length, sym, ap, ◌∙◌, subst, arith}
+-- Lines that were passed over without their tokens bind nothing and say nothing, so they are read.
+use Rattle.std.proofs.Common.{◌≡◌, ℕ, ◌+◌, ◌<◌, ◌≤◌, false, List, [], ◌∷◌, ◌++◌, length, refl, sym, ap, ◌∙◌, subst, arith}
 use Rattle.py_lines.specs.LogicalLine.{LogicalLine}
 use Rattle.py_lines.specs.Reader.{Reader, PassesLine, PassesLines}
-use Rattle.isort_sort.specs.Private.Markers.{HoldsBytesAt, IsFree}
+use Rattle.std.specs.List.{list_any}
+use Rattle.std.proofs.lemmas.Bool.{or_parts}
+use Rattle.py_imports.specs.BindingValue.{BindingValue}
+use Rattle.py_imports.specs.Binds.{Binds, BindAll}
+use Rattle.py_imports.specs.Shape.{begins_so}
+use Rattle.isort_sort.specs.Private.Markers.{HoldsBytesAt, IsSilentBetween}
 use Rattle.isort_sort.specs.Private.Reading.{IsKnown, MayPass, stop_of}
 use Rattle.isort_sort.specs.declared.read.LineReader.{LineReader}
-use Rattle.isort_sort.proofs.Readings.Passing.{free_passed, passed_to, BindsNothing, SpellsNone}
+use Rattle.isort_sort.proofs.Readings.Passing.{passed_on, passed_to}
 use Rattle.isort_sort.proofs.Readings.ReadSoFar.{known_on, stands_after}
-use Rattle.isort_sort.proofs.Rows.Markers.{lacks_first_words, later_free, slice_stands}
+use Rattle.isort_sort.proofs.Rows.Markers.{later_silence, slice_stands, stays_silent}
+use Rattle.isort_sort.proofs.Rows.Silence.{silent_actions}
 use Rattle.isort_sort.proofs.Rows.Texts.{given_place}
 
 -- the reader after lines up to this byte, which no block takes in
@@ -27,25 +33,36 @@ same_text (line ∷ lines) before after (mid, passes, others) = same_text lines 
 same_place : (reader : Reader) (r : LineReader) → IsKnown reader r → r.blocks.place ≡ reader.place
 same_place reader r known = known.so_far.place ∙ sym (given_place reader known.given known.are_given)
 
-module _ (none : BindsNothing) (word : SpellsNone) (stop : ℕ) where
+-- no bindings in two parts
+no_first : (first others : List BindingValue) → [] ≡ first ++ others → first ≡ []
+no_first [] others e = refl
+no_first (b ∷ bs) others e = absurd cc
+
+no_others : (first others : List BindingValue) → [] ≡ first ++ others → others ≡ []
+no_others [] others e = sym e
+no_others (b ∷ bs) others e = absurd cc
+
+module _ (stop : ℕ) where
   -- one line
-  one_passed : (before mid : Reader) (old : LineReader) (line : LogicalLine) → PassesLine before line mid → mid.place ≤ stop → IsFree before.text before.place stop → MayPass old → IsKnown before old → IsKnown mid (moved old mid.place)
-  one_passed before mid old line passes within free may known =
+  one_passed : (before mid : Reader) (old : LineReader) (line : LogicalLine) → PassesLine before line mid → mid.place ≤ stop → Binds line [] → begins_so line ≡ false → IsSilentBetween before.text before.place stop → MayPass old → IsKnown before old → IsKnown mid (moved old mid.place)
+  one_passed before mid old line passes within binds begins silent may known =
       let on = passes.continues in
       let stands : HoldsBytesAt before.text line.text before.place = subst (λ (t : List ℕ). HoldsBytesAt before.text t before.place) (sym passes.text) (slice_stands before.text before.place mid.place (omega (arith, on.place)) (omega (arith, on.within, ap length on.text))) in
       let ends : before.place + length line.text ≤ stop = omega (arith, within, on.place) in
       let here : stop_of line ≡ mid.place = omega (arith, on.place, stands_after before mid known.given line on known.are_given, given_place before known.given known.are_given) in
       subst (λ n. IsKnown mid (moved old n)) here
-      (known_on before mid old (moved old (stop_of line)) line [] on (none line (lacks_first_words before.text line.text before.place stop stands free.0 ends)) (free_passed before.text line before.place stop old word stands free ends passes.utf8 may) known)
+      (known_on before mid old (moved old (stop_of line)) line [] on binds (passed_on line old passes.utf8 (silent_actions line (stays_silent before.text line.text before.place stop stands silent ends)) begins may) known)
 
   -- and those after it
-  pub all_passed : (lines : List LogicalLine) (before after : Reader) (old : LineReader) → PassesLines before lines after → (before.place < after.place → after.place ≤ stop) → IsFree before.text before.place stop → MayPass old → IsKnown before old → IsKnown after (moved old after.place)
-  all_passed [] before after old passes within free may known =
+  pub all_passed : (lines : List LogicalLine) (before after : Reader) (old : LineReader) → PassesLines before lines after → (before.place < after.place → after.place ≤ stop) → BindAll lines [] → list_any begins_so lines ≡ false → IsSilentBetween before.text before.place stop → MayPass old → IsKnown before old → IsKnown after (moved old after.place)
+  all_passed [] before after old passes within bind begins silent may known =
       let same = same_place before old known in
       subst (λ (r : Reader). IsKnown r (moved old r.place)) (sym passes) (subst (λ (r : LineReader). IsKnown before r) (λ i. record old { blocks = record old.blocks { place = same i } }) known)
-  all_passed (line ∷ lines) before after old (mid, passes, others) within free may known =
+  all_passed (line ∷ lines) before after old (mid, passes, others) within (first, later, e, binds, bind) begins silent may known =
       let on = passes.continues in
-      let later = later_place lines mid after others in
-      let room : after.place ≤ stop = within (omega (arith, on.place, on.some_text, later)) in
-      let rest : IsFree mid.text mid.place stop = subst (λ (t : List ℕ). IsFree t mid.place stop) (sym on.text) (later_free before.text before.place stop mid.place free (omega (arith, on.place))) in
-      all_passed lines mid after (moved old mid.place) others (λ more. room) rest may (one_passed before mid old line passes (omega (arith, later, room)) free may known)
+      let after_mid = later_place lines mid after others in
+      let room : after.place ≤ stop = within (omega (arith, on.place, on.some_text, after_mid)) in
+      let rest : IsSilentBetween mid.text mid.place stop = subst (λ (t : List ℕ). IsSilentBetween t mid.place stop) (sym on.text) (later_silence before.text before.place stop mid.place silent (omega (arith, on.place))) in
+      let neither = or_parts (begins_so line) (list_any begins_so lines) begins in
+      all_passed lines mid after (moved old mid.place) others (λ more. room) (subst (BindAll lines) (no_others first later e) bind) neither.1 rest may
+      (one_passed before mid old line passes (omega (arith, after_mid, room)) (subst (Binds line) (no_first first later e) binds) neither.0 silent may known)

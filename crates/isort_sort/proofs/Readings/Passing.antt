@@ -1,5 +1,5 @@
 -- A line that is passed over: it has no import statement, says nothing, and no block may go on.
-use Rattle.std.proofs.Common.{◌≡◌, ℕ, ◌+◌, ◌≤◌, Bool, true, false, cond, not, ◌||◌, ◌&&◌, nat_lt, None, Some, List, [], ◌∷◌, ◌++◌, length, map, inl, inr, refl, sym, ap, ◌∙◌, codes, arith}
+use Rattle.std.proofs.Common.{◌≡◌, ℕ, Bool, true, false, cond, not, ◌||◌, ◌&&◌, nat_lt, None, Some, List, [], ◌∷◌, ◌++◌, map, inl, inr, refl, sym, ap, ◌∙◌}
 use Rattle.std.specs.Prelude.{slice_get, option_map}
 use Rattle.std.specs.Option.{option_map_or}
 use Rattle.std.specs.List.{list_any}
@@ -8,15 +8,13 @@ use Rattle.py_lines.specs.LogicalLine.{LogicalLine}
 use Rattle.py_lines.specs.declared.unit.UnitKind.{UnitKind}
 use Rattle.py_lines.specs.declared.unit.UnitKind.TheVariants as unit_kind
 use Rattle.py_lines.specs.declared.token.Token.{Token}
-use Rattle.py_imports.specs.Binds.{terminal_in, Binds}
+use Rattle.py_imports.specs.Binds.{terminal_in}
 use Rattle.py_imports.specs.Declaration.{is_code}
-use Rattle.py_imports.specs.FirstWords.{LacksFirstWords}
 use Rattle.py_imports.specs.Grammar.{Terminal, import_word, begins_import}
 use Rattle.py_imports.specs.Shape.{begins_so}
 use Rattle.py_imports.specs.Statement.{is_comment, significant}
 use Rattle.py_imports.specs.declared.line_shape.Shape.TheVariants as shape
 use Rattle.isort_sort.specs.Private.Actions.{asks_to_skip, no_actions, AreActions}
-use Rattle.isort_sort.specs.Private.Markers.{HoldsBytesAt, IsFree}
 use Rattle.isort_sort.specs.Private.Found.{Finding, with_blank, with_comments, closed_block, after_blank, after_comments, after_other}
 use Rattle.isort_sort.specs.Line.{comment_texts}
 use Rattle.isort_sort.specs.Private.LineRole.{turned}
@@ -26,9 +24,7 @@ use Rattle.isort_sort.specs.declared.read.LineReader.{LineReader}
 use Rattle.isort_sort.specs.declared.skip.SkipReader.{SkipReader}
 use Rattle.isort_sort.proofs.Readings.Lines.{any_match, finds_blank, finds_comments, finds_other}
 use Rattle.isort_sort.proofs.Readings.LinesRead.{read_on, still_before}
-use Rattle.isort_sort.proofs.Rows.Markers.{lacks, lacks_first_words}
 use Rattle.isort_sort.proofs.Rows.Roles.{sortable_begins}
-use Rattle.isort_sort.proofs.Rows.Silence.{silent_actions}
 use Rattle.isort_sort.proofs.Rows.Skips.{skip_pushed}
 use Rattle.std.proofs.Math.Bool.{and-false, or-false}
 use Rattle.std.proofs.lemmas.Bool.{or_parts}
@@ -111,15 +107,3 @@ passed_on line old utf8 quiet plain may lines stands h = read_on lines line old 
     (skips_on line old.skip quiet may.0)
     stands
     (still_before lines line old (begun_by lines old may.0 h) h)
-
--- a line without either word binds nothing, and no token of it is spelled as one
-abbrev pub BindsNothing : Type 0
-BindsNothing = (line : LogicalLine) → LacksFirstWords line.text → Binds line []
-
-abbrev pub SpellsNone : Type 0
-SpellsNone = (line : LogicalLine) → LacksFirstWords line.text → list_any (λ t. begins_import (terminal_in line.text t ∷ [])) line.tokens ≡ false
-
--- a line that ends where neither word has begun, nor `isort:`
-pub free_passed : (text : List ℕ) (line : LogicalLine) (start stop : ℕ) (old : LineReader) → SpellsNone → HoldsBytesAt text line.text start → IsFree text start stop → start + length line.text ≤ stop → IsUtf8 line.text → MayPass old → ReadsLine line old (record old { blocks = passed_to (stop_of line) old.blocks })
-free_passed text line start stop old word stands free ends utf8 may =
-    passed_on line old utf8 (silent_actions line (lacks (codes "isort:") text line.text start stop (omega arith) stands free.1 ends)) (begins_none line (word line (lacks_first_words text line.text start stop stands free.0 ends))) may

@@ -1,12 +1,13 @@
 -- Where a word stands in a text, and the lines in which it stands nowhere.
-use Rattle.std.proofs.Common.{◌≡◌, ℕ, ◌+◌, ◌-◌, ◌<◌, ◌≤◌, None, Some, List, ◌++◌, length, take, drop, slice_range, get_or-drop, codes, sym, ap, ◌∙◌, subst, append_assoc, arith, length-append, length-drop}
+use Rattle.std.proofs.Common.{◌≡◌, ℕ, ◌+◌, ◌-◌, ◌≤◌, None, Some, List, ◌++◌, length, take, drop, slice_range, get_or-drop, codes, sym, ap, ◌∙◌, subst, append_assoc, arith, length-append, length-drop}
 use Rattle.std.proofs.lemmas.List.{length-take-le, take-append-drop, take_all}
 use Rattle.std.proofs.lemmas.List.Folds.{drop_split}
 use Rattle.std.proofs.Math.Seq.{drop-append_seam, take-append_seam}
 use Rattle.std.specs.Prelude.{slice_index}
 use Rattle.memchr.specs.Find.{FindsNeedle, OccursAt, Nowhere}
 use Rattle.memchr.proofs.lemmas.MatchLemmas.{OccursAt-from_part}
-use Rattle.py_imports.specs.FirstWords.{BeginNowhere, Lacks, LacksFirstWords}
+use Rattle.py_imports.specs.FirstWords.{NoImportBegins}
+use Rattle.isort_sort.specs.Private.Actions.{IsSilent}
 use Rattle.isort_sort.specs.Private.Markers.{HoldsBytesAt, IsFree, IsSilentBetween}
 
 -- the rest of a text
@@ -19,22 +20,13 @@ in_rest text start place low =
     let same : start + (place - start) ≡ place = omega (arith, low) in
     ap (λ rest. slice_index rest (place - start)) (rest_is text start) ∙ get_or-drop start text (place - start) 0 ∙ ap (λ i. slice_index text i) same
 
--- neither word begins in a part of a gap
-pub later_start : (text : List ℕ) (start stop from : ℕ) → BeginNowhere text start stop → start ≤ from → BeginNowhere text from stop
-later_start text start stop from nowhere low = (λ k above below. nowhere.0 k (omega (arith, low, above)) below, λ k above below. nowhere.1 k (omega (arith, low, above)) below)
-
+-- `isort:` begins nowhere in a part of a silence
 pub later_silence : (text : List ℕ) (start stop from : ℕ) → IsSilentBetween text start stop → start ≤ from → IsSilentBetween text from stop
 later_silence text start stop from silent low = λ k above below. silent k (omega (arith, low, above)) below
 
-pub later_free : (text : List ℕ) (start stop from : ℕ) → IsFree text start stop → start ≤ from → IsFree text from stop
-later_free text start stop from free low = (later_start text start stop from free.0 low, later_silence text start stop from free.1 low)
-
--- as much as is free of both words and of `isort:`
-pub both_free : (text : List ℕ) (start words actions before : ℕ) → BeginNowhere text start words → IsSilentBetween text start actions → before ≤ words → before ≤ actions → IsFree text start before
-both_free text start words actions before nowhere silent less few = (
-  (λ k above below. nowhere.0 k above (omega (arith, below, less)), λ k above below. nowhere.1 k above (omega (arith, below, less))),
-  λ k above below. silent k above (omega (arith, below, few)),
-)
+-- as much as is free of both
+pub both_free : (text : List ℕ) (start imports actions before : ℕ) → NoImportBegins text start imports → IsSilentBetween text start actions → before ≤ imports → before ≤ actions → IsFree text start before
+both_free text start imports actions before none silent less few = ((λ k above below. none k above (omega (arith, below, less))), (λ k above below. silent k above (omega (arith, below, few))))
 
 -- a word between two texts
 between : (before word after : List ℕ) → OccursAt (before ++ (word ++ after)) word (length before)
@@ -43,9 +35,10 @@ between before word after =
     (omega (arith, length-append before (word ++ after), length-append word after))
     (ap (take (length word)) (drop-append_seam before (word ++ after)) ∙ take-append_seam word after)
 
--- bytes that end before the next place of the word lack it
-pub lacks : (word text bytes : List ℕ) (start stop : ℕ) → 0 < length word → HoldsBytesAt text bytes start → Nowhere (OccursAt text word) start stop → start + length bytes ≤ stop → Lacks word bytes
-lacks word text bytes start stop some stands nowhere within = λ a b e.
+-- bytes that end before the next `isort:` do not hold it
+pub stays_silent : (text bytes : List ℕ) (start stop : ℕ) → HoldsBytesAt text bytes start → IsSilentBetween text start stop → start + length bytes ≤ stop → IsSilent bytes
+stays_silent text bytes start stop stands silent within = λ a b e.
+    let word = codes "isort:" in
     let rest = b ++ stands.after in
     let split : text ≡ (stands.before ++ a) ++ (word ++ rest) =
     stands.whole
@@ -55,14 +48,7 @@ lacks word text bytes start stop some stands nowhere within = λ a b e.
     let place = stands.place in
     let before : length (stands.before ++ a) ≡ length stands.before + length a = length-append stands.before a in
     let len : length bytes ≡ length a + (length word + length b) = ap length e ∙ length-append a (word ++ b) ∙ ap (λ n. length a + n) (length-append word b) in
-    nowhere (length (stands.before ++ a)) (omega (arith, place, before)) (omega (arith, place, before, len, some, within)) (subst (λ t. OccursAt t word (length (stands.before ++ a))) (sym split) (between (stands.before ++ a) word rest))
-
--- so bytes that end before both lack both
-pub lacks_first_words : (text bytes : List ℕ) (start stop : ℕ) → HoldsBytesAt text bytes start → BeginNowhere text start stop → start + length bytes ≤ stop → LacksFirstWords bytes
-lacks_first_words text bytes start stop stands nowhere within = (
-  lacks (codes "import") text bytes start stop (omega arith) stands nowhere.0 within,
-  lacks (codes "from") text bytes start stop (omega arith) stands nowhere.1 within,
-)
+    silent (length (stands.before ++ a)) (omega (arith, place, before)) (omega (arith, place, before, len, within)) (subst (λ t. OccursAt t word (length (stands.before ++ a))) (sym split) (between (stands.before ++ a) word rest))
 
 -- the bytes of a text from one place up to another
 pub slice_stands : (text : List ℕ) (start stop : ℕ) → start ≤ stop → stop ≤ length text → HoldsBytesAt text (slice_range text start stop) start

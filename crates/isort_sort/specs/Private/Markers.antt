@@ -1,16 +1,16 @@
--- Where `import`, `from` and `isort:` stand in a text.
+-- Where import statements may begin in a text, and where `isort:` stands.
 use Rattle.std.specs.Prelude.{◌≡◌, ℕ, List, ◌++◌, codes, length}
 use Rattle.memchr.specs.Find.{Nowhere, OccursAt}
-use Rattle.py_imports.specs.FirstWords.{BeginNowhere}
+use Rattle.py_imports.specs.FirstWords.{NoImportBegins}
 use Rattle.py_lines.specs.LogicalLine.{LogicalLine}
 
 -- `isort:` begins nowhere in the text from one byte up to another
 abbrev pub IsSilentBetween : List ℕ → ℕ → ℕ → Type 0
 IsSilentBetween text start stop = Nowhere (OccursAt text (codes "isort:")) start stop
 
--- nor do `import` and `from`
+-- nor does an import statement, where a line begins at the first byte
 abbrev pub IsFree : List ℕ → ℕ → ℕ → Type 0
-IsFree text start stop = BeginNowhere text start stop × IsSilentBetween text start stop
+IsFree text start stop = NoImportBegins text start stop × IsSilentBetween text start stop
 
 -- these bytes stand in the text at that byte
 pub record HoldsBytesAt (text bytes : List ℕ) (start : ℕ) : Type 0 where

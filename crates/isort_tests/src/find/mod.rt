@@ -2,3 +2,4 @@
 pub(crate) mod acts;
 mod finder;
 mod pieces;
+mod starts;

@@ -18,7 +18,11 @@ fn tells_of_a_piece_as_of_a_whole(alloc: Global, options: FindOptions, text: &[u
 
 /// A text, options, and what is told of the text with them.
 #[derive(Drop)]
-struct Row<'t>(&'t [u8], FindOptions, &'static str);
+pub(super) struct Row<'t>(
+    pub(super) &'t [u8],
+    pub(super) FindOptions,
+    pub(super) &'static str,
+);
 
 impl Row<'_> {
     /// Whether the text in two pieces tells what the row says, and the first one alone what a finder of whole texts tells

@@ -20,6 +20,15 @@ const SPANS: &[Spans] = &[
     Spans("", &[]),
     Spans("\u{feff}", &[]),
     Spans("x = 1\n", &[]),
+    // Words in a string start no statement.
+    Spans(
+        "x = 1\n\"\"\"from a to b, import c\n\"\"\"\nimport b\nimport a\n",
+        &[Block {
+            start: 35,
+            stop: 53,
+            members: 2,
+        }],
+    ),
     Spans(
         "import b\nimport a\n\nx = 1\n",
         &[Block {

@@ -1,8 +1,8 @@
 -- The line read last is let go, and lines that bind nothing are passed over.
-use Rattle.std.proofs.Common.{List, ℕ, ◌-◌, drop, refl, sym, ap, ◌∙◌, subst}
+use Rattle.std.proofs.Common.{List, ℕ, ◌-◌, drop, sym, ap, ◌∙◌, subst, arith}
 use Rattle.std.proofs.lemmas.List.{take_rest}
 use Rattle.py_lines.specs.ScannerState.{PassesPieceLines}
-use Rattle.py_imports.specs.FirstWords.{BeginNowhere}
+use Rattle.py_imports.specs.FirstWords.{NoImportBegins}
 use Rattle.isort_find.specs.Pieces.{PieceFinderState}
 use Rattle.isort_find.specs.Position.{skip_in}
 use Rattle.isort_find.specs.Private.PieceSteps.{LetsLineGo, PassesLines}
@@ -12,6 +12,13 @@ use Rattle.isort_find.proofs.pieces.PieceFinder.pass_lines.Goals as goal
 
 pub returns-then-not-may_pass_lines-clause-passes : goal.returns-then-not-may_pass_lines-clause-passes
 returns-then-not-may_pass_lines-clause-passes c =
+    let old = c.args.self.now in
+    let gone = has_let_go old _ c.requires.is_open c.requires.none_ready c.requires.open_yet (subst (LetsLineGo old) (sym c.self.view_is) c.let_go.ensures) in
+    let rest = drop c.args.start c.args.piece.now in
+    subst (PassesLines old rest 0) (sym gone.is ∙ c.self.view_is) (passes_none old c.self.inside.scanner gone.begins rest)
+
+pub returns-then-not-are_over-clause-passes : goal.returns-then-not-are_over-clause-passes
+returns-then-not-are_over-clause-passes c =
     let old = c.args.self.now in
     let gone = has_let_go old _ c.requires.is_open c.requires.none_ready c.requires.open_yet (subst (LetsLineGo old) (sym c.self.view_is) c.let_go.ensures) in
     let rest = drop c.args.start c.args.piece.now in
@@ -31,13 +38,13 @@ returns-clause-passes c =
     let start = c.args.start in
     let gone = has_let_go old _ c.requires.is_open c.requires.none_ready c.requires.open_yet (subst (LetsLineGo old) (sym c.self.view_is) c.let_go.ensures) in
     let t = c.self.inside.scanner in
-    let s = c.pass_lines.new.self in
+    let s = c.pass_lines-passed.new.self in
     let stop = c.clear_up_to.result in
     let before = stop - start in
-    let len = c.pass_lines.result in
-    let passes = subst (λ (bytes : List ℕ). PassesPieceLines t bytes before len s) (take_rest piece start) c.pass_lines.ensures.passes in
+    let len = c.pass_lines-passed.result in
+    let passes = subst (λ (bytes : List ℕ). PassesPieceLines t bytes before len s) (take_rest piece start) c.pass_lines-passed.ensures.passes in
     let fresh = ap (λ (f : PieceFinderState). skip_in f.position) (sym gone.is) ∙ c.may_pass_lines.ensures.fresh c.if-not-may_pass_lines.false in
     let counts = ap (λ (f : PieceFinderState). f.cursor.options.top_only) (sym gone.is) ∙ c.may_pass_lines.ensures.counts c.if-not-may_pass_lines.false in
-    let nowhere = subst (λ (text : List ℕ). BeginNowhere text start stop) c.requires.text c.clear_up_to.ensures.clear in
-    let bind = passed_bind piece start stop before len passes.lines c.lines_between_first_words_bind_nothing.ensures.none nowhere c.clear_up_to.ensures.further refl passes.ends passes.texts in
+    let none = subst (λ (text : List ℕ). NoImportBegins text start stop) c.requires.text c.clear_up_to.ensures.none in
+    let bind = passed_bind c.lines_without_import_bind_nothing.ensures.binds piece start stop len passes.lines none c.requires.within (omega (arith, c.clear_up_to.ensures.further, passes.ends)) passes.within passes.texts in
     subst (PassesLines old (drop start piece) len) (ap (λ (f : PieceFinderState). record f { scanning = s }) (sym gone.is)) (passes_lines old t gone.begins s (drop start piece) before len passes fresh counts bind)

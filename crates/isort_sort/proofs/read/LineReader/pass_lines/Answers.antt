@@ -1,5 +1,6 @@
--- The lines that were passed over hold neither word and say nothing.
-use Rattle.std.proofs.Common.{ℕ, List, sym, ap, subst, ◌∙◌, arith}
+-- The lines that were passed over bind nothing and say nothing.
+use Rattle.std.proofs.Common.{ℕ, ◌<◌, ◌≤◌, List, sym, ap, subst, ◌∙◌, arith}
+use Rattle.py_imports.specs.FirstWords.{LieWithoutImport}
 use Rattle.isort_sort.specs.Private.Markers.{IsFree}
 use Rattle.isort_sort.specs.Private.Reading.{IsKnown}
 use Rattle.isort_sort.specs.declared.read.LineReader.{LineReader}
@@ -14,7 +15,10 @@ returns-clause-known c =
     let passes = c.pass_lines.ensures.passes in
     let stop = c.free_up_to.result in
     let free : IsFree before.text before.place stop = subst (λ (n : ℕ). IsFree before.text n stop) c.offset-start.ensures (subst (λ (t : List ℕ). IsFree t c.offset-start.result stop) c.requires.text c.free_up_to.ensures.free) in
-    let known = all_passed c.lines_without_first_words_bind_nothing.ensures.none c.lines_without_first_words_bind_nothing.ensures.word stop passes.lines before after old passes.passes (λ more. passes.within (omega (arith, more, passes.place))) free (c.may_pass.ensures c.if-not-may_pass.false) c.requires.known in
+    let within : before.place < after.place → after.place ≤ stop = λ more. passes.within (omega (arith, more, passes.place)) in
+    let law = c.lines_without_import_bind_nothing.ensures in
+    let lie : LieWithoutImport passes.lines = law.passed before after c.requires.known.given passes.lines stop c.requires.known.are_given passes.passes free.0 within in
+    let known = all_passed stop passes.lines before after old passes.passes within (law.binds passes.lines lie) (law.begins passes.lines lie) free.1 (c.may_pass.ensures c.if-not-may_pass.false) c.requires.known in
     subst (λ (r : LineReader). IsKnown after r) (λ i. record old { blocks = sym (c.pass.ensures ∙ ap (λ (n : ℕ). record old.blocks { place = n }) c.offset.ensures) i }) known
 
 pub returns-clause-same : goal.returns-clause-same
