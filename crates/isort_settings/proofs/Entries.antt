@@ -1,6 +1,6 @@
 -- The entries of an array, one after another.
 use Rattle.std.proofs.Common.{◌≡◌, ℕ, ◌+◌, ◌<◌, Option, Some, None, List, [], ◌∷◌, ◌++◌, length, map, drop, get_or, String, Global, string_bytes, option_map, refl, sym, ap, ◌∙◌, append_assoc}
-use Rattle.std.proofs.lemmas.List.{drop_more, map-append}
+use Rattle.std.proofs.lemmas.List.{drop_more}
 use Rattle.toml.specs.Data.{Data, Items, item}
 use Rattle.toml.specs.View.{view, items_view}
 use Rattle.toml.specs.declared.value.Value.{Value}
@@ -15,16 +15,13 @@ next_entry : (so_far : List (List ℕ)) (text : List ℕ) (d : Data) (ds : Items
 next_entry so_far text d ds e = rw e (with_next so_far text (entries_of ds))
 
 -- one entry more was put after those so far
-pub one_more_entry : (items : List Value) (i : ℕ) (v : Value) (list new : List (String Global)) (s : String Global) (text : List ℕ) → i < length items → v ≡ get_or items i v
+pub one_more_entry : (items : List Value) (i : ℕ) (v : Value) (list new : List (String Global)) (text : List ℕ) → i < length items → v ≡ get_or items i v
     → entries_of (items_view items) ≡ option_map (λ more. map string_bytes list ++ more) (entries_of (items_view (drop i items)))
-    → Some text ≡ entry_of (view v) → string_bytes s ≡ text → new ≡ list ++ s ∷ []
+    → Some text ≡ entry_of (view v) → map string_bytes new ≡ map string_bytes list ++ text ∷ []
     → entries_of (items_view items) ≡ option_map (λ more. map string_bytes new ++ more) (entries_of (items_view (drop (i + 1) items)))
-one_more_entry items i v list new s text within at so_far entry same put =
+one_more_entry items i v list new text within at so_far entry put =
     let rest = drop (i + 1) items in
-    let left = entries_of (items_view rest) in
     so_far
     ∙ ap (λ vs. option_map (λ more. map string_bytes list ++ more) (entries_of (items_view vs))) (drop_more items i v within ∙ ap (λ w. w ∷ rest) (sym at))
     ∙ next_entry (map string_bytes list) text (view v) (items_view rest) (sym entry)
-    ∙ ap (λ t. option_map (λ more. (map string_bytes list ++ t ∷ []) ++ more) left) (sym same)
-    ∙ ap (λ ts. option_map (λ more. ts ++ more) left) (sym (map-append string_bytes list (s ∷ [])))
-    ∙ ap (λ xs. option_map (λ more. map string_bytes xs ++ more) left) (sym put)
+    ∙ ap (λ ts. option_map (λ more. ts ++ more) (entries_of (items_view rest))) (sym put)

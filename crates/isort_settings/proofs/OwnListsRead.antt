@@ -1,13 +1,18 @@
 -- The lists of own sections, read one after another.
-use Rattle.std.proofs.Common.{◌≡◌, ℕ, ◌+◌, ◌<◌, List, [], ◌∷◌, ◌++◌, map, length, take, get_or, Option, option_map, string_bytes, String, Global, Vec, sym, ◌∙◌, ap, arith, length-append}
+use Rattle.std.proofs.Common.{◌≡◌, ℕ, ◌+◌, ◌<◌, List, [], ◌∷◌, ◌++◌, map, length, take, get_or, Option, Some, None, option_map, ok_or, unwrap_or, string_bytes, String, Global, Vec, refl, sym, ◌∙◌, ap}
 use Rattle.std.proofs.lemmas.List.{length-map, map-append}
 use Rattle.std.proofs.lemmas.List.Elements.{filter_map-append}
+use Rattle.std.specs.List.{cons_option}
 use Rattle.std.specs.Result.{result_unwrap_or}
 use Rattle.toml.specs.Data.{Members}
+use Rattle.isort_settings.specs.declared.error.SettingsError.{SettingsError}
+use Rattle.isort_settings.specs.declared.error.SettingsError.TheVariants.{BadValue}
 use Rattle.isort_settings.specs.declared.key.SettingKey.{SettingKey}
+use Rattle.isort_settings.specs.declared.key.SettingKey.TheVariants as key
 use Rattle.isort_settings.specs.declared.table_sections.Listed.{Listed}
 use Rattle.isort_settings.specs.OwnLists.{modules_of_lists}
-use Rattle.isort_settings.specs.TableSections.{own_list, own_names_in, sections_in, first_refused}
+use Rattle.isort_settings.specs.SectionNames.{list_key}
+use Rattle.isort_settings.specs.TableSections.{entries_under, own_list, own_names_in, sections_in, Refused, refused_by, first_refused}
 use Rattle.isort_settings.specs.TableSections.Steps.{listed_value, lists_refused, bad_key, earliest}
 use Rattle.isort_settings.proofs.Names.{bytes_more}
 use Rattle.isort_settings.proofs.Refusals.{first_refused-append}
@@ -17,35 +22,56 @@ abbrev list_or_none : Members → List ℕ → List (List ℕ)
 list_or_none ms name = result_unwrap_or (own_list ms name) []
 
 -- a list more
-pub lists_more : (ms : Members) (names : List (String Global)) (i : ℕ) (name : String Global) (text : List ℕ) (lists new : List (Vec (String Global) Global)) (list : Vec (String Global) Global)
-    → i < length names → name ≡ get_or names i name → text ≡ string_bytes name → map string_bytes list.items ≡ result_unwrap_or (own_list ms text) []
-    → new ≡ lists ++ list ∷ [] → modules_of_lists lists ≡ map (λ n. result_unwrap_or (own_list ms n) []) (map string_bytes (take i names))
+pub lists_more : (ms : Members) (names : List (String Global)) (i : ℕ) (name : String Global) (text : List ℕ) (lists new : List (Vec (String Global) Global))
+    → i < length names → name ≡ get_or names i name → text ≡ string_bytes name → modules_of_lists new ≡ modules_of_lists lists ++ result_unwrap_or (own_list ms text) [] ∷ []
+    → modules_of_lists lists ≡ map (λ n. result_unwrap_or (own_list ms n) []) (map string_bytes (take i names))
     → modules_of_lists new ≡ map (λ n. result_unwrap_or (own_list ms n) []) (map string_bytes (take (i + 1) names))
-lists_more ms names i name text lists new list within at same read put so_far =
-    ap modules_of_lists put
-    ∙ map-append (λ l. map string_bytes l.items) lists (list ∷ [])
-    ∙ ap (λ ts. ts ++ map string_bytes list.items ∷ []) so_far
-    ∙ ap (λ t. map (list_or_none ms) (map string_bytes (take i names)) ++ t ∷ []) (read ∙ ap (list_or_none ms) same)
+lists_more ms names i name text lists new within at same put so_far =
+    put
+    ∙ ap (λ ts. ts ++ list_or_none ms text ∷ []) so_far
+    ∙ ap (λ t. map (list_or_none ms) (map string_bytes (take i names)) ++ list_or_none ms t ∷ []) same
     ∙ sym (map-append (list_or_none ms) (map string_bytes (take i names)) (string_bytes name ∷ []))
     ∙ ap (map (list_or_none ms)) (sym (bytes_more names i name within at))
 
 -- the first refused key, with one list more
-pub refused_more : (ms : Members) (names : List (String Global)) (i : ℕ) (name : String Global) (text : List ℕ) (bad one new : Option SettingKey)
-    → i < length names → name ≡ get_or names i name → text ≡ string_bytes name → option_map bad_key one ≡ first_refused (lists_refused ms (text ∷ []))
-    → option_map bad_key new ≡ earliest (option_map bad_key bad) (option_map bad_key one) → option_map bad_key bad ≡ first_refused (lists_refused ms (map string_bytes (take i names)))
+pub refused_more : (ms : Members) (names : List (String Global)) (i : ℕ) (name : String Global) (text : List ℕ) (bad new : Option SettingKey)
+    → i < length names → name ≡ get_or names i name → text ≡ string_bytes name
+    → option_map bad_key new ≡ earliest (option_map bad_key bad) (first_refused (lists_refused ms (text ∷ [])))
+    → option_map bad_key bad ≡ first_refused (lists_refused ms (map string_bytes (take i names)))
     → option_map bad_key new ≡ first_refused (lists_refused ms (map string_bytes (take (i + 1) names)))
-refused_more ms names i name text bad one new within at same read chosen so_far =
+refused_more ms names i name text bad new within at same chosen so_far =
     let before : List (List ℕ) = map string_bytes (take i names) in
     chosen
-    ∙ ap (λ o. earliest o (option_map bad_key one)) so_far
-    ∙ ap (earliest (first_refused (lists_refused ms before))) (read ∙ ap (λ t. first_refused (lists_refused ms (t ∷ []))) same)
+    ∙ ap (λ o. earliest o (first_refused (lists_refused ms (text ∷ [])))) so_far
+    ∙ ap (λ t. earliest (first_refused (lists_refused ms before)) (first_refused (lists_refused ms (t ∷ [])))) same
     ∙ sym (first_refused-append (lists_refused ms before) (lists_refused ms (string_bytes name ∷ [])))
     ∙ ap first_refused (sym (filter_map-append _ before (string_bytes name ∷ [])))
     ∙ ap (λ ns. first_refused (lists_refused ms ns)) (sym (bytes_more names i name within at))
 
--- one list more, by their number
-pub grown : (lists new : List (Vec (String Global) Global)) (list : Vec (String Global) Global) (i : ℕ) → new ≡ lists ++ list ∷ [] → length lists ≡ i → length new ≡ i + 1
-grown lists new list i put size = omega (arith, ap length put, length-append lists (list ∷ []), size)
+-- what was found under the key of an own section is its list, or its refusal
+pub list_added : (ms : Members) (name k : List ℕ) (found : Option (List (List ℕ))) (lists new : List (Vec (String Global) Global)) (list : Vec (String Global) Global)
+    → k ≡ list_key name → found ≡ entries_under ms k → map string_bytes list.items ≡ unwrap_or found [] → new ≡ lists ++ list ∷ []
+    → modules_of_lists new ≡ modules_of_lists lists ++ result_unwrap_or (own_list ms name) [] ∷ []
+list_added ms name k found lists new list spelled is entries put =
+    ap modules_of_lists put
+    ∙ map-append (λ l. map string_bytes l.items) lists (list ∷ [])
+    ∙ ap (λ t. modules_of_lists lists ++ t ∷ []) (entries ∙ sym (unwrapped (BadValue (key.OwnList (list_key name))) found))
+    ∙ ap (λ o. modules_of_lists lists ++ result_unwrap_or (ok_or o (BadValue (key.OwnList (list_key name)))) [] ∷ []) (is ∙ ap (entries_under ms) spelled)
+  where
+    unwrapped : (e : SettingsError) (o : Option (List (List ℕ))) → result_unwrap_or (ok_or o e) [] ≡ unwrap_or o []
+    unwrapped e None = refl
+    unwrapped e (Some entries) = refl
+
+-- whether a key whose list was found so is refused
+abbrev pub refused_so : List ℕ → Option (List (List ℕ)) → List Refused
+refused_so k found = cons_option (refused_by (key.OwnList k) (ok_or found (BadValue (key.OwnList k)))) []
+
+pub refusal_added : (ms : Members) (name k : List ℕ) (found : Option (List (List ℕ))) (bad : Option Refused)
+    → k ≡ list_key name → found ≡ entries_under ms k
+    → earliest bad (first_refused (refused_so k found)) ≡ earliest bad (first_refused (lists_refused ms (name ∷ [])))
+refusal_added ms name k found bad spelled is =
+    ap (λ o. earliest bad (first_refused (refused_so k o))) is
+    ∙ ap (λ j. earliest bad (first_refused (refused_so j (entries_under ms j)))) spelled
 
 -- a list for each own section
 pub list_for_each : (l : Listed) (ms : Members) (lists : List (List (List ℕ))) → listed_value l ≡ sections_in ms → lists ≡ map (λ n. result_unwrap_or (own_list ms n) []) (own_names_in ms)

@@ -281,6 +281,11 @@ sections_fit names = judged (are_sections names) (λ yes. (and_parts _ _ yes).1)
 pub StandOnce-five : (own : List (String Global)) → own ≡ [] → StandOnce (length own) usual_order
 StandOnce-five own none = subst (λ names. StandOnce (length names) usual_order) (sym none) (times_there 0)
 
+pub StandOnce-alone : (l : Listed) → listed_value l ≡ five_alone → StandOnce (length l.own_names.items) (order_of l.order)
+StandOnce-alone l same =
+    let fits : Fits (listed_value l) = subst Fits (sym same) (times_there 0) in
+    subst (λ n. StandOnce n (order_of l.order)) (length-map l.own_names.items string_bytes) fits
+
 -- each section of a table stands once
 pub StandOnce-table : (ms : Members) → StandOnce (length (own_names_in ms)) (sections_in ms).order
 StandOnce-table ms = of_value (get_member (name_of key.Sections) ms)

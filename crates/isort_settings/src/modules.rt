@@ -107,7 +107,7 @@ fn text_at(texts: &'static [&'static str], index: usize) -> Option<&'static str>
 fn entry_at(entries: &[String], index: usize) -> Option<&str>
     ensures { option_copied result ≡ slice_get (map string_bytes entries.now) index }
 {
-    entries.get(index).map(|entry| entry.as_str())
+    Some(entries.get(index)?.as_str())
 }
 
 /// Whether the entry is the text.

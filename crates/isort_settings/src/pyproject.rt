@@ -4,13 +4,14 @@ ghost use Rattle.std.specs.List.{list_any};
 ghost use Rattle.toml.specs.Data.{get_member, no_members};
 ghost use Rattle.toml.specs.View.{view, table_view};
 ghost use Rattle.isort_settings.specs.Keys.{Ascends};
-ghost use Rattle.isort_settings.specs.Pyproject.{document_of, table_value, table_in, profile_of, names_of, is_key};
+ghost use Rattle.isort_settings.specs.Pyproject.{document_of, table_in, profile_of, names_of, is_key};
 ghost use Rattle.isort_settings.specs.SectionNames.{list_key};
 
 use crate::error::SettingsError;
 use crate::key::SettingKey;
 use crate::own_key::OwnKey;
 use crate::profile::Profile;
+use crate::value::push_copy;
 use std::alloc::{AllocError, Global};
 use toml::{Table, Value};
 
@@ -33,36 +34,24 @@ pub fn member<'t>(table: &'t Table, name: &str) -> Option<&'t Value>
     table.get(name)
 }
 
-/// The table under a name, if the name is there.
-fn inner_table<'t>(
-    outer: &'t Table,
-    name: &str,
-    key: SettingKey,
-) -> Result<Option<&'t Table>, SettingsError>
-    ensures ok { IfOk result (λ t. table_value key (get_member name.now (table_view outer.now))
-        ≡ Ok (option_map (λ m. table_view m.now) t)) }
-    ensures refused { IfErr result
-        (λ e. table_value key (get_member name.now (table_view outer.now))
-        ≡ Err e) }
-{
-    let Some(value) = member(outer, name) else {
-        return Ok(None);
-    };
-    match value.as_table() {
-        Some(inner) => Ok(Some(inner)),
-        None => Err(SettingsError::BadValue(key)),
-    }
-}
-
 /// The table `isort` in the table `tool`, if both are there.
 pub fn settings_table(document: &Table) -> Result<Option<&Table>, SettingsError>
     ensures ok { IfOk result (λ t. table_in (table_view document.now)
         ≡ Ok (unwrap_or (option_map (λ m. table_view m.now) t) no_members)) }
     ensures refused { IfErr result (λ e. table_in (table_view document.now) ≡ Err e) }
 {
-    match inner_table(document, "tool", SettingKey::Tool)? {
-        Some(tool) => inner_table(tool, "isort", SettingKey::ToolIsort),
-        None => Ok(None),
+    let Some(tool) = member(document, "tool") else {
+        return Ok(None);
+    };
+    let Some(tool) = tool.as_table() else {
+        return Err(SettingsError::BadValue(SettingKey::Tool));
+    };
+    let Some(isort) = member(tool, "isort") else {
+        return Ok(None);
+    };
+    match isort.as_table() {
+        Some(table) => Ok(Some(table)),
+        None => Err(SettingsError::BadValue(SettingKey::ToolIsort)),
     }
 }
 
@@ -119,7 +108,7 @@ fn other_names(alloc: Global, table: &Table, own_keys: &[OwnKey]) -> Result<Vec<
     let mut unknown = Vec::new(alloc);
     for name in table.keys() {
         if !is_key(own_keys, name.as_str()) {
-            unknown.push(name.clone()?)?;
+            push_copy(alloc, &mut unknown, name.as_str())?;
         }
     }
     Ok(unknown)

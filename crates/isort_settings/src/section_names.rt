@@ -12,6 +12,7 @@ use crate::key::SettingKey;
 use crate::modules::{is_among, is_text};
 use crate::own_key::OwnKey;
 use crate::section::Section;
+use crate::value::push_copy;
 use std::alloc::{AllocError, Global};
 
 /// How many own sections there may be.
@@ -114,7 +115,7 @@ pub fn own_among(alloc: Global, names: &[String]) -> Result<Vec<String>, AllocEr
     let mut own = Vec::new(alloc);
     for name in names {
         if Section::spelled(name.as_str()).is_none() {
-            own.push(name.clone()?)?;
+            push_copy(alloc, &mut own, name.as_str())?;
         }
     }
     Ok(own)

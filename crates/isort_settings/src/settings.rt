@@ -1,5 +1,5 @@
 //! The settings, one field for each key.
-ghost use Rattle.std.specs.Prelude.{◌≡◌, ◌≤◌, ◌==◌, false, Ok, Err, MatchResult, length, slice_index};
+ghost use Rattle.std.specs.Prelude.{◌≡◌, ◌≤◌, ◌==◌, false, Ok, Err, MatchResult, length, ok_or, slice_index};
 ghost use Rattle.std.specs.Cmp.Lexicographic.{slice_cmp};
 ghost use Rattle.std.specs.Option.{option_map_or};
 ghost use Rattle.std.specs.Ordering.{is_lt, nat_cmp};
@@ -20,8 +20,8 @@ use crate::profile::Profile;
 use crate::pyproject;
 use crate::section::Section;
 use crate::section_order::SectionOrder;
-use crate::table_sections::TableSections;
-use crate::value::KeyValue;
+use crate::table_sections::{Listed, TableSections};
+use crate::value::{read_count, read_modules, read_section, read_whole, within};
 use std::alloc::Global;
 use std::cmp::Ordering;
 use toml::{Table, Value};
@@ -95,19 +95,19 @@ pub struct Settings {
 
 impl Settings {
     ghost use Rattle.std.specs.Prelude.{◌≡◌, ◌≢◌, ◌≤◌, ◌↔◌, IsOk, IfOk, IfErr, IsOkAnd, OnOk, OnErr, IsOkUnless, Ok};
-    ghost use Rattle.std.specs.Prelude.{Err, Some, None, map, option_map, string_bytes};
+    ghost use Rattle.std.specs.Prelude.{Err, Some, None, [], map, option_map, string_bytes};
     ghost use Rattle.toml.specs.View.{view, table_view};
-    ghost use Rattle.isort_settings.specs.Keys.{row_of, Ascends};
+    ghost use Rattle.isort_settings.specs.Keys.{row_of, Ascends, flag, texts, wrap_mode};
     ghost use Rattle.isort_settings.specs.Orders.{module_cmp, name_cmp};
-    ghost use Rattle.isort_settings.specs.Pyproject.{settings_of, base_value, first_refusal, values_in};
-    ghost use Rattle.isort_settings.specs.Pyproject.Steps.{FillsFrom};
+    ghost use Rattle.isort_settings.specs.Pyproject.{settings_of, settings_in, base_value, first_refusal, with_sections};
+    ghost use Rattle.isort_settings.specs.Pyproject.Steps.{FillsFrom, of_document, of_table, with_listed, with_profile};
     ghost use Rattle.isort_settings.specs.TableSections.{own_names_in, first_refused, sections_refused};
-    ghost use Rattle.isort_settings.specs.TableSections.Steps.{bad_key};
+    ghost use Rattle.isort_settings.specs.TableSections.Steps.{bad_key, listed_value};
     ghost use Rattle.isort_settings.specs.Reading.{read_value};
     ghost use Rattle.isort_settings.specs.Sections.{five_lists_of, lists_of, section_in, section_name, section_rank};
     ghost use Rattle.isort_settings.specs.Sections.OnePrefix.{section_holding};
     ghost use Rattle.isort_settings.specs.Values.{values, values_from, plain_values, black_values};
-    ghost use Rattle.isort_settings.specs.Values.OneKey.{with_value};
+    ghost use Rattle.isort_settings.specs.Values.OneKey.{with_flag, with_value};
 
     /// The settings that hold where nothing else is said. They take no memory, so they are always there.
     pub fn plain(alloc: Global) -> Result<Settings, SettingsError>
@@ -115,7 +115,101 @@ impl Settings {
         ensures ok { IfOk result (λ s. values s ≡ plain_values) }
         ensures err { IsOkUnless result SettingsError.Memory }
     {
-        Ok(Settings {
+        Ok(Settings::of_profile(alloc, None))
+    }
+
+    /// The settings of the profile `black`. They take no memory, so they are always there.
+    pub fn black(alloc: Global) -> Result<Settings, SettingsError>
+        ensures made { IsOk result }
+        ensures ok { IfOk result (λ s. values s ≡ black_values) }
+        ensures err { IsOkUnless result SettingsError.Memory }
+    {
+        Ok(Settings::of_profile(alloc, Some(Profile::Black)))
+    }
+
+    /// The settings that the table `[tool.isort]` of the text stands for, and the names of its unknown keys.
+    ///
+    /// A profile that is handed in replaces the table's `profile`, which isn't read then.
+    pub fn from_pyproject(
+        alloc: Global,
+        text: &[u8],
+        profile: Option<Profile>,
+    ) -> Result<(Settings, Vec<String>), SettingsError>
+        ensures ok { IfOk result (λ r.
+            settings_of text.now profile ≡ Ok (values r.0, map string_bytes r.1.items)) }
+        ensures unknown_ascend { IfOk result (λ r. Ascends (map string_bytes r.1.items)) }
+
+        // Each refusal except out of memory is the one that the definition gives.
+        ensures refused { IfErr result (λ e. e ≢ SettingsError.Memory
+            → settings_of text.now profile ≡ Err e) }
+    {
+        let document = pyproject::document(alloc, text)?;
+        Settings::of_document(alloc, &document, profile)
+    }
+
+    /// The settings that the table `[tool.isort]` of the document stands for, and the names of its unknown keys.
+    fn of_document(
+        alloc: Global,
+        document: &Table,
+        profile: Option<Profile>,
+    ) -> Result<(Settings, Vec<String>), SettingsError>
+        ensures ok { IfOk result (λ r. of_document profile (table_view document.now)
+            ≡ Ok (values r.0, map string_bytes r.1.items)) }
+        ensures unknown_ascend { IfOk result (λ r. Ascends (map string_bytes r.1.items)) }
+        ensures refused { IfErr result (λ e. e ≢ SettingsError.Memory
+            → of_document profile (table_view document.now) ≡ Err e) }
+    {
+        match pyproject::settings_table(document)? {
+            Some(table) => Settings::of_table(alloc, table, profile),
+            None => Ok((Settings::of_profile(alloc, profile), Vec::new(alloc))),
+        }
+    }
+
+    /// The settings that the table stands for, and the names of its unknown keys.
+    fn of_table(
+        alloc: Global,
+        table: &Table,
+        profile: Option<Profile>,
+    ) -> Result<(Settings, Vec<String>), SettingsError>
+        ensures ok { IfOk result (λ r. of_table profile (table_view table.now)
+            ≡ Ok (values r.0, map string_bytes r.1.items)) }
+        ensures unknown_ascend { IfOk result (λ r. Ascends (map string_bytes r.1.items)) }
+        ensures refused { IfErr result (λ e. e ≢ SettingsError.Memory
+            → of_table profile (table_view table.now) ≡ Err e) }
+    {
+        let profile = pyproject::chosen_profile(profile, table)?;
+        let TableSections {
+            listed,
+            own_lists,
+            refused,
+        } = TableSections::read(alloc, table)?;
+        let mut settings = Settings::with_sections(alloc, listed, own_lists);
+        let unknown = settings.take_table(alloc, table, profile, refused)?;
+        Ok((settings, unknown))
+    }
+
+    /// The settings that hold where the table says nothing.
+    fn of_profile(alloc: Global, profile: Option<Profile>) -> Settings
+        ensures { values result ≡ values_from (base_value profile) }
+    {
+        let mut settings = Settings::with_sections(
+            alloc,
+            Listed::five_alone(alloc),
+            OwnLists::none(alloc),
+        );
+        settings.take_profile(profile);
+        settings
+    }
+
+    /// The settings that hold where nothing is said, except of these sections.
+    fn with_sections(alloc: Global, listed: Listed, own_lists: OwnLists) -> Settings
+        requires few { length listed.own_names.items ≤ 64 }
+        requires list_for_each { length own_lists ≡ length listed.own_names.items }
+        requires each_once { StandOnce (length listed.own_names.items) (order_of listed.order) }
+        requires entries { HoldEntries own_lists }
+        ensures { values result ≡ with_listed (listed_value listed) own_lists plain_values }
+    {
+        Settings {
             line_length: 79,
             multi_line_output: 0,
             include_trailing_comma: false,
@@ -137,86 +231,47 @@ impl Settings {
             known_first_party: Modules::Listed(Vec::new(alloc)),
             known_local_folder: Modules::Listed(Vec::new(alloc)),
             known_future_library: Modules::Future,
-            sections: SectionOrder::Usual,
-            own_names: Vec::new(alloc),
-            own_lists: OwnLists::none(alloc),
-        })
-    }
-
-    /// The settings of the profile `black`. They take no memory, so they are always there.
-    pub fn black(alloc: Global) -> Result<Settings, SettingsError>
-        ensures made { IsOk result }
-        ensures ok { IfOk result (λ s. values s ≡ black_values) }
-        ensures err { IsOkUnless result SettingsError.Memory }
-    {
-        let mut settings = Settings::plain(alloc)?;
-        settings.line_length = 88;
-        settings.multi_line_output = 3;
-        settings.include_trailing_comma = true;
-        settings.use_parentheses = true;
-        settings.ensure_newline_before_comments = true;
-        Ok(settings)
-    }
-
-    /// The settings that the table `[tool.isort]` of the text stands for, and the names of its unknown keys.
-    ///
-    /// A profile that is handed in replaces the table's `profile`, which isn't read then.
-    pub fn from_pyproject(
-        alloc: Global,
-        text: &[u8],
-        profile: Option<Profile>,
-    ) -> Result<(Settings, Vec<String>), SettingsError>
-        ensures ok { IfOk result (λ r.
-            settings_of text.now profile ≡ Ok (values r.0, map string_bytes r.1.items)) }
-        ensures unknown_ascend { IfOk result (λ r. Ascends (map string_bytes r.1.items)) }
-
-        // Each refusal except out of memory is the one that the definition gives.
-        ensures refused { IfErr result (λ e. e ≢ SettingsError.Memory
-            → settings_of text.now profile ≡ Err e) }
-    {
-        let document = pyproject::document(alloc, text)?;
-        let Some(table) = pyproject::settings_table(&document)? else {
-            return Ok((Settings::of_profile(alloc, profile)?, Vec::new(alloc)));
-        };
-        let profile = pyproject::chosen_profile(profile, table)?;
-        let settings = Settings::from_table(alloc, table, profile)?;
-        let unknown = pyproject::unknown_keys(alloc, table, settings.own_names.as_slice())?;
-        Ok((settings, unknown))
-    }
-
-    /// The settings that hold where the table says nothing.
-    fn of_profile(alloc: Global, profile: Option<Profile>) -> Result<Settings, SettingsError>
-        ensures ok { IfOk result (λ s. values s ≡ values_from (base_value profile)) }
-        ensures err { IsOkUnless result SettingsError.Memory }
-    {
-        match profile {
-            Some(Profile::Black) => Settings::black(alloc),
-            None => Settings::plain(alloc),
+            sections: listed.order,
+            own_names: listed.own_names,
+            own_lists,
         }
     }
 
-    /// The settings of a profile, if there is one, with what the table says.
-    fn from_table(
+    /// Changes what the profile says, if there is one.
+    fn take_profile(&mut self, profile: Option<Profile>)
+        ensures { values self.new ≡ with_profile profile (values self.old) }
+    {
+        if let Some(Profile::Black) = profile {
+            self.line_length = 88;
+            self.multi_line_output = 3;
+            self.include_trailing_comma = true;
+            self.use_parentheses = true;
+            self.ensure_newline_before_comments = true;
+        }
+    }
+
+    /// Takes what a profile says, if there is one, and then what the table says, and answers the names of its unknown keys.
+    /// This key is the first that the sections refuse.
+    fn take_table(
+        &mut self,
         alloc: Global,
         table: &Table,
         profile: Option<Profile>,
-    ) -> Result<Settings, SettingsError>
-        ensures unrefused { OnOk result (first_refusal (table_view table.now) ≡ None) }
-        ensures ok { IfOk result (λ s. values s ≡ values_in (table_view table.now) profile) }
+        refused: Option<Key>,
+    ) -> Result<Vec<String>, SettingsError>
+        requires plain { values self.old ≡ with_sections (table_view table.now) plain_values }
+        requires refused { option_map bad_key refused
+            ≡ first_refused (sections_refused (table_view table.now)) }
+        ensures ok { IfOk result (λ unknown. settings_in (table_view table.now) profile
+            ≡ Ok (values self.new, map string_bytes unknown.items)) }
+        ensures unknown_ascend { IfOk result (λ unknown.
+            Ascends (map string_bytes unknown.items)) }
         ensures refused { IfErr result (λ e. e ≢ SettingsError.Memory
-            → first_refusal (table_view table.now) ≡ Some e) }
+            → settings_in (table_view table.now) profile ≡ Err e) }
     {
-        let TableSections {
-            listed,
-            own_lists,
-            refused,
-        } = TableSections::read(alloc, table)?;
-        let mut settings = Settings::of_profile(alloc, profile)?;
-        settings.sections = listed.order;
-        settings.own_names = listed.own_names;
-        settings.own_lists = own_lists;
-        settings.take_values(alloc, table, refused)?;
-        Ok(settings)
+        self.take_profile(profile);
+        self.take_values(alloc, table, refused)?;
+        Ok(pyproject::unknown_keys(alloc, table, self.own_names.as_slice())?)
     }
 
     /// Takes the values of the keys that are read one by one, and answers the first refusal: of one of them, or of this key,
@@ -260,40 +315,124 @@ impl Settings {
             → read_value (values self.old).own_names (row_of key).kind key (view value.now)
             ≡ Err e) }
     {
-        let read = KeyValue { key, value };
-        match read.key {
-            Key::CaseSensitive => put(&mut self.case_sensitive, read.flag()),
-            Key::CombineAsImports => put(&mut self.combine_as_imports, read.flag()),
-            Key::DefaultSection => put(
-                &mut self.default_section,
-                read.section(self.own_names.as_slice()),
+        match key {
+            Key::CaseSensitive
+            | Key::CombineAsImports
+            | Key::EnsureNewlineBeforeComments
+            | Key::ForceSingleLine
+            | Key::ForceSortWithinSections
+            | Key::IncludeTrailingComma
+            | Key::OrderByType
+            | Key::UseParentheses => self.take_flag(key, value),
+            Key::ExtraStandardLibrary
+            | Key::KnownFirstParty
+            | Key::KnownFutureLibrary
+            | Key::KnownLocalFolder
+            | Key::KnownStandardLibrary
+            | Key::KnownThirdParty => self.take_modules(alloc, key, value),
+            Key::DefaultSection => {
+                let own_names = self.own_names.as_slice();
+                put(
+                    &mut self.default_section,
+                    read_section(value, own_names),
+                    key,
+                )
+            }
+            Key::ForceGridWrap => put(&mut self.force_grid_wrap, read_count(value, GRID_WRAP), key),
+            Key::LineLength => put(&mut self.line_length, read_count(value, LINE_LENGTH), key),
+            Key::LinesAfterImports => put(
+                &mut self.lines_after_imports,
+                read_whole(value, END_GAP),
+                key,
             ),
-            Key::EnsureNewlineBeforeComments => put(
-                &mut self.ensure_newline_before_comments,
-                read.flag(),
+            Key::LinesBetweenSections => {
+                put(
+                    &mut self.lines_between_sections,
+                    read_count(value, SECTION_GAP),
+                    key,
+                )
+            }
+            Key::LinesBetweenTypes => put(
+                &mut self.lines_between_types,
+                read_count(value, TYPE_GAP),
+                key,
             ),
-            Key::ExtraStandardLibrary => put(&mut self.extra_standard_library, read.modules(alloc)),
-            Key::ForceGridWrap => put(&mut self.force_grid_wrap, read.count(GRID_WRAP)),
-            Key::ForceSingleLine => put(&mut self.force_single_line, read.flag()),
-            Key::ForceSortWithinSections => put(&mut self.force_sort_within_sections, read.flag()),
-            Key::IncludeTrailingComma => put(&mut self.include_trailing_comma, read.flag()),
-            Key::KnownFirstParty => put(&mut self.known_first_party, read.modules(alloc)),
-            Key::KnownFutureLibrary => put(&mut self.known_future_library, read.modules(alloc)),
-            Key::KnownLocalFolder => put(&mut self.known_local_folder, read.modules(alloc)),
-            Key::KnownStandardLibrary => put(&mut self.known_standard_library, read.modules(alloc)),
-            Key::KnownThirdParty => put(&mut self.known_third_party, read.modules(alloc)),
-            Key::LineLength => put(&mut self.line_length, read.count(LINE_LENGTH)),
-            Key::LinesAfterImports => put(&mut self.lines_after_imports, read.whole(END_GAP)),
-            Key::LinesBetweenSections => put(
-                &mut self.lines_between_sections,
-                read.count(SECTION_GAP),
-            ),
-            Key::LinesBetweenTypes => put(&mut self.lines_between_types, read.count(TYPE_GAP)),
-            Key::MultiLineOutput => put(&mut self.multi_line_output, read.mode()),
-            Key::OrderByType => put(&mut self.order_by_type, read.flag()),
-            Key::UseParentheses => put(&mut self.use_parentheses, read.flag()),
+            Key::MultiLineOutput => self.take_mode(value),
             Key::Tool | Key::ToolIsort | Key::Profile | Key::Sections | Key::OwnList(_) => Ok(()),
         }
+    }
+
+    /// Takes a value of a key that is true or false.
+    fn take_flag(&mut self, key: Key, value: &Value) -> Result<(), SettingsError>
+        ensures ok { OnOk result (IsOkAnd (read_value [] flag key (view value.now))
+            (λ on. values self.new ≡ with_flag key on (values self.old))) }
+        ensures refused { IfErr result (λ e. e ≢ SettingsError.Memory
+            → read_value [] flag key (view value.now) ≡ Err e) }
+    {
+        match value.as_bool() {
+            Some(on) => {
+                self.set_flag(&key, on);
+                Ok(())
+            }
+            None => Err(SettingsError::BadValue(key)),
+        }
+    }
+
+    /// Sets a key that is true or false.
+    fn set_flag(&mut self, key: &Key, on: bool)
+        ensures { values self.new ≡ with_flag key.now on (values self.old) }
+    {
+        match key {
+            Key::CaseSensitive => self.case_sensitive = on,
+            Key::CombineAsImports => self.combine_as_imports = on,
+            Key::EnsureNewlineBeforeComments => self.ensure_newline_before_comments = on,
+            Key::ForceSingleLine => self.force_single_line = on,
+            Key::ForceSortWithinSections => self.force_sort_within_sections = on,
+            Key::IncludeTrailingComma => self.include_trailing_comma = on,
+            Key::OrderByType => self.order_by_type = on,
+            Key::UseParentheses => self.use_parentheses = on,
+            _ => (),
+        }
+    }
+
+    /// Takes a value of a key that is a list of modules.
+    fn take_modules(&mut self, alloc: Global, key: Key, value: &Value) -> Result<(), SettingsError>
+        requires { (row_of key).kind ≡ texts }
+        ensures ok { OnOk result
+            (IsOkAnd (read_value (values self.old).own_names (row_of key).kind key (view value.now))
+            (λ x. values self.new ≡ with_value key x (values self.old))) }
+        ensures refused { IfErr result (λ e. e ≢ SettingsError.Memory
+            → read_value (values self.old).own_names (row_of key).kind key (view value.now)
+            ≡ Err e) }
+    {
+        let list = read_modules(alloc, value)?;
+        match key {
+            Key::ExtraStandardLibrary => put(&mut self.extra_standard_library, list, key),
+            Key::KnownFirstParty => put(&mut self.known_first_party, list, key),
+            Key::KnownFutureLibrary => put(&mut self.known_future_library, list, key),
+            Key::KnownLocalFolder => put(&mut self.known_local_folder, list, key),
+            Key::KnownStandardLibrary => put(&mut self.known_standard_library, list, key),
+            Key::KnownThirdParty => put(&mut self.known_third_party, list, key),
+            _ => unreachable!(),
+        }
+    }
+
+    /// Takes a value of the wrap mode.
+    fn take_mode(&mut self, value: &Value) -> Result<(), SettingsError>
+        ensures ok { OnOk result
+            (IsOkAnd (read_value [] wrap_mode Key.MultiLineOutput (view value.now))
+            (λ n. values self.new ≡ record (values self.old) { multi_line_output = n })) }
+        ensures refused { IfErr result (λ e. e ≢ SettingsError.Memory
+            → read_value [] wrap_mode Key.MultiLineOutput (view value.now) ≡ Err e) }
+    {
+        let Some(number) = value.as_integer() else {
+            return Err(SettingsError::BadValue(Key::MultiLineOutput));
+        };
+        let Some(mode) = within(number, MODES) else {
+            return Err(SettingsError::UnsupportedMode);
+        };
+        self.multi_line_output = mode;
+        Ok(())
     }
 
     /// Changes the line length, or refuses one outside 1 to 10000.
@@ -452,12 +591,17 @@ fn is_relative(name: &[u8]) -> bool
     name.first() == Some(&b'.')
 }
 
-/// Puts what was read in place of the old value, which stays where the reading was refused.
-fn put<T: Drop>(place: &mut T, read: Result<T, SettingsError>) -> Result<(), SettingsError>
-    ensures { MatchResult read
+/// Puts what was read in place of the old value, which stays where the key is refused.
+fn put<T: Drop>(place: &mut T, read: Option<T>, key: Key) -> Result<(), SettingsError>
+    ensures { MatchResult (ok_or read (SettingsError.BadValue key))
         (λ new. (result ≡ Ok tt) × (place.new ≡ new))
         (λ e. (result ≡ Err e) × (place.new ≡ place.old)) }
 {
-    *place = read?;
-    Ok(())
+    match read {
+        Some(new) => {
+            *place = new;
+            Ok(())
+        }
+        None => Err(SettingsError::BadValue(key)),
+    }
 }

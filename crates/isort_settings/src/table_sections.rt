@@ -1,5 +1,5 @@
 //! Reading the sections of a table: `sections` itself, and the lists of the own ones.
-ghost use Rattle.std.specs.Prelude.{◌≡◌, ◌≤◌, IfOk, IfSome, [], ◌∷◌, length, map, ok_or, option_map, string_bytes};
+ghost use Rattle.std.specs.Prelude.{◌≡◌, ◌≤◌, IfOk, IfSome, OnOk, Some, [], ◌∷◌, ◌++◌, length, map, ok_or, option_map, string_bytes};
 ghost use Rattle.std.specs.Result.{result_unwrap_or};
 ghost use Rattle.toml.specs.View.{table_view};
 ghost use Rattle.isort_settings.specs.declared.error.SettingsError.TheVariants.{BadValue};
@@ -31,7 +31,7 @@ pub struct Listed {
 
 impl Listed {
     /// The five alone.
-    fn five_alone(alloc: Global) -> Listed
+    pub fn five_alone(alloc: Global) -> Listed
         ensures { listed_value result ≡ five_alone }
     {
         Listed {
@@ -85,59 +85,64 @@ fn entries_under(alloc: Global, table: &Table, key: &str) -> Result<Option<Vec<S
     }
 }
 
-/// The list of the own section of a name, or an empty one and its key where it is refused.
-fn own_list(
-    alloc: Global,
-    table: &Table,
-    name: &str,
-) -> Result<(Vec<String>, Option<SettingKey>), AllocError>
-    ensures list { IfOk result (λ r. map string_bytes r.0.items
-        ≡ result_unwrap_or (own_list (table_view table.now) name.now) []) }
-    ensures refused { IfOk result (λ r. option_map bad_key r.1
-        ≡ first_refused (lists_refused (table_view table.now) (name.now ∷ []))) }
+/// Of two keys, if there are two, the one whose name comes first.
+fn earlier(first: Option<SettingKey>, key: SettingKey) -> SettingKey
+    ensures { Some (bad_key result)
+        ≡ earliest (option_map bad_key first) (Some (bad_key key)) }
 {
-    let key = OwnKey::of_section(alloc, name)?;
-    match entries_under(alloc, table, key.as_str())? {
-        Some(list) => Ok((list, None)),
-        None => Ok((Vec::new(alloc), Some(SettingKey::OwnList(key)))),
-    }
-}
-
-/// Of two keys, if they are there, the one whose name comes first.
-fn earlier(first: Option<SettingKey>, other: Option<SettingKey>) -> Option<SettingKey>
-    ensures { option_map bad_key result
-        ≡ earliest (option_map bad_key first) (option_map bad_key other) }
-{
-    let Some(key) = other else {
-        return first;
-    };
     match first {
-        Some(first) if !key.comes_before(&first) => Some(first),
-        _ => Some(key),
+        Some(first) if !key.comes_before(&first) => first,
+        _ => key,
     }
 }
 
-/// The lists of own sections, empty where one is refused, and the refused key whose name comes first.
-fn own_lists(
-    alloc: Global,
-    table: &Table,
-    names: &[String],
-) -> Result<(Vec<Vec<String>>, Option<SettingKey>), AllocError>
-    ensures count { IfOk result (λ r. length r.0.items ≡ length names.now) }
-    ensures lists { IfOk result (λ r. modules_of_lists r.0.items
-        ≡ map (λ name. result_unwrap_or (own_list (table_view table.now) name) [])
-        (map string_bytes names.now)) }
-    ensures refused { IfOk result (λ r. option_map bad_key r.1
-        ≡ first_refused (lists_refused (table_view table.now) (map string_bytes names.now))) }
-{
-    let mut lists = Vec::new(alloc);
-    let mut refused = None;
-    for name in names {
-        let (list, key) = own_list(alloc, table, name.as_str())?;
-        lists.push(list)?;
-        refused = earlier(refused, key);
+/// The lists of some own sections.
+#[derive(Drop)]
+struct ListsRead {
+    /// The lists, empty where one is refused.
+    lists: Vec<Vec<String>>,
+    /// Of the keys that are refused, the one whose name comes first.
+    refused: Option<SettingKey>,
+}
+
+impl ListsRead {
+    /// Reads the lists of the own sections of these names.
+    fn read(alloc: Global, table: &Table, names: &[String]) -> Result<ListsRead, AllocError>
+        ensures lists { IfOk result (λ r. modules_of_lists r.lists.items
+            ≡ map (λ name. result_unwrap_or (own_list (table_view table.now) name) [])
+            (map string_bytes names.now)) }
+        ensures refused { IfOk result (λ r. option_map bad_key r.refused
+            ≡ first_refused (lists_refused (table_view table.now) (map string_bytes names.now))) }
+    {
+        let mut read = ListsRead {
+            lists: Vec::new(alloc),
+            refused: None,
+        };
+        for name in names {
+            read.add(alloc, table, name.as_str())?;
+        }
+        Ok(read)
     }
-    Ok((lists, refused))
+
+    /// Adds the list of the own section of a name.
+    fn add(&mut self, alloc: Global, table: &Table, name: &str) -> Result<(), AllocError>
+        ensures list { OnOk result (modules_of_lists self.new.lists.items
+            ≡ modules_of_lists self.old.lists.items
+            ++ result_unwrap_or (own_list (table_view table.now) name.now) [] ∷ []) }
+        ensures refused { OnOk result (option_map bad_key self.new.refused
+            ≡ earliest (option_map bad_key self.old.refused)
+            (first_refused (lists_refused (table_view table.now) (name.now ∷ [])))) }
+    {
+        let key = OwnKey::of_section(alloc, name)?;
+        match entries_under(alloc, table, key.as_str())? {
+            Some(list) => self.lists.push(list)?,
+            None => {
+                self.lists.push(Vec::new(alloc))?;
+                self.refused = Some(earlier(self.refused.take(), SettingKey::OwnList(key)));
+            }
+        }
+        Ok(())
+    }
 }
 
 /// The sections of a table.
@@ -170,7 +175,11 @@ impl TableSections {
                 refused: Some(SettingKey::Sections),
             });
         };
-        let (lists, refused) = own_lists(alloc, table, listed.own_names.as_slice())?;
+        let ListsRead { lists, refused } = ListsRead::read(
+            alloc,
+            table,
+            listed.own_names.as_slice(),
+        )?;
         Ok(TableSections {
             listed,
             own_lists: OwnLists::indexed(alloc, lists)?,

@@ -1,4 +1,5 @@
--- A word for the code alone, which no public clause names: settings after one key of the table was read.
+-- Words for the code alone, which no public clause names: settings after one key of the table was read.
+use Rattle.std.specs.Prelude.{Bool}
 use Rattle.isort_settings.specs.declared.key.SettingKey.{SettingKey}
 use Rattle.isort_settings.specs.declared.key.SettingKey.TheVariants as key
 use Rattle.isort_settings.specs.Keys.{Meaning, row_of}
@@ -32,3 +33,15 @@ with_value key.Tool x v = v
 with_value key.ToolIsort x v = v
 with_value key.Sections x v = v
 with_value (key.OwnList name) x v = v
+
+-- the values with another one for a key that is true or false
+abbrev pub with_flag : SettingKey → Bool → Values → Values
+with_flag key.IncludeTrailingComma x v = record v { include_trailing_comma = x }
+with_flag key.UseParentheses x v = record v { use_parentheses = x }
+with_flag key.EnsureNewlineBeforeComments x v = record v { ensure_newline_before_comments = x }
+with_flag key.ForceSingleLine x v = record v { force_single_line = x }
+with_flag key.ForceSortWithinSections x v = record v { force_sort_within_sections = x }
+with_flag key.CaseSensitive x v = record v { case_sensitive = x }
+with_flag key.CombineAsImports x v = record v { combine_as_imports = x }
+with_flag key.OrderByType x v = record v { order_by_type = x }
+with_flag k x v = v
