@@ -7,7 +7,6 @@ use Rattle.py_lines.specs.Lexed.{IsLexed}
 use Rattle.py_lines.specs.ScannerState.{ScannerState, ready_lines}
 use Rattle.py_lines.specs.declared.fault.Fault.{Fault}
 use Rattle.py_imports.specs.BindingValue.{BindingValue}
-use Rattle.py_imports.specs.declared.binding.Binding.{Binding}
 use Rattle.isort_find.specs.Found.{firsts, IsFound}
 use Rattle.isort_find.specs.Cursor.{CursorState, IsAfter, HasStopped, BeginsNew, knows_key}
 use Rattle.isort_find.specs.Pending.{PendingState}
@@ -32,8 +31,8 @@ use Rattle.isort_find.proofs.Walks.NextLine.{IsAtNothing, nothing_at_end, found_
 use Rattle.isort_find.proofs.Fed.Known.{next_start, known_begins, true_or_false}
 use Rattle.isort_find.proofs.Fed.LetGo.{begun_is, gone_between, fed_gone, ended_gone, fed_open}
 use Rattle.isort_find.proofs.Fed.Held.{knows_any, knows_top}
-use Rattle.isort_find.proofs.Fed.OneLine.{open_or_fault, open_or_end, end_or_fault}
-use Rattle.isort_find.proofs.Fed.Ready.{unread_found, unread_so, unread_read}
+use Rattle.isort_find.proofs.Fed.OneLine.{open_or_fault, open_or_end, end_or_fault, end_not_ready}
+use Rattle.isort_find.proofs.Fed.Ready.{ok_or_error, unread_found, unread_so, unread_read}
 
 -- after all lines of a text
 all_lexed : (s : ScannerState) (cursor : CursorState) (text : List ℕ) (skip : ℕ) (values : List BindingValue) → s.ended ≡ true → s.ready ≡ None → (b : IsBetweenLines s cursor text skip values) → IsLexed text b.after.lines None
@@ -184,12 +183,8 @@ none_at laws one ascent old s (position.Within p) cursor new none fine left r = 
 left_same : (old : PieceFinderState) → phase_in old.position ≡ phase.End → ready_in old.position ≡ false → IsLeft old old
 left_same old at none = record { found = λ text values h. h; fed = refl; ended = refl; options = refl; given = refl; stays = λ top. top; was_fine = λ fault is. end_or_fault old.position fault at is; unsure = λ e. absurd (true_or_false _ none e) }
 
-end_none : (s : Position) → phase_in s ≡ phase.End → ready_in s ≡ false
-end_none (position.End passed) at = refl
-end_none other at = absurd cc
-
 pub gives_none_at_top : SettledLaws → OneSettled → AscentLaws → (old new : PieceFinderState) → phase_in old.position ≡ phase.End → Rests old new → GivesNone old new
-gives_none_at_top laws one ascent old new at rests = none_at laws one ascent old old.scanning old.position old.cursor new (end_none old.position at) (λ fault is. end_or_fault old.position fault at is) (left_same old at (end_none old.position at)) rests
+gives_none_at_top laws one ascent old new at rests = none_at laws one ascent old old.scanning old.position old.cursor new (end_not_ready old.position at) (λ fault is. end_or_fault old.position fault at is) (left_same old at (end_not_ready old.position at)) rests
 
 -- bindings whose keys are all known are none, or don't begin with a new one
 not_new : (s : CursorState) (left : List BindingValue) → list_all (knows_key s.options.unique s.keys) left ≡ true → are_left left ≡ true → ¬ (BeginsNew s left)
@@ -254,10 +249,7 @@ none_by laws one ascent old mid f new (Ok done) opened reads after rests =
       unsure = was_unsure old mid reads t.unsure;
     } in
     none_at laws one ascent old f.scanning f.position f.cursor new t.none (t.fine so.fine) left rests
-none_by laws one ascent old mid f new (Err e) opened reads after rests = absurd (differ (Ok None) e refl after.0)
-  where
-    differ : (a : Result (Option Binding) FindError) (x : FindError) → a ≡ Ok None → a ≡ Err x → ⊥
-    differ a x h k = cc
+none_by laws one ascent old mid f new (Err e) opened reads after rests = absurd (ok_or_error None e (Ok None) refl after.0)
 
 -- nothing was ready
 pub answers_none : SettledLaws → OneSettled → AscentLaws → (old f new : PieceFinderState) → phase_in old.position ≡ phase.Open → TakesReady old (Ok None) f → Rests f new → GivesNone old new

@@ -1,5 +1,5 @@
 -- What a finder over pieces is once bytes were taken up to a line's end, or the text has ended.
-use Rattle.std.proofs.Common.{◌≡◌, ℕ, ◌+◌, ◌≤◌, true, Option, None, Some, Result, Ok, Err, List, [], ◌++◌, length, take, drop, inl, inr, ◌⊎◌, refl, sym, ap, ◌∙◌, subst, append-nil, length-append, arith}
+use Rattle.std.proofs.Common.{◌≡◌, ℕ, ◌+◌, ◌≤◌, true, false, Option, None, Some, Result, Ok, Err, List, [], ◌++◌, length, take, drop, inl, inr, ◌⊎◌, refl, sym, ap, ◌∙◌, subst, append-nil, length-append, arith}
 use Rattle.std.proofs.lemmas.List.{length-take-le, take-append-drop, drop-drop, drop-take}
 use Rattle.std.proofs.Math.Seq.{take-add, take-append_seam, drop-append_seam}
 use Rattle.py_lines.specs.LogicalLine.{LogicalLine}
@@ -10,7 +10,7 @@ use Rattle.py_lines.specs.declared.fault.Fault.{Fault}
 use Rattle.py_imports.specs.BindingValue.{BindingValue}
 use Rattle.isort_find.specs.Settled.{DecidesFound}
 use Rattle.isort_find.specs.Cursor.{CursorState, HasStopped}
-use Rattle.isort_find.specs.Position.{phase_in, skip_in}
+use Rattle.isort_find.specs.Position.{phase_in, skip_in, ready_in}
 use Rattle.isort_find.specs.Pieces.{PieceFinderState, piece_finder_state, options_for, fed_by, has_ready, HasReleased, IsBetweenLines, HasFoundIn, StopsAtFault, DecidesWithin, MeetsFaultIn, FinishesText, EndsInFault, EndsFeeding}
 use Rattle.isort_find.specs.Private.CursorMoves.{cursor_before}
 use Rattle.isort_find.specs.Private.PieceSteps.{IsNextStart, TriesReady, TakesLines, TakesNothing, TakesBytesOf, walker_of, with_walker}
@@ -90,6 +90,10 @@ open_or_fault s fault h k = let both : phase_in s ≡ phase.Fault fault = ap pha
 
 pub end_or_fault : (s : Position) (fault : Fault) → phase_in s ≡ phase.End → s ≡ position.Fault fault → ⊥
 end_or_fault s fault h k = let both : phase_in s ≡ phase.Fault fault = ap phase_in k in cc
+
+pub end_not_ready : (s : Position) → phase_in s ≡ phase.End → ready_in s ≡ false
+end_not_ready (position.End passed) at = refl
+end_not_ready other at = absurd cc
 
 pub open_or_end : (p : Phase) → p ≡ phase.Open → p ≡ phase.End → ⊥
 open_or_end p h k = cc

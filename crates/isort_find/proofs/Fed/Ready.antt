@@ -31,10 +31,7 @@ use Rattle.isort_find.proofs.Fed.LetGo.{fed_open}
 use Rattle.isort_find.proofs.Fed.Settled.{given_settled}
 use Rattle.isort_find.proofs.Fed.Held.{line_any, knows_ready}
 use Rattle.isort_find.proofs.Fed.OneLine.{open_or_fault, open_or_end}
-use Rattle.isort_find.proofs.Fed.TriedLines.{TriedSo, IsBadReady, held_found, trial_so, bad_decided, stops_bad, tried_result, reads_tries}
-
-not_ok : (e : FindError) (r : Result (Unit {0}) FindError) → r ≡ Err e → r ≡ Ok tt → ⊥
-not_ok e r h k = cc
+use Rattle.isort_find.proofs.Fed.TriedLines.{TriedSo, IsBadReady, held_found, not_err, error_is, trial_so, bad_decided, stops_bad, tried_result, reads_tries}
 
 tries_held : (f new : PieceFinderState) (result : Result (Unit {0}) FindError) → HandsLine ReadsOrLosesLine f result new → HandsLine LearnsLine f (tried_result result) new
 tries_held f new result h = record { line = h.line; start = h.start; walker = h.walker; at = h.at; does = reads_tries (walker_of f) h.walker h.line h.start result h.does; same = h.same }
@@ -70,9 +67,9 @@ ready_read s (position.Unread start skip) cursor new unread (inr held) = ap (λ 
     by_step (step.Bindings bindings) follows = ap (λ (w : WalkerState). is_unread w.position) follows.1
     by_step step.Plain follows = ap (λ (w : WalkerState). is_unread w.position) follows.1
     by_step step.End follows = ap (λ (w : WalkerState). is_unread w.position) follows.1
-    by_step (step.Fault fault) follows = absurd (not_ok _ _ follows.0 refl)
-    by_step step.LineLost follows = absurd (not_ok _ _ follows.0 refl)
-    by_step step.NoMemory follows = absurd (not_ok _ _ follows.0 refl)
+    by_step (step.Fault fault) follows = absurd (not_err _ _ refl follows.0)
+    by_step step.LineLost follows = absurd (not_err _ _ refl follows.0)
+    by_step step.NoMemory follows = absurd (not_err _ _ refl follows.0)
 ready_read s other cursor new unread reads = absurd cc
 
 pub unread_read : (old mid : PieceFinderState) → ReadsUnread old (Ok tt) mid → is_unread mid.position ≡ false
@@ -91,9 +88,9 @@ ready_due s (position.Unread start skip) cursor new unread (inr held) = let same
         omega (arith, now, length-drop skip bs, length-map bindings.items binding_value, bindings.ok, bindings.small)
     by_step step.Plain follows = let now : due_in held.walker.position ≡ 0 = ap (λ (w : WalkerState). due_in w.position) follows.1 in omega (arith, now)
     by_step step.End follows = let now : due_in held.walker.position ≡ 0 = ap (λ (w : WalkerState). due_in w.position) follows.1 in omega (arith, now)
-    by_step (step.Fault fault) follows = absurd (not_ok _ _ follows.0 refl)
-    by_step step.LineLost follows = absurd (not_ok _ _ follows.0 refl)
-    by_step step.NoMemory follows = absurd (not_ok _ _ follows.0 refl)
+    by_step (step.Fault fault) follows = absurd (not_err _ _ refl follows.0)
+    by_step step.LineLost follows = absurd (not_err _ _ refl follows.0)
+    by_step step.NoMemory follows = absurd (not_err _ _ refl follows.0)
 ready_due s other cursor new unread reads = absurd cc
 
 unread_due : (old mid : PieceFinderState) → ReadsUnread old (Ok tt) mid → due_by mid ≤ due_by old
@@ -193,7 +190,7 @@ given_after laws one old mid new b opened reads k =
           });
     }
 
-ok_or_error : (x : Option Binding) (e : FindError) (r : Result (Option Binding) FindError) → r ≡ Ok x → r ≡ Err e → ⊥
+pub ok_or_error : (x : Option Binding) (e : FindError) (r : Result (Option Binding) FindError) → r ≡ Ok x → r ≡ Err e → ⊥
 ok_or_error x e r h k = cc
 
 gives_by : SettledLaws → OneSettled → (old mid new : PieceFinderState) (x : Binding) (r : Result (Unit {0}) FindError) → phase_in old.position ≡ phase.Open → ReadsUnread old r mid → TakesAfter r mid (Ok (Some x)) new → GivesBinding old (binding_value x) new
@@ -238,17 +235,14 @@ lost_again s start here skip cursor new line ready is = (
   λ read next. absurd (true_or_false _ read refl),
 )
 
-error_is : (e other : FindError) (a : Result (Unit {0}) FindError) → a ≡ Err e → a ≡ Err other → e ≡ other
-error_is e other a h k = cc
-
 error_of : (e other : FindError) (a : Result (Option Binding) FindError) → a ≡ Err e → a ≡ Err other → e ≡ other
 error_of e other a h k = cc
 
 -- an error of reading the line
 step_error : SettledLaws → (s : ScannerState) (start here : LineStart) (skip : ℕ) (cursor : CursorState) (new : PieceFinderState) (line : LogicalLine) (x : Step) (w : WalkerState) (e : FindError) → HasReady s line here → Judges cursor.options line x → FollowsStep (walker_state (position.Unread start skip) cursor) here x (Err e) w → new ≡ piece_finder_state s w.position w.cursor → ((text : List ℕ) (values : List BindingValue) → HasFoundIn (piece_finder_state s (position.Unread start skip) cursor) text values → HasFoundIn new text values) → GivesReady (piece_finder_state s (position.Unread start skip) cursor) (Err e) new
-step_error laws s start here skip cursor new line (step.Bindings bindings) w e at judged follows same found = absurd (not_ok e (Err e) refl follows.0)
+step_error laws s start here skip cursor new line (step.Bindings bindings) w e at judged follows same found = absurd (not_err e (Err e) follows.0 refl)
 step_error laws s start here skip cursor new line step.Plain w e at judged follows same found = absurd judged
-step_error laws s start here skip cursor new line step.End w e at judged follows same found = absurd (not_ok e (Err e) refl follows.0)
+step_error laws s start here skip cursor new line step.End w e at judged follows same found = absurd (not_err e (Err e) follows.0 refl)
 step_error laws s start here skip cursor new line (step.Fault fault) w e at judged follows same found =
     let f = piece_finder_state s (position.Unread start skip) cursor in
     let bad : IsBadReady f fault new = record { line = line; start = here; at = at; bad = judged.0; counts = judged.1; kept = same ∙ ap (with_walker f) follows.1 } in
@@ -257,7 +251,7 @@ step_error laws s start here skip cursor new line step.LineLost w e at judged fo
 step_error laws s start here skip cursor new line step.NoMemory w e at judged follows same found = absurd judged
 
 read_error : SettledLaws → (s : ScannerState) (at : Position) (cursor : CursorState) (new : PieceFinderState) (e : FindError) → is_unread at ≡ true → ReadsReady (piece_finder_state s at cursor) (Err e) new → GivesReady (piece_finder_state s at cursor) (Err e) new
-read_error laws s (position.Unread start skip) cursor new e unread (inl none) = absurd (not_ok e (Err e) refl none.1)
+read_error laws s (position.Unread start skip) cursor new e unread (inl none) = absurd (not_err e (Err e) none.1 refl)
 read_error laws s (position.Unread start skip) cursor new e unread (inr h) = step_error laws s start h.start skip cursor new h.line h.does.step h.walker e h.at h.does.judges h.does.follows h.same (λ text values found. ready_found laws s (position.Unread start skip) cursor new text values (Err e) refl (inr h) found)
 read_error laws s other cursor new e unread reads = absurd cc
 
@@ -318,7 +312,7 @@ take_error laws old s (position.Fault fault) cursor new e opened reads k = absur
 
 unread_error : SettledLaws → (old new : PieceFinderState) (e : FindError) → ReadsUnread old (Err e) new → GivesReady old (Err e) new
 unread_error laws old new e (inl read) = read_error laws old.scanning old.position old.cursor new e read.0 read.1
-unread_error laws old new e (inr here) = absurd (not_ok e (Err e) refl here.1)
+unread_error laws old new e (inr here) = absurd (not_err e (Err e) here.1 refl)
 
 error_by : SettledLaws → (old mid new : PieceFinderState) (e : FindError) (r : Result (Unit {0}) FindError) → phase_in old.position ≡ phase.Open → ReadsUnread old r mid → TakesAfter r mid (Err e) new → GivesReady old (Err e) new
 error_by laws old mid new e (Ok done) opened reads after = take_error laws old mid.scanning mid.position mid.cursor new e opened reads after

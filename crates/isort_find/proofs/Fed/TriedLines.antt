@@ -1,5 +1,5 @@
 -- What a finder over pieces is once the line that is ready was tried, or read.
-use Rattle.std.proofs.Common.{◌≡◌, ℕ, Bool, true, false, Some, Result, Ok, Err, List, [], ◌∷◌, ◌++◌, map, take, inl, inr, refl, sym, ap, ◌∙◌, subst, append-nil, arith}
+use Rattle.std.proofs.Common.{◌≡◌, ℕ, true, false, Some, Result, Ok, Err, List, [], ◌∷◌, ◌++◌, map, take, inl, inr, refl, sym, ap, ◌∙◌, subst, append-nil, arith}
 use Rattle.py_lines.specs.LogicalLine.{LogicalLine}
 use Rattle.py_lines.specs.Lexed.{BeginsLexing}
 use Rattle.py_lines.specs.ScannerState.{ScannerState, fed_of}
@@ -27,7 +27,7 @@ use Rattle.isort_find.specs.declared.walker.Phase.TheVariants as phase
 use Rattle.isort_find.specs.Private.KnownLaws.{SettledLaws}
 use Rattle.isort_find.proofs.Walks.Inside.{inside_passed}
 use Rattle.isort_find.proofs.Walks.NextLine.{IsAtLine, nothing_at_top, nothing_at_bad, stops_before, reads_bindings, reads_bad, found_at_bad}
-use Rattle.isort_find.proofs.Fed.Known.{next_start, known_begins, ready_known, known_settled}
+use Rattle.isort_find.proofs.Fed.Known.{next_start, known_begins, ready_known, known_settled, true_or_false}
 
 start_is : (s : ScannerState) (line : LogicalLine) (start : LineStart) → HasReady s line start → start ≡ next_start s
 start_is s line start at = (λ i. record { offset = at.here.offset i; line = at.here.line i })
@@ -88,7 +88,7 @@ pub record TriedSo (f new : PieceFinderState) : Type 0 where
   pub fine : HasNoFault new
   pub fed : fed_by new ≡ fed_of f.scanning
 
-not_err : (e : FindError) (r : Result (Unit {0}) FindError) → r ≡ Ok tt → r ≡ Err e → ⊥
+pub not_err : (e : FindError) (r : Result (Unit {0}) FindError) → r ≡ Ok tt → r ≡ Err e → ⊥
 not_err e r h k = cc
 
 pub trial_so : (s : ScannerState) (at : Position) (cursor : CursorState) (start : LineStart) (t : Trial) (result : Result (Unit {0}) FindError) (w : WalkerState) → result ≡ Ok tt → FollowsTrial (walker_state at cursor) start t result w → TriedSo (piece_finder_state s at cursor) (piece_finder_state s w.position w.cursor)
@@ -106,12 +106,9 @@ pub tried_new : (s : ScannerState) (skip : ℕ) (cursor : CursorState) (new : Pi
 tried_new s skip cursor new result (inl none) = subst IsNextNew (sym none.2) tt
 tried_new s skip cursor new result (inr h) = subst IsNextNew (sym h.same) h.does.next_new
 
-ready_or_not : (b : Bool) → b ≡ true → b ≡ false → ⊥
-ready_or_not b h k = cc
-
 -- something is ready only of a line
 pub tried_ready : (f new : PieceFinderState) (result : Result (Unit {0}) FindError) → has_ready f ≡ false → TriesReady f result new → has_ready new ≡ true → (line : LogicalLine) × (f.scanning.ready ≡ Some line)
-tried_ready f new result nothing (inl none) ready = absurd (ready_or_not _ ready (ap has_ready none.2 ∙ nothing))
+tried_ready f new result nothing (inl none) ready = absurd (true_or_false _ (ap has_ready none.2 ∙ nothing) ready)
 tried_ready f new result nothing (inr h) ready = (h.line, h.at.ready)
 
 -- the line that is ready is bad
@@ -129,7 +126,7 @@ pub record IsTriedBad (f : PieceFinderState) (e : FindError) (new : PieceFinderS
   pub is : e ≡ error.Fault fault
   pub bad : IsBadReady f fault new
 
-error_is : (e other : FindError) (r : Result (Unit {0}) FindError) → r ≡ Err e → r ≡ Err other → e ≡ other
+pub error_is : (e other : FindError) (r : Result (Unit {0}) FindError) → r ≡ Err e → r ≡ Err other → e ≡ other
 error_is e other r h k = cc
 
 trial_bad : (f new : PieceFinderState) (line : LogicalLine) (start : LineStart) (w : WalkerState) (t : Trial) (result : Result (Unit {0}) FindError) (e : FindError) → result ≡ Err e → HasReady f.scanning line start → TurnsOut (options_for f) line t → FollowsTrial (walker_of f) start t result w → new ≡ with_walker f w → IsTriedBad f e new

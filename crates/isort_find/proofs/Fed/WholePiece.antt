@@ -4,7 +4,7 @@ use Rattle.std.proofs.lemmas.List.{nil_from_length, length-drop}
 use Rattle.py_lines.specs.ScannerState.{ScannerState, GoesOnWith}
 use Rattle.py_lines.specs.declared.fault.Fault.{Fault}
 use Rattle.isort_find.specs.Cursor.{CursorState}
-use Rattle.isort_find.specs.Position.{phase_in, ready_in}
+use Rattle.isort_find.specs.Position.{phase_in}
 use Rattle.isort_find.specs.Pieces.{PieceFinderState, piece_finder_state, fed_by, has_ready, IsOpenYet, MayBeFed, TakesFromPiece}
 use Rattle.isort_find.specs.Private.PieceSteps.{TakesLines, HasTakenAll, IsDrained, with_passed}
 use Rattle.isort_find.specs.declared.walker.Position.{Position}
@@ -14,7 +14,7 @@ use Rattle.isort_find.specs.Private.KnownLaws.{AscentLaws, OneSettled, SettledLa
 use Rattle.isort_find.proofs.Fed.Known.{true_or_false}
 use Rattle.isort_find.proofs.Fed.Settled.{top_undecided}
 use Rattle.isort_find.proofs.Fed.Held.{knows_any, knows_top}
-use Rattle.isort_find.proofs.Fed.OneLine.{open_or_fault, open_or_end, end_or_fault}
+use Rattle.isort_find.proofs.Fed.OneLine.{open_or_fault, open_or_end, end_or_fault, end_not_ready}
 use Rattle.isort_find.proofs.Fed.MoreLines.{goes_then}
 
 -- before a fault the text hasn't ended
@@ -83,10 +83,6 @@ feeds_lines laws one ascent old new piece n opened yet none no_end t done =
         undecided = λ nothing. t.undecided text values h goes nothing (drained piece n new (done nothing));
       };
     }
-
-end_not_ready : (s : Position) → phase_in s ≡ phase.End → ready_in s ≡ false
-end_not_ready (position.End passed) at = refl
-end_not_ready other at = absurd cc
 
 -- bytes were taken up to the end of the top, and then the rest
 pub feeds_top : SettledLaws → AscentLaws → (old mid new : PieceFinderState) (piece : List ℕ) (t : ℕ) → phase_in old.position ≡ phase.Open → old.scanning.ended ≡ false → has_ready old ≡ false → phase_in mid.position ≡ phase.End → TakesLines old piece t mid → new ≡ with_passed mid (length (drop t piece)) → TakesFromPiece old piece (t + length (drop t piece)) new
