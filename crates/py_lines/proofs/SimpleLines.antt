@@ -1,5 +1,7 @@
 -- Simple lines are passed over: the machine goes through them.
+pub mod FirstBytes
 pub mod Code
+pub mod Runs
 pub mod Prefixes
 pub mod Strings
 pub mod FieldStrings

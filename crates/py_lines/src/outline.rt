@@ -1,46 +1,42 @@
 //! The outline of simple lines: where each of them ends, told by what opens and closes alone. No token is made.
 
-ghost use Rattle.std.specs.Prelude.{◌≡◌, ◌<◌, true, IsTrue, length, slice_index};
+ghost use Rattle.std.specs.Prelude.{◌≡◌, ◌+◌, ◌<◌, true, IsTrue, drop, length, slice_index};
 ghost use Rattle.py_lines.specs.Character.{is_backslash, is_hash, is_line_feed, is_quote};
 ghost use Rattle.py_lines.specs.Private.Marks.{is_of_class};
-ghost use Rattle.py_lines.specs.Private.Outline.{BeginWithLines, IsAt, IsFurther, PassesFirst, PassesPiece};
+ghost use Rattle.py_lines.specs.Private.Outline.{BeginWithLines, BeginsLineEnd, IsAt, IsFurther, IsPast, PassesFirst, PassesPiece};
 
 use crate::class::Class;
 use crate::closers::Closers;
 use crate::marks::Marks;
-use crate::plain_strings::{Passed, plain_string};
+use crate::plain_strings::{Passed, line_end_len, plain_string};
 use crate::prefix::Prefix;
-use crate::run::ByteRun;
+use crate::run::whole_comment;
 use crate::whole_strings::quoted_text_len;
 
-/// Passes the comment that the bytes begin with, up to LF, where it is ASCII.
+/// Passes the comment that the bytes begin with, up to a line end, where it is whole characters.
 fn comment(bytes: &[u8]) -> Option<Passed>
     requires some { 0 < length bytes.now }
     requires hash { is_hash (slice_index bytes.now 0) ≡ true }
     ensures { PassesFirst bytes.now result }
 {
-    let len = 1 + ByteRun::Remark.len_in(&bytes[1..]);
-    if len < bytes.len() && bytes[len] == b'\n' {
-        Some(Passed { len, line_ends: 0 })
-    } else {
-        None
-    }
+    let text = whole_comment(&bytes[1..])?;
+    Some(Passed {
+        len: 1 + text,
+        line_ends: 0,
+    })
 }
 
-/// Passes the join of two lines by LF that the bytes begin with (Python Language Reference, 2.1.5).
+/// Passes the join of two lines that the bytes begin with: a backslash and a line end (Python Language Reference, 2.1.5).
 fn join(bytes: &[u8]) -> Option<Passed>
     requires some { 0 < length bytes.now }
     requires backslash { is_backslash (slice_index bytes.now 0) ≡ true }
     ensures { PassesFirst bytes.now result }
 {
-    if bytes.len() > 1 && bytes[1] == b'\n' {
-        Some(Passed {
-            len: 2,
-            line_ends: 1,
-        })
-    } else {
-        None
-    }
+    let line_end = line_end_len(&bytes[1..])?;
+    Some(Passed {
+        len: 1 + line_end,
+        line_ends: 1,
+    })
 }
 
 /// Passes the string whose first quote stands at this byte, where it is simple: one with fields is short.
@@ -88,7 +84,25 @@ struct Outline {
 }
 
 impl Outline {
-    /// Passes LF at this byte: where no bracket is open it ends the line.
+    /// Passes the line end of so many bytes at this byte: where no bracket is open it ends the line.
+    #[inline(always)]
+    fn pass_line_end(&mut self, bytes: &[u8], at: usize, len: usize)
+        requires within { at < length bytes.now }
+        requires stands { IsAt bytes.now at self.old }
+        requires ends { BeginsLineEnd (drop at bytes.now) len }
+        ensures past { IsPast bytes.now (at + len) self.new }
+        ensures marks { self.new.marks ≡ self.old.marks }
+    {
+        self.line_ends += 1;
+        if self.closers.is_empty() {
+            self.lines = Passed {
+                len: at + len,
+                line_ends: self.line_ends,
+            };
+        }
+    }
+
+    /// Passes the LF at this byte.
     #[inline(always)]
     fn pass_line_feed(&mut self, bytes: &[u8], at: usize)
         requires within { at < length bytes.now }
@@ -96,13 +110,22 @@ impl Outline {
         requires feed { is_line_feed (slice_index bytes.now at) ≡ true }
         ensures { IsFurther bytes.now at self.new }
     {
-        self.line_ends += 1;
-        if self.closers.is_empty() {
-            self.lines = Passed {
-                len: at + 1,
-                line_ends: self.line_ends,
-            };
-        }
+        self.pass_line_end(bytes, at, 1);
+    }
+
+    /// Passes the CR at this byte, and the LF after it. The result is whether LF follows, so that they were passed.
+    fn pass_return(&mut self, bytes: &[u8], at: usize) -> bool
+        requires within { at < length bytes.now }
+        requires stands { IsAt bytes.now at self.old }
+        ensures further { IsTrue result → IsFurther bytes.now at self.new }
+        ensures lines { BeginWithLines bytes.now self.new.lines }
+    {
+        let Some(len) = line_end_len(&bytes[at..]) else {
+            return false;
+        };
+        self.pass_line_end(bytes, at, len);
+        self.marks.pass(bytes, at + len);
+        true
     }
 
     /// Passes the piece that begins at this byte. The result is whether it was passed.
@@ -135,6 +158,7 @@ impl Outline {
                 self.pass_line_feed(bytes, at);
                 true
             }
+            Class::Return => self.pass_return(bytes, at),
             Class::Opening => self.closers.open(bytes[at]),
             Class::Closing => self.closers.close(bytes[at]),
             class => self.pass_piece(bytes, class, at),
@@ -142,8 +166,8 @@ impl Outline {
     }
 }
 
-/// The logical lines that the bytes begin with, as long as they are simple: words, operators, comments, joins and strings, of ASCII,
-/// and LF. No line is open before the bytes, and no bracket.
+/// The logical lines that the bytes begin with, as long as they are simple: words of ASCII, operators, comments, joins and strings, and
+/// LF or CR LF. No line is open before the bytes, and no bracket.
 pub fn simple_lines(bytes: &[u8]) -> Passed
     ensures { BeginWithLines bytes.now result }
 {

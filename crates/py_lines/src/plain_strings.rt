@@ -2,9 +2,10 @@
 
 ghost use Rattle.std.specs.Prelude.{◌≡◌, ◌<◌, true, IsTrue, length, slice_index};
 ghost use Rattle.py_lines.specs.Character.{is_quote};
-ghost use Rattle.py_lines.specs.Private.Outline.{BeginsLong, HasEscape, HasString, IsInLong, PassesOrNot};
+ghost use Rattle.py_lines.specs.Private.Outline.{BeginsLong, HasEscape, HasLineEnd, HasString, IsInLong, PassesOrNot};
 
-use crate::run::{ByteRun, is_text_byte};
+use crate::character::is_break;
+use crate::run::body_characters;
 
 /// Bytes that were passed.
 #[derive(Clone, Copy)]
@@ -15,16 +16,40 @@ pub struct Passed {
     pub line_ends: u64,
 }
 
-/// Passes the backslash that the bytes begin with, and the byte that it escapes.
+/// How many bytes the line end has that the bytes begin with, if they begin with LF or CR LF (Python Language Reference, 2.1.2).
+#[inline(always)]
+pub fn line_end_len(bytes: &[u8]) -> Option<usize>
+    ensures { HasLineEnd bytes.now result }
+{
+    if bytes.is_empty() {
+        return None;
+    }
+    if bytes[0] == b'\n' {
+        return Some(1);
+    }
+    if bytes.len() > 1 && bytes[0] == b'\r' && bytes[1] == b'\n' {
+        return Some(2);
+    }
+    None
+}
+
+/// Passes the backslash that the bytes begin with, and what it escapes: a line end, or another byte of ASCII.
 fn escape(bytes: &[u8]) -> Option<Passed>
     ensures { HasEscape bytes.now result }
 {
-    if bytes.len() < 2 || bytes[0] != b'\\' || bytes[1] == b'\r' || bytes[1] >= 128 {
+    if bytes.len() < 2 || bytes[0] != b'\\' || bytes[1] >= 128 {
         return None;
     }
+    if !is_break(bytes[1] as char) {
+        return Some(Passed {
+            len: 2,
+            line_ends: 0,
+        });
+    }
+    let line_end = line_end_len(&bytes[1..])?;
     Some(Passed {
-        len: 2,
-        line_ends: (bytes[1] == b'\n') as u64,
+        len: 1 + line_end,
+        line_ends: 1,
     })
 }
 
@@ -39,7 +64,7 @@ fn short_string(bytes: &[u8]) -> Option<Passed>
     let mut len = 1;
     let mut line_ends = 0;
     'parts: loop {
-        len += ByteRun::Text(quote).len_in(&bytes[len..]);
+        len += body_characters(quote, &bytes[len..]);
         if len < bytes.len() && bytes[len] == quote {
             return Some(Passed {
                 len: len + 1,
@@ -59,30 +84,43 @@ fn begins_long(quote: u8, bytes: &[u8]) -> bool
     bytes.len() > 2 && bytes[0] == quote && bytes[1] == quote && bytes[2] == quote
 }
 
-/// Passes what stands at these bytes of a string of three such quotes, after a run of its text: an escape, a line end, or a quote of
-/// its text with the byte after it.
+/// Passes a quote of the text of a string of three such quotes, with which the bytes begin, and the line end or the text after it.
+fn lone_quote(quote: u8, bytes: &[u8]) -> Option<Passed>
+    requires quote { is_quote quote ≡ true }
+    requires some { 0 < length bytes.now }
+    requires first { slice_index bytes.now 0 ≡ quote }
+    ensures { PassesOrNot bytes.now result (IsInLong quote) (IsInLong quote) }
+{
+    let rest = &bytes[1..];
+    if let Some(len) = line_end_len(rest) {
+        return Some(Passed {
+            len: 1 + len,
+            line_ends: 1,
+        });
+    }
+    let len = body_characters(quote, rest);
+    if len == 0 {
+        return None;
+    }
+    Some(Passed {
+        len: 1 + len,
+        line_ends: 0,
+    })
+}
+
+/// Passes what stands at these bytes of a string of three such quotes, after a run of its text: a line end, a quote of its text, or an
+/// escape.
 fn part_of_long(quote: u8, bytes: &[u8]) -> Option<Passed>
     requires { is_quote quote ≡ true }
     ensures { PassesOrNot bytes.now result (IsInLong quote) (IsInLong quote) }
 {
-    if bytes.len() < 2 {
-        return None;
+    if let Some(len) = line_end_len(bytes) {
+        return Some(Passed { len, line_ends: 1 });
     }
-    match bytes[0] {
-        b'\n' => Some(Passed {
-            len: 1,
-            line_ends: 1,
-        }),
-        b if b == quote && bytes[1] == b'\n' => Some(Passed {
-            len: 2,
-            line_ends: 1,
-        }),
-        b if b == quote && is_text_byte(quote, bytes[1]) => Some(Passed {
-            len: 2,
-            line_ends: 0,
-        }),
-        _ => escape(bytes),
+    if !bytes.is_empty() && bytes[0] == quote {
+        return lone_quote(quote, bytes);
     }
+    escape(bytes)
 }
 
 /// The string of three quotes that the bytes begin with.
@@ -95,7 +133,7 @@ fn long_string(bytes: &[u8]) -> Option<Passed>
     let mut len = 3;
     let mut line_ends = 0;
     'parts: loop {
-        len += ByteRun::Text(quote).len_in(&bytes[len..]);
+        len += body_characters(quote, &bytes[len..]);
         let rest = &bytes[len..];
         if begins_long(quote, rest) {
             return Some(Passed {
@@ -109,7 +147,8 @@ fn long_string(bytes: &[u8]) -> Option<Passed>
     }
 }
 
-/// The string that the bytes begin with by its first quote, where it has no fields, and is ASCII without CR.
+/// The string that the bytes begin with by its first quote, where it has no fields, and is whole characters without CR except before
+/// LF.
 pub fn plain_string(bytes: &[u8]) -> Option<Passed>
     requires some { 0 < length bytes.now }
     requires quote { is_quote (slice_index bytes.now 0) ≡ true }

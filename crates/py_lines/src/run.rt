@@ -82,7 +82,7 @@ static FIRST_BYTES: [FirstByte; 256] = [
 ];
 
 /// Whether the byte is ASCII, and neither closes a string of this quote nor escapes in it, and ends no line.
-pub fn is_text_byte(quote: u8, b: u8) -> bool
+fn is_text_byte(quote: u8, b: u8) -> bool
     ensures { result ≡ is_text_byte quote b }
 {
     is_body_byte(quote, b) && b < 128
@@ -395,7 +395,7 @@ pub fn whole_comment(bytes: &[u8]) -> Option<usize>
 
 /// How many bytes the body of a string goes on, up to what escapes or ends a line, or to bytes that begin no character.
 #[inline(always)]
-fn body_characters(quote: u8, bytes: &[u8]) -> usize
+pub fn body_characters(quote: u8, bytes: &[u8]) -> usize
     requires quote { quote < 128 }
     ensures { Spans (is_body_byte quote) bytes.now result }
 {

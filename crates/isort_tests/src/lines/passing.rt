@@ -59,7 +59,7 @@ const PASSING: &[Passing] = &[
     Passing("a\nb\nc = d\n", 9, 2, (4, 3)),
     Passing("a\nb\nc = d", 9, 2, (4, 3)),
     // What is left to the scan: a long string with fields, a field in another, an empty string with fields, a word before a string,
-    // two quotes in a string of three, a quote before a backslash, a backslash before a space, CR, and a character outside ASCII.
+    // two quotes in a string of three, a quote before a backslash, and a backslash before a space.
     Passing("a\nf'''{b}'''\n", 13, 0, (2, 2)),
     Passing("a\nf'{b:{c}}'\n", 13, 0, (2, 2)),
     Passing("a\nRT\"\"\n", 7, 0, (2, 2)),
@@ -67,10 +67,6 @@ const PASSING: &[Passing] = &[
     Passing("a\n'''b''c'''\n", 13, 0, (2, 2)),
     Passing("a\n'''b'\\''''\n", 13, 0, (2, 2)),
     Passing("a\nb = \\ \n", 9, 0, (2, 2)),
-    Passing("a\n'''b\r\n'''\n", 13, 0, (2, 2)),
-    Passing("a\nb = c\r\n", 9, 0, (2, 2)),
-    Passing("a\nb = \u{e4}\n", 9, 0, (2, 2)),
-    Passing("a\nb  # \u{e4}\n", 10, 0, (2, 2)),
     // A fault: a bracket that closes none, a character that begins nothing, and strings that aren't closed.
     Passing("a\nb = (c]\n", 10, 0, (2, 2)),
     Passing("a\nb = c?\n", 9, 0, (2, 2)),
@@ -79,7 +75,87 @@ const PASSING: &[Passing] = &[
     Passing("a\n'''b''\n", 9, 0, (2, 2)),
 ];
 
+const LINE_ENDS: &[Passing] = &[
+    // CR LF after code, alone, in brackets, after a comment, and in a join; and both line ends.
+    Passing("a\r\nb = c\r\n", 10, 7, (10, 3)),
+    Passing("a\n\r\n\n\r\n", 7, 5, (7, 5)),
+    Passing("a\nb = [\r\n    c,\r\n]\r\n", 20, 18, (20, 5)),
+    Passing("a\nb  # c\r\n# d\r\n", 15, 13, (15, 4)),
+    Passing("a\nb = \\\r\n c\r\n", 13, 11, (13, 4)),
+    Passing("a\r\nb\nc\r\n", 8, 5, (8, 4)),
+    // In strings: one in three quotes counts, also after a quote, and one after a backslash.
+    Passing("a\n'''b\r\n\r\nc'\r\n'''\r\n", 19, 17, (19, 6)),
+    Passing("a\n'b\\\r\nc'\r\n", 11, 9, (11, 4)),
+    Passing("a\n\"\"\"\\\r\n\"\"\"\n", 12, 10, (12, 4)),
+    // A line that ends at CR, and one whose CR LF goes past the byte.
+    Passing("a\nb\nc\rd\n", 8, 2, (4, 3)),
+    Passing("a\nb\r\nc\r\n", 4, 0, (2, 2)),
+    // CR alone: after code, before CR LF, after a comment, in a join, in a string of three quotes, and after a backslash.
+    Passing("a\nb = c\rd\n", 10, 0, (2, 2)),
+    Passing("a\nb\r\r\n", 6, 0, (2, 2)),
+    Passing("a\n# b\rc\n", 8, 0, (2, 2)),
+    Passing("a\nb = \\\r c\n", 11, 0, (2, 2)),
+    Passing("a\n'''b\rc'''\n", 12, 0, (2, 2)),
+    Passing("a\n'b\\\rc'\n", 9, 0, (2, 2)),
+];
+
+const CHARACTERS: &[Passing] = &[
+    // Characters outside ASCII in comments, and in strings: at their start, after ASCII, before an escape, and after a quote.
+    Passing("a\nb  # \u{e4}\n", 10, 8, (10, 3)),
+    Passing("a\n# \u{416}\u{4f60}\u{1f600}\r\n", 15, 13, (15, 3)),
+    Passing("a\nb = '\u{4f60} c'\n", 14, 12, (14, 3)),
+    Passing("a\n'c\u{e9}\\n'\n", 10, 8, (10, 3)),
+    Passing("a\n\"\"\"\u{e4}\n\"\u{e4}\"\"\"\n", 15, 13, (15, 4)),
+    // What is left to the scan: such a word, such a character after a backslash, and a string with fields that holds one.
+    Passing("a\nb = \u{e4}\n", 9, 0, (2, 2)),
+    Passing("a\n'\\\u{e4}'\n", 8, 0, (2, 2)),
+    Passing("a\nf'\u{e4}'\n", 8, 0, (2, 2)),
+];
+
+/// A piece of a text that follows its first line, and how many bytes of its lines a scanner passes over.
+struct PassingPiece(&'static [u8], usize);
+
+impl Case for PassingPiece {
+    fn holds(&self, alloc: Global) -> bool {
+        let Ok(mut scanner) = Scanner::at(alloc, 2, 2) else {
+            return false;
+        };
+        self.0.len() < 100 && scanner.pass_lines(self.0, self.0.len()) == self.1
+    }
+}
+
+const PIECES: &[PassingPiece] = &[
+    PassingPiece(b"b  # \xc3\xa4\n", 8),
+    PassingPiece(b"# \xf0\x9f\x98\x80\r\n", 8),
+    PassingPiece(b"'''\xe4\xbd\xa0\n'''\n", 11),
+    // CR where the piece ends.
+    PassingPiece(b"b\r\nc\r", 3),
+    // Bytes that are no character: a first byte alone, one that begins none, a character cut short, one in two, and a surrogate.
+    PassingPiece(b"b  # \xc3\n", 0),
+    PassingPiece(b"b\n# \xff\n", 2),
+    PassingPiece(b"'\xe4\xbd'\n", 0),
+    PassingPiece(b"'''\xe4\n\xbd\xa0'''\n", 0),
+    PassingPiece(b"# \xed\xa0\x80\n", 0),
+];
+
 #[test]
 fn simple_lines_are_passed_over(rt: HostRuntime) -> Result<(), Fail> {
     each_holds_again(rt.alloc(), "PASSING", PASSING)
+}
+
+#[test]
+fn lines_that_end_with_carriage_return_and_line_feed_are_passed_over(
+    rt: HostRuntime,
+) -> Result<(), Fail> {
+    each_holds_again(rt.alloc(), "LINE_ENDS", LINE_ENDS)
+}
+
+#[test]
+fn characters_outside_ascii_are_passed_over(rt: HostRuntime) -> Result<(), Fail> {
+    each_holds_again(rt.alloc(), "CHARACTERS", CHARACTERS)
+}
+
+#[test]
+fn lines_of_a_piece_are_passed_over(rt: HostRuntime) -> Result<(), Fail> {
+    each_holds_again(rt.alloc(), "PIECES", PIECES)
 }

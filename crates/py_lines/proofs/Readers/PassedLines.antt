@@ -1,14 +1,12 @@
 -- Lines that were passed over are the text's next.
-use Rattle.std.proofs.Common.{◌≡◌, ℕ, zero, suc, ◌+◌, ◌-◌, ◌<◌, ◌≤◌, true, None, List, [], ◌∷◌, ◌++◌, length, take, drop, slice_index, refl, sym, ap, ◌∙◌, subst, append-nil, arith}
+use Rattle.std.proofs.Common.{◌≡◌, ℕ, zero, suc, ◌+◌, ◌-◌, ◌<◌, ◌≤◌, None, List, [], ◌∷◌, ◌++◌, length, take, drop, refl, sym, ap, ◌∙◌, subst, append-nil, arith}
 use Rattle.std.specs.Prelude.{encode_utf8_all, slice_range}
-use Rattle.std.specs.Str.{all_scalars, IsCharBoundary}
-use Rattle.std.specs.List.{list_all}
-use Rattle.std.proofs.lemmas.Bool.{and_parts}
-use Rattle.std.proofs.lemmas.List.{drop-drop, drop-take, get_or-drop, length-append, length-take, length-take-le, length-drop, take-append-drop, take-append-le, take_all}
-use Rattle.std.proofs.lemmas.Str.{IsCharBoundary-after_ascii, IsUtf8-had}
+use Rattle.std.specs.Str.{all_scalars, IsCharBoundary, IsUtf8}
+use Rattle.std.proofs.lemmas.List.{drop-drop, drop-take, length-append, length-take, length-take-le, length-drop, take-append-drop, take-append-le, take_all}
+use Rattle.std.proofs.lemmas.Str.{IsCharBoundary-from_rest, IsCharBoundary-from_take, IsUtf8-drop, IsUtf8-had, encodes-append, length-le-encodes}
 use Rattle.std.proofs.Math.Seq.{drop-append_seam, take-append_seam}
 use Rattle.py_lines.specs.Piece.{Piece, spelled}
-use Rattle.py_lines.specs.LogicalLine.{LogicalLine, line_of}
+use Rattle.py_lines.specs.LogicalLine.{LogicalLine, byte_len, line_of}
 use Rattle.py_lines.specs.Lines.{PassesUpTo}
 use Rattle.py_lines.specs.Reader.{Reader, PassesLine, PassesLines}
 use Rattle.py_lines.specs.Reader.View.{reader_of}
@@ -22,13 +20,12 @@ use Rattle.py_lines.specs.Private.ScanMachine.{IsScanSound}
 use Rattle.py_lines.specs.Private.Scan.{line_start}
 use Rattle.py_lines.specs.Private.Outline.{AreWholeLines, BeginWithLines, IsWholeLine}
 use Rattle.py_lines.proofs.Lexings.GivenLines.{IsEnded}
-use Rattle.py_lines.proofs.LineScan.LineCount.{line_ends-le}
+use Rattle.py_lines.proofs.LineScan.LineCount.{line_ends-bytes}
 use Rattle.py_lines.proofs.LineScan.LineSteps.{sound_steps}
 use Rattle.py_lines.proofs.LineScan.PieceEnd.{no_class_bracket}
-use Rattle.py_lines.proofs.LineScan.ShortPieces.{is_low, low_encodes, low_is}
 use Rattle.py_lines.proofs.LineScan.TextSteps.{begun_sound}
 use Rattle.py_lines.proofs.LogicalLines.Cuts.{one_line}
-use Rattle.py_lines.proofs.SimpleLines.Lines.{lines_few, lines_low}
+use Rattle.py_lines.proofs.SimpleLines.Lines.{lines_few, lines_scalars}
 use Rattle.py_lines.proofs.Readers.LineAnswers.{IsReadLine, continues_as}
 
 -- the machine's pieces are the line's
@@ -45,19 +42,13 @@ whole_read read n some line =
       whole = one_line 0 line.body line.last line.are.one_line line.are.class line.are.level;
       stacked = no_class_bracket line.body line.last line.are.class line.are.paired;
       strings = sound.strings;
-      some = omega (arith, some, ap length (low_encodes is_low read low_is line.holds.low).0);
+      some = omega (arith, some, length-le-encodes read);
     }
 
 -- no mark may stand after the text's start
 pub first_free : (n : ℕ) → (n ≡ 0 → ⊥) → first_mode n ≡ modes.Free
 first_free zero later = absurd (later refl)
 first_free (suc n) later = refl
-
--- the last byte of ASCII
-last_low : (bytes : List ℕ) (n : ℕ) → n < length bytes → list_all is_low (take (suc n) bytes) ≡ true → slice_index bytes n < 128
-last_low [] n within low = absurd (omega (arith, within))
-last_low (b ∷ bs) zero within low = low_is b (and_parts (is_low b) true low).0
-last_low (b ∷ bs) (suc n) within low = last_low bs n (omega (arith, within)) (and_parts (is_low b) (list_all is_low (take (suc n) bs)) low).1
 
 -- the first bytes of a slice
 pub take_slice : (bytes : List ℕ) (n k : ℕ) → n ≤ length (take k bytes) → take n (take k bytes) ≡ take n bytes
@@ -72,23 +63,21 @@ place_slice text place len all within whole =
     ∙ ap (take len) (drop-take place more text)
     ∙ take_slice (drop place text) len more (omega (arith, within, whole, parts, length-take-le more (drop place text) (omega (arith, whole, parts, length-drop place text))))
 
--- a character begins after bytes of ASCII
-low_boundary : (s : Source) (len : ℕ) → s.state.place + len ≤ length s.characters.now → list_all is_low (take len (drop s.state.place s.characters.now)) ≡ true → IsCharBoundary s.characters.now (s.state.place + len)
-low_boundary s zero room low = subst (IsCharBoundary s.characters.now) (omega arith) s.boundary
-low_boundary s (suc k) room low =
+-- a character begins after whole characters
+whole_boundary : (s : Source) (len : ℕ) → s.state.place + len ≤ length s.characters.now → IsUtf8 (take len (drop s.state.place s.characters.now)) → IsCharBoundary s.characters.now (s.state.place + len)
+whole_boundary s len room utf8 =
     let rest = drop s.state.place s.characters.now in
-    let last : s.state.place + k + 1 ≡ s.state.place + suc k = omega arith in
-    let in_rest = last_low rest k (omega (arith, room, length-drop s.state.place s.characters.now)) low in
-    let byte = subst (λ (b : ℕ). b < 128) (get_or-drop s.state.place s.characters.now k 0) in_rest in
-    subst (IsCharBoundary s.characters.now) last (IsCharBoundary-after_ascii s.characters.now (s.state.place + k) (IsUtf8-had _ s.text) (omega (arith, room)) byte)
+    let place : s.state.place ≤ length s.characters.now = omega (arith, room) in
+    let size : len ≤ length rest = omega (arith, room, length-drop s.state.place s.characters.now) in
+    IsCharBoundary-from_rest s.characters.now s.state.place len place (IsCharBoundary-from_take rest len (IsUtf8-drop s.characters.now s.state.place (IsUtf8-had _ s.text) s.boundary) size utf8)
 
 -- the reader after so many bytes and line ends
 abbrev pub further : Source → ℕ → ℕ → Reader
 further s len feeds = record { text = s.bytes.now; place = s.state.place + len; line = s.state.line + feeds; fault = s.state.fault }
 
 -- the same as a `Source`
-abbrev source_after : (s : Source) (len feeds : ℕ) → s.state.place + len ≤ length s.characters.now → feeds ≤ len → list_all is_low (take len (drop s.state.place s.characters.now)) ≡ true → Source
-source_after s len feeds room few low = record {
+abbrev source_after : (s : Source) (len feeds : ℕ) → s.state.place + len ≤ length s.characters.now → feeds ≤ len → IsUtf8 (take len (drop s.state.place s.characters.now)) → Source
+source_after s len feeds room few utf8 = record {
   bytes = s.bytes;
   characters = s.characters;
   start = s.state.place;
@@ -99,17 +88,14 @@ source_after s len feeds room few low = record {
   bad = s.bad;
   ordered = omega arith;
   within = room;
-  boundary = low_boundary s len room low;
+  boundary = whole_boundary s len room utf8;
   start_boundary = s.boundary;
   few_lines = omega (arith, few, s.few_lines);
 }
 
--- a line that the bytes after the reader's place begin with
-module _ (s : Source) (later : s.state.place ≡ 0 → ⊥) (no_fault : s.state.fault ≡ None) (read : List ℕ) (n : ℕ) (some : 0 < length read) (room : s.state.place + length read ≤ length s.characters.now)
-    (spell : take (length read) (drop s.state.place s.characters.now) ≡ read) (line : IsWholeLine read n) where
-  low : (encode_utf8_all read ≡ read) × (all_scalars read ≡ true)
-  low = low_encodes is_low read low_is line.holds.low
-
+-- a line whose bytes those after the reader's place begin with
+module _ (s : Source) (later : s.state.place ≡ 0 → ⊥) (no_fault : s.state.fault ≡ None) (read : List ℕ) (n : ℕ) (some : 0 < length read) (room : s.state.place + byte_len read ≤ length s.characters.now)
+    (spell : take (byte_len read) (drop s.state.place s.characters.now) ≡ encode_utf8_all read) (line : IsWholeLine read n) where
   prefix_long : length s.characters.now ≤ length s.bytes.now
   prefix_long = omega (arith, ap length s.prefix, length-take (length s.characters.now) s.bytes.now)
 
@@ -119,29 +105,28 @@ module _ (s : Source) (later : s.state.place ≡ 0 → ⊥) (no_fault : s.state.
   as_line : IsReadLine (line_start (first_mode s.state.place)) read pieces
   as_line = subst (λ (m : Mode). IsReadLine (line_start m) read pieces) (sym (first_free s.state.place later)) (whole_read read n some line)
 
-  split : encode_utf8_all read ++ drop (length read) (drop s.state.place s.characters.now) ≡ drop s.state.place s.characters.now
-  split = ap (λ t. t ++ drop (length read) (drop s.state.place s.characters.now)) (low.0 ∙ sym spell) ∙ take-append-drop (length read) (drop s.state.place s.characters.now)
+  split : encode_utf8_all read ++ drop (byte_len read) (drop s.state.place s.characters.now) ≡ drop s.state.place s.characters.now
+  split = ap (λ t. t ++ drop (byte_len read) (drop s.state.place s.characters.now)) (sym spell) ∙ take-append-drop (byte_len read) (drop s.state.place s.characters.now)
 
   abbrev pub line_is : LogicalLine
   line_is = line_of s.state.place s.state.line pieces
 
-  text : encode_utf8_all (spelled pieces) ≡ slice_range s.bytes.now s.state.place (s.state.place + length read)
+  text : encode_utf8_all (spelled pieces) ≡ slice_range s.bytes.now s.state.place (s.state.place + byte_len read)
   text =
-      let long : length read ≡ s.state.place + length read - s.state.place = omega arith in
+      let long : byte_len read ≡ s.state.place + byte_len read - s.state.place = omega arith in
       ap encode_utf8_all as_line.spell
-      ∙ low.0
       ∙ sym spell
-      ∙ ap (λ t. take (length read) (drop s.state.place t)) s.prefix
-      ∙ place_slice s.bytes.now s.state.place (length read) (length s.characters.now) room prefix_long
+      ∙ ap (λ t. take (byte_len read) (drop s.state.place t)) s.prefix
+      ∙ place_slice s.bytes.now s.state.place (byte_len read) (length s.characters.now) room prefix_long
       ∙ ap (λ (k : ℕ). take k (drop s.state.place s.bytes.now)) long
 
-  pub passes_line : PassesLine (reader_of s) line_is (further s (length read) n)
+  pub passes_line : PassesLine (reader_of s) line_is (further s (byte_len read) n)
   passes_line = record {
-    continues = continues_as s (further s (length read) n) read (drop (length read) (drop s.state.place s.characters.now)) pieces low.1 split (omega (arith, some, room, prefix_long)) no_fault as_line refl (ap (λ (k : ℕ). s.state.place + k) (ap length (sym low.0))) (omega (arith, room, prefix_long)) (ap (λ (k : ℕ). s.state.line + k) (sym line.holds.count)) no_fault
+    continues = continues_as s (further s (byte_len read) n) read (drop (byte_len read) (drop s.state.place s.characters.now)) pieces line.holds.scalars split (omega (arith, some, length-le-encodes read, room, prefix_long)) no_fault as_line refl refl (omega (arith, room, prefix_long)) (ap (λ (k : ℕ). s.state.line + k) (sym line.holds.count)) no_fault
         (λ lines t. (whole_sound read n line).fit t.after)
         (λ lines t. IsEnded.by_line line.body line.last refl line.are.class line.are.level);
     text = text;
-    utf8 = (spelled pieces, (ap all_scalars as_line.spell ∙ low.1, refl));
+    utf8 = (spelled pieces, (ap all_scalars as_line.spell ∙ line.holds.scalars, refl));
   }
 
 -- lines that they begin with
@@ -149,10 +134,10 @@ pub record PassesAll (s : Source) (len n : ℕ) : Type 0 where
   pub lines : List LogicalLine
   pub passes : PassesLines (reader_of s) lines (further s len n)
 
-pub passes_all : (texts : List (List ℕ)) (s : Source) (read : List ℕ) (n : ℕ) → (s.state.place ≡ 0 → ⊥) → s.state.fault ≡ None → s.state.place + length read ≤ length s.characters.now → take (length read) (drop s.state.place s.characters.now) ≡ read → AreWholeLines texts read n → PassesAll s (length read) n
+pub passes_all : (texts : List (List ℕ)) (s : Source) (read : List ℕ) (n : ℕ) → (s.state.place ≡ 0 → ⊥) → s.state.fault ≡ None → s.state.place + byte_len read ≤ length s.characters.now → take (byte_len read) (drop s.state.place s.characters.now) ≡ encode_utf8_all read → AreWholeLines texts read n → PassesAll s (byte_len read) n
 passes_all [] s read n later no_fault room spell are =
-    let size : length read ≡ 0 = ap length are.0 in
-    let place : s.state.place + length read ≡ s.state.place = omega (arith, size) in
+    let size : byte_len read ≡ 0 = ap byte_len are.0 in
+    let place : s.state.place + byte_len read ≡ s.state.place = omega (arith, size) in
     let line : s.state.line + n ≡ s.state.line = omega (arith, are.1) in
     record {
       lines = [];
@@ -160,27 +145,30 @@ passes_all [] s read n later no_fault room spell are =
     }
 passes_all (t ∷ texts) s read n later no_fault room spell are =
     let rest = drop s.state.place s.characters.now in
-    let sizes : length read ≡ length t + length are.later = ap length are.spell ∙ length-append t are.later in
-    let own_room : s.state.place + length t ≤ length s.characters.now = omega (arith, room, sizes) in
-    let within : length t ≤ length read = omega (arith, sizes) in
-    let size : length (take (length read) rest) ≡ length read = ap length spell in
-    let own : take (length t) rest ≡ t = sym (take_slice rest (length t) (length read) (omega (arith, within, size))) ∙ ap (take (length t)) (spell ∙ are.spell) ∙ take-append_seam t are.later in
-    let few : are.own ≤ length t = omega (arith, are.whole.holds.count, line_ends-le t) in
-    let mid = source_after s (length t) are.own own_room few (ap (list_all is_low) own ∙ are.whole.holds.low) in
-    let later_spell : take (length are.later) (drop (s.state.place + length t) s.characters.now) ≡ are.later =
-    ap (take (length are.later)) (sym (drop-drop (length t) s.state.place s.characters.now))
-    ∙ sym (take_slice (drop (length t) rest) (length are.later) (length read - length t) (omega (arith, sizes, length-take-le (length read - length t) (drop (length t) rest) (omega (arith, room, sizes, length-drop (length t) rest, length-drop s.state.place s.characters.now)))))
-    ∙ ap (take (length are.later)) (sym (drop-take (length t) (length read - length t) rest) ∙ ap (λ (k : ℕ). drop (length t) (take k rest)) (omega (arith, sizes)) ∙ ap (drop (length t)) (spell ∙ are.spell) ∙ drop-append_seam t are.later)
-    ∙ take_all (length are.later) are.later (omega arith) in
-    let others = passes_all texts mid are.later are.more (λ (none : s.state.place + length t ≡ 0). omega (arith, none, are.some)) no_fault (omega (arith, room, sizes)) later_spell are.lines in
-    let place : s.state.place + length read ≡ s.state.place + length t + length are.later = omega (arith, sizes) in
+    let own_bytes = encode_utf8_all t in
+    let later_bytes = encode_utf8_all are.later in
+    let all : encode_utf8_all read ≡ own_bytes ++ later_bytes = ap encode_utf8_all are.spell ∙ encodes-append t are.later in
+    let sizes : byte_len read ≡ byte_len t + byte_len are.later = ap length all ∙ length-append own_bytes later_bytes in
+    let own_room : s.state.place + byte_len t ≤ length s.characters.now = omega (arith, room, sizes) in
+    let within : byte_len t ≤ byte_len read = omega (arith, sizes) in
+    let size : length (take (byte_len read) rest) ≡ byte_len read = ap length spell in
+    let own : take (byte_len t) rest ≡ own_bytes = sym (take_slice rest (byte_len t) (byte_len read) (omega (arith, within, size))) ∙ ap (take (byte_len t)) (spell ∙ all) ∙ take-append_seam own_bytes later_bytes in
+    let few : are.own ≤ byte_len t = omega (arith, are.whole.holds.count, line_ends-bytes t) in
+    let mid = source_after s (byte_len t) are.own own_room few (t, (are.whole.holds.scalars, sym own)) in
+    let later_spell : take (byte_len are.later) (drop (s.state.place + byte_len t) s.characters.now) ≡ later_bytes =
+    ap (take (byte_len are.later)) (sym (drop-drop (byte_len t) s.state.place s.characters.now))
+    ∙ sym (take_slice (drop (byte_len t) rest) (byte_len are.later) (byte_len read - byte_len t) (omega (arith, sizes, length-take-le (byte_len read - byte_len t) (drop (byte_len t) rest) (omega (arith, room, sizes, length-drop (byte_len t) rest, length-drop s.state.place s.characters.now)))))
+    ∙ ap (take (byte_len are.later)) (sym (drop-take (byte_len t) (byte_len read - byte_len t) rest) ∙ ap (λ (k : ℕ). drop (byte_len t) (take k rest)) (omega (arith, sizes)) ∙ ap (drop (byte_len t)) (spell ∙ all) ∙ drop-append_seam own_bytes later_bytes)
+    ∙ take_all (byte_len are.later) later_bytes (omega arith) in
+    let others = passes_all texts mid are.later are.more (λ (none : s.state.place + byte_len t ≡ 0). omega (arith, none, are.some, length-le-encodes t)) no_fault (omega (arith, room, sizes)) later_spell are.lines in
+    let place : s.state.place + byte_len read ≡ s.state.place + byte_len t + byte_len are.later = omega (arith, sizes) in
     let line : s.state.line + n ≡ s.state.line + are.own + are.more = omega (arith, are.count) in
     record {
       lines = line_is s later no_fault t are.own are.some own_room own are.whole ∷ others.lines;
       passes = (
-        further s (length t) are.own,
+        further s (byte_len t) are.own,
         passes_line s later no_fault t are.own are.some own_room own are.whole,
-        subst (λ (r : Reader). PassesLines (further s (length t) are.own) others.lines r) (sym (λ i. record { text = s.bytes.now; place = place i; line = line i; fault = s.state.fault })) others.passes,
+        subst (λ (r : Reader). PassesLines (further s (byte_len t) are.own) others.lines r) (sym (λ i. record { text = s.bytes.now; place = place i; line = line i; fault = s.state.fault })) others.passes,
       );
     }
 
@@ -191,11 +179,7 @@ module _ (s : Source) (later : s.state.place ≡ 0 → ⊥) (no_fault : s.state.
   rest = drop s.state.place s.characters.now
 
   read : List ℕ
-  read = take p.len (take (before - s.state.place) (drop s.state.place s.characters.now))
-
-  size : length read ≡ p.len
-  unfolding read
-  size = length-take-le p.len (take (before - s.state.place) (drop s.state.place s.characters.now)) found.within
+  read = found.read
 
   slice_size : length (take (before - s.state.place) (drop s.state.place s.characters.now)) ≡ before - s.state.place
   slice_size = length-take-le (before - s.state.place) (drop s.state.place s.characters.now) (omega (arith, length-drop s.state.place s.characters.now, within, ordered))
@@ -207,15 +191,18 @@ module _ (s : Source) (later : s.state.place ≡ 0 → ⊥) (no_fault : s.state.
   unfolding read
   are = found.whole
 
-  spell : take p.len (drop s.state.place s.characters.now) ≡ read
+  spell : take p.len (drop s.state.place s.characters.now) ≡ encode_utf8_all read
   unfolding read
-  spell = sym (take_slice (drop s.state.place s.characters.now) p.len (before - s.state.place) found.within)
+  spell = sym (found.spell ∙ take_slice (drop s.state.place s.characters.now) p.len (before - s.state.place) found.within)
+
+  size : byte_len read ≡ p.len
+  size = sym (ap length spell) ∙ length-take-le p.len (drop s.state.place s.characters.now) (omega (arith, room, within, ordered, length-drop s.state.place s.characters.now))
 
   pub few : p.line_ends ≤ p.len
   few = omega (arith, lines_few found.texts read p.line_ends are, size)
 
   pub boundary : IsCharBoundary s.characters.now (s.state.place + p.len)
-  boundary = low_boundary s p.len (omega (arith, room, within)) (ap (list_all is_low) spell ∙ lines_low found.texts read p.line_ends are)
+  boundary = whole_boundary s p.len (omega (arith, room, within)) (read, (lines_scalars found.texts read p.line_ends are, sym spell))
 
   all : PassesAll s p.len p.line_ends
   all =

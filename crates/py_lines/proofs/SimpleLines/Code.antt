@@ -1,11 +1,10 @@
--- Code is passed over: the machine goes through its words, spaces, operators and brackets, up to LF.
-use Rattle.std.proofs.Common.{◌≡◌, ℕ, ◌+◌, ◌<◌, ◌⊎◌, inl, inr, Bool, true, false, not, ◌||◌, Option, None, Some, List, [], ◌∷◌, ◌++◌, length, refl, sym, ap, ◌∙◌, subst, append_assoc, append-nil, arith, lit<}
-use Rattle.std.specs.Prelude.{codes}
+-- Code is passed over: the machine goes through its words, spaces, operators and brackets, up to a line end.
+use Rattle.std.proofs.Common.{◌≡◌, ℕ, ◌+◌, ◌<◌, ◌≤◌, ◌⊎◌, inl, inr, Bool, true, false, not, ◌||◌, Option, None, Some, List, [], ◌∷◌, ◌++◌, refl, sym, ap, ◌∙◌, subst, append_assoc, append-nil, arith, lit<, ⊎_elim}
+use Rattle.std.specs.Prelude.{codes, encode_utf8, encode_utf8_all}
+use Rattle.std.specs.Str.{all_scalars}
 use Rattle.std.specs.List.{list_all}
-use Rattle.std.proofs.lemmas.Bool.{and_from, and_parts, both_ways}
+use Rattle.std.proofs.lemmas.Bool.{and_from, and_parts, both_ways, cases_lt, false_from_ne_true}
 use Rattle.std.proofs.lemmas.Bool.Decides.{nat_tests}
-use Rattle.std.proofs.lemmas.List.Folds.{list_all-append}
-use Rattle.std.proofs.lemmas.Str.{len_utf8_ascii}
 use Rattle.py_lines.specs.Character.{is_break, is_line_feed, is_operator, is_quote, is_return, is_space, is_word_character}
 use Rattle.py_lines.specs.Piece.{operator, line_end, Piece, ends, spelled}
 use Rattle.py_lines.specs.Balance.{depth_through, is_opening, is_closing}
@@ -21,22 +20,24 @@ use Rattle.py_lines.specs.Private.ScanMachine.{IsScanSound, meet_of, scan_step, 
 use Rattle.py_lines.specs.Private.Scan.{EndsNoLine, counts_after, line_start}
 use Rattle.py_lines.specs.Private.Run.{is_ascii_word}
 use Rattle.py_lines.specs.Private.FieldText.{is_apart_mode, is_code_mode}
-use Rattle.py_lines.specs.Private.Outline.{HoldsFeeds, HasCome, GoesOnAfter, EndsBefore, StandsBefore, IsAfterFeed, IsTail, tail_of, tail_on, tail_with}
+use Rattle.py_lines.specs.Private.Outline.{HoldsLineEnds, HasCome, GoesOnAfter, EndsBefore, StandsBefore, IsAfterLineEnd, IsTail, line_end_of, tail_of, tail_on, tail_with}
 use Rattle.py_lines.proofs.Pieces.PieceLists.{piece}
-use Rattle.py_lines.proofs.Machine.Starts.{start-word, start-space, start-operator, start-feed}
+use Rattle.py_lines.proofs.Machine.Starts.{start-word, start-space, start-operator, start-feed, start-return}
 use Rattle.py_lines.proofs.Machine.PieceSteps.{scanned, pieces_at}
 use Rattle.py_lines.proofs.Machine.LiveTexts.{keeps, stack_closed}
 use Rattle.py_lines.proofs.ScanMachine.Steps.{breaks_in}
 use Rattle.py_lines.proofs.LineScan.BracketStack.{keeps_at}
 use Rattle.py_lines.proofs.LineScan.Increments.{EndsNoLine-push, line_ends-step, stack_push}
-use Rattle.py_lines.proofs.LineScan.LineCount.{byte_len-one, ends-last}
+use Rattle.py_lines.proofs.LineScan.LineCount.{ends-last}
 use Rattle.py_lines.proofs.LineScan.LineSteps.{sound_steps, steps_push}
 use Rattle.py_lines.proofs.LineScan.NextCharacter.{closed_one_line, depth_none, none_level}
 use Rattle.py_lines.proofs.LineScan.PieceEnd.{closed_text}
-use Rattle.py_lines.proofs.LineScan.Runs.{ends-run, line_ends-run, space_low, word_byte_continues, word_byte_low}
-use Rattle.py_lines.proofs.LineScan.ShortPieces.{free_breaks, is_low, is_low_from, low_encodes, low_is, operator-no_break, operator-not-quote, word_starts, word_whole, space-not-quote, space_whole}
+use Rattle.py_lines.proofs.LineScan.Runs.{break_low, ends-run, line_ends-run, space_low, word_byte_continues, word_byte_low}
+use Rattle.py_lines.proofs.LineScan.ShortPieces.{ascii_scalar, free_breaks, operator-no_break, operator-not-quote, word_starts, word_whole, space-not-quote, space_whole}
 use Rattle.py_lines.proofs.LineScan.TextSteps.{begun_sound}
 use Rattle.py_lines.proofs.Text.CharacterTests.{excluded, feed_from, none_of, operator_ascii}
+use Rattle.py_lines.proofs.Text.Utf8Prefixes.{all_scalars-append}
+use Rattle.py_lines.proofs.Text.Utf8Shapes.{one, two, three, four}
 
 -- what is no space, and no word
 word-not-space : (c : ℕ) → is_ascii_word c ≡ true → is_space c ≡ false
@@ -62,46 +63,61 @@ operator-no-word : (c : ℕ) → is_operator c ≡ true → is_ascii_word c ≡ 
 unfolding is_operator is_ascii_word
 operator-no-word c is = none_of is_ascii_word (codes "+-*/%@&|^~<>=!()[]{},:.;") c refl is
 
-pub feed-no-word : is_ascii_word 10 ≡ false
+feed-no-word : is_ascii_word 10 ≡ false
 unfolding is_ascii_word
 feed-no-word = refl
 
-pub feed-not-quote : is_quote 10 ≡ false
-unfolding is_quote
-feed-not-quote = refl
-
-feed-not-space : is_space 10 ≡ false
-unfolding is_space
-feed-not-space = refl
-
--- more bytes, which end no line
-pub holds_more : (read run : List ℕ) (n : ℕ) → HoldsFeeds read n → IsFull run → list_all is_low run ≡ true → list_all (λ d. not (is_break d)) run ≡ true → HoldsFeeds (read ++ run) n
-holds_more read run n holds full low whole = record {
-  low = list_all-append is_low read run ∙ and_from _ _ holds.low low;
+-- more characters, which end no line
+pub holds_more : (read run : List ℕ) (n : ℕ) → HoldsLineEnds read n → IsFull run → all_scalars run ≡ true → list_all (λ d. not (is_break d)) run ≡ true → HoldsLineEnds (read ++ run) n
+holds_more read run n holds full scalars whole = record {
+  scalars = all_scalars-append read run holds.scalars scalars;
   count = line_ends-run read run whole ∙ holds.count;
   unreturned = ends-run read run full whole;
 }
 
-pub holds_one : (read : List ℕ) (c n : ℕ) → HoldsFeeds read n → c < 128 → is_break c ≡ false → HoldsFeeds (read ++ c ∷ []) n
-holds_one read c n holds low none = holds_more read (c ∷ []) n holds tt (and_from _ _ (is_low_from c low) refl) (and_from _ _ (ap not none) refl)
+pub holds_one : (read : List ℕ) (c n : ℕ) → HoldsLineEnds read n → c < 128 → is_break c ≡ false → HoldsLineEnds (read ++ c ∷ []) n
+holds_one read c n holds low none = holds_more read (c ∷ []) n holds tt (and_from _ _ (ascii_scalar c low) refl) (and_from _ _ (ap not none) refl)
 
--- LF counts as one more line end
+-- a line end counts as one more, with CR or without
 feed_counts : counts_after false 10 ≡ 1
 unfolding counts_after is_return is_line_feed
 feed_counts = refl
+
+return_counts : counts_after false 13 ≡ 1
+unfolding counts_after is_return
+return_counts = refl
+
+returned_feed_counts : counts_after true 10 ≡ 0
+unfolding counts_after is_return is_line_feed
+returned_feed_counts = refl
 
 feed_unreturned : is_return 10 ≡ false
 unfolding is_return
 feed_unreturned = refl
 
-pub holds_feed : (read : List ℕ) (n : ℕ) → HoldsFeeds read n → HoldsFeeds (read ++ 10 ∷ []) (n + 1)
-holds_feed read n holds =
+return_returns : is_return 13 ≡ true
+unfolding is_return
+return_returns = refl
+
+pub holds_line_end : (returned : Bool) (read : List ℕ) (n : ℕ) → HoldsLineEnds read n → HoldsLineEnds (read ++ line_end_of returned) (n + 1)
+holds_line_end false read n holds =
     let one : counts_after (ends is_return read) 10 ≡ 1 = ap (λ (b : Bool). counts_after b 10) holds.unreturned ∙ feed_counts in
     record {
-      low = list_all-append is_low read (10 ∷ []) ∙ and_from _ _ holds.low refl;
+      scalars = all_scalars-append read (10 ∷ []) holds.scalars (and_from _ _ (ascii_scalar 10 (lit< tt)) refl);
       count = omega (arith, line_ends-step read 10, one, holds.count);
       unreturned = ends-last is_return read 10 ∙ feed_unreturned;
     }
+holds_line_end true read n holds =
+    let mid : List ℕ = read ++ 13 ∷ [] in
+    let one : counts_after (ends is_return read) 13 ≡ 1 = ap (λ (b : Bool). counts_after b 13) holds.unreturned ∙ return_counts in
+    let none : counts_after (ends is_return mid) 10 ≡ 0 = ap (λ (b : Bool). counts_after b 10) (ends-last is_return read 13 ∙ return_returns) ∙ returned_feed_counts in
+    let fine : all_scalars mid ≡ true = all_scalars-append read (13 ∷ []) holds.scalars (and_from _ _ (ascii_scalar 13 (lit< tt)) refl) in
+    subst (λ (t : List ℕ). HoldsLineEnds t (n + 1)) (append_assoc read (13 ∷ []) (10 ∷ []))
+    (record {
+      scalars = all_scalars-append mid (10 ∷ []) fine (and_from _ _ (ascii_scalar 10 (lit< tt)) refl);
+      count = omega (arith, line_ends-step mid 10, none, line_ends-step read 13, one, holds.count);
+      unreturned = ends-last is_return mid 10 ∙ feed_unreturned;
+    })
 
 -- where the machine has come, it is sound
 pub come_sound : (read : List ℕ) (n : ℕ) (st : List Bracket) (s : Scanned) → HasCome read n st s → IsScanSound s read
@@ -113,10 +129,10 @@ closed_spells read n st s come =
     let sound = come_sound read n st s come in
     closed_text s.mode s.done s.held sound.holds ∙ sound.spell
 
-closed_place : (read : List ℕ) (n : ℕ) (st : List Bracket) (s : Scanned) → HasCome read n st s → byte_len (spelled (pieces_at s)) ≡ length read
-closed_place read n st s come = ap byte_len (closed_spells read n st s come) ∙ ap length (low_encodes is_low read low_is come.holds.low).0
+closed_place : (read : List ℕ) (n : ℕ) (st : List Bracket) (s : Scanned) → HasCome read n st s → byte_len (spelled (pieces_at s)) ≡ byte_len read
+closed_place read n st s come = ap byte_len (closed_spells read n st s come)
 
--- the word that bytes end with
+-- the word that a text ends with
 pub tail_on-append : (t : Option Spelling) (xs ys : List ℕ) → tail_on t (xs ++ ys) ≡ tail_on (tail_on t xs) ys
 tail_on-append t [] ys = refl
 tail_on-append t (x ∷ xs) ys = tail_on-append (tail_with t x) xs ys
@@ -180,11 +196,11 @@ module _ (read : List ℕ) (n : ℕ) (st : List Bracket) (c : ℕ) (on : EndsBef
   begins_as start is = steps_push (line_start modes.Free) read on.state c on.come.steps ∙ begin on.state c start on.breaks is
 
   -- it stays open
-  pub opens : (m : Mode) → start_of c ≡ starts.Open m → HoldsFeeds (read ++ c ∷ []) n → HasCome (read ++ c ∷ []) n st (scanned pieces m (c ∷ []))
+  pub opens : (m : Mode) → start_of c ≡ starts.Open m → HoldsLineEnds (read ++ c ∷ []) n → HasCome (read ++ c ∷ []) n st (scanned pieces m (c ∷ []))
   opens m is holds = record { steps = begins_as (starts.Open m) is; stacked = closed_stack; one_line = closed_line; holds = holds }
 
   -- it is an operator, which the brackets allow
-  pub operator_passed : (after : List Bracket) → is_operator c ≡ true → brackets_after st (length read) (piece operator (c ∷ [])) ≡ Some after → GoesOnAfter (read ++ c ∷ []) n after
+  pub operator_passed : (after : List Bracket) → is_operator c ≡ true → brackets_after st (byte_len read) (piece operator (c ∷ [])) ≡ Some after → GoesOnAfter (read ++ c ∷ []) n after
   operator_passed after is stands = record {
     state = fresh (pieces ++ piece operator (c ∷ []) ∷ []);
     come = record {
@@ -196,37 +212,63 @@ module _ (read : List ℕ) (n : ℕ) (st : List Bracket) (c : ℕ) (on : EndsBef
     tail = apart_tail (tail_of (read ++ c ∷ [])) modes.Free refl (no_tail read c (operator-no-word c is));
   }
 
--- LF
+-- a line end
 feed_is_feed : is_line_feed 10 ≡ true
 feed_is_feed = feed_from 10 refl
 
-pub feed_passed : (read : List ℕ) (n : ℕ) (st : List Bracket) → EndsBefore 10 read n st → IsAfterFeed st (read ++ 10 ∷ []) (n + 1)
-feed_passed read n [] on = record {
-  body = pieces read n [] 10 on;
-  last = piece line_end (10 ∷ []);
-  are = record {
-    one_line = closed_line read n [] 10 on;
-    class = refl;
-    level = none_level (pieces read n [] 10 on) [] (closed_stack read n [] 10 on) refl;
-    paired = closed_stack read n [] 10 on;
-    size = sym (byte_len-one 10 ∙ len_utf8_ascii 10 (lit< tt));
-  };
-  steps = begins_as read n [] 10 on starts.LineEnd (start-feed 10 feed_is_feed);
-  holds = holds_feed read n on.come.holds;
-  tail = no_tail read 10 feed-no-word;
-}
-feed_passed read n (b ∷ bs) on =
-    let stack = closed_stack read n (b ∷ bs) 10 on in
-    let done = pieces read n (b ∷ bs) 10 on in
+return_closes : meet_of modes.Return 10 ≡ moves.Closes
+unfolding meet_of move_of
+return_closes = rw feed_is_feed refl
+
+-- the byte that it begins with
+abbrev line_end_first : Bool → ℕ
+line_end_first true = 13
+line_end_first false = 10
+
+line_end_steps : (returned : Bool) (read : List ℕ) (n : ℕ) (st : List Bracket) (on : EndsBefore (line_end_first returned) read n st)
+    → scan_steps (Some (line_start modes.Free)) (read ++ line_end_of returned) ≡ Some (fresh (pieces read n st (line_end_first returned) on ++ piece line_end (line_end_of returned) ∷ []))
+line_end_steps false read n st on = begins_as read n st 10 on starts.LineEnd (start-feed 10 feed_is_feed)
+line_end_steps true read n st on =
+    let open_return : Scanned = scanned (pieces read n st 13 on) modes.Return (13 ∷ []) in
+    ap (scan_steps (Some (line_start modes.Free))) (sym (append_assoc read (13 ∷ []) (10 ∷ [])))
+    ∙ steps_push (line_start modes.Free) (read ++ 13 ∷ []) open_return 10 (begins_as read n st 13 on (starts.Open modes.Return) (start-return 13 return_returns))
+    ∙ ap (moved open_return 10) return_closes
+
+pub no_tail_line_end : (returned : Bool) (read : List ℕ) → tail_of (read ++ line_end_of returned) ≡ None
+no_tail_line_end false read = no_tail read 10 feed-no-word
+no_tail_line_end true read = ap tail_of (sym (append_assoc read (13 ∷ []) (10 ∷ []))) ∙ no_tail (read ++ 13 ∷ []) 10 feed-no-word
+
+line_end_passed : (returned : Bool) (read : List ℕ) (n : ℕ) (st : List Bracket) → EndsBefore (line_end_first returned) read n st → IsAfterLineEnd st (read ++ line_end_of returned) (n + 1)
+line_end_passed returned read n [] on =
+    let done = pieces read n [] (line_end_first returned) on in
+    let stack = closed_stack read n [] (line_end_first returned) on in
     record {
-      state = fresh (done ++ piece line_end (10 ∷ []) ∷ []);
-      come = record {
-        steps = begins_as read n (b ∷ bs) 10 on starts.LineEnd (start-feed 10 feed_is_feed);
-        stacked = keeps done (piece line_end (10 ∷ [])) (b ∷ bs) refl refl stack;
-        one_line = EndsNoLine-push 0 done (piece line_end (10 ∷ [])) (closed_line read n (b ∷ bs) 10 on) (depth_none done (b ∷ bs) stack);
-        holds = holds_feed read n on.come.holds;
+      body = done;
+      last = piece line_end (line_end_of returned);
+      len = byte_len (line_end_of returned);
+      are = record {
+        one_line = closed_line read n [] (line_end_first returned) on;
+        class = refl;
+        level = none_level done [] stack refl;
+        paired = stack;
+        size = refl;
       };
-      tail = apart_tail (tail_of (read ++ 10 ∷ [])) modes.Free refl (no_tail read 10 feed-no-word);
+      steps = line_end_steps returned read n [] on;
+      holds = holds_line_end returned read n on.come.holds;
+      tail = no_tail_line_end returned read;
+    }
+line_end_passed returned read n (b ∷ bs) on =
+    let stack = closed_stack read n (b ∷ bs) (line_end_first returned) on in
+    let done = pieces read n (b ∷ bs) (line_end_first returned) on in
+    record {
+      state = fresh (done ++ piece line_end (line_end_of returned) ∷ []);
+      come = record {
+        steps = line_end_steps returned read n (b ∷ bs) on;
+        stacked = keeps done (piece line_end (line_end_of returned)) (b ∷ bs) refl refl stack;
+        one_line = EndsNoLine-push 0 done (piece line_end (line_end_of returned)) (closed_line read n (b ∷ bs) (line_end_first returned) on) (depth_none done (b ∷ bs) stack);
+        holds = holds_line_end returned read n on.come.holds;
+      };
+      tail = apart_tail (tail_of (read ++ line_end_of returned)) modes.Free refl (no_tail_line_end returned read);
     }
 
 -- a byte that begins neither a word nor a string
@@ -246,11 +288,32 @@ code_ends read n st c on word quote space none =
       tail = λ is. absurd (both_ways _ (neither _ _ none quote) is);
     }
 
-feed-not-word : is_word_character 10 ≡ false
-feed-not-word = word_byte_continues 10 (lit< tt) ∙ feed-no-word
+-- CR and LF begin neither, and are no space
+break-no_word : (c : ℕ) → is_break c ≡ true → is_ascii_word c ≡ false
+unfolding is_break is_ascii_word
+break-no_word c is = none_of is_ascii_word (codes "\n\r") c refl is
 
-pub feed_ends : (read : List ℕ) (n : ℕ) (st : List Bracket) → GoesOnAfter read n st → EndsBefore 10 read n st
-feed_ends read n st on = code_ends read n st 10 on feed-not-word feed-not-quote feed-not-space feed-no-word
+break-not-quote : (c : ℕ) → is_break c ≡ true → is_quote c ≡ false
+unfolding is_break is_quote
+break-not-quote c is = none_of is_quote (codes "\n\r") c refl is
+
+break-not-space : (c : ℕ) → is_break c ≡ true → is_space c ≡ false
+unfolding is_break is_space
+break-not-space c is = none_of is_space (codes "\n\r") c refl is
+
+break-not-word : (c : ℕ) → is_break c ≡ true → is_word_character c ≡ false
+break-not-word c is = word_byte_continues c (break_low c is) ∙ break-no_word c is
+
+pub break-begins_none : (c : ℕ) → is_break c ≡ true → is_ascii_word c || is_quote c ≡ false
+break-begins_none c is = neither _ _ (break-no_word c is) (break-not-quote c is)
+
+first-break : (returned : Bool) → is_break (line_end_first returned) ≡ true
+unfolding is_break
+first-break true = refl
+first-break false = refl
+
+break_ends : (read : List ℕ) (n : ℕ) (st : List Bracket) (c : ℕ) → is_break c ≡ true → GoesOnAfter read n st → EndsBefore c read n st
+break_ends read n st c is on = code_ends read n st c on (break-not-word c is) (break-not-quote c is) (break-not-space c is) (break-no_word c is)
 
 operator-not-word : (c : ℕ) → is_operator c ≡ true → is_word_character c ≡ false
 operator-not-word c is = word_byte_continues c (operator_ascii c is) ∙ operator-no-word c is
@@ -270,7 +333,7 @@ no_break_from c h = go (is_break c) h
     go false e = refl
     go true e = sym e
 
-word_holds : (read : List ℕ) (n c : ℕ) → HoldsFeeds read n → is_ascii_word c ≡ true → HoldsFeeds (read ++ c ∷ []) n
+word_holds : (read : List ℕ) (n c : ℕ) → HoldsLineEnds read n → is_ascii_word c ≡ true → HoldsLineEnds (read ++ c ∷ []) n
 word_holds read n c holds is = holds_one read c n holds (word_byte_low c is) (no_break_from c (word_whole c is))
 
 one_tail : (read : List ℕ) (c : ℕ) → tail_of read ≡ None → is_ascii_word c ≡ true → tail_of (read ++ c ∷ []) ≡ Some (first_spelling c)
@@ -317,7 +380,7 @@ space_grows c is = rw is refl
 space-not-word : (c : ℕ) → is_space c ≡ true → is_word_character c ≡ false
 space-not-word c is = word_byte_continues c (space_low c is) ∙ space-no-word c is
 
-space_holds : (read : List ℕ) (n c : ℕ) → HoldsFeeds read n → is_space c ≡ true → HoldsFeeds (read ++ c ∷ []) n
+space_holds : (read : List ℕ) (n c : ℕ) → HoldsLineEnds read n → is_space c ≡ true → HoldsLineEnds (read ++ c ∷ []) n
 space_holds read n c holds is = holds_one read c n holds (space_low c is) (no_break_from c (space_whole c is))
 
 space_opens : (read : List ℕ) (n : ℕ) (st : List Bracket) (c : ℕ) → is_space c ≡ true → EndsBefore c read n st → GoesOnAfter (read ++ c ∷ []) n st
@@ -362,12 +425,12 @@ IsCodeByte c = (is_ascii_word c ≡ true) ⊎ ((is_space c ≡ true) ⊎ ((is_op
 code_passed : (read : List ℕ) (n : ℕ) (st : List Bracket) (c : ℕ) → IsCodeByte c → GoesOnAfter read n st → GoesOnAfter (read ++ c ∷ []) n st
 code_passed read n st c (inl word) on = word_passed read n st (tail_of read) on.state refl on.come on.tail c word
 code_passed read n st c (inr (inl space)) on = space_passed read n st on.state.done on.state.mode on.state.held on.come (tail_code (tail_of read) on.state.mode on.tail) c space
-code_passed read n st c (inr (inr (stands, opens, closes))) on = operator_passed read n st c (operator_ends read n st c stands on) st stands (keeps_at st (length read) c opens closes)
+code_passed read n st c (inr (inr (stands, opens, closes))) on = operator_passed read n st c (operator_ends read n st c stands on) st stands (keeps_at st (byte_len read) c opens closes)
 
 code_begins : (read : List ℕ) (n : ℕ) (st : List Bracket) (c : ℕ) → IsCodeByte c → EndsBefore c read n st → GoesOnAfter (read ++ c ∷ []) n st
 code_begins read n st c (inl word) on = word_opens read n st c word (on.tail (rw word refl)) on
 code_begins read n st c (inr (inl space)) on = space_opens read n st c space on
-code_begins read n st c (inr (inr (stands, opens, closes))) on = operator_passed read n st c on st stands (keeps_at st (length read) c opens closes)
+code_begins read n st c (inr (inr (stands, opens, closes))) on = operator_passed read n st c on st stands (keeps_at st (byte_len read) c opens closes)
 
 -- a run of them
 run_passed : (passes : ℕ → Bool) (read run : List ℕ) (n : ℕ) (st : List Bracket) → ((c : ℕ) → passes c ≡ true → IsCodeByte c) → list_all passes run ≡ true → GoesOnAfter read n st → GoesOnAfter (read ++ run) n st
@@ -393,10 +456,47 @@ pub ends_so : (read rest : List ℕ) (n : ℕ) (st : List Bracket) (c : ℕ) →
 ends_so read rest n st c ends (inl on) = ends on
 ends_so read rest n st c ends (inr on) = on
 
+-- over a line end, before which code ends, or a piece that ends there
+line_end_next : (returned : Bool) (rest read : List ℕ) (n : ℕ) (st : List Bracket) → StandsBefore (line_end_of returned ++ rest) read n st → EndsBefore (line_end_first returned) read n st
+line_end_next true rest read n st on = ends_so read (10 ∷ rest) n st 13 (break_ends read n st 13 (first-break true)) on
+line_end_next false rest read n st on = ends_so read rest n st 10 (break_ends read n st 10 (first-break false)) on
+
+pub line_end_on : (returned : Bool) (rest read : List ℕ) (n : ℕ) (st : List Bracket) → StandsBefore (line_end_of returned ++ rest) read n st → IsAfterLineEnd st (read ++ line_end_of returned) (n + 1)
+line_end_on returned rest read n st on = line_end_passed returned read n st (line_end_next returned rest read n st on)
+
+-- bytes of code are ASCII
+pub code_low : (c : ℕ) → IsCodeByte c → c < 128
+code_low c (inl word) = word_byte_low c word
+code_low c (inr (inl space)) = space_low c space
+code_low c (inr (inr (stands, opens, closes))) = operator_ascii c stands
+
+-- what a character ends with is what its bytes end with
+high-no_word : (c : ℕ) → 128 ≤ c → is_ascii_word c ≡ false
+high-no_word c wide = false_from_ne_true _ (λ word. omega (arith, wide, word_byte_low c word))
+
+wide_tail : (t : Option Spelling) (c : ℕ) → 128 ≤ c → tail_on t (encode_utf8 c) ≡ None
+wide_tail t c wide = ⊎_elim
+    (λ short. ap (tail_on t) (two c wide short) ∙ no_tail_with _ _ (high-no_word _ (omega arith)))
+    (λ long. ⊎_elim
+    (λ short. ap (tail_on t) (three c long short) ∙ no_tail_with _ _ (high-no_word _ (omega arith)))
+    (λ longer. ap (tail_on t) (four c longer) ∙ no_tail_with _ _ (high-no_word _ (omega arith)))
+    (cases_lt c 65536))
+    (cases_lt c 2048)
+
+tail-encode : (t : Option Spelling) (c : ℕ) → tail_on t (encode_utf8 c) ≡ tail_with t c
+tail-encode t c = ⊎_elim (λ narrow. ap (tail_on t) (one c narrow)) (λ wide. wide_tail t c wide ∙ sym (no_tail_with t c (high-no_word c wide))) (cases_lt c 128)
+
+pub tail-encoded : (t : Option Spelling) (cs : List ℕ) → tail_on t (encode_utf8_all cs) ≡ tail_on t cs
+tail-encoded t [] = refl
+tail-encoded t (c ∷ cs) =
+    tail_on-append t (encode_utf8 c) (encode_utf8_all cs)
+    ∙ ap (λ (u : Option Spelling). tail_on u (encode_utf8_all cs)) (tail-encode t c)
+    ∙ tail-encoded (tail_with t c) cs
+
 -- a line has begun
 pub begun : GoesOnAfter [] 0 []
 begun = record {
   state = line_start modes.Free;
-  come = record { steps = refl; stacked = refl; one_line = tt; holds = record { low = refl; count = refl; unreturned = refl } };
+  come = record { steps = refl; stacked = refl; one_line = tt; holds = record { scalars = refl; count = refl; unreturned = refl } };
   tail = refl;
 }

@@ -1,5 +1,5 @@
 -- Strings with fields are passed over, where they are short and their text is simple.
-use Rattle.std.proofs.Common.{◌≡◌, ℕ, ◌+◌, ◌-◌, ◌<◌, ◌≤◌, ◌||◌, true, false, not, Some, None, List, [], ◌∷◌, ◌++◌, length, take, drop, slice_index, inl, inr, refl, sym, ap, ◌∙◌, subst, append_assoc, arith, length-append, length-drop}
+use Rattle.std.proofs.Common.{◌≡◌, ℕ, ◌+◌, ◌-◌, ◌<◌, ◌≤◌, true, false, not, Some, None, List, [], ◌∷◌, ◌++◌, length, take, drop, inl, inr, refl, sym, ap, ◌∙◌, subst, append_assoc, arith, length-append, length-drop}
 use Rattle.std.specs.List.{list_all}
 use Rattle.std.proofs.lemmas.Bool.{and_from}
 use Rattle.std.proofs.lemmas.List.Folds.{list_all-append}
@@ -12,7 +12,6 @@ use Rattle.py_lines.specs.declared.host.StringWithFields.{StringWithFields}
 use Rattle.py_lines.specs.declared.mode.Mode.{Mode}
 use Rattle.py_lines.specs.declared.mode.Mode.TheVariants as modes
 use Rattle.py_lines.specs.declared.mode.Spelling.{Spelling}
-use Rattle.py_lines.specs.declared.plain_strings.Passed.{Passed}
 use Rattle.py_lines.specs.Private.Machine.{Bracket, IsFull, first_spelling, fresh, spelling_on}
 use Rattle.py_lines.specs.Private.FieldText.{InText, IsQuotedText, Leads}
 use Rattle.py_lines.specs.Private.Scan.{line_start}
@@ -27,7 +26,7 @@ use Rattle.py_lines.proofs.FieldScans.Runs.{goes_low}
 use Rattle.py_lines.proofs.FieldScans.TextLengths.{rest_is}
 use Rattle.py_lines.proofs.LineScan.Increments.{EndsNoLine-push}
 use Rattle.py_lines.proofs.LineScan.Runs.{quote_ascii, string_no_break}
-use Rattle.py_lines.proofs.LineScan.ShortPieces.{is_low, is_low_from, quote-no_break}
+use Rattle.py_lines.proofs.LineScan.ShortPieces.{is_low, is_low_from, low_encodes, low_is, quote-no_break}
 use Rattle.py_lines.proofs.LineScan.WholeStrings.{at_body, quoted_steps}
 use Rattle.py_lines.proofs.SimpleLines.Code.{apart_tail, come_sound, holds_more, no_tail, quote-no-word, stands}
 
@@ -72,7 +71,7 @@ module _ (s : Spelling) (field : is_field_spelling s ≡ true) (q : ℕ) (quote 
           stacked = keeps done text st refl refl come.stacked;
           one_line = EndsNoLine-push 0 done text come.one_line refl;
           holds = holds_more read run n come.holds tt
-              (and_from _ _ quote_low (list_all-append is_low (d ∷ ds) (q ∷ []) ∙ and_from _ _ low (and_from _ _ quote_low refl)))
+              (low_encodes is_low run low_is (and_from _ _ quote_low (list_all-append is_low (d ∷ ds) (q ∷ []) ∙ and_from _ _ low (and_from _ _ quote_low refl)))).1
               (and_from _ _ quote_whole (list_all-append (λ e. not (is_break e)) (d ∷ ds) (q ∷ []) ∙ and_from _ _ whole (and_from _ _ quote_whole refl)));
         };
         tail = apart_tail (tail_of (read ++ run)) modes.Free refl no_word;
@@ -87,6 +86,15 @@ module _ (s : Spelling) (field : is_field_spelling s ≡ true) (q : ℕ) (quote 
 over_text : (s : Spelling) (q : ℕ) (text read : List ℕ) (n : ℕ) (st : List Bracket) → is_field_spelling s ≡ true → is_quote q ≡ true → IsFull text → Leads q InText text InText → length st ≤ 100 → IsInPiece (modes.Word s) read n st → GoesOnAfter (read ++ q ∷ (text ++ q ∷ [])) n st
 over_text s q [] read n st field quote full leads few on = absurd full
 over_text s q (d ∷ ds) read n st field quote full leads few on = string_passed s field q quote d ds leads read n st few on
+
+-- it is ASCII: the machine goes through its text from the start of a string
+quoted_low : (q : ℕ) (text : List ℕ) → is_quote q ≡ true → Leads q InText text InText → list_all is_low (q ∷ (text ++ q ∷ [])) ≡ true
+quoted_low q text quote leads =
+    let own : StringWithFields = record { quote = q; is_long = false; is_raw = false } in
+    let T = at_body (host_in own) [] in
+    let (u, through, end) = leads [] (record { done = []; openers = []; host = host_in own; place = literal; front = [] }) 0 T refl quote (omega arith) ([], refl) in
+    let one = is_low_from q (quote_ascii q quote) in
+    and_from _ _ one (list_all-append is_low text (q ∷ []) ∙ and_from _ _ (goes_low 0 T text u through) (and_from _ _ one refl))
 
 -- a string at a byte of a line
 pub fields_at : (bytes : List ℕ) (at len : ℕ) (s : Spelling) → at < length bytes → tail_of (take at bytes) ≡ Some s → is_field_spelling s ≡ true → IsQuotedText (take (length bytes - at) (drop at bytes)) len → PassesPiece bytes at (Some (record { len = len; line_ends = 0 }))
@@ -103,12 +111,13 @@ fields_at bytes at len s within tail field found =
         few = omega arith;
         part = record {
           within = room;
+          run = whole;
+          spell = (low_encodes is_low whole low_is (quoted_low is.q is.run is.quote is.text)).0 ∙ sym first;
           leads = λ read n st on.
               let in_word = word_open (is.run ++ is.q ∷ is.after) read n st is.q s (on.0 ∙ tail) is.quote (subst (λ (t : List ℕ). StandsBefore t read n st) (sym is.spell) on.2) in
               let none : n ≡ n + 0 = omega arith in
-              subst (λ (k : ℕ). StandsBefore (drop (at + len) bytes) (read ++ take len (drop at bytes)) k st) none
-              (subst (λ (t : List ℕ). StandsBefore (drop (at + len) bytes) (read ++ t) n st) (sym first)
-              (stands (drop (at + len) bytes) (read ++ whole) n st (over_text s is.q is.run read n st field is.quote is.full is.text on.1 in_word)));
+              subst (λ (k : ℕ). StandsBefore (drop (at + len) bytes) (read ++ whole) k st) none
+              (stands (drop (at + len) bytes) (read ++ whole) n st (over_text s is.q is.run read n st field is.quote is.full is.text on.1 in_word));
         };
       },
     )

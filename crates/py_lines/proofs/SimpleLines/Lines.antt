@@ -1,15 +1,16 @@
 -- Simple lines follow one another: from one byte that is not plain to the next, and from line end to line end.
 use Rattle.std.proofs.Common.{◌≡◌, ℕ, ◌+◌, ◌-◌, ◌<◌, ◌≤◌, ◌⊎◌, inl, inr, Bool, true, false, not, ◌&&◌, ◌==◌, ◌||◌, Option, None, Some, List, [], ◌∷◌, ◌++◌, length, take, drop, slice_index, refl, sym, ap, ◌∙◌, subst, append_assoc, append-nil, arith, length-append, length-drop}
 use Rattle.std.specs.List.{list_all}
+use Rattle.std.specs.Str.{all_scalars}
 use Rattle.std.proofs.lemmas.Bool.{and_from, and_parts, both_ways, eq-eqb, or_cases}
 use Rattle.std.proofs.lemmas.List.{drop-drop, drop_more, get_or-drop, get_or-set_other, get_or-set_same, length-set, length-take-le, take-append-drop}
-use Rattle.std.proofs.lemmas.List.Folds.{list_all-append}
+use Rattle.std.proofs.lemmas.Str.{encodes-append}
 use Rattle.std.proofs.Math.Seq.{take-add}
-use Rattle.std.specs.Prelude.{codes, slice_set}
+use Rattle.std.specs.Prelude.{codes, encode_utf8_all, slice_set}
 use Rattle.py_lines.specs.Balance.{closing_of, is_closing, is_opening}
 use Rattle.py_lines.specs.Character.{is_operator, is_space}
-use Rattle.py_lines.specs.LogicalLine.{line_ends}
-use Rattle.py_lines.specs.Piece.{operator, ends}
+use Rattle.py_lines.specs.LogicalLine.{byte_len, line_ends}
+use Rattle.py_lines.specs.Piece.{operator}
 use Rattle.py_lines.specs.declared.closers.Closers.{Closers}
 use Rattle.py_lines.specs.declared.marks.Marks.{Marks}
 use Rattle.py_lines.specs.declared.mode.Spelling.{Spelling}
@@ -19,13 +20,17 @@ use Rattle.py_lines.specs.Private.Machine.{Bracket, brackets_after}
 use Rattle.py_lines.specs.Private.Marks.{FindsNext, HasMarks, is_plain}
 use Rattle.py_lines.specs.Private.Run.{is_ascii_word}
 use Rattle.py_lines.specs.Private.Scan.{none_open}
-use Rattle.py_lines.specs.Private.Outline.{AreClosers, AreWholeLines, Close, ClosesInnermost, HasComeTo, IsAfter, IsAfterFeed, IsAt, IsFurther, IsWholeLine, Opens, PassesPiece, StandsBefore, line_up_to, tail_of, tail_on}
+use Rattle.py_lines.specs.Private.Outline.{AreClosers, AreWholeLines, BeginsLineEnd, Close, ClosesInnermost, HasComeTo, IsAfter, IsAfterLineEnd, IsAt, IsFurther, IsPast, IsWholeLine, Opens, PassesPiece, StandsBefore, line_end_of, line_up_to, tail_of, tail_on}
 use Rattle.py_lines.proofs.Pieces.PieceLists.{piece}
+use Rattle.py_lines.proofs.FieldScans.TextLengths.{later, rest_is}
 use Rattle.py_lines.proofs.LineScan.BracketStack.{closes_top, none_length, opens_at}
-use Rattle.py_lines.proofs.LineScan.LineCount.{line_ends-le}
-use Rattle.py_lines.proofs.LineScan.ShortPieces.{all_pass, is_low}
-use Rattle.py_lines.proofs.Text.CharacterTests.{none_of}
-use Rattle.py_lines.proofs.SimpleLines.Code.{IsCodeByte, begun, code_run, ends_so, feed_ends, feed_passed, operator_ends, operator_passed, stands, tail_on-append}
+use Rattle.py_lines.proofs.LineScan.LineCount.{line_ends-bytes}
+use Rattle.py_lines.proofs.LineScan.ShortPieces.{all_pass, is_low, low_encodes, low_is}
+use Rattle.py_lines.proofs.LogicalLines.Cuts.{byte_len-append}
+use Rattle.py_lines.proofs.Text.CharacterTests.{none_of, operator_ascii}
+use Rattle.py_lines.proofs.Text.Utf8Prefixes.{all_scalars-append}
+use Rattle.py_lines.proofs.SimpleLines.Code.{IsCodeByte, begun, code_low, code_run, ends_so, line_end_on, operator_ends, operator_passed, stands, tail-encoded, tail_on-append}
+use Rattle.py_lines.proofs.SimpleLines.FirstBytes.{feed_found, line_end_low}
 
 -- a plain byte is one of code
 plain_code : (c : ℕ) → is_plain c ≡ true → IsCodeByte c
@@ -54,6 +59,11 @@ plain_code c h = by (or_cases (is_ascii_word c) (is_space c || (is_operator c &&
     by (inl word) = inl word
     by (inr rest) = by_rest (or_cases (is_space c) (is_operator c && not (is_opening c || is_closing c)) rest)
 
+-- a line end is something
+line_end_some : (returned : Bool) → 0 < length (line_end_of returned)
+line_end_some true = omega arith
+line_end_some false = omega arith
+
 -- one more line after others
 line_push : (texts : List (List ℕ)) (read line : List ℕ) (n k : ℕ) → AreWholeLines texts read n → 0 < length line → IsWholeLine line k → AreWholeLines (texts ++ line ∷ []) (read ++ line) (n + k)
 line_push [] read line n k are some whole = record {
@@ -77,21 +87,33 @@ line_push (t ∷ texts) read line n k are some whole = record {
   lines = line_push texts are.later line are.more k are.lines some whole;
 }
 
--- lines end with no word, are ASCII, and have no more line ends than bytes
+-- lines end with no word, and have no more line ends than bytes
 lines_tail : (texts : List (List ℕ)) (read : List ℕ) (n : ℕ) → AreWholeLines texts read n → tail_of read ≡ None
 lines_tail [] read n are = ap tail_of are.0
 lines_tail (t ∷ texts) read n are =
     ap tail_of are.spell ∙ tail_on-append None t are.later ∙ ap (λ (o : Option Spelling). tail_on o are.later) are.whole.tail ∙ lines_tail texts are.later are.more are.lines
 
-pub lines_low : (texts : List (List ℕ)) (read : List ℕ) (n : ℕ) → AreWholeLines texts read n → list_all is_low read ≡ true
-lines_low [] read n are = ap (list_all is_low) are.0
-lines_low (t ∷ texts) read n are =
-    ap (list_all is_low) are.spell ∙ list_all-append is_low t are.later ∙ and_from _ _ are.whole.holds.low (lines_low texts are.later are.more are.lines)
+pub lines_scalars : (texts : List (List ℕ)) (read : List ℕ) (n : ℕ) → AreWholeLines texts read n → all_scalars read ≡ true
+lines_scalars [] read n are = ap all_scalars are.0
+lines_scalars (t ∷ texts) read n are =
+    ap all_scalars are.spell ∙ all_scalars-append t are.later are.whole.holds.scalars (lines_scalars texts are.later are.more are.lines)
 
-pub lines_few : (texts : List (List ℕ)) (read : List ℕ) (n : ℕ) → AreWholeLines texts read n → n ≤ length read
+pub lines_few : (texts : List (List ℕ)) (read : List ℕ) (n : ℕ) → AreWholeLines texts read n → n ≤ byte_len read
 lines_few [] read n are = omega (arith, are.1)
 lines_few (t ∷ texts) read n are =
-    omega (arith, are.count, lines_few texts are.later are.more are.lines, are.whole.holds.count, line_ends-le t, ap length are.spell, length-append t are.later)
+    omega (arith, are.count, lines_few texts are.later are.more are.lines, are.whole.holds.count, line_ends-bytes t, ap byte_len are.spell, byte_len-append t are.later)
+
+-- the line end that the bytes have at a byte
+pub rest_ends : (bytes : List ℕ) (at len : ℕ) → BeginsLineEnd (take (length bytes - at) (drop at bytes)) len → BeginsLineEnd (drop at bytes) len
+rest_ends bytes at len found = subst (λ (t : List ℕ). BeginsLineEnd t len) (rest_is bytes at) found
+
+pub end_within : (bytes : List ℕ) (at len : ℕ) → at < length bytes → BeginsLineEnd (drop at bytes) len → at + len ≤ length bytes
+end_within bytes at len within ends = let fits = ends.within in omega (arith, fits, within, length-drop at bytes)
+
+pub feed_ends : (bytes : List ℕ) (at : ℕ) → at < length bytes → slice_index bytes at ≡ 10 → BeginsLineEnd (drop at bytes) 1
+feed_ends bytes at within is =
+    let here : at + 0 ≡ at = omega arith in
+    feed_found (drop at bytes) (omega (arith, within, length-drop at bytes)) (later bytes at 0 ∙ ap (λ (k : ℕ). slice_index bytes k) here ∙ is)
 
 module _ (bytes : List ℕ) where
   -- no line has begun
@@ -99,9 +121,11 @@ module _ (bytes : List ℕ) where
   first_come = record {
     within = omega arith;
     ordered = omega arith;
-    lines_are = record { within = omega arith; texts = []; whole = (refl, refl) };
+    lines_are = record { within = omega arith; read = []; spell = refl; texts = []; whole = (refl, refl) };
     more = 0;
     count = omega arith;
+    read = [];
+    spell = refl;
     stands = stands bytes [] 0 [] begun;
   }
 
@@ -114,29 +138,39 @@ module _ (bytes : List ℕ) where
       ∙ take-add (at - lines.len) len (drop lines.len bytes)
       ∙ ap (λ t. line_up_to bytes lines at ++ take len t) (drop-drop (at - lines.len) lines.len bytes ∙ ap (λ (k : ℕ). drop k bytes) there)
 
+  further_spells : (lines : Passed) (at len : ℕ) → lines.len ≤ at → (read run : List ℕ) → encode_utf8_all read ≡ line_up_to bytes lines at → encode_utf8_all run ≡ take len (drop at bytes) → encode_utf8_all (read ++ run) ≡ line_up_to bytes lines (at + len)
+  further_spells lines at len ordered read run spell more =
+      encodes-append read run ∙ ap (λ t. t ++ encode_utf8_all run) spell ∙ ap (λ t. line_up_to bytes lines at ++ t) more ∙ sym (longer lines at len ordered)
+
   line_size : (lines : Passed) (at : ℕ) → lines.len ≤ at → at ≤ length bytes → length (line_up_to bytes lines at) ≡ at - lines.len
   line_size lines at ordered within = length-take-le (at - lines.len) (drop lines.len bytes) (omega (arith, ordered, within, length-drop lines.len bytes))
 
   -- what it ends with is what the bytes end with
-  same_tail : (lines : Passed) (at n : ℕ) (st : List Bracket) → HasComeTo bytes lines at n st → tail_of (line_up_to bytes lines at) ≡ tail_of (take at bytes)
+  same_tail : (lines : Passed) (at n : ℕ) (st : List Bracket) → (come : HasComeTo bytes lines at n st) → tail_of come.read ≡ tail_of (take at bytes)
   same_tail lines at n st come =
+      let past = come.lines_are in
       let all : lines.len + (at - lines.len) ≡ at = omega (arith, come.ordered) in
+      let none : tail_of (take lines.len bytes) ≡ None = ap tail_of (sym past.spell) ∙ tail-encoded None past.read ∙ lines_tail past.texts past.read lines.line_ends past.whole in
       sym (ap (λ (k : ℕ). tail_of (take k bytes)) (sym all)
       ∙ ap tail_of (take-add lines.len (at - lines.len) bytes)
       ∙ tail_on-append None (take lines.len bytes) (line_up_to bytes lines at)
-      ∙ ap (λ (o : Option Spelling). tail_on o (line_up_to bytes lines at)) (lines_tail come.lines_are.texts (take lines.len bytes) lines.line_ends come.lines_are.whole))
+      ∙ ap (λ (o : Option Spelling). tail_on o (line_up_to bytes lines at)) none
+      ∙ ap tail_of (sym come.spell)
+      ∙ tail-encoded None come.read)
 
   -- it comes so many bytes further
-  step : (lines : Passed) (at n len feeds : ℕ) (st after : List Bracket) → (come : HasComeTo bytes lines at n st) → at + len ≤ length bytes
-      → ((more : ℕ) → StandsBefore (drop at bytes) (line_up_to bytes lines at) more st → StandsBefore (drop (at + len) bytes) (line_up_to bytes lines at ++ take len (drop at bytes)) (more + feeds) after)
+  step : (lines : Passed) (at n len feeds : ℕ) (st after : List Bracket) → (come : HasComeTo bytes lines at n st) → at + len ≤ length bytes → (run : List ℕ) → encode_utf8_all run ≡ take len (drop at bytes)
+      → StandsBefore (drop (at + len) bytes) (come.read ++ run) (come.more + feeds) after
       → HasComeTo bytes lines (at + len) (n + feeds) after
-  step lines at n len feeds st after come room leads = record {
+  step lines at n len feeds st after come room run spell on = record {
     within = room;
     ordered = omega (arith, come.ordered);
     lines_are = come.lines_are;
     more = come.more + feeds;
     count = omega (arith, come.count);
-    stands = subst (λ (t : List ℕ). StandsBefore (drop (at + len) bytes) t (come.more + feeds) after) (sym (longer lines at len come.ordered)) (leads come.more come.stands);
+    read = come.read ++ run;
+    spell = further_spells lines at len come.ordered come.read run come.spell spell;
+    stands = on;
   }
 
   -- over plain bytes
@@ -147,13 +181,15 @@ module _ (bytes : List ℕ) where
       let run = take len (drop from bytes) in
       let size : len ≤ length (drop from bytes) = omega (arith, next.within, next.after, length-drop from bytes) in
       let all : list_all is_plain run ≡ true = all_pass is_plain (drop from bytes) len size (λ i less. ap is_plain (later_byte from i) ∙ next.plain (from + i) (omega arith) (omega (arith, less))) in
+      let spell = (low_encodes is_plain run (λ c plain. code_low c (plain_code c plain)) all).0 in
       let split : drop from bytes ≡ run ++ drop (from + len) bytes = sym (take-append-drop len (drop from bytes)) ∙ ap (λ t. run ++ t) (drop-drop len from bytes) in
       let none : n + 0 ≡ n = omega arith in
+      let same : come.more ≡ come.more + 0 = omega arith in
       subst (λ (k : ℕ). HasComeTo bytes lines at k st) none
       (subst (λ (k : ℕ). HasComeTo bytes lines k (n + 0) st) there
-      (step lines from n len 0 st st come (omega (arith, next.within, next.after)) (λ more on.
-      subst (λ (k : ℕ). StandsBefore (drop (from + len) bytes) (line_up_to bytes lines from ++ run) k st) (omega arith)
-      (code_run is_plain (line_up_to bytes lines from) run (drop (from + len) bytes) more st plain_code all (subst (λ (t : List ℕ). StandsBefore t (line_up_to bytes lines from) more st) split on)))))
+      (step lines from n len 0 st st come (omega (arith, next.within, next.after)) run spell
+      (subst (λ (k : ℕ). StandsBefore (drop (from + len) bytes) (come.read ++ run) k st) same
+      (code_run is_plain come.read run (drop (from + len) bytes) come.more st plain_code all (subst (λ (t : List ℕ). StandsBefore t come.read come.more st) split come.stands)))))
     where
       later_byte : (from i : ℕ) → slice_index (drop from bytes) i ≡ slice_index bytes (from + i)
       later_byte from i = get_or-drop from bytes i 0
@@ -161,90 +197,103 @@ module _ (bytes : List ℕ) where
   one_more : (at : ℕ) → at < length bytes → take 1 (drop at bytes) ≡ slice_index bytes at ∷ []
   one_more at within = ap (take 1) (drop_more bytes at 0 within)
 
-  here : (lines : Passed) (at more : ℕ) (st : List Bracket) → at < length bytes → StandsBefore (drop at bytes) (line_up_to bytes lines at) more st → StandsBefore (slice_index bytes at ∷ drop (at + 1) bytes) (line_up_to bytes lines at) more st
-  here lines at more st within on = subst (λ (t : List ℕ). StandsBefore t (line_up_to bytes lines at) more st) (drop_more bytes at 0 within) on
-
   -- over a bracket
-  pub bracket_on : (lines : Passed) (at n : ℕ) (st after : List Bracket) → HasComeTo bytes lines at n st → at < length bytes → is_operator (slice_index bytes at) ≡ true → brackets_after st (length (line_up_to bytes lines at)) (piece operator (slice_index bytes at ∷ [])) ≡ Some after → HasComeTo bytes lines (at + 1) n after
+  pub bracket_on : (lines : Passed) (at n : ℕ) (st after : List Bracket) → (come : HasComeTo bytes lines at n st) → at < length bytes → is_operator (slice_index bytes at) ≡ true → brackets_after st (byte_len come.read) (piece operator (slice_index bytes at ∷ [])) ≡ Some after → HasComeTo bytes lines (at + 1) n after
   bracket_on lines at n st after come within is stands_so =
       let c = slice_index bytes at in
-      let read = line_up_to bytes lines at in
+      let here : StandsBefore (c ∷ drop (at + 1) bytes) come.read come.more st = subst (λ (t : List ℕ). StandsBefore t come.read come.more st) (drop_more bytes at 0 within) come.stands in
       let none : n + 0 ≡ n = omega arith in
+      let same : come.more ≡ come.more + 0 = omega arith in
+      let spell = (low_encodes is_operator (c ∷ []) operator_ascii (and_from _ _ is refl)).0 in
       subst (λ (k : ℕ). HasComeTo bytes lines (at + 1) k after) none
-      (step lines at n 1 0 st after come (omega (arith, within)) (λ more on.
-      subst (λ (k : ℕ). StandsBefore (drop (at + 1) bytes) (read ++ take 1 (drop at bytes)) k after) (omega arith)
-      (subst (λ (t : List ℕ). StandsBefore (drop (at + 1) bytes) (read ++ t) more after) (sym (one_more at within))
-      (stands (drop (at + 1) bytes) (read ++ c ∷ []) more after
-      (operator_passed read more st c (ends_so read (drop (at + 1) bytes) more st c (operator_ends read more st c is) (here lines at more st within on)) after is stands_so)))))
+      (step lines at n 1 0 st after come (omega (arith, within)) (c ∷ []) (spell ∙ sym (one_more at within))
+      (subst (λ (k : ℕ). StandsBefore (drop (at + 1) bytes) (come.read ++ c ∷ []) k after) same
+      (stands (drop (at + 1) bytes) (come.read ++ c ∷ []) come.more after
+      (operator_passed come.read come.more st c (ends_so come.read (drop (at + 1) bytes) come.more st c (operator_ends come.read come.more st c is) here) after is stands_so))))
 
   -- over a piece
   pub piece_on : (lines : Passed) (at n : ℕ) (st : List Bracket) (p : Passed) → length st ≤ 100 → HasComeTo bytes lines at n st → PassesPiece bytes at (Some p) → HasComeTo bytes lines (at + p.len) (n + p.line_ends) st
-  piece_on lines at n st p few come (room, passes) = step lines at n p.len p.line_ends st st come room (λ more on. passes.part.leads (line_up_to bytes lines at) more st (same_tail lines at n st come, few, on))
+  piece_on lines at n st p few come (room, passes) = step lines at n p.len p.line_ends st st come room passes.part.run passes.part.spell (passes.part.leads come.read come.more st (same_tail lines at n st come, few, come.stands))
 
-  -- over LF: the line goes on where a bracket is open, and ends where none is
-  feed_step : (lines : Passed) (at n : ℕ) (st : List Bracket) (come : HasComeTo bytes lines at n st) → at < length bytes → slice_index bytes at ≡ 10 → IsAfterFeed st (line_up_to bytes lines (at + 1)) (come.more + 1)
-  feed_step lines at n st come within is =
-      let read = line_up_to bytes lines at in
-      let on : StandsBefore (10 ∷ drop (at + 1) bytes) read come.more st = subst (λ (c : ℕ). StandsBefore (c ∷ drop (at + 1) bytes) read come.more st) is (here lines at come.more st within come.stands) in
-      subst (λ (t : List ℕ). IsAfterFeed st t (come.more + 1)) (sym (longer lines at 1 come.ordered ∙ ap (λ t. read ++ t) (one_more at within ∙ ap (λ (c : ℕ). c ∷ []) is)))
-      (feed_passed read come.more st (ends_so read (drop (at + 1) bytes) come.more st 10 (feed_ends read come.more st) on))
+  -- over a line end: the line goes on where a bracket is open, and ends where none is
+  module _ (lines : Passed) (at n len : ℕ) (st : List Bracket) (come : HasComeTo bytes lines at n st) (within : at < length bytes) (ends : BeginsLineEnd (drop at bytes) len) where
+    abbrev text : List ℕ
+    text = line_end_of ends.returned
 
-  pub feed_in_brackets : (lines : Passed) (at n : ℕ) (st : List Bracket) → HasComeTo bytes lines at n st → at < length bytes → slice_index bytes at ≡ 10 → none_open st ≡ false → HasComeTo bytes lines (at + 1) (n + 1) st
-  feed_in_brackets lines at n [] come within is some = absurd (both_ways _ some refl)
-  feed_in_brackets lines at n (b ∷ bs) come within is some = record {
-    within = omega (arith, within);
-    ordered = omega (arith, come.ordered);
-    lines_are = come.lines_are;
-    more = come.more + 1;
-    count = omega (arith, come.count);
-    stands = stands (drop (at + 1) bytes) (line_up_to bytes lines (at + 1)) (come.more + 1) (b ∷ bs) (feed_step lines at n (b ∷ bs) come within is);
-  }
+    room : at + len ≤ length bytes
+    room = end_within bytes at len within ends
 
-  pub feed_ends_line : (lines : Passed) (at n : ℕ) (st : List Bracket) → HasComeTo bytes lines at n st → at < length bytes → slice_index bytes at ≡ 10 → none_open st ≡ true → HasComeTo bytes (record { len = at + 1; line_ends = n + 1 }) (at + 1) (n + 1) st
-  feed_ends_line lines at n (b ∷ bs) come within is none = absurd (both_ways _ refl none)
-  feed_ends_line lines at n [] come within is none =
-      let line = line_up_to bytes lines (at + 1) in
-      let whole : IsWholeLine line (come.more + 1) = feed_step lines at n [] come within is in
-      let size = line_size lines (at + 1) (omega (arith, come.ordered)) (omega (arith, within)) in
-      let all : take lines.len bytes ++ line ≡ take (at + 1) bytes =
-      sym (take-add lines.len (at + 1 - lines.len) bytes) ∙ ap (λ (k : ℕ). take k bytes) (omega (arith, come.ordered)) in
+    spells : encode_utf8_all text ≡ take len (drop at bytes)
+    spells = (low_encodes is_low text low_is (line_end_low ends.returned)).0 ∙ sym ends.spell
+
+    on_line_end : IsAfterLineEnd st (come.read ++ text) (come.more + 1)
+    on_line_end =
+        let split : drop at bytes ≡ text ++ drop (at + len) bytes = sym (take-append-drop len (drop at bytes)) ∙ ap (λ t. t ++ drop len (drop at bytes)) ends.spell ∙ ap (λ t. text ++ t) (drop-drop len at bytes) in
+        line_end_on ends.returned (drop (at + len) bytes) come.read come.more st (subst (λ (t : List ℕ). StandsBefore t come.read come.more st) split come.stands)
+
+  pub line_end_in_brackets : (lines : Passed) (at n len : ℕ) (st : List Bracket) → HasComeTo bytes lines at n st → at < length bytes → BeginsLineEnd (drop at bytes) len → none_open st ≡ false → HasComeTo bytes lines (at + len) (n + 1) st
+  line_end_in_brackets lines at n len [] come within ends some = absurd (both_ways _ some refl)
+  line_end_in_brackets lines at n len (b ∷ bs) come within ends some =
+      let text = line_end_of ends.returned in
+      step lines at n len 1 (b ∷ bs) (b ∷ bs) come (room lines at n len (b ∷ bs) come within ends) text (spells lines at n len (b ∷ bs) come within ends)
+      (stands (drop (at + len) bytes) (come.read ++ text) (come.more + 1) (b ∷ bs) (on_line_end lines at n len (b ∷ bs) come within ends))
+
+  pub line_end_ends_line : (lines : Passed) (at n len : ℕ) (st : List Bracket) → HasComeTo bytes lines at n st → at < length bytes → BeginsLineEnd (drop at bytes) len → none_open st ≡ true → HasComeTo bytes (record { len = at + len; line_ends = n + 1 }) (at + len) (n + 1) st
+  line_end_ends_line lines at n len (b ∷ bs) come within ends none = absurd (both_ways _ refl none)
+  line_end_ends_line lines at n len [] come within ends none =
+      let past = come.lines_are in
+      let text = line_end_of ends.returned in
+      let line = come.read ++ text in
+      let whole : IsWholeLine line (come.more + 1) = on_line_end lines at n len [] come within ends in
+      let fits = room lines at n len [] come within ends in
+      let own : encode_utf8_all line ≡ line_up_to bytes lines (at + len) = further_spells lines at len come.ordered come.read text come.spell (spells lines at n len [] come within ends) in
+      let there : lines.len + (at + len - lines.len) ≡ at + len = omega (arith, come.ordered) in
+      let all : encode_utf8_all (past.read ++ line) ≡ take (at + len) bytes =
+      encodes-append past.read line ∙ ap (λ t. t ++ encode_utf8_all line) past.spell ∙ ap (λ t. take lines.len bytes ++ t) own
+      ∙ sym (take-add lines.len (at + len - lines.len) bytes) ∙ ap (λ (k : ℕ). take k bytes) there in
       let count : lines.line_ends + (come.more + 1) ≡ n + 1 = omega (arith, come.count) in
-      let pushed = line_push come.lines_are.texts (take lines.len bytes) line lines.line_ends (come.more + 1) come.lines_are.whole (omega (arith, size, come.ordered)) whole in
+      let some : 0 < length line = omega (arith, length-append come.read text, line_end_some ends.returned) in
+      let pushed = line_push past.texts past.read line lines.line_ends (come.more + 1) past.whole some whole in
       record {
-        within = omega (arith, within);
+        within = fits;
         ordered = omega arith;
         lines_are = record {
-          within = omega (arith, within);
-          texts = come.lines_are.texts ++ line ∷ [];
-          whole = subst (λ (k : ℕ). AreWholeLines (come.lines_are.texts ++ line ∷ []) (take (at + 1) bytes) k) count (subst (λ (t : List ℕ). AreWholeLines (come.lines_are.texts ++ line ∷ []) t (lines.line_ends + (come.more + 1))) all pushed);
+          within = fits;
+          read = past.read ++ line;
+          spell = all;
+          texts = past.texts ++ line ∷ [];
+          whole = subst (λ (k : ℕ). AreWholeLines (past.texts ++ line ∷ []) (past.read ++ line) k) count pushed;
         };
         more = 0;
         count = omega arith;
-        stands = subst (λ (t : List ℕ). StandsBefore (drop (at + 1) bytes) t 0 []) (sym nothing) (stands (drop (at + 1) bytes) [] 0 [] begun);
+        read = [];
+        spell = sym nothing;
+        stands = stands (drop (at + len) bytes) [] 0 [] begun;
       }
     where
-      nothing : line_up_to bytes (record { len = at + 1; line_ends = n + 1 }) (at + 1) ≡ []
-      nothing = ap (λ (k : ℕ). take k (drop (at + 1) bytes)) none_left
+      nothing : line_up_to bytes (record { len = at + len; line_ends = n + 1 }) (at + len) ≡ []
+      nothing = ap (λ (k : ℕ). take k (drop (at + len) bytes)) none_left
         where
-          none_left : at + 1 - (at + 1) ≡ 0
+          none_left : at + len - (at + len) ≡ 0
           none_left = omega arith
 
   -- the line ends are no more than the bytes
   pub few_ends : (lines : Passed) (at n : ℕ) (st : List Bracket) → HasComeTo bytes lines at n st → n ≤ at
   few_ends lines at n st come =
-      let past = lines_few come.lines_are.texts (take lines.len bytes) lines.line_ends come.lines_are.whole in
-      omega (arith, come.count, past, length-take-le lines.len bytes (omega (arith, come.ordered, come.within)), own come.stands, line_size lines at come.ordered come.within, come.ordered)
+      let past = come.lines_are in
+      let before = lines_few past.texts past.read lines.line_ends past.whole in
+      omega (arith, come.count, before, ap length past.spell, length-take-le lines.len bytes past.within, own come.stands, ap length come.spell, line_size lines at come.ordered come.within, come.ordered)
     where
-      by_holds : (read : List ℕ) (k : ℕ) → line_ends read ≡ k → k ≤ length read
-      by_holds read k is = omega (arith, is, line_ends-le read)
+      by_holds : (read : List ℕ) (k : ℕ) → line_ends read ≡ k → k ≤ byte_len read
+      by_holds read k is = omega (arith, is, line_ends-bytes read)
 
-      in_line : (rest read : List ℕ) (k : ℕ) → StandsBefore rest read k st → k ≤ length read
+      in_line : (rest read : List ℕ) (k : ℕ) → StandsBefore rest read k st → k ≤ byte_len read
       in_line [] read k on = by_holds read k on.come.holds.count
       in_line (c ∷ rest) read k (inl on) = by_holds read k on.come.holds.count
       in_line (c ∷ rest) read k (inr on) = by_holds read k on.come.holds.count
 
-      own : StandsBefore (drop at bytes) (line_up_to bytes lines at) come.more st → come.more ≤ length (line_up_to bytes lines at)
-      own on = in_line (drop at bytes) (line_up_to bytes lines at) come.more on
+      own : StandsBefore (drop at bytes) come.read come.more st → come.more ≤ byte_len come.read
+      own on = in_line (drop at bytes) come.read come.more on
 
 -- what closes the open brackets
 others_close : (closers : List ℕ) (st : List Bracket) (k c : ℕ) → length st < k → AreClosers closers st → AreClosers (slice_set closers k c) st
@@ -325,25 +374,56 @@ closing-not-opening c is = none_of is_opening (codes ")]}") c refl is
 
 -- the outline comes further
 module _ (bytes : List ℕ) (at : ℕ) (o : Outline) (on : IsAt bytes at o) (within : at < length bytes) where
-  pub line_ended : (new : Outline) → new ≡ record o { lines = record { len = at + 1; line_ends = o.line_ends + 1 }; line_ends = o.line_ends + 1 } → slice_index bytes at ≡ 10 → none_open on.st ≡ true → IsFurther bytes at new
-  line_ended new same is none = subst (λ (x : Outline). IsFurther bytes at x) (sym same) (record {
-    from = at + 1;
-    further = omega arith;
-    on = record { st = on.st; close = on.close; come = feed_ends_line bytes o.lines at o.line_ends on.st on.come within is none; marked = on.marked within };
+  pub line_ended : (len : ℕ) (new : Outline) → BeginsLineEnd (drop at bytes) len → new ≡ record o { lines = record { len = at + len; line_ends = o.line_ends + 1 }; line_ends = o.line_ends + 1 } → none_open on.st ≡ true → IsPast bytes (at + len) new
+  line_ended len new ends same none = subst (λ (x : Outline). IsPast bytes (at + len) x) (sym same) (record {
+    st = on.st;
+    close = on.close;
+    come = line_end_ends_line bytes o.lines at o.line_ends len on.st on.come within ends none;
   })
 
-  pub line_goes_on : (new : Outline) → new ≡ record o { line_ends = o.line_ends + 1 } → slice_index bytes at ≡ 10 → none_open on.st ≡ false → IsFurther bytes at new
-  line_goes_on new same is some = subst (λ (x : Outline). IsFurther bytes at x) (sym same) (record {
+  pub line_goes_on : (len : ℕ) (new : Outline) → BeginsLineEnd (drop at bytes) len → new ≡ record o { line_ends = o.line_ends + 1 } → none_open on.st ≡ false → IsPast bytes (at + len) new
+  line_goes_on len new ends same some = subst (λ (x : Outline). IsPast bytes (at + len) x) (sym same) (record {
+    st = on.st;
+    close = on.close;
+    come = line_end_in_brackets bytes o.lines at o.line_ends len on.st on.come within ends some;
+  })
+
+  -- what follows LF is marked
+  pub feed_passed : (new : Outline) → IsPast bytes (at + 1) new → new.marks ≡ o.marks → IsFurther bytes at new
+  feed_passed new past same = record {
     from = at + 1;
     further = omega arith;
-    on = record { st = on.st; close = on.close; come = feed_in_brackets bytes o.lines at o.line_ends on.st on.come within is some; marked = on.marked within };
-  })
+    on = record { st = past.st; close = past.close; come = past.come; marked = subst (λ (m : Marks). HasMarks bytes (at + 1) m) (sym same) (on.marked within) };
+  }
+
+  -- and what follows CR LF, once that is passed
+  pub return_passed : (len : ℕ) (mid : Outline) (marks : Marks) → BeginsLineEnd (drop at bytes) len → IsPast bytes (at + len) mid → mid.marks ≡ o.marks
+      → ((from : ℕ) → HasMarks bytes from mid.marks → from ≤ at + len → HasMarks bytes (at + len) marks) → IsFurther bytes at (record mid { marks = marks })
+  return_passed len mid marks ends past same pass =
+      let some = ends.some in
+      record {
+        from = at + len;
+        further = omega (arith, some);
+        on = record {
+          st = past.st;
+          close = past.close;
+          come = past.come;
+          marked = pass (at + 1) (subst (λ (m : Marks). HasMarks bytes (at + 1) m) (sym same) (on.marked within)) (omega (arith, some));
+        };
+      }
+
+  -- what `pass` of the marks requires there
+  pub base_before_end : (len : ℕ) (mid : Outline) → BeginsLineEnd (drop at bytes) len → mid.marks ≡ o.marks → mid.marks.base ≤ at + len
+  base_before_end len mid ends same =
+      let some = ends.some in
+      let base = (on.marked within).base in
+      omega (arith, some, base, ap (λ (m : Marks). m.base) same)
 
   pub opened : (new : Closers) → is_opening (slice_index bytes at) ≡ true → Opens (slice_index bytes at) o.closers new → IsFurther bytes at (record o { closers = new })
   opened new is opens =
       let c = slice_index bytes at in
       let room = opens on.st on.close in
-      let place = length (line_up_to bytes o.lines at) in
+      let place = byte_len on.come.read in
       let after : List Bracket = record { opener = c; place = place } ∷ on.st in
       record {
         from = at + 1;
@@ -360,7 +440,7 @@ module _ (bytes : List ℕ) (at : ℕ) (o : Outline) (on : IsAt bytes at o) (wit
   closed new is closes =
       let c = slice_index bytes at in
       let close = closes on.st on.close in
-      let place = length (line_up_to bytes o.lines at) in
+      let place = byte_len on.come.read in
       record {
         from = at + 1;
         further = omega arith;

@@ -1,13 +1,15 @@
 -- A string without fields is passed over: the machine goes through its quotes, its text, its escapes and its line ends.
-use Rattle.std.proofs.Common.{◌≡◌, ℕ, ◌+◌, ◌-◌, ◌<◌, ◌≤◌, Bool, true, false, ◌==◌, Option, None, Some, List, [], ◌∷◌, ◌++◌, length, take, drop, slice_index, inl, inr, refl, sym, ap, ◌∙◌, subst, append_assoc, append-nil, arith, length-drop, eq-eqb, lit<}
-use Rattle.std.specs.Prelude.{if◌then◌else◌, nat_lt}
+use Rattle.std.proofs.Common.{◌≡◌, ℕ, ◌+◌, ◌-◌, ◌<◌, ◌≤◌, Bool, true, false, not, ◌==◌, Option, None, Some, List, [], ◌∷◌, ◌++◌, length, take, drop, slice_index, inl, inr, refl, sym, ap, ◌∙◌, subst, append_assoc, append-nil, arith, length-drop, eq-eqb, lit<}
+use Rattle.std.specs.Prelude.{encode_utf8_all, if◌then◌else◌, nat_lt}
+use Rattle.std.specs.Str.{all_scalars}
 use Rattle.std.specs.List.{list_all}
-use mir.Val.{bool_byte}
-use Rattle.std.proofs.lemmas.Bool.{and_parts, both_ways, eqb-true, false_from_ne_true, ltb-false, ltb-true}
+use Rattle.std.proofs.lemmas.Bool.{and_from, and_parts, both_ways, eqb-true, false_from_ne_true, ltb-false, ltb-true}
 use Rattle.std.proofs.lemmas.List.{drop-drop, drop_more, length-take-le}
+use Rattle.std.proofs.lemmas.Str.{encode_ascii, encodes-append, length-le-encodes}
 use Rattle.std.proofs.Math.Seq.{take-add}
 use Rattle.py_lines.specs.Character.{is_quote, is_backslash, is_break, is_return, is_line_feed}
-use Rattle.py_lines.specs.Piece.{string}
+use Rattle.py_lines.specs.LogicalLine.{byte_len}
+use Rattle.py_lines.specs.Piece.{Piece, string}
 use Rattle.py_lines.specs.declared.mode.Mode.{Mode}
 use Rattle.py_lines.specs.declared.mode.Mode.TheVariants as modes
 use Rattle.py_lines.specs.declared.mode.Move.{Move}
@@ -15,10 +17,10 @@ use Rattle.py_lines.specs.declared.mode.Move.TheVariants as moves
 use Rattle.py_lines.specs.declared.mode.Spelling.{Spelling}
 use Rattle.py_lines.specs.declared.plain_strings.Passed.{Passed}
 use Rattle.py_lines.specs.Private.Machine.{fresh, moved, Bracket, long_move, move_of, short_move}
-use Rattle.py_lines.specs.Private.ScanMachine.{begins_string, is_field_spelling, is_raw_spelling, meet_of, quote_move, scan_step}
+use Rattle.py_lines.specs.Private.ScanMachine.{begins_string, is_field_spelling, is_raw_spelling, meet_of, quote_move, scan_step, scan_steps}
 use Rattle.py_lines.specs.Private.Scan.{line_start}
-use Rattle.py_lines.specs.Private.Run.{IsRunOf, is_text_byte}
-use Rattle.py_lines.specs.Private.Outline.{BeginsEscape, BeginsLong, EndsBefore, GoesOnAfter, HasEscape, HasString, HoldsFeeds, IsInLong, IsInPiece, IsInShort, IsTail, Passes, PassesPart, PassesPiece, PassesOrNot, StandsBefore, StringBegins, is_plain_prefix, short_mode, tail_of}
+use Rattle.py_lines.specs.Private.Run.{Spans, is_body_byte}
+use Rattle.py_lines.specs.Private.Outline.{BeginsLineEnd, BeginsLong, EndsBefore, GoesOnAfter, HasEscape, HasLineEnd, HasString, HoldsLineEnds, IsEscaped, IsInLong, IsInPiece, IsInShort, IsTail, Passes, PassesPart, PassesPiece, PassesOrNot, StandsBefore, StringBegins, is_plain_prefix, line_end_of, short_mode, tail_of}
 use Rattle.py_lines.proofs.Pieces.PieceLists.{piece}
 use Rattle.py_lines.proofs.Machine.Starts.{start-quote}
 use Rattle.py_lines.proofs.Machine.PieceSteps.{scanned}
@@ -26,21 +28,42 @@ use Rattle.py_lines.proofs.Machine.LiveTexts.{keeps}
 use Rattle.py_lines.proofs.FieldScans.TextLengths.{later, rest_is}
 use Rattle.py_lines.proofs.LineScan.Increments.{EndsNoLine-push}
 use Rattle.py_lines.proofs.LineScan.LineSteps.{steps_push}
-use Rattle.py_lines.proofs.LineScan.Runs.{body_parts, quote_ascii, stays-no_break}
-use Rattle.py_lines.proofs.LineScan.ShortPieces.{all_pass, low_is, quote-no_break, text_body, text_low}
-use Rattle.py_lines.proofs.Text.CharacterTests.{quote-not-word, return_is}
-use Rattle.py_lines.proofs.SimpleLines.Code.{apart_breaks, apart_tail, code_other, holds_feed, holds_one, no_tail, opens, quote-no-word, quote-not-space, stands, tail_code}
+use Rattle.py_lines.proofs.LineScan.Runs.{body_parts, break-return, quote_ascii, stays-no_break}
+use Rattle.py_lines.proofs.LineScan.ShortPieces.{is_low, is_low_from, low_encodes, low_is, quote-no_break}
+use Rattle.py_lines.proofs.Text.CharacterTests.{quote-not-word}
+use Rattle.py_lines.proofs.SimpleLines.Code.{apart_breaks, apart_tail, code_other, holds_line_end, holds_more, holds_one, no_tail, opens, quote-no-word, quote-not-space, stands, tail_code}
+use Rattle.py_lines.proofs.SimpleLines.FirstBytes.{first_then, line_end_low, taken_one, taken_two}
+use Rattle.py_lines.proofs.SimpleLines.Runs.{goes_on, stay_spelled}
 
--- the open piece grows by a character
-grows : (m next : Mode) (c k : ℕ) (read : List ℕ) (n : ℕ) (st : List Bracket) → ((s : IsInPiece m read n st) → scan_step (scanned s.done m s.held) c ≡ Some (scanned s.done next (s.held ++ c ∷ []))) → HoldsFeeds (read ++ c ∷ []) k → IsInPiece m read n st → IsInPiece next (read ++ c ∷ []) k st
+-- a character makes the open piece grow so
+abbrev Steps : Mode → ℕ → Mode → Type 0
+Steps m c next = (done : List Piece) (held : List ℕ) → scan_step (scanned done m held) c ≡ Some (scanned done next (held ++ c ∷ []))
+
+grows : (m next : Mode) (c k : ℕ) (read : List ℕ) (n : ℕ) (st : List Bracket) → Steps m c next → HoldsLineEnds (read ++ c ∷ []) k → IsInPiece m read n st → IsInPiece next (read ++ c ∷ []) k st
 grows m next c k read n st step holds s = record {
   done = s.done;
   held = s.held ++ c ∷ [];
   come = record {
-    steps = steps_push (line_start modes.Free) read (scanned s.done m s.held) c s.come.steps ∙ step s;
+    steps = steps_push (line_start modes.Free) read (scanned s.done m s.held) c s.come.steps ∙ step s.done s.held;
     stacked = s.come.stacked;
     one_line = s.come.one_line;
     holds = holds;
+  };
+}
+
+-- so does a line end, by way of this mode where CR stands before LF
+line_end_grows : (m mid next : Mode) (returned : Bool) (read : List ℕ) (n : ℕ) (st : List Bracket) → Steps m 10 next → Steps m 13 mid → Steps mid 10 next → IsInPiece m read n st → IsInPiece next (read ++ line_end_of returned) (n + 1) st
+line_end_grows m mid next false read n st feed return after_return s = grows m next 10 (n + 1) read n st feed (holds_line_end false read n s.come.holds) s
+line_end_grows m mid next true read n st feed return after_return s = record {
+  done = s.done;
+  held = (s.held ++ 13 ∷ []) ++ 10 ∷ [];
+  come = record {
+    steps = ap (scan_steps (Some (line_start modes.Free))) (sym (append_assoc read (13 ∷ []) (10 ∷ [])))
+        ∙ steps_push (line_start modes.Free) (read ++ 13 ∷ []) (scanned s.done mid (s.held ++ 13 ∷ [])) 10 (steps_push (line_start modes.Free) read (scanned s.done m s.held) 13 s.come.steps ∙ return s.done s.held)
+        ∙ after_return s.done (s.held ++ 13 ∷ []);
+    stacked = s.come.stacked;
+    one_line = s.come.one_line;
+    holds = holds_line_end true read n s.come.holds;
   };
 }
 
@@ -132,68 +155,83 @@ long_escape : (q c : ℕ) → meet_of (modes.LongEscape q) c ≡ moves.Grows (mo
 unfolding meet_of move_of
 long_escape q c = refl
 
+escape_return : (q : ℕ) → meet_of (modes.Escape q) 13 ≡ moves.Grows (modes.EscapeReturn q)
+unfolding meet_of move_of is_return
+escape_return q = refl
+
+returned_feed : (q : ℕ) → meet_of (modes.EscapeReturn q) 10 ≡ moves.Grows (modes.Inside q)
+unfolding meet_of move_of is_line_feed
+returned_feed q = refl
+
+-- what a line end is not
 feed-not-quote : (q : ℕ) → is_quote q ≡ true → 10 == q ≡ false
 unfolding is_quote
 feed-not-quote q is = grind (arith)
+
+return-not-quote : (q : ℕ) → is_quote q ≡ true → 13 == q ≡ false
+unfolding is_quote
+return-not-quote q is = grind (arith)
 
 feed-plain : is_backslash 10 ≡ false
 unfolding is_backslash
 feed-plain = refl
 
--- a byte that is no line end but LF
-other_break : (c : ℕ) → c == 10 ≡ false → is_return c ≡ false → is_break c ≡ false
-unfolding is_break is_line_feed is_return
-other_break c feed return = grind (arith)
+return-plain : is_backslash 13 ≡ false
+unfolding is_backslash
+return-plain = refl
 
-escaped_holds : (read : List ℕ) (n c feeds : ℕ) → HoldsFeeds read n → c < 128 → is_return c ≡ false → feeds ≡ (if c == 10 then 1 else 0) → HoldsFeeds (read ++ c ∷ []) (n + feeds)
-escaped_holds read n c feeds holds low return count = by (c == 10) refl
-  where
-    by : (b : Bool) → c == 10 ≡ b → HoldsFeeds (read ++ c ∷ []) (n + feeds)
-    by true is =
-        let one : feeds ≡ 1 = count ∙ ap (λ b. if b then 1 else 0) is in
-        let same : 10 ≡ c = sym (eqb-true c 10 is) in
-        subst (λ (k : ℕ). HoldsFeeds (read ++ c ∷ []) (n + k)) (sym one) (subst (λ (d : ℕ). HoldsFeeds (read ++ d ∷ []) (n + 1)) same (holds_feed read n holds))
-    by false is =
-        let none : n ≡ n + feeds = omega (arith, count ∙ ap (λ b. if b then 1 else 0) is) in
-        subst (λ (k : ℕ). HoldsFeeds (read ++ c ∷ []) k) none (holds_one read c n holds low (other_break c is return))
+feed-not-return : is_return 10 ≡ false
+unfolding is_return
+feed-not-return = refl
 
--- the bytes that a slice begins with
-pub taken_one : (bytes : List ℕ) → 0 < length bytes → take 1 bytes ≡ slice_index bytes 0 ∷ []
-taken_one [] within = absurd (omega (arith, within))
-taken_one (b ∷ bs) within = refl
-
-pub taken_two : (bytes : List ℕ) → 1 < length bytes → take 2 bytes ≡ slice_index bytes 0 ∷ slice_index bytes 1 ∷ []
-taken_two [] within = absurd (omega (arith, within))
-taken_two (b ∷ bs) within = ap (λ t. b ∷ t) (taken_one bs (omega (arith, within)))
-
-pub taken_three : (bytes : List ℕ) → 2 < length bytes → take 3 bytes ≡ slice_index bytes 0 ∷ slice_index bytes 1 ∷ slice_index bytes 2 ∷ []
-taken_three [] within = absurd (omega (arith, within))
-taken_three (b ∷ bs) within = ap (λ t. b ∷ t) (taken_two bs (omega (arith, within)))
-
-pub begins_long : (q : ℕ) (bytes : List ℕ) → 2 < length bytes → slice_index bytes 0 ≡ q → slice_index bytes 1 ≡ q → slice_index bytes 2 ≡ q → BeginsLong q bytes
-begins_long q bytes within first second third = record {
+-- what the bytes begin with that a backslash escapes
+pub escapes_byte : (bytes : List ℕ) → 1 < length bytes → slice_index bytes 0 ≡ 92 → slice_index bytes 1 < 128 → is_break (slice_index bytes 1) ≡ false → HasEscape bytes (Some (record { len = 2; line_ends = 0 }))
+escapes_byte bytes within first low none = record {
+  some = omega arith;
   within = within;
-  spell = taken_three bytes within ∙ ap (λ c. c ∷ slice_index bytes 1 ∷ slice_index bytes 2 ∷ []) first ∙ ap (λ c. q ∷ c ∷ slice_index bytes 2 ∷ []) second ∙ ap (λ c. q ∷ q ∷ c ∷ []) third;
-}
-
-pub begins_escape : (bytes : List ℕ) (feeds : ℕ) → 1 < length bytes → slice_index bytes 0 ≡ 92 → slice_index bytes 1 < 128 → is_return (slice_index bytes 1) ≡ false → feeds ≡ (if slice_index bytes 1 == 10 then 1 else 0) → BeginsEscape bytes (slice_index bytes 1) feeds
-begins_escape bytes feeds within first low return count = record {
-  within = within;
+  few = omega arith;
+  text = slice_index bytes 1 ∷ [];
   spell = taken_two bytes within ∙ ap (λ c. c ∷ slice_index bytes 1 ∷ []) first;
-  low = low;
-  unreturned = return;
-  count = count;
+  escaped = inr (slice_index bytes 1, refl, low, none, refl);
 }
 
--- a part, by its bytes
-pub part : {stands comes : List ℕ → ℕ → List Bracket → Type 0} (bytes text : List ℕ) (len feeds : ℕ) → len ≤ length bytes → take len bytes ≡ text → ((read : List ℕ) (n : ℕ) (st : List Bracket) → stands read n st → comes (read ++ text) (n + feeds) st) → PassesPart bytes len feeds stands comes
-part {stands} {comes} bytes text len feeds within spell leads = record {
+pub escapes_line_end : (bytes : List ℕ) (len : ℕ) → 1 < length bytes → slice_index bytes 0 ≡ 92 → HasLineEnd (take (length bytes - 1) (drop 1 bytes)) (Some len) → HasEscape bytes (Some (record { len = 1 + len; line_ends = 1 }))
+escapes_line_end bytes len within first found =
+    let ends : BeginsLineEnd (drop 1 bytes) len = subst (λ (t : List ℕ). BeginsLineEnd t len) (rest_is bytes 1) found in
+    let room = ends.within in
+    record {
+      some = omega arith;
+      within = omega (arith, room, within, length-drop 1 bytes);
+      few = omega arith;
+      text = line_end_of ends.returned;
+      spell = first_then bytes 92 len (omega (arith, within)) first ∙ ap (λ t. 92 ∷ t) ends.spell;
+      escaped = inl (ends.returned, refl, refl);
+    }
+
+escaped_low : (text : List ℕ) (feeds : ℕ) → IsEscaped text feeds → list_all is_low text ≡ true
+escaped_low text feeds (inl (returned, is, one)) = ap (list_all is_low) is ∙ line_end_low returned
+escaped_low text feeds (inr (c, is, low, none, zero)) = ap (list_all is_low) is ∙ and_from _ _ (is_low_from c low) refl
+
+-- a part, by its characters
+pub low_part : {stands comes : List ℕ → ℕ → List Bracket → Type 0} (bytes text : List ℕ) (len feeds : ℕ) → len ≤ length bytes → list_all is_low text ≡ true → take len bytes ≡ text → ((read : List ℕ) (n : ℕ) (st : List Bracket) → stands read n st → comes (read ++ text) (n + feeds) st) → PassesPart bytes len feeds stands comes
+low_part {stands} {comes} bytes text len feeds within low spell leads = record {
   within = within;
-  leads = λ read n st on. subst (λ (t : List ℕ). comes (read ++ t) (n + feeds) st) (sym spell) (leads read n st on);
+  run = text;
+  spell = (low_encodes is_low text low_is low).0 ∙ sym spell;
+  leads = leads;
 }
 
-pub still : {stands comes : List ℕ → ℕ → List Bracket → Type 0} (bytes text : List ℕ) (len : ℕ) → len ≤ length bytes → take len bytes ≡ text → ((read : List ℕ) (n : ℕ) (st : List Bracket) → stands read n st → comes (read ++ text) n st) → PassesPart bytes len 0 stands comes
-still {stands} {comes} bytes text len within spell leads = part bytes text len 0 within spell (λ read n st on. subst (λ (k : ℕ). comes (read ++ text) k st) (omega arith) (leads read n st on))
+-- without a line end
+pub still : {stands comes : List ℕ → ℕ → List Bracket → Type 0} (bytes run : List ℕ) (len : ℕ) → len ≤ length bytes → encode_utf8_all run ≡ take len bytes → ((read : List ℕ) (n : ℕ) (st : List Bracket) → stands read n st → comes (read ++ run) n st) → PassesPart bytes len 0 stands comes
+still {stands} {comes} bytes run len within spell leads = record {
+  within = within;
+  run = run;
+  spell = spell;
+  leads = λ read n st on. subst (λ (k : ℕ). comes (read ++ run) k st) (omega arith) (leads read n st on);
+}
+
+pub low_still : {stands comes : List ℕ → ℕ → List Bracket → Type 0} (bytes text : List ℕ) (len : ℕ) → len ≤ length bytes → list_all is_low text ≡ true → take len bytes ≡ text → ((read : List ℕ) (n : ℕ) (st : List Bracket) → stands read n st → comes (read ++ text) n st) → PassesPart bytes len 0 stands comes
+low_still {stands} {comes} bytes text len within low spell leads = still bytes text len within ((low_encodes is_low text low_is low).0 ∙ sym spell) leads
 
 -- one part after another
 pub after : {stands comes goes : List ℕ → ℕ → List Bracket → Type 0} (bytes : List ℕ) (len feeds more further : ℕ) (all : ℕ) → feeds + further ≡ all → PassesPart bytes len feeds stands comes → PassesPart (drop len bytes) more further comes goes → PassesPart bytes (len + more) all stands goes
@@ -202,10 +240,12 @@ after {stands} {comes} {goes} bytes len feeds more further all same first second
     let room = second.within in
     record {
       within = omega (arith, within, room, length-drop len bytes);
+      run = first.run ++ second.run;
+      spell = encodes-append first.run second.run ∙ ap (λ t. t ++ encode_utf8_all second.run) first.spell ∙ ap (λ t. take len bytes ++ t) second.spell ∙ sym (take-add len more bytes);
       leads = λ read n st on.
-          subst (λ (k : ℕ). goes (read ++ take (len + more) bytes) k st) (omega (arith, same))
-          (subst (λ (t : List ℕ). goes t ((n + feeds) + further) st) (append_assoc read (take len bytes) (take more (drop len bytes)) ∙ ap (λ t. read ++ t) (sym (take-add len more bytes)))
-          (second.leads (read ++ take len bytes) (n + feeds) st (first.leads read n st on)));
+          subst (λ (k : ℕ). goes (read ++ (first.run ++ second.run)) k st) (omega (arith, same))
+          (subst (λ (t : List ℕ). goes t ((n + feeds) + further) st) (append_assoc read first.run second.run)
+          (second.leads (read ++ first.run) (n + feeds) st (first.leads read n st on)));
     }
 
 -- an empty string is no CR
@@ -218,7 +258,16 @@ unfolding is_empty_mode
 empty_other q is = both_ways _ refl (sym (ap is_empty_mode is))
 
 module _ (q : ℕ) (quote : is_quote q ≡ true) where
-  quote_held : (read : List ℕ) (n : ℕ) → HoldsFeeds read n → HoldsFeeds (read ++ q ∷ []) n
+  quote_low : list_all is_low (q ∷ []) ≡ true
+  quote_low = and_from _ _ (is_low_from q (quote_ascii q quote)) refl
+
+  quotes_two : list_all is_low (q ∷ q ∷ []) ≡ true
+  quotes_two = let one = is_low_from q (quote_ascii q quote) in and_from _ _ one (and_from _ _ one refl)
+
+  quotes_low : list_all is_low (q ∷ q ∷ q ∷ []) ≡ true
+  quotes_low = let one = is_low_from q (quote_ascii q quote) in and_from _ _ one (and_from _ _ one (and_from _ _ one refl))
+
+  quote_held : (read : List ℕ) (n : ℕ) → HoldsLineEnds read n → HoldsLineEnds (read ++ q ∷ []) n
   quote_held read n holds = holds_one read q n holds (quote_ascii q quote) (quote-no_break q quote)
 
   -- a string begins
@@ -240,7 +289,7 @@ module _ (q : ℕ) (quote : is_quote q ≡ true) where
       })
   after_tail read n st (Some s) some on is plain =
       let in_word : IsInPiece (modes.Word s) read n st = subst (λ (m : Mode). IsInPiece m read n st) is (record { done = on.state.done; held = on.state.held; come = on.come }) in
-      grows (modes.Word s) (modes.Opened q) q n read n st (λ w. ap (moved (scanned w.done (modes.Word s) w.held) q) (prefix_quote s q quote plain)) (quote_held read n on.come.holds) in_word
+      grows (modes.Word s) (modes.Opened q) q n read n st (λ done held. ap (moved (scanned done (modes.Word s) held) q) (prefix_quote s q quote plain)) (quote_held read n on.come.holds) in_word
 
   pub string_begins : (rest read : List ℕ) (n : ℕ) (st : List Bracket) → is_plain_prefix (tail_of read) ≡ true → StandsBefore (q ∷ rest) read n st → StringBegins q read n st
   string_begins rest read n st plain (inl on) = after_tail read n st (tail_of read) refl on on.tail plain
@@ -264,7 +313,7 @@ module _ (q : ℕ) (quote : is_quote q ≡ true) where
   -- an empty string, before what follows
   pub empty : (read rest : List ℕ) (c n : ℕ) (st : List Bracket) → (c ≡ q → ⊥) → StringBegins q read n st → StandsBefore (c ∷ rest) (read ++ q ∷ q ∷ []) n st
   empty read rest c n st unlike on =
-      let two = grows (modes.Opened q) (modes.Empty q) q n (read ++ q ∷ []) n st (λ s. ap (moved (scanned s.done (modes.Opened q) s.held) q) (opened_quote q)) (quote_held (read ++ q ∷ []) n on.come.holds) on in
+      let two = grows (modes.Opened q) (modes.Empty q) q n (read ++ q ∷ []) n st (λ done held. ap (moved (scanned done (modes.Opened q) held) q) (opened_quote q)) (quote_held (read ++ q ∷ []) n on.come.holds) on in
       let spell = append_assoc read (q ∷ []) (q ∷ []) in
       inr (subst (λ (t : List ℕ). EndsBefore c t n st) spell (record {
         state = scanned two.done (modes.Empty q) two.held;
@@ -274,26 +323,33 @@ module _ (q : ℕ) (quote : is_quote q ≡ true) where
         tail = λ is. no_tail (read ++ q ∷ []) q (quote-no-word q quote);
       }))
 
-  -- a byte of a string's text
-  text_held : (read : List ℕ) (n c : ℕ) → is_text_byte q c ≡ true → HoldsFeeds read n → HoldsFeeds (read ++ c ∷ []) n
-  text_held read n c is holds = holds_one read c n holds (low_is c (text_low q c is)) (stays-no_break (modes.Long q) c (text_body q c is))
+  -- a character of a string's text
+  text_held : (read : List ℕ) (n c : ℕ) → all_scalars (c ∷ []) ≡ true → is_body_byte q c ≡ true → HoldsLineEnds read n → HoldsLineEnds (read ++ c ∷ []) n
+  text_held read n c scalar is holds = holds_more read (c ∷ []) n holds tt scalar (and_from _ _ (ap not (stays-no_break (modes.Long q) c is)) refl)
 
-  -- a run of it, where each byte leads from one mode to itself
-  text_run : (m : Mode) → ((c : ℕ) → is_text_byte q c ≡ true → (read : List ℕ) (n : ℕ) (st : List Bracket) → IsInPiece m read n st → IsInPiece m (read ++ c ∷ []) n st) → (text read : List ℕ) (n : ℕ) (st : List Bracket) → list_all (is_text_byte q) text ≡ true → IsInPiece m read n st → IsInPiece m (read ++ text) n st
-  text_run m one [] read n st all on = subst (λ (t : List ℕ). IsInPiece m t n st) (sym (append-nil read)) on
-  text_run m one (c ∷ cs) read n st all on =
-      let parts = and_parts (is_text_byte q c) (list_all (is_text_byte q) cs) all in
-      subst (λ (t : List ℕ). IsInPiece m t n st) (append_assoc read (c ∷ []) cs) (text_run m one cs (read ++ c ∷ []) n st parts.1 (one c parts.0 read n st on))
+  -- the characters of its text
+  spans_size : (bytes : List ℕ) (k : ℕ) (is : Spans (is_body_byte q) bytes k) → byte_len is.utf8.0 ≡ k
+  spans_size bytes k is = ap length is.utf8.1.1 ∙ length-take-le k bytes is.run.within
 
-  -- an escape, which leads from one mode to another
-  escaped : (m mid next : Mode) (read : List ℕ) (n c feeds : ℕ) (st : List Bracket)
-      → ((s : IsInPiece m read n st) → scan_step (scanned s.done m s.held) 92 ≡ Some (scanned s.done mid (s.held ++ 92 ∷ [])))
-      → ((s : IsInPiece mid (read ++ 92 ∷ []) n st) → scan_step (scanned s.done mid s.held) c ≡ Some (scanned s.done next (s.held ++ c ∷ [])))
-      → c < 128 → is_return c ≡ false → feeds ≡ (if c == 10 then 1 else 0) → IsInPiece m read n st → IsInPiece next (read ++ 92 ∷ c ∷ []) (n + feeds) st
-  escaped m mid next read n c feeds st first second low return count on =
-      let one = grows m mid 92 n read n st first (holds_one read 92 n on.come.holds (lit< tt) slash_whole) on in
-      subst (λ (t : List ℕ). IsInPiece next t (n + feeds) st) (append_assoc read (92 ∷ []) (c ∷ []))
-      (grows mid next c (n + feeds) (read ++ 92 ∷ []) n st second (escaped_holds (read ++ 92 ∷ []) n c feeds one.come.holds low return count) one)
+  spans_stay : (bytes : List ℕ) (k : ℕ) (is : Spans (is_body_byte q) bytes k) → list_all (is_body_byte q) is.utf8.0 ≡ true
+  spans_stay bytes k is = stay_spelled (modes.Inside q) bytes k (quote_ascii q quote) is.run.within is.run.each is.utf8.0 is.utf8.1.1
+
+  -- so many line ends are none
+  none_more : (m : Mode) (read : List ℕ) (n feeds : ℕ) (st : List Bracket) → feeds ≡ 0 → IsInPiece m read n st → IsInPiece m read (n + feeds) st
+  none_more m read n feeds st none on = subst (λ (k : ℕ). IsInPiece m read k st) (omega (arith, none)) on
+
+  one_more : (m : Mode) (read : List ℕ) (n feeds : ℕ) (st : List Bracket) → feeds ≡ 1 → IsInPiece m read (n + 1) st → IsInPiece m read (n + feeds) st
+  one_more m read n feeds st one on = subst (λ (k : ℕ). IsInPiece m read k st) (omega (arith, one)) on
+
+  -- what a backslash escapes, which leads from one mode to another
+  escaped_leads : (mid after_return next : Mode) → ((c : ℕ) → is_return c ≡ false → Steps mid c next) → Steps mid 13 after_return → Steps after_return 10 next
+      → (read text : List ℕ) (n feeds : ℕ) (st : List Bracket) → IsEscaped text feeds → IsInPiece mid read n st → IsInPiece next (read ++ text) (n + feeds) st
+  escaped_leads mid after_return next other return feed read text n feeds st (inl (returned, is, one)) on =
+      one_more next (read ++ text) n feeds st one
+      (subst (λ (t : List ℕ). IsInPiece next (read ++ t) (n + 1) st) (sym is) (line_end_grows mid after_return next returned read n st (other 10 feed-not-return) return feed on))
+  escaped_leads mid after_return next other return feed read text n feeds st (inr (c, is, low, none, zero)) on =
+      none_more next (read ++ text) n feeds st zero
+      (subst (λ (t : List ℕ). IsInPiece next (read ++ t) n st) (sym is) (grows mid next c n read n st (other c (break-return c none)) (holds_one read c n on.come.holds low none) on))
 
   -- the modes of a short string
   abbrev short_is : Bool → Mode
@@ -302,155 +358,173 @@ module _ (q : ℕ) (quote : is_quote q ≡ true) where
   pub short_later : (len : ℕ) → 1 < len → short_mode q len ≡ modes.Inside q
   short_later len more = ap short_is (false_from_ne_true (len == 1) (λ h. omega (arith, more, eqb-true len 1 h)))
 
-  short_byte : (b : Bool) (c : ℕ) → is_text_byte q c ≡ true → (read : List ℕ) (n : ℕ) (st : List Bracket) → IsInPiece (short_is b) read n st → IsInPiece (modes.Inside q) (read ++ c ∷ []) n st
-  short_byte b c is read n st on = grows (short_is b) (modes.Inside q) c n read n st (by b) (text_held read n c is on.come.holds) on
+  short_character : (b : Bool) (c : ℕ) → all_scalars (c ∷ []) ≡ true → is_body_byte q c ≡ true → (read : List ℕ) (n : ℕ) (st : List Bracket) → IsInPiece (short_is b) read n st → IsInPiece (modes.Inside q) (read ++ c ∷ []) n st
+  short_character b c scalar is read n st on = grows (short_is b) (modes.Inside q) c n read n st (by b) (text_held read n c scalar is on.come.holds) on
     where
-      by : (b : Bool) (s : IsInPiece (short_is b) read n st) → scan_step (scanned s.done (short_is b) s.held) c ≡ Some (scanned s.done (modes.Inside q) (s.held ++ c ∷ []))
-      by true s =
-          let parts = body_parts q c (text_body q c is) in
-          ap (moved (scanned s.done (modes.Opened q) s.held) c) (opened_other q c parts.0 parts.1 (stays-no_break (modes.Inside q) c (text_body q c is)))
-      by false s =
-          let parts = body_parts q c (text_body q c is) in
-          ap (moved (scanned s.done (modes.Inside q) s.held) c) (inside_other q c parts.0 parts.1 (stays-no_break (modes.Inside q) c (text_body q c is)))
+      by : (b : Bool) → Steps (short_is b) c (modes.Inside q)
+      by true done held =
+          let parts = body_parts q c is in
+          ap (moved (scanned done (modes.Opened q) held) c) (opened_other q c parts.0 parts.1 parts.2)
+      by false done held =
+          let parts = body_parts q c is in
+          ap (moved (scanned done (modes.Inside q) held) c) (inside_other q c parts.0 parts.1 parts.2)
 
-  short_escaped : (b : Bool) (read : List ℕ) (n c feeds : ℕ) (st : List Bracket) → c < 128 → is_return c ≡ false → feeds ≡ (if c == 10 then 1 else 0) → IsInPiece (short_is b) read n st → IsInPiece (modes.Inside q) (read ++ 92 ∷ c ∷ []) (n + feeds) st
-  short_escaped b read n c feeds st low return count on =
-      escaped (short_is b) (modes.Escape q) (modes.Inside q) read n c feeds st (by b) (λ s. ap (moved (scanned s.done (modes.Escape q) s.held) c) (escape_other q c return)) low return count on
+  short_escaped : (b : Bool) (read text : List ℕ) (n feeds : ℕ) (st : List Bracket) → IsEscaped text feeds → IsInPiece (short_is b) read n st → IsInPiece (modes.Inside q) (read ++ 92 ∷ text) (n + feeds) st
+  short_escaped b read text n feeds st escaped on =
+      subst (λ (t : List ℕ). IsInPiece (modes.Inside q) t (n + feeds) st) (append_assoc read (92 ∷ []) text)
+      (escaped_leads (modes.Escape q) (modes.EscapeReturn q) (modes.Inside q)
+      (λ c other done held. ap (moved (scanned done (modes.Escape q) held) c) (escape_other q c other))
+      (λ done held. ap (moved (scanned done (modes.Escape q) held) 13) (escape_return q))
+      (λ done held. ap (moved (scanned done (modes.EscapeReturn q) held) 10) (returned_feed q))
+      (read ++ 92 ∷ []) text n feeds st escaped (grows (short_is b) (modes.Escape q) 92 n read n st (by b) (holds_one read 92 n on.come.holds (lit< tt) slash_whole) on))
     where
-      by : (b : Bool) (s : IsInPiece (short_is b) read n st) → scan_step (scanned s.done (short_is b) s.held) 92 ≡ Some (scanned s.done (modes.Escape q) (s.held ++ 92 ∷ []))
-      by true s = ap (moved (scanned s.done (modes.Opened q) s.held) 92) (opened_slash q quote)
-      by false s = ap (moved (scanned s.done (modes.Inside q) s.held) 92) (inside_slash q quote)
+      by : (b : Bool) → Steps (short_is b) 92 (modes.Escape q)
+      by true done held = ap (moved (scanned done (modes.Opened q) held) 92) (opened_slash q quote)
+      by false done held = ap (moved (scanned done (modes.Inside q) held) 92) (inside_slash q quote)
 
   -- the parts of one, as the code knows them
   pub short_first : (bytes : List ℕ) → 0 < length bytes → slice_index bytes 0 ≡ q → PassesPart bytes 1 0 (StringBegins q) (IsInShort q 1)
-  short_first bytes within is = still bytes (q ∷ []) 1 within (taken_one bytes within ∙ ap (λ (c : ℕ). c ∷ []) is) (λ read n st on. on)
+  short_first bytes within is = low_still bytes (q ∷ []) 1 within quote_low (taken_one bytes within ∙ ap (λ (c : ℕ). c ∷ []) is) (λ read n st on. on)
 
-  short_text : (len : ℕ) (text read : List ℕ) (n : ℕ) (st : List Bracket) → 1 ≤ len → list_all (is_text_byte q) text ≡ true → IsInShort q len read n st → IsInShort q (len + length text) (read ++ text) n st
-  short_text len [] read n st some all on =
+  short_text : (len : ℕ) (text read : List ℕ) (n : ℕ) (st : List Bracket) → 1 ≤ len → all_scalars text ≡ true → list_all (is_body_byte q) text ≡ true → IsInShort q len read n st → IsInShort q (len + byte_len text) (read ++ text) n st
+  short_text len [] read n st some scalars all on =
       subst (λ (k : ℕ). IsInShort q k (read ++ []) n st) (omega arith) (subst (λ (t : List ℕ). IsInShort q len t n st) (sym (append-nil read)) on)
-  short_text len (c ∷ cs) read n st some all on =
-      let parts = and_parts (is_text_byte q c) (list_all (is_text_byte q) cs) all in
-      let later : 1 < len + length (c ∷ cs) = omega (arith, some) in
-      let one = short_byte (len == 1) c parts.0 read n st on in
-      subst (λ (m : Mode). IsInPiece m (read ++ c ∷ cs) n st) (sym (short_later (len + length (c ∷ cs)) later))
-      (subst (λ (t : List ℕ). IsInPiece (modes.Inside q) t n st) (append_assoc read (c ∷ []) cs) (text_run (modes.Inside q) (short_byte false) cs (read ++ c ∷ []) n st parts.1 one))
+  short_text len (c ∷ cs) read n st some scalars all on =
+      let parts = and_parts (is_body_byte q c) (list_all (is_body_byte q) cs) all in
+      let each = and_parts _ (all_scalars cs) scalars in
+      let later : 1 < len + byte_len (c ∷ cs) = omega (arith, some, length-le-encodes (c ∷ cs)) in
+      let one = short_character (len == 1) c (and_from _ _ each.0 refl) parts.0 read n st on in
+      subst (λ (m : Mode). IsInPiece m (read ++ c ∷ cs) n st) (sym (short_later (len + byte_len (c ∷ cs)) later))
+      (subst (λ (t : List ℕ). IsInPiece (modes.Inside q) t n st) (append_assoc read (c ∷ []) cs) (goes_on (modes.Inside q) (read ++ c ∷ []) cs n st each.1 parts.1 one))
 
-  pub short_run : (bytes : List ℕ) (len k : ℕ) → 1 ≤ len → IsRunOf (is_text_byte q) bytes k → PassesPart bytes k 0 (IsInShort q len) (IsInShort q (len + k))
-  short_run bytes len k some is = still bytes (take k bytes) k is.within refl (λ read n st on.
-      subst (λ (j : ℕ). IsInShort q (len + j) (read ++ take k bytes) n st) (taken_size k bytes is.within)
-      (short_text len (take k bytes) read n st some (all_pass (is_text_byte q) bytes k is.within is.each) on))
-    where
-      taken_size : (k : ℕ) (bytes : List ℕ) → k ≤ length bytes → length (take k bytes) ≡ k
-      taken_size k bytes within = length-take-le k bytes within
+  pub short_run : (bytes : List ℕ) (len k : ℕ) → 1 ≤ len → Spans (is_body_byte q) bytes k → PassesPart bytes k 0 (IsInShort q len) (IsInShort q (len + k))
+  short_run bytes len k some is = still bytes is.utf8.0 k is.run.within is.utf8.1.1 (λ read n st on.
+      subst (λ (j : ℕ). IsInShort q (len + j) (read ++ is.utf8.0) n st) (spans_size bytes k is)
+      (short_text len is.utf8.0 read n st some is.utf8.1.0 (spans_stay bytes k is) on))
 
   pub short_escape : (bytes : List ℕ) (len : ℕ) (p : Passed) → 1 ≤ len → HasEscape bytes (Some p) → PassesPart bytes p.len p.line_ends (IsInShort q len) (IsInShort q (len + p.len))
-  short_escape bytes len p some (two, (c, escape)) =
-      let later : 1 < len + p.len = omega (arith, some, two) in
-      part bytes (92 ∷ c ∷ []) p.len p.line_ends (omega (arith, two, escape.within)) (ap (λ (k : ℕ). take k bytes) two ∙ escape.spell) (λ read n st on.
-      subst (λ (m : Mode). IsInPiece m (read ++ 92 ∷ c ∷ []) (n + p.line_ends) st) (sym (short_later (len + p.len) later))
-      (short_escaped (len == 1) read n c p.line_ends st escape.low escape.unreturned escape.count on))
+  short_escape bytes len p some has =
+      let more = has.some in
+      low_part bytes (92 ∷ has.text) p.len p.line_ends has.within (escaped_low has.text p.line_ends has.escaped) has.spell (λ read n st on.
+      subst (λ (m : Mode). IsInPiece m (read ++ 92 ∷ has.text) (n + p.line_ends) st) (sym (short_later (len + p.len) (omega (arith, some, more))))
+      (short_escaped (len == 1) read has.text n p.line_ends st has.escaped on))
 
   pub short_last : (bytes rest : List ℕ) (len : ℕ) → 1 < len → 0 < length bytes → slice_index bytes 0 ≡ q → PassesPart bytes 1 0 (IsInShort q len) (StandsBefore rest)
-  short_last bytes rest len more within is = still bytes (q ∷ []) 1 within (taken_one bytes within ∙ ap (λ (c : ℕ). c ∷ []) is) (λ read n st on.
+  short_last bytes rest len more within is = low_still bytes (q ∷ []) 1 within quote_low (taken_one bytes within ∙ ap (λ (c : ℕ). c ∷ []) is) (λ read n st on.
       stands rest (read ++ q ∷ []) n st
       (closes (modes.Inside q) read n st (λ s. ap (moved (scanned s.done (modes.Inside q) s.held) q) (inside_quote q)) (subst (λ (m : Mode). IsInPiece m read n st) (short_later len more) on)))
 
   -- a string of three quotes begins
   begun_long : (read : List ℕ) (n : ℕ) (st : List Bracket) → StringBegins q read n st → IsInLong q (read ++ q ∷ q ∷ q ∷ []) n st
   begun_long read n st one =
-      let two = grows (modes.Opened q) (modes.Empty q) q n (read ++ q ∷ []) n st (λ s. ap (moved (scanned s.done (modes.Opened q) s.held) q) (opened_quote q)) (quote_held (read ++ q ∷ []) n one.come.holds) one in
-      let three = grows (modes.Empty q) (modes.Long q) q n ((read ++ q ∷ []) ++ q ∷ []) n st (λ s. ap (moved (scanned s.done (modes.Empty q) s.held) q) (empty_quote q)) (quote_held ((read ++ q ∷ []) ++ q ∷ []) n two.come.holds) two in
+      let two = grows (modes.Opened q) (modes.Empty q) q n (read ++ q ∷ []) n st (λ done held. ap (moved (scanned done (modes.Opened q) held) q) (opened_quote q)) (quote_held (read ++ q ∷ []) n one.come.holds) one in
+      let three = grows (modes.Empty q) (modes.Long q) q n ((read ++ q ∷ []) ++ q ∷ []) n st (λ done held. ap (moved (scanned done (modes.Empty q) held) q) (empty_quote q)) (quote_held ((read ++ q ∷ []) ++ q ∷ []) n two.come.holds) two in
       subst (λ (t : List ℕ). IsInLong q t n st) (append_assoc (read ++ q ∷ []) (q ∷ []) (q ∷ []) ∙ append_assoc read (q ∷ []) (q ∷ q ∷ [])) three
 
   -- a quote of its text
   lone : (read : List ℕ) (n : ℕ) (st : List Bracket) → IsInLong q read n st → IsInPiece (modes.LongOne q) (read ++ q ∷ []) n st
-  lone read n st on = grows (modes.Long q) (modes.LongOne q) q n read n st (λ s. ap (moved (scanned s.done (modes.Long q) s.held) q) (long_quote q)) (quote_held read n on.come.holds) on
+  lone read n st on = grows (modes.Long q) (modes.LongOne q) q n read n st (λ done held. ap (moved (scanned done (modes.Long q) held) q) (long_quote q)) (quote_held read n on.come.holds) on
 
   -- its last quotes
   closed_long : (read : List ℕ) (n : ℕ) (st : List Bracket) → IsInLong q read n st → GoesOnAfter (read ++ q ∷ q ∷ q ∷ []) n st
   closed_long read n st on =
       let one = lone read n st on in
-      let two = grows (modes.LongOne q) (modes.LongTwo q) q n (read ++ q ∷ []) n st (λ s. ap (moved (scanned s.done (modes.LongOne q) s.held) q) (one_quote q)) (quote_held (read ++ q ∷ []) n one.come.holds) one in
+      let two = grows (modes.LongOne q) (modes.LongTwo q) q n (read ++ q ∷ []) n st (λ done held. ap (moved (scanned done (modes.LongOne q) held) q) (one_quote q)) (quote_held (read ++ q ∷ []) n one.come.holds) one in
       subst (λ (t : List ℕ). GoesOnAfter t n st) (append_assoc (read ++ q ∷ []) (q ∷ []) (q ∷ []) ∙ append_assoc read (q ∷ []) (q ∷ q ∷ []))
       (closes (modes.LongTwo q) ((read ++ q ∷ []) ++ q ∷ []) n st (λ s. ap (moved (scanned s.done (modes.LongTwo q) s.held) q) (two_closes q)) two)
 
-  -- LF
-  feed : (read : List ℕ) (n : ℕ) (st : List Bracket) → IsInLong q read n st → IsInLong q (read ++ 10 ∷ []) (n + 1) st
-  feed read n st on = grows (modes.Long q) (modes.Long q) 10 (n + 1) read n st (λ s. ap (moved (scanned s.done (modes.Long q) s.held) 10) (long_other q 10 (feed-not-quote q quote) feed-plain)) (holds_feed read n on.come.holds) on
+  -- a line end, and one after a quote of its text
+  feed_in_long : Steps (modes.Long q) 10 (modes.Long q)
+  feed_in_long done held = ap (moved (scanned done (modes.Long q) held) 10) (long_other q 10 (feed-not-quote q quote) feed-plain)
 
-  lone_feed : (read : List ℕ) (n : ℕ) (st : List Bracket) → IsInLong q read n st → IsInLong q (read ++ q ∷ 10 ∷ []) (n + 1) st
-  lone_feed read n st on =
+  line_end_in_long : (returned : Bool) (read : List ℕ) (n : ℕ) (st : List Bracket) → IsInLong q read n st → IsInLong q (read ++ line_end_of returned) (n + 1) st
+  line_end_in_long returned read n st on =
+      line_end_grows (modes.Long q) (modes.Long q) (modes.Long q) returned read n st feed_in_long
+      (λ done held. ap (moved (scanned done (modes.Long q) held) 13) (long_other q 13 (return-not-quote q quote) return-plain)) feed_in_long on
+
+  lone_line_end : (returned : Bool) (read : List ℕ) (n : ℕ) (st : List Bracket) → IsInLong q read n st → IsInLong q (read ++ q ∷ line_end_of returned) (n + 1) st
+  lone_line_end returned read n st on =
+      subst (λ (t : List ℕ). IsInLong q t (n + 1) st) (append_assoc read (q ∷ []) (line_end_of returned))
+      (line_end_grows (modes.LongOne q) (modes.Long q) (modes.Long q) returned (read ++ q ∷ []) n st
+      (λ done held. ap (moved (scanned done (modes.LongOne q) held) 10) (one_other q 10 (feed-not-quote q quote) feed-plain))
+      (λ done held. ap (moved (scanned done (modes.LongOne q) held) 13) (one_other q 13 (return-not-quote q quote) return-plain)) feed_in_long (lone read n st on))
+
+  -- text after such a quote
+  lone_text : (text read : List ℕ) (n : ℕ) (st : List Bracket) → 0 < byte_len text → all_scalars text ≡ true → list_all (is_body_byte q) text ≡ true → IsInLong q read n st → IsInLong q (read ++ q ∷ text) n st
+  lone_text [] read n st some scalars all on = absurd (omega (arith, some))
+  lone_text (c ∷ cs) read n st some scalars all on =
+      let parts = and_parts (is_body_byte q c) (list_all (is_body_byte q) cs) all in
+      let each = and_parts _ (all_scalars cs) scalars in
+      let unlike = body_parts q c parts.0 in
       let one = lone read n st on in
-      subst (λ (t : List ℕ). IsInLong q t (n + 1) st) (append_assoc read (q ∷ []) (10 ∷ []))
-      (grows (modes.LongOne q) (modes.Long q) 10 (n + 1) (read ++ q ∷ []) n st (λ s. ap (moved (scanned s.done (modes.LongOne q) s.held) 10) (one_other q 10 (feed-not-quote q quote) feed-plain)) (holds_feed (read ++ q ∷ []) n one.come.holds) one)
-
-  -- a byte of its text
-  long_byte : (c : ℕ) → is_text_byte q c ≡ true → (read : List ℕ) (n : ℕ) (st : List Bracket) → IsInLong q read n st → IsInLong q (read ++ c ∷ []) n st
-  long_byte c is read n st on =
-      let parts = body_parts q c (text_body q c is) in
-      grows (modes.Long q) (modes.Long q) c n read n st (λ s. ap (moved (scanned s.done (modes.Long q) s.held) c) (long_other q c parts.0 parts.1)) (text_held read n c is on.come.holds) on
-
-  lone_byte : (read : List ℕ) (n : ℕ) (st : List Bracket) (c : ℕ) → is_text_byte q c ≡ true → IsInLong q read n st → IsInLong q (read ++ q ∷ c ∷ []) n st
-  lone_byte read n st c is on =
-      let one = lone read n st on in
-      let parts = body_parts q c (text_body q c is) in
-      subst (λ (t : List ℕ). IsInLong q t n st) (append_assoc read (q ∷ []) (c ∷ []))
-      (grows (modes.LongOne q) (modes.Long q) c n (read ++ q ∷ []) n st (λ s. ap (moved (scanned s.done (modes.LongOne q) s.held) c) (one_other q c parts.0 parts.1)) (text_held (read ++ q ∷ []) n c is one.come.holds) one)
+      let first = grows (modes.LongOne q) (modes.Long q) c n (read ++ q ∷ []) n st (λ done held. ap (moved (scanned done (modes.LongOne q) held) c) (one_other q c unlike.0 unlike.1)) (text_held (read ++ q ∷ []) n c (and_from _ _ each.0 refl) parts.0 one.come.holds) one in
+      subst (λ (t : List ℕ). IsInLong q t n st) (append_assoc (read ++ q ∷ []) (c ∷ []) cs ∙ append_assoc read (q ∷ []) (c ∷ cs))
+      (goes_on (modes.Long q) ((read ++ q ∷ []) ++ c ∷ []) cs n st each.1 parts.1 first)
 
   -- its parts, as the code knows them
   pub long_first : (bytes : List ℕ) → BeginsLong q bytes → PassesPart bytes 3 0 (StringBegins q) (IsInLong q)
-  long_first bytes long = still bytes (q ∷ q ∷ q ∷ []) 3 long.within long.spell begun_long
+  long_first bytes long = low_still bytes (q ∷ q ∷ q ∷ []) 3 long.within quotes_low long.spell begun_long
 
   pub long_last : (bytes rest : List ℕ) → BeginsLong q bytes → PassesPart bytes 3 0 (IsInLong q) (StandsBefore rest)
-  long_last bytes rest long = still bytes (q ∷ q ∷ q ∷ []) 3 long.within long.spell (λ read n st on. stands rest (read ++ q ∷ q ∷ q ∷ []) n st (closed_long read n st on))
+  long_last bytes rest long = low_still bytes (q ∷ q ∷ q ∷ []) 3 long.within quotes_low long.spell (λ read n st on. stands rest (read ++ q ∷ q ∷ q ∷ []) n st (closed_long read n st on))
 
-  pub long_run : (bytes : List ℕ) (len : ℕ) → IsRunOf (is_text_byte q) bytes len → PassesPart bytes len 0 (IsInLong q) (IsInLong q)
-  long_run bytes len is = still bytes (take len bytes) len is.within refl (λ read n st. text_run (modes.Long q) long_byte (take len bytes) read n st (all_pass (is_text_byte q) bytes len is.within is.each))
+  pub long_run : (bytes : List ℕ) (k : ℕ) → Spans (is_body_byte q) bytes k → PassesPart bytes k 0 (IsInLong q) (IsInLong q)
+  long_run bytes k is = still bytes is.utf8.0 k is.run.within is.utf8.1.1 (λ read n st on. goes_on (modes.Long q) read is.utf8.0 n st is.utf8.1.0 (spans_stay bytes k is) on)
 
-  pub feed_part : (bytes : List ℕ) → 1 < length bytes → slice_index bytes 0 ≡ 10 → PassesPart bytes 1 1 (IsInLong q) (IsInLong q)
-  feed_part bytes within is = part bytes (10 ∷ []) 1 1 (omega (arith, within)) (taken_one bytes (omega (arith, within)) ∙ ap (λ (c : ℕ). c ∷ []) is) feed
+  pub line_end_part : (bytes : List ℕ) (len : ℕ) → BeginsLineEnd bytes len → Passes bytes (record { len = len; line_ends = 1 }) (IsInLong q) (IsInLong q)
+  line_end_part bytes len ends =
+      let some = ends.some in
+      record {
+        some = ends.some;
+        few = omega (arith, some);
+        part = low_part bytes (line_end_of ends.returned) len 1 ends.within (line_end_low ends.returned) ends.spell (line_end_in_long ends.returned);
+      }
 
-  two_are : (bytes : List ℕ) (c : ℕ) → 1 < length bytes → slice_index bytes 0 ≡ q → slice_index bytes 1 ≡ c → take 2 bytes ≡ q ∷ c ∷ []
-  two_are bytes c within first second = taken_two bytes within ∙ ap (λ (d : ℕ). d ∷ slice_index bytes 1 ∷ []) first ∙ ap (λ (d : ℕ). q ∷ d ∷ []) second
+  pub lone_line_end_part : (bytes : List ℕ) (len : ℕ) → 0 < length bytes → slice_index bytes 0 ≡ q → HasLineEnd (take (length bytes - 1) (drop 1 bytes)) (Some len) → Passes bytes (record { len = 1 + len; line_ends = 1 }) (IsInLong q) (IsInLong q)
+  lone_line_end_part bytes len some first found =
+      let ends : BeginsLineEnd (drop 1 bytes) len = subst (λ (t : List ℕ). BeginsLineEnd t len) (rest_is bytes 1) found in
+      let room = ends.within in
+      record {
+        some = omega arith;
+        few = omega arith;
+        part = low_part bytes (q ∷ line_end_of ends.returned) (1 + len) 1 (omega (arith, room, some, length-drop 1 bytes)) (and_from _ _ (is_low_from q (quote_ascii q quote)) (line_end_low ends.returned))
+            (first_then bytes q len some first ∙ ap (λ t. q ∷ t) ends.spell) (lone_line_end ends.returned);
+      }
 
-  pub lone_feed_part : (bytes : List ℕ) → 1 < length bytes → slice_index bytes 0 ≡ q → slice_index bytes 1 ≡ 10 → PassesPart bytes 2 1 (IsInLong q) (IsInLong q)
-  lone_feed_part bytes within first second = part bytes (q ∷ 10 ∷ []) 2 1 within (two_are bytes 10 within first second) lone_feed
+  pub lone_text_part : (bytes : List ℕ) (len : ℕ) → 0 < length bytes → slice_index bytes 0 ≡ q → 0 < len → Spans (is_body_byte q) (take (length bytes - 1) (drop 1 bytes)) len → Passes bytes (record { len = 1 + len; line_ends = 0 }) (IsInLong q) (IsInLong q)
+  lone_text_part bytes len some first more found =
+      let is : Spans (is_body_byte q) (drop 1 bytes) len = subst (λ (t : List ℕ). Spans (is_body_byte q) t len) (rest_is bytes 1) found in
+      let room = is.run.within in
+      let size = spans_size (drop 1 bytes) len is in
+      record {
+        some = omega arith;
+        few = omega arith;
+        part = still bytes (q ∷ is.utf8.0) (1 + len) (omega (arith, room, some, length-drop 1 bytes))
+            (ap (λ t. t ++ encode_utf8_all is.utf8.0) (encode_ascii q (quote_ascii q quote)) ∙ ap (λ t. q ∷ t) is.utf8.1.1 ∙ sym (first_then bytes q len some first))
+            (λ read n st on. lone_text is.utf8.0 read n st (omega (arith, more, size)) is.utf8.1.0 (spans_stay (drop 1 bytes) len is) on);
+      }
 
-  pub lone_part : (bytes : List ℕ) → 1 < length bytes → slice_index bytes 0 ≡ q → is_text_byte q (slice_index bytes 1) ≡ true → PassesPart bytes 2 0 (IsInLong q) (IsInLong q)
-  lone_part bytes within first second = still bytes (q ∷ slice_index bytes 1 ∷ []) 2 within (two_are bytes (slice_index bytes 1) within first refl) (λ read n st. lone_byte read n st (slice_index bytes 1) second)
+  long_escaped : (read text : List ℕ) (n feeds : ℕ) (st : List Bracket) → IsEscaped text feeds → IsInLong q read n st → IsInLong q (read ++ 92 ∷ text) (n + feeds) st
+  long_escaped read text n feeds st escaped on =
+      subst (λ (t : List ℕ). IsInLong q t (n + feeds) st) (append_assoc read (92 ∷ []) text)
+      (escaped_leads (modes.LongEscape q) (modes.Long q) (modes.Long q)
+      (λ c other done held. ap (moved (scanned done (modes.LongEscape q) held) c) (long_escape q c))
+      (λ done held. ap (moved (scanned done (modes.LongEscape q) held) 13) (long_escape q 13)) feed_in_long
+      (read ++ 92 ∷ []) text n feeds st escaped (grows (modes.Long q) (modes.LongEscape q) 92 n read n st (λ done held. ap (moved (scanned done (modes.Long q) held) 92) (long_slash q quote)) (holds_one read 92 n on.come.holds (lit< tt) slash_whole) on))
 
-  long_escaped : (read : List ℕ) (n c feeds : ℕ) (st : List Bracket) → c < 128 → is_return c ≡ false → feeds ≡ (if c == 10 then 1 else 0) → IsInLong q read n st → IsInLong q (read ++ 92 ∷ c ∷ []) (n + feeds) st
-  long_escaped read n c feeds st low return count on =
-      escaped (modes.Long q) (modes.LongEscape q) (modes.Long q) read n c feeds st (λ s. ap (moved (scanned s.done (modes.Long q) s.held) 92) (long_slash q quote)) (λ s. ap (moved (scanned s.done (modes.LongEscape q) s.held) c) (long_escape q c)) low return count on
-
-  pub long_escape_part : (bytes : List ℕ) (p : Passed) → HasEscape bytes (Some p) → PassesPart bytes p.len p.line_ends (IsInLong q) (IsInLong q)
-  long_escape_part bytes p (two, (c, escape)) =
-      part bytes (92 ∷ c ∷ []) p.len p.line_ends (omega (arith, two, escape.within)) (ap (λ (k : ℕ). take k bytes) two ∙ escape.spell) (λ read n st. long_escaped read n c p.line_ends st escape.low escape.unreturned escape.count)
-
-no_return : (c : ℕ) → (c ≡ 13 → ⊥) → is_return c ≡ false
-no_return c other = false_from_ne_true (is_return c) (λ h. other (return_is c h))
-
-byte_is : (b : Bool) → bool_byte b ≡ (if b then 1 else 0)
-byte_is true = refl
-byte_is false = refl
-
-pub escape_is : (bytes : List ℕ) → 1 < length bytes → slice_index bytes 0 ≡ 92 → (slice_index bytes 1 ≡ 13 → ⊥) → slice_index bytes 1 < 128 → BeginsEscape bytes (slice_index bytes 1) (bool_byte (slice_index bytes 1 == 10))
-escape_is bytes within first other low = begins_escape bytes _ within first low (no_return (slice_index bytes 1) other) (byte_is (slice_index bytes 1 == 10))
+  long_escape_part : (bytes : List ℕ) (p : Passed) → HasEscape bytes (Some p) → PassesPart bytes p.len p.line_ends (IsInLong q) (IsInLong q)
+  long_escape_part bytes p has =
+      low_part bytes (92 ∷ has.text) p.len p.line_ends has.within (escaped_low has.text p.line_ends has.escaped) has.spell (λ read n st. long_escaped read has.text n p.line_ends st has.escaped)
 
 pub escape_few : (bytes : List ℕ) (p : Passed) → HasEscape bytes (Some p) → p.line_ends ≤ p.len
-escape_few bytes p (two, (c, escape)) = by (c == 10) escape.count
-  where
-    by : (b : Bool) → p.line_ends ≡ (if b then 1 else 0) → p.line_ends ≤ p.len
-    by true is = omega (arith, is, two)
-    by false is = omega (arith, is, two)
+escape_few bytes p has =
+    let some = has.some in
+    let few = has.few in
+    omega (arith, some, few)
 
 pub part_of_escape : (q : ℕ) → is_quote q ≡ true → (bytes : List ℕ) (found : Option Passed) → HasEscape bytes found → PassesOrNot bytes found (IsInLong q) (IsInLong q)
 part_of_escape q quote bytes None has = tt
-part_of_escape q quote bytes (Some p) has = record { some = omega (arith, has.0); few = escape_few bytes p has; part = long_escape_part q quote bytes p has }
-
--- the part of a string of three quotes, as the code knows it
-pub long_part : (q : ℕ) (bytes : List ℕ) (len feeds : ℕ) → 0 < len → feeds ≤ len → PassesPart bytes len feeds (IsInLong q) (IsInLong q) → Passes bytes (record { len = len; line_ends = feeds }) (IsInLong q) (IsInLong q)
-long_part q bytes len feeds some few part = record { some = some; few = few; part = part }
+part_of_escape q quote bytes (Some p) has = record { some = has.some; few = escape_few bytes p has; part = long_escape_part q quote bytes p has }
 
 -- a short string as far as the code has come in it
 module _ (bytes : List ℕ) (quote : is_quote (slice_index bytes 0) ≡ true) where
@@ -460,8 +534,8 @@ module _ (bytes : List ℕ) (quote : is_quote (slice_index bytes 0) ≡ true) wh
   pub short_begun : 1 < length bytes → PassesPart bytes 1 0 (StringBegins own) (IsInShort own 1)
   short_begun within = short_first own quote bytes (omega (arith, within)) refl
 
-  pub short_more : (len n k : ℕ) → 1 ≤ len → PassesPart bytes len n (StringBegins own) (IsInShort own len) → IsRunOf (is_text_byte own) (take (length bytes - len) (drop len bytes)) k → PassesPart bytes (len + k) n (StringBegins own) (IsInShort own (len + k))
-  short_more len n k some read run = after bytes len n k 0 n (omega arith) read (short_run own quote (drop len bytes) len k some (subst (λ (t : List ℕ). IsRunOf (is_text_byte own) t k) (rest_is bytes len) run))
+  pub short_more : (len n k : ℕ) → 1 ≤ len → PassesPart bytes len n (StringBegins own) (IsInShort own len) → Spans (is_body_byte own) (take (length bytes - len) (drop len bytes)) k → PassesPart bytes (len + k) n (StringBegins own) (IsInShort own (len + k))
+  short_more len n k some read run = after bytes len n k 0 n (omega arith) read (short_run own quote (drop len bytes) len k some (subst (λ (t : List ℕ). Spans (is_body_byte own) t k) (rest_is bytes len) run))
 
   not_first : (len : ℕ) → 1 ≤ len → slice_index bytes len ≡ own → (slice_index bytes 1 ≡ own → ⊥) → 1 < len
   not_first len some is holds = by (nat_lt 1 len) refl
@@ -487,8 +561,8 @@ module _ (bytes : List ℕ) (quote : is_quote (slice_index bytes 0) ≡ true) wh
   pub long_begun : BeginsLong own bytes → PassesPart bytes 3 0 (StringBegins own) (IsInLong own)
   long_begun long = long_first own quote bytes long
 
-  pub long_more : (len n k : ℕ) → PassesPart bytes len n (StringBegins own) (IsInLong own) → IsRunOf (is_text_byte own) (take (length bytes - len) (drop len bytes)) k → PassesPart bytes (len + k) n (StringBegins own) (IsInLong own)
-  long_more len n k read run = after bytes len n k 0 n (omega arith) read (long_run own quote (drop len bytes) k (subst (λ (t : List ℕ). IsRunOf (is_text_byte own) t k) (rest_is bytes len) run))
+  pub long_more : (len n k : ℕ) → PassesPart bytes len n (StringBegins own) (IsInLong own) → Spans (is_body_byte own) (take (length bytes - len) (drop len bytes)) k → PassesPart bytes (len + k) n (StringBegins own) (IsInLong own)
+  long_more len n k read run = after bytes len n k 0 n (omega arith) read (long_run own quote (drop len bytes) k (subst (λ (t : List ℕ). Spans (is_body_byte own) t k) (rest_is bytes len) run))
 
   pub long_ended : (len n : ℕ) → PassesPart bytes len n (StringBegins own) (IsInLong own) → n ≤ len → BeginsLong own (take (length bytes - len) (drop len bytes)) → Passes bytes (record { len = len + 3; line_ends = n }) (StringBegins own) (StandsBefore (drop (len + 3) bytes))
   long_ended len n read few long = record {
@@ -505,7 +579,7 @@ module _ (bytes : List ℕ) (quote : is_quote (slice_index bytes 0) ≡ true) wh
   empty_is within second third = record {
     some = omega arith;
     few = omega arith;
-    part = still bytes (own ∷ own ∷ []) 2 (omega (arith, within)) (taken_two bytes (omega (arith, within)) ∙ ap (λ (c : ℕ). own ∷ c ∷ []) second) (λ read n st on.
+    part = low_still bytes (own ∷ own ∷ []) 2 (omega (arith, within)) (quotes_two own quote) (taken_two bytes (omega (arith, within)) ∙ ap (λ (c : ℕ). own ∷ c ∷ []) second) (λ read n st on.
         subst (λ (t : List ℕ). StandsBefore t (read ++ own ∷ own ∷ []) n st) (sym (drop_more bytes 2 0 within)) (empty own quote read (drop 3 bytes) (slice_index bytes 2) n st third on));
   }
 
@@ -524,11 +598,13 @@ string_at bytes at (Some p) within quote plain has =
         few = is.few;
         part = record {
           within = room;
+          run = is.part.run;
+          spell = is.part.spell;
           leads = λ read n st on.
               let q = slice_index bytes at in
               let before : StandsBefore (q ∷ drop (at + 1) bytes) read n st = subst (λ (t : List ℕ). StandsBefore t read n st) (drop_more bytes at 0 within) on.2 in
               let begins : StringBegins (slice_index rest 0) read n st = subst (λ (c : ℕ). StringBegins c read n st) (sym first) (string_begins q quote (drop (at + 1) bytes) read n st (ap is_plain_prefix on.0 ∙ plain) before) in
-              subst (λ (t : List ℕ). StandsBefore t (read ++ take p.len rest) (n + p.line_ends) st) (drop-drop p.len at bytes) (is.part.leads read n st begins);
+              subst (λ (t : List ℕ). StandsBefore t (read ++ is.part.run) (n + p.line_ends) st) (drop-drop p.len at bytes) (is.part.leads read n st begins);
         };
       },
     )

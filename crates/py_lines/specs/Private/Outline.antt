@@ -1,8 +1,8 @@
 -- Simple lines that bytes begin with, which are passed over: what the machine has come to in such a line, after the text's first.
-use Rattle.std.specs.Prelude.{◌≡◌, ℕ, ◌+◌, ◌-◌, ◌<◌, ◌≤◌, ◌⊎◌, ◌==◌, ◌||◌, Bool, true, false, if◌then◌else◌, Option, None, Some, List, [], ◌∷◌, ◌++◌, nat_lt, length, take, drop, slice_index}
-use Rattle.std.specs.List.{list_all}
+use Rattle.std.specs.Prelude.{◌≡◌, ℕ, ◌+◌, ◌-◌, ◌<◌, ◌≤◌, ◌⊎◌, ◌==◌, ◌||◌, Bool, true, false, if◌then◌else◌, Option, None, Some, List, [], ◌∷◌, ◌++◌, length, take, drop, slice_index, encode_utf8_all}
+use Rattle.std.specs.Str.{all_scalars}
 use Rattle.py_lines.specs.Balance.{closing_of}
-use Rattle.py_lines.specs.Character.{is_quote, is_return}
+use Rattle.py_lines.specs.Character.{is_break, is_quote, is_return}
 use Rattle.py_lines.specs.Piece.{Piece, ends}
 use Rattle.py_lines.specs.LogicalLine.{line_ends}
 use Rattle.py_lines.specs.Private.Machine.{Scanned, fresh, Bracket, brackets_of, first_spelling, spelling_with}
@@ -21,20 +21,36 @@ use Rattle.py_lines.specs.declared.prefix.Prefix.{Prefix}
 use Rattle.py_lines.specs.declared.prefix.Prefix.TheVariants as prefixes
 use Rattle.py_lines.specs.Private.Marks.{HasMarks, is_plain}
 
--- the bytes are ASCII, and hold so many line ends, each of them LF
-pub record HoldsFeeds (read : List ℕ) (n : ℕ) : Type 0 where
-  pub low : list_all (λ c. nat_lt c 128) read ≡ true
+-- a line end: CR LF, or LF alone
+abbrev pub line_end_of : Bool → List ℕ
+line_end_of true = 13 ∷ 10 ∷ []
+line_end_of false = 10 ∷ []
+
+-- the bytes begin with a line end of so many of them
+pub record BeginsLineEnd (bytes : List ℕ) (len : ℕ) : Type 0 where
+  pub some : 0 < len
+  pub within : len ≤ length bytes
+  pub returned : Bool
+  pub spell : take len bytes ≡ line_end_of returned
+
+abbrev pub HasLineEnd : List ℕ → Option ℕ → Type 0
+HasLineEnd bytes None = Unit {0}
+HasLineEnd bytes (Some len) = BeginsLineEnd bytes len
+
+-- the characters hold so many line ends, and CR doesn't end them
+pub record HoldsLineEnds (read : List ℕ) (n : ℕ) : Type 0 where
+  pub scalars : all_scalars read ≡ true
   pub count : line_ends read ≡ n
   pub unreturned : ends is_return read ≡ false
 
--- the machine has gone through such bytes of a line, and stands so, where these brackets are open
+-- the machine has gone through such characters of a line, and stands so, where these brackets are open
 pub record HasCome (read : List ℕ) (n : ℕ) (st : List Bracket) (s : Scanned) : Type 0 where
   pub steps : scan_steps (Some (line_start modes.Free)) read ≡ Some s
   pub stacked : brackets_of s.done ≡ Some st
   pub one_line : EndsNoLine 0 s.done
-  pub holds : HoldsFeeds read n
+  pub holds : HoldsLineEnds read n
 
--- the spelling of the word that bytes end with, if they end with a word: with one more byte, and with more of them
+-- the spelling of the word of ASCII that a text ends with, if it ends with one: with one more character or byte, and with more of them
 abbrev pub tail_with : Option Spelling → ℕ → Option Spelling
 tail_with None c = if is_ascii_word c then Some (first_spelling c) else None
 tail_with (Some s) c = if is_ascii_word c then Some (spelling_with s c) else None
@@ -44,7 +60,7 @@ tail_on tail [] = tail
 tail_on tail (c ∷ cs) = tail_on (tail_with tail c) cs
 
 abbrev pub tail_of : List ℕ → Option Spelling
-tail_of bytes = tail_on None bytes
+tail_of text = tail_on None text
 
 -- whether a quote after such a word begins a string without fields
 abbrev pub is_plain_prefix : Option Spelling → Bool
@@ -62,13 +78,13 @@ abbrev pub IsTail : Option Spelling → Mode → Type 0
 IsTail None m = is_apart_mode m ≡ true
 IsTail (Some s) m = m ≡ modes.Word s
 
--- the line goes on after these bytes, and the word is open that they end with
+-- the line goes on after these characters, and the word is open that they end with
 pub record GoesOnAfter (read : List ℕ) (n : ℕ) (st : List Bracket) : Type 0 where
   pub state : Scanned
   pub come : HasCome read n st state
   pub tail : IsTail (tail_of read) state.mode
 
--- the piece that is open after these bytes ends before this character
+-- the piece that is open after these characters ends before this byte
 pub record EndsBefore (c : ℕ) (read : List ℕ) (n : ℕ) (st : List Bracket) : Type 0 where
   pub state : Scanned
   pub come : HasCome read n st state
@@ -81,7 +97,7 @@ abbrev pub StandsBefore : List ℕ → List ℕ → ℕ → List Bracket → Typ
 StandsBefore [] read n st = GoesOnAfter read n st
 StandsBefore (c ∷ rest) read n st = GoesOnAfter read n st ⊎ EndsBefore c read n st
 
--- after these bytes of a line such a piece is open
+-- after these characters of a line such a piece is open
 pub record IsInPiece (m : Mode) (read : List ℕ) (n : ℕ) (st : List Bracket) : Type 0 where
   pub done : List Piece
   pub held : List ℕ
@@ -91,10 +107,12 @@ pub record IsInPiece (m : Mode) (read : List ℕ) (n : ℕ) (st : List Bracket) 
 abbrev pub StringBegins : ℕ → List ℕ → ℕ → List Bracket → Type 0
 StringBegins q read = IsInPiece (modes.Opened q) (read ++ q ∷ [])
 
--- wherever a line stands so, it comes to stand so after so many of the bytes, which hold so many line ends
+-- wherever a line stands so, it comes to stand so after so many of the bytes, which spell characters with so many line ends
 pub record PassesPart (bytes : List ℕ) (len feeds : ℕ) (stands comes : List ℕ → ℕ → List Bracket → Type 0) : Type 0 where
   pub within : len ≤ length bytes
-  pub leads : (read : List ℕ) (n : ℕ) (st : List Bracket) → stands read n st → comes (read ++ take len bytes) (n + feeds) st
+  pub run : List ℕ
+  pub spell : encode_utf8_all run ≡ take len bytes
+  pub leads : (read : List ℕ) (n : ℕ) (st : List Bracket) → stands read n st → comes (read ++ run) (n + feeds) st
 
 -- a part that isn't empty
 pub record Passes (bytes : List ℕ) (p : Passed) (stands comes : List ℕ → ℕ → List Bracket → Type 0) : Type 0 where
@@ -123,17 +141,24 @@ pub record BeginsLong (q : ℕ) (bytes : List ℕ) : Type 0 where
   pub within : 3 ≤ length bytes
   pub spell : take 3 bytes ≡ q ∷ q ∷ q ∷ []
 
--- the bytes begin with a backslash and this byte, which it escapes
-pub record BeginsEscape (bytes : List ℕ) (c feeds : ℕ) : Type 0 where
-  pub within : 2 ≤ length bytes
-  pub spell : take 2 bytes ≡ 92 ∷ c ∷ []
-  pub low : c < 128
-  pub unreturned : is_return c ≡ false
-  pub count : feeds ≡ (if c == 10 then 1 else 0)
+-- a backslash escapes this text: a line end, or one other character of ASCII
+abbrev pub IsEscaped : List ℕ → ℕ → Type 0
+IsEscaped text feeds =
+    ((returned : Bool) × (text ≡ line_end_of returned) × (feeds ≡ 1))
+    ⊎ ((c : ℕ) × (text ≡ c ∷ []) × (c < 128) × (is_break c ≡ false) × (feeds ≡ 0))
+
+-- the bytes begin with a backslash and what it escapes
+pub record BeginsEscape (bytes : List ℕ) (p : Passed) : Type 0 where
+  pub some : 0 < p.len
+  pub within : p.len ≤ length bytes
+  pub few : p.line_ends ≤ 1
+  pub text : List ℕ
+  pub spell : take p.len bytes ≡ 92 ∷ text
+  pub escaped : IsEscaped text p.line_ends
 
 abbrev pub HasEscape : List ℕ → Option Passed → Type 0
 HasEscape bytes None = Unit {0}
-HasEscape bytes (Some p) = (p.len ≡ 2) × ((c : ℕ) × BeginsEscape bytes c p.line_ends)
+HasEscape bytes (Some p) = BeginsEscape bytes p
 
 -- the piece at a byte of a line, which stands there so; it is known how the bytes up to it end, and that few brackets are open
 abbrev pub StandsAt : List ℕ → ℕ → List ℕ → ℕ → List Bracket → Type 0
@@ -155,21 +180,22 @@ abbrev pub HasString : List ℕ → Option Passed → Type 0
 HasString bytes None = Unit {0}
 HasString bytes (Some p) = Passes bytes p (StringBegins (slice_index bytes 0)) (StandsBefore (drop p.len bytes))
 
--- the bytes are a line, which its line end, LF, has ended
+-- the characters are a line, which its line end has ended
 pub record IsWholeLine (read : List ℕ) (n : ℕ) : Type 0 where
   pub body : List Piece
   pub last : Piece
-  pub are : AreLine body last 1
+  pub len : ℕ
+  pub are : AreLine body last len
   pub steps : scan_steps (Some (line_start modes.Free)) read ≡ Some (fresh (body ++ last ∷ []))
-  pub holds : HoldsFeeds read n
+  pub holds : HoldsLineEnds read n
   pub tail : tail_of read ≡ None
 
--- the bytes up to an LF, and with it, are a line where no bracket is open; else the line goes on
-abbrev pub IsAfterFeed : List Bracket → List ℕ → ℕ → Type 0
-IsAfterFeed [] read n = IsWholeLine read n
-IsAfterFeed (b ∷ bs) read n = GoesOnAfter read n (b ∷ bs)
+-- the characters up to a line end, and with it, are a line where no bracket is open; else the line goes on
+abbrev pub IsAfterLineEnd : List Bracket → List ℕ → ℕ → Type 0
+IsAfterLineEnd [] read n = IsWholeLine read n
+IsAfterLineEnd (b ∷ bs) read n = GoesOnAfter read n (b ∷ bs)
 
--- bytes that are a line come before bytes that are lines, and so are these together
+-- characters that are a line come before others that are lines, and so are these together
 pub record BeginsWithLine (rest : List ℕ → ℕ → Type 0) (line read : List ℕ) (n : ℕ) : Type 0 where
   pub later : List ℕ
   pub own : ℕ
@@ -180,7 +206,7 @@ pub record BeginsWithLine (rest : List ℕ → ℕ → Type 0) (line read : List
   pub whole : IsWholeLine line own
   pub lines : rest later more
 
--- the bytes are these lines, one after another
+-- the characters are these lines, one after another
 abbrev pub AreWholeLines : List (List ℕ) → List ℕ → ℕ → Type 0
 AreWholeLines [] read n = (read ≡ []) × (n ≡ 0)
 AreWholeLines (line ∷ lines) read n = BeginsWithLine (AreWholeLines lines) line read n
@@ -188,8 +214,10 @@ AreWholeLines (line ∷ lines) read n = BeginsWithLine (AreWholeLines lines) lin
 -- the bytes begin with such lines
 pub record BeginWithLines (bytes : List ℕ) (lines : Passed) : Type 0 where
   pub within : lines.len ≤ length bytes
+  pub read : List ℕ
+  pub spell : encode_utf8_all read ≡ take lines.len bytes
   pub texts : List (List ℕ)
-  pub whole : AreWholeLines texts (take lines.len bytes) lines.line_ends
+  pub whole : AreWholeLines texts read lines.line_ends
 
 -- the bytes of the line that begins after these lines, up to this byte
 abbrev pub line_up_to : List ℕ → Passed → ℕ → List ℕ
@@ -202,7 +230,9 @@ pub record HasComeTo (bytes : List ℕ) (lines : Passed) (at n : ℕ) (st : List
   pub lines_are : BeginWithLines bytes lines
   pub more : ℕ
   pub count : n ≡ lines.line_ends + more
-  pub stands : StandsBefore (drop at bytes) (line_up_to bytes lines at) more st
+  pub read : List ℕ
+  pub spell : encode_utf8_all read ≡ line_up_to bytes lines at
+  pub stands : StandsBefore (drop at bytes) read more st
 
 -- these bytes close the open brackets, the innermost last, from place 1 on
 abbrev pub AreClosers : List ℕ → List Bracket → Type 0
@@ -239,6 +269,12 @@ pub record IsAt (bytes : List ℕ) (at : ℕ) (o : Outline) : Type 0 where
   pub come : HasComeTo bytes o.lines at o.line_ends st
   pub special : at < length bytes → is_plain (slice_index bytes at) ≡ false
   pub marked : at < length bytes → HasMarks bytes (at + 1) o.marks
+
+-- it has come to this byte; its marks are left out of account
+pub record IsPast (bytes : List ℕ) (from : ℕ) (o : Outline) : Type 0 where
+  pub st : List Bracket
+  pub close : Close o.closers st
+  pub come : HasComeTo bytes o.lines from o.line_ends st
 
 -- or after such a byte
 pub record IsAfter (bytes : List ℕ) (from : ℕ) (o : Outline) : Type 0 where

@@ -1,6 +1,9 @@
-use Rattle.std.proofs.Common.{refl, slice_index}
-use Rattle.py_lines.proofs.SimpleLines.Strings.{escape_is}
+use Rattle.std.proofs.Common.{◌∙◌, sym}
+use Rattle.py_lines.proofs.SimpleLines.Strings.{escapes_byte, escapes_line_end}
 use Rattle.py_lines.proofs.plain_strings.escape.Goals as goal
 
+pub returns-then-not-is_break : goal.returns-then-not-is_break
+returns-then-not-is_break c = escapes_byte c.args.bytes.now c.if-bytes-lt2.false c.if-bytes-ne92.false c.if-bytes-ge128.false (sym c.is_break.ensures ∙ c.if-not-is_break.true)
+
 pub returns : goal.returns
-returns c = (refl, (slice_index c.args.bytes.now 1, escape_is c.args.bytes.now c.if-bytes-lt2.false c.if-bytes-ne92.false c.if-bytes-eq13.false c.if-bytes-ge128.false))
+returns c = escapes_line_end c.args.bytes.now c.in_ok-line_end.line_end c.if-bytes-lt2.false c.if-bytes-ne92.false c.in_ok-line_end.ensures

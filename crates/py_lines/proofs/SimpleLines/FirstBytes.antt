@@ -1,0 +1,49 @@
+-- The bytes that a slice begins with: one, two or three of them, or a line end.
+use Rattle.std.proofs.Common.{◌≡◌, ℕ, ◌+◌, ◌<◌, Bool, true, false, Some, List, [], ◌∷◌, ◌++◌, length, take, drop, slice_index, refl, ap, ◌∙◌, arith}
+use Rattle.std.specs.List.{list_all}
+use Rattle.std.proofs.Math.Seq.{take-add}
+use Rattle.py_lines.specs.Private.Outline.{BeginsLong, HasLineEnd, line_end_of}
+use Rattle.py_lines.proofs.LineScan.ShortPieces.{is_low}
+
+pub taken_one : (bytes : List ℕ) → 0 < length bytes → take 1 bytes ≡ slice_index bytes 0 ∷ []
+taken_one [] within = absurd (omega (arith, within))
+taken_one (b ∷ bs) within = refl
+
+pub taken_two : (bytes : List ℕ) → 1 < length bytes → take 2 bytes ≡ slice_index bytes 0 ∷ slice_index bytes 1 ∷ []
+taken_two [] within = absurd (omega (arith, within))
+taken_two (b ∷ bs) within = ap (λ t. b ∷ t) (taken_one bs (omega (arith, within)))
+
+pub taken_three : (bytes : List ℕ) → 2 < length bytes → take 3 bytes ≡ slice_index bytes 0 ∷ slice_index bytes 1 ∷ slice_index bytes 2 ∷ []
+taken_three [] within = absurd (omega (arith, within))
+taken_three (b ∷ bs) within = ap (λ t. b ∷ t) (taken_two bs (omega (arith, within)))
+
+-- one byte, and some after it
+pub first_then : (bytes : List ℕ) (c len : ℕ) → 0 < length bytes → slice_index bytes 0 ≡ c → take (1 + len) bytes ≡ c ∷ take len (drop 1 bytes)
+first_then bytes c len some is = take-add 1 len bytes ∙ ap (λ t. t ++ take len (drop 1 bytes)) (taken_one bytes some ∙ ap (λ (d : ℕ). d ∷ []) is)
+
+pub begins_long : (q : ℕ) (bytes : List ℕ) → 2 < length bytes → slice_index bytes 0 ≡ q → slice_index bytes 1 ≡ q → slice_index bytes 2 ≡ q → BeginsLong q bytes
+begins_long q bytes within first second third = record {
+  within = within;
+  spell = taken_three bytes within ∙ ap (λ c. c ∷ slice_index bytes 1 ∷ slice_index bytes 2 ∷ []) first ∙ ap (λ c. q ∷ c ∷ slice_index bytes 2 ∷ []) second ∙ ap (λ c. q ∷ q ∷ c ∷ []) third;
+}
+
+-- a line end
+pub feed_found : (bytes : List ℕ) → 0 < length bytes → slice_index bytes 0 ≡ 10 → HasLineEnd bytes (Some 1)
+feed_found bytes within is = record {
+  some = omega arith;
+  within = within;
+  returned = false;
+  spell = taken_one bytes within ∙ ap (λ (c : ℕ). c ∷ []) is;
+}
+
+pub returned_found : (bytes : List ℕ) → 1 < length bytes → slice_index bytes 0 ≡ 13 → slice_index bytes 1 ≡ 10 → HasLineEnd bytes (Some 2)
+returned_found bytes within first second = record {
+  some = omega arith;
+  within = within;
+  returned = true;
+  spell = taken_two bytes within ∙ ap (λ (c : ℕ). c ∷ slice_index bytes 1 ∷ []) first ∙ ap (λ (c : ℕ). 13 ∷ c ∷ []) second;
+}
+
+pub line_end_low : (returned : Bool) → list_all is_low (line_end_of returned) ≡ true
+line_end_low true = refl
+line_end_low false = refl

@@ -1,0 +1,38 @@
+-- Characters of every kind are passed over in a comment or a string, where they leave it as it is.
+use Rattle.std.proofs.Common.{◌≡◌, ℕ, ◌<◌, ◌≤◌, true, Some, List, [], ◌∷◌, ◌++◌, length, take, slice_index, sym, ap, ◌∙◌, subst, append-nil, arith}
+use Rattle.std.specs.Prelude.{encode_utf8_all}
+use Rattle.std.specs.Str.{all_scalars}
+use Rattle.std.specs.List.{list_all}
+use Rattle.std.proofs.lemmas.List.{get_or-take, length-take-le}
+use Rattle.py_lines.specs.declared.mode.Mode.{Mode}
+use Rattle.py_lines.specs.declared.mode.Mode.TheVariants as modes
+use Rattle.py_lines.specs.Private.Machine.{Bracket}
+use Rattle.py_lines.specs.Private.ScanMachine.{move_at, scan_steps}
+use Rattle.py_lines.specs.Private.Scan.{line_start}
+use Rattle.py_lines.specs.Private.Run.{HasAsciiQuote, stays}
+use Rattle.py_lines.specs.Private.Outline.{IsInPiece}
+use Rattle.py_lines.proofs.Machine.PieceSteps.{steps_by-append}
+use Rattle.py_lines.proofs.LineScan.Runs.{all_no_break, characters_stay, held_run}
+use Rattle.py_lines.proofs.SimpleLines.Code.{holds_more}
+
+-- the open piece goes on
+pub goes_on : (m : Mode) (read run : List ℕ) (n : ℕ) (st : List Bracket) → all_scalars run ≡ true → list_all (stays m) run ≡ true → IsInPiece m read n st → IsInPiece m (read ++ run) n st
+goes_on m read [] n st scalars all on = subst (λ (t : List ℕ). IsInPiece m t n st) (sym (append-nil read)) on
+goes_on m read (c ∷ cs) n st scalars all on = record {
+  done = on.done;
+  held = on.held ++ c ∷ cs;
+  come = record {
+    steps = steps_by-append move_at (Some (line_start modes.Free)) read (c ∷ cs) ∙ ap (λ o. scan_steps o (c ∷ cs)) on.come.steps ∙ held_run on.done m on.held (c ∷ cs) all;
+    stacked = on.come.stacked;
+    one_line = on.come.one_line;
+    holds = holds_more read (c ∷ cs) n on.come.holds tt scalars (all_no_break m (c ∷ cs) all);
+  };
+}
+
+-- the characters of bytes that stay
+pub stay_spelled : (m : Mode) (bytes : List ℕ) (k : ℕ) → HasAsciiQuote m → k ≤ length bytes → ((i : ℕ) → i < k → stays m (slice_index bytes i) ≡ true) → (run : List ℕ) → encode_utf8_all run ≡ take k bytes → list_all (stays m) run ≡ true
+stay_spelled m bytes k quote within each run spell =
+    let size : length (encode_utf8_all run) ≡ k = ap length spell ∙ length-take-le k bytes within in
+    characters_stay m run quote (λ i less.
+    let short : i < k = omega (arith, less, size) in
+    ap (λ (t : List ℕ). stays m (slice_index t i)) spell ∙ ap (stays m) (get_or-take k bytes i 0 short) ∙ each i short)
