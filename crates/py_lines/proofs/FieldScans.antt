@@ -1,4 +1,5 @@
 -- The scan of a string with fields keeps count of the machine with fields.
+pub mod FrameArrays
 pub mod Frames
 pub mod Moves
 pub mod Runs

@@ -19,7 +19,7 @@
 -- end, its pieces read the text; and they are shallow if each character had room. What it holds says which lists of pieces and
 -- which strings are open, and what is open can be closed, so a text is live exactly if the machine goes through it with room.
 --
--- That of specs/Private/ScanMachine.antt is the one that the code goes by, in mode.rt and field_scan.rt. To it a string with
+-- That of specs/Private/ScanMachine.antt is the one that the code goes by, in mode.rt, field_mode.rt and field_scan.rt. To it a string with
 -- fields is one open piece, and the machine with fields says how far that has come. It goes as that machine does (proofs/ScanMachine),
 -- and so is sound, and reaches the end of what is read.
 --

@@ -4,6 +4,7 @@ pub mod Machine
 pub mod FieldMachine
 pub mod ScanMachine
 pub mod FieldFaults
+pub mod Frames
 pub mod FieldScan
 pub mod FieldText
 pub mod Scan

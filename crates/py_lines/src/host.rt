@@ -10,3 +10,12 @@ pub struct StringWithFields {
     /// Whether `r` is in its prefix.
     pub is_raw: bool,
 }
+
+/// The two kinds of text that a string has outside its fields' code.
+#[derive(Clone, Copy)]
+pub enum Region {
+    /// The string's own text.
+    Literal,
+    /// The format specification of a field.
+    Specification,
+}

@@ -119,7 +119,7 @@ impl Scan {
             kind: UnitKind::Blank,
             tokens: Vec::new(alloc),
             brackets: Brackets::new(alloc),
-            fields: FieldScan::new(alloc),
+            fields: FieldScan::new(),
         }
     }
 
@@ -143,7 +143,6 @@ impl Scan {
         self.kind = UnitKind::Blank;
         self.tokens.clear();
         self.brackets.clear();
-        self.fields.clear();
     }
 
     /// One more character is read.
@@ -316,7 +315,7 @@ impl Scan {
         ensures { (t : FieldScanned)
             → StandsInString self.old t → TakesInString self.old t c result self.new }
     {
-        match self.fields.push(c, self.stop, self.brackets.len())? {
+        match self.fields.push(c, self.stop, self.brackets.len()) {
             FieldProgress::Going => {
                 self.grow(Mode::Fielded, c);
                 Ok(Progress::Going)

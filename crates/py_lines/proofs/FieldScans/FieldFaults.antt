@@ -13,26 +13,27 @@ use Rattle.py_lines.specs.FieldStrings.{Host, Place, literal}
 use Rattle.py_lines.specs.declared.fault.FaultKind.{FaultKind}
 use Rattle.py_lines.specs.declared.mode.Mode.{Mode}
 use Rattle.py_lines.specs.declared.mode.Mode.TheVariants as modes
-use Rattle.py_lines.specs.declared.field_scan.OpenField.{OpenField}
-use Rattle.py_lines.specs.declared.field_scan.Frame.{Frame}
-use Rattle.py_lines.specs.declared.field_scan.Frame.TheVariants as frame
+use Rattle.py_lines.specs.declared.frames.OpenField.{OpenField}
+use Rattle.py_lines.specs.declared.frames.Frame.{Frame}
+use Rattle.py_lines.specs.declared.frames.Frame.TheVariants as frame
 use Rattle.py_lines.specs.declared.field_scan.FieldScan.{FieldScan}
 use Rattle.py_lines.specs.Private.Machine.{Bracket, brackets_of, in_short, in_long, is_after_backslash}
 use Rattle.py_lines.specs.Private.FieldMachine.{At, after_brace, FieldMode, body, Level, FieldScanned, frames, after_open_backslash, before, text_place}
 use Rattle.py_lines.specs.Private.FieldFaults.{is_waiting, quotes_specification, cause_in, cause_place, here, piece_start, field_start, unfinished_code, unfinished_place}
-use Rattle.py_lines.specs.Private.FieldScan.{innermost_first, bracket_frames, bracket_openers, FramesFollow, none_open, IsInnermostFrame, mode_from, code_mode, Follows, unfinished_with, unfinished_round, IsUnfinishedAt}
+use Rattle.py_lines.specs.Private.FieldScan.{bracket_frames, bracket_openers, FramesFollow, none_open, mode_from, code_mode, Follows, unfinished_with, unfinished_round, IsUnfinishedAt}
+use Rattle.py_lines.specs.Private.Frames.{IsInnermostFrame}
 use Rattle.py_lines.specs.Private.ScanMachine.{IsInString}
-use Rattle.py_lines.proofs.FieldScans.Frames.{innermost_first-length, frames-length, InList, list_of, innermost_field}
+use Rattle.py_lines.proofs.FieldScans.Frames.{frames-length, InList, list_of, innermost_field}
 use Rattle.py_lines.proofs.LogicalLines.Cuts.{byte_len-append}
 
 -- so many brackets and fields are open
-pub open-length : (scan : FieldScan) (base : ℕ) (t : FieldScanned) → Follows scan base t → length scan.frames.items ≡ frames t
-open-length scan base t f = sym (innermost_first-length scan.frames.items) ∙ frames-length base t.outer t.done t.openers (innermost_first scan.frames.items) f.frames
+pub open-length : (scan : FieldScan) (base : ℕ) (t : FieldScanned) → Follows scan base t → length scan.frames ≡ frames t
+open-length scan base t f = frames-length base t.outer t.done t.openers scan.frames f.frames
 
 -- the scan tells whether a `{` stands directly before that would open a field at depth 200
-pub full_in : (scan : FieldScan) (base depth : ℕ) (t : FieldScanned) (full : Bool) → Follows scan base t → full ≡ (is_waiting (mode_from scan.mode) && (depth + length scan.frames.items == 200)) → (is_waiting t.mode && (depth + frames t == 200)) ≡ full
+pub full_in : (scan : FieldScan) (base depth : ℕ) (t : FieldScanned) (full : Bool) → Follows scan base t → full ≡ (is_waiting (mode_from scan.mode) && (depth + length scan.frames == 200)) → (is_waiting t.mode && (depth + frames t == 200)) ≡ full
 full_in scan base depth t full f is =
-    sym (is ∙ ap (λ (m : FieldMode). is_waiting m && (depth + length scan.frames.items == 200)) f.mode
+    sym (is ∙ ap (λ (m : FieldMode). is_waiting m && (depth + length scan.frames == 200)) f.mode
     ∙ ap (λ (n : ℕ). is_waiting t.mode && (depth + n == 200)) (open-length scan base t f))
 
 -- the causes, one after another
@@ -63,8 +64,8 @@ field_from base (l ∷ ls) done openers fs field follow top =
     let is = innermost_field base l ls done openers fs field i top in
     (ap (λ (x : OpenField). x.place) is.1 ∙ i.place, is.0)
 
-pub field_in : (scan : FieldScan) (base : ℕ) (t : FieldScanned) (field : OpenField) → Follows scan base t → IsInnermostFrame (Some (frame.Field field)) (innermost_first scan.frames.items) → (field.place ≡ base + field_start t) × (t.openers ≡ [])
-field_in scan base t field f top = field_from base t.outer t.done t.openers (innermost_first scan.frames.items) field f.frames top
+pub field_in : (scan : FieldScan) (base : ℕ) (t : FieldScanned) (field : OpenField) → Follows scan base t → IsInnermostFrame (Some (frame.Field field)) scan.frames → (field.place ≡ base + field_start t) × (t.openers ≡ [])
+field_in scan base t field f top = field_from base t.outer t.done t.openers scan.frames field f.frames top
 
 -- the bracket that is open
 bracket_from : (base : ℕ) (outer : List Level) (done : List Piece) (openers : List ℕ) (fs : List Frame) (opener at : ℕ) → FramesFollow base outer done openers fs → IsInnermostFrame (Some (frame.Bracket opener at)) fs → (b : Bracket) × (bs : List Bracket) × (brackets_of done ≡ Some (b ∷ bs)) × (at ≡ base + (byte_len (before literal outer) + b.place)) × (openers ≡ b.opener ∷ bracket_openers bs)
@@ -80,8 +81,8 @@ bracket_from base (l ∷ ls) done openers fs opener at follow top = go i.stack i
         let spot : at ≡ base + byte_len (before literal (l ∷ ls)) + b.place = cc (top.1, is) in
         (b, bs, stacked, omega (arith, spot), are)
 
-pub bracket_in : (scan : FieldScan) (base : ℕ) (t : FieldScanned) (opener at : ℕ) → Follows scan base t → IsInnermostFrame (Some (frame.Bracket opener at)) (innermost_first scan.frames.items) → (b : Bracket) × (bs : List Bracket) × (brackets_of t.done ≡ Some (b ∷ bs)) × (at ≡ base + (byte_len (before literal t.outer) + b.place)) × (t.openers ≡ b.opener ∷ bracket_openers bs)
-bracket_in scan base t opener at f top = bracket_from base t.outer t.done t.openers (innermost_first scan.frames.items) opener at f.frames top
+pub bracket_in : (scan : FieldScan) (base : ℕ) (t : FieldScanned) (opener at : ℕ) → Follows scan base t → IsInnermostFrame (Some (frame.Bracket opener at)) scan.frames → (b : Bracket) × (bs : List Bracket) × (brackets_of t.done ≡ Some (b ∷ bs)) × (at ≡ base + (byte_len (before literal t.outer) + b.place)) × (t.openers ≡ b.opener ∷ bracket_openers bs)
+bracket_in scan base t opener at f top = bracket_from base t.outer t.done t.openers scan.frames opener at f.frames top
 
 -- none is open
 none_from : (base : ℕ) (outer : List Level) (done : List Piece) (openers : List ℕ) (fs : List Frame) → FramesFollow base outer done openers fs → fs ≡ [] → outer ≡ []
@@ -91,16 +92,16 @@ none_from base (l ∷ ls) done openers fs follow none = go (list_of base l ls do
     go : InList base l ls done openers fs → l ∷ ls ≡ []
     go i = absurd (omega (arith, ap length none, ap length i.frames_are, length-append (bracket_frames (base + byte_len (before literal (l ∷ ls))) i.stack) (frame.Field i.field ∷ i.others)))
 
-pub none_in : (scan : FieldScan) (base : ℕ) (t : FieldScanned) → Follows scan base t → innermost_first scan.frames.items ≡ [] → t.outer ≡ []
-none_in scan base t f none = none_from base t.outer t.done t.openers (innermost_first scan.frames.items) f.frames none
+pub none_in : (scan : FieldScan) (base : ℕ) (t : FieldScanned) → Follows scan base t → scan.frames ≡ [] → t.outer ≡ []
+none_in scan base t f none = none_from base t.outer t.done t.openers scan.frames f.frames none
 
 -- where the place of a field is asked for
-pub none_place : (scan : FieldScan) (base : ℕ) (t : FieldScanned) → Follows scan base t → (t.outer ≡ [] → piece_start t ≡ 0) → innermost_first scan.frames.items ≡ [] → scan.start ≡ base + field_start t
+pub none_place : (scan : FieldScan) (base : ℕ) (t : FieldScanned) → Follows scan base t → (t.outer ≡ [] → piece_start t ≡ 0) → scan.frames ≡ [] → scan.start ≡ base + field_start t
 none_place scan base t f first none =
     let outside = none_in scan base t f none in
     omega (arith, f.start, first outside, ap (λ (ls : List Level). byte_len (before literal ls) - 1) outside)
 
-pub bracket_place : (scan : FieldScan) (base : ℕ) (t : FieldScanned) (opener at : ℕ) → Follows scan base t → t.openers ≡ [] → IsInnermostFrame (Some (frame.Bracket opener at)) (innermost_first scan.frames.items) → at ≡ base + field_start t
+pub bracket_place : (scan : FieldScan) (base : ℕ) (t : FieldScanned) (opener at : ℕ) → Follows scan base t → t.openers ≡ [] → IsInnermostFrame (Some (frame.Bracket opener at)) scan.frames → at ≡ base + field_start t
 bracket_place scan base t opener at f none top =
     let (b, bs, stacked, place, are) = bracket_in scan base t opener at f top in
     absurd (cc (none, are))
@@ -158,12 +159,12 @@ code_waits m = refl
 pub code_round : (m : Mode) (depth : ℕ) (t : FieldScanned) → code_mode m ≡ t.mode → in_short m ≡ false → in_long m ≡ false → is_after_backslash m ≡ false → unfinished_round depth t ≡ unfinished_code t.outer t.openers
 code_round m depth t is short long slash = ap (λ (x : FieldMode). unfinished_with depth t.outer t.openers x) (sym is) ∙ code_ends m depth t.outer t.openers short long slash
 
-pub bracket_end : (scan : FieldScan) (base depth : ℕ) (t : FieldScanned) (m : Mode) (opener at : ℕ) → Follows scan base t → code_mode m ≡ t.mode → in_short m ≡ false → in_long m ≡ false → is_after_backslash m ≡ false → IsInnermostFrame (Some (frame.Bracket opener at)) (innermost_first scan.frames.items) → (unfinished_round depth t ≡ Some open_bracket) × IsUnfinishedAt base t open_bracket at
+pub bracket_end : (scan : FieldScan) (base depth : ℕ) (t : FieldScanned) (m : Mode) (opener at : ℕ) → Follows scan base t → code_mode m ≡ t.mode → in_short m ≡ false → in_long m ≡ false → is_after_backslash m ≡ false → IsInnermostFrame (Some (frame.Bracket opener at)) scan.frames → (unfinished_round depth t ≡ Some open_bracket) × IsUnfinishedAt base t open_bracket at
 bracket_end scan base depth t m opener at f is short long slash top =
     let (b, bs, stacked, place, are) = bracket_in scan base t opener at f top in
     (code_round m depth t is short long slash ∙ bracket_ends t.outer t.openers b.opener (bracket_openers bs) are, (b, bs, stacked, place))
 
-pub field_end : (scan : FieldScan) (base depth : ℕ) (t : FieldScanned) (m : Mode) (field : OpenField) → Follows scan base t → code_mode m ≡ t.mode → IsInString t → in_short m ≡ false → in_long m ≡ false → is_after_backslash m ≡ false → IsInnermostFrame (Some (frame.Field field)) (innermost_first scan.frames.items) → (unfinished_round depth t ≡ Some open_inside) × IsUnfinishedAt base t open_inside field.place
+pub field_end : (scan : FieldScan) (base depth : ℕ) (t : FieldScanned) (m : Mode) (field : OpenField) → Follows scan base t → code_mode m ≡ t.mode → IsInString t → in_short m ≡ false → in_long m ≡ false → is_after_backslash m ≡ false → IsInnermostFrame (Some (frame.Field field)) scan.frames → (unfinished_round depth t ≡ Some open_inside) × IsUnfinishedAt base t open_inside field.place
 field_end scan base depth t m field f is inside short long slash top =
     let (place, none) = field_in scan base t field f top in
     let waits : is_waiting t.mode ≡ false = ap is_waiting (sym is) ∙ code_waits m in (
@@ -172,7 +173,7 @@ field_end scan base depth t m field f is inside short long slash top =
     )
 
 -- after a `{` that would open a field
-pub brace_end : (scan : FieldScan) (base depth : ℕ) (t : FieldScanned) (host : Host) (named room : Bool) → Follows scan base t → t.mode ≡ body host literal named after_brace → room ≡ nat_lt (depth + length scan.frames.items + 1) 201 → unfinished_round depth t ≡ Some (if room then open_inside else open_brace)
+pub brace_end : (scan : FieldScan) (base depth : ℕ) (t : FieldScanned) (host : Host) (named room : Bool) → Follows scan base t → t.mode ≡ body host literal named after_brace → room ≡ nat_lt (depth + length scan.frames + 1) 201 → unfinished_round depth t ≡ Some (if room then open_inside else open_brace)
 brace_end scan base depth t host named room f is room_is =
     ap (λ (m : FieldMode). unfinished_with depth t.outer t.openers m) is
     ∙ ap (λ (b : Bool). Some (if b then open_inside else open_brace)) (less (depth + frames t) ∙ ap (λ (n : ℕ). nat_lt (depth + n + 1) 201) (sym (open-length scan base t f)) ∙ sym room_is)

@@ -1,5 +1,5 @@
 -- A field of a string opens: after its `{` in the literal part, by the character after it, or at its `{` in a specification.
-use Rattle.std.proofs.Common.{◌≡◌, ℕ, ◌+◌, ◌-◌, ◌<◌, Bool, true, false, ◌==◌, Option, None, Some, Ok, List, [], ◌∷◌, ◌++◌, length, refl, sym, ap, ◌∙◌, subst, arith, append-nil}
+use Rattle.std.proofs.Common.{◌≡◌, ℕ, ◌+◌, ◌-◌, ◌<◌, Bool, true, false, ◌==◌, Option, None, Some, List, [], ◌∷◌, ◌++◌, length, refl, sym, ap, ◌∙◌, subst, arith, append-nil}
 use Rattle.std.specs.Str.{byte}
 use Rattle.std.proofs.lemmas.Bool.{lt-ltb, ltb-true, false_from_ne_true, eqb-true}
 use Rattle.std.proofs.lemmas.Str.{len_utf8_bounds, len_utf8_ascii}
@@ -10,19 +10,19 @@ use Rattle.py_lines.specs.FieldStrings.{Host, literal, specification}
 use Rattle.py_lines.specs.declared.mode.Mode.{Mode}
 use Rattle.py_lines.specs.declared.mode.Start.TheVariants as starts
 use Rattle.py_lines.specs.declared.host.StringWithFields.{StringWithFields}
-use Rattle.py_lines.specs.declared.field_scan.Region.TheVariants as regions
-use Rattle.py_lines.specs.declared.field_scan.At.TheVariants as ats
-use Rattle.py_lines.specs.declared.field_scan.FieldMode.TheVariants as field_modes
-use Rattle.py_lines.specs.declared.field_scan.OpenField.{OpenField}
-use Rattle.py_lines.specs.declared.field_scan.Frame.{Frame}
-use Rattle.py_lines.specs.declared.field_scan.Frame.TheVariants as frame
+use Rattle.py_lines.specs.declared.host.Region.TheVariants as regions
+use Rattle.py_lines.specs.declared.field_mode.At.TheVariants as ats
+use Rattle.py_lines.specs.declared.field_mode.FieldMode.TheVariants as field_modes
+use Rattle.py_lines.specs.declared.frames.OpenField.{OpenField}
+use Rattle.py_lines.specs.declared.frames.Frame.{Frame}
+use Rattle.py_lines.specs.declared.frames.Frame.TheVariants as frame
 use Rattle.py_lines.specs.declared.field_scan.FieldScan.{FieldScan}
 use Rattle.py_lines.specs.declared.field_scan.FieldProgress.TheVariants as progress
 use Rattle.py_lines.specs.Private.Machine.{start_of, brackets_of}
 use Rattle.py_lines.specs.Private.FieldMachine.{At, between, after_brace, FieldMode, plain, body, begins_code, opens_field, ends_field, Level, FieldScanned, field_state, field_fresh, field_move, field_started, field_operator, opened_level, field_ended, before, frames, has_room_at}
 use Rattle.py_lines.specs.Private.FieldFaults.{here}
 use Rattle.py_lines.specs.Private.ScanMachine.{IsInString, host_in}
-use Rattle.py_lines.specs.Private.FieldScan.{innermost_first, Follows, FramesFollow, HasNoList, freed_at, ended_in, waiting_field, ComesTo}
+use Rattle.py_lines.specs.Private.FieldScan.{Follows, FramesFollow, HasNoList, freed_at, ended_in, waiting_field, ComesTo}
 use Rattle.py_lines.proofs.Pieces.PieceLists.{piece}
 use Rattle.py_lines.proofs.LogicalLines.Cuts.{byte_len-append}
 use Rattle.py_lines.proofs.LineScan.LineCount.{byte_len-one}
@@ -63,51 +63,51 @@ module _ (old : FieldScan) (base depth : ℕ) (outer : List Level) (done : List 
 
   -- the state that the character finds
   abbrev Fields : List Frame
-  Fields = frame.Field (waiting_field old host place) ∷ innermost_first old.frames.items
+  Fields = frame.Field (waiting_field old host place) ∷ old.frames
 
   spot : place - 1 ≡ base + (byte_len (before literal (L ∷ outer)) - 1)
   spot = omega (arith, stands, byte_len-append (before literal outer) (spelled done ++ held), byte_len-append (spelled done) held, some_bytes held (follow.full refl))
 
   opened : FramesFollow base (L ∷ outer) [] [] Fields
-  opened = field_opened base L outer (innermost_first old.frames.items) (waiting_field old host place) follow.frames spot refl refl follow.start tt
+  opened = field_opened base L outer old.frames (waiting_field old host place) follow.frames spot refl refl follow.start tt
 
   code_at : place ≡ base + byte_len (before literal (L ∷ outer) ++ spelled [])
   code_at = stands ∙ ap (λ x. base + byte_len x) (sym (append-nil (before literal (L ∷ outer))))
 
-  takes : (new : FieldScan) (next : FieldScanned) → has_room_at (depth + frames T) c (begins_code (host_in host)) ≡ true → field_started (L ∷ outer) [] [] c (start_of c) ≡ Some next → IsInString next → Follows new base next → ComesTo base depth T c old (Ok progress.Going) new
+  takes : (new : FieldScan) (next : FieldScanned) → has_room_at (depth + frames T) c (begins_code (host_in host)) ≡ true → field_started (L ∷ outer) [] [] c (start_of c) ≡ Some next → IsInString next → Follows new base next → ComesTo base depth T c old progress.Going new
   takes new next room comes inside follows = going base depth T c (begins_code (host_in host)) is old new next room comes (λ none other. absurd (cc)) inside follows
 
   -- the code begins with another piece
-  pub begins_piece : (mid : FieldScan) (m : Mode) → has_room_at (depth + frames T) c (begins_code (host_in host)) ≡ true → innermost_first mid.frames.items ≡ Fields → start_of c ≡ starts.Open m → ComesTo base depth T c old (Ok progress.Going) (record mid { mode = field_modes.Code m; start = place })
+  pub begins_piece : (mid : FieldScan) (m : Mode) → has_room_at (depth + frames T) c (begins_code (host_in host)) ≡ true → mid.frames ≡ Fields → start_of c ≡ starts.Open m → ComesTo base depth T c old progress.Going (record mid { mode = field_modes.Code m; start = place })
   begins_piece mid m room pushed starts_with =
       let s = starts_so c m starts_with in
       takes (record mid { mode = field_modes.Code m; start = place }) (field_state (L ∷ outer) [] [] (plain m) (c ∷ [])) room (ap (field_started (L ∷ outer) [] [] c) starts_with) (λ none. absurd (cc))
       (record { mode = s.1; holds = s.0; no_list = tt; waits = tt; full = λ w. absurd (cc); start = code_at; frames = subst (FramesFollow base (L ∷ outer) [] []) (sym pushed) opened })
 
   -- with a line end
-  pub begins_line : (mid : FieldScan) → has_room_at (depth + frames T) c (begins_code (host_in host)) ≡ true → innermost_first mid.frames.items ≡ Fields → start_of c ≡ starts.LineEnd → 1 ≡ byte_len (c ∷ []) → ComesTo base depth T c old (Ok progress.Going) (freed_at mid (place + 1))
+  pub begins_line : (mid : FieldScan) → has_room_at (depth + frames T) c (begins_code (host_in host)) ≡ true → mid.frames ≡ Fields → start_of c ≡ starts.LineEnd → 1 ≡ byte_len (c ∷ []) → ComesTo base depth T c old progress.Going (freed_at mid (place + 1))
   begins_line mid room pushed starts_with one =
       takes (freed_at mid (place + 1)) (field_fresh (L ∷ outer) (piece line_end (c ∷ []) ∷ []) []) room (ap (field_started (L ∷ outer) [] [] c) starts_with) (λ none. absurd (cc))
       (follows_free mid base (L ∷ outer) (piece line_end (c ∷ []) ∷ []) [] (place + 1)
       (record {
-        follow = frames_alike base (L ∷ outer) [] (piece line_end (c ∷ []) ∷ []) [] (innermost_first mid.frames.items) (neutral_alike [] line_end (c ∷ []) refl refl) (subst (FramesFollow base (L ∷ outer) [] []) (sym pushed) opened);
+        follow = frames_alike base (L ∷ outer) [] (piece line_end (c ∷ []) ∷ []) [] mid.frames (neutral_alike [] line_end (c ∷ []) refl refl) (subst (FramesFollow base (L ∷ outer) [] []) (sym pushed) opened);
         at = piece_after base place (L ∷ outer) [] line_end c one code_at;
       }))
 
   -- with nothing
-  pub begins_nothing : start_of c ≡ starts.Nothing → ComesTo base depth T c old (Ok progress.Refused) old
+  pub begins_nothing : start_of c ≡ starts.Nothing → ComesTo base depth T c old progress.Refused old
   begins_nothing starts_with = no_step base depth T c (begins_code (host_in host)) is old (ap (field_started (L ∷ outer) [] [] c) starts_with)
 
   -- with an operator
   operator_comes : (o : Option FieldScanned) → start_of c ≡ starts.Operator → field_operator (L ∷ outer) [] [] c ≡ o → field_started (L ∷ outer) [] [] c (start_of c) ≡ o
   operator_comes o starts_with same = ap (field_started (L ∷ outer) [] [] c) starts_with ∙ same
 
-  pub ends_empty : has_room_at (depth + frames T) c (begins_code (host_in host)) ≡ true → start_of c ≡ starts.Operator → c == byte "}" ≡ true → IsInString T → ComesTo base depth T c old (Ok progress.Going) (ended_in old (waiting_field old host place))
+  pub ends_empty : has_room_at (depth + frames T) c (begins_code (host_in host)) ≡ true → start_of c ≡ starts.Operator → c == byte "}" ≡ true → IsInString T → ComesTo base depth T c old progress.Going (ended_in old (waiting_field old host place))
   ends_empty room starts_with ends inside =
       takes (ended_in old (waiting_field old host place)) (field_ended L outer (held ++ (c ∷ []))) room (operator_comes _ starts_with (ended_is L outer [] c ends)) (λ none. (host_in host, literal, false, between, refl))
       (record { mode = refl; holds = tt; no_list = tt; waits = tt; full = λ w. absurd (cc); start = follow.start; frames = follow.frames })
 
-  pub specifies : (mid : FieldScan) → has_room_at (depth + frames T) c (begins_code (host_in host)) ≡ true → innermost_first mid.frames.items ≡ Fields → start_of c ≡ starts.Operator → c == byte "}" ≡ false → c == byte ":" ≡ true → mid.start ≡ old.start → ComesTo base depth T c old (Ok progress.Going) (record mid { mode = field_modes.Body host regions.Specification false ats.Between })
+  pub specifies : (mid : FieldScan) → has_room_at (depth + frames T) c (begins_code (host_in host)) ≡ true → mid.frames ≡ Fields → start_of c ≡ starts.Operator → c == byte "}" ≡ false → c == byte ":" ≡ true → mid.start ≡ old.start → ComesTo base depth T c old progress.Going (record mid { mode = field_modes.Body host regions.Specification false ats.Between })
   specifies mid room pushed starts_with ends specified kept =
       takes (record mid { mode = field_modes.Body host regions.Specification false ats.Between }) (field_state (L ∷ outer) [] [] (body (host_in host) specification false between) (held ++ (c ∷ []))) room (operator_comes _ starts_with (specified_is L outer [] c ends specified)) (λ none. absurd (cc))
       (record {
@@ -120,10 +120,10 @@ module _ (old : FieldScan) (base depth : ℕ) (outer : List Level) (done : List 
         frames = subst (FramesFollow base (L ∷ outer) [] []) (sym pushed) opened;
       })
 
-  pub closes_nothing : start_of c ≡ starts.Operator → c == byte "}" ≡ false → c == byte ":" ≡ false → is_closing c ≡ true → ComesTo base depth T c old (Ok progress.Refused) old
+  pub closes_nothing : start_of c ≡ starts.Operator → c == byte "}" ≡ false → c == byte ":" ≡ false → is_closing c ≡ true → ComesTo base depth T c old progress.Refused old
   closes_nothing starts_with ends specified closing = no_step base depth T c (begins_code (host_in host)) is old (operator_comes None starts_with (wrong_in_field L outer [] c ends specified closing))
 
-  pub begins_bracket : (mid : FieldScan) → has_room_at (depth + frames T) c (begins_code (host_in host)) ≡ true → innermost_first mid.frames.items ≡ frame.Bracket c place ∷ Fields → start_of c ≡ starts.Operator → is_opening c ≡ true → 1 ≡ byte_len (c ∷ []) → ComesTo base depth T c old (Ok progress.Going) (freed_at mid (place + 1))
+  pub begins_bracket : (mid : FieldScan) → has_room_at (depth + frames T) c (begins_code (host_in host)) ≡ true → mid.frames ≡ frame.Bracket c place ∷ Fields → start_of c ≡ starts.Operator → is_opening c ≡ true → 1 ≡ byte_len (c ∷ []) → ComesTo base depth T c old progress.Going (freed_at mid (place + 1))
   begins_bracket mid room pushed starts_with opens one =
       takes (freed_at mid (place + 1)) (field_fresh (L ∷ outer) (piece operator (c ∷ []) ∷ []) (c ∷ [])) room (operator_comes _ starts_with (opened_is L outer [] [] c opens)) (λ none. absurd (cc))
       (follows_free mid base (L ∷ outer) (piece operator (c ∷ []) ∷ []) (c ∷ []) (place + 1)
@@ -132,12 +132,12 @@ module _ (old : FieldScan) (base depth : ℕ) (outer : List Level) (done : List 
         at = piece_after base place (L ∷ outer) [] operator c one code_at;
       }))
 
-  pub begins_operator : (mid : FieldScan) → has_room_at (depth + frames T) c (begins_code (host_in host)) ≡ true → innermost_first mid.frames.items ≡ Fields → start_of c ≡ starts.Operator → c == byte "}" ≡ false → c == byte ":" ≡ false → is_opening c ≡ false → is_closing c ≡ false → 1 ≡ byte_len (c ∷ []) → ComesTo base depth T c old (Ok progress.Going) (freed_at mid (place + 1))
+  pub begins_operator : (mid : FieldScan) → has_room_at (depth + frames T) c (begins_code (host_in host)) ≡ true → mid.frames ≡ Fields → start_of c ≡ starts.Operator → c == byte "}" ≡ false → c == byte ":" ≡ false → is_opening c ≡ false → is_closing c ≡ false → 1 ≡ byte_len (c ∷ []) → ComesTo base depth T c old progress.Going (freed_at mid (place + 1))
   begins_operator mid room pushed starts_with ends specified opens closes one =
       takes (freed_at mid (place + 1)) (field_fresh (L ∷ outer) (piece operator (c ∷ []) ∷ []) []) room (operator_comes _ starts_with (other_in_field L outer [] c ends specified opens closes)) (λ none. absurd (cc))
       (follows_free mid base (L ∷ outer) (piece operator (c ∷ []) ∷ []) [] (place + 1)
       (record {
-        follow = frames_alike base (L ∷ outer) [] (piece operator (c ∷ []) ∷ []) [] (innermost_first mid.frames.items) (operator_alike [] c opens closes) (subst (FramesFollow base (L ∷ outer) [] []) (sym pushed) opened);
+        follow = frames_alike base (L ∷ outer) [] (piece operator (c ∷ []) ∷ []) [] mid.frames (operator_alike [] c opens closes) (subst (FramesFollow base (L ∷ outer) [] []) (sym pushed) opened);
         at = piece_after base place (L ∷ outer) [] operator c one code_at;
       }))
 
@@ -159,7 +159,7 @@ module _ (old : FieldScan) (base depth : ℕ) (outer : List Level) (done : List 
   abbrev K : Level
   K = opened_level S (host_in host) specification (held ++ c ∷ [])
 
-  pub specified_no_room : (depth + length old.frames.items < 200 → ⊥) → ComesTo base depth S c old (Ok progress.Refused) old
+  pub specified_no_room : (depth + length old.frames < 200 → ⊥) → ComesTo base depth S c old progress.Refused old
   specified_no_room none = no_room base depth S c (opens_field (host_in host)) is old (no_specified_room (depth + frames S) c (host_in host) (λ low. none (omega (arith, low, open_frames old base S follow))))
 
   one : 1 ≡ byte_len (c ∷ [])
@@ -168,23 +168,23 @@ module _ (old : FieldScan) (base depth : ℕ) (outer : List Level) (done : List 
   brace_at : place + 1 ≡ base + byte_len (before literal (K ∷ outer))
   brace_at = omega (arith, at, one, byte_len-append (before specification outer) (spelled done ++ held), byte_len-append (spelled done) held, byte_len-append (before specification outer) (spelled done ++ (held ++ c ∷ [])), byte_len-append (spelled done) (held ++ c ∷ []), byte_len-append held (c ∷ []))
 
-  pub opens_in_specification : (mid : FieldScan) → depth + length old.frames.items < 200 → innermost_first mid.frames.items ≡ frame.Field (inner_field old host place) ∷ innermost_first old.frames.items → ComesTo base depth S c old (Ok progress.Going) (freed_at mid (place + 1))
+  pub opens_in_specification : (mid : FieldScan) → depth + length old.frames < 200 → mid.frames ≡ frame.Field (inner_field old host place) ∷ old.frames → ComesTo base depth S c old progress.Going (freed_at mid (place + 1))
   opens_in_specification mid room pushed =
       going base depth S c (opens_field (host_in host)) is old (freed_at mid (place + 1)) (field_fresh (K ∷ outer) [] [])
       (specified_room (depth + frames S) c (host_in host) (omega (arith, room, open_frames old base S follow))) refl (λ none other. absurd (cc)) (λ none. absurd (cc))
       (follows_free mid base (K ∷ outer) [] [] (place + 1)
       (record {
-        follow = subst (FramesFollow base (K ∷ outer) [] []) (sym pushed) (field_opened base K outer (innermost_first old.frames.items) (inner_field old host place) follow.frames (omega (arith, brace_at)) refl refl follow.start follow.no_list);
+        follow = subst (FramesFollow base (K ∷ outer) [] []) (sym pushed) (field_opened base K outer old.frames (inner_field old host place) follow.frames (omega (arith, brace_at)) refl refl follow.start follow.no_list);
         at = brace_at ∙ ap (λ x. base + byte_len x) (sym (append-nil (before literal (K ∷ outer))));
       }))
 
 -- a field ends from its specification
-module _ (old : FieldScan) (base depth : ℕ) (l : Level) (ls : List Level) (done : List Piece) (openers : List ℕ) (m : FieldMode) (held : List ℕ) (c : ℕ) (follow : Follows old base (field_state (l ∷ ls) done openers m held)) (is : field_move m held c ≡ ends_field) (field : OpenField) (mid : FieldScan) (popped : innermost_first old.frames.items ≡ frame.Field field ∷ innermost_first mid.frames.items) where
+module _ (old : FieldScan) (base depth : ℕ) (l : Level) (ls : List Level) (done : List Piece) (openers : List ℕ) (m : FieldMode) (held : List ℕ) (c : ℕ) (follow : Follows old base (field_state (l ∷ ls) done openers m held)) (is : field_move m held c ≡ ends_field) (field : OpenField) (mid : FieldScan) (popped : old.frames ≡ frame.Field field ∷ mid.frames) where
   none_there : (done ≡ []) × (openers ≡ [])
   none_there = let e = ends_specification m held c is in subst (λ x. HasNoList x done openers) e.2 follow.no_list
 
-  within : InList base l ls done [] (innermost_first old.frames.items)
-  within = list_of base l ls done [] (innermost_first old.frames.items) (subst (λ os. FramesFollow base (l ∷ ls) done os (innermost_first old.frames.items)) none_there.1 follow.frames)
+  within : InList base l ls done [] old.frames
+  within = list_of base l ls done [] old.frames (subst (λ os. FramesFollow base (l ∷ ls) done os old.frames) none_there.1 follow.frames)
 
   bare : brackets_of done ≡ Some []
   bare = ap brackets_of none_there.0
@@ -193,8 +193,8 @@ module _ (old : FieldScan) (base depth : ℕ) (l : Level) (ls : List Level) (don
   unfolding has_room_at
   ending_room n = refl
 
-  pub ends_specified : ComesTo base depth (field_state (l ∷ ls) done openers m held) c old (Ok progress.Going) (ended_in mid field)
+  pub ends_specified : ComesTo base depth (field_state (l ∷ ls) done openers m held) c old progress.Going (ended_in mid field)
   ends_specified =
       going base depth (field_state (l ∷ ls) done openers m held) c ends_field is old (ended_in mid field) (field_ended l ls (held ++ c ∷ []))
       (ending_room (depth + frames (field_state (l ∷ ls) done openers m held))) refl (λ none other. absurd (cc)) (λ none. (l.host, l.place, false, between, refl))
-      (resumed old mid base l ls field (held ++ c ∷ []) done within (innermost_field base l ls done [] (innermost_first old.frames.items) field within (innermost_first mid.frames.items, popped)).1 popped bare)
+      (resumed old mid base l ls field (held ++ c ∷ []) done within (innermost_field base l ls done [] old.frames field within (mid.frames, popped)).1 popped bare)

@@ -1,49 +1,20 @@
 -- The frames that the scan of a string with fields keeps are the brackets and fields that are open in the machine.
-use Rattle.std.proofs.Common.{◌≡◌, ℕ, suc, ◌+◌, ◌-◌, ◌<◌, true, false, ◌==◌, Option, None, Some, List, [], ◌∷◌, ◌++◌, length, slice_get, refl, sym, ap, ◌∙◌, subst, arith, length-append}
-use Rattle.std.specs.Prelude.{option_to_list}
+use Rattle.std.proofs.Common.{◌≡◌, ℕ, suc, ◌+◌, ◌-◌, ◌<◌, true, false, ◌==◌, Some, List, [], ◌∷◌, ◌++◌, length, refl, ap, ◌∙◌, arith, length-append}
 use Rattle.py_lines.specs.Piece.{operator, Piece, spelled}
 use Rattle.py_lines.specs.LogicalLine.{byte_len}
 use Rattle.py_lines.specs.Balance.{is_opening, is_closing, closing_of}
 use Rattle.py_lines.specs.FieldStrings.{literal}
-use Rattle.py_lines.specs.declared.field_scan.OpenField.{OpenField}
-use Rattle.py_lines.specs.declared.field_scan.Frame.{Frame}
-use Rattle.py_lines.specs.declared.field_scan.Frame.TheVariants as frame
+use Rattle.py_lines.specs.declared.frames.OpenField.{OpenField}
+use Rattle.py_lines.specs.declared.frames.Frame.{Frame}
+use Rattle.py_lines.specs.declared.frames.Frame.TheVariants as frame
 use Rattle.py_lines.specs.Private.Machine.{Bracket, brackets_of}
 use Rattle.py_lines.specs.Private.FieldMachine.{Level, levels_open, before}
-use Rattle.py_lines.specs.Private.FieldScan.{innermost_first, bracket_frames, bracket_openers, FramesFollow, none_open, in_list, IsInnermostFrame, region_in, NoListAt}
+use Rattle.py_lines.specs.Private.FieldScan.{bracket_frames, bracket_openers, FramesFollow, none_open, in_list, region_in, NoListAt}
+use Rattle.py_lines.specs.Private.Frames.{IsInnermostFrame}
 use Rattle.py_lines.specs.Private.ScanMachine.{host_in}
 use Rattle.py_lines.proofs.Pieces.PieceLists.{piece}
 use Rattle.py_lines.proofs.Pieces.OpenBrackets.{stack_push, opener_pushes, closer_pops, other_keeps}
 use Rattle.py_lines.proofs.LogicalLines.Cuts.{byte_len-append}
-
--- the list innermost_first round
-pub innermost_first-push : (fs : List Frame) (f : Frame) → innermost_first (fs ++ f ∷ []) ≡ f ∷ innermost_first fs
-innermost_first-push [] f = refl
-innermost_first-push (g ∷ fs) f = ap (λ (l : List Frame). l ++ g ∷ []) (innermost_first-push fs f)
-
-pub innermost_first-length : (fs : List Frame) → length (innermost_first fs) ≡ length fs
-innermost_first-length [] = refl
-innermost_first-length (f ∷ fs) = omega (arith, length-append (innermost_first fs) (f ∷ []), innermost_first-length fs)
-
--- the last frame is the innermost
-deeper : (o : Option Frame) (fs others : List Frame) → IsInnermostFrame o fs → 0 < length fs → IsInnermostFrame o (fs ++ others)
-deeper None fs others is some = absurd (omega (arith, ap length is, some))
-deeper (Some f) fs others is some = (is.0 ++ others, ap (λ (l : List Frame). l ++ others) is.1)
-
-pub last_in : (fs : List Frame) → IsInnermostFrame (slice_get fs (length fs - 1)) (innermost_first fs)
-last_in [] = refl
-last_in (f ∷ []) = ([], refl)
-last_in (f ∷ g ∷ fs) =
-    let places : suc (length (g ∷ fs) - 1) ≡ length (f ∷ g ∷ fs) - 1 = omega arith in
-    subst (λ (n : ℕ). IsInnermostFrame (slice_get (f ∷ g ∷ fs) n) (innermost_first (g ∷ fs) ++ f ∷ [])) places
-    (deeper (slice_get (g ∷ fs) (length (g ∷ fs) - 1)) (innermost_first (g ∷ fs)) (f ∷ []) (last_in (g ∷ fs)) (omega (arith, innermost_first-length (g ∷ fs))))
-
--- the others are left where it is taken
-pub pops : (old new : List Frame) (r : Option Frame) (x f : Frame) (others : List Frame) → r ≡ Some x → old ≡ new ++ option_to_list r → innermost_first old ≡ f ∷ others → innermost_first new ≡ others
-pops old new None x f others some is top = absurd (cc)
-pops old new (Some x) y f others some is top =
-    let both : x ∷ innermost_first new ≡ f ∷ others = sym (innermost_first-push new x) ∙ ap innermost_first (sym is) ∙ top in
-    cc
 
 -- so many are open
 bracket_frames-length : (start : ℕ) (bs : List Bracket) → length (bracket_frames start bs) ≡ length (bracket_openers bs)

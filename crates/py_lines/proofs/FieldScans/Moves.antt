@@ -12,8 +12,8 @@ use Rattle.py_lines.specs.declared.mode.Move.{Move}
 use Rattle.py_lines.specs.declared.mode.Mode.TheVariants as modes
 use Rattle.py_lines.specs.declared.mode.Move.TheVariants as moves
 use Rattle.py_lines.specs.declared.mode.Start.TheVariants as starts
-use Rattle.py_lines.specs.declared.field_scan.FieldMode.{FieldMode}
-use Rattle.py_lines.specs.declared.field_scan.FieldMode.TheVariants as field_modes
+use Rattle.py_lines.specs.declared.field_mode.FieldMode.{FieldMode}
+use Rattle.py_lines.specs.declared.field_mode.FieldMode.TheVariants as field_modes
 use Rattle.py_lines.specs.Private.Machine.{Bracket, brackets_of, Holds, closed, class_of, move_of, start_of, is_prefix_spelling}
 use Rattle.py_lines.specs.Private.FieldMachine as spots
 use Rattle.py_lines.specs.Private.FieldMachine.{At, between, after_one, after_two, after_slash, after_return, after_name, after_brace, plain, opened, empty, body, FieldMove, grows, closes, breaks, begins_code, opens_field, ends_field, refused, host_of, long_host, begins_host, plain_move, between_move, escape_move, body_move, closing_move, opening_move, ending_move, is_after_two, with_quote, is_barred_escape, is_after_brace, field_move, field_closed, field_class_of, text_place}

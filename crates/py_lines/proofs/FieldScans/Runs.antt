@@ -16,19 +16,19 @@ use Rattle.py_lines.specs.declared.mode.Spelling.TheVariants as spellings
 use Rattle.py_lines.specs.declared.mode.Mode.{Mode}
 use Rattle.py_lines.specs.declared.mode.Mode.TheVariants as modes
 use Rattle.py_lines.specs.declared.mode.Move.TheVariants as moves
-use Rattle.py_lines.specs.declared.field_scan.FieldMode.{FieldMode}
-use Rattle.py_lines.specs.declared.field_scan.FieldMode.TheVariants as field_modes
-use Rattle.py_lines.specs.declared.field_scan.At.TheVariants as ats
-use Rattle.py_lines.specs.declared.field_scan.Region.TheVariants as regions
+use Rattle.py_lines.specs.declared.field_mode.FieldMode.{FieldMode}
+use Rattle.py_lines.specs.declared.field_mode.FieldMode.TheVariants as field_modes
+use Rattle.py_lines.specs.declared.field_mode.At.TheVariants as ats
+use Rattle.py_lines.specs.declared.host.Region.TheVariants as regions
 use Rattle.py_lines.specs.declared.field_scan.FieldScan.{FieldScan}
 use Rattle.py_lines.specs.Private.Machine.{move_of, short_move, long_move, spelling_with, Holds}
 use Rattle.py_lines.specs.Private.FieldMachine.{body, between, grows, Level, FieldScanned, field_state, field_move, field_moved, body_move, between_move, levels_open}
-use Rattle.py_lines.specs.Private.FieldScan.{region_in, mode_from, code_mode, code_move, code_moved, meets_field, stays_code, stays_field, keeps_byte, HoldsCode, innermost_first, Follows, GoesThrough, HoldsField, StandsInText}
+use Rattle.py_lines.specs.Private.FieldScan.{region_in, mode_from, code_mode, code_move, code_moved, meets_field, stays_code, stays_field, keeps_byte, HoldsCode, Follows, GoesThrough, HoldsField, StandsInText}
 use Rattle.py_lines.specs.Private.FieldText.{HasText}
 use Rattle.py_lines.specs.Private.ScanMachine.{host_in, meet_of}
 use Rattle.py_lines.proofs.FieldSoundness.PlainPieces.{MoveHolds, move_holds}
 use Rattle.py_lines.proofs.FieldScans.Moves.{meets}
-use Rattle.py_lines.proofs.FieldScans.Frames.{frames-length, innermost_first-length}
+use Rattle.py_lines.proofs.FieldScans.Frames.{frames-length}
 use Rattle.py_lines.proofs.LineScan.StringSteps.{string_grows}
 
 -- what a character is that passes
@@ -213,12 +213,12 @@ text_low quote bytes n quotes text =
     goes_low 0 t (take n bytes) far.0 far.1
 
 -- the scan follows over it
-text_follows : (scan : FieldScan) (base depth quote : ℕ) (bytes : List ℕ) (n : ℕ) (t : FieldScanned) → (h : StringWithFields) → scan.mode ≡ field_modes.Body h regions.Literal false ats.Between → h.quote ≡ quote → is_quote quote ≡ true → depth + length scan.frames.items ≤ 100 → HasText quote bytes n → Follows scan base t → (u : FieldScanned) × GoesThrough depth t (take n bytes) u × Follows scan base u
+text_follows : (scan : FieldScan) (base depth quote : ℕ) (bytes : List ℕ) (n : ℕ) (t : FieldScanned) → (h : StringWithFields) → scan.mode ≡ field_modes.Body h regions.Literal false ats.Between → h.quote ≡ quote → is_quote quote ≡ true → depth + length scan.frames ≤ 100 → HasText quote bytes n → Follows scan base t → (u : FieldScanned) × GoesThrough depth t (take n bytes) u × Follows scan base u
 text_follows scan base depth quote bytes n t h mode same quotes room text follows =
     let at : List ℕ → FieldScanned = λ held. field_state t.outer t.done t.openers (body (host_in h) literal false between) held in
     let is : t ≡ at t.held = ap (λ m. field_state t.outer t.done t.openers m t.held) (sym follows.mode ∙ ap mode_from mode) in
     let l : Level = record { done = t.done; openers = t.openers; host = host_in h; place = literal; front = [] } in
-    let few : depth + (length t.openers + levels_open t.outer) ≤ 100 = omega (arith, room, frames-length base t.outer t.done t.openers (innermost_first scan.frames.items) follows.frames, innermost_first-length scan.frames.items) in
+    let few : depth + (length t.openers + levels_open t.outer) ≤ 100 = omega (arith, room, frames-length base t.outer t.done t.openers scan.frames follows.frames) in
     let (u, goes, (held, ends)) = text.1 t.outer l depth t same quotes few (t.held, is) in
     let own = subst (Follows scan base) is follows in (
       u,

@@ -1,5 +1,5 @@
 -- What one more character comes to in a string with fields, by what it does in the machine.
-use Rattle.std.proofs.Common.{◌≡◌, ℕ, ◌+◌, Bool, true, false, None, Some, Ok, List, [], ◌∷◌, ◌++◌, refl, ap, ◌∙◌}
+use Rattle.std.proofs.Common.{◌≡◌, ℕ, ◌+◌, Bool, true, false, None, Some, List, [], ◌∷◌, ◌++◌, refl, ap, ◌∙◌}
 use Rattle.std.specs.Prelude.{if◌then◌else◌}
 use Rattle.py_lines.specs.Piece.{Piece, spelled}
 use Rattle.py_lines.specs.LogicalLine.{byte_len}
@@ -7,12 +7,12 @@ use Rattle.py_lines.specs.FieldStrings.{literal}
 use Rattle.py_lines.specs.declared.mode.Mode.TheVariants as modes
 use Rattle.py_lines.specs.declared.mode.Move.{Move}
 use Rattle.py_lines.specs.declared.mode.Move.TheVariants as moves
-use Rattle.py_lines.specs.declared.field_scan.Frame.{Frame}
+use Rattle.py_lines.specs.declared.frames.Frame.{Frame}
 use Rattle.py_lines.specs.declared.field_scan.FieldScan.{FieldScan}
 use Rattle.py_lines.specs.declared.field_scan.FieldProgress.TheVariants as progress
 use Rattle.py_lines.specs.Private.FieldMachine.{FieldMove, grows, closes, breaks, begins_code, opens_field, ends_field, refused, Level, FieldScanned, field_fresh, field_move, field_moved, before, frames, has_room_at}
 use Rattle.py_lines.specs.Private.ScanMachine.{string_move, fielded_move, IsInString}
-use Rattle.py_lines.specs.Private.FieldScan.{innermost_first, Follows, FramesFollow, freed_at, ComesTo}
+use Rattle.py_lines.specs.Private.FieldScan.{Follows, FramesFollow, freed_at, ComesTo}
 
 -- where a string goes on, or ends
 string_goes : (outer : List Level) (v : FieldMove) (next : FieldScanned) → (outer ≡ [] → v ≡ closes → ⊥) → string_move outer v (Some next) ≡ moves.Grows modes.Fielded
@@ -43,7 +43,7 @@ module _ (base depth : ℕ) (t : FieldScanned) (c : ℕ) (v : FieldMove) (is : f
       by_move ∙ ap (λ b. roomy b (string_move t.outer v (field_moved t c v))) room ∙ ap (string_move t.outer v) comes ∙ string_goes t.outer v next goes_on
 
   -- it is taken
-  pub going : (old new : FieldScan) (next : FieldScanned) → has_room_at (depth + frames t) c v ≡ true → field_moved t c v ≡ Some next → (t.outer ≡ [] → v ≡ closes → ⊥) → IsInString next → Follows new base next → ComesTo base depth t c old (Ok progress.Going) new
+  pub going : (old new : FieldScan) (next : FieldScanned) → has_room_at (depth + frames t) c v ≡ true → field_moved t c v ≡ Some next → (t.outer ≡ [] → v ≡ closes → ⊥) → IsInString next → Follows new base next → ComesTo base depth t c old progress.Going new
   going old new next room comes goes_on inside follow = (
     next,
     ap (field_moved t c) is ∙ comes,
@@ -53,7 +53,7 @@ module _ (base depth : ℕ) (t : FieldScanned) (c : ℕ) (v : FieldMove) (is : f
   )
 
   -- it finds no room
-  pub no_room : (old : FieldScan) → has_room_at (depth + frames t) c v ≡ false → ComesTo base depth t c old (Ok progress.Refused) old
+  pub no_room : (old : FieldScan) → has_room_at (depth + frames t) c v ≡ false → ComesTo base depth t c old progress.Refused old
   no_room old none = (by_move ∙ ap (λ b. roomy b (string_move t.outer v (field_moved t c v))) none, refl)
 
   -- it closes the string
@@ -64,7 +64,7 @@ module _ (base depth : ℕ) (t : FieldScanned) (c : ℕ) (v : FieldMove) (is : f
       ∙ ap (λ o. string_move o closes (field_moved t c v)) none
 
   -- it may not stand there
-  pub no_step : (old : FieldScan) → field_moved t c v ≡ None → ComesTo base depth t c old (Ok progress.Refused) old
+  pub no_step : (old : FieldScan) → field_moved t c v ≡ None → ComesTo base depth t c old progress.Refused old
   no_step old none =
       (by_move ∙ ap (λ o. roomy (has_room_at (depth + frames t) c v) (string_move t.outer v o)) none ∙ ap (roomy (has_room_at (depth + frames t) c v)) (string_stops t c t.outer v none) ∙ go (has_room_at (depth + frames t) c v), refl)
     where
@@ -77,5 +77,5 @@ pub record Ready (base : ℕ) (outer : List Level) (done : List Piece) (openers 
   pub follow : FramesFollow base outer done openers fs
   pub at : place ≡ base + byte_len (before literal outer ++ spelled done)
 
-pub follows_free : (old : FieldScan) (base : ℕ) (outer : List Level) (done : List Piece) (openers : List ℕ) (place : ℕ) → Ready base outer done openers (innermost_first old.frames.items) place → Follows (freed_at old place) base (field_fresh outer done openers)
+pub follows_free : (old : FieldScan) (base : ℕ) (outer : List Level) (done : List Piece) (openers : List ℕ) (place : ℕ) → Ready base outer done openers old.frames place → Follows (freed_at old place) base (field_fresh outer done openers)
 follows_free old base outer done openers place ready = record { mode = refl; holds = refl; no_list = tt; waits = tt; full = λ w. absurd (cc); start = ready.at; frames = ready.follow }

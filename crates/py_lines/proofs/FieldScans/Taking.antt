@@ -1,5 +1,5 @@
 -- A character in a string with fields that goes on the open piece, closes it, or begins another after it.
-use Rattle.std.proofs.Common.{◌≡◌, ℕ, ◌+◌, true, false, not, ◌||◌, Ok, List, [], ◌∷◌, ◌++◌, length, nat_lt, refl, sym, ap, ◌∙◌, subst, arith, append_assoc}
+use Rattle.std.proofs.Common.{◌≡◌, ℕ, ◌+◌, true, false, not, ◌||◌, List, [], ◌∷◌, ◌++◌, length, nat_lt, refl, sym, ap, ◌∙◌, subst, arith, append_assoc}
 use Rattle.std.specs.Char.{len_utf8}
 use Rattle.std.proofs.lemmas.Str.{len_utf8_ascii}
 use Rattle.py_lines.specs.Character.{is_line_feed}
@@ -9,9 +9,9 @@ use Rattle.py_lines.specs.Balance.{is_opening, is_opener, is_closer}
 use Rattle.py_lines.specs.FieldStrings.{literal}
 use Rattle.py_lines.specs.declared.mode.Mode.{Mode}
 use Rattle.py_lines.specs.declared.mode.Start.TheVariants as starts
-use Rattle.py_lines.specs.declared.field_scan.Frame.{Frame}
-use Rattle.py_lines.specs.declared.field_scan.FieldMode.{FieldMode}
-use Rattle.py_lines.specs.declared.field_scan.FieldMode.TheVariants as field_modes
+use Rattle.py_lines.specs.declared.frames.Frame.{Frame}
+use Rattle.py_lines.specs.declared.field_mode.FieldMode.{FieldMode}
+use Rattle.py_lines.specs.declared.field_mode.FieldMode.TheVariants as field_modes
 use Rattle.py_lines.specs.declared.field_scan.FieldScan.{FieldScan}
 use Rattle.py_lines.specs.declared.field_scan.FieldProgress.TheVariants as progress
 use Rattle.py_lines.specs.Private.Machine.{start_of}
@@ -19,7 +19,7 @@ use Rattle.py_lines.specs.Private.FieldMachine.{plain, body, grows, closes, brea
 use Rattle.py_lines.specs.Private.FieldMachine as spots
 use Rattle.py_lines.specs.Private.FieldFaults.{here}
 use Rattle.py_lines.specs.Private.ScanMachine.{IsInString}
-use Rattle.py_lines.specs.Private.FieldScan.{innermost_first, mode_from, Follows, FramesFollow, freed_at, ComesTo}
+use Rattle.py_lines.specs.Private.FieldScan.{mode_from, Follows, FramesFollow, freed_at, ComesTo}
 use Rattle.py_lines.proofs.Text.CharacterTests.{operator_ascii}
 use Rattle.py_lines.proofs.Pieces.PieceLists.{piece, spelled-push}
 use Rattle.py_lines.proofs.Pieces.OpenBrackets.{stack_push, other_keeps}
@@ -29,7 +29,7 @@ use Rattle.py_lines.proofs.LineScan.NextCharacter.{one_feed}
 use Rattle.py_lines.proofs.Machine.Starts as begun_so
 use Rattle.py_lines.proofs.Machine.Starts.{StartsSo}
 use Rattle.py_lines.proofs.ScanMachine.Follows.{room_grows, room_closes, opens_no}
-use Rattle.py_lines.proofs.FieldScans.Frames.{innermost_first-length, AreOpenAlike, frames_alike, none_outside, none_in}
+use Rattle.py_lines.proofs.FieldScans.Frames.{AreOpenAlike, frames_alike, none_outside, none_in}
 use Rattle.py_lines.proofs.FieldScans.Moves.{keeps, keeps_list, keeps_waits, closes_literal, closes_neutral, breaks_at, starts_so}
 use Rattle.py_lines.proofs.FieldScans.Steps.{Ready, follows_free, going, comes_closed}
 
@@ -63,19 +63,19 @@ pub one_operator : (c : ℕ) → start_of c ≡ starts.Operator → 1 ≡ byte_l
 one_operator c is = sym (byte_len-one c ∙ len_utf8_ascii c (operator_ascii c (subst (StartsSo c) is (begun_so.starts_so c))))
 
 -- the outermost string is open alone where no frame is
-pub outside_of : (old : FieldScan) (base : ℕ) (t : FieldScanned) → Follows old base t → length old.frames.items ≡ 0 → t.outer ≡ []
-outside_of old base t follow none = go (innermost_first old.frames.items) follow.frames (innermost_first-length old.frames.items ∙ none)
+pub outside_of : (old : FieldScan) (base : ℕ) (t : FieldScanned) → Follows old base t → length old.frames ≡ 0 → t.outer ≡ []
+outside_of old base t follow none = go old.frames follow.frames none
   where
     go : (fs : List Frame) → FramesFollow base t.outer t.done t.openers fs → length fs ≡ 0 → t.outer ≡ []
     go [] frames empty = none_outside base t.outer t.done t.openers frames
     go (f ∷ fs) frames empty = absurd (omega (arith, empty))
 
-pub within_of : (old : FieldScan) (base : ℕ) (t : FieldScanned) → Follows old base t → (length old.frames.items ≡ 0 → ⊥) → t.outer ≡ [] → ⊥
-within_of old base t follow some outside = some (sym (innermost_first-length old.frames.items) ∙ none_in base t.outer t.done t.openers (innermost_first old.frames.items) outside follow.frames)
+pub within_of : (old : FieldScan) (base : ℕ) (t : FieldScanned) → Follows old base t → (length old.frames ≡ 0 → ⊥) → t.outer ≡ [] → ⊥
+within_of old base t follow some outside = some (none_in base t.outer t.done t.openers old.frames outside follow.frames)
 
 module _ (old : FieldScan) (base depth : ℕ) (t : FieldScanned) (c place : ℕ) (follow : Follows old base t) (inside : IsInString t) (at : place ≡ base + here t) where
   -- the open piece grows
-  pub grown : (code : FieldMode) (m : spots.FieldMode) → field_move t.mode t.held c ≡ grows m → mode_from code ≡ m → ComesTo base depth t c old (Ok progress.Going) (record old { mode = code })
+  pub grown : (code : FieldMode) (m : spots.FieldMode) → field_move t.mode t.held c ≡ grows m → mode_from code ≡ m → ComesTo base depth t c old progress.Going (record old { mode = code })
   grown code m is same =
       let k = keeps t.mode m t.held c follow.holds is in
       going base depth t c (grows m) is old (record old { mode = code }) (field_state t.outer t.done t.openers m (t.held ++ c ∷ []))
@@ -91,7 +91,7 @@ module _ (old : FieldScan) (base depth : ℕ) (t : FieldScanned) (c place : ℕ)
       })
 
   -- it closes, in a field's code
-  pub closed_in : field_move t.mode t.held c ≡ closes → (t.outer ≡ [] → ⊥) → ComesTo base depth t c old (Ok progress.Going) (freed_at old (place + len_utf8 c))
+  pub closed_in : field_move t.mode t.held c ≡ closes → (t.outer ≡ [] → ⊥) → ComesTo base depth t c old progress.Going (freed_at old (place + len_utf8 c))
   closed_in is within =
       let done : List Piece = t.done ++ piece (field_class_of t.mode) (t.held ++ c ∷ []) ∷ [] in
       let text : List ℕ = before literal t.outer ++ (spelled t.done ++ t.held) in
@@ -101,18 +101,18 @@ module _ (old : FieldScan) (base depth : ℕ) (t : FieldScanned) (c place : ℕ)
       (room_closes (depth + frames t) c) refl (λ none other. within none) (λ none. absurd (within none))
       (follows_free old base t.outer done t.openers (place + len_utf8 c)
       (record {
-        follow = frames_alike base t.outer t.done done t.openers (innermost_first old.frames.items) (λ st stacked. closes_neutral t.mode t.held c is t.done st stacked) follow.frames;
+        follow = frames_alike base t.outer t.done done t.openers old.frames (λ st stacked. closes_neutral t.mode t.held c is t.done st stacked) follow.frames;
         at = place_after base place c text stands ∙ ap (λ x. base + byte_len x) written;
       }))
 
   -- in the string itself it closes the string
-  pub closed_out : field_move t.mode t.held c ≡ closes → t.outer ≡ [] → (new : FieldScan) → ComesTo base depth t c old (Ok progress.Closed) new
+  pub closed_out : field_move t.mode t.held c ≡ closes → t.outer ≡ [] → (new : FieldScan) → ComesTo base depth t c old progress.Closed new
   closed_out is none new = comes_closed base depth t c closes is refl none (room_closes (depth + frames t) c)
 
   -- the open piece ends before it
   pub record Broken : Type 0 where
     pub within : t.outer ≡ [] → ⊥
-    pub ready : Ready base t.outer (field_closed t.mode t.done t.held) t.openers (innermost_first old.frames.items) place
+    pub ready : Ready base t.outer (field_closed t.mode t.done t.held) t.openers old.frames place
 
   pub broken : field_move t.mode t.held c ≡ breaks → Broken
   broken is =
@@ -120,13 +120,13 @@ module _ (old : FieldScan) (base depth : ℕ) (t : FieldScanned) (c place : ℕ)
       record {
         within = λ none. b.3 (inside none);
         ready = record {
-          follow = frames_alike base t.outer t.done (field_closed t.mode t.done t.held) t.openers (innermost_first old.frames.items) (λ st stacked. b.2 t.done st stacked) follow.frames;
+          follow = frames_alike base t.outer t.done (field_closed t.mode t.done t.held) t.openers old.frames (λ st stacked. b.2 t.done st stacked) follow.frames;
           at = at ∙ ap (λ p. base + byte_len (before p t.outer ++ (spelled t.done ++ t.held))) b.0 ∙ ap (λ x. base + byte_len (before literal t.outer ++ x)) (sym (b.1 t.done));
         };
       }
 
   -- another piece begins with it
-  pub begun : field_move t.mode t.held c ≡ breaks → (m : Mode) → start_of c ≡ starts.Open m → ComesTo base depth t c old (Ok progress.Going) (record old { mode = field_modes.Code m; start = place })
+  pub begun : field_move t.mode t.held c ≡ breaks → (m : Mode) → start_of c ≡ starts.Open m → ComesTo base depth t c old progress.Going (record old { mode = field_modes.Code m; start = place })
   begun is m starts_with =
       let b = broken is in
       let s = starts_so c m starts_with in
@@ -137,7 +137,7 @@ module _ (old : FieldScan) (base depth : ℕ) (t : FieldScanned) (c place : ℕ)
       (record { mode = s.1; holds = s.0; no_list = tt; waits = tt; full = λ w. absurd (cc); start = b.ready.at; frames = b.ready.follow })
 
   -- it is a line end
-  pub ended_line : field_move t.mode t.held c ≡ breaks → start_of c ≡ starts.LineEnd → ComesTo base depth t c old (Ok progress.Going) (freed_at old (place + 1))
+  pub ended_line : field_move t.mode t.held c ≡ breaks → start_of c ≡ starts.LineEnd → ComesTo base depth t c old progress.Going (freed_at old (place + 1))
   ended_line is starts_with =
       let b = broken is in
       let closed : List Piece = field_closed t.mode t.done t.held in
@@ -148,6 +148,6 @@ module _ (old : FieldScan) (base depth : ℕ) (t : FieldScanned) (c place : ℕ)
       (λ none other. b.within none) (λ none. absurd (b.within none))
       (follows_free old base t.outer done t.openers (place + 1)
       (record {
-        follow = frames_alike base t.outer closed done t.openers (innermost_first old.frames.items) (neutral_alike closed line_end (c ∷ []) refl refl) b.ready.follow;
+        follow = frames_alike base t.outer closed done t.openers old.frames (neutral_alike closed line_end (c ∷ []) refl refl) b.ready.follow;
         at = piece_after base place t.outer closed line_end c (one_feed c (feeds c starts_with)) b.ready.at;
       }))

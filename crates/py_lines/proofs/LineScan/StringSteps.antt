@@ -1,5 +1,5 @@
 -- A string with fields in the scan of a line: what is read of it is told by the machine with fields.
-use Rattle.std.proofs.Common.{◌≡◌, ℕ, zero, suc, ◌+◌, Option, None, Some, Ok, List, [], ◌∷◌, ◌++◌, refl, sym, ap, ◌∙◌, subst}
+use Rattle.std.proofs.Common.{◌≡◌, ℕ, zero, suc, ◌+◌, Option, None, Some, List, [], ◌∷◌, ◌++◌, refl, sym, ap, ◌∙◌, subst}
 use Rattle.py_lines.specs.Piece.{Piece, spelled}
 use Rattle.py_lines.specs.LogicalLine.{byte_len}
 use Rattle.py_lines.specs.declared.mode.Mode.{Mode}
@@ -96,11 +96,11 @@ string_move_is scan done held t c v stacked is move =
     ap (λ d. fielded_move d (string_state held) c) (stands done (stack_of scan.brackets) stacked).depth ∙ ap (λ o. fielded_move (depth_of scan.brackets) o c) is ∙ move
 
 -- what its scan says of a character, of the string that is open
-module _ (old : Scan) (f : FieldScan) (c depth : ℕ) (p : FieldProgress) (same : depth ≡ depth_of old.brackets) (pushes : PushesField old.fields c old.stop depth (Ok p) f) (t : FieldScanned) (stands : StandsInString old t) where
-  came_to : (q : FieldProgress) → p ≡ q → ComesTo old.piece.start (depth_of old.brackets) t c old.fields (Ok q) f
+module _ (old : Scan) (f : FieldScan) (c depth : ℕ) (p : FieldProgress) (same : depth ≡ depth_of old.brackets) (pushes : PushesField old.fields c old.stop depth p f) (t : FieldScanned) (stands : StandsInString old t) where
+  came_to : (q : FieldProgress) → p ≡ q → ComesTo old.piece.start (depth_of old.brackets) t c old.fields q f
   came_to q is =
-      subst (λ (r : FieldProgress). ComesTo old.piece.start (depth_of old.brackets) t c old.fields (Ok r) f) is
-      (subst (λ d. ComesTo old.piece.start d t c old.fields (Ok p) f) same (pushes old.piece.start t stands.follows stands.inside stands.stop))
+      subst (λ (r : FieldProgress). ComesTo old.piece.start (depth_of old.brackets) t c old.fields r f) is
+      (subst (λ d. ComesTo old.piece.start d t c old.fields p f) same (pushes old.piece.start t stands.follows stands.inside stands.stop))
 
   pub goes_on : (new : Scan) → p ≡ progress.Going → new ≡ in_mode (with_character (with_field_scan old f) c) modes.Fielded → GoesOnInString old t c new
   goes_on new going is =

@@ -1,8 +1,7 @@
 -- What the scan of a string with fields keeps, in the words of the machine with fields. It serves the contracts of private
 -- functions.
-use Rattle.std.specs.Prelude.{◌≡◌, ℕ, ◌+◌, ◌-◌, ◌<◌, ◌≤◌, ◌==◌, ◌&&◌, not, nat_lt, Bool, true, false, Option, None, Some, Result, Ok, Err, List, [], ◌∷◌, ◌++◌, length, drop, encode_utf8_all, if◌then◌else◌}
+use Rattle.std.specs.Prelude.{◌≡◌, ℕ, ◌+◌, ◌-◌, ◌<◌, ◌≤◌, ◌==◌, ◌&&◌, not, nat_lt, Bool, true, false, Option, None, Some, List, [], ◌∷◌, ◌++◌, length, drop, encode_utf8_all, if◌then◌else◌}
 use Rattle.std.specs.Str.{all_scalars}
-use Rattle.std.specs.declared.alloc.AllocError.{AllocError}
 use Rattle.py_lines.specs.Character.{is_backslash, is_brace, is_break, is_quote, is_space, is_word_character}
 use Rattle.py_lines.specs.Balance.{is_opening}
 use Rattle.py_lines.specs.LogicalLine.{byte_len}
@@ -16,17 +15,17 @@ use Rattle.py_lines.specs.declared.mode.Mode.TheVariants as modes
 use Rattle.py_lines.specs.declared.mode.Move.TheVariants as moves
 use Rattle.py_lines.specs.declared.host.StringWithFields.{StringWithFields}
 use Rattle.py_lines.specs.declared.scan.LineFault.{LineFault}
-use Rattle.py_lines.specs.declared.field_scan.Region.{Region}
-use Rattle.py_lines.specs.declared.field_scan.Region.TheVariants as regions
-use Rattle.py_lines.specs.declared.field_scan.At.{At}
-use Rattle.py_lines.specs.declared.field_scan.At.TheVariants as ats
-use Rattle.py_lines.specs.declared.field_scan.FieldMode.{FieldMode}
-use Rattle.py_lines.specs.declared.field_scan.FieldMode.TheVariants as field_modes
-use Rattle.py_lines.specs.declared.field_scan.FieldMove.{FieldMove}
-use Rattle.py_lines.specs.declared.field_scan.FieldMove.TheVariants as field_moves
-use Rattle.py_lines.specs.declared.field_scan.OpenField.{OpenField}
-use Rattle.py_lines.specs.declared.field_scan.Frame.{Frame}
-use Rattle.py_lines.specs.declared.field_scan.Frame.TheVariants as frame
+use Rattle.py_lines.specs.declared.host.Region.{Region}
+use Rattle.py_lines.specs.declared.host.Region.TheVariants as regions
+use Rattle.py_lines.specs.declared.field_mode.At.{At}
+use Rattle.py_lines.specs.declared.field_mode.At.TheVariants as ats
+use Rattle.py_lines.specs.declared.field_mode.FieldMode.{FieldMode}
+use Rattle.py_lines.specs.declared.field_mode.FieldMode.TheVariants as field_modes
+use Rattle.py_lines.specs.declared.field_mode.FieldMove.{FieldMove}
+use Rattle.py_lines.specs.declared.field_mode.FieldMove.TheVariants as field_moves
+use Rattle.py_lines.specs.declared.frames.OpenField.{OpenField}
+use Rattle.py_lines.specs.declared.frames.Frame.{Frame}
+use Rattle.py_lines.specs.declared.frames.Frame.TheVariants as frame
 use Rattle.py_lines.specs.declared.field_scan.FieldScan.{FieldScan}
 use Rattle.py_lines.specs.declared.field_scan.FieldProgress.{FieldProgress}
 use Rattle.py_lines.specs.declared.field_scan.FieldProgress.TheVariants as progress
@@ -105,11 +104,6 @@ stays_field other c = false
 abbrev pub keeps_byte : FieldMode → ℕ → Bool
 keeps_byte m b = nat_lt b 128 && (not (is_break b) && stays_field m b)
 
--- the frames, the innermost first
-abbrev pub innermost_first : List Frame → List Frame
-innermost_first [] = []
-innermost_first (f ∷ fs) = innermost_first fs ++ f ∷ []
-
 -- the frames of brackets, where their list starts at this byte
 abbrev pub bracket_frames : ℕ → List Bracket → List Frame
 bracket_frames start [] = []
@@ -158,23 +152,22 @@ pub record Follows (scan : FieldScan) (base : ℕ) (t : FieldScanned) : Type 0 w
   pub waits : WaitsInLiteral t.mode
   pub full : is_waiting t.mode ≡ true → t.held ≡ [] → ⊥
   pub start : scan.start ≡ base + piece_start t
-  pub frames : FramesFollow base t.outer t.done t.openers (innermost_first scan.frames.items)
+  pub frames : FramesFollow base t.outer t.done t.openers scan.frames
 
 -- it begins in the body of a string, of which nothing is read
 abbrev pub FollowsBody : FieldScan → StringWithFields → ℕ → Type 0
 FollowsBody scan host base = (held : List ℕ) → Follows scan base (field_state [] [] [] (body (host_in host) literal false between) held)
 
 -- what one more character comes to where the machine stands so, and so many brackets are open round the string
-abbrev pub ComesTo : ℕ → ℕ → FieldScanned → ℕ → FieldScan → Result FieldProgress AllocError → FieldScan → Type 0
-ComesTo base depth t c old (Ok progress.Going) new =
+abbrev pub ComesTo : ℕ → ℕ → FieldScanned → ℕ → FieldScan → FieldProgress → FieldScan → Type 0
+ComesTo base depth t c old progress.Going new =
     (next : FieldScanned) × (field_step t c ≡ Some next) × (fielded_move depth (Some t) c ≡ moves.Grows modes.Fielded)
     × IsInString next × Follows new base next
-ComesTo base depth t c old (Ok progress.Closed) new = fielded_move depth (Some t) c ≡ moves.Closes
-ComesTo base depth t c old (Ok progress.Refused) new = (fielded_move depth (Some t) c ≡ moves.Refused) × (new ≡ old)
-ComesTo base depth t c old (Err e) new = Unit {0}
+ComesTo base depth t c old progress.Closed new = fielded_move depth (Some t) c ≡ moves.Closes
+ComesTo base depth t c old progress.Refused new = (fielded_move depth (Some t) c ≡ moves.Refused) × (new ≡ old)
 
 -- so wherever the machine stands that the scan keeps count of, if the character stands at this byte
-abbrev pub PushesField : FieldScan → ℕ → ℕ → ℕ → Result FieldProgress AllocError → FieldScan → Type 0
+abbrev pub PushesField : FieldScan → ℕ → ℕ → ℕ → FieldProgress → FieldScan → Type 0
 PushesField old c place depth result new =
     (base : ℕ) (t : FieldScanned) → Follows old base t → IsInString t → place ≡ base + here t → ComesTo base depth t c old result new
 
@@ -201,7 +194,7 @@ abbrev pub StandsInText : FieldScan → ℕ → Option ℕ → Type 0
 StandsInText scan depth None = Unit {0}
 StandsInText scan depth (Some quote) =
     (h : StringWithFields) × (scan.mode ≡ field_modes.Body h regions.Literal false ats.Between) × (h.quote ≡ quote) × (is_quote quote ≡ true)
-    × (depth + length scan.frames.items ≤ 100)
+    × (depth + length scan.frames ≤ 100)
 
 -- what is wrong where such a string refuses a character
 abbrev pub IsFieldFault : ℕ → ℕ → FieldScanned → ℕ → LineFault → Type 0
@@ -257,13 +250,8 @@ freed_at old place = record old { mode = field_modes.Code modes.Free; start = pl
 abbrev pub ended_in : FieldScan → OpenField → FieldScan
 ended_in old field = record old { mode = field_modes.Body field.host field.region false ats.Between; start = field.start }
 
--- what was opened last
-abbrev pub IsInnermostFrame : Option Frame → List Frame → Type 0
-IsInnermostFrame None fs = fs ≡ []
-IsInnermostFrame (Some f) fs = (others : List Frame) × (fs ≡ f ∷ others)
-
 -- what a character comes to that does this
-abbrev pub TakesMove : FieldScan → ℕ → ℕ → ℕ → spots.FieldMove → Result FieldProgress AllocError → FieldScan → Type 0
+abbrev pub TakesMove : FieldScan → ℕ → ℕ → ℕ → spots.FieldMove → FieldProgress → FieldScan → Type 0
 TakesMove old c place depth move result new =
     (base : ℕ) (t : FieldScanned) → Follows old base t → IsInString t → place ≡ base + here t → field_move t.mode t.held c ≡ move
     → ComesTo base depth t c old result new

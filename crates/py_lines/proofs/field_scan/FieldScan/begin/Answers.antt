@@ -1,6 +1,6 @@
-use Rattle.std.proofs.Common.{[], refl, ap, arith}
-use Rattle.py_lines.specs.Private.FieldScan.{innermost_first, none_open}
+use Rattle.std.proofs.Common.{[], refl, arith}
+use Rattle.py_lines.specs.Private.FieldScan.{none_open}
 use Rattle.py_lines.proofs.field_scan.FieldScan.begin.Goals as goal
 
 pub returns : goal.returns
-returns c = λ held. record { mode = refl; holds = tt; no_list = tt; waits = tt; full = λ w. absurd (cc); start = omega (arith); frames = none_open _ [] [] (innermost_first c.clear.new.self.items) refl (ap innermost_first c.clear.ensures.items) }
+returns c = λ held. record { mode = refl; holds = tt; no_list = tt; waits = tt; full = λ w. absurd (cc); start = omega (arith); frames = none_open _ [] [] c.clear.new.self refl c.clear.ensures }

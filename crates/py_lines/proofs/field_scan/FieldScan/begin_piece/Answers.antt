@@ -1,4 +1,4 @@
-use Rattle.std.proofs.Common.{Ok, sym, ◌∙◌, subst}
+use Rattle.std.proofs.Common.{sym, ◌∙◌, subst}
 use Rattle.py_lines.specs.declared.field_scan.FieldScan.{FieldScan}
 use Rattle.py_lines.specs.declared.field_scan.FieldProgress.TheVariants as progress
 use Rattle.py_lines.specs.Private.FieldScan.{ComesTo}
@@ -10,5 +10,5 @@ returns-in-Open c = λ base t follow inside at is. begun c.args.self.now base c.
 
 pub returns-in-LineEnd : goal.returns-in-LineEnd
 returns-in-LineEnd c = λ base t follow inside at is.
-    subst (λ (n : FieldScan). ComesTo base c.args.depth t c.args.c c.args.self.now (Ok progress.Going) n) (sym c.free.ensures)
+    subst (λ (n : FieldScan). ComesTo base c.args.depth t c.args.c c.args.self.now progress.Going n) (sym c.free.ensures)
     (ended_line c.args.self.now base c.args.depth t c.args.c c.args.place follow inside at is (sym c.of.ensures ∙ c.in-LineEnd.is))

@@ -1,5 +1,4 @@
-use Rattle.std.proofs.Common.{◌≡◌, ◌+◌, ℕ, Ok, length, sym, ap, ◌∙◌, subst, arith}
-use Rattle.std.specs.Vec.{vec_len}
+use Rattle.std.proofs.Common.{◌+◌, ℕ, sym, ap, ◌∙◌, subst}
 use Rattle.std.proofs.lemmas.Bool.{eqb-true, both_ways, eq-eqb}
 use Rattle.py_lines.specs.declared.field_scan.FieldScan.{FieldScan}
 use Rattle.py_lines.specs.declared.field_scan.FieldProgress.TheVariants as progress
@@ -9,15 +8,11 @@ use Rattle.py_lines.proofs.field_scan.FieldScan.close.Goals as goal
 
 pub returns-then-is_empty : goal.returns-then-is_empty
 returns-then-is_empty c = λ depth base t follow inside at is.
-    let v = c.args.self.now.frames in
-    let same : vec_len v ≡ length v.items = omega arith in
     closed_out c.args.self.now base depth t c.args.c c.args.place follow inside at is
-    (outside_of c.args.self.now base t follow (sym same ∙ eqb-true (vec_len v) 0 (sym c.is_empty.ensures ∙ c.if-is_empty.true))) c.args.self.now
+    (outside_of c.args.self.now base t follow (eqb-true _ 0 (sym c.is_empty.ensures ∙ c.if-is_empty.true))) c.args.self.now
 
 pub returns : goal.returns
 returns c = λ depth base t follow inside at is.
-    let v = c.args.self.now.frames in
-    let same : vec_len v ≡ length v.items = omega arith in
-    subst (λ (n : FieldScan). ComesTo base depth t c.args.c c.args.self.now (Ok progress.Going) n) (ap (λ (k : ℕ). freed_at c.args.self.now (c.args.place + k)) (sym c.len_utf8.ensures.value) ∙ sym c.free.ensures)
+    subst (λ (n : FieldScan). ComesTo base depth t c.args.c c.args.self.now progress.Going n) (ap (λ (k : ℕ). freed_at c.args.self.now (c.args.place + k)) (sym c.len_utf8.ensures.value) ∙ sym c.free.ensures)
     (closed_in c.args.self.now base depth t c.args.c c.args.place follow inside at is
-    (within_of c.args.self.now base t follow (λ none. both_ways _ c.if-is_empty.false (c.is_empty.ensures ∙ eq-eqb (vec_len v) 0 (same ∙ none)))))
+    (within_of c.args.self.now base t follow (λ none. both_ways _ c.if-is_empty.false (c.is_empty.ensures ∙ eq-eqb _ 0 none))))

@@ -1,10 +1,9 @@
-use Rattle.std.proofs.Common.{Ok, sym, ap, ◌∙◌, subst, arith}
+use Rattle.std.proofs.Common.{sym, ◌∙◌, subst, arith}
 use Rattle.std.proofs.lemmas.Bool.{ltb-true, lt-ltb, both_ways}
 use Rattle.py_lines.specs.declared.field_scan.FieldScan.{FieldScan}
 use Rattle.py_lines.specs.declared.field_scan.FieldProgress.TheVariants as progress
-use Rattle.py_lines.specs.declared.field_scan.Frame.TheVariants as frame
-use Rattle.py_lines.specs.Private.FieldScan.{innermost_first, ComesTo}
-use Rattle.py_lines.proofs.FieldScans.Frames.{innermost_first-push}
+use Rattle.py_lines.specs.declared.frames.Frame.TheVariants as frame
+use Rattle.py_lines.specs.Private.FieldScan.{ComesTo}
 use Rattle.py_lines.proofs.FieldScans.CodeOperators.{bracket_opens, bracket_too_deep}
 use Rattle.py_lines.proofs.field_scan.FieldScan.open_bracket.Goals as goal
 
@@ -15,7 +14,7 @@ returns-then-not-has_room c = λ base t.
 
 pub returns : goal.returns
 returns c = λ base t follow inside at is.
-    subst (λ (n : FieldScan). ComesTo base c.args.depth t c.args.c c.args.self.now (Ok progress.Going) n) (sym c.free.ensures)
+    subst (λ (n : FieldScan). ComesTo base c.args.depth t c.args.c c.args.self.now progress.Going n) (sym c.free.ensures)
     (bracket_opens c.args.self.now base c.args.depth c.args.c c.args.place c.requires.operator (record c.args.self.now { frames = c.push.new.self })
-    (ap innermost_first c.in_ok-push.ensures.items ∙ innermost_first-push c.args.self.now.frames.items (frame.Bracket c.args.c c.args.place)) c.requires.opens
+    c.push.ensures c.requires.opens
     (let room = ltb-true _ 201 (sym c.has_room.ensures ∙ c.if-not-has_room.false) in omega (arith, room)) t follow inside at is)

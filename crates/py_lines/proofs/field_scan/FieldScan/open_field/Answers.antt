@@ -1,10 +1,9 @@
-use Rattle.std.proofs.Common.{Ok, sym, ap, ◌∙◌, subst}
-use Rattle.py_lines.specs.declared.field_scan.Region.TheVariants as regions
-use Rattle.py_lines.specs.declared.field_scan.Frame.TheVariants as frame
+use Rattle.std.proofs.Common.{sym, ◌∙◌, subst}
+use Rattle.py_lines.specs.declared.host.Region.TheVariants as regions
+use Rattle.py_lines.specs.declared.frames.Frame.TheVariants as frame
 use Rattle.py_lines.specs.declared.field_scan.FieldScan.{FieldScan}
 use Rattle.py_lines.specs.declared.field_scan.FieldProgress.TheVariants as progress
-use Rattle.py_lines.specs.Private.FieldScan.{innermost_first, ComesTo}
-use Rattle.py_lines.proofs.FieldScans.Frames.{innermost_first-push}
+use Rattle.py_lines.specs.Private.FieldScan.{ComesTo}
 use Rattle.py_lines.proofs.FieldScans.FieldAnswers.{opens_there, shut_there}
 use Rattle.py_lines.proofs.field_scan.FieldScan.open_field.Goals as goal
 
@@ -13,7 +12,7 @@ returns-then-not-has_room c = λ base t f inside at is. shut_there c.args.self.n
 
 pub returns : goal.returns
 returns c = λ base t f inside at is.
-    subst (λ (n : FieldScan). ComesTo base c.args.depth t c.args.c c.args.self.now (Ok progress.Going) n) (sym c.free.ensures)
+    subst (λ (n : FieldScan). ComesTo base c.args.depth t c.args.c c.args.self.now progress.Going n) (sym c.free.ensures)
     (opens_there c.args.self.now (record c.args.self.now { frames = c.push.new.self }) base c.args.depth c.args.c c.args.place c.args.host
-    (ap innermost_first c.in_ok-push.ensures.items ∙ innermost_first-push c.args.self.now.frames.items (frame.Field (record { place = c.args.place; host = c.args.host; region = regions.Specification; start = c.args.self.now.start })))
+    c.push.ensures
     (sym c.has_room.ensures ∙ c.if-not-has_room.false) t f at is)

@@ -1,10 +1,9 @@
-use Rattle.std.proofs.Common.{◌∷◌, List, Ok, length, sym, ap, ◌∙◌, subst, arith}
+use Rattle.std.proofs.Common.{◌∷◌, List, drop, sym, ap, ◌∙◌, subst}
 use Rattle.py_lines.specs.declared.field_scan.FieldScan.{FieldScan}
 use Rattle.py_lines.specs.declared.field_scan.FieldProgress.TheVariants as progress
-use Rattle.py_lines.specs.declared.field_scan.Frame.{Frame}
-use Rattle.py_lines.specs.declared.field_scan.Frame.TheVariants as frame
+use Rattle.py_lines.specs.declared.frames.Frame.{Frame}
+use Rattle.py_lines.specs.declared.frames.Frame.TheVariants as frame
 use Rattle.py_lines.specs.Private.FieldScan.{ComesTo}
-use Rattle.py_lines.proofs.FieldScans.Frames.{innermost_first-length, pops}
 use Rattle.py_lines.proofs.FieldScans.CodeOperators.{field_ends, field_specifies, field_closes_none, field_passes}
 use Rattle.py_lines.proofs.field_scan.FieldScan.take_in_field.Goals as goal
 
@@ -17,9 +16,9 @@ pub returns-then-c-eq125 : goal.returns-then-c-eq125
 returns-then-c-eq125 c = λ depth base t follow inside at is.
     let top = c.requires.innermost in
     let last : Frame = frame.Field c.args.field in
-    subst (λ (n : FieldScan). ComesTo base depth t c.args.c c.args.self.now (Ok progress.Going) n) (sym c.resume.ensures)
+    subst (λ (n : FieldScan). ComesTo base depth t c.args.c c.args.self.now progress.Going n) (sym c.resume.ensures)
     (field_ends c.args.self.now base depth c.args.c c.args.place c.requires.operator c.args.field top (record c.args.self.now { frames = c.pop.new.self })
-    (top.1 ∙ ap (λ (fs : List Frame). last ∷ fs) (sym (pops c.args.self.now.frames.items c.pop.new.self.items c.pop.result _ last top.0 (c.pop.ensures.value last (omega (arith, innermost_first-length c.args.self.now.frames.items, ap length top.1))) c.pop.ensures.items top.1)))
+    (top.1 ∙ ap (λ (fs : List Frame). last ∷ fs) (sym (c.pop.ensures ∙ ap (drop 1) top.1)))
     c.if-c-eq125.true c.requires.other t follow inside at is)
 
 pub returns-then-c-eq58 : goal.returns-then-c-eq58
@@ -28,6 +27,6 @@ returns-then-c-eq58 c = λ depth base t.
 
 pub returns-else-is_closing : goal.returns-else-is_closing
 returns-else-is_closing c = λ depth base t follow inside at is.
-    subst (λ (n : FieldScan). ComesTo base depth t c.args.c c.args.self.now (Ok progress.Going) n) (sym c.free.ensures)
+    subst (λ (n : FieldScan). ComesTo base depth t c.args.c c.args.self.now progress.Going n) (sym c.free.ensures)
     (field_passes c.args.self.now base depth c.args.c c.args.place c.requires.operator c.args.field c.requires.innermost c.if-c-eq125.false c.if-c-eq58.false
     c.requires.other (sym c.is_closing.ensures ∙ c.if-is_closing.false) t follow inside at is)

@@ -2,10 +2,10 @@ use Rattle.std.proofs.Common.{◌≡◌, ap, sym, ◌∙◌, Bool, Some}
 use Rattle.std.specs.Prelude.{if◌then◌else◌}
 use Rattle.py_lines.specs.Faults.{open_inside, open_brace}
 use Rattle.py_lines.specs.FieldStrings.{literal}
-use Rattle.py_lines.specs.declared.field_scan.Region.{Region}
-use Rattle.py_lines.specs.declared.field_scan.Region.TheVariants as regions
-use Rattle.py_lines.specs.declared.field_scan.At.{At}
-use Rattle.py_lines.specs.declared.field_scan.At.TheVariants as ats
+use Rattle.py_lines.specs.declared.host.Region.{Region}
+use Rattle.py_lines.specs.declared.host.Region.TheVariants as regions
+use Rattle.py_lines.specs.declared.field_mode.At.{At}
+use Rattle.py_lines.specs.declared.field_mode.At.TheVariants as ats
 use Rattle.py_lines.specs.Private.FieldMachine.{body, after_brace}
 use Rattle.py_lines.specs.Private.FieldScan.{mode_from, region_in, at_in}
 use Rattle.py_lines.specs.Private.ScanMachine.{host_in}

@@ -16,7 +16,7 @@ returns-clause-start c =
       kind = Blank;
       tokens = c.clear.new.self;
       brackets = c.clear-2.new.self;
-      fields = c.clear-3.new.self;
+      fields = c.args.self.now.fields;
     } in
     record {
       counts = record {

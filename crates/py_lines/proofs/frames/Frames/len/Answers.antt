@@ -1,0 +1,9 @@
+use Rattle.std.proofs.Common.{◌≤◌, length, sym, ap, ◌∙◌, arith}
+use Rattle.py_lines.proofs.FieldScans.FrameArrays.{first_frames-length}
+use Rattle.py_lines.proofs.frames.Frames.len.Goals as goal
+
+pub returns : goal.returns
+returns c =
+    let q = c.self.inside in
+    let within : q.depth ≤ length q.frames = omega (arith, c.self.invariant) in
+    sym (first_frames-length q.frames q.depth within) ∙ ap length c.self.view_is

@@ -1,0 +1,109 @@
+//! What is open in a string with fields, kept without memory.
+
+use crate::host::{Region, StringWithFields};
+use std::marker::Model;
+
+/// What is open in a string: a bracket in a field's code, or a field.
+#[derive(Clone, Copy)]
+pub enum Frame {
+    /// A bracket, and the byte where it stands.
+    Bracket(char, usize),
+    /// A field.
+    Field(OpenField),
+}
+
+/// A field that is open, and the string that is suspended round it.
+#[derive(Clone, Copy)]
+pub struct OpenField {
+    /// The byte where its `{` stands.
+    pub place: usize,
+    /// The string round it.
+    pub host: StringWithFields,
+    /// Where in that string it stands.
+    pub region: Region,
+    /// The byte at which that string begins.
+    pub start: usize,
+}
+
+/// The brackets and fields that are open. No text has more than 200 of them open at once.
+#[derive(Drop)]
+pub struct Frames {
+    /// They, the innermost last. What stands after them counts for nothing.
+    frames: [Frame; 256],
+    /// How many they are.
+    depth: u8,
+}
+
+// Clauses see what is open, the innermost first.
+impl Model for Frames {
+    ghost use Rattle.std.specs.Prelude.{◌≡◌, List, length, reverse, take};
+    ghost use Rattle.py_lines.specs.declared.frames.Frame.{Frame};
+
+    ghost Value = { List Frame };
+
+    ghost view = { λ f. reverse (take f.depth f.frames) };
+
+    ghost invariant = { λ f. length f.frames ≡ 256 };
+}
+
+impl Frames {
+    ghost use Rattle.std.specs.Prelude.{◌≡◌, ◌==◌, ◌<◌, [], ◌∷◌, drop, length};
+    ghost use Rattle.py_lines.specs.Private.Frames.{IsInnermostFrame};
+
+    /// Nothing is open.
+    pub fn new() -> Frames
+        ensures { result ≡ [] }
+    {
+        Frames {
+            frames: [Frame::Bracket('(', 0); 256],
+            depth: 0,
+        }
+    }
+
+    /// Nothing is open any longer.
+    pub fn clear(&mut self)
+        ensures { self.new ≡ [] }
+    {
+        self.depth = 0;
+    }
+
+    /// Whether nothing is open.
+    pub fn is_empty(&self) -> bool
+        ensures { result ≡ (length self.now == 0) }
+    {
+        self.depth == 0
+    }
+
+    /// How many brackets and fields are open.
+    pub fn len(&self) -> usize
+        ensures { result ≡ length self.now }
+    {
+        self.depth as usize
+    }
+
+    /// What was opened last and is still open.
+    pub fn innermost(&self) -> Option<Frame>
+        ensures { IsInnermostFrame result self.now }
+    {
+        if self.depth == 0 {
+            return None;
+        }
+        Some(self.frames[self.depth as usize - 1])
+    }
+
+    /// Opens a bracket or a field.
+    pub fn push(&mut self, frame: Frame)
+        requires { length self.old < 200 }
+        ensures { self.new ≡ frame ∷ self.old }
+    {
+        self.frames[self.depth as usize] = frame;
+        self.depth += 1;
+    }
+
+    /// Closes the innermost, if something is open.
+    pub fn pop(&mut self)
+        ensures { self.new ≡ drop 1 self.old }
+    {
+        self.depth = self.depth.saturating_sub(1);
+    }
+}
