@@ -94,5 +94,6 @@ pub mod Elsewhere
 pub mod LineScan
 pub mod SpecialBytes
 pub mod SimpleLines
+pub mod WholeFields
 pub mod Readers
 pub mod Feeds

@@ -13,4 +13,5 @@ pub mod Source
 pub mod Run
 pub mod Marks
 pub mod Outline
+pub mod WholeFields
 pub mod Feed

@@ -167,7 +167,7 @@ impl Spelling {
     }
 
     /// Whether `r` is in the prefix of a string with fields.
-    fn is_raw(self) -> bool
+    pub fn is_raw(self) -> bool
         ensures { result ≡ is_raw_spelling self }
     {
         matches!(self, Spelling::Fr | Spelling::Tr)

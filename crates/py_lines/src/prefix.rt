@@ -13,7 +13,10 @@ pub enum Prefix {
     /// The prefix of a string without fields, or no word at all.
     Plain,
     /// The prefix of a string with fields.
-    Fields,
+    Fields {
+        /// Whether `r` is in it.
+        is_raw: bool,
+    },
     /// No prefix.
     Other,
 }
@@ -26,7 +29,9 @@ impl Prefix {
     {
         let spelling = Spelling::of_word(word);
         if spelling.has_fields() {
-            Prefix::Fields
+            Prefix::Fields {
+                is_raw: spelling.is_raw(),
+            }
         } else if spelling.is_prefix() {
             Prefix::Plain
         } else {

@@ -31,7 +31,7 @@ use Rattle.py_lines.proofs.LineScan.WholeStrings.{at_body, quoted_steps}
 use Rattle.py_lines.proofs.SimpleLines.Code.{apart_tail, come_sound, holds_more, no_tail, quote-no-word, stands}
 
 -- the word that is open is its prefix
-word_open : (rest read : List ℕ) (n : ℕ) (st : List Bracket) (q : ℕ) (s : Spelling) → tail_of read ≡ Some s → is_quote q ≡ true → StandsBefore (q ∷ rest) read n st → IsInPiece (modes.Word s) read n st
+pub word_open : (rest read : List ℕ) (n : ℕ) (st : List Bracket) (q : ℕ) (s : Spelling) → tail_of read ≡ Some s → is_quote q ≡ true → StandsBefore (q ∷ rest) read n st → IsInPiece (modes.Word s) read n st
 word_open rest read n st q s tail quote (inl on) =
     let is : on.state.mode ≡ modes.Word s = subst (λ t. IsTail t on.state.mode) tail on.tail in
     subst (λ (m : Mode). IsInPiece m read n st) is (record { done = on.state.done; held = on.state.held; come = on.come })

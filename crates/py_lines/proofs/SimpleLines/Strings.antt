@@ -36,10 +36,10 @@ use Rattle.py_lines.proofs.SimpleLines.FirstBytes.{first_then, line_end_low, tak
 use Rattle.py_lines.proofs.SimpleLines.Runs.{goes_on, stay_spelled}
 
 -- a character makes the open piece grow so
-abbrev Steps : Mode → ℕ → Mode → Type 0
+abbrev pub Steps : Mode → ℕ → Mode → Type 0
 Steps m c next = (done : List Piece) (held : List ℕ) → scan_step (scanned done m held) c ≡ Some (scanned done next (held ++ c ∷ []))
 
-grows : (m next : Mode) (c k : ℕ) (read : List ℕ) (n : ℕ) (st : List Bracket) → Steps m c next → HoldsLineEnds (read ++ c ∷ []) k → IsInPiece m read n st → IsInPiece next (read ++ c ∷ []) k st
+pub grows : (m next : Mode) (c k : ℕ) (read : List ℕ) (n : ℕ) (st : List Bracket) → Steps m c next → HoldsLineEnds (read ++ c ∷ []) k → IsInPiece m read n st → IsInPiece next (read ++ c ∷ []) k st
 grows m next c k read n st step holds s = record {
   done = s.done;
   held = s.held ++ c ∷ [];
@@ -261,10 +261,10 @@ module _ (q : ℕ) (quote : is_quote q ≡ true) where
   quote_low : list_all is_low (q ∷ []) ≡ true
   quote_low = and_from _ _ (is_low_from q (quote_ascii q quote)) refl
 
-  quotes_two : list_all is_low (q ∷ q ∷ []) ≡ true
+  pub quotes_two : list_all is_low (q ∷ q ∷ []) ≡ true
   quotes_two = let one = is_low_from q (quote_ascii q quote) in and_from _ _ one (and_from _ _ one refl)
 
-  quotes_low : list_all is_low (q ∷ q ∷ q ∷ []) ≡ true
+  pub quotes_low : list_all is_low (q ∷ q ∷ q ∷ []) ≡ true
   quotes_low = let one = is_low_from q (quote_ascii q quote) in and_from _ _ one (and_from _ _ one (and_from _ _ one refl))
 
   quote_held : (read : List ℕ) (n : ℕ) → HoldsLineEnds read n → HoldsLineEnds (read ++ q ∷ []) n
