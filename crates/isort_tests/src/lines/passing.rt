@@ -58,11 +58,8 @@ const PASSING: &[Passing] = &[
     // A line that goes past the byte, and one without a line end.
     Passing("a\nb\nc = d\n", 9, 2, (4, 3)),
     Passing("a\nb\nc = d", 9, 2, (4, 3)),
-    // What is left to the scan: a long string with fields, a field in another, an empty string with fields, a word before a string,
-    // two quotes in a string of three, a quote before a backslash, and a backslash before a space.
-    Passing("a\nf'''{b}'''\n", 13, 0, (2, 2)),
-    Passing("a\nf'{b:{c}}'\n", 13, 0, (2, 2)),
-    Passing("a\nRT\"\"\n", 7, 0, (2, 2)),
+    // What is left to the scan: a word before a string, two quotes in a string of three, a quote before a backslash, and a backslash
+    // before a space.
     Passing("a\nbar'c'\n", 9, 0, (2, 2)),
     Passing("a\n'''b''c'''\n", 13, 0, (2, 2)),
     Passing("a\n'''b'\\''''\n", 13, 0, (2, 2)),
@@ -112,6 +109,29 @@ const CHARACTERS: &[Passing] = &[
     Passing("a\nf'\u{e4}'\n", 8, 0, (2, 2)),
 ];
 
+const FIELDS: &[Passing] = &[
+    // Strings with fields: empty, of three quotes on one line and over several, and with quotes in their text.
+    Passing("a\nRT\"\"\n", 7, 5, (7, 3)),
+    Passing("a\nf''''''\n", 10, 8, (10, 3)),
+    Passing("a\nf'''{b}'''\n", 13, 11, (13, 3)),
+    Passing("a\nf\"\"\"b\n{c!r:>9}\n\"\"\"\n", 21, 19, (21, 5)),
+    Passing("a\nTR'''{{}}\\t'''\n", 17, 15, (17, 3)),
+    Passing("a\nf'''b''c'''\n", 14, 12, (14, 3)),
+    // Fields in specifications and in strings in fields, a name, a line end in a field, and one that a backslash escapes.
+    Passing("a\nf'{b:{c}}'\n", 13, 11, (13, 3)),
+    Passing("a\nf'{b!r:{c}.{d}}'\n", 19, 17, (19, 3)),
+    Passing("a\nf'{f\"{b}\"}'\n", 14, 12, (14, 3)),
+    Passing("a\nf'\\N{b}'\n", 11, 9, (11, 3)),
+    Passing("a\nf'''{\nb}'''\n", 14, 12, (14, 4)),
+    Passing("a\nf'''\\\n'''\n", 12, 10, (12, 4)),
+    // In brackets.
+    Passing("a\n(f'{b}',\n f'{{')\n", 19, 17, (19, 4)),
+    // What is left to the scan: CR in such a string, and one that isn't closed.
+    Passing("a\nf'''b\r\nc'''\n", 14, 0, (2, 2)),
+    Passing("a\nf'''b\n", 8, 0, (2, 2)),
+    Passing("a\nf'{b'\n", 8, 0, (2, 2)),
+];
+
 /// A piece of a text that follows its first line, and how many bytes of its lines a scanner passes over.
 struct PassingPiece(&'static [u8], usize);
 
@@ -153,6 +173,11 @@ fn lines_that_end_with_carriage_return_and_line_feed_are_passed_over(
 #[test]
 fn characters_outside_ascii_are_passed_over(rt: HostRuntime) -> Result<(), Fail> {
     each_holds_again(rt.alloc(), "CHARACTERS", CHARACTERS)
+}
+
+#[test]
+fn strings_with_fields_are_passed_over(rt: HostRuntime) -> Result<(), Fail> {
+    each_holds_again(rt.alloc(), "FIELDS", FIELDS)
 }
 
 #[test]
