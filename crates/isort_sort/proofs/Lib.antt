@@ -41,16 +41,16 @@
 -- SortedCuts): by the laws of one lexing, one list of bindings, one order and one cut, a text has one list of rows,
 -- one cut at blocks, and one layout of each.
 --
--- Laws on lines (proofs/LineLaws): the pieces of logical lines (Parts, OneLine, Units, Joined), of modules (Modules) and
--- tokens (Tokens), which pieces may stand beside others (Touching), what stands after a byte order mark and indentation
--- (Indented), and the laws of the crates below (Laws).
+-- Laws on lines (proofs/LineLaws): the pieces of logical lines (Parts, OneLine, Units, Joined), their tokens (Tokens), what
+-- stands after a byte order mark and indentation (Indented), what holds of each element of a list (Each), and the laws of the
+-- crates below (Laws).
 --
 -- Written statements are read back (proofs/WrittenStatements). A layout's text is in the order of its pieces. A part is
--- pieces with the bytes that they spell, what they say to the import grammar, and their comments. Names on lines of any
--- layout are joined by what holds one comma (Items). What stands after `import` or `from` is put together from its end, part
--- before part, and is one logical line whose comment stands well (Phrases, NamesPhrases); and so the whole statement is a
--- member that imports what it says (Lines, Remarks, Statements). What the statements of a block say comes from its members
--- (Sources, Written).
+-- pieces with the bytes that they spell, what they say to the import grammar, and their comments. A statement is put together
+-- from its end, piece before piece: what follows a piece is a part, of one logical line, whose comment stands well and whose
+-- first piece may touch it (Rests). Names are put before what may follow a name, on lines of any layout (NamesRests). So the
+-- whole statement is a member that imports what it says (Lines, Remarks, Statements). What the statements of a block say comes
+-- from its members (Sources, Written).
 --
 -- The lines of a text (proofs/WrittenLines). A text is its logical lines, each as its pieces, with a row that doesn't depend
 -- on where the line stands (UnitRows, UnitBinds). A block that is written is lines too: comments above, statements, blank

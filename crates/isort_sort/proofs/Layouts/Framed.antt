@@ -9,9 +9,3 @@ hung i h s e f j r = simp append_assoc
 
 pub hung_in_brackets : (i h o r e f j t q : List ℕ) → (((i ++ (h ++ o)) ++ (r ++ e)) ++ (i ++ (f ++ j))) ++ (t ++ (e ++ (i ++ (q ++ e)))) ≡ (i ++ (h ++ (o ++ (r ++ ((e ++ (i ++ f)) ++ (j ++ (t ++ (e ++ (i ++ q))))))))) ++ e
 hung_in_brackets i h o r e f j t q = simp append_assoc
-
-pub star_line : (i h s r e : List ℕ) → (i ++ (h ++ s)) ++ (r ++ e) ≡ (i ++ (h ++ (s ++ r))) ++ e
-star_line i h s r e = simp append_assoc
-
-pub straight_line : (i h m a r e : List ℕ) → (((i ++ h) ++ m) ++ a) ++ (r ++ e) ≡ (i ++ (h ++ (m ++ (a ++ r)))) ++ e
-straight_line i h m a r e = simp append_assoc

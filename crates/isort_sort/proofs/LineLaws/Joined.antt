@@ -1,9 +1,11 @@
 -- Logical lines one after another, and their bytes.
-use Rattle.std.proofs.Common.{◌≡◌, ℕ, ◌+◌, suc, zero, Bool, true, false, cond, ◌||◌, List, [], ◌∷◌, ◌++◌, flat_map, refl, sym, ap, ◌∙◌, append_assoc, arith, ◌&&◌}
+use Rattle.std.proofs.Common.{◌≡◌, ℕ, ◌+◌, ◌<◌, suc, zero, Bool, true, false, cond, ◌||◌, List, [], ◌∷◌, ◌++◌, flat_map, length, get_or, refl, sym, ap, ◌∙◌, append_assoc, append-nil, arith, ◌&&◌}
 use Rattle.std.specs.Prelude.{count_by, encode_utf8_all, replicate}
 use Rattle.std.specs.List.{list_any, list_all}
 use Rattle.std.proofs.lemmas.List.Sums.{sum_by-cons}
-use Rattle.std.proofs.lemmas.Str.{encodes-append}
+use Rattle.std.proofs.Math.Utf8.{encode}
+use Rattle.std.proofs.lemmas.Bool.{both_ways, false_from_ne_true}
+use Rattle.std.proofs.lemmas.Str.{encodes-append, inside_one, length-encode, len_utf8_bounds}
 use Rattle.py_lines.specs.Piece.{Piece, spelled}
 use Rattle.isort_sort.proofs.LineLaws.Units.{flat}
 use Rattle.isort_sort.proofs.LineLaws.Parts.{spelled-append}
@@ -50,6 +52,21 @@ count-replicate test (suc n) x h =
     let later = count-replicate test n x h in
     let more : 1 + count_by test (replicate n x) ≡ suc n = omega arith in
     sum_by-cons (λ y. cond (test y) 1 0) x (replicate n x) ∙ ap (λ (b : Bool). cond b 1 0 + count_by test (replicate n x)) h ∙ more
+
+-- a test that bytes of ASCII alone pass says the same of a character and of its bytes
+none_if_nowhere : (p : ℕ → Bool) (xs : List ℕ) → ((k : ℕ) → k < length xs → p (get_or xs k 0) ≡ false) → list_any p xs ≡ false
+none_if_nowhere p [] h = refl
+none_if_nowhere p (x ∷ xs) h =
+    let first : p x ≡ false = h 0 (omega arith) in
+    let later = none_if_nowhere p xs (λ k l. h (suc k) (omega arith)) in
+    λ i. first i || later i
+
+pub none_inside : (p : ℕ → Bool) → ((b : ℕ) → p b ≡ true → b < 128) → (c : ℕ) → p c ≡ false → list_any p (encode c) ≡ false
+none_inside p low c h =
+    none_if_nowhere p (encode c) (λ k l. false_from_ne_true _ (λ passes. both_ways _ h (ap p (inside_one c [] (encode c) k (sym (append-nil (encode c))) l (low _ passes)) ∙ passes)))
+
+pub some_encoded : (c : ℕ) → 0 < length (encode c)
+some_encoded c = omega (arith, length-encode c, len_utf8_bounds c)
 
 -- lists one after another
 pub regroup : {X : Type 0} (a b : List X) (x : X) (c d : List X) → (((a ++ b) ++ x ∷ []) ++ c) ++ d ≡ a ++ (b ++ (x ∷ (c ++ d)))

@@ -93,10 +93,6 @@ part-append {ps = ps} {qs = qs} p q = record {
 pub part-nil : IsStatementPart [] [] [] []
 part-nil = record { simple = tt; scalars = refl; spell = refl; says = refl; remarks = refl; undivided = refl }
 
--- a part whose terminals and bytes are others by equations
-pub part-as : (ps : List Piece) (b c : List ℕ) (t u : List Terminal) (r s : List (List ℕ)) → b ≡ c → t ≡ u → r ≡ s → IsStatementPart ps b t r → IsStatementPart ps c u s
-part-as ps b c t u r s e f g p = record { simple = p.simple; scalars = p.scalars; spell = p.spell ∙ e; says = p.says ∙ f; remarks = p.remarks ∙ g; undivided = p.undivided }
-
 -- ASCII is spelled by itself
 pub low-spell : (cs : List ℕ) → list_all (λ c. nat_lt c 128) cs ≡ true → encode_utf8_all cs ≡ cs
 low-spell [] h = refl
@@ -143,11 +139,15 @@ part-operator c o low h =
       undivided = ap (λ b. b || false) h;
     }
 
+-- what holds of each line end
+pub by_end : (P : List ℕ → Type 0) (end : List ℕ) → P (10 ∷ []) → P (13 ∷ 10 ∷ []) → P (13 ∷ []) → IsLineEnd end → P end
+by_end P end a b c (feed e) = subst P (sym e) a
+by_end P end a b c (return_feed e) = subst P (sym e) b
+by_end P end a b c (return e) = subst P (sym e) c
+
 -- a line end, and a join
 pub end_low : (end : List ℕ) → IsLineEnd end → list_all (λ c. nat_lt c 128) end ≡ true
-end_low end (feed e) = ap (list_all (λ c. nat_lt c 128)) e
-end_low end (return_feed e) = ap (list_all (λ c. nat_lt c 128)) e
-end_low end (return e) = ap (list_all (λ c. nat_lt c 128)) e
+end_low end is = by_end (λ e. list_all (λ c. nat_lt c 128) e ≡ true) end refl refl refl is
 
 pub part-end : (end : List ℕ) → IsLineEnd end → IsStatementPart (piece line_end end ∷ []) end [] []
 part-end end e = part-silent line_end end refl e (end_low end e) refl
@@ -156,18 +156,18 @@ pub part-join : (end : List ℕ) → IsLineEnd end → IsStatementPart (piece jo
 unfolding is_backslash
 part-join end e = part-silent join (92 ∷ end) refl (92, end, refl, refl, e) (end_low end e) refl
 
--- a comment, by its characters after the `#`
-pub part-comment : (body : List ℕ) → all_scalars body ≡ true → list_any is_break body ≡ false → IsStatementPart (piece comment (35 ∷ body) ∷ []) (35 ∷ encode_utf8_all body) [] ((35 ∷ encode_utf8_all body) ∷ [])
+-- a comment, by what follows the `#`
+pub part-comment : {b : List ℕ} (t : IsUnbrokenText b) → IsStatementPart (piece comment (35 ∷ t.characters) ∷ []) (35 ∷ b) [] ((35 ∷ b) ∷ [])
 unfolding is_hash
-part-comment body fine unbroken =
-    let nil = append-nil (35 ∷ body) in
-    let bytes : encode_utf8_all (35 ∷ body) ≡ 35 ∷ encode_utf8_all body = ap (λ t. t ++ encode_utf8_all body) (encode_ascii 35 (omega arith)) in
+part-comment {b = b} t =
+    let nil = append-nil (35 ∷ t.characters) in
+    let bytes : encode_utf8_all (35 ∷ t.characters) ≡ 35 ∷ b = ap (λ x. x ++ encode_utf8_all t.characters) (encode_ascii 35 (omega arith)) ∙ ap (λ x. 35 ∷ x) t.spell in
     record {
-      simple = (refl, (35, body, refl, refl, unbroken), tt);
-      scalars = ap all_scalars nil ∙ and_from _ _ (low_scalar 35 (omega arith)) fine;
+      simple = (refl, (35, t.characters, refl, refl, t.unbroken), tt);
+      scalars = ap all_scalars nil ∙ and_from _ _ (low_scalar 35 (omega arith)) t.scalars;
       spell = ap encode_utf8_all nil ∙ bytes;
       says = refl;
-      remarks = ap (λ t. t ∷ []) bytes;
+      remarks = ap (λ x. x ∷ []) bytes;
       undivided = refl;
     }
 

@@ -14,23 +14,11 @@ use Rattle.py_imports.specs.declared.action_comment.ActionComment.{ActionComment
 use Rattle.isort_sort.specs.Line.{without_hash, without_start, without_end, stripped}
 use Rattle.isort_sort.proofs.LineLaws.Units.{scalars-parts}
 use Rattle.isort_sort.proofs.WrittenLines.FirstEnds.{is_end_byte}
-use Rattle.isort_sort.proofs.LineLaws.Joined.{none-append}
+use Rattle.isort_sort.proofs.LineLaws.Joined.{none-append, none_inside, some_encoded}
 use Rattle.isort_sort.proofs.LineLaws.Parts.{IsUnbrokenText}
 use Rattle.isort_sort.proofs.Rows.Spaces.{space_low}
 use Rattle.std.proofs.Math.Bool.{or-true}
 use Rattle.std.proofs.Math.Seq.{drop-append_seam}
-
--- a test that bytes of ASCII alone pass says the same of a character and of its bytes
-none_at : (p : ℕ → Bool) (xs : List ℕ) → ((k : ℕ) → k < length xs → p (get_or xs k 0) ≡ false) → list_any p xs ≡ false
-none_at p [] h = refl
-none_at p (x ∷ xs) h =
-    let first : p x ≡ false = h 0 (omega arith) in
-    let later = none_at p xs (λ k l. h (suc k) (omega arith)) in
-    λ i. first i || later i
-
-none_inside : (p : ℕ → Bool) → ((b : ℕ) → p b ≡ true → b < 128) → (c : ℕ) → p c ≡ false → list_any p (encode c) ≡ false
-none_inside p low c h =
-    none_at p (encode c) (λ k l. false_from_ne_true _ (λ passes. both_ways _ h (ap p (inside_one c [] (encode c) k (sym (append-nil (encode c))) l (low _ passes)) ∙ passes)))
 
 -- characters without line ends have no bytes of line ends
 end_low : (b : ℕ) → is_end_byte b ≡ true → b < 128
@@ -72,9 +60,6 @@ start_text (c ∷ cs) scalars unbroken =
     let same = bare_start (encode c) (encode_utf8_all cs) (some_encoded c) (none_inside is_space space_low c h) in
     record { characters = c ∷ cs; spell = sym same; scalars = scalars; unbroken = unbroken })
     (cases_Bool (is_space c))
-  where
-    some_encoded : (d : ℕ) → 0 < length (encode d)
-    some_encoded d = omega (arith, length-encode d, len_utf8_bounds d)
 
 -- one more character
 one_more_text : (c : ℕ) (t : List ℕ) → all_scalars (c ∷ []) ≡ true → is_break c ≡ false → IsUnbrokenText t → IsUnbrokenText (encode c ++ t)

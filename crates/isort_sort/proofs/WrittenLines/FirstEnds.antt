@@ -14,8 +14,8 @@ use Rattle.isort_sort.specs.Sorted.{first_end}
 use Rattle.isort_sort.specs.WrittenLine.{end_pieces}
 use Rattle.isort_sort.proofs.LineLaws.Units.{IsUnit, MayFollowUnit, AreUnits, flat, begins-first, ends-last}
 use Rattle.isort_sort.proofs.WrittenLines.LineUnits.{are_some, IsEndedUnit}
-use Rattle.isort_sort.proofs.LineLaws.Joined.{none-append, bytes_of, bytes_of-cons}
-use Rattle.isort_sort.proofs.LineLaws.Parts.{spelled-append, part-end}
+use Rattle.isort_sort.proofs.LineLaws.Joined.{none-append, none_inside, some_encoded, bytes_of, bytes_of-cons}
+use Rattle.isort_sort.proofs.LineLaws.Parts.{spelled-append, by_end, part-end}
 
 -- bytes of line ends
 abbrev pub is_end_byte : ℕ → Bool
@@ -50,12 +50,8 @@ first_is_end (b ∷ text) = by (b == 10) (b == 13) (begins is_feed_byte text) (f
 
 -- that of a text up to its first line end
 pub first_end_is : (text end more : List ℕ) → list_any is_end_byte text ≡ false → IsLineEnd end → (end ≡ 13 ∷ [] → begins is_feed_byte more ≡ false) → first_end (text ++ (end ++ more)) ≡ end
-first_end_is [] end more none is apart = by end is apart
-  where
-    by : (e : List ℕ) → IsLineEnd e → (e ≡ 13 ∷ [] → begins is_feed_byte more ≡ false) → first_end (e ++ more) ≡ e
-    by e (feed same) h = ap (λ (t : List ℕ). first_end (t ++ more)) same ∙ sym same
-    by e (return_feed same) h = ap (λ (t : List ℕ). first_end (t ++ more)) same ∙ sym same
-    by e (return same) h = ap (λ (t : List ℕ). first_end (t ++ more)) same ∙ ap (λ (b : Bool). cond b (13 ∷ 10 ∷ []) (13 ∷ [])) (h same) ∙ sym same
+first_end_is [] end more none is apart =
+    by_end (λ e. (e ≡ 13 ∷ [] → begins is_feed_byte more ≡ false) → first_end (e ++ more) ≡ e) end (λ h. refl) (λ h. refl) (λ h. ap (λ (b : Bool). cond b (13 ∷ 10 ∷ []) (13 ∷ [])) (h refl)) is apart
 first_end_is (b ∷ text) end more none is apart =
     let parts = or_parts (is_end_byte b) (list_any is_end_byte text) none in
     let both = or_parts (b == 10) (b == 13) parts.0 in
@@ -68,13 +64,8 @@ first_end_alike [] end more rest is h k = first_end_is [] end more refl is h ∙
 first_end_alike (b ∷ text) end more rest is h k =
     λ i. cond (b == 10) (10 ∷ []) (cond (b == 13) (cond (same text i) (13 ∷ 10 ∷ []) (13 ∷ [])) (first_end_alike text end more rest is h k i))
   where
-    some : (e : List ℕ) → IsLineEnd e → begins is_feed_byte (e ++ more) ≡ begins is_feed_byte (e ++ rest)
-    some e (feed q) = ap (λ (t : List ℕ). begins is_feed_byte (t ++ more)) q ∙ sym (ap (λ (t : List ℕ). begins is_feed_byte (t ++ rest)) q)
-    some e (return_feed q) = ap (λ (t : List ℕ). begins is_feed_byte (t ++ more)) q ∙ sym (ap (λ (t : List ℕ). begins is_feed_byte (t ++ rest)) q)
-    some e (return q) = ap (λ (t : List ℕ). begins is_feed_byte (t ++ more)) q ∙ sym (ap (λ (t : List ℕ). begins is_feed_byte (t ++ rest)) q)
-
     same : (t : List ℕ) → begins is_feed_byte (t ++ (end ++ more)) ≡ begins is_feed_byte (t ++ (end ++ rest))
-    same [] = some end is
+    same [] = by_end (λ e. begins is_feed_byte (e ++ more) ≡ begins is_feed_byte (e ++ rest)) end refl refl refl is
     same (c ∷ cs) = refl
 
 -- the line end of a logical line
@@ -103,29 +94,21 @@ closed_unit u is (inr (body, last, same, class, deep)) =
     }
 
 -- what follows a line that ends in CR doesn't begin with LF
-feed_again : (c : ℕ) → c ≡ 10 → is_line_feed c ≡ true
-unfolding is_line_feed
-feed_again c e = ap (is_one_of (10 ∷ [])) e
-
 return_ends : (end : List ℕ) → end ≡ 13 ∷ [] → ends is_return end ≡ true
 unfolding is_return
 return_ends end e = ap (ends is_return) e
 
 encoded_begins : (cs : List ℕ) → begins is_line_feed cs ≡ false → begins is_feed_byte (encode_utf8_all cs) ≡ false
+unfolding is_line_feed
 encoded_begins [] h = refl
-encoded_begins (c ∷ cs) h = by (encode_utf8_all (c ∷ cs)) refl
+encoded_begins (c ∷ cs) h = by (encode c) (none_inside is_feed_byte (λ b e. let ten : b ≡ 10 = eqb-true b 10 e in omega arith) c (other c h)) (some_encoded c)
   where
-    low : (b : ℕ) (t : List ℕ) → b ∷ t ≡ encode c ++ encode_utf8_all cs → (x : Bool) → (b == 10) ≡ x → x ≡ false
-    low b t e false k = refl
-    low b t e true k =
-        let ten : b ≡ 10 = eqb-true b 10 k in
-        let long : 0 < length (b ∷ t) = omega arith in
-        let same = char_from_byte (b ∷ t) (encode_utf8_all cs) c e (omega arith) long in
-        absurd (both_ways _ h (feed_again c (same ∙ ten)))
+    other : (d : ℕ) → is_line_feed d ≡ false → is_feed_byte d ≡ false
+    other d k = (or_parts (d == 10) false k).0
 
-    by : (t : List ℕ) → t ≡ encode_utf8_all (c ∷ cs) → begins is_feed_byte t ≡ false
-    by [] e = refl
-    by (b ∷ t) e = low b t e (b == 10) refl
+    by : (bs : List ℕ) → list_any is_feed_byte bs ≡ false → 0 < length bs → begins is_feed_byte (bs ++ encode_utf8_all cs) ≡ false
+    by [] none some = absurd (omega arith)
+    by (b ∷ bs) none some = (or_parts (is_feed_byte b) (list_any is_feed_byte bs) none).0
 
 pub follows_bytes : (u : List Piece) (us : List (List Piece)) → AreUnits us → MayFollowUnit u us → ends is_return (spelled u) ≡ true → begins is_feed_byte (bytes_of us) ≡ false
 follows_bytes u [] are h k = refl

@@ -7,7 +7,7 @@ use Rattle.std.proofs.lemmas.Bool.{and_parts}
 use Rattle.std.proofs.lemmas.Bool.Decides.{nat_tests}
 use Rattle.std.proofs.Math.Utf8.{encode}
 use Rattle.std.proofs.lemmas.Str.{encodes-append}
-use Rattle.py_lines.specs.PieceGrammar.{IsComment, IsLineEnd, feed, return_feed, return}
+use Rattle.py_lines.specs.PieceGrammar.{IsComment, IsLineEnd}
 use Rattle.py_lines.specs.Balance.{IsBalanced, depth_through, IsBalanced as balance}
 use Rattle.py_lines.specs.Balance.{depth_after}
 use Rattle.py_lines.specs.Fields.{AreReadBefore, IsShallow}
@@ -32,7 +32,7 @@ use Rattle.isort_sort.proofs.LineLaws.Joined.{ended_lines, bytes_of, bytes_of-co
 use Rattle.isort_sort.proofs.WrittenLines.UnitRows.{TokenLaws, unit_line, comments_of_unit, IsUnitRow, AreUnitRows, role_in_block, silent}
 use Rattle.isort_sort.proofs.Rows.Spaces.{space_no_feed}
 use Rattle.std.proofs.Math.Bool.{and-false, or-false, or-true}
-use Rattle.isort_sort.proofs.LineLaws.Parts.{remarks_in, spelled-append, scalars-append, space_pieces, spaces_low, low-spell, low-scalars, part-end}
+use Rattle.isort_sort.proofs.LineLaws.Parts.{remarks_in, spelled-append, scalars-append, space_pieces, spaces_low, low-spell, low-scalars, by_end, part-end}
 
 -- simple neighbouring pieces are read
 abbrev pub NeighbourLaw : Type 0
@@ -68,12 +68,6 @@ abbrev pub AreLines : List ℕ → Bool → List (List Piece) → List Row → T
 AreLines end ended [] [] = Unit {0}
 AreLines end ended (u ∷ us) (row ∷ rows) = IsLine end (ended || are_some us) u row × AreLines end ended us rows
 AreLines end ended _ _ = ⊥
-
--- what holds of each line end
-pub by_end : (P : List ℕ → Type 0) (end : List ℕ) → P (10 ∷ []) → P (13 ∷ 10 ∷ []) → P (13 ∷ []) → IsLineEnd end → P end
-by_end P end a b c (feed e) = subst P (sym e) a
-by_end P end a b c (return_feed e) = subst P (sym e) b
-by_end P end a b c (return e) = subst P (sym e) c
 
 -- what may follow a line end, may follow a line that ends with it
 ends_line : (end : List ℕ) (u : List Piece) → IsEndedUnit end u → EndsLine u

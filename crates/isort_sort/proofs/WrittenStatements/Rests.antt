@@ -16,7 +16,7 @@ use Rattle.py_imports.specs.Spelled.{alias_text}
 use Rattle.isort_sort.specs.WrittenLine.{IsRemark, AreRemarks}
 use Rattle.isort_sort.specs.Wrapping.{remark}
 use Rattle.isort_sort.proofs.LineLaws.OneLine.{is_bracket_or_string, is_line_end_piece, IsOneLine, plain-line, line-append, opening_piece, closing_piece, Closes, closes-after, opened-line}
-use Rattle.isort_sort.proofs.LineLaws.Parts.{piece, IsUnbrokenText, IsStatementPart, words-append, scalars-append, low-spell, low-scalars, part-append, part-nil, part-as, part-space, part-operator, part-comment, LettersAreWords, part-letters, part-name}
+use Rattle.isort_sort.proofs.LineLaws.Parts.{piece, IsUnbrokenText, IsStatementPart, words-append, scalars-append, low-spell, low-scalars, part-append, part-nil, part-space, part-operator, part-comment, LettersAreWords, part-letters, part-name}
 use Rattle.isort_sort.proofs.LineLaws.Tokens.{are_well, no_words, well-append}
 
 abbrev pub end_piece : List ℕ → Piece
@@ -156,11 +156,7 @@ remark_pieces c cs h = piece space (32 ∷ 32 ∷ []) ∷ piece comment (35 ∷ 
 
 part-remark : (c : List ℕ) (cs : List (List ℕ)) (h : AreRemarks (c ∷ cs)) → IsStatementPart (remark_pieces c cs h) (remark (c ∷ cs)) [] (remark_said (c ∷ cs))
 unfolding is_space
-part-remark c cs h =
-    let body = remark-body c cs h in
-    part-append
-    (part-space (32 ∷ 32 ∷ []) refl)
-    (part-as _ _ _ _ _ _ _ (ap (λ t. 35 ∷ t) body.spell) refl (ap (λ t. (35 ∷ t) ∷ []) body.spell) (part-comment body.characters body.scalars body.unbroken))
+part-remark c cs h = part-append (part-space (32 ∷ 32 ∷ []) refl) (part-comment (remark-body c cs h))
 
 pub remark-rest : {end : List ℕ} (cs : List (List ℕ)) → AreRemarks cs → IsRest word false end (remark cs) [] (remark_said cs)
 remark-rest [] h = record { pieces = []; part = part-nil; touch = λ own. (refl, tt); line = plain-line [] refl refl; well = λ o. refl }

@@ -7,7 +7,7 @@ use Rattle.py_lines.specs.Character.{is_space, is_digit, is_line_feed}
 use Rattle.py_lines.specs.LogicalLine.{byte_len, cut, end_len_of}
 use Rattle.py_lines.specs.Neighbours.{MayTouch}
 use Rattle.py_lines.specs.Piece.{space, word, Piece, begins, spelled}
-use Rattle.py_lines.specs.PieceGrammar.{IsLineEnd, feed, return_feed, return}
+use Rattle.py_lines.specs.PieceGrammar.{IsLineEnd}
 use Rattle.py_lines.specs.Words.{word_in, words_of}
 use Rattle.py_imports.specs.ActionComment.{says}
 use Rattle.py_imports.specs.BindingValue.{binding_at}
@@ -25,7 +25,7 @@ use Rattle.isort_sort.proofs.LineLaws.Laws.{Laws}
 use Rattle.isort_sort.proofs.WrittenStatements.Lines.{first_word, statement_pieces, line_pieces, written_line, line-code, line-first, statement-indented, line-stands}
 use Rattle.isort_sort.proofs.LineLaws.Indented.{line-mark, line-indentation}
 use Rattle.isort_sort.proofs.LineLaws.OneLine.{IsOneLine, plain-line, line-append, one-cut, ended-cut, no-end, some-end}
-use Rattle.isort_sort.proofs.LineLaws.Parts.{piece, remarks_in, divides, IsStatementPart, words-append, part-append, part-space, space_pieces, LettersAreWords, part-letters}
+use Rattle.isort_sort.proofs.LineLaws.Parts.{piece, by_end, remarks_in, divides, IsStatementPart, words-append, part-append, part-space, space_pieces, LettersAreWords, part-letters}
 use Rattle.isort_sort.proofs.WrittenStatements.Rests.{a_space, part-a_space, IsRest, remark_said}
 use Rattle.isort_sort.proofs.WrittenStatements.Remarks.{own-again, said-silent, unskipped}
 use Rattle.isort_sort.proofs.LineLaws.Tokens.{remarks-of, skips-of, undivided-of, alone-of, are_well, well-of}
@@ -89,9 +89,7 @@ marked-line false ps l = l
 
 end-some : (end : List ℕ) → IsLineEnd end → nat_lt 0 (byte_len end) ≡ true
 unfolding lib.Utf8.encode
-end-some end (feed e) = ap (λ t. nat_lt 0 (byte_len t)) e
-end-some end (return_feed e) = ap (λ t. nat_lt 0 (byte_len t)) e
-end-some end (return e) = ap (λ t. nat_lt 0 (byte_len t)) e
+end-some end is = by_end (λ e. nat_lt 0 (byte_len e) ≡ true) end refl refl refl is
 
 line-ended : (marked : Bool) (ps : List Piece) (closed : Bool) (end : List ℕ) → IsLineEnd end → IsOneLine ps → nat_lt 0 (end_len_of (mark_pieces marked ++ (ps ++ end_pieces closed end))) ≡ closed
 line-ended marked ps true end e l =
