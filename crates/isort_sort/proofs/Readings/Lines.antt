@@ -1,21 +1,18 @@
 -- The rows of a text's lines, one line after another.
-use Rattle.std.proofs.Common.{◌≡◌, ℕ, ◌+◌, ◌≤◌, Bool, true, false, cond, not, ◌||◌, ◌&&◌, nat_lt, Option, None, Some, MatchOption, is_some, List, [], ◌∷◌, ◌++◌, length, map, drop, refl, sym, ap, ◌∙◌, subst, append_assoc, append-nil, arith}
+use Rattle.std.proofs.Common.{◌≡◌, ℕ, ◌+◌, ◌≤◌, Bool, true, false, cond, nat_lt, Option, None, Some, MatchOption, is_some, List, [], ◌∷◌, ◌++◌, length, map, drop, refl, sym, ap, ◌∙◌, subst, append_assoc, append-nil, arith}
 use Rattle.std.proofs.lemmas.List.{length-drop}
 use Rattle.std.specs.Prelude.{option_map}
-use Rattle.std.specs.List.{list_any}
 use Rattle.std.specs.Str.{IsUtf8}
 use Rattle.py_lines.specs.LogicalLine.{LogicalLine}
-use Rattle.py_imports.specs.ActionComment.{says}
 use Rattle.py_imports.specs.BindingValue.{BindingValue}
 use Rattle.py_imports.specs.Binds.{Binds}
-use Rattle.py_imports.specs.declared.action_comment.ActionComment.TheVariants as action
 use Rattle.isort_sort.specs.Private.Arranged.{AreUtf8}
 use Rattle.isort_sort.specs.Private.Found.{Finding, IsFinding, after_blank, after_comments, after_member, after_other, begun_with, closed_found, goes_on_at, with_member}
 use Rattle.isort_sort.specs.Line.{comment_texts, own_comments, imported_of}
-use Rattle.isort_sort.specs.Private.LineRole.{IsOfRole, turned}
+use Rattle.isort_sort.specs.Private.LineRole.{IsOfRole}
 use Rattle.isort_sort.specs.Member.{Member}
 use Rattle.isort_sort.specs.Private.Reading.{stop_of, IsRowOf, FindsLine}
-use Rattle.isort_sort.specs.Row.{Before, one, Role, member, comments, blank, other, HasRole, is_comment_kind, says_off, says_on, is_off_after, mark_after, indentation_of, Row, IsRow, AreRows}
+use Rattle.isort_sort.specs.Row.{Before, one, Role, member, comments, blank, other, HasRole, is_off_after, mark_after, indentation_of, Row, IsRow, AreRows}
 use Rattle.isort_sort.specs.declared.row.Role.TheVariants as role
 use Rattle.isort_sort.proofs.Finding.Rows.{found_blank, found_comments, found_member, found_other}
 

@@ -1,5 +1,5 @@
 -- A logical line is the same to sorting wherever it stands.
-use Rattle.std.proofs.Common.{◌≡◌, ℕ, ◌+◌, ◌==◌, Bool, true, false, not, ◌&&◌, ◌||◌, ◌⊎◌, inl, inr, ⊎_elim, List, [], ◌∷◌, map, refl, sym, ap, ◌∙◌, subst}
+use Rattle.std.proofs.Common.{◌≡◌, ℕ, ◌+◌, ◌==◌, Bool, true, not, ◌&&◌, ◌||◌, ◌⊎◌, inl, inr, ⊎_elim, List, [], ◌∷◌, map, refl, sym, ap, ◌∙◌, subst}
 use Rattle.std.specs.Prelude.{filter, nat_eq, slice_get, slice_range, if◌then◌else◌}
 use Rattle.std.specs.List.{list_any, list_all, starts_with}
 use Rattle.std.proofs.lemmas.List.Folds.{list_all-map}

@@ -1,11 +1,10 @@
 -- A text is the texts of its rows, after its byte order mark.
-use Rattle.std.proofs.Common.{◌≡◌, ℕ, ◌+◌, Bool, true, false, cond, ◌&&◌, ◌==◌, None, List, [], ◌∷◌, ◌++◌, flat_map, length, take, drop, refl, sym, ap, ◌∙◌, append_assoc, append-nil, arith}
+use Rattle.std.proofs.Common.{◌≡◌, ℕ, ◌+◌, None, List, [], ◌∷◌, ◌++◌, flat_map, length, take, drop, refl, sym, ap, ◌∙◌, append_assoc, append-nil, arith}
 use Rattle.std.specs.Prelude.{encode_utf8_all}
 use Rattle.std.proofs.lemmas.Str.{encodes-append}
 use Rattle.std.proofs.lemmas.List.{take-append-drop, length-append}
-use Rattle.py_lines.specs.Balance.{depth_after}
 use Rattle.py_lines.specs.Lexed.{IsLexed}
-use Rattle.py_lines.specs.LogicalLine.{LogicalLine, line_of, is_line_end_class, put_first, cut, byte_len, line_ends, lines_from, lines_of}
+use Rattle.py_lines.specs.LogicalLine.{LogicalLine, line_of, cut, byte_len, line_ends, lines_from, lines_of}
 use Rattle.py_lines.specs.Piece.{Piece, spelled}
 use Rattle.py_lines.specs.Reader.{Reader, HasGiven}
 use Rattle.py_imports.specs.Shape.{mark_len}

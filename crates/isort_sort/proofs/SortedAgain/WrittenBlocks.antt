@@ -17,7 +17,7 @@ use Rattle.isort_sort.specs.LaidAgain.{as_member, with_joined_comments, without_
 use Rattle.isort_sort.specs.Layout.{Laid, AreLaid, own_text, block_lines, lines_after, text_of_lines}
 use Rattle.isort_sort.specs.Member.{Member}
 use Rattle.isort_sort.specs.ReadBack.{first_above, without_first_above, IsReadBack}
-use Rattle.isort_sort.specs.Row.{comments, Row, IsRow, first_string_skips}
+use Rattle.isort_sort.specs.Row.{Row, IsRow, first_string_skips}
 use Rattle.isort_sort.specs.Sorted.{last_row, blanks_after, texts_of, IsLayout}
 use Rattle.isort_sort.specs.WrittenLine.{mark_pieces, mark_bytes, end_pieces}
 use Rattle.isort_sort.proofs.Orders.Statements.{AreOrders}

@@ -14,7 +14,7 @@ use Rattle.isort_sort.specs.Order.{AreInOrder}
 use Rattle.isort_sort.specs.Blocks.{Run}
 use Rattle.isort_sort.specs.Row.{Before, two, as_many, one, Row}
 use Rattle.isort_sort.specs.Sorted.{before_role, number_before, asked, is_indented, blanks_after}
-use Rattle.isort_sort.specs.Statement.{Statement, module_of, star, names, single, stands_alone, statement_of, statement_with, statement_cmp, item_cmp, same_statement}
+use Rattle.isort_sort.specs.Statement.{Statement, module_of, star, names, single, stands_alone, statement_of, statement_with, statement_cmp, same_statement}
 use Rattle.isort_sort.specs.Wrapping.{remark, statement_text, fits_line, IsCut}
 use Rattle.isort_sort.specs.LaidAgain.{asked_by, import_of, joined_comments, as_member, with_joined_comments, without_above}
 use Rattle.isort_sort.proofs.Orders.Contained.{in_map, map_in, in_filter, filter_in}

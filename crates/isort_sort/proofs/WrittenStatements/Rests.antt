@@ -1,8 +1,7 @@
 -- What follows a piece of a written statement, up to the statement's end: pieces, which are put together from their end.
 use Rattle.std.proofs.Common.{◌≡◌, ℕ, Bool, true, false, ◌||◌, ◌&&◌, Option, None, Some, List, [], ◌∷◌, ◌++◌, flat_map, codes, refl, sym, ap, ◌∙◌, subst, append_assoc, append-nil}
-use Rattle.std.specs.Prelude.{encode_utf8_all, nat_lt}
+use Rattle.std.specs.Prelude.{nat_lt}
 use Rattle.std.specs.List.{list_any, list_all, join_by}
-use Rattle.std.specs.Str.{all_scalars}
 use Rattle.std.proofs.lemmas.List.Folds.{list_any-append}
 use Rattle.std.proofs.lemmas.Str.{encodes-append}
 use Rattle.py_lines.specs.Balance.{is_opening, is_closing}
