@@ -1,10 +1,13 @@
 //! The layout of a block that was found, statement by statement.
-ghost use Rattle.std.specs.Prelude.{◌≡◌, ◌<◌, ◌++◌, ℕ, List, [], IfOk, OnOk, MatchBool, string_bytes, if◌then◌else◌};
+ghost use Rattle.std.specs.Prelude.{◌≡◌, ◌<◌, ◌++◌, ℕ, List, [], ◌∷◌, Some, map, option_map, string_bytes, if◌then◌else◌};
+ghost use Rattle.std.specs.Prelude.{IfOk, OnOk, MatchBool, MatchOption};
 ghost use Rattle.isort_settings.specs.Values.{values};
-ghost use Rattle.isort_sort.specs.Private.Arranged.{pieces_left, text_left, IsArranged, IsReady};
+ghost use Rattle.isort_sort.specs.Private.Arranged.{pieces_left, text_left, text_of_groups, IsArranged, IsReady};
 ghost use Rattle.isort_sort.specs.Private.Compared.{Takes};
 ghost use Rattle.isort_sort.specs.Private.Found.{blanks_of, found_value};
+ghost use Rattle.isort_sort.specs.Private.Group.{group_value};
 ghost use Rattle.isort_sort.specs.Private.LineEnd.{end_bytes};
+ghost use Rattle.isort_sort.specs.Private.Packing.{HasSection};
 ghost use Rattle.isort_sort.specs.Private.Writes.{Writes};
 
 use crate::comparison::Comparison;
@@ -97,6 +100,31 @@ pub(crate) fn arrange<'t>(
 }
 
 impl Arrangement<'_> {
+    /// Puts the text of a statement after `out`, which the statements that are left follow, with the blank lines before it and the
+    /// comments above it. The block's last line has its line end only where it had one.
+    fn push_statement(&self, out: &mut String, group: &Group) -> Result<(), AllocError>
+        requires before { MatchOption self.now.before (Unit {0})
+            (HasSection (values self.now.settings.now)) }
+        requires section { HasSection (values self.now.settings.now) group.now }
+        ensures { OnOk result ((piece : List ℕ) × Writes out.old out.new piece
+            × (text_of_groups self.now (option_map group_value self.now.before)
+            (group_value group.now ∷ map group_value self.now.groups.rest.items)
+            ≡ piece ++ text_of_groups self.now (Some (group_value group.now))
+            (map group_value self.now.groups.rest.items))) }
+    {
+        let end = self.end.as_str();
+        let layout = Layout {
+            settings: self.settings,
+            indentation: self.indentation.as_str(),
+            end,
+        };
+        layout.push_next(out, &self.before, group)?;
+        if !self.ended && self.groups.len() == 0 {
+            out.truncate(out.len().saturating_sub(end.len()));
+        }
+        Ok(())
+    }
+
     /// Puts the text of the next statement after `out`, with the blank lines before it and the comments above it; after the
     /// last one, the blank lines after the block. Answers whether there was anything left.
     fn push_next(&mut self, out: &mut String) -> Result<bool, AllocError>
@@ -112,24 +140,15 @@ impl Arrangement<'_> {
             push_times(out, self.end.as_str(), blanks)?;
             return Ok(blanks > 0);
         };
-        let end = self.end.as_str();
-        let layout = Layout {
-            settings: self.settings,
-            indentation: self.indentation.as_str(),
-            end,
-        };
-        layout.push_next(out, &self.before, &group)?;
-        if !self.ended && self.groups.len() == 0 {
-            out.truncate(out.len().saturating_sub(end.len()));
-        }
+        self.push_statement(out, &group)?;
         self.before = Some(group);
         Ok(true)
     }
 
-    /// The text of the layout.
-    pub(crate) fn into_text(mut self, alloc: Global) -> Result<String, AllocError>
-        requires { IsReady self }
-        ensures { IfOk result (λ text. string_bytes text ≡ text_left self.entry) }
+    /// Takes the text of what is left of the layout.
+    pub(crate) fn take_text(&mut self, alloc: Global) -> Result<String, AllocError>
+        requires { IsReady self.old }
+        ensures { IfOk result (λ text. string_bytes text ≡ text_left self.old) }
     {
         let mut text = String::new(alloc);
         'pieces: while self.push_next(&mut text)? {}

@@ -206,14 +206,17 @@ fn find_line(
 {
     let line = LineStop::of(unit);
     match role_of(unit, actions, off) {
-        Role::Blank => blocks.push_blank(line),
+        Role::Blank => {
+            blocks.push_blank(line);
+            Ok(())
+        }
         Role::Comments => {
             let comments = if blocks.is_open() {
                 comment_texts(alloc, unit)?
             } else {
                 Vec::new(alloc)
             };
-            blocks.push_comments(line, comments)?;
+            blocks.push_comments(line, comments)
         }
         Role::Member => {
             let member = Member {
@@ -221,11 +224,10 @@ fn find_line(
                 comments: own_comments(alloc, unit)?,
                 above: Vec::new(alloc),
             };
-            blocks.push_member(alloc, line, indentation(unit), member)?;
+            blocks.push_member(alloc, line, indentation(unit), member)
         }
-        Role::Other(blank_lines) => blocks.push_other(line, blank_lines)?,
+        Role::Other(blank_lines) => blocks.push_other(line, blank_lines),
     }
-    Ok(())
 }
 
 /// Reads a text: what is found in it, or its fault.

@@ -33,14 +33,14 @@ pub(crate) struct SortedPart<'t> {
 
 impl<'t> SortedPart<'t> {
     /// The part, with the text of its layout.
-    fn new(alloc: Global, part: Part<'t>) -> Result<SortedPart<'t>, AllocError>
+    fn new(alloc: Global, mut part: Part<'t>) -> Result<SortedPart<'t>, AllocError>
         requires { IsReady part.layout }
         ensures text { IfOk result (λ sorted. sorted_part_text sorted ≡ part_text part.entry) }
         ensures before { IfOk result (λ sorted. sorted.before.now ≡ part.entry.before.now) }
     {
         Ok(SortedPart {
             before: part.before,
-            layout: part.layout.into_text(alloc)?,
+            layout: part.layout.take_text(alloc)?,
         })
     }
 }

@@ -1,12 +1,12 @@
 -- The layout of a block that was found, with what is left of it to be written, and how far the program is in a sorted text.
-use Rattle.std.specs.Prelude.{◌≡◌, ℕ, ◌+◌, false, List, [], ◌++◌, MatchOption, option_map}
+use Rattle.std.specs.Prelude.{◌≡◌, ℕ, ◌+◌, false, List, [], ◌++◌, Option, MatchOption, option_map}
 use Rattle.std.specs.Prelude.{◌∷◌, length, map, string_bytes}
 use Rattle.std.specs.List.{AllByRecursion}
 use Rattle.std.specs.Str.{IsUtf8}
 use Rattle.isort_settings.specs.Values.{Values, values}
 use Rattle.isort_sort.specs.Blocks.{Cut, cut_rows}
 use Rattle.isort_sort.specs.Private.Found.{Found, blanks_of, found_from}
-use Rattle.isort_sort.specs.Private.Group.{group_value}
+use Rattle.isort_sort.specs.Private.Group.{Group, group_value}
 use Rattle.isort_sort.specs.Private.LineEnd.{end_bytes}
 use Rattle.isort_sort.specs.Private.Packing.{lines_left, HasSection}
 use Rattle.isort_sort.specs.Layout.{Laid, AreLaid, block_lines, text_of_lines}
@@ -20,12 +20,15 @@ IsArranged v end f text =
     (laid : List Laid) × AreLaid v f.indentation f.members laid
     × (text ≡ text_of_lines end f.ended (blanks_of v f) (block_lines v f.indentation end laid))
 
+-- the text of statements, which follow one or none, and of the blank lines that are left
+abbrev pub text_of_groups : Arrangement → Option Group → List Group → List ℕ
+text_of_groups a before groups =
+    text_of_lines (end_bytes a.end) a.ended a.blanks
+    (lines_left (values a.settings.now) (string_bytes a.indentation) (end_bytes a.end) before groups)
+
 -- the text of the statements and blank lines that are left
 abbrev pub text_left : Arrangement → List ℕ
-text_left a =
-    text_of_lines (end_bytes a.end) a.ended a.blanks
-    (lines_left (values a.settings.now) (string_bytes a.indentation) (end_bytes a.end) (option_map group_value a.before)
-    (map group_value a.groups.rest.items))
+text_left a = text_of_groups a (option_map group_value a.before) (map group_value a.groups.rest.items)
 
 -- no more pieces than these are left
 abbrev pub pieces_left : Arrangement → ℕ

@@ -1,7 +1,7 @@
 -- What was put and what is left are the text.
 use Rattle.std.proofs.Common.{◌≡◌, ◌++◌, string_bytes}
 use Rattle.isort_sort.specs.Private.Arranged.{pieces_left, text_left, IsReady}
-use Rattle.isort_sort.proofs.arrange.Arrangement.into_text.Given as goal
+use Rattle.isort_sort.proofs.arrange.Arrangement.take_text.Given as goal
 
 abbrev pub invariant-pieces : goal.invariant-pieces
 invariant-pieces l = record {
