@@ -1,5 +1,5 @@
 -- What a listing leaves of the whole text of a reader.
-use Rattle.std.proofs.Common.{◌≡◌, ℕ, ◌≤◌, ◌∙◌, refl, sym, ap, subst, inl, inr, false, Option, None, Some, IfSome, Result, Ok, Err, OnOk, IfErr, List, [], ◌++◌, length, take, drop, append_assoc, append-nil, take-append-drop, length-append, arith}
+use Rattle.std.proofs.Common.{◌≡◌, ℕ, ◌≤◌, ◌∙◌, refl, sym, ap, subst, inl, inr, false, Option, None, Some, IfSome, Result, Ok, Err, List, [], ◌++◌, length, take, drop, append_assoc, append-nil, take-append-drop, length-append, arith}
 use Rattle.std.proofs.Math.Seq.{take-length}
 use Rattle.std.proofs.lemmas.List.{nil_from_length}
 use Rattle.std.proofs.KnownBytes.{Appends-nil, Consumes-whole}
@@ -16,10 +16,10 @@ use Rattle.isort_find.specs.declared.walker.Position.TheVariants as position
 use Rattle.isort_find.specs.declared.walker.Phase.TheVariants as phase
 use Rattle.isort_sort.specs.declared.metered.Last.{Last}
 use Rattle.isort_sort.specs.declared.metered.Last.TheVariants as last
-use Rattle.isort_cmd.specs.RunError.{EndsReading, EndsWriting, IsUnread, LeavesReader}
-use Rattle.isort_cmd.specs.Private.Stages.{ListingState, StopsInput, TakesInput, ListsEnd}
+use Rattle.isort_cmd.specs.RunError.{IsUnread, LeavesReader}
+use Rattle.isort_cmd.specs.Private.Stages.{Identified, ListingState, StopsInput, TakesInput, ListsEnd}
 use Rattle.isort_cmd.specs.Private.Steps.{IsOutputError, HasListedSettled, LeavesKnown, LeavesFed}
-use Rattle.isort_cmd.specs.Written.{AreFed, ListsFound, ListsPrefix, ListsSettled, ListsInput, ListsUnread, ListsFaulty, LeavesAtError, LeavesInput}
+use Rattle.isort_cmd.specs.Written.{AreFed, ListsFound, ListsPrefix, ListsSettled, ListsUnread, ListsFaulty, LeavesAtError}
 use Rattle.isort_cmd.specs.declared.error.RunError.{RunError}
 use Rattle.isort_cmd.specs.declared.error.RunError.TheVariants as run
 use Rattle.isort_cmd.proofs.ListingLemmas.{SomeFound, lists_nothing, prefix_of_found}
@@ -117,16 +117,6 @@ leaves_read : SomeFoundSettled → BadDecided → SettledBegin → (path : List 
 leaves_read some_settled bad_decided settled_begin path options max finder e old left start now h = of_fed (λ text. LeavesAtError path text options e start now) max h.known old left h.fed (λ more. leaves_text some_settled bad_decided settled_begin path h.known more options finder e start now h.leaves)
 
 -- ---- what `identify` promises
-
-abbrev pub Identified : List ℕ → FindOptions → ℕ → Result (Unit {0}) RunError → Option (List ℕ) → Option (List ℕ) → Option (List ℕ) → Option (List ℕ) → Last → Last → Type 0
-Identified path options max r given left old new reader writer = record {
-  ok : OnOk r (ListsInput path options max given left old new);
-  err : IfErr r (λ e. LeavesInput path options max e given old new);
-  unread : IfErr r (λ e. IsUnread e → ListsUnread path options max given left old new);
-  fault : IfErr r (λ e. (f : Fault) → e ≡ run.Fault f → ListsFaulty path options max f given left old new);
-  reader : EndsReading r reader;
-  writer : EndsWriting r writer;
-}
 
 nothing_known : SomeFound → (path : List ℕ) (options : FindOptions) (known start : Option (List ℕ)) → IfSome known (λ text. LeavesAtError path text options run.Memory start start)
 nothing_known some path options None start = tt

@@ -1,8 +1,8 @@
 //! The options and files of the command line, and its help.
 ghost use Rattle.std.specs.Prelude.{◌≡◌, IfOk, false};
 ghost use Rattle.clap.specs.Words.{app_of, rule_of};
-ghost use Rattle.isort_cmd.specs.Options.{isort_app};
-ghost use Rattle.isort_cmd.specs.Private.ParserSteps.{rule_of_option, with_rules_of};
+ghost use Rattle.isort_cmd.specs.Options.{files_rule, isort_app};
+ghost use Rattle.isort_cmd.specs.Private.ParserSteps.{rule_of_option, with_rules_of, with_value_of};
 
 use clap::{Arg, ArgAction, Command, value_parser};
 use std::alloc::{AllocError, Global};
@@ -165,11 +165,18 @@ pub(crate) fn isort_command<'a>(alloc: Global) -> Result<Command<'a>, AllocError
         .about(ABOUT)
         .after_help(AFTER_HELP)
         .bin_name("isort")?;
-    let files = Arg::new(alloc, "FILE")
+    with_options(alloc, command.arg(files_argument(alloc))?, &OPTIONS)
+}
+
+/// The files as the parser takes them.
+fn files_argument<'a>(alloc: Global) -> Arg<'a>
+    ensures rule { rule_of result ≡ files_rule }
+    ensures local { result.global ≡ false }
+{
+    Arg::new(alloc, "FILE")
         .required(true)
         .num_args(1..)
-        .help(FILES);
-    with_options(alloc, command.arg(files)?, &OPTIONS)
+        .help(FILES)
 }
 
 /// The parser with these options too.
@@ -197,13 +204,21 @@ fn argument<'a>(alloc: Global, option: &CommandOption) -> Arg<'a>
     let argument = Arg::new(alloc, option.name)
         .long(option.name)
         .help(option.help);
-    let argument = match option.value {
-        OptionValue::Flag => argument.action(ArgAction::SetTrue),
-        OptionValue::Text(name) => argument.value_name(name),
-        OptionValue::Number => argument.value_name("N").value_parser(value_parser!(u32)),
-    };
+    let argument = with_value(argument, &option.value);
     match option.letter {
         Some(letter) => argument.short(letter),
         None => argument,
+    }
+}
+
+/// The argument with what it takes.
+fn with_value<'a>(argument: Arg<'a>, value: &OptionValue) -> Arg<'a>
+    ensures rule { rule_of result ≡ with_value_of value.now (rule_of argument.entry) }
+    ensures local { result.global ≡ argument.entry.global }
+{
+    match *value {
+        OptionValue::Flag => argument.action(ArgAction::SetTrue),
+        OptionValue::Text(name) => argument.value_name(name),
+        OptionValue::Number => argument.value_name("N").value_parser(value_parser!(u32)),
     }
 }

@@ -5,7 +5,7 @@ ghost use Rattle.isort_find.specs.Pieces.{fed_by, has_ready, options_for};
 ghost use Rattle.isort_sort.specs.Metered.{inner_of, last_of};
 ghost use Rattle.isort_cmd.specs.RunError.{IsUnread, EndsReading, EndsWriting};
 ghost use Rattle.isort_cmd.specs.Private.Steps.{HasListedSettled, LooksAtHeld};
-ghost use Rattle.isort_cmd.specs.Private.Stages.{listing_state, ListsNext, ListsReady, ListsChunk, ListsChunks, ListsEnd, TellsWritten};
+ghost use Rattle.isort_cmd.specs.Private.Stages.{listing_state, Identified, ListsNext, ListsReady, ListsChunk, ListsChunks, ListsEnd, TellsWritten};
 ghost use Rattle.isort_cmd.specs.Written.{ListsInput, LeavesInput, ListsUnread, ListsFaulty};
 
 use crate::error::RunError;
@@ -64,7 +64,9 @@ impl Listing<'_> {
             return Ok(false);
         };
         self.line.clear();
-        push_line(self.alloc, &binding, self.path, &mut self.line)?;
+        let made = push_line(self.alloc, &binding, self.path, &mut self.line);
+        drop(binding);
+        made?;
         write_whole(writer, self.line.as_bytes())?;
         Ok(true)
     }
@@ -161,6 +163,28 @@ impl Listing<'_> {
         self.list_ready(writer)?;
         Ok(())
     }
+
+    /// Lists the imports of the whole text of a reader.
+    fn list<R: Read, W: Write>(
+        &mut self,
+        reader: &mut Metered<R>,
+        writer: &mut Metered<W>,
+        max: u64,
+    ) -> Result<(), RunError>
+        requires reader_fine { last_of reader.old ≡ Last.Fine }
+        requires writer_fine { last_of writer.old ≡ Last.Fine }
+        requires small { max ≤ 2 ^ 62 }
+        requires fresh { HasListedSettled self.old.path.now [] (options_for self.old.finder)
+            self.old.finder (W.contents (inner_of writer.old)) (W.contents (inner_of writer.old)) }
+        ensures { Identified self.old.path.now (options_for self.old.finder) max result
+            (R.remaining (inner_of reader.old)) (R.remaining (inner_of reader.new))
+            (W.contents (inner_of writer.old)) (W.contents (inner_of writer.new))
+            (last_of reader.new) (last_of writer.new) }
+    {
+        settled_found_is_final();
+        self.list_chunks(reader, writer, max)?;
+        self.list_end(writer)
+    }
 }
 
 /// Lists the imports of a Python text: reads `reader` to its end in chunks, and writes to `writer` one line for each
@@ -215,13 +239,11 @@ pub fn identify<R: Read, W: Write>(
     ensures writer { EndsWriting result (last_of writer.new) }
 {
     one_found();
-    settled_found_is_final();
     let mut listing = Listing {
         alloc,
         finder: PieceFinder::new(alloc, options)?,
         path,
         line: String::new(alloc),
     };
-    listing.list_chunks(reader, writer, max)?;
-    listing.list_end(writer)
+    listing.list(reader, writer, max)
 }

@@ -1,5 +1,5 @@
 //! What is told of a file after it was listed, checked or sorted.
-ghost use Rattle.std.specs.Prelude.{◌≡◌, IfOk, IfErr};
+ghost use Rattle.std.specs.Prelude.{◌≡◌, [], IfOk, IfErr, string_bytes};
 ghost use Rattle.isort_cmd.specs.Reported.{report_value, reported};
 
 use crate::error::RunError;
@@ -8,6 +8,28 @@ use crate::message::fault_text;
 use crate::told::Report;
 use isort_sort::Outcome;
 use std::alloc::Global;
+
+/// A report of what is wrong, for standard error.
+fn complaint(alloc: Global, err: String) -> Report
+    ensures { report_value result ≡ record { out = []; err = string_bytes err; status = 1 } }
+{
+    Report {
+        out: String::new(alloc),
+        err,
+        status: 1,
+    }
+}
+
+/// A report of what was done, for standard output.
+fn note(alloc: Global, out: String) -> Report
+    ensures { report_value result ≡ record { out = string_bytes out; err = []; status = 0 } }
+{
+    Report {
+        out,
+        err: String::new(alloc),
+        status: 0,
+    }
+}
 
 /// What is told of the file at `path` after the action was done on it. A listing that ended well is handed in as `Same`,
 /// and so is a check that found the file sorted; one that didn't as `Changed`.
@@ -22,26 +44,18 @@ pub fn report(
     ensures ok { IfOk result (λ r. report_value r ≡ reported path.now action.now answer.now) }
     ensures memory { IfErr result (λ e. e ≡ RunError.Memory) }
 {
-    let mut report = Report {
-        out: String::new(alloc),
-        err: String::new(alloc),
-        status: 0,
-    };
     match (action.task(path), answer) {
-        (_, Err(error)) => {
-            report.err = fault_text(alloc, path, error)?;
-            report.status = 1;
-        }
+        (_, Err(error)) => Ok(complaint(alloc, fault_text(alloc, path, error)?)),
         (Task::Check, Ok(Outcome::Changed)) => {
-            report.err = format!(in alloc;
+            let err = format!(in alloc;
                 "ERROR: {path} Imports are incorrectly sorted and/or formatted.\n"
             )?;
-            report.status = 1;
+            Ok(complaint(alloc, err))
         }
         (Task::Rewrite, Ok(Outcome::Changed)) => {
-            report.out = format!(in alloc; "Fixing {path}\n")?;
+            let out = format!(in alloc; "Fixing {path}\n")?;
+            Ok(note(alloc, out))
         }
-        _ => {}
+        _ => Ok(note(alloc, String::new(alloc))),
     }
-    Ok(report)
 }

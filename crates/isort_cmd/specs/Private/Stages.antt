@@ -1,16 +1,17 @@
 -- What the calls of a listing promise one another, from one stage to the next. Contracts of private functions alone cite these.
-use Rattle.std.specs.Prelude.{◌≡◌, ◌<◌, ◌+◌, ℕ, Bool, true, false, Option, None, IfSome, Result, Ok, Err, List, ◌++◌, length}
+use Rattle.std.specs.Prelude.{◌≡◌, ◌<◌, ◌+◌, ℕ, Bool, true, false, Option, None, IfSome, Result, Ok, Err, OnOk, IfErr, List, ◌++◌, length}
 use Rattle.std.specs.Io.KnownBytes.{Appends, IsAtEnd}
 use Rattle.std.specs.List.{list_any}
+use Rattle.py_lines.specs.declared.fault.Fault.{Fault}
 use Rattle.isort_find.specs.Pieces.{PieceFinderState, IsOver, HasNoFault, IsFedNothing, options_for, due_by, fed_by, has_ready}
 use Rattle.isort_find.specs.declared.options.FindOptions.{FindOptions}
 use Rattle.isort_sort.specs.Metered.{inner_of, last_of}
 use Rattle.isort_sort.specs.declared.metered.Last.{Last}
 use Rattle.isort_sort.specs.declared.metered.Last.TheVariants as last
 use Rattle.isort_sort.specs.declared.metered.Metered.{Metered}
-use Rattle.isort_cmd.specs.RunError.{LeavesWriter}
+use Rattle.isort_cmd.specs.RunError.{EndsReading, EndsWriting, IsUnread, LeavesWriter}
 use Rattle.isort_cmd.specs.Private.Steps.{IsOutputError, GivenAreListed, HasListedSettled, LeavesReady, LeavesChunk, ListsRead, LeavesFed}
-use Rattle.isort_cmd.specs.Written.{ListsFound, LeavesAtError}
+use Rattle.isort_cmd.specs.Written.{ListsFound, ListsInput, ListsUnread, ListsFaulty, LeavesAtError, LeavesInput}
 use Rattle.isort_cmd.specs.declared.error.RunError.{RunError}
 use Rattle.isort_cmd.specs.declared.error.RunError.TheVariants as run
 use Rattle.isort_cmd.specs.declared.listing.Listing.{Listing}
@@ -142,3 +143,15 @@ pub record StopsAtEnd (old : ListingState) (e : RunError) (new : ListingState) :
 abbrev pub ListsEnd : ListingState → Result (Unit {0}) RunError → ListingState → Type 0
 ListsEnd old (Ok done) new = EndsListing old new
 ListsEnd old (Err e) new = StopsAtEnd old e new
+
+-- what is listed of a reader's text, at its end or at an error
+abbrev pub Identified : List ℕ → FindOptions → ℕ → Result (Unit {0}) RunError → Option (List ℕ) → Option (List ℕ)
+    → Option (List ℕ) → Option (List ℕ) → Last → Last → Type 0
+Identified path options max r given left old new reader writer = record {
+  ok : OnOk r (ListsInput path options max given left old new);
+  err : IfErr r (λ e. LeavesInput path options max e given old new);
+  unread : IfErr r (λ e. IsUnread e → ListsUnread path options max given left old new);
+  fault : IfErr r (λ e. (f : Fault) → e ≡ run.Fault f → ListsFaulty path options max f given left old new);
+  reader : EndsReading r reader;
+  writer : EndsWriting r writer;
+}
