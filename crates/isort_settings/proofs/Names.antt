@@ -1,10 +1,12 @@
 -- The names that `sections` lists, one after another.
-use Rattle.std.proofs.Common.{◌≡◌, ◌↔◌, ℕ, ◌+◌, ◌<◌, Bool, true, false, not, ◌||◌, cond, IsTrue, List, [], ◌∷◌, ◌++◌, map, length, take, get_or, Option, Some, None, bytes_eq, string_bytes, String, Global, refl, sym, ◌∙◌, ap}
+use Rattle.std.proofs.Common.{◌≡◌, ◌↔◌, ℕ, ◌+◌, ◌<◌, Bool, true, false, not, ◌||◌, cond, IsTrue, List, [], ◌∷◌, ◌++◌, map, length, take, get_or, Option, Some, None, bytes_eq, option_map, unwrap_or, Bor, string_bytes, String, Global, refl, sym, ◌∙◌, ap, arith}
 use Rattle.std.proofs.lemmas.Bool.{false_from_ne_true}
-use Rattle.std.proofs.lemmas.List.{length-map, map-append, take_more}
+use Rattle.std.proofs.lemmas.List.{get_or-map, length-map, map-append, take_more}
 use Rattle.std.proofs.lemmas.List.Elements.{filter_map-append}
+use Rattle.std.proofs.lemmas.Option.{slice_get-get_or, slice_get_past, unwrap_or-slice_get}
 use Rattle.std.proofs.lemmas.Slice.Eq.{bytes_eq-Decides}
-use Rattle.std.specs.List.{list_any, filter_map, cons_option, position, prefix_len}
+use Rattle.std.specs.List.{list_any, filter_map, cons_option, position, prefix_len, slice_get}
+use Rattle.std.specs.Slice.{IsItemAt}
 use Rattle.isort_settings.specs.declared.section.Section.{Section}
 
 -- an answer that says whether two texts are equal
@@ -33,6 +35,19 @@ prefix-map p (n ∷ ns) = ap (λ k. cond (p (string_bytes n)) (1 + k) 0) (prefix
 
 pub place-map : (p : List ℕ → Bool) (names : List (String Global)) → position (λ n. p (string_bytes n)) names ≡ position p (map string_bytes names)
 place-map p names = sym (rw (prefix-map (λ x. not (p x)) names, length-map names string_bytes) refl)
+
+-- the bytes of the entry at a place, if it is there
+pub entry_found : (names : List (String Global)) (i : ℕ) (found : Option (Bor (String Global))) → IsItemAt names i found
+    → option_map (λ e. string_bytes e.now) found ≡ slice_get (map string_bytes names) i
+entry_found names i (Some e) item =
+    ap (λ s. Some (string_bytes s)) (item.4 (omega arith) e.now)
+    ∙ ap Some (sym (get_or-map string_bytes names i e.now [] item.3.0))
+    ∙ sym (slice_get-get_or (map string_bytes names) i [] (omega (arith, length-map names string_bytes, item.3.0)))
+entry_found names i None item = sym (slice_get_past (map string_bytes names) i (omega (arith, length-map names string_bytes, item.3)))
+
+pub name_found : (names : List (String Global)) (i : ℕ) (found : Option (Bor (String Global))) → IsItemAt names i found
+    → unwrap_or (option_map (λ n. string_bytes n.now) found) [] ≡ get_or (map string_bytes names) i []
+name_found names i found item = ap (λ o. unwrap_or o []) (entry_found names i found item) ∙ unwrap_or-slice_get (map string_bytes names) i []
 
 -- a list with what an answer has
 abbrev pub with_answer : List Section → Option Section → List Section

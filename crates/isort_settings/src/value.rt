@@ -48,7 +48,8 @@ fn has_wildcard(text: &str) -> bool
 fn entry(value: &Value) -> Option<&str>
     ensures { option_copied result ≡ entry_of (view value.now) }
 {
-    value.as_str().filter(|text| !has_wildcard(text))
+    let text = value.as_str()?;
+    if has_wildcard(text) { None } else { Some(text) }
 }
 
 /// A whole number within the limits.

@@ -1,0 +1,11 @@
+-- Each list is searched in its own way.
+use Rattle.isort_settings.proofs.modules.Modules.holds.Goals as goal
+
+pub returns-in-StandardLibrary : goal.returns-in-StandardLibrary
+returns-in-StandardLibrary c = rw c.in-StandardLibrary.is (rw c.as_bytes.ensures.value at c.holds.ensures)
+
+pub returns-in-Listed : goal.returns-in-Listed
+returns-in-Listed c = rw c.in-Listed.is (rw (c.as_bytes-in-Listed.ensures.value, c.deref.ensures.value) at c.is_among.ensures)
+
+pub returns-in-Indexed : goal.returns-in-Indexed
+returns-in-Indexed c = rw c.in-Indexed.is c.holds-in-Indexed.ensures
