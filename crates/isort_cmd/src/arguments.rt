@@ -2,7 +2,7 @@
 ghost use Rattle.std.specs.Prelude.{◌≡◌, IfOk, false};
 ghost use Rattle.clap.specs.Words.{app_of, rule_of};
 ghost use Rattle.isort_cmd.specs.Options.{files_rule, isort_app};
-ghost use Rattle.isort_cmd.specs.Private.ParserSteps.{rule_of_option, with_rules_of, with_value_of};
+ghost use Rattle.isort_cmd.specs.Private.ParserSteps.{rule_of_option, with_rules_of};
 
 use clap::{Arg, ArgAction, Command, value_parser};
 use std::alloc::{AllocError, Global};
@@ -204,21 +204,13 @@ fn argument<'a>(alloc: Global, option: &CommandOption) -> Arg<'a>
     let argument = Arg::new(alloc, option.name)
         .long(option.name)
         .help(option.help);
-    let argument = with_value(argument, &option.value);
-    match option.letter {
-        Some(letter) => argument.short(letter),
-        None => argument,
-    }
-}
-
-/// The argument with what it takes.
-fn with_value<'a>(argument: Arg<'a>, value: &OptionValue) -> Arg<'a>
-    ensures rule { rule_of result ≡ with_value_of value.now (rule_of argument.entry) }
-    ensures local { result.global ≡ argument.entry.global }
-{
-    match *value {
+    let argument = match option.value {
         OptionValue::Flag => argument.action(ArgAction::SetTrue),
         OptionValue::Text(name) => argument.value_name(name),
         OptionValue::Number => argument.value_name("N").value_parser(value_parser!(u32)),
+    };
+    match option.letter {
+        Some(letter) => argument.short(letter),
+        None => argument,
     }
 }
