@@ -1,5 +1,5 @@
 -- What the text of settings stands for, from what the library says of it.
-use Rattle.std.proofs.Common.{◌≡◌, ◌≢◌, ◌⊎◌, ℕ, List, Option, Ok, Err, refl, ap, ◌∙◌, inl, inr}
+use Rattle.std.proofs.Common.{◌≡◌, ◌≢◌, ◌⊎◌, ℕ, List, Option, Result, Ok, Err, IfOk, refl, sym, ap, ◌∙◌, inl, inr}
 use Rattle.std.specs.Result.{result_map_both}
 use Rattle.isort_settings.specs.Pyproject.{settings_of}
 use Rattle.isort_settings.specs.Values.{Values}
@@ -27,3 +27,11 @@ reading-refused text n profile refusal.BadToml is refused = inl (reading-err tex
 reading-refused text n profile (refusal.BadValue k) is refused = inl (reading-err text n profile (refusal.BadValue k) is (refused (λ same. cc)))
 reading-refused text n profile refusal.UnknownProfile is refused = inl (reading-err text n profile refusal.UnknownProfile is (refused (λ same. cc)))
 reading-refused text n profile refusal.UnsupportedMode is refused = inl (reading-err text n profile refusal.UnsupportedMode is (refused (λ same. cc)))
+
+-- what a text stands for is shown by the reading of it, if there is memory for it
+pub stands_shared : {A E : Type 0} (shown : A → Values × List (List ℕ)) (stands : Result (Values × List (List ℕ)) Answer) (r : Values × List (List ℕ)) (made : Result A E) (answer : Result A Answer)
+    → stands ≡ Ok r → IfOk made (λ a. shown a ≡ r) → IfOk answer (λ a. made ≡ Ok a) → IfOk answer (λ a. stands ≡ Ok (shown a))
+stands_shared shown stands r made (Ok a) is holds same =
+    let kept : shown a ≡ r = rw same at holds in
+    is ∙ ap (λ v. Ok v) (sym kept)
+stands_shared shown stands r made (Err e) is holds same = tt

@@ -1,5 +1,6 @@
 //! Listing: all imports of a text, as records in the caller's buffer.
 ghost use Rattle.std.specs.Prelude.{◌≡◌, []};
+ghost use Rattle.isort_find.specs.Finder.{HasFound, finder_text, options_of};
 ghost use Rattle.isort_c.specs.Listing.{unique_at, IsListing, list_answer, list_left, AnswersFind};
 
 use crate::answer::{ARGUMENT, Answer, MEMORY, SAME};
@@ -22,6 +23,18 @@ fn unique_of(number: u32) -> Result<Option<ImportKey>, Answer>
     }
 }
 
+/// Puts the records of all imports that the finder gives from its start on into `records`.
+fn list_all(finder: &mut Finder<'_>, records: &mut Vec<u8>) -> Result<(), FindError>
+    requires start { HasFound finder.old [] }
+    requires none { records.old.items ≡ [] }
+    ensures { IsListing (finder_text finder.old) (options_of finder.old) result records.new.items }
+{
+    'imports: while let Some(binding) = finder.next_import()? {
+        push_binding(&binding, records)?;
+    }
+    Ok(())
+}
+
 /// Puts the records of all imports that are found into `records`.
 fn list(
     alloc: Global,
@@ -33,10 +46,7 @@ fn list(
     ensures { IsListing text.now options result records.new.items }
 {
     let mut finder = Finder::new(alloc, text, options)?;
-    'imports: while let Some(binding) = finder.next_import()? {
-        push_binding(&binding, records)?;
-    }
-    Ok(())
+    list_all(&mut finder, records)
 }
 
 /// Puts the records at the buffer's beginning, where they fit.

@@ -1,7 +1,6 @@
 //! Settings that are read once and kept for calls.
-ghost use Rattle.std.specs.Prelude.{◌≡◌, ◌≢◌, ◌⊎◌, Ok, Err, IsOk, IfOk, IfErr, map, string_bytes};
+ghost use Rattle.std.specs.Prelude.{◌≡◌, ◌≢◌, ◌⊎◌, Ok, Err, IsOk, IfOk, IfErr};
 ghost use Rattle.std.specs.Arc.{arc_value};
-ghost use Rattle.isort_settings.specs.Values.{values};
 ghost use Rattle.isort_c.specs.Answers.{plain_answer};
 ghost use Rattle.isort_c.specs.Kept.{kept_reading, read_values, KeepsReading, TellsUnknown};
 ghost use Rattle.isort_c.specs.Places.{AnswersPlace};
@@ -16,7 +15,6 @@ use crate::place::tell;
 use crate::settings::{read, records_of};
 use crate::sort::{check_under, sort_under};
 use crate::stored::{Reading, Stored};
-use isort_settings::Settings;
 use std::alloc::{AllocError, Global};
 use std::str;
 use std::sync::Arc;
@@ -28,18 +26,6 @@ fn keep(alloc: Global, reading: Arc<Reading>) -> Result<KeptSettings, AllocError
     Ok(KeptSettings::of(Box::new(alloc, Stored { reading })?))
 }
 
-/// A handle that keeps these settings and names.
-fn keep_new(
-    alloc: Global,
-    settings: Settings,
-    unknown: Vec<String>,
-) -> Result<KeptSettings, AllocError>
-    ensures { IfOk result (λ kept.
-        kept_reading kept ≡ Ok (values settings, map string_bytes unknown.items)) }
-{
-    keep(alloc, Arc::new(alloc, Reading { settings, unknown })?)
-}
-
 /// A handle that keeps what the text of a `pyproject.toml` stands for, with the profile of this number; or the answer where
 /// there is none.
 fn keep_reading(alloc: Global, text: &[u8], profile: u32) -> Result<KeptSettings, Answer>
@@ -48,8 +34,7 @@ fn keep_reading(alloc: Global, text: &[u8], profile: u32) -> Result<KeptSettings
     ensures err { IfErr result (λ a.
         (reading text.now profile ≡ Err a) ⊎ (a ≡ plain_answer MEMORY)) }
 {
-    let (settings, unknown) = read(alloc, text, profile)?;
-    match keep_new(alloc, settings, unknown) {
+    match keep(alloc, read(alloc, text, profile)?) {
         Ok(kept) => Ok(kept),
         Err(_) => Err(Answer::plain(MEMORY)),
     }

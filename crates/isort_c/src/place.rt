@@ -43,7 +43,10 @@ pub extern "C" fn fihroste_place(
         return Answer::plain(ARGUMENT);
     };
     match read(alloc, settings, profile) {
-        Ok((settings, _unknown)) => tell(&settings, settings.section_of(module_name), out),
+        Ok(reading) => {
+            let settings = &reading.settings;
+            tell(settings, settings.section_of(module_name), out)
+        }
         Err(answer) => answer,
     }
 }

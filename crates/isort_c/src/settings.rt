@@ -1,7 +1,9 @@
 //! What settings say.
 ghost use Rattle.std.specs.Prelude.{◌≡◌, ◌⊎◌, Ok, Err, IfOk, IfErr, length, map, string_bytes};
+ghost use Rattle.std.specs.Arc.{arc_value};
 ghost use Rattle.isort_settings.specs.Values.{values};
 ghost use Rattle.isort_c.specs.Answers.{plain_answer, filled};
+ghost use Rattle.isort_c.specs.Kept.{read_values};
 ghost use Rattle.isort_c.specs.Readings.{bad_key_name, profile_at, refused_answer, reading, AnswersSettings};
 ghost use Rattle.isort_c.specs.Records.{name_records};
 ghost use Rattle.isort_c.specs.declared.answer.TheConstants.{MEMORY};
@@ -10,8 +12,10 @@ use crate::answer::{ARGUMENT, Answer, MEMORY, SAME, SETTINGS};
 use crate::buffer::fill;
 use crate::key::number_of;
 use crate::record::push_text;
+use crate::stored::Reading;
 use isort_settings::{Profile, Settings, SettingsError};
 use std::alloc::{AllocError, Global};
+use std::sync::Arc;
 
 /// The profile of a number, or none for 0.
 fn profile_at(number: u32) -> Result<Option<Profile>, Answer>
@@ -42,17 +46,39 @@ fn refused(error: &SettingsError) -> Answer
     answer
 }
 
+/// A reading of these settings and names, which handles can share.
+fn shared(
+    alloc: Global,
+    settings: Settings,
+    unknown: Vec<String>,
+) -> Result<Arc<Reading>, AllocError>
+    ensures { IfOk result (λ r.
+        read_values (arc_value r) ≡ (values settings, map string_bytes unknown.items)) }
+{
+    Ok(Arc::new(alloc, Reading { settings, unknown })?)
+}
+
+/// The reading, or the answer where memory ran out.
+fn unless_memory(read: Result<Arc<Reading>, AllocError>) -> Result<Arc<Reading>, Answer>
+    ensures ok { IfOk result (λ r. read ≡ Ok r) }
+    ensures err { IfErr result (λ a. a ≡ plain_answer MEMORY) }
+{
+    match read {
+        Ok(reading) => Ok(reading),
+        Err(_) => Err(Answer::plain(MEMORY)),
+    }
+}
+
 /// The settings that the text of a `pyproject.toml` stands for, with the profile of this number, and the names of its
 /// unknown keys; or the answer where there are none.
-pub fn read(alloc: Global, text: &[u8], profile: u32) -> Result<(Settings, Vec<String>), Answer>
-    ensures ok { IfOk result (λ r.
-        reading text.now profile ≡ Ok (values r.0, map string_bytes r.1.items)) }
+pub fn read(alloc: Global, text: &[u8], profile: u32) -> Result<Arc<Reading>, Answer>
+    ensures ok { IfOk result (λ r. reading text.now profile ≡ Ok (read_values (arc_value r))) }
     ensures err { IfErr result (λ a.
         (reading text.now profile ≡ Err a) ⊎ (a ≡ plain_answer MEMORY)) }
 {
     let profile = profile_at(profile)?;
     match Settings::from_pyproject(alloc, text, profile) {
-        Ok(read) => Ok(read),
+        Ok((settings, unknown)) => unless_memory(shared(alloc, settings, unknown)),
         Err(error) => Err(refused(&error)),
     }
 }
@@ -102,7 +128,10 @@ pub extern "C" fn fihroste_settings(
         Err(answer) => return answer,
     };
     let unknown = match Settings::from_pyproject(alloc, settings, profile) {
-        Ok((_settings, unknown)) => unknown,
+        Ok((settings, unknown)) => {
+            drop(settings);
+            unknown
+        }
         Err(error) => return tell_refusal(&error, out),
     };
     let Ok(records) = records_of(alloc, &unknown) else {

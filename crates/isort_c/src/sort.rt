@@ -77,7 +77,7 @@ pub extern "C" fn fihroste_sort(
     ensures { AnswersSort text.now (reading settings.now profile) result out.old out.new }
 {
     match read(alloc, settings, profile) {
-        Ok((settings, _unknown)) => sort_under(alloc, text, &settings, out),
+        Ok(reading) => sort_under(alloc, text, &reading.settings, out),
         Err(answer) => answer,
     }
 }
@@ -94,7 +94,7 @@ pub extern "C" fn fihroste_check(
     ensures { AnswersCheck text.now (reading settings.now profile) result }
 {
     match read(alloc, settings, profile) {
-        Ok((settings, _unknown)) => check_under(alloc, text, &settings),
+        Ok(reading) => check_under(alloc, text, &reading.settings),
         Err(answer) => answer,
     }
 }
