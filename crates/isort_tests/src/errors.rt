@@ -3,35 +3,8 @@ use isort_find::{FindError, ResumeError};
 use isort_sort::SortError;
 use py_imports::ImportError;
 use py_lines::{Fault, FaultKind as Kind, LexError};
-use std::alloc::Global;
 use std::test::Fail;
-use test_harness::cases::{Case, each_holds_again, is_shown};
-
-/// An error of a library, or the kind of a fault.
-enum Error {
-    Kind(Kind),
-    Lexing(LexError),
-    Imports(ImportError),
-    Finding(FindError),
-    Resuming(ResumeError),
-    Sorting(SortError),
-}
-
-/// An error, and its text.
-struct Shown(Error, &'static str);
-
-impl Case for Shown {
-    fn holds(&self, alloc: Global) -> bool {
-        match &self.0 {
-            Error::Kind(kind) => is_shown(alloc, kind, self.1),
-            Error::Lexing(error) => is_shown(alloc, error, self.1),
-            Error::Imports(error) => is_shown(alloc, error, self.1),
-            Error::Finding(error) => is_shown(alloc, error, self.1),
-            Error::Resuming(error) => is_shown(alloc, error, self.1),
-            Error::Sorting(error) => is_shown(alloc, error, self.1),
-        }
-    }
-}
+use test_harness::cases::{Shown, each_holds_again};
 
 /// A fault, and its text in each error that has it.
 const FAULT: Fault = Fault {
@@ -44,46 +17,55 @@ const FAULT_TEXT: &str = "line 3: F2 unexpected character";
 
 const NO_MEMORY: &str = "out of memory";
 
-const ERRORS: &[Shown] = &[
-    Shown(Error::Kind(Kind::BadUtf8), "F1 not UTF-8"),
-    Shown(Error::Kind(Kind::BadChar), "F2 unexpected character"),
-    Shown(Error::Kind(Kind::OpenString), "F3 string not closed"),
+const KINDS: &[Shown<Kind>] = &[
+    Shown(Kind::BadUtf8, "F1 not UTF-8"),
+    Shown(Kind::BadChar, "F2 unexpected character"),
+    Shown(Kind::OpenString, "F3 string not closed"),
+    Shown(Kind::OpenTriple, "F4 triple-quoted string not closed"),
+    Shown(Kind::WrongClose, "F5 closing bracket without its opening"),
+    Shown(Kind::OpenBracket, "F6 bracket not closed"),
+    Shown(Kind::BadJoin, "F7 backslash not before a line end"),
+    Shown(Kind::TooDeep, "F8 more than 200 brackets open"),
+    Shown(Kind::BadImport, "F9 import statement not understood"),
+    Shown(Kind::OpenField, "F10 field not closed"),
+];
+
+const LEXING: &[Shown<LexError>] = &[
+    Shown(LexError::Memory, NO_MEMORY),
+    Shown(LexError::Fault(FAULT), FAULT_TEXT),
+];
+
+const IMPORTS: &[Shown<ImportError>] = &[
+    Shown(ImportError::Memory, NO_MEMORY),
+    Shown(ImportError::Fault(FAULT), FAULT_TEXT),
+];
+
+const FINDING: &[Shown<FindError>] = &[
+    Shown(FindError::Memory, NO_MEMORY),
+    Shown(FindError::Fault(FAULT), FAULT_TEXT),
+];
+
+const RESUMING: &[Shown<ResumeError>] = &[
+    Shown(ResumeError::Memory, NO_MEMORY),
     Shown(
-        Error::Kind(Kind::OpenTriple),
-        "F4 triple-quoted string not closed",
-    ),
-    Shown(
-        Error::Kind(Kind::WrongClose),
-        "F5 closing bracket without its opening",
-    ),
-    Shown(Error::Kind(Kind::OpenBracket), "F6 bracket not closed"),
-    Shown(
-        Error::Kind(Kind::BadJoin),
-        "F7 backslash not before a line end",
-    ),
-    Shown(Error::Kind(Kind::TooDeep), "F8 more than 200 brackets open"),
-    Shown(
-        Error::Kind(Kind::BadImport),
-        "F9 import statement not understood",
-    ),
-    Shown(Error::Kind(Kind::OpenField), "F10 field not closed"),
-    Shown(Error::Lexing(LexError::Memory), NO_MEMORY),
-    Shown(Error::Lexing(LexError::Fault(FAULT)), FAULT_TEXT),
-    Shown(Error::Imports(ImportError::Memory), NO_MEMORY),
-    Shown(Error::Imports(ImportError::Fault(FAULT)), FAULT_TEXT),
-    Shown(Error::Finding(FindError::Memory), NO_MEMORY),
-    Shown(Error::Finding(FindError::Fault(FAULT)), FAULT_TEXT),
-    Shown(Error::Resuming(ResumeError::Memory), NO_MEMORY),
-    Shown(
-        Error::Resuming(ResumeError::TextTooShort),
+        ResumeError::TextTooShort,
         "C1 text is shorter than the cursor's offset",
     ),
-    Shown(Error::Sorting(SortError::Memory), NO_MEMORY),
-    Shown(Error::Sorting(SortError::Fault(FAULT)), FAULT_TEXT),
-    Shown(Error::Sorting(SortError::Write), "cannot be written"),
+];
+
+const SORTING: &[Shown<SortError>] = &[
+    Shown(SortError::Memory, NO_MEMORY),
+    Shown(SortError::Fault(FAULT), FAULT_TEXT),
+    Shown(SortError::Write, "cannot be written"),
 ];
 
 #[test]
 fn displays_errors(rt: HostRuntime) -> Result<(), Fail> {
-    each_holds_again(rt.alloc(), "ERRORS", ERRORS)
+    let alloc = rt.alloc();
+    each_holds_again(alloc, "KINDS", KINDS)?;
+    each_holds_again(alloc, "LEXING", LEXING)?;
+    each_holds_again(alloc, "IMPORTS", IMPORTS)?;
+    each_holds_again(alloc, "FINDING", FINDING)?;
+    each_holds_again(alloc, "RESUMING", RESUMING)?;
+    each_holds_again(alloc, "SORTING", SORTING)
 }

@@ -4,8 +4,10 @@ use crate::sort::sorted::Under;
 use isort_settings::{Section, Settings};
 use std::alloc::Global;
 use std::test::Fail;
-use test_harness::cases::{Case, SettingsCase, each_holds_again, each_holds_with, table_of};
-use test_harness::texts::{DJANGO, DJANGO_SORTED, DJANGO_UNSORTED};
+use test_harness::cases::{
+    Case, SettingsCase, each_holds_again, each_holds_with, each_row_holds_with, table_of,
+};
+use test_harness::texts::DJANGO;
 
 /// Two own sections before the five, the second of which comes first by its name.
 const TWO: &str =
@@ -61,6 +63,10 @@ const UNFIT: &[Refused] = &[
     Refused(b"[tool.isort]\nsections = [\"Third_Party\"]", None, BAD),
     Refused(b"[tool.isort]\nsections = [\"LOCAL_FOLDER\"]", None, BAD),
     Refused(b"[tool.isort]\nsections = [\"Future_Library\"]", None, BAD),
+];
+
+/// Settings with values that are refused.
+const BAD_VALUES: &[Refused] = &[
     // Values that are no lists of texts.
     Refused(b"[tool.isort]\nsections = \"A\"", None, BAD),
     Refused(b"[tool.isort]\nsections = [\"A\", 1]", None, BAD),
@@ -102,11 +108,6 @@ const UNFIT: &[Refused] = &[
     ),
 ];
 
-#[test]
-fn refuses_sections(rt: HostRuntime) -> Result<(), Fail> {
-    each_holds_again(rt.alloc(), "UNFIT", UNFIT)
-}
-
 /// Lines of `[tool.isort]`, and its unknown keys.
 struct Accepted(&'static str, &'static [&'static str]);
 
@@ -147,7 +148,9 @@ const ACCEPTED: &[Accepted] = &[
 ];
 
 #[test]
-fn accepts_sections(rt: HostRuntime) -> Result<(), Fail> {
+fn refuses_and_accepts_sections(rt: HostRuntime) -> Result<(), Fail> {
+    each_holds_again(rt.alloc(), "UNFIT", UNFIT)?;
+    each_holds_again(rt.alloc(), "BAD_VALUES", BAD_VALUES)?;
     each_holds_again(rt.alloc(), "ACCEPTED", ACCEPTED)
 }
 
@@ -190,11 +193,6 @@ const SECTIONS: &[Sectioned] = &[
     ),
     Sectioned("known_a = [\"os\"]", "os", Section::Stdlib),
 ];
-
-#[test]
-fn finds_own_sections(rt: HostRuntime) -> Result<(), Fail> {
-    each_holds_with(rt.alloc(), "SECTIONS", "", SECTIONS)
-}
 
 /// Lines of `[tool.isort]`, and the sections in their order.
 struct Ranked(&'static str, &'static [Section]);
@@ -265,37 +263,99 @@ const RANKS: &[Ranked] = &[
     ),
 ];
 
-#[test]
-fn ranks_sections(rt: HostRuntime) -> Result<(), Fail> {
-    each_holds_with(rt.alloc(), "RANKS", "", RANKS)
-}
+const STATEMENTS: &str = "\
+sections = [\"FUTURE\", \"STDLIB\", \"Django\", \"THIRDPARTY\"]
+known_django = [\"django\"]
+----
+import requests
+import django.db
+import os
+from . import z
+----
+import os
 
-const STATEMENTS: &[Under] = &[
-    Under(DJANGO, DJANGO_UNSORTED, DJANGO_SORTED),
-    Under(
-        TWO,
-        "import requests\nimport m.n\nfrom flask import g\nimport os\nfrom __future__ import annotations\nimport m\n",
-        "import m\nfrom flask import g\n\nimport m.n\nimport os\n\nfrom __future__ import annotations\n\n\
-         import requests\n",
-    ),
-    Under(
-        "sections = [\"LOCALFOLDER\", \"A\", \"STDLIB\"]\nknown_a = [\"a\"]\nforce_sort_within_sections = true",
-        "import sys\nimport z\nimport a.c\nfrom a import b\nfrom . import y\nfrom os import path\n",
-        "from . import y\n\nfrom a import b\nimport a.c\n\nfrom os import path\nimport sys\n\nimport z\n",
-    ),
-    Under(
-        "sections = [\"A\"]\ndefault_section = \"A\"\nlines_between_sections = 2\nlines_between_types = 1",
-        "import os\nfrom c import d\nimport b\n",
-        "import b\n\nfrom c import d\n\n\nimport os\n",
-    ),
-    Under(
-        "sections = [\"B\", \"A\"]\nknown_a = [\"m\"]\nknown_b = [\"n\"]\nlines_between_sections = 0",
-        "import m\nimport n\nimport o\n",
-        "import n\nimport m\nimport o\n",
-    ),
-];
+import django.db
+
+import requests
+
+from . import z
+====
+sections = [\"Web\", \"Data_2\"]
+known_web = [\"flask\", \"m\"]
+known_data_2 = [\"m.n\", \"m\", \"os\"]
+----
+import requests
+import m.n
+from flask import g
+import os
+from __future__ import annotations
+import m
+----
+import m
+from flask import g
+
+import m.n
+import os
+
+from __future__ import annotations
+
+import requests
+====
+sections = [\"LOCALFOLDER\", \"A\", \"STDLIB\"]
+known_a = [\"a\"]
+force_sort_within_sections = true
+----
+import sys
+import z
+import a.c
+from a import b
+from . import y
+from os import path
+----
+from . import y
+
+from a import b
+import a.c
+
+from os import path
+import sys
+
+import z
+====
+sections = [\"A\"]
+default_section = \"A\"
+lines_between_sections = 2
+lines_between_types = 1
+----
+import os
+from c import d
+import b
+----
+import b
+
+from c import d
+
+
+import os
+====
+sections = [\"B\", \"A\"]
+known_a = [\"m\"]
+known_b = [\"n\"]
+lines_between_sections = 0
+----
+import m
+import n
+import o
+----
+import n
+import m
+import o
+";
 
 #[test]
-fn orders_statements_by_own_sections(rt: HostRuntime) -> Result<(), Fail> {
-    each_holds_with(rt.alloc(), "STATEMENTS", "", STATEMENTS)
+fn finds_and_ranks_own_sections_and_orders_statements_by_them(rt: HostRuntime) -> Result<(), Fail> {
+    let alloc = rt.alloc();
+    each_holds_with(alloc, "SECTIONS", "", SECTIONS)?;
+    each_holds_with(alloc, "RANKS", "", RANKS)?;
+    each_row_holds_with::<Under<'static>>(alloc, "STATEMENTS", "", STATEMENTS)
 }

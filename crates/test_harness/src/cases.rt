@@ -1,5 +1,5 @@
-//! Tables of cases. What such a test costs lies in the one function that tries a row. The test itself costs a second or two
-//! with some thirty rows, but with a hundred more than a minute: so a large table is cut into several, a test each.
+//! Tables of cases. To the prover each text in a table is a literal of its own, and what they cost grows with the square of how
+//! many there are. So a large table is cut into several, or is one text.
 use isort_settings::{Profile, Settings, SettingsError};
 use std::alloc::Global;
 use std::fmt::Display;
@@ -95,6 +95,78 @@ pub fn each_holds_with<C: SettingsCase>(
     Ok(())
 }
 
+/// What ends each row but the last of a table that is one text. To the prover such a table is one literal, however many rows it
+/// has, and a table of rows is a literal for each text in it.
+const ROW_END: &str = "====\n";
+
+/// What ends each field of such a row but the last.
+const FIELD_END: &str = "----\n";
+
+/// A row that a table's text has.
+pub trait Row<'t>: Drop {
+    /// The row that the text stands for, if it stands for one.
+    fn read(text: &'t str) -> Option<Self>;
+}
+
+/// The two fields of a row.
+pub fn two_fields(text: &str) -> Option<(&str, &str)> {
+    text.split_once(FIELD_END)
+}
+
+/// The three fields of a row.
+pub fn three_fields(text: &str) -> Option<(&str, &str, &str)> {
+    let (first, rest) = two_fields(text)?;
+    let (second, third) = two_fields(rest)?;
+    Some((first, second, third))
+}
+
+/// Whether the text stands for a row that holds.
+fn row_holds<'t, C: Case + Row<'t>>(alloc: Global, text: &'t str) -> bool {
+    match C::read(text) {
+        Some(case) => case.holds(alloc),
+        None => false,
+    }
+}
+
+/// Every row of the text holds. One that doesn't is tried once more, as above.
+pub fn each_row_holds<'t, C: Case + Row<'t>>(
+    alloc: Global,
+    table: &str,
+    rows: &'t str,
+) -> Result<(), Fail> {
+    for (i, row) in rows.split(ROW_END).enumerate() {
+        if !row_holds::<C>(alloc, row) && !(was_refused(alloc) && row_holds::<C>(alloc, row)) {
+            return Err(Fail::new(format_args!("row {i} of {table} does not hold")));
+        }
+    }
+    Ok(())
+}
+
+/// Whether the text stands for a row that holds with these lines of `[tool.isort]` added to its own.
+fn row_holds_with<'t, C: SettingsCase + Row<'t>>(alloc: Global, more: &str, text: &'t str) -> bool {
+    match C::read(text) {
+        Some(case) => holds_with(alloc, more, &case),
+        None => false,
+    }
+}
+
+/// Every row of the text holds with these lines of `[tool.isort]` added to its own. One that doesn't is tried once more, as above.
+pub fn each_row_holds_with<'t, C: SettingsCase + Row<'t>>(
+    alloc: Global,
+    table: &str,
+    more: &str,
+    rows: &'t str,
+) -> Result<(), Fail> {
+    for (i, row) in rows.split(ROW_END).enumerate() {
+        if !row_holds_with::<C>(alloc, more, row)
+            && !(was_refused(alloc) && row_holds_with::<C>(alloc, more, row))
+        {
+            return Err(Fail::new(format_args!("row {i} of {table} does not hold")));
+        }
+    }
+    Ok(())
+}
+
 /// More bytes than a row tells.
 const ROOM: usize = 8192;
 
@@ -114,6 +186,15 @@ pub fn is_shown<E: Display>(alloc: Global, shown: &E, want: &str) -> bool {
     match format!(in alloc; "{shown}") {
         Ok(text) => text.as_str() == want,
         Err(_) => false,
+    }
+}
+
+/// What is shown, and how.
+pub struct Shown<E: 'static>(pub E, pub &'static str);
+
+impl<E: Display> Case for Shown<E> {
+    fn holds(&self, alloc: Global) -> bool {
+        is_shown(alloc, &self.0, self.1)
     }
 }
 

@@ -94,6 +94,10 @@ const STORIES: &[Story] = &[
         &[2, 1],
         "end\nend\nat 3, 0\nend\nat 3, 0\n",
     ),
+];
+
+/// Texts that end at the top, or in a fault.
+const FAULTS: &[Story] = &[
     // The finder stops at the top if it is asked to.
     Story(
         DECLARED,
@@ -137,6 +141,10 @@ const STORIES: &[Story] = &[
          F5 closing bracket without its opening, 22, 2\nat 9, 1\n\
          F5 closing bracket without its opening, 22, 2\nat 9, 1\n",
     ),
+];
+
+/// Stops inside a line and after each import.
+const STOPS: &[Story] = &[
     // The finder goes on inside a line.
     Story(
         b"import a, b, c",
@@ -164,11 +172,6 @@ const STORIES: &[Story] = &[
         "at 0, 0\n1 import a\nat 0, 1\n2 import b\nat 9, 2\nF6 bracket not closed, 22, 3\nat 18, 2\n",
     ),
 ];
-
-#[test]
-fn tells_stories(rt: HostRuntime) -> Result<(), Fail> {
-    each_holds(rt.alloc(), "STORIES", STORIES)
-}
 
 /// A text, how many answers of it are told, a shorter text, which its cursor is refused for, and what is told.
 struct Short(&'static [u8], usize, &'static [u8], &'static str);
@@ -198,11 +201,6 @@ const SHORT: &[Short] = &[Short(
     b"import a",
     "1 import a\n1 import b\n1 import c\nend\nat 14, 3\nat 14, 3\n",
 )];
-
-#[test]
-fn refuses_short_texts(rt: HostRuntime) -> Result<(), Fail> {
-    each_holds_again(rt.alloc(), "SHORT", SHORT)
-}
 
 /// Whether a cursor that stopped at once has its finder's options.
 fn keeps(alloc: Global, asked: FindOptions) -> bool {
@@ -297,9 +295,12 @@ const KEYS: &[Keys] = &[
 ];
 
 #[test]
-fn makes_keys_and_keeps_its_options(rt: HostRuntime) -> Result<(), Fail> {
-    all_are_so(&[
-        keeps(rt.alloc(), ASKED_FOR) || was_refused(rt.alloc()) && keeps(rt.alloc(), ASKED_FOR),
-    ])?;
-    each_holds_again(rt.alloc(), "KEYS", KEYS)
+fn tells_stories_refuses_short_texts_and_makes_keys(rt: HostRuntime) -> Result<(), Fail> {
+    let alloc = rt.alloc();
+    each_holds(alloc, "STORIES", STORIES)?;
+    each_holds(alloc, "FAULTS", FAULTS)?;
+    each_holds(alloc, "STOPS", STOPS)?;
+    each_holds_again(alloc, "SHORT", SHORT)?;
+    each_holds_again(alloc, "KEYS", KEYS)?;
+    all_are_so(&[keeps(alloc, ASKED_FOR) || was_refused(alloc) && keeps(alloc, ASKED_FOR)])
 }

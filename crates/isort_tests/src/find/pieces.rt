@@ -241,6 +241,10 @@ const FIELDS: &[Row<'static>] = &[
         ALL,
         "2 import a\nend\nat 37, 1\n",
     ),
+];
+
+/// Strings with bad fields.
+const BAD_FIELDS: &[Row<'static>] = &[
     Row(
         b"f'{a(b]}'",
         ALL,
@@ -255,47 +259,16 @@ const FIELDS: &[Row<'static>] = &[
 
 #[test]
 fn tells_the_same_in_every_cut_and_with_many_stops(rt: HostRuntime) -> Result<(), Fail> {
-    each_holds(rt.alloc(), "ROWS", ROWS)
-}
-
-#[test]
-fn tells_the_same_fault_in_every_cut(rt: HostRuntime) -> Result<(), Fail> {
-    each_holds(rt.alloc(), "BAD", BAD)
-}
-
-#[test]
-fn tells_strings_with_fields_in_every_cut(rt: HostRuntime) -> Result<(), Fail> {
-    each_holds(rt.alloc(), "FIELDS", FIELDS)
+    let alloc = rt.alloc();
+    each_holds(alloc, "ROWS", ROWS)?;
+    each_holds(alloc, "BAD", BAD)?;
+    each_holds(alloc, "FIELDS", FIELDS)?;
+    each_holds(alloc, "BAD_FIELDS", BAD_FIELDS)
 }
 
 const TOO_DEEP: &str = "F8 more than 200 brackets open, 200, 1\nat 0, 0\n";
 
 const OPEN: &str = "F6 bracket not closed, 199, 1\nat 0, 0\n";
-
-#[test]
-fn counts_brackets_in_every_cut(rt: HostRuntime) -> Result<(), Fail> {
-    let text = brackets();
-    let rows = [
-        Row(&text[1..401], ALL, "end\nat 400, 0\n"),
-        Row(&text[1..201], ALL, OPEN),
-        Row(&text[..201], ALL, TOO_DEEP),
-    ];
-    each_holds(rt.alloc(), "rows", &rows)
-}
-
-#[test]
-fn counts_fields_in_every_cut(rt: HostRuntime) -> Result<(), Fail> {
-    let text = fields();
-    let rows = [
-        Row(&text[..600], ALL, "F10 field not closed, 599, 1\nat 0, 0\n"),
-        Row(
-            &text[..603],
-            ALL,
-            "F8 more than 200 brackets open, 602, 1\nat 0, 0\n",
-        ),
-    ];
-    each_holds(rt.alloc(), "rows", &rows)
-}
 
 /// Whether a text of 100 000 brackets is too deep, in pieces and whole.
 fn is_too_deep(alloc: Global) -> bool {
@@ -315,8 +288,26 @@ fn is_too_deep(alloc: Global) -> bool {
 }
 
 #[test]
-fn refuses_deep_texts(rt: HostRuntime) -> Result<(), Fail> {
-    all_are_so(&[is_too_deep(rt.alloc()) || was_refused(rt.alloc()) && is_too_deep(rt.alloc())])
+fn counts_brackets_and_fields(rt: HostRuntime) -> Result<(), Fail> {
+    let alloc = rt.alloc();
+    let (brackets, fields) = (brackets(), fields());
+    let rows = [
+        Row(&brackets[1..401], ALL, "end\nat 400, 0\n"),
+        Row(&brackets[1..201], ALL, OPEN),
+        Row(&brackets[..201], ALL, TOO_DEEP),
+        Row(
+            &fields[..600],
+            ALL,
+            "F10 field not closed, 599, 1\nat 0, 0\n",
+        ),
+        Row(
+            &fields[..603],
+            ALL,
+            "F8 more than 200 brackets open, 602, 1\nat 0, 0\n",
+        ),
+    ];
+    each_holds(alloc, "rows", &rows)?;
+    all_are_so(&[is_too_deep(alloc) || was_refused(alloc) && is_too_deep(alloc)])
 }
 
 const ACCEPTED: &str = "end\n";
@@ -383,6 +374,10 @@ const PREFIXES: &[Prefixes] = &[
         b"\xc3\xa9",
         &[(0, ACCEPTED), (1, "F1 not UTF-8, 0, 1\n"), (2, ACCEPTED)],
     ),
+];
+
+/// Strings with fields.
+const FIELD_PREFIXES: &[Prefixes] = &[
     Prefixes(
         b"f\"{d[\"import\"]}\"",
         &[
@@ -465,11 +460,6 @@ const PREFIXES: &[Prefixes] = &[
     ),
 ];
 
-#[test]
-fn tells_of_every_prefix(rt: HostRuntime) -> Result<(), Fail> {
-    each_holds(rt.alloc(), "PREFIXES", PREFIXES)
-}
-
 /// Options, what is done with a finder, and what it tells.
 struct Script(FindOptions, &'static [Act<'static>], &'static str);
 
@@ -488,8 +478,8 @@ impl Case for Steps {
     }
 }
 
+/// A line end CR needs one more byte. Where that byte has a fault, it comes as soon as nothing is ready.
 const STEPS: &[Steps] = &[
-    // A line end CR needs one more byte. Where that byte has a fault, it comes as soon as nothing is ready.
     Steps(
         ALL,
         &[b"import a\nx\r\xff", b"x\r\xff", b""],
@@ -535,7 +525,10 @@ const STEPS: &[Steps] = &[
         "took 9\nready, 9, 9\n1 import a\nnone, 9, 0\nF5 closing bracket without its opening, 18, 3\n\
          F5 closing bracket without its opening, 18, 3\nat 18, 1\n",
     ),
-    // Other pieces: a line that ends the top, a character in two pieces, and a piece after a line without imports.
+];
+
+/// Other pieces: a line that ends the top, a character in two pieces, and a piece after a line without imports.
+const OTHER_STEPS: &[Steps] = &[
     Steps(
         TOP,
         &[
@@ -563,11 +556,6 @@ const STEPS: &[Steps] = &[
          took 1\nnone, 34, 1\nnone, 34, 1\nat 33, 2\n",
     ),
 ];
-
-#[test]
-fn tells_each_step(rt: HostRuntime) -> Result<(), Fail> {
-    each_holds_again(rt.alloc(), "STEPS", STEPS)
-}
 
 const SCRIPTS: &[Script] = &[
     // Nothing is taken while an import is ready.
@@ -604,6 +592,10 @@ const SCRIPTS: &[Script] = &[
         ],
         "took 23\ntook 10\n33, \nnone\nend\nno import\nat 6, 0\n",
     ),
+];
+
+/// Scripts in which a finder goes on from a cursor.
+const CURSORS: &[Script] = &[
     // A cursor stays inside a line.
     Script(
         ALL,
@@ -669,6 +661,21 @@ const SCRIPTS: &[Script] = &[
         "1 import a\n2 import b\nnone\n27, \nat 18, 2\nno import\nat 18, 2\ntook 9\nnone\n27, \nno import\n\
          none\n27, \nat 18, 2\n",
     ),
+    // A cursor after a last line that CR ends, or nothing, and that the bytes before it don't settle.
+    Script(
+        ALL,
+        &[Act::First(b"import a\r", 2), Act::Next(1), Act::Stop],
+        "1 import a\nno import\nat 9, 1\nno import\nat 9, 1\n",
+    ),
+    Script(
+        ALL,
+        &[Act::First(b"import a", 2), Act::Next(1), Act::Stop],
+        "1 import a\nno import\nat 8, 1\nno import\nat 8, 1\n",
+    ),
+];
+
+/// Scripts with faults.
+const FAULT_SCRIPTS: &[Script] = &[
     // The last logical line is bad: a text that is ended again, or fed, has the same fault.
     Script(
         ALL,
@@ -737,17 +744,6 @@ const SCRIPTS: &[Script] = &[
         "F9 import statement not understood, 6, 2\nno import\nF9 import statement not understood, 6, 2\nno import\n\
          F9 import statement not understood, 6, 2\nno import\nat 6, 0\n",
     ),
-    // A cursor after a last line that CR ends, or nothing, and that the bytes before it don't settle.
-    Script(
-        ALL,
-        &[Act::First(b"import a\r", 2), Act::Next(1), Act::Stop],
-        "1 import a\nno import\nat 9, 1\nno import\nat 9, 1\n",
-    ),
-    Script(
-        ALL,
-        &[Act::First(b"import a", 2), Act::Next(1), Act::Stop],
-        "1 import a\nno import\nat 8, 1\nno import\nat 8, 1\n",
-    ),
 ];
 
 /// A text with a fault, the line of the fault, and what is told: the fault comes again in each call, and once more where the
@@ -790,7 +786,14 @@ const FAULTS: &[Faulty] = &[
 ];
 
 #[test]
-fn follows_scripts(rt: HostRuntime) -> Result<(), Fail> {
-    each_holds_again(rt.alloc(), "SCRIPTS", SCRIPTS)?;
-    each_holds_again(rt.alloc(), "FAULTS", FAULTS)
+fn tells_of_prefixes_steps_and_scripts(rt: HostRuntime) -> Result<(), Fail> {
+    let alloc = rt.alloc();
+    each_holds(alloc, "PREFIXES", PREFIXES)?;
+    each_holds(alloc, "FIELD_PREFIXES", FIELD_PREFIXES)?;
+    each_holds_again(alloc, "STEPS", STEPS)?;
+    each_holds_again(alloc, "OTHER_STEPS", OTHER_STEPS)?;
+    each_holds_again(alloc, "SCRIPTS", SCRIPTS)?;
+    each_holds_again(alloc, "CURSORS", CURSORS)?;
+    each_holds_again(alloc, "FAULT_SCRIPTS", FAULT_SCRIPTS)?;
+    each_holds_again(alloc, "FAULTS", FAULTS)
 }

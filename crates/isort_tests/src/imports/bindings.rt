@@ -161,11 +161,6 @@ const BINDINGS: &[Listed] = &[
     ),
 ];
 
-#[test]
-fn gives_bindings(rt: HostRuntime) -> Result<(), Fail> {
-    each_holds_again(rt.alloc(), "BINDINGS", BINDINGS)
-}
-
 const DECLARATION: Said = Said::Declaration(true);
 
 const NO_DECLARATION: Said = Said::Declaration(false);
@@ -176,9 +171,14 @@ const PINNED: Said = Said::Shaped(Shape::Pinned);
 
 const OTHER: Said = Said::Shaped(Shape::Other);
 
-const FIRST: &[First] = &[
+/// Lines with a byte order mark, and without one.
+const MARKED: &[First] = &[
     First("\u{feff}import a", Said::Marked(3)),
     First("import a", Said::Marked(0)),
+];
+
+/// Import statements that are none.
+const REFUSED: &[First] = &[
     First("from a import ()", Said::Refused(0)),
     First("from a import (*)", Said::Refused(0)),
     First("from a import b,", Said::Refused(0)),
@@ -205,6 +205,10 @@ const FIRST: &[First] = &[
     First("import", Said::Refused(0)),
     First("import as", Said::Refused(0)),
     First("if a: import b; from c", Said::Refused(16)),
+];
+
+/// Declarations, and lines that are none.
+const DECLARATIONS: &[First] = &[
     First("def f(): pass", DECLARATION),
     First("class C: pass", DECLARATION),
     First("@d", DECLARATION),
@@ -218,6 +222,10 @@ const FIRST: &[First] = &[
     First("# def", NO_DECLARATION),
     First("\n", NO_DECLARATION),
     First("if a: def_", NO_DECLARATION),
+];
+
+/// Lines that may be sorted.
+const SORTABLES: &[First] = &[
     First("import a", SORTABLE),
     First("  import a\n", SORTABLE),
     First("\u{feff}import a", SORTABLE),
@@ -229,6 +237,10 @@ const FIRST: &[First] = &[
     First("from . import *", SORTABLE),
     First("from a import (b)  # k", SORTABLE),
     First("from a import (b)  # skip", SORTABLE),
+];
+
+/// Lines that stay where they are.
+const OTHERS: &[First] = &[
     First(
         "from a import (  # k\n    b as x,  # l\n    c,\n)\n",
         PINNED,
@@ -246,11 +258,6 @@ const FIRST: &[First] = &[
     First("# import a", OTHER),
     First("\n", OTHER),
 ];
-
-#[test]
-fn says_of_first_lines(rt: HostRuntime) -> Result<(), Fail> {
-    each_holds_again(rt.alloc(), "FIRST", FIRST)
-}
 
 /// A comment, an action, and whether the comment says it.
 struct Saying(&'static str, ActionComment, bool);
@@ -277,6 +284,13 @@ const ACTIONS: &[Saying] = &[
 ];
 
 #[test]
-fn knows_actions(rt: HostRuntime) -> Result<(), Fail> {
-    each_holds_again(rt.alloc(), "ACTIONS", ACTIONS)
+fn gives_bindings_and_says_of_lines_and_comments(rt: HostRuntime) -> Result<(), Fail> {
+    let alloc = rt.alloc();
+    each_holds_again(alloc, "BINDINGS", BINDINGS)?;
+    each_holds_again(alloc, "MARKED", MARKED)?;
+    each_holds_again(alloc, "REFUSED", REFUSED)?;
+    each_holds_again(alloc, "DECLARATIONS", DECLARATIONS)?;
+    each_holds_again(alloc, "SORTABLES", SORTABLES)?;
+    each_holds_again(alloc, "OTHERS", OTHERS)?;
+    each_holds_again(alloc, "ACTIONS", ACTIONS)
 }

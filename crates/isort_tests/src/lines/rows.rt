@@ -399,6 +399,10 @@ const FIELDS: &[Lexed<'static>] = &[
         "(Code, 0, 1, 0, 1) (Str, \"f\\\"\\\\t{', '.join(x)}\\\\\\\"{b'}'}\\\"\", 1); (Code, 28, 2, 0, 1) (Name, \"import\", 2) (Name, \"a\", 2); end",
         (37, 3),
     ),
+];
+
+/// Strings with bad fields.
+const BAD_FIELDS: &[Lexed<'static>] = &[
     Lexed(
         b"f'{a(b]}'",
         "6 line 1: F5 closing bracket without its opening",
@@ -415,23 +419,6 @@ impl Case for Lexed<'_> {
     fn holds(&self, alloc: Global) -> bool {
         self.is_read(alloc) && self.is_scanned(alloc)
     }
-}
-
-#[test]
-fn reads_texts_whole_and_gives_the_same_in_every_cut(rt: HostRuntime) -> Result<(), Fail> {
-    each_holds(rt.alloc(), "ROWS", ROWS)?;
-    each_holds(rt.alloc(), "WORKED", WORKED)?;
-    each_holds(rt.alloc(), "STATEMENTS", STATEMENTS)
-}
-
-#[test]
-fn gives_the_same_fault_in_every_cut(rt: HostRuntime) -> Result<(), Fail> {
-    each_holds(rt.alloc(), "FAULTS", FAULTS)
-}
-
-#[test]
-fn reads_strings_with_fields_in_every_cut(rt: HostRuntime) -> Result<(), Fail> {
-    each_holds(rt.alloc(), "FIELDS", FIELDS)
 }
 
 /// What follows 200 brackets that open, and the fault.
@@ -480,9 +467,16 @@ fn closes_brackets(alloc: Global) -> bool {
 }
 
 #[test]
-fn counts_brackets_and_fields(rt: HostRuntime) -> Result<(), Fail> {
-    all_are_so(&[closes_brackets(rt.alloc())])?;
-    each_holds(rt.alloc(), "DEEP", DEEP)
+fn reads_texts_whole_and_gives_the_same_in_every_cut(rt: HostRuntime) -> Result<(), Fail> {
+    let alloc = rt.alloc();
+    each_holds(alloc, "ROWS", ROWS)?;
+    each_holds(alloc, "WORKED", WORKED)?;
+    each_holds(alloc, "STATEMENTS", STATEMENTS)?;
+    each_holds(alloc, "FAULTS", FAULTS)?;
+    each_holds(alloc, "FIELDS", FIELDS)?;
+    each_holds(alloc, "BAD_FIELDS", BAD_FIELDS)?;
+    each_holds(alloc, "DEEP", DEEP)?;
+    all_are_so(&[closes_brackets(alloc)])
 }
 
 /// A logical line: what it holds, its byte, line, indentation and line end, and then its tokens.

@@ -91,6 +91,10 @@ const REFUSED: &[Refused] = &[
         None,
         "bad value for multi_line_output",
     ),
+];
+
+/// Bad lists, numbers and texts.
+const REFUSED_LISTS: &[Refused] = &[
     Refused(
         b"[tool.isort]\nknown_first_party = [\"a*\"]",
         None,
@@ -132,11 +136,6 @@ const REFUSED: &[Refused] = &[
     Refused(b"[tool]\nisort = 1", BLACK, "bad value for tool.isort"),
     Refused(b"[[tool.isort]]\n", BLACK, "bad value for tool.isort"),
 ];
-
-#[test]
-fn refusals(rt: HostRuntime) -> Result<(), Fail> {
-    each_holds_again(rt.alloc(), "REFUSED", REFUSED)
-}
 
 /// Whether these are the settings without a profile.
 fn are_plain(settings: &Settings) -> bool {
@@ -271,7 +270,9 @@ const STANDS: &[Stands] = &[
 ];
 
 #[test]
-fn profiles_and_texts(rt: HostRuntime) -> Result<(), Fail> {
+fn refusals_profiles_and_texts(rt: HostRuntime) -> Result<(), Fail> {
+    each_holds_again(rt.alloc(), "REFUSED", REFUSED)?;
+    each_holds_again(rt.alloc(), "REFUSED_LISTS", REFUSED_LISTS)?;
     each_holds_again(rt.alloc(), "STANDS", STANDS)
 }
 
@@ -422,12 +423,6 @@ const SECTIONS: &[Sectioned] = &[
     ),
 ];
 
-#[test]
-fn sections(rt: HostRuntime) -> Result<(), Fail> {
-    each_holds_with(rt.alloc(), "SECTIONS", "", SECTIONS)?;
-    each_holds_with(rt.alloc(), "SECTIONS with OWN", OWN, SECTIONS)
-}
-
 /// Lines of `[tool.isort]`, and names in their order.
 struct Ordered(&'static str, &'static [&'static str]);
 
@@ -474,14 +469,6 @@ const MODULES: &[Compared] = &[
     Compared("CONST", "b", Greater),
 ];
 
-#[test]
-fn orders_of_names_and_modules(rt: HostRuntime) -> Result<(), Fail> {
-    laws::names_are_totally_ordered();
-    laws::modules_are_totally_ordered();
-    each_holds_with(rt.alloc(), "ORDERS", "", ORDERS)?;
-    each_holds_with(rt.alloc(), "MODULES", "", MODULES)
-}
-
 /// Whether the key has this name.
 fn is_named(key: SettingKey, name: &str) -> bool {
     key.name() == name
@@ -496,9 +483,12 @@ fn is_unknown(name: &str) -> bool {
 }
 
 #[test]
-fn names() -> Result<(), Fail> {
+fn names_sections_and_orders(rt: HostRuntime) -> Result<(), Fail> {
+    let alloc = rt.alloc();
     laws::every_key_has_its_place(SettingKey::Profile);
     laws::keys_are_in_byte_order();
+    laws::names_are_totally_ordered();
+    laws::modules_are_totally_ordered();
     all_are_so(&[
         Profile::read("black").ok() == Some(Profile::Black),
         is_unknown("Black"),
@@ -506,5 +496,9 @@ fn names() -> Result<(), Fail> {
         is_named(SettingKey::Tool, "tool"),
         is_named(SettingKey::ToolIsort, "tool.isort"),
         is_named(SettingKey::Sections, "sections"),
-    ])
+    ])?;
+    each_holds_with(alloc, "SECTIONS", "", SECTIONS)?;
+    each_holds_with(alloc, "SECTIONS with OWN", OWN, SECTIONS)?;
+    each_holds_with(alloc, "ORDERS", "", ORDERS)?;
+    each_holds_with(alloc, "MODULES", "", MODULES)
 }
