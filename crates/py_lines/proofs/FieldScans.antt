@@ -12,3 +12,4 @@ pub mod FieldOpenings
 pub mod CodeOperators
 pub mod FieldFaults
 pub mod FieldAnswers
+pub mod Places

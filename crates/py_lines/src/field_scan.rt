@@ -47,13 +47,13 @@ fn opened_with(c: char) -> usize
 }
 
 impl FieldScan {
-    ghost use Rattle.std.specs.Prelude.{ℕ, false, Some};
+    ghost use Rattle.std.specs.Prelude.{ℕ, false, Some, []};
     ghost use Rattle.py_lines.specs.Private.Machine.{start_of};
     ghost use Rattle.py_lines.specs.Private.FieldMachine.{closes, breaks, begins_code, opens_field, ends_field};
-    ghost use Rattle.py_lines.specs.Private.FieldScan.{EndsCode, EndsField, FollowsBody, HoldsField};
-    ghost use Rattle.py_lines.specs.Private.FieldScan.{PlacesField, PushesField, RefusesField, StandsInText, TakesMove};
+    ghost use Rattle.py_lines.specs.Private.FieldScan.{EndsCode, EndsField, FollowsBody, HoldsField, IsInPlace};
+    ghost use Rattle.py_lines.specs.Private.FieldScan.{PushesField, RefusesField, StandsInText, TakesMove};
     ghost use Rattle.py_lines.specs.Private.FieldScan.{ended_in, freed_at, waiting_field};
-    ghost use Rattle.py_lines.specs.Private.Frames.{IsInnermostFrame};
+    ghost use Rattle.py_lines.specs.Private.Frames.{InField, IsInnermostFrame};
     ghost use Rattle.py_lines.specs.declared.mode.Start.TheVariants.{Operator};
     ghost use Rattle.py_lines.specs.declared.frames.Frame.{Frame};
 
@@ -68,7 +68,8 @@ impl FieldScan {
 
     /// In the body of a string that starts at this byte, of which nothing is read.
     pub fn begin(&mut self, host: StringWithFields, start: usize)
-        ensures { FollowsBody self.new host start }
+        ensures follows { FollowsBody self.new host start }
+        ensures placed { IsInPlace self.new }
     {
         self.mode = FieldMode::Body(host, Region::Literal, false, At::Between);
         self.start = start;
@@ -107,7 +108,8 @@ impl FieldScan {
     /// Closes the open piece with a character that ends before this byte. In a field's code it goes on.
     fn close(&mut self, c: char, place: usize) -> FieldProgress
         requires bytes { place + len_utf8 c < 2 ^ 64 }
-        ensures { (depth : ℕ) → TakesMove self.old c place depth closes result self.new }
+        ensures takes { (depth : ℕ) → TakesMove self.old c place depth closes result self.new }
+        ensures placed { IsInPlace self.old → IsInPlace self.new }
     {
         if self.frames.is_empty() {
             return FieldProgress::Closed;
@@ -119,9 +121,11 @@ impl FieldScan {
     /// Takes an opening bracket in a field's code.
     fn open_bracket(&mut self, c: char, place: usize, depth: usize) -> FieldProgress
         requires bytes { place + len_utf8 c < 2 ^ 64 }
+        requires inside { self.old.frames ≡ [] → ⊥ }
         requires operator { start_of c ≡ Operator }
         requires opens { is_opening c ≡ true }
-        ensures { TakesMove self.old c place depth breaks result self.new }
+        ensures takes { TakesMove self.old c place depth breaks result self.new }
+        ensures placed { IsInPlace self.old → IsInPlace self.new }
     {
         if !self.has_room(depth, 1) {
             return FieldProgress::Refused;
@@ -138,7 +142,8 @@ impl FieldScan {
         requires other { is_opening c ≡ false }
         requires innermost { (at : ℕ)
             × IsInnermostFrame (Some (Frame.Bracket opener at)) self.old.frames }
-        ensures { (depth : ℕ) → TakesMove self.old c place depth breaks result self.new }
+        ensures takes { (depth : ℕ) → TakesMove self.old c place depth breaks result self.new }
+        ensures placed { IsInPlace self.old → IsInPlace self.new }
     {
         if is_closing(c) {
             if c != closing_of(opener) {
@@ -156,7 +161,8 @@ impl FieldScan {
         requires operator { start_of c ≡ Operator }
         requires other { is_opening c ≡ false }
         requires innermost { IsInnermostFrame (Some (Frame.Field field)) self.old.frames }
-        ensures { (depth : ℕ) → TakesMove self.old c place depth breaks result self.new }
+        ensures takes { (depth : ℕ) → TakesMove self.old c place depth breaks result self.new }
+        ensures placed { IsInPlace self.old → IsInPlace self.new }
     {
         if c == '}' {
             self.frames.pop();
@@ -175,8 +181,10 @@ impl FieldScan {
     /// Takes an operator in a field's code, after the open piece.
     fn take_operator(&mut self, c: char, place: usize, depth: usize) -> FieldProgress
         requires bytes { place + len_utf8 c < 2 ^ 64 }
+        requires inside { self.old.frames ≡ [] → ⊥ }
         requires operator { start_of c ≡ Operator }
-        ensures { TakesMove self.old c place depth breaks result self.new }
+        ensures takes { TakesMove self.old c place depth breaks result self.new }
+        ensures placed { IsInPlace self.old → IsInPlace self.new }
     {
         if is_opening(c) {
             return self.open_bracket(c, place, depth);
@@ -184,14 +192,16 @@ impl FieldScan {
         match self.frames.innermost() {
             Some(Frame::Bracket(opener, _)) => self.take_in_bracket(c, opener, place),
             Some(Frame::Field(field)) => self.take_in_field(c, field, place),
-            None => FieldProgress::Refused,
+            None => unreachable!(),
         }
     }
 
     /// Takes a character that begins a piece of a field's code, after the open one.
     fn begin_piece(&mut self, c: char, place: usize, depth: usize) -> FieldProgress
         requires bytes { place + len_utf8 c < 2 ^ 64 }
-        ensures { TakesMove self.old c place depth breaks result self.new }
+        requires inside { self.old.frames ≡ [] → ⊥ }
+        ensures takes { TakesMove self.old c place depth breaks result self.new }
+        ensures placed { IsInPlace self.old → IsInPlace self.new }
     {
         match Start::of(c) {
             Start::Open(mode) => {
@@ -226,9 +236,10 @@ impl FieldScan {
         requires operator { start_of c ≡ Operator }
         requires field { field ≡ waiting_field self.old field.host place }
         requires room { length self.old.frames + opened_with c ≤ 200 }
-        ensures { (depth : ℕ)
+        ensures takes { (depth : ℕ)
             → nat_lt (depth + length self.old.frames + opened_with c) 201 ≡ true
             → TakesMove self.old c place depth (begins_code (host_in field.host)) result self.new }
+        ensures placed { IsInPlace self.old → IsInPlace self.new }
     {
         if c == '}' {
             self.resume(field);
@@ -258,7 +269,9 @@ impl FieldScan {
         depth: usize,
     ) -> FieldProgress
         requires bytes { place + len_utf8 c < 2 ^ 64 }
-        ensures { TakesMove self.old c place depth (begins_code (host_in host)) result self.new }
+        ensures takes { TakesMove self.old c place depth (begins_code (host_in host))
+            result self.new }
+        ensures placed { IsInPlace self.old → IsInPlace self.new }
     {
         if !self.has_room(depth, opened_with(c)) {
             return FieldProgress::Refused;
@@ -290,7 +303,10 @@ impl FieldScan {
         depth: usize,
     ) -> FieldProgress
         requires bytes { place + len_utf8 c < 2 ^ 64 }
-        ensures { TakesMove self.old c place depth (opens_field (host_in host)) result self.new }
+        requires field { InField self.old.frames }
+        ensures takes { TakesMove self.old c place depth (opens_field (host_in host))
+            result self.new }
+        ensures placed { IsInPlace self.old → IsInPlace self.new }
     {
         if !self.has_room(depth, 1) {
             return FieldProgress::Refused;
@@ -306,22 +322,30 @@ impl FieldScan {
     }
 
     /// Ends the field whose specification is open.
+    #[tactic(auto, using(crate::proofs::FieldScans::Places::no_bracket, crate::proofs::FieldScans::Places::some_frame))]
     fn end_field(&mut self) -> FieldProgress
-        ensures { (c place depth : ℕ)
+        requires field { InField self.old.frames }
+        ensures takes { (c place depth : ℕ)
             → TakesMove self.old c place depth ends_field result self.new }
+        ensures placed { IsInPlace self.old → IsInPlace self.new }
     {
-        if let Some(Frame::Field(field)) = self.frames.innermost() {
-            self.frames.pop();
-            self.resume(field);
-            return FieldProgress::Going;
+        match self.frames.innermost() {
+            Some(Frame::Field(field)) => {
+                self.frames.pop();
+                self.resume(field);
+                FieldProgress::Going
+            }
+            Some(Frame::Bracket(_, _)) => unreachable!(),
+            None => unreachable!(),
         }
-        FieldProgress::Refused
     }
 
     /// Takes the next character, which stands at this byte, where so many brackets are open round the string.
     pub fn push(&mut self, c: char, place: usize, depth: usize) -> FieldProgress
         requires bytes { place + len_utf8 c < 2 ^ 64 }
-        ensures { PushesField self.old c place depth result self.new }
+        requires placed { IsInPlace self.old }
+        ensures takes { PushesField self.old c place depth result self.new }
+        ensures placed { IsInPlace self.new }
     {
         match self.mode.meet(c) {
             FieldMove::Grows(mode) => {
@@ -386,17 +410,6 @@ impl FieldScan {
         self.mode.is_waiting() && self.is_full(depth)
     }
 
-    /// The byte of the field that is open, where its code is, or its specification.
-    fn field_place(&self) -> usize
-        ensures { PlacesField self.now result }
-    {
-        match self.frames.innermost() {
-            Some(Frame::Field(field)) => field.place,
-            Some(Frame::Bracket(_, place)) => place,
-            None => self.start,
-        }
-    }
-
     /// What is wrong where `c` is refused, at this byte.
     pub fn refusal(&self, c: char, place: usize, depth: usize) -> LineFault
         ensures { RefusesField self.now c place depth result }
@@ -412,7 +425,7 @@ impl FieldScan {
         } else if is_opening(c) {
             (FaultKind::TooDeep, place)
         } else if self.mode.quotes_specification(c) {
-            (FaultKind::OpenField, self.field_place())
+            (FaultKind::OpenField, self.frames.last_place())
         } else {
             (FaultKind::BadChar, place)
         };
@@ -441,19 +454,14 @@ impl FieldScan {
                 place: self.start,
             };
         }
-        match self.frames.innermost() {
-            Some(Frame::Bracket(_, place)) => LineFault {
-                kind: FaultKind::OpenBracket,
-                place,
-            },
-            Some(Frame::Field(field)) => LineFault {
-                kind: FaultKind::OpenField,
-                place: field.place,
-            },
-            None => LineFault {
-                kind: FaultKind::OpenField,
-                place: self.start,
-            },
+        let kind = if self.frames.in_bracket() {
+            FaultKind::OpenBracket
+        } else {
+            FaultKind::OpenField
+        };
+        LineFault {
+            kind,
+            place: self.frames.last_place(),
         }
     }
 
@@ -464,7 +472,7 @@ impl FieldScan {
         let (kind, place) = match self.mode {
             FieldMode::Code(mode) => return self.unfinished_code(mode),
             FieldMode::Body(_, Region::Specification, _, _) => {
-                (FaultKind::OpenField, self.field_place())
+                (FaultKind::OpenField, self.frames.last_place())
             }
             FieldMode::Body(_, Region::Literal, _, At::AfterBrace) => {
                 let kind = if self.has_room(depth, 1) {

@@ -3,6 +3,7 @@
 ghost use Rattle.std.specs.Prelude.{◌≡◌, ◌+◌, ◌<◌, ◌^◌, true, length, slice_index};
 ghost use Rattle.py_lines.specs.Character.{is_quote};
 ghost use Rattle.py_lines.specs.Private.Outline.{BeginsLong, GoesOnAfter, PassesOrNot};
+ghost use Rattle.py_lines.specs.Private.FieldScan.{IsInPlace};
 ghost use Rattle.py_lines.specs.Private.WholeFields.{HasFieldString, IsInFields};
 
 use crate::field_scan::{FieldProgress, FieldScan};
@@ -15,6 +16,7 @@ const MAX_DEPTH: usize = 100;
 /// What is left of a string with fields, whose scan has come to this byte of it.
 fn rest_of_string(scan: &mut FieldScan, place: usize, bytes: &[u8]) -> Option<Passed>
     requires bytes { place + length bytes.now < 2 ^ 64 }
+    requires placed { IsInPlace scan.old }
     ensures { PassesOrNot bytes.now result (IsInFields scan.old place) GoesOnAfter }
 {
     let mut len = 0;

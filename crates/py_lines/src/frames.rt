@@ -25,6 +25,21 @@ pub struct OpenField {
     pub start: usize,
 }
 
+impl Frame {
+    ghost use Rattle.std.specs.Prelude.{◌≡◌};
+    ghost use Rattle.py_lines.specs.Private.Frames.{place_of};
+
+    /// The byte where it stands.
+    fn place(self) -> usize
+        ensures { result ≡ place_of self }
+    {
+        match self {
+            Frame::Bracket(_, place) => place,
+            Frame::Field(field) => field.place,
+        }
+    }
+}
+
 /// The brackets and fields that are open. No text has more than 200 of them open at once.
 #[derive(Drop)]
 pub struct Frames {
@@ -38,17 +53,19 @@ pub struct Frames {
 impl Model for Frames {
     ghost use Rattle.std.specs.Prelude.{◌≡◌, List, length, reverse, take};
     ghost use Rattle.py_lines.specs.declared.frames.Frame.{Frame};
+    ghost use Rattle.py_lines.specs.Private.Frames.{AreNested};
 
     ghost Value = { List Frame };
 
     ghost view = { λ f. reverse (take f.depth f.frames) };
 
-    ghost invariant = { λ f. length f.frames ≡ 256 };
+    ghost invariant = { λ f. (length f.frames ≡ 256) × AreNested (reverse (take f.depth f.frames)) };
 }
 
 impl Frames {
-    ghost use Rattle.std.specs.Prelude.{◌≡◌, ◌==◌, ◌<◌, [], ◌∷◌, drop, length};
-    ghost use Rattle.py_lines.specs.Private.Frames.{IsInnermostFrame};
+    ghost use Rattle.std.specs.Prelude.{◌≡◌, ◌==◌, ◌<◌, List, [], ◌∷◌, drop, length};
+    ghost use Rattle.py_lines.specs.Private.Frames.{IsInnermostFrame, OpensIn, in_bracket, place_of};
+    ghost use Rattle.py_lines.specs.declared.frames.Frame.{Frame};
 
     /// Nothing is open.
     pub fn new() -> Frames
@@ -91,9 +108,25 @@ impl Frames {
         Some(self.frames[self.depth as usize - 1])
     }
 
+    /// Whether it is a bracket that was opened last.
+    pub fn in_bracket(&self) -> bool
+        ensures { result ≡ in_bracket self.now }
+    {
+        matches!(self.innermost(), Some(Frame::Bracket(_, _)))
+    }
+
+    /// The byte of what was opened last, if something is open.
+    pub fn last_place(&self) -> usize
+        ensures { (frame : Frame) (others : List Frame)
+            → self.now ≡ frame ∷ others → result ≡ place_of frame }
+    {
+        self.frames[self.depth.saturating_sub(1) as usize].place()
+    }
+
     /// Opens a bracket or a field.
     pub fn push(&mut self, frame: Frame)
-        requires { length self.old < 200 }
+        requires room { length self.old < 200 }
+        requires opens { OpensIn frame self.old }
         ensures { self.new ≡ frame ∷ self.old }
     {
         self.frames[self.depth as usize] = frame;
@@ -102,7 +135,9 @@ impl Frames {
 
     /// Closes the innermost, if something is open.
     pub fn pop(&mut self)
-        ensures { self.new ≡ drop 1 self.old }
+        ensures rest { self.new ≡ drop 1 self.old }
+        ensures nested { (frame : Frame) (others : List Frame)
+            → self.old ≡ frame ∷ others → OpensIn frame others }
     {
         self.depth = self.depth.saturating_sub(1);
     }

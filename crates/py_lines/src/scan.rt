@@ -6,6 +6,7 @@ ghost use Rattle.py_lines.specs.Character.{is_line_feed};
 ghost use Rattle.py_lines.specs.Piece.{begins};
 ghost use Rattle.py_lines.specs.Private.Machine.{start_of, character_kind};
 ghost use Rattle.py_lines.specs.Private.FieldMachine.{FieldScanned};
+ghost use Rattle.py_lines.specs.Private.FieldScan.{IsInPlace};
 ghost use Rattle.py_lines.specs.Private.ScanMachine.{IsScanSound, meet_of};
 ghost use Rattle.py_lines.specs.Private.Scan.{TakesNext, AddsTo, Emits, Closes, with_character, Begins, Tallies};
 ghost use Rattle.py_lines.specs.Private.Scan.{IsStacked, Scans, ScansIn, line_start, is_returned, none_open, stack_of};
@@ -312,6 +313,7 @@ impl Scan {
         requires order { self.old.piece.start ≤ self.old.stop }
         requires bytes { self.old.stop + len_utf8 c < 2 ^ 64 }
         requires lines { self.old.count.line + 1 < 2 ^ 64 }
+        requires placed { IsInPlace self.old.fields }
         ensures { (t : FieldScanned)
             → StandsInString self.old t → TakesInString self.old t c result self.new }
     {
@@ -361,6 +363,7 @@ impl Scan {
         requires order { self.old.piece.start ≤ self.old.stop }
         requires bytes { self.old.stop + len_utf8 c < 2 ^ 64 }
         requires lines { self.old.count.line + 1 < 2 ^ 64 }
+        requires placed { self.old.piece.mode ≡ Fielded → IsInPlace self.old.fields }
         ensures { TakesNext self.old c result self.new }
     {
         if matches!(self.piece.mode, Mode::Fielded) {
@@ -394,6 +397,7 @@ impl Scan {
         requires order { self.old.piece.start ≤ self.old.stop }
         requires bytes { self.old.stop + len_utf8 c < 2 ^ 64 }
         requires lines { self.old.count.line + 1 < 2 ^ 64 }
+        requires placed { self.old.piece.mode ≡ Fielded → IsInPlace self.old.fields }
         ensures begins { is_free self.old.piece.mode ≡ true
             → OnOk result (Begins self.old c (start_of c) result self.new) }
         ensures takes { is_free self.old.piece.mode ≡ false → TakesNext self.old c result self.new }

@@ -1,5 +1,5 @@
 -- What a character comes to that opens or ends a field of a string, or begins its code, wherever the machine stands.
-use Rattle.std.proofs.Common.{◌≡◌, ℕ, ◌+◌, ◌<◌, ◌≤◌, Bool, true, false, ◌==◌, Option, None, Some, List, [], ◌∷◌, ◌++◌, length, nat_lt, refl, sym, ap, ◌∙◌, subst, arith}
+use Rattle.std.proofs.Common.{◌≡◌, ℕ, ◌+◌, ◌<◌, ◌≤◌, Bool, true, false, ◌==◌, List, [], ◌∷◌, ◌++◌, length, nat_lt, refl, sym, ap, ◌∙◌, subst, arith}
 use Rattle.std.specs.Prelude.{if◌then◌else◌}
 use Rattle.std.specs.Str.{byte}
 use Rattle.std.proofs.lemmas.Bool.{ltb-true, ltb-false, lt-ltb, le-ltb, eqb-true, eq-eqb, false_from_ne_true}
@@ -22,21 +22,19 @@ use Rattle.py_lines.specs.declared.field_scan.FieldScan.{FieldScan}
 use Rattle.py_lines.specs.declared.field_scan.FieldProgress.{FieldProgress}
 use Rattle.py_lines.specs.declared.field_scan.FieldProgress.TheVariants as progress
 use Rattle.py_lines.specs.Private.Machine.{Bracket, start_of}
-use Rattle.py_lines.specs.Private.FieldMachine.{FieldMode, body, after_brace, FieldMove, breaks, begins_code, opens_field, ends_field, refused, Level, FieldScanned, field_state, field_move, before, frames, has_room_at}
+use Rattle.py_lines.specs.Private.FieldMachine.{FieldMode, body, after_brace, FieldMove, begins_code, opens_field, ends_field, refused, Level, FieldScanned, field_state, field_move, before, frames, has_room_at}
 use Rattle.py_lines.specs.Private.FieldFaults.{here}
-use Rattle.py_lines.specs.Private.ScanMachine.{host_in, IsInString}
-use Rattle.py_lines.specs.Private.FieldScan.{bracket_frames, bracket_openers, meets_field, HoldsCode, HasNoList, Follows, FramesFollow, none_open, ComesTo, freed_at, ended_in, opened_with, waiting_field}
-use Rattle.py_lines.specs.Private.Frames.{IsInnermostFrame}
+use Rattle.py_lines.specs.Private.ScanMachine.{host_in}
+use Rattle.py_lines.specs.Private.FieldScan.{meets_field, HoldsCode, Follows, FramesFollow, none_open, ComesTo, freed_at, ended_in, opened_with, waiting_field}
 use Rattle.py_lines.proofs.Text.CharacterTests.{each_of}
 use Rattle.py_lines.proofs.LogicalLines.Cuts.{byte_len-append}
 use Rattle.py_lines.proofs.LineScan.LineCount.{byte_len-one}
 use Rattle.py_lines.proofs.LineScan.NextCharacter.{one_feed}
 use Rattle.py_lines.proofs.Machine.Starts as begun_so
 use Rattle.py_lines.proofs.Machine.Starts.{StartsSo}
-use Rattle.py_lines.proofs.FieldScans.Frames.{InList, list_of, none_outside}
-use Rattle.py_lines.proofs.FieldScans.Moves.{meets, opens_specification, ends_specification, waits_literal}
+use Rattle.py_lines.proofs.FieldScans.Moves.{meets, opens_specification, waits_literal}
 use Rattle.py_lines.proofs.FieldScans.Steps.{no_room, no_step}
-use Rattle.py_lines.proofs.FieldScans.Taking.{one_operator, broken}
+use Rattle.py_lines.proofs.FieldScans.Taking.{one_operator}
 use Rattle.py_lines.proofs.FieldScans.Operators.{open_frames}
 use Rattle.py_lines.proofs.FieldScans.FieldOpenings.{inner_field, begins_piece, begins_line, begins_nothing, ends_empty, specifies, closes_nothing, begins_bracket, begins_operator, specified_no_room, opens_in_specification, ends_specified}
 
@@ -91,39 +89,6 @@ ends_there old mid base depth c field popped t = go t.outer t.done t.openers t.m
     go : (outer : List Level) (done : List Piece) (openers : List ℕ) (m : FieldMode) (held : List ℕ) → Follows old base (field_state outer done openers m held) → field_move m held c ≡ ends_field → ComesTo base depth (field_state outer done openers m held) c old progress.Going (ended_in mid field)
     go [] done openers m held follow is = absurd (cc (popped, outside_none base done openers old.frames follow.frames))
     go (l ∷ ls) done openers m held follow is = ends_specified old base depth l ls done openers m held c follow is field mid popped
-
--- no field is open round it
-abbrev pub IsNoField : Option Frame → Type 0
-IsNoField (Some (frame.Field field)) = ⊥
-IsNoField other = Unit {0}
-
-first_is : (o : Option Frame) (field : OpenField) (fs others : List Frame) → IsInnermostFrame o fs → fs ≡ frame.Field field ∷ others → IsNoField o → ⊥
-first_is None field fs others top is none = cc (top, is)
-first_is (Some (frame.Bracket opener at)) field fs others top is none = cc (top.1, is)
-first_is (Some (frame.Field own)) field fs others top is none = none
-
-field_first : (base : ℕ) (l : Level) (ls : List Level) (done : List Piece) (openers : List ℕ) (fs : List Frame) (i : InList base l ls done openers fs) → openers ≡ [] → fs ≡ frame.Field i.field ∷ i.others
-field_first base l ls done openers fs i none = go i.stack i.openers_are i.frames_are
-  where
-    go : (bs : List Bracket) → openers ≡ bracket_openers bs → fs ≡ bracket_frames (base + byte_len (before literal (l ∷ ls))) bs ++ frame.Field i.field ∷ i.others → fs ≡ frame.Field i.field ∷ i.others
-    go [] are is = is
-    go (b ∷ bs) are is = absurd (cc (are, none))
-
-pub no_field : (o : Option Frame) → ((field : OpenField) → o ≡ Some (frame.Field field) → ⊥) → IsNoField o
-no_field None none = tt
-no_field (Some (frame.Bracket opener at)) none = tt
-no_field (Some (frame.Field field)) none = none field refl
-
-pub ends_nothing : (old : FieldScan) (base depth c : ℕ) (o : Option Frame) → IsInnermostFrame o old.frames → IsNoField o → (t : FieldScanned) → Follows old base t → field_move t.mode t.held c ≡ ends_field → ComesTo base depth t c old progress.Refused old
-ends_nothing old base depth c o top none t = go t.outer t.done t.openers t.mode t.held
-  where
-    go : (outer : List Level) (done : List Piece) (openers : List ℕ) (m : FieldMode) (held : List ℕ) → Follows old base (field_state outer done openers m held) → field_move m held c ≡ ends_field → ComesTo base depth (field_state outer done openers m held) c old progress.Refused old
-    go [] done openers m held follow is = no_step base depth (field_state [] done openers m held) c ends_field is old refl
-    go (l ∷ ls) done openers m held follow is =
-        let i : InList base l ls done openers old.frames = list_of base l ls done openers old.frames follow.frames in
-        let e = ends_specification m held c is in
-        let bare : (done ≡ []) × (openers ≡ []) = subst (λ (x : FieldMode). HasNoList x done openers) e.2 follow.no_list in
-        absurd (first_is o i.field old.frames i.others top (field_first base l ls done openers old.frames i bare.1) none)
 
 -- whether there is room for a field, and a bracket that its code begins with
 room_so : (old : FieldScan) (base depth c : ℕ) (h : Host) (t : FieldScanned) (b : Bool) → Follows old base t → nat_lt (depth + length old.frames + opened_with c) 201 ≡ b → has_room_at (depth + frames t) c (begins_code h) ≡ b
@@ -201,8 +166,3 @@ module _ (old : FieldScan) (base depth c place : ℕ) (host : StringWithFields) 
 
       pub operator_there : (mid : FieldScan) → mid.frames ≡ frame.Field Field ∷ old.frames → (c ≡ byte "}" → ⊥) → (c ≡ byte ":" → ⊥) → is_opening c ≡ false → is_closing c ≡ false → ComesTo base depth t c old progress.Going (freed_at mid (place + 1))
       operator_there mid pushed ends colon opens closes = there (freed_at mid (place + 1)) progress.Going (λ f a i. begins_operator old base depth t.outer t.done t.openers t.held e.0 host c place f a i mid (room_so old base depth c (host_in host) (In t H) true f room) pushed starts_with (other c (byte "}") ends) (other c (byte ":") colon) opens closes (one_operator c starts_with))
-
--- an operator where no frame is open
-pub no_operator_there : (old : FieldScan) (base depth c place : ℕ) (t : FieldScanned) → Follows old base t → IsInString t → place ≡ base + here t → field_move t.mode t.held c ≡ breaks → old.frames ≡ [] → ComesTo base depth t c old progress.Refused old
-no_operator_there old base depth c place t follow inside at is none =
-    absurd ((broken old base depth t c place follow inside at is).within (none_outside base t.outer t.done t.openers (subst (λ (fs : List Frame). FramesFollow base t.outer t.done t.openers fs) none follow.frames)))

@@ -1,5 +1,5 @@
 -- What is wrong where a string with fields refuses a character, and where a text ends in one, is what its scan says.
-use Rattle.std.proofs.Common.{◌≡◌, ℕ, Bool, ◌+◌, ◌-◌, ◌≤◌, true, false, ◌==◌, ◌&&◌, Option, Some, List, [], ◌∷◌, ◌++◌, length, refl, sym, ap, ◌∙◌, arith, length-append}
+use Rattle.std.proofs.Common.{◌≡◌, ℕ, Bool, ◌+◌, ◌-◌, ◌≤◌, true, false, ◌==◌, ◌&&◌, Option, Some, List, [], ◌∷◌, ◌++◌, length, refl, sym, ap, ◌∙◌, subst, arith, length-append}
 use Rattle.std.specs.Prelude.{nat_lt, encode_utf8, encode_utf8_all, if◌then◌else◌}
 use Rattle.std.proofs.lemmas.Bool.{both_ways}
 use Rattle.std.proofs.lemmas.Bool.Decides.{nat_tests}
@@ -8,9 +8,10 @@ use Rattle.py_lines.specs.Character.{is_break}
 use Rattle.py_lines.specs.Balance.{is_opening, is_closing}
 use Rattle.py_lines.specs.Piece.{Piece, spelled}
 use Rattle.py_lines.specs.LogicalLine.{byte_len}
-use Rattle.py_lines.specs.Faults.{Cause, brace_too_deep, breaks_string, closes_wrong, opens_too_deep, begins_nothing, kind_of_cause, Unfinished, open_brace, open_short, open_long, open_join, open_bracket, open_inside}
+use Rattle.py_lines.specs.Faults.{Cause, brace_too_deep, breaks_string, closes_wrong, opens_too_deep, ends_specification, begins_nothing, kind_of_cause, Unfinished, open_brace, open_short, open_long, open_join, open_bracket, open_inside}
 use Rattle.py_lines.specs.FieldStrings.{Host, Place, literal}
 use Rattle.py_lines.specs.declared.fault.FaultKind.{FaultKind}
+use Rattle.py_lines.specs.declared.fault.FaultKind.TheVariants as fault_kind
 use Rattle.py_lines.specs.declared.mode.Mode.{Mode}
 use Rattle.py_lines.specs.declared.mode.Mode.TheVariants as modes
 use Rattle.py_lines.specs.declared.frames.OpenField.{OpenField}
@@ -19,9 +20,9 @@ use Rattle.py_lines.specs.declared.frames.Frame.TheVariants as frame
 use Rattle.py_lines.specs.declared.field_scan.FieldScan.{FieldScan}
 use Rattle.py_lines.specs.Private.Machine.{Bracket, brackets_of, in_short, in_long, is_after_backslash}
 use Rattle.py_lines.specs.Private.FieldMachine.{At, after_brace, FieldMode, body, Level, FieldScanned, frames, after_open_backslash, before, text_place}
-use Rattle.py_lines.specs.Private.FieldFaults.{is_waiting, quotes_specification, cause_in, cause_place, here, piece_start, field_start, unfinished_code, unfinished_place}
-use Rattle.py_lines.specs.Private.FieldScan.{bracket_frames, bracket_openers, FramesFollow, none_open, mode_from, code_mode, Follows, unfinished_with, unfinished_round, IsUnfinishedAt}
-use Rattle.py_lines.specs.Private.Frames.{IsInnermostFrame}
+use Rattle.py_lines.specs.Private.FieldFaults.{is_waiting, quotes_specification, cause_in, cause_place, here, field_start, unfinished_code, unfinished_place}
+use Rattle.py_lines.specs.Private.FieldScan.{bracket_frames, bracket_openers, FramesFollow, none_open, mode_from, code_mode, Follows, unfinished_with, unfinished_round, IsFieldEnd, IsUnfinishedAt}
+use Rattle.py_lines.specs.Private.Frames.{IsInnermostFrame, InField, in_bracket, place_of}
 use Rattle.py_lines.specs.Private.ScanMachine.{IsInString}
 use Rattle.py_lines.proofs.FieldScans.Frames.{frames-length, InList, list_of, innermost_field}
 use Rattle.py_lines.proofs.LogicalLines.Cuts.{byte_len-append}
@@ -48,6 +49,9 @@ closing_cause depth m c full breaks slash closing = rw (full, breaks, slash, clo
 
 pub opening_cause : (depth : ℕ) (m : FieldMode) (c : ℕ) → (is_waiting m && (depth == 200)) ≡ false → is_break c ≡ false → after_open_backslash m ≡ false → is_closing c ≡ false → is_opening c ≡ true → cause_in depth m c ≡ opens_too_deep
 opening_cause depth m c full breaks slash closing opening = rw (full, breaks, slash, closing, opening)
+
+pub specification_cause : (depth : ℕ) (m : FieldMode) (c : ℕ) → (is_waiting m && (depth == 200)) ≡ false → is_break c ≡ false → after_open_backslash m ≡ false → is_closing c ≡ false → is_opening c ≡ false → quotes_specification m c ≡ true → cause_in depth m c ≡ ends_specification
+specification_cause depth m c full breaks slash closing opening quotes = rw (full, breaks, slash, closing, opening, quotes)
 
 pub other_cause : (depth : ℕ) (m : FieldMode) (c : ℕ) → (is_waiting m && (depth == 200)) ≡ false → is_break c ≡ false → after_open_backslash m ≡ false → is_closing c ≡ false → is_opening c ≡ false → quotes_specification m c ≡ false → cause_in depth m c ≡ begins_nothing
 other_cause depth m c full breaks slash closing opening quotes = rw (full, breaks, slash, closing, opening, quotes)
@@ -95,16 +99,14 @@ none_from base (l ∷ ls) done openers fs follow none = go (list_of base l ls do
 pub none_in : (scan : FieldScan) (base : ℕ) (t : FieldScanned) → Follows scan base t → scan.frames ≡ [] → t.outer ≡ []
 none_in scan base t f none = none_from base t.outer t.done t.openers scan.frames f.frames none
 
--- where the place of a field is asked for
-pub none_place : (scan : FieldScan) (base : ℕ) (t : FieldScanned) → Follows scan base t → (t.outer ≡ [] → piece_start t ≡ 0) → scan.frames ≡ [] → scan.start ≡ base + field_start t
-none_place scan base t f first none =
-    let outside = none_in scan base t f none in
-    omega (arith, f.start, first outside, ap (λ (ls : List Level). byte_len (before literal ls) - 1) outside)
-
-pub bracket_place : (scan : FieldScan) (base : ℕ) (t : FieldScanned) (opener at : ℕ) → Follows scan base t → t.openers ≡ [] → IsInnermostFrame (Some (frame.Bracket opener at)) scan.frames → at ≡ base + field_start t
-bracket_place scan base t opener at f none top =
-    let (b, bs, stacked, place, are) = bracket_in scan base t opener at f top in
-    absurd (cc (none, are))
+-- the place of the field whose specification is open
+pub specification_place : (scan : FieldScan) (base : ℕ) (t : FieldScanned) (place : ℕ) → Follows scan base t → InField scan.frames → ((f : Frame) (others : List Frame) → scan.frames ≡ f ∷ others → place ≡ place_of f) → place ≡ base + field_start t
+specification_place scan base t place f field last = go scan.frames refl field
+  where
+    go : (fs : List Frame) → scan.frames ≡ fs → InField fs → place ≡ base + field_start t
+    go [] is inside = absurd inside
+    go (frame.Bracket opener at ∷ fs) is inside = absurd inside
+    go (frame.Field own ∷ fs) is inside = last (frame.Field own) fs is ∙ (field_in scan base t own f (fs, is)).0
 
 -- a `{` stands directly before where the string waits
 some_bytes : (held : List ℕ) → (held ≡ [] → ⊥) → 1 ≤ byte_len held
@@ -171,6 +173,19 @@ field_end scan base depth t m field f is inside short long slash top =
       code_round m depth t is short long slash ∙ field_ends t.outer t.openers none (code_inside m t is inside),
       place ∙ ap (λ (b : Bool). base + (if b then here t - 1 else field_start t)) (sym waits),
     )
+
+-- a bracket or a field
+pub code_end : (scan : FieldScan) (base depth : ℕ) (t : FieldScanned) (m : Mode) (kind : FaultKind) (place : ℕ) → Follows scan base t → code_mode m ≡ t.mode → IsInString t → in_short m ≡ false → in_long m ≡ false → is_after_backslash m ≡ false → ((bracket : Bool) → in_bracket scan.frames ≡ bracket → kind ≡ (if bracket then fault_kind.OpenBracket else fault_kind.OpenField)) → ((f : Frame) (others : List Frame) → scan.frames ≡ f ∷ others → place ≡ place_of f) → IsFieldEnd base depth t (record { kind = kind; place = place })
+code_end scan base depth t m kind place f is inside short long slash kind_is last = go scan.frames refl
+  where
+    go : (fs : List Frame) → scan.frames ≡ fs → IsFieldEnd base depth t (record { kind = kind; place = place })
+    go [] none = absurd (code_inside m t is inside (none_in scan base t f none))
+    go (frame.Bracket opener at ∷ fs) top =
+        let e = bracket_end scan base depth t m opener at f is short long slash (fs, top) in
+        (open_bracket, e.0, kind_is true (ap in_bracket top), subst (IsUnfinishedAt base t open_bracket) (sym (last (frame.Bracket opener at) fs top)) e.1)
+    go (frame.Field own ∷ fs) top =
+        let e = field_end scan base depth t m own f is inside short long slash (fs, top) in
+        (open_inside, e.0, kind_is false (ap in_bracket top), last (frame.Field own) fs top ∙ e.1)
 
 -- after a `{` that would open a field
 pub brace_end : (scan : FieldScan) (base depth : ℕ) (t : FieldScanned) (host : Host) (named room : Bool) → Follows scan base t → t.mode ≡ body host literal named after_brace → room ≡ nat_lt (depth + length scan.frames + 1) 201 → unfinished_round depth t ≡ Some (if room then open_inside else open_brace)

@@ -4,6 +4,7 @@ use Rattle.std.specs.Prelude.{reverse, set, get_or}
 use Rattle.std.proofs.lemmas.List.{length-take-le, length-reverse, reverse-append, take_more, take_more_set}
 use Rattle.py_lines.specs.declared.frames.Frame.{Frame}
 use Rattle.py_lines.specs.declared.frames.Frame.TheVariants as frame
+use Rattle.py_lines.specs.Private.Frames.{AreNested}
 
 -- so many of them, the innermost first
 abbrev pub first_frames : List Frame → ℕ → List Frame
@@ -26,6 +27,10 @@ first_frames-pop fs (suc n) within =
     let less : suc n - 1 ≡ n = omega arith in
     let same : n + 1 ≡ suc n = omega arith in
     ap (first_frames fs) less ∙ sym (ap (drop 1) (more fs n (frame.Bracket 0 0) (omega (arith, within)))) ∙ ap (λ (k : ℕ). drop 1 (first_frames fs k)) same
+
+pub nested_rest : (fs : List Frame) → AreNested fs → AreNested (drop 1 fs)
+nested_rest [] nested = tt
+nested_rest (f ∷ fs) nested = nested.1
 
 -- the last of them is the innermost
 pub first_frames-last : (fs : List Frame) (n : ℕ) → n ≤ length fs → (n ≡ 0 → ⊥) → first_frames fs n ≡ get_or fs (n - 1) (frame.Bracket 0 0) ∷ first_frames fs (n - 1)

@@ -74,6 +74,14 @@ innermost_field base l ls done openers fs field i top = go i.stack i.stacked i.o
     go [] stacked are is = (are, cc (top.1, is), stacked)
     go (b ∷ bs) stacked are is = absurd (cc (top.1, is))
 
+-- the field that is open, where no bracket is open in it
+pub field_first : (base : ℕ) (l : Level) (ls : List Level) (done : List Piece) (openers : List ℕ) (fs : List Frame) (i : InList base l ls done openers fs) → openers ≡ [] → fs ≡ frame.Field i.field ∷ i.others
+field_first base l ls done openers fs i none = go i.stack i.openers_are i.frames_are
+  where
+    go : (bs : List Bracket) → openers ≡ bracket_openers bs → fs ≡ bracket_frames (base + byte_len (before literal (l ∷ ls))) bs ++ frame.Field i.field ∷ i.others → fs ≡ frame.Field i.field ∷ i.others
+    go [] are is = is
+    go (b ∷ bs) are is = absurd (cc (are, none))
+
 -- no frame is open round no field alone
 pub none_outside : (base : ℕ) (outer : List Level) (done : List Piece) (openers : List ℕ) → FramesFollow base outer done openers [] → outer ≡ []
 none_outside base [] done openers follow = refl

@@ -15,7 +15,7 @@ use Rattle.py_lines.specs.declared.field_mode.FieldMode.TheVariants as field_mod
 use Rattle.py_lines.specs.declared.field_scan.FieldScan.{FieldScan}
 use Rattle.py_lines.specs.declared.field_scan.FieldProgress.TheVariants as progress
 use Rattle.py_lines.specs.Private.Machine.{start_of}
-use Rattle.py_lines.specs.Private.FieldMachine.{plain, body, grows, closes, breaks, Level, FieldScanned, field_state, field_fresh, field_class_of, field_closed, field_move, field_moved, field_started, before, text_place, frames, has_room_at, levels_open}
+use Rattle.py_lines.specs.Private.FieldMachine.{plain, grows, closes, breaks, Level, FieldScanned, field_state, field_fresh, field_class_of, field_closed, field_move, field_started, before, frames, has_room_at}
 use Rattle.py_lines.specs.Private.FieldMachine as spots
 use Rattle.py_lines.specs.Private.FieldFaults.{here}
 use Rattle.py_lines.specs.Private.ScanMachine.{IsInString}

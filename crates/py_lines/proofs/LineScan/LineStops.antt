@@ -29,6 +29,8 @@ use Rattle.py_lines.proofs.Pieces.PieceLists.{AreReadBefore-second}
 use Rattle.py_lines.proofs.LogicalLines.Cuts.{uncut}
 use Rattle.py_lines.proofs.Lexings.SettledLines.{ends-line, ends-append}
 use Rattle.py_lines.proofs.LineScan.LineSteps.{sound_steps, at_line_end, refused, returned, follows_nothing}
+use Rattle.py_lines.specs.Private.FieldScan.{IsInPlace}
+use Rattle.py_lines.proofs.LineScan.StringSteps.{fields_placed}
 use Rattle.py_lines.proofs.LineScan.Runs.{reached_character, reached_run, way_quote}
 
 -- wherever in a line the scan stood before a text, it stands now before another
@@ -74,6 +76,12 @@ pub shuts_lines : (old : Scan) (text : List ℕ) (new : Scan) (rest : List ℕ) 
 shuts_lines old text new rest (m, line, whole, start, r) shuts =
     let stood = stands_shut m line whole new rest start (shuts m line whole start r) in
     omega (arith, stood.lines, stood.line, r.line)
+
+pub shuts_placed : (old : Scan) (text : List ℕ) (new : Scan) (rest : List ℕ) → ReachedInSomeLine old text → ShutsTo old text new rest → new.piece.mode ≡ modes.Fielded → IsInPlace new.fields
+shuts_placed old text new rest (m, line, whole, start, r) shuts fielded =
+    let way = (open_reached m line whole new rest (ap is_free fielded) (shuts m line whole start r)).way in
+    let read = (open_reached m line whole new rest (ap is_free fielded) (shuts m line whole start r)).read in
+    fields_placed new way.state.done way.state.mode way.state.held read (sym way.tallies.counts.mode ∙ fielded) (sound_steps m read way.state start way.steps) way.tallies
 
 -- the same, where no piece was closed early
 goes_shuts : (old : Scan) (text : List ℕ) (new : Scan) (rest : List ℕ) → GoesTo old text new rest → ShutsTo old text new rest

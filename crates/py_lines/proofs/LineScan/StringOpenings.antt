@@ -20,7 +20,7 @@ use Rattle.py_lines.specs.declared.scan.Progress.TheVariants as progress
 use Rattle.py_lines.specs.declared.scan.Scan.{Scan}
 use Rattle.py_lines.specs.Private.Machine.{Scanned, moved, move_of, short_move, long_move}
 use Rattle.py_lines.specs.Private.FieldMachine.{between, FieldMode, opened, empty, body, FieldMove, grows, breaks, FieldScanned, field_state, field_move, field_moved, field_step, body_move, between_move, long_host}
-use Rattle.py_lines.specs.Private.FieldScan.{FollowsBody}
+use Rattle.py_lines.specs.Private.FieldScan.{FollowsBody, IsPlaced}
 use Rattle.py_lines.specs.Private.ScanMachine.{begins_string, host_in, is_field_spelling, meet_of, opened_move, quote_move, IsScanSound, fielded_move}
 use Rattle.py_lines.specs.Private.Scan.{Tallies, IsStacked, EndsNoLine, StandsInString, GoesOnInString, TakesInString, Takes, in_mode, with_character, with_field_scan, depth_of}
 use Rattle.py_lines.proofs.FieldMachine.StringRuns.{moved_between}
@@ -101,6 +101,7 @@ module _ (old new : Scan) (f : FieldScan) (done : List Piece) (held read : List 
       follows = follows held;
       inside = λ at. (host_in h, literal, false, between, refl);
       stop = tallies.counts.stop ∙ byte_len-append (spelled done) held ∙ ap (λ n. n + byte_len held) (sym tallies.counts.start);
+      placed = subst (λ (m : FieldMode). IsPlaced m f.frames) (sym (follows held).mode) tt;
     }
 
     goes_so : fielded_move (depth_of old.brackets) (Some (field_state [] [] [] (body (host_in h) literal false between) held)) c ≡ moves.Grows modes.Fielded

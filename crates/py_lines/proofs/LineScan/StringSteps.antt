@@ -14,7 +14,7 @@ use Rattle.py_lines.specs.declared.scan.LineFault.{LineFault}
 use Rattle.py_lines.specs.declared.scan.Scan.{Scan}
 use Rattle.py_lines.specs.declared.mode.Start.TheVariants as starts
 use Rattle.py_lines.specs.Private.Machine.{start_of, character_kind}
-use Rattle.py_lines.specs.Private.FieldScan.{Follows, ComesTo, PushesField, RefusesField, EndsField}
+use Rattle.py_lines.specs.Private.FieldScan.{Follows, ComesTo, IsInPlace, PushesField, RefusesField, EndsField}
 use Rattle.py_lines.specs.Private.FieldMachine.{FieldMode, Level, FieldScanned, grows, field_state, field_move, field_moved, frames, has_room_at, field_text_start, field_step, field_steps_from}
 use Rattle.py_lines.specs.Private.FieldFaults.{here}
 use Rattle.py_lines.specs.Private.ScanMachine.{string_state, string_move, fielded_move, move_at, IsInString, IsScanSound}
@@ -22,6 +22,7 @@ use Rattle.py_lines.specs.Private.LineState.{first_mode}
 use Rattle.py_lines.specs.Private.Scan.{refused_place, IsRefusal, IsRefusalIn, IsUnfinished, IsUnfinishedIn, IsPlainUnfinished, FieldsFollow, StandsInString, GoesOnInString, ClosesString, Closes, in_mode, with_character, with_field_scan, Tallies, IsStacked, stack_of, depth_of}
 use Rattle.py_lines.proofs.FieldSoundness.HostSteps.{sound_at}
 use Rattle.py_lines.proofs.FieldSoundness.WholeTexts.{no_limit, any_rooms}
+use Rattle.py_lines.proofs.FieldScans.Places.{scan_placed}
 use Rattle.py_lines.proofs.LogicalLines.Cuts.{byte_len-append}
 use Rattle.py_lines.proofs.Machine.PieceSteps.{scanned}
 use Rattle.py_lines.proofs.Machine.Starts.{StartsSo, starts_so}
@@ -77,8 +78,15 @@ in_string scan done held read sound tallies =
         follows = tallies.fields.2;
         inside = subst IsInString one sound.holds.inside;
         stop = tallies.counts.stop ∙ byte_len-append (spelled done) held ∙ ap (λ n. n + byte_len held) (sym tallies.counts.start) ∙ ap (λ n. scan.piece.start + n) (sym (here_at held t tallies.fields.1));
+        placed = scan_placed scan.fields scan.piece.start held t tallies.fields.1 (subst IsInString one sound.holds.inside) tallies.fields.2;
       };
     }
+
+-- its scan is in its place
+pub fields_placed : (scan : Scan) (done : List Piece) (m : Mode) (held read : List ℕ) → m ≡ modes.Fielded → IsScanSound (scanned done m held) read → Tallies scan (scanned done m held) → IsInPlace scan.fields
+fields_placed scan done modes.Fielded held read is sound tallies =
+    (in_string scan done held read sound tallies).stands.placed
+fields_placed scan done m held read is sound tallies = absurd (cc)
 
 -- a character by which its open piece grows goes on in the string
 grows_on : (outer : List Level) (m : FieldMode) (next : FieldScanned) → string_move outer (grows m) (Some next) ≡ moves.Grows modes.Fielded
@@ -130,7 +138,7 @@ first_plain (suc n) is = cc
 
 -- what is wrong in the string that is open, and elsewhere
 pub refusal_in : (scan : Scan) (c depth : ℕ) (line_fault : LineFault) → scan.piece.mode ≡ modes.Fielded → depth ≡ depth_of scan.brackets → RefusesField scan.fields c scan.stop depth line_fault → IsRefusal scan c line_fault
-refusal_in scan c depth line_fault here same refuses = subst (λ m. IsRefusalIn m scan c line_fault) (sym here) (λ t stands stuck. subst (λ d. RefusesField scan.fields c scan.stop d line_fault) same refuses scan.piece.start t stands.follows stands.inside stands.stop stuck)
+refusal_in scan c depth line_fault here same refuses = subst (λ m. IsRefusalIn m scan c line_fault) (sym here) (λ t stands stuck. subst (λ d. RefusesField scan.fields c scan.stop d line_fault) same refuses stands.placed scan.piece.start t stands.follows stands.inside stands.stop stuck)
 
 pub refusal_elsewhere : (scan : Scan) (c : ℕ) (line_fault : LineFault) → (scan.piece.mode ≡ modes.Fielded → ⊥) → line_fault.kind ≡ character_kind scan.piece.mode c → line_fault.place ≡ refused_place scan → IsRefusal scan c line_fault
 refusal_elsewhere scan c line_fault other kind place = go scan.piece.mode other kind
@@ -140,7 +148,7 @@ refusal_elsewhere scan c line_fault other kind place = go scan.piece.mode other 
     go m other' kind' = (kind', place)
 
 pub unfinished_in : (scan : Scan) (depth : ℕ) (line_fault : LineFault) → scan.piece.mode ≡ modes.Fielded → depth ≡ depth_of scan.brackets → EndsField scan.fields scan.stop depth line_fault → IsUnfinished scan (Some line_fault)
-unfinished_in scan depth line_fault here same ends = subst (λ m. IsUnfinishedIn m scan (Some line_fault)) (sym here) (λ t stands. subst (λ d. EndsField scan.fields scan.stop d line_fault) same ends scan.piece.start t stands.follows stands.inside stands.stop)
+unfinished_in scan depth line_fault here same ends = subst (λ m. IsUnfinishedIn m scan (Some line_fault)) (sym here) (λ t stands. subst (λ d. EndsField scan.fields scan.stop d line_fault) same ends stands.placed scan.piece.start t stands.follows stands.inside stands.stop)
 
 pub unfinished_elsewhere : (scan : Scan) (line_fault : Option LineFault) → (scan.piece.mode ≡ modes.Fielded → ⊥) → IsPlainUnfinished scan line_fault → IsUnfinished scan line_fault
 unfinished_elsewhere scan line_fault other holds = go scan.piece.mode other

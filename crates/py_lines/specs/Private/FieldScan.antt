@@ -29,10 +29,11 @@ use Rattle.py_lines.specs.declared.frames.Frame.TheVariants as frame
 use Rattle.py_lines.specs.declared.field_scan.FieldScan.{FieldScan}
 use Rattle.py_lines.specs.declared.field_scan.FieldProgress.{FieldProgress}
 use Rattle.py_lines.specs.declared.field_scan.FieldProgress.TheVariants as progress
+use Rattle.py_lines.specs.Private.Frames.{InField}
 use Rattle.py_lines.specs.Private.Machine.{Bracket, brackets_of, Holds}
 use Rattle.py_lines.specs.Private.FieldMachine as spots
 use Rattle.py_lines.specs.Private.FieldMachine.{between, after_one, after_two, after_slash, after_return, after_name, after_brace, plain, opened, empty, body, grows, closes, breaks, begins_code, opens_field, ends_field, refused, long_host, between_move, body_move, Level, FieldScanned, field_state, field_move, field_step, before, levels_open, frames, is_after_brace}
-use Rattle.py_lines.specs.Private.FieldFaults.{is_waiting, here, piece_start, field_start, cause_in, cause_place, unfinished_literal, unfinished_in, unfinished_place}
+use Rattle.py_lines.specs.Private.FieldFaults.{is_waiting, here, piece_start, cause_in, cause_place, unfinished_literal, unfinished_in, unfinished_place}
 use Rattle.py_lines.specs.Private.ScanMachine.{host_in, meet_of, fielded_move, IsInString}
 
 -- what the code's words are in the machine's
@@ -154,6 +155,15 @@ pub record Follows (scan : FieldScan) (base : ℕ) (t : FieldScanned) : Type 0 w
   pub start : scan.start ≡ base + piece_start t
   pub frames : FramesFollow base t.outer t.done t.openers scan.frames
 
+-- code stands in a field, and the text of a specification in its own
+abbrev pub IsPlaced : spots.FieldMode → List Frame → Type 0
+IsPlaced (body host literal named at) fs = Unit {0}
+IsPlaced (body host specification named at) fs = InField fs
+IsPlaced other fs = fs ≡ [] → ⊥
+
+abbrev pub IsInPlace : FieldScan → Type 0
+IsInPlace scan = IsPlaced (mode_from scan.mode) scan.frames
+
 -- it begins in the body of a string, of which nothing is read
 abbrev pub FollowsBody : FieldScan → StringWithFields → ℕ → Type 0
 FollowsBody scan host base = (held : List ℕ) → Follows scan base (field_state [] [] [] (body (host_in host) literal false between) held)
@@ -204,7 +214,7 @@ IsFieldFault base depth t c line_fault =
 
 abbrev pub RefusesField : FieldScan → ℕ → ℕ → ℕ → LineFault → Type 0
 RefusesField scan c place depth line_fault =
-    (base : ℕ) (t : FieldScanned) → Follows scan base t → IsInString t → place ≡ base + here t
+    IsInPlace scan → (base : ℕ) (t : FieldScanned) → Follows scan base t → IsInString t → place ≡ base + here t
     → fielded_move depth (Some t) c ≡ moves.Refused → IsFieldFault base depth t c line_fault
 
 -- what is open at the end of such a string, where so many brackets are open round it
@@ -230,12 +240,8 @@ IsFieldEnd base depth t line_fault =
 
 abbrev pub EndsField : FieldScan → ℕ → ℕ → LineFault → Type 0
 EndsField scan place depth line_fault =
-    (base : ℕ) (t : FieldScanned) → Follows scan base t → IsInString t → place ≡ base + here t → IsFieldEnd base depth t line_fault
-
--- the field that is open stands at this byte, where no bracket is open in it
-abbrev pub PlacesField : FieldScan → ℕ → Type 0
-PlacesField scan place =
-    (base : ℕ) (t : FieldScanned) → Follows scan base t → t.openers ≡ [] → (t.outer ≡ [] → piece_start t ≡ 0) → place ≡ base + field_start t
+    IsInPlace scan → (base : ℕ) (t : FieldScanned) → Follows scan base t → IsInString t → place ≡ base + here t
+    → IsFieldEnd base depth t line_fault
 
 -- what is wrong where the text ends in this piece of a field's code
 abbrev pub EndsCode : FieldScan → Mode → LineFault → Type 0

@@ -13,7 +13,7 @@ use Rattle.py_lines.specs.Private.Machine.{Scanned, fresh, token_of, Bracket, br
 use Rattle.py_lines.specs.Private.FieldMachine.{FieldScanned, field_step}
 use Rattle.py_lines.specs.Private.FieldFaults.{here}
 use Rattle.py_lines.specs.Private.ScanMachine.{string_state, fielded_move, scan_step, scan_steps, IsInString, StringsFit, IsScanSound}
-use Rattle.py_lines.specs.Private.FieldScan.{Follows, IsFieldFault, IsFieldEnd}
+use Rattle.py_lines.specs.Private.FieldScan.{Follows, IsFieldFault, IsFieldEnd, IsInPlace}
 use Rattle.py_lines.specs.declared.token.Token.{Token}
 use Rattle.py_lines.specs.declared.mode.Mode.{Mode}
 use Rattle.py_lines.specs.declared.mode.Mode.TheVariants as modes
@@ -179,6 +179,7 @@ pub record StandsInString (scan : Scan) (t : FieldScanned) : Type 0 where
   pub follows : Follows scan.fields scan.piece.start t
   pub inside : IsInString t
   pub stop : scan.stop ≡ scan.piece.start + here t
+  pub placed : IsInPlace scan.fields
 
 -- a character goes on in that string
 pub record GoesOnInString (old : Scan) (t : FieldScanned) (c : ℕ) (new : Scan) : Type 0 where

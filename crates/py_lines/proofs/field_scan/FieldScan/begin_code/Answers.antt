@@ -15,25 +15,25 @@ use Rattle.py_lines.proofs.field_scan.FieldScan.begin_code.Goals.{Else-not-has_r
 room : (c : Else-not-has_room) → nat_lt (c.args.depth + length c.args.self.now.frames + opened_with c.args.c) 201 ≡ true
 room c = ap (λ (k : ℕ). nat_lt (c.args.depth + length c.args.self.now.frames + k) 201) (sym c.opened_with.ensures) ∙ sym c.has_room.ensures ∙ c.if-not-has_room.false
 
-pub returns-then-not-has_room : goal.returns-then-not-has_room
-returns-then-not-has_room c = λ base t f inside at is.
+pub returns-then-not-has_room-clause-takes : goal.returns-then-not-has_room-clause-takes
+returns-then-not-has_room-clause-takes c = λ base t f inside at is.
     no_room_there c.args.self.now base c.args.depth c.args.c c.args.place c.args.host t f at is
     (ap (λ (k : ℕ). nat_lt (c.args.depth + length c.args.self.now.frames + k) 201) (sym c.opened_with.ensures) ∙ sym c.has_room.ensures ∙ c.if-not-has_room.true)
 
 pub begin_with_operator-requires-clause-room : goal.begin_with_operator-requires-clause-room
 begin_with_operator-requires-clause-room c = omega (arith, ltb-true _ 201 (room (goal.at.begin_with_operator-requires-clause-room c).Else-not-has_room))
 
-pub returns-in-Operator : goal.returns-in-Operator
-returns-in-Operator c = λ base t f inside at is.
-    c.begin_with_operator.ensures c.args.depth (room (goal.at.returns-in-Operator c).Else-not-has_room) base t f inside at (is ∙ ap (λ (x : OpenField). begins_code (host_in x.host)) (sym c.waiting_field-field.ensures))
+pub returns-in-Operator-clause-takes : goal.returns-in-Operator-clause-takes
+returns-in-Operator-clause-takes c = λ base t f inside at is.
+    c.begin_with_operator.ensures.takes c.args.depth (room (goal.at.returns-in-Operator-clause-takes c).Else-not-has_room) base t f inside at (is ∙ ap (λ (x : OpenField). begins_code (host_in x.host)) (sym c.waiting_field-field.ensures))
 
-pub returns-in-LineEnd : goal.returns-in-LineEnd
-returns-in-LineEnd c = λ base t f inside at is.
+pub returns-in-LineEnd-clause-takes : goal.returns-in-LineEnd-clause-takes
+returns-in-LineEnd-clause-takes c = λ base t f inside at is.
     subst (λ (n : FieldScan). ComesTo base c.args.depth t c.args.c c.args.self.now progress.Going n) (sym c.free.ensures)
-    (line_there c.args.self.now base c.args.depth c.args.c c.args.place c.args.host t f at is (room (goal.at.returns-in-LineEnd c).Else-not-has_room) (record c.args.self.now { frames = c.push.new.self })
+    (line_there c.args.self.now base c.args.depth c.args.c c.args.place c.args.host t f at is (room (goal.at.returns-in-LineEnd-clause-takes c).Else-not-has_room) (record c.args.self.now { frames = c.push.new.self })
     (c.push.ensures ∙ ap (λ (x : OpenField). frame.Field x ∷ c.args.self.now.frames) c.waiting_field-field.ensures) (sym c.of.ensures ∙ c.in-LineEnd.is))
 
-pub returns-in-Open : goal.returns-in-Open
-returns-in-Open c = λ base t f inside at is.
-    piece_there c.args.self.now base c.args.depth c.args.c c.args.place c.args.host t f at is (room (goal.at.returns-in-Open c).Else-not-has_room) (record c.args.self.now { frames = c.push-in-Open.new.self }) c.in-Open.mode
+pub returns-in-Open-clause-takes : goal.returns-in-Open-clause-takes
+returns-in-Open-clause-takes c = λ base t f inside at is.
+    piece_there c.args.self.now base c.args.depth c.args.c c.args.place c.args.host t f at is (room (goal.at.returns-in-Open-clause-takes c).Else-not-has_room) (record c.args.self.now { frames = c.push-in-Open.new.self }) c.in-Open.mode
     (c.push-in-Open.ensures ∙ ap (λ (x : OpenField). frame.Field x ∷ c.args.self.now.frames) c.waiting_field-field.ensures) (sym c.of.ensures ∙ c.in-Open.is)

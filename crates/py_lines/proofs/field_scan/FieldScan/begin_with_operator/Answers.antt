@@ -9,23 +9,23 @@ use Rattle.py_lines.proofs.FieldScans.FieldAnswers.{empty_there, closes_there, s
 use Rattle.py_lines.proofs.field_scan.FieldScan.begin_with_operator.Goals as goal
 use Rattle.py_lines.proofs.field_scan.FieldScan.begin_with_operator.Goals.{then-is_opening, else-is_opening}
 
-pub returns-then-c-eq125 : goal.returns-then-c-eq125
-returns-then-c-eq125 c = λ depth room base t f inside at is.
+pub returns-then-c-eq125-clause-takes : goal.returns-then-c-eq125-clause-takes
+returns-then-c-eq125-clause-takes c = λ depth room base t f inside at is.
     subst (λ (n : FieldScan). ComesTo base depth t c.args.c c.args.self.now progress.Going n) (sym (c.resume.ensures ∙ ap (ended_in c.args.self.now) c.requires.field))
     (empty_there c.args.self.now base depth c.args.c c.args.place c.args.field.host t f at is room c.requires.operator c.if-c-eq125.true)
 
-pub returns-then-is_closing : goal.returns-then-is_closing
-returns-then-is_closing c = λ depth room base t f inside at is.
+pub returns-then-is_closing-clause-takes : goal.returns-then-is_closing-clause-takes
+returns-then-is_closing-clause-takes c = λ depth room base t f inside at is.
     closes_there c.args.self.now base depth c.args.c c.args.place c.args.field.host t f at is room c.requires.operator c.if-c-eq125.false (sym c.is_closing.ensures ∙ c.if-is_closing.true)
 
-pub returns-then-c-eq58 : goal.returns-then-c-eq58
-returns-then-c-eq58 c = λ depth room base t f inside at is.
+pub returns-then-c-eq58-clause-takes : goal.returns-then-c-eq58-clause-takes
+returns-then-c-eq58-clause-takes c = λ depth room base t f inside at is.
     specifies_there c.args.self.now base depth c.args.c c.args.place c.args.field.host t f at is room c.requires.operator (record c.args.self.now { frames = c.push.new.self })
     (c.push.ensures ∙ ap (λ (x : OpenField). frame.Field x ∷ c.args.self.now.frames) c.requires.field)
     refl c.if-c-eq125.false c.if-c-eq58.true
 
-pub returns : goal.returns
-returns c = λ depth room base t f inside at is.
+pub returns-clause-takes : goal.returns-clause-takes
+returns-clause-takes c = λ depth room base t f inside at is.
     let pushed = c.push.ensures ∙ ap (λ (x : OpenField). frame.Field x ∷ c.args.self.now.frames) c.requires.field in
     subst (λ (n : FieldScan). ComesTo base depth t c.args.c c.args.self.now progress.Going n) (sym c.free.ensures)
     (elim c.if-is_opening.branch [

@@ -1,17 +1,15 @@
 use Rattle.std.proofs.Common.{sym, ◌∙◌, subst}
-use Rattle.py_lines.specs.declared.host.Region.TheVariants as regions
-use Rattle.py_lines.specs.declared.frames.Frame.TheVariants as frame
 use Rattle.py_lines.specs.declared.field_scan.FieldScan.{FieldScan}
 use Rattle.py_lines.specs.declared.field_scan.FieldProgress.TheVariants as progress
 use Rattle.py_lines.specs.Private.FieldScan.{ComesTo}
 use Rattle.py_lines.proofs.FieldScans.FieldAnswers.{opens_there, shut_there}
 use Rattle.py_lines.proofs.field_scan.FieldScan.open_field.Goals as goal
 
-pub returns-then-not-has_room : goal.returns-then-not-has_room
-returns-then-not-has_room c = λ base t f inside at is. shut_there c.args.self.now base c.args.depth c.args.c c.args.place c.args.host (sym c.has_room.ensures ∙ c.if-not-has_room.true) t f at is
+pub returns-then-not-has_room-clause-takes : goal.returns-then-not-has_room-clause-takes
+returns-then-not-has_room-clause-takes c = λ base t f inside at is. shut_there c.args.self.now base c.args.depth c.args.c c.args.place c.args.host (sym c.has_room.ensures ∙ c.if-not-has_room.true) t f at is
 
-pub returns : goal.returns
-returns c = λ base t f inside at is.
+pub returns-clause-takes : goal.returns-clause-takes
+returns-clause-takes c = λ base t f inside at is.
     subst (λ (n : FieldScan). ComesTo base c.args.depth t c.args.c c.args.self.now progress.Going n) (sym c.free.ensures)
     (opens_there c.args.self.now (record c.args.self.now { frames = c.push.new.self }) base c.args.depth c.args.c c.args.place c.args.host
     c.push.ensures

@@ -4,27 +4,40 @@ use Rattle.py_lines.specs.Private.FieldScan.{field_move_from, mode_from}
 use Rattle.py_lines.specs.Private.ScanMachine.{host_in}
 use Rattle.py_lines.proofs.FieldScans.Taking.{grown}
 use Rattle.py_lines.proofs.FieldScans.FieldAnswers.{moves_so, refused_there}
+use Rattle.py_lines.proofs.FieldScans.Places.{moved_placed}
 use Rattle.py_lines.proofs.field_scan.FieldScan.push.Goals as goal
 
-pub returns-in-Grows : goal.returns-in-Grows
-returns-in-Grows c = λ base t f inside at.
+pub returns-in-Grows-clause-takes : goal.returns-in-Grows-clause-takes
+returns-in-Grows-clause-takes c = λ base t f inside at.
     grown c.args.self.now base c.args.depth t c.args.c c.args.place f inside at c.in-Grows.mode (mode_from c.in-Grows.mode)
     (moves_so c.args.self.now base t c.args.c (grows (mode_from c.in-Grows.mode)) f (sym (ap field_move_from c.in-Grows.is) ∙ c.meet.ensures)) refl
 
-pub returns-in-Closes : goal.returns-in-Closes
-returns-in-Closes c = λ base t f inside at. c.close.ensures c.args.depth base t f inside at (moves_so c.args.self.now base t c.args.c closes f (sym (ap field_move_from c.in-Closes.is) ∙ c.meet.ensures))
+pub returns-in-Closes-clause-takes : goal.returns-in-Closes-clause-takes
+returns-in-Closes-clause-takes c = λ base t f inside at. c.close.ensures.takes c.args.depth base t f inside at (moves_so c.args.self.now base t c.args.c closes f (sym (ap field_move_from c.in-Closes.is) ∙ c.meet.ensures))
 
-pub returns-in-Breaks : goal.returns-in-Breaks
-returns-in-Breaks c = λ base t f inside at. c.begin_piece.ensures base t f inside at (moves_so c.args.self.now base t c.args.c breaks f (sym (ap field_move_from c.in-Breaks.is) ∙ c.meet.ensures))
+pub returns-in-Breaks-clause-takes : goal.returns-in-Breaks-clause-takes
+returns-in-Breaks-clause-takes c = λ base t f inside at. c.begin_piece.ensures.takes base t f inside at (moves_so c.args.self.now base t c.args.c breaks f (sym (ap field_move_from c.in-Breaks.is) ∙ c.meet.ensures))
 
-pub returns-in-BeginsCode : goal.returns-in-BeginsCode
-returns-in-BeginsCode c = λ base t f inside at. c.begin_code.ensures base t f inside at (moves_so c.args.self.now base t c.args.c (begins_code (host_in c.in-BeginsCode.host)) f (sym (ap field_move_from c.in-BeginsCode.is) ∙ c.meet.ensures))
+pub returns-in-BeginsCode-clause-takes : goal.returns-in-BeginsCode-clause-takes
+returns-in-BeginsCode-clause-takes c = λ base t f inside at. c.begin_code.ensures.takes base t f inside at (moves_so c.args.self.now base t c.args.c (begins_code (host_in c.in-BeginsCode.host)) f (sym (ap field_move_from c.in-BeginsCode.is) ∙ c.meet.ensures))
 
-pub returns-in-OpensField : goal.returns-in-OpensField
-returns-in-OpensField c = λ base t f inside at. c.open_field.ensures base t f inside at (moves_so c.args.self.now base t c.args.c (opens_field (host_in c.in-OpensField.host)) f (sym (ap field_move_from c.in-OpensField.is) ∙ c.meet.ensures))
+pub returns-in-OpensField-clause-takes : goal.returns-in-OpensField-clause-takes
+returns-in-OpensField-clause-takes c = λ base t f inside at. c.open_field.ensures.takes base t f inside at (moves_so c.args.self.now base t c.args.c (opens_field (host_in c.in-OpensField.host)) f (sym (ap field_move_from c.in-OpensField.is) ∙ c.meet.ensures))
 
-pub returns-in-EndsField : goal.returns-in-EndsField
-returns-in-EndsField c = λ base t f inside at. c.end_field.ensures c.args.c c.args.place c.args.depth base t f inside at (moves_so c.args.self.now base t c.args.c ends_field f (sym (ap field_move_from c.in-EndsField.is) ∙ c.meet.ensures))
+pub returns-in-EndsField-clause-takes : goal.returns-in-EndsField-clause-takes
+returns-in-EndsField-clause-takes c = λ base t f inside at. c.end_field.ensures.takes c.args.c c.args.place c.args.depth base t f inside at (moves_so c.args.self.now base t c.args.c ends_field f (sym (ap field_move_from c.in-EndsField.is) ∙ c.meet.ensures))
 
-pub returns-in-Refused : goal.returns-in-Refused
-returns-in-Refused c = λ base t f inside at. refused_there c.args.self.now base c.args.depth t c.args.c (moves_so c.args.self.now base t c.args.c refused f (sym (ap field_move_from c.in-Refused.is) ∙ c.meet.ensures))
+pub returns-in-Refused-clause-takes : goal.returns-in-Refused-clause-takes
+returns-in-Refused-clause-takes c = λ base t f inside at. refused_there c.args.self.now base c.args.depth t c.args.c (moves_so c.args.self.now base t c.args.c refused f (sym (ap field_move_from c.in-Refused.is) ∙ c.meet.ensures))
+
+pub returns-in-Grows-clause-placed : goal.returns-in-Grows-clause-placed
+returns-in-Grows-clause-placed c = moved_placed c.args.self.now c.args.c (grows (mode_from c.in-Grows.mode)) (sym (ap field_move_from c.in-Grows.is) ∙ c.meet.ensures) c.requires.placed
+
+pub begin_piece-requires-clause-inside : goal.begin_piece-requires-clause-inside
+begin_piece-requires-clause-inside c = moved_placed c.args.self.now c.args.c breaks (sym (ap field_move_from c.in-Breaks.is) ∙ c.meet.ensures) c.requires.placed
+
+pub open_field-requires-clause-field : goal.open_field-requires-clause-field
+open_field-requires-clause-field c = moved_placed c.args.self.now c.args.c (opens_field (host_in c.in-OpensField.host)) (sym (ap field_move_from c.in-OpensField.is) ∙ c.meet.ensures) c.requires.placed
+
+pub end_field-requires : goal.end_field-requires
+end_field-requires c = record { field = moved_placed c.args.self.now c.args.c ends_field (sym (ap field_move_from c.in-EndsField.is) ∙ c.meet.ensures) c.requires.placed }

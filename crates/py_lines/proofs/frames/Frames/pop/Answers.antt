@@ -1,9 +1,19 @@
-use Rattle.std.proofs.Common.{◌≤◌, length, drop, ap, ◌∙◌, arith}
-use Rattle.py_lines.proofs.FieldScans.FrameArrays.{first_frames, first_frames-pop}
+use Rattle.std.proofs.Common.{◌≤◌, length, drop, sym, ap, ◌∙◌, subst, arith}
+use Rattle.py_lines.specs.Private.Frames.{AreNested}
+use Rattle.py_lines.proofs.FieldScans.FrameArrays.{first_frames, first_frames-pop, nested_rest}
 use Rattle.py_lines.proofs.frames.Frames.pop.Goals as goal
 
-pub returns : goal.returns
-returns c =
+pub returns-clause-rest : goal.returns-clause-rest
+returns-clause-rest c =
     let q = c.self.inside in
-    let within : q.depth ≤ length q.frames = omega (arith, c.self.invariant) in
+    let within : q.depth ≤ length q.frames = omega (arith, c.self.invariant.0) in
     ap (first_frames q.frames) c.saturating_sub-self-inside.ensures ∙ first_frames-pop q.frames q.depth within ∙ ap (drop 1) c.self.view_is
+
+pub returns-clause-nested : goal.returns-clause-nested
+returns-clause-nested c = λ frame others is. (subst AreNested (c.self.view_is ∙ is) c.self.invariant.1).0
+
+pub invariant_of-self : goal.invariant_of-self
+invariant_of-self c =
+    let q = c.self.inside in
+    let within : q.depth ≤ length q.frames = omega (arith, c.self.invariant.0) in
+    (c.self.invariant.0, subst AreNested (sym (ap (first_frames q.frames) c.saturating_sub-self-inside.ensures ∙ first_frames-pop q.frames q.depth within)) (nested_rest (first_frames q.frames q.depth) c.self.invariant.1))

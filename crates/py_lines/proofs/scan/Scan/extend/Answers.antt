@@ -4,7 +4,7 @@ use Rattle.std.specs.Char.{len_utf8}
 use Rattle.std.proofs.lemmas.Str.{length-encode}
 use Rattle.py_lines.specs.Private.Run.{HoldsRun}
 use Rattle.py_lines.specs.declared.scan.Progress.{Progress}
-use Rattle.py_lines.proofs.LineScan.LineStops.{GoesTo, ShutsTo, TakesTo, goes_room, goes_lines, goes_quote, left_ends, left_shuts, shuts_order, shuts_room, shuts_lines, goes_run, goes_character, stops_line, stops_returned, stops_refused, stops_text}
+use Rattle.py_lines.proofs.LineScan.LineStops.{GoesTo, ShutsTo, TakesTo, goes_room, goes_lines, goes_quote, left_ends, left_shuts, shuts_order, shuts_room, shuts_lines, shuts_placed, goes_run, goes_character, stops_line, stops_returned, stops_refused, stops_text}
 use Rattle.py_lines.proofs.scan.Scan.extend.Goals as goal
 use Rattle.py_lines.proofs.scan.Scan.extend.Goals.{In-Bytes, In_ok-take, In-Going}
 
@@ -64,6 +64,9 @@ take-requires-clause-lines c =
     let before = c.in-Bytes.left.now in
     let shut = shuts (goal.at.take-requires-clause-lines c).In-Bytes in
     omega (arith, c.requires.lines, shuts_room c.args.self.now c.args.bytes.now c.take_pieces.new.self before c.requires.way shut, shuts_lines c.args.self.now c.args.bytes.now c.take_pieces.new.self before c.requires.way shut)
+
+pub take-requires-clause-placed : goal.take-requires-clause-placed
+take-requires-clause-placed c = shuts_placed c.args.self.now c.args.bytes.now c.take_pieces.new.self c.in-Bytes.left.now c.requires.way (shuts (goal.at.take-requires-clause-placed c).In-Bytes)
 
 pub hold-rest-requires-clause-bytes : goal.hold-rest-requires-clause-bytes
 hold-rest-requires-clause-bytes c =

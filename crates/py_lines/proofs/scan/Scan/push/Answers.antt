@@ -38,3 +38,8 @@ returns-else-returned c = λ s read sound none not_yet tallies stacked.
     let elsewhere : c.args.self.now.piece.mode ≡ modes.Fielded → ⊥ = λ here. elim c.match-matches.branch [ in-Fielded w ↦ both_ways c.match-matches.matches c.if-matches.false w.matches-is | in_default w ↦ w.in_default.not-Fielded here ] in
     let returns : is_return_mode s.mode ≡ false = ap is_return_mode (sym tallies.counts.mode) ∙ sym c.is_return-returned.ensures ∙ c.if-returned.false in
     takes_closed c.args.self.now c.close.new.self s read c.args.c (met_so c.args.self.now s c.args.c moves.Closes elsewhere tallies c.in-Closes.ensures) (λ is. both_ways _ returns (ap is_return_mode is)) sound tallies stacked none (subst (λ (x : Scan). Closes x c.close.new.self) c.read.ensures c.in_ok-close-in-Closes.ensures)
+
+pub push_in_string-requires-clause-placed : goal.push_in_string-requires-clause-placed
+push_in_string-requires-clause-placed c =
+    let here : c.args.self.now.piece.mode ≡ modes.Fielded = elim c.match-matches.branch [ in-Fielded w ↦ w.in-Fielded.is | in_default w ↦ absurd (both_ways c.match-matches.matches w.matches-is c.if-matches.true) ] in
+    c.requires.placed here
