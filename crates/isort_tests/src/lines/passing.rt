@@ -144,7 +144,10 @@ impl Case for PassingPiece {
         let Ok(mut scanner) = Scanner::at(alloc, 2, 2) else {
             return false;
         };
-        self.0.len() < 100 && scanner.pass_lines(self.0, self.0.len()) == self.1
+        if scanner.fed() > 100 || self.0.len() > 100 {
+            return false;
+        }
+        scanner.pass_lines(self.0, self.0.len()) == self.1
     }
 }
 
