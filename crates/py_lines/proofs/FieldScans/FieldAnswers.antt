@@ -21,7 +21,7 @@ use Rattle.py_lines.specs.declared.frames.Frame.TheVariants as frame
 use Rattle.py_lines.specs.declared.field_scan.FieldScan.{FieldScan}
 use Rattle.py_lines.specs.declared.field_scan.FieldProgress.{FieldProgress}
 use Rattle.py_lines.specs.declared.field_scan.FieldProgress.TheVariants as progress
-use Rattle.py_lines.specs.Private.Machine.{Bracket, start_of}
+use Rattle.py_lines.specs.Private.Machine.{start_of}
 use Rattle.py_lines.specs.Private.FieldMachine.{FieldMode, body, after_brace, FieldMove, begins_code, opens_field, ends_field, refused, Level, FieldScanned, field_state, field_move, before, frames, has_room_at}
 use Rattle.py_lines.specs.Private.FieldFaults.{here}
 use Rattle.py_lines.specs.Private.ScanMachine.{host_in}

@@ -1,4 +1,4 @@
-use Rattle.std.proofs.Common.{Some, subst, take}
+use Rattle.std.proofs.Common.{subst, take}
 use Rattle.py_lines.specs.declared.prefix.Prefix.{Prefix}
 use Rattle.py_lines.specs.Private.Outline.{IsPrefix, tail_of}
 use Rattle.py_lines.proofs.SimpleLines.FieldStrings.{fields_at}

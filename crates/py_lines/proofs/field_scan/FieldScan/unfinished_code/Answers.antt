@@ -1,7 +1,6 @@
 use Rattle.std.proofs.Common.{Bool, sym, ap, ◌∙◌}
 use Rattle.std.specs.Prelude.{if◌then◌else◌}
 use Rattle.py_lines.specs.declared.fault.FaultKind.TheVariants.{OpenBracket, OpenField}
-use Rattle.py_lines.specs.Private.Frames.{in_bracket}
 use Rattle.py_lines.proofs.FieldScans.FieldFaults.{code_end}
 use Rattle.py_lines.proofs.field_scan.FieldScan.unfinished_code.Goals.{then-in_bracket, else-in_bracket}
 use Rattle.py_lines.proofs.field_scan.FieldScan.unfinished_code.Goals as goal
