@@ -176,6 +176,10 @@ const LISTED: &[Listed<'static>] = &[
         "p.py:1 indented import a\n",
         End::Fine,
     ),
+];
+
+/// Texts with a fault.
+const FAULTS: &[Listed<'static>] = &[
     Listed(b"import as\n", WHOLE, "", End::Fault(Kind::BadImport, 0, 1)),
     Listed(b"x = \"a\n", WHOLE, "", End::Fault(Kind::OpenString, 4, 1)),
     Listed(
@@ -208,6 +212,10 @@ const LISTED: &[Listed<'static>] = &[
         "p.py:3 import a\n",
         End::Fault(Kind::OpenField, 40, 5),
     ),
+];
+
+/// What the options ask for, and how many bytes are taken.
+const ASKED: &[Listed<'static>] = &[
     // What the options ask for.
     Listed(
         ALIKE,
@@ -229,22 +237,6 @@ const LISTED: &[Listed<'static>] = &[
     Listed(b"a = 1\n", (ALL, 5), "", TOO_LONG),
     Listed(b"a = 1\n", (ALL, 6), "", End::Fine),
 ];
-
-#[test]
-fn counts_brackets(rt: HostRuntime) -> Result<(), Fail> {
-    let text = brackets();
-    let rows = [
-        Listed(&text[1..401], WHOLE, "", End::Fine),
-        Listed(
-            &text[1..201],
-            WHOLE,
-            "",
-            End::Fault(Kind::OpenBracket, 199, 1),
-        ),
-        Listed(&text[..201], WHOLE, "", End::Fault(Kind::TooDeep, 200, 1)),
-    ];
-    each_holds_again(rt.alloc(), "rows", &rows)
-}
 
 /// A text, how its listing ends, and the lines of it and of another text, which is listed to the same writer.
 struct Followed(&'static [u8], End, &'static str);
@@ -274,8 +266,23 @@ const FOLLOWED: &[Followed] = &[
 
 #[test]
 fn lists_texts(rt: HostRuntime) -> Result<(), Fail> {
-    each_holds_again(rt.alloc(), "LISTED", LISTED)?;
-    each_holds_again(rt.alloc(), "FOLLOWED", FOLLOWED)
+    let alloc = rt.alloc();
+    let text = brackets();
+    let rows = [
+        Listed(&text[1..401], WHOLE, "", End::Fine),
+        Listed(
+            &text[1..201],
+            WHOLE,
+            "",
+            End::Fault(Kind::OpenBracket, 199, 1),
+        ),
+        Listed(&text[..201], WHOLE, "", End::Fault(Kind::TooDeep, 200, 1)),
+    ];
+    each_holds_again(alloc, "rows", &rows)?;
+    each_holds_again(alloc, "LISTED", LISTED)?;
+    each_holds_again(alloc, "FAULTS", FAULTS)?;
+    each_holds_again(alloc, "ASKED", ASKED)?;
+    each_holds_again(alloc, "FOLLOWED", FOLLOWED)
 }
 
 /// A text, what goes wrong with its reader, the options, how many bytes are taken, and how the listing of `import a`

@@ -58,11 +58,6 @@ const RUN_ERRORS: &[ErrorLine] = &[
     ),
 ];
 
-#[test]
-fn tells_errors(rt: HostRuntime) -> Result<(), Fail> {
-    each_holds_again(rt.alloc(), "RUN_ERRORS", RUN_ERRORS)
-}
-
 /// Lines of settings that are refused, the text of the error, and the line that tells of it.
 struct Refusal(&'static str, &'static str, &'static str);
 
@@ -131,8 +126,9 @@ fn tells_of_memory(alloc: Global) -> bool {
 }
 
 #[test]
-fn tells_of_settings(rt: HostRuntime) -> Result<(), Fail> {
+fn tells_errors_and_of_settings(rt: HostRuntime) -> Result<(), Fail> {
     let alloc = rt.alloc();
     all_are_so(&[tells_of_memory(alloc) || was_refused(alloc) && tells_of_memory(alloc)])?;
+    each_holds_again(alloc, "RUN_ERRORS", RUN_ERRORS)?;
     each_holds_again(alloc, "REFUSALS", REFUSALS)
 }

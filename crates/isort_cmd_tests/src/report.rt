@@ -79,6 +79,10 @@ const ROWS: &[Told] = &[
     Told("b.py", CHECK, CHANGED, "", UNSORTED, 1),
     Told("b.py", CHECK_TO_STDOUT, CHANGED, "", UNSORTED, 1),
     Told("b.py", LIST, CHANGED, "", "", 0),
+];
+
+/// Texts that stay as they are, and files that can't be read.
+const OTHERS: &[Told] = &[
     Told("b.py", SORT, SAME, "", "", 0),
     Told("b.py", CHECK, SAME, "", "", 0),
     Told("b.py", LIST, SAME, "", "", 0),
@@ -92,5 +96,6 @@ const ROWS: &[Told] = &[
 
 #[test]
 fn tells_of_files(rt: HostRuntime) -> Result<(), Fail> {
-    each_holds_again(rt.alloc(), "ROWS", ROWS)
+    each_holds_again(rt.alloc(), "ROWS", ROWS)?;
+    each_holds_again(rt.alloc(), "OTHERS", OTHERS)
 }
