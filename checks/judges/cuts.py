@@ -5,7 +5,7 @@
 
 PROGRAM is the built isort. The files are all `*.py` below the folders, or every N-th. For each file:
 
-- it is sent through a pipe in pieces of 1, 2, 3, 7, 4095, 4096, 8191 and 8192 bytes and of random sizes. The listing, the
+- it is sent through a pipe in pieces of 1, 2, 3, 7, 4095, 4096, 32767 and 32768 bytes and of random sizes. The listing, the
   sorted text and the fault are those of the whole file. Up to 4096 bytes each read gets one piece;
 - each 97th prefix of it, and as many copies of it with one byte changed, are listed and sorted. Both answer status 0, or
   status 1 with the same fault, in words that docs/MESSAGES.md has; and what was sorted is sorted.
@@ -25,7 +25,7 @@ from pathlib import Path
 
 LONGEST = 40_000
 STEP = 97
-PIECES = (1, 2, 3, 7, 4095, 4096, 8191, 8192)
+PIECES = (1, 2, 3, 7, 4095, 4096, 32767, 32768)
 PIPE_BUF = 4096
 
 # A status, and what was written to both outputs.

@@ -18,8 +18,8 @@ use isort_sort::{Last, Metered, write_whole};
 use std::alloc::Global;
 use std::io::{Read, Write};
 
-/// How many bytes a listing asks a read for: few, so that what has come is listed soon.
-const LIST_CHUNK: usize = 8192;
+/// How many bytes a listing asks a read for, which answers with fewer where no more have come.
+const LIST_CHUNK: usize = 32768;
 
 /// Looks at the byte that may be held after the last logical line: it may decide a fault.
 fn look_at_held(finder: &mut PieceFinder) -> Result<(), RunError>
@@ -190,7 +190,7 @@ impl Listing<'_> {
 /// Lists the imports of a Python text: reads `reader` to its end in chunks, and writes to `writer` one line for each
 /// import that is found, as soon as its logical line is whole: `path:line `, `indented ` where that line is, the
 /// statement, and a line feed. Lines count from 1. Before it reads on it flushes what it has written. It keeps the text
-/// of one logical line, and of what was read at most 8192 bytes more.
+/// of one logical line, and of what was read at most 32768 bytes more.
 ///
 /// `options` says which imports are found: with a key in `unique` the first under each key, and with `top_only` those
 /// before the first function or class, after which no fault counts. `max` is how many bytes the text may have.

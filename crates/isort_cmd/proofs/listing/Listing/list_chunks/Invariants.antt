@@ -9,7 +9,7 @@ use Rattle.isort_cmd.proofs.listing.Listing.list_chunks.Given as goal
 abbrev pub invariant-chunks : goal.invariant-chunks
 invariant-chunks g l = record {
   reader_fine : last_of l.reader ≡ Fine;
-  room : length l.buffer ≡ 8192;
+  room : length l.buffer ≡ 32768;
   takes : TakesInput (listing_state g.W.Write.contents l.initial.self l.initial.writer) l.max (g.R.Read.remaining (inner_of l.initial.reader)) (g.R.Read.remaining (inner_of l.reader)) (listing_state g.W.Write.contents l.self l.writer);
 }
 
