@@ -79,7 +79,8 @@ fn import_at(text: &[u8], start: usize, letter: usize) -> bool
     letter > start && stands_at(text, b"import", letter - 1) && may_begin(text, start, letter - 1)
 }
 
-/// The first byte, from `start` on, where a line begins, at which an import statement may begin, or the text's end.
+/// A byte, from `start` on, where a line begins, before which no import statement begins: the first at which one may begin, or the
+/// text's end.
 fn next_import(text: &[u8], start: usize) -> usize
     requires { start ≤ length text.now }
     ensures none { NoImportBegins text.now start result }
@@ -174,8 +175,9 @@ impl<'t> FirstWords<'t> {
         }
     }
 
-    /// The first byte, from `start` on, where a logical line begins, at which an import statement may begin, or the text's end. Words
-    /// in strings and comments may count too. Where no line begins at `start`, the text is searched anew.
+    /// A byte, from `start` on, where a logical line begins, before which no import statement begins. How far it lies from `start` is not
+    /// promised: it is the first byte at which one may begin by the text's bytes alone, or the text's end. Words in strings and comments
+    /// count too. Where no line begins at `start`, the text is searched anew.
     #[inline(always)]
     pub fn clear_up_to(&mut self, start: usize) -> usize
         requires { start ≤ length self.old }
