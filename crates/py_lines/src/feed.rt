@@ -373,8 +373,8 @@ impl Feed {
         ensures { LetsGo self.old self.new }
     {
         let stop = self.state.scan.stop;
-        self.state.place += stop as u64;
-        self.state.line = self.state.scan.count.line;
+        let line = self.state.scan.count.line;
+        self.state.pass(stop, line);
         self.ready = None;
         if stop == self.held.len() {
             self.held.clear();
@@ -412,8 +412,8 @@ impl Feed {
         if lines.len == 0 {
             return 0;
         }
-        self.state.place += lines.len as u64;
-        self.state.line += lines.line_ends;
+        let line = self.state.line + lines.line_ends;
+        self.state.pass(lines.len, line);
         self.state.restart();
         lines.len
     }

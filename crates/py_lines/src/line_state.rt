@@ -25,7 +25,7 @@ pub struct LineState {
 impl LineState {
     ghost use Rattle.py_lines.specs.Token.{EachLiesIn};
     ghost use Rattle.py_lines.specs.UnitLine.{line_in};
-    ghost use Rattle.py_lines.specs.Private.LineState.{BeginsAnew, IsEndLineFault, KeepsFault, BeginsAt, first_mode, scanned_line};
+    ghost use Rattle.py_lines.specs.Private.LineState.{BeginsAnew, IsEndLineFault, KeepsFault, BeginsAt, first_mode, passed, scanned_line};
 
     /// At this byte of a text, which is on this line. Nothing of the next line is read.
     pub fn at(alloc: Global, place: u64, line: u64) -> LineState
@@ -39,6 +39,25 @@ impl LineState {
         };
         state.restart();
         state
+    }
+
+    /// The byte up to which lines were read, and its line.
+    #[inline(always)]
+    pub fn reached(&self) -> (u64, u64)
+        ensures place { result.0 ≡ self.now.place }
+        ensures line { result.1 ≡ self.now.line }
+    {
+        (self.place, self.line)
+    }
+
+    /// Lines of so many bytes were read: the next one begins on this line.
+    #[inline(always)]
+    pub fn pass(&mut self, len: usize, line: u64)
+        requires { self.old.place + len < 2 ^ 64 }
+        ensures { self.new ≡ passed self.old len line }
+    {
+        self.place += len as u64;
+        self.line = line;
     }
 
     /// What is open where a line begins: a mark may stand at the text's start.

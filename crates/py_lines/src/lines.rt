@@ -62,14 +62,14 @@ impl<'t> Lines<'t> {
     pub fn offset(&self) -> u64
         ensures { result ≡ self.now.place }
     {
-        self.source.state.place
+        self.source.state.reached().0
     }
 
     /// The line of that byte, from 1.
     pub fn line(&self) -> u64
         ensures { result ≡ self.now.line }
     {
-        self.source.state.line
+        self.source.state.reached().1
     }
 
     /// The next logical line (2.1.1), lent out of the text and this reader; `None` after the last one, for good.

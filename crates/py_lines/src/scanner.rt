@@ -121,14 +121,14 @@ impl Scanner {
     pub fn offset(&self) -> u64
         ensures { result ≡ self.now.place }
     {
-        self.feed.state.place
+        self.feed.state.reached().0
     }
 
     /// The line of that byte, from 1.
     pub fn line(&self) -> u64
         ensures { result ≡ self.now.line }
     {
-        self.feed.state.line
+        self.feed.state.reached().1
     }
 
     /// The text fed since the line that was released last.
@@ -142,6 +142,6 @@ impl Scanner {
     pub fn fed(&self) -> u64
         ensures { result ≡ fed_of self.now }
     {
-        self.feed.state.place + self.feed.held.len() as u64
+        self.feed.state.reached().0 + self.feed.held.len() as u64
     }
 }

@@ -93,9 +93,10 @@ impl<'t> Source<'t> {
             ≤ self.old.state.place + self.old.state.scan.stop + 1 }
         ensures { GivesLine self.old end_len self.new }
     {
+        let len = self.state.scan.stop;
+        let line = self.state.scan.count.line;
         self.start = self.state.place as usize;
-        self.state.place += self.state.scan.stop as u64;
-        self.state.line = self.state.scan.count.line;
+        self.state.pass(len, line);
         self.end_len = end_len;
     }
 
@@ -180,8 +181,8 @@ impl<'t> Source<'t> {
             return 0;
         }
         let lines = simple_lines(&self.characters.as_bytes()[place..before]);
-        self.state.place += lines.len as u64;
-        self.state.line += lines.line_ends;
+        let line = self.state.line + lines.line_ends;
+        self.state.pass(lines.len, line);
         lines.len
     }
 

@@ -19,6 +19,10 @@ abbrev pub first_mode : ℕ → Mode
 first_mode zero = modes.Start
 first_mode (suc n) = modes.Free
 
+-- after lines of so many bytes: the next one begins on this line
+abbrev pub passed : LineState → ℕ → ℕ → LineState
+passed s len line = record s { place = s.place + len; line = line }
+
 -- the logical line that a scan has closed: this text at this byte, with so many bytes of line end
 abbrev pub scanned_line : Scan → List ℕ → ℕ → ℕ → LogicalLine
 scanned_line scan text offset end_len = record {

@@ -1,7 +1,11 @@
-use Rattle.std.proofs.Common.{◌≡◌, ℕ, ◌-◌, ◌∙◌, false, is_some, Some, None, Option, List, take, drop, sym, subst, arith, refl, rules}
+use Rattle.std.proofs.Common.{◌≡◌, ℕ, ◌-◌, ◌∙◌, false, is_some, Some, None, Option, List, take, drop, ap, sym, subst, arith, refl, rules}
+use Rattle.std.specs.Str.{IsCharBoundary}
 use Rattle.py_lines.specs.declared.fault.Fault.{Fault}
+use Rattle.py_lines.specs.declared.line_state.LineState.{LineState}
 use Rattle.py_lines.specs.declared.plain_strings.Passed.{Passed}
 use Rattle.py_lines.specs.declared.source.Source.{Source}
+use Rattle.py_lines.specs.Lines.{PassesUpTo}
+use Rattle.py_lines.specs.Reader.View.{reader_of}
 use Rattle.py_lines.specs.Private.Outline.{BeginWithLines}
 use Rattle.py_lines.proofs.Readers.PassedLines.{boundary, few, passes_up_to, room}
 use Rattle.py_lines.proofs.source.Source.pass_lines.Goals as goal
@@ -14,8 +18,8 @@ none_is (Some f) h = absurd (cc)
 found : (s : Source) (before : ℕ) (characters : List ℕ) (p : Passed) → characters ≡ s.characters.now → BeginWithLines (take (before - s.state.place) (drop s.state.place characters)) p → BeginWithLines (take (before - s.state.place) (drop s.state.place s.characters.now)) p
 found s before characters p same lines = subst (λ (t : List ℕ). BeginWithLines (take (before - s.state.place) (drop s.state.place t)) p) same lines
 
-pub overflow_add-self-2 : goal.overflow_add-self-2
-overflow_add-self-2 c =
+pub overflow_add-line : goal.overflow_add-line
+overflow_add-line c =
     let s = c.args.self.now in
     let lines = found s c.args.before c.as_bytes.result.now c.simple_lines-lines.result c.as_bytes.ensures.value c.simple_lines-lines.ensures in
     let no_fault = none_is s.state.fault (sym c.is_some.ensures ∙ c.if-is_some.false) in
@@ -33,15 +37,17 @@ invariant_of-self c =
     let no_fault = none_is s.state.fault (sym c.is_some.ensures ∙ c.if-is_some.false) in
     let less = few s c.if-place-eq0.false no_fault c.args.before c.if-place-before.false c.if-before-self.false c.simple_lines-lines.result lines in
     let place = room s c.if-place-eq0.false no_fault c.args.before c.if-place-before.false c.if-before-self.false c.simple_lines-lines.result lines in
+    let moved = ap (λ (t : LineState). t.place) c.pass.ensures in
+    let row = ap (λ (t : LineState). t.line) c.pass.ensures in
     record {
       text = s.text;
       prefix = s.prefix;
       bad = s.bad;
-      ordered = omega (arith, s.ordered);
-      within = omega (arith, place, c.if-before-self.false);
-      boundary = boundary s c.if-place-eq0.false no_fault c.args.before c.if-place-before.false c.if-before-self.false c.simple_lines-lines.result lines;
+      ordered = omega (arith, moved, s.ordered);
+      within = omega (arith, moved, place, c.if-before-self.false);
+      boundary = subst (IsCharBoundary s.characters.now) (sym moved) (boundary s c.if-place-eq0.false no_fault c.args.before c.if-place-before.false c.if-before-self.false c.simple_lines-lines.result lines);
       start_boundary = s.start_boundary;
-      few_lines = omega (arith, less, s.few_lines);
+      few_lines = omega (arith, moved, row, less, s.few_lines);
     }
 
 pub returns : goal.returns
@@ -49,4 +55,4 @@ returns c =
     let s = c.args.self.now in
     let lines = found s c.args.before c.as_bytes.result.now c.simple_lines-lines.result c.as_bytes.ensures.value c.simple_lines-lines.ensures in
     let no_fault = none_is s.state.fault (sym c.is_some.ensures ∙ c.if-is_some.false) in
-    passes_up_to s c.if-place-eq0.false no_fault c.args.before c.if-place-before.false c.if-before-self.false c.simple_lines-lines.result lines
+    subst (λ (t : LineState). PassesUpTo (reader_of s) c.args.before c.simple_lines-lines.result.len (record { text = s.bytes.now; place = t.place; line = t.line; fault = t.fault })) (sym c.pass.ensures) (passes_up_to s c.if-place-eq0.false no_fault c.args.before c.if-place-before.false c.if-before-self.false c.simple_lines-lines.result lines)
