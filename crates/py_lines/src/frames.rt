@@ -71,8 +71,9 @@ impl Frames {
     pub fn new() -> Frames
         ensures { result ≡ [] }
     {
+        // All are zero, so the compiler fills the array without a loop.
         Frames {
-            frames: [Frame::Bracket('(', 0); 256],
+            frames: [Frame::Bracket('\0', 0); 256],
             depth: 0,
         }
     }
