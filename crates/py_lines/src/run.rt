@@ -1,20 +1,20 @@
 //! Runs of bytes that leave the open piece as it is.
 
-ghost use Rattle.std.specs.Prelude.{◌≡◌, ◌<◌, ◌≤◌, ◌==◌, ℕ, Bool, true, List, length};
+ghost use Rattle.std.specs.Prelude.{◌≡◌, ◌<◌, ◌≤◌, ◌==◌, true, length};
 ghost use Rattle.py_lines.specs.Character.{is_space};
 ghost use Rattle.py_lines.specs.declared.mode.Mode.TheVariants.{Word};
-ghost use Rattle.py_lines.specs.Private.Run.{BeginsSo, CountsSet, HasAsciiQuote, HasRun, IsRunOf, IsWholeComment};
+ghost use Rattle.py_lines.specs.Private.Run.{BeginsSo, CountsSet, HasAsciiQuote, IsRunOf, IsWholeComment};
 ghost use Rattle.py_lines.specs.Private.Run.{IsWordBeforeMore, Marks, Spans, is_between, is_in_run, is_ascii_word};
 ghost use Rattle.py_lines.specs.Private.Run.{is_comment_byte, is_body_byte, is_text_byte, is_literal_byte};
 ghost use Rattle.py_lines.specs.Private.Run.{is_code_byte, is_code_sign, is_remark_byte, stays};
 
-use crate::character::{is_brace, is_break};
+use crate::character::is_break;
 use crate::mode::{Mode, Spelling};
 use crate::run::FirstByte::{
     Backslash as K, Bracket as B, Hash as H, LineFeed as L, Operator as O, Other as X, Quote as Q,
     Return as R, Space as S, Word as W,
 };
-use crate::utf8::{is_utf8, utf8_len};
+use crate::utf8::utf8_len;
 use std::simd::prelude::*;
 
 /// Whether the byte is an ASCII letter, a digit or the underscore.
@@ -23,23 +23,6 @@ pub fn is_ascii_word(b: u8) -> bool
     ensures { result ≡ is_ascii_word b }
 {
     b.is_ascii_lowercase() || matches!(b, b'A'..=b'Z' | b'0'..=b'9' | b'_')
-}
-
-/// Whether the byte is a space, a tab or a form feed.
-#[tactic(auto, unfolding(crate::specs::Character::is_space))]
-fn is_space_byte(b: u8) -> bool
-    ensures { result ≡ is_space b }
-{
-    matches!(b, b' ' | b'\t' | b'\x0c')
-}
-
-/// Whether the byte neither closes a string of this quote nor escapes in it, and ends no line.
-#[tactic(auto, unfolding(crate::specs::Private::Run::is_body_byte))]
-fn is_body_byte(quote: u8, b: u8) -> bool
-    ensures { result ≡ is_body_byte quote b }
-{
-    // Most bytes are letters, which come after the backslash.
-    b != quote && (b > b'\\' || !matches!(b, b'\\' | b'\n' | b'\r'))
 }
 
 /// What a piece begins with, where it is ASCII and closed pieces stand before.
@@ -80,42 +63,6 @@ static FIRST_BYTES: [FirstByte; 256] = [
     X, X, X, X, X, X, X, X, X, X, X, X, X, X, X, X, X, X, X, X, X, X, X, X, X, X, X, X, X, X, X, X,
     X, X, X, X, X, X, X, X, X, X, X, X, X, X, X, X, X, X, X, X, X, X, X, X, X, X, X, X, X, X, X, X,
 ];
-
-/// Whether the byte is ASCII, and neither closes a string of this quote nor escapes in it, and ends no line.
-fn is_text_byte(quote: u8, b: u8) -> bool
-    ensures { result ≡ is_text_byte quote b }
-{
-    is_body_byte(quote, b) && b < 128
-}
-
-/// The same in a string with fields, where the byte is no brace either.
-fn is_literal_byte(quote: u8, b: u8) -> bool
-    ensures { result ≡ is_literal_byte quote b }
-{
-    is_text_byte(quote, b) && !is_brace(b as char)
-}
-
-/// Whether the byte is a space or one of the operators `!`, `=` and those from `*` to `/`, which code in fields has mostly.
-#[tactic(auto, unfolding(crate::specs::Private::Run::is_code_sign))]
-fn is_code_sign(b: u8) -> bool
-    ensures { result ≡ is_code_sign b }
-{
-    matches!(b, b'*'..=b'/' | b' '..=b'!' | b'=')
-}
-
-/// The same, or a byte of words.
-fn is_code_byte(b: u8) -> bool
-    ensures { result ≡ is_code_byte b }
-{
-    is_ascii_word(b) || is_code_sign(b)
-}
-
-/// Whether the byte is ASCII, and ends no line.
-fn is_remark_byte(b: u8) -> bool
-    ensures { result ≡ is_remark_byte b }
-{
-    !is_break(b as char) && b < 128
-}
 
 /// The lanes whose bytes are from `low` to `high`.
 #[inline(always)]
@@ -246,21 +193,6 @@ pub enum ByteRun {
 }
 
 impl ByteRun {
-    /// Whether the byte is one of them.
-    fn holds(self, b: u8) -> bool
-        ensures { result ≡ is_in_run self b }
-    {
-        match self {
-            ByteRun::Word => is_ascii_word(b),
-            ByteRun::Space => is_space_byte(b),
-            ByteRun::Body(quote) => is_body_byte(quote, b),
-            ByteRun::Text(quote) => is_text_byte(quote, b),
-            ByteRun::Literal(quote) => is_literal_byte(quote, b),
-            ByteRun::Code => is_code_byte(b),
-            ByteRun::Remark => is_remark_byte(b),
-        }
-    }
-
     /// The lanes that hold such bytes.
     #[inline(always)]
     fn mark(self, lanes: u8x16) -> u8x16
@@ -303,15 +235,15 @@ impl ByteRun {
         len + self.short_len_in(&bytes[len..])
     }
 
-    /// The same, a byte at a time.
+    /// The same, where the text has fewer than sixteen.
     fn short_len_in(self, bytes: &[u8]) -> usize
+        requires { length bytes.now < 16 }
         ensures { IsRunOf (is_in_run self) bytes.now result }
     {
-        let mut len = 0;
-        while len < bytes.len() && self.holds(bytes[len]) {
-            len += 1;
-        }
-        len
+        // LF ends each run.
+        let mut block = [b'\n'; 16];
+        block[..bytes.len()].copy_from_slice(bytes);
+        set_first(self.mark(u8x16::from_array(block)))
     }
 }
 
@@ -387,7 +319,7 @@ pub fn whole_comment(bytes: &[u8]) -> Option<usize>
     }
     let rest = &bytes[ascii..];
     let run = comment_run(rest);
-    if run == rest.len() || !is_utf8(&rest[..run]) {
+    if run == rest.len() || utf8_len(&rest[..run]) < run {
         return None;
     }
     Some(ascii + run)

@@ -80,14 +80,6 @@ pub fn utf8_len(bytes: &[u8]) -> usize
     }
 }
 
-/// Whether the bytes are UTF-8.
-#[inline(always)]
-pub fn is_utf8(bytes: &[u8]) -> bool
-    ensures { IsTrue result → IsUtf8 bytes.now }
-{
-    is_short_ascii(bytes) || std::str::from_utf8(bytes).is_ok()
-}
-
 /// The character that the bytes begin with, if they begin with one.
 #[inline(always)]
 pub fn first_character(bytes: &[u8]) -> Option<char>

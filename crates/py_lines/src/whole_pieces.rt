@@ -1,15 +1,14 @@
 //! Pieces that bytes hold whole. Each is taken at once, after closed ones.
 
-ghost use Rattle.std.specs.Prelude.{◌≡◌, ◌+◌, ◌<◌, ◌^◌, true, false, length, slice_index, OnOk, IfOk};
-ghost use Rattle.py_lines.specs.Character.{is_hash, is_operator, is_quote, is_return, is_space};
+ghost use Rattle.std.specs.Prelude.{◌≡◌, ◌+◌, ◌<◌, ◌^◌, true, false, length, slice_index, IfOk};
+ghost use Rattle.py_lines.specs.Character.{is_hash, is_quote, is_return, is_space};
 ghost use Rattle.py_lines.specs.Piece.{begins};
 ghost use Rattle.py_lines.specs.Private.Scan.{stack_of};
 ghost use Rattle.py_lines.specs.Private.Run.{WhereverReached, is_free, opened, AddsTokens, FindsToken, IsSpaceAfter};
-ghost use Rattle.py_lines.specs.Private.Run.{IsWholeWord, MeetsToken, TakesTokens, follows_space, AddsToken, TakesRun};
-ghost use Rattle.py_lines.specs.Private.Run.{TakesText, TakesBracket, TakesFields, TakesLineFeed, TakesReturn};
-ghost use Rattle.py_lines.specs.Private.Run.{TakesPiece, TakesRemark, line_ended, word_mode, space_mode, IsNoLonger};
+ghost use Rattle.py_lines.specs.Private.Run.{IsWholeWord, MeetsToken, follows_space};
+ghost use Rattle.py_lines.specs.Private.Run.{TakesLineFeed, TakesMargin, TakesReturn};
+ghost use Rattle.py_lines.specs.Private.Run.{TakesPiece, TakesRemark, line_ended, IsNoLonger};
 ghost use Rattle.py_lines.specs.Private.Run.{LeavesOff, is_ascii_word, follows, may_begin};
-ghost use Rattle.py_lines.specs.Token.{is_comment};
 
 use crate::character::is_line_feed;
 use crate::mode::{Mode, Spelling};
@@ -57,32 +56,6 @@ impl Scan {
         self.count.after_return = false;
     }
 
-    /// A token of so many bytes, none of which ends a line, after closed pieces. It is no comment.
-    fn add(&mut self, kind: TokKind, len: usize) -> Result<(), AllocError>
-        requires bytes { self.old.stop + len < 2 ^ 64 }
-        requires no_comment { is_comment kind ≡ false }
-        ensures { OnOk result (AddsToken self.old kind len self.new) }
-    {
-        let start = self.stop;
-        let stop = start + len;
-        let line = self.count.line;
-        self.push_token(Token {
-            kind,
-            start,
-            stop,
-            line,
-        })?;
-        self.piece = OpenPiece {
-            mode: Mode::Free,
-            start: stop,
-            line,
-        };
-        self.stop = stop;
-        self.count.after_return = false;
-        self.margin = false;
-        Ok(())
-    }
-
     /// Whether a piece that may stand next begins so, other than a string.
     #[inline(always)]
     fn follows(&self, byte: u8) -> bool
@@ -108,18 +81,7 @@ impl Scan {
         }
     }
 
-    /// Whether the bytes begin with a piece that may stand next, other than a string.
-    #[inline(always)]
-    fn is_followed(&self, bytes: &[u8]) -> bool
-        ensures { result ≡ true → begins (follows (stack_of self.now.brackets)) bytes.now ≡ true }
-    {
-        match bytes.first().copied() {
-            Some(byte) => self.follows(byte),
-            None => false,
-        }
-    }
-
-    /// The same, or with a string.
+    /// Whether the bytes begin with a piece that may stand next.
     #[inline(always)]
     fn is_begun(&self, bytes: &[u8]) -> bool
         ensures { result ≡ true → begins (may_begin (stack_of self.now.brackets)) bytes.now ≡ true }
@@ -130,37 +92,15 @@ impl Scan {
         }
     }
 
-    /// Takes the word that the bytes begin with, after closed pieces, and answers its length.
-    fn take_word(&mut self, bytes: &[u8]) -> Result<usize, AllocError>
-        requires bytes { self.old.stop + length bytes.now < 2 ^ 64 }
-        requires begins { begins is_ascii_word bytes.now ≡ true }
-        ensures { IfOk result
-            (λ len. TakesRun is_ascii_word follows word_mode self.old bytes.now len self.new) }
-    {
-        let len = ByteRun::Word.len_in(bytes);
-        if !self.is_followed(&bytes[len..]) {
-            self.open(Mode::Word(Spelling::of_word(&bytes[..len])), len);
-            return Ok(len);
-        }
-        let kind = if bytes[0].is_ascii_digit() {
-            TokKind::Number
-        } else {
-            TokKind::Name
-        };
-        self.add(kind, len)?;
-        Ok(len)
-    }
-
-    /// Takes the space that the bytes begin with, after closed pieces, and answers its length.
-    fn take_space(&mut self, bytes: &[u8]) -> usize
+    /// Takes the space that the bytes begin with, after closed pieces, if a piece that may follow begins after it.
+    fn take_space(&mut self, bytes: &[u8]) -> Taken
         requires bytes { self.old.stop + length bytes.now < 2 ^ 64 }
         requires begins { begins is_space bytes.now ≡ true }
-        ensures { TakesRun is_space may_begin space_mode self.old bytes.now result self.new }
+        ensures { TakesMargin self.old bytes.now result self.new }
     {
         let len = ByteRun::Space.len_in(bytes);
         if !self.is_begun(&bytes[len..]) {
-            self.open(Mode::Space, len);
-            return len;
+            return Taken::Nothing;
         }
         if self.margin {
             self.indent = len;
@@ -169,50 +109,7 @@ impl Scan {
         self.stop += len;
         self.count.after_return = false;
         self.free();
-        len
-    }
-
-    /// Takes the string that the bytes begin with, after closed pieces: where it is short, ASCII and has no escape.
-    fn take_string(&mut self, bytes: &[u8]) -> Result<Taken, AllocError>
-        requires bytes { self.old.stop + length bytes.now < 2 ^ 64 }
-        requires begins { begins is_quote bytes.now ≡ true }
-        ensures { TakesText self.old bytes.now result self.new }
-    {
-        let Some(len) = whole_plain_string(bytes) else {
-            return Ok(Taken::Nothing);
-        };
-        self.add(TokKind::Str, len)?;
-        Ok(Taken::Bytes(len))
-    }
-
-    /// Takes the string with fields that the bytes begin with, after closed pieces: where it is short and its text is simple, and
-    /// there is room for all that such a text opens.
-    fn take_string_with_fields(&mut self, bytes: &[u8]) -> Result<Taken, AllocError>
-        requires bytes { self.old.stop + length bytes.now < 2 ^ 64 }
-        ensures { TakesFields self.old bytes.now result self.new }
-    {
-        let Some(len) = whole_string_with_fields(bytes) else {
-            return Ok(Taken::Nothing);
-        };
-        if self.brackets.len() > 100 {
-            return Ok(Taken::Nothing);
-        }
-        self.add(TokKind::Str, len)?;
-        Ok(Taken::Bytes(len))
-    }
-
-    /// Takes the bracket that the bytes begin with, after closed pieces, if it may stand there.
-    fn take_bracket(&mut self, bytes: &[u8]) -> Result<Taken, AllocError>
-        requires bytes { self.old.stop + length bytes.now < 2 ^ 64 }
-        requires begins { begins is_operator bytes.now ≡ true }
-        ensures { TakesBracket self.old bytes.now result self.new }
-    {
-        let bracket = bytes[0];
-        if !self.brackets.meet(bracket as char, self.stop)? {
-            return Ok(Taken::Nothing);
-        }
-        self.add(TokKind::Op(bracket), 1)?;
-        Ok(Taken::Bytes(1))
+        Taken::Bytes(len)
     }
 
     /// Takes the comment that the bytes begin with, after closed pieces, if it is whole characters and a line end follows it.
@@ -437,72 +334,27 @@ impl Scan {
         Ok(bytes.len() - rest.len())
     }
 
-    /// Takes the tokens that follow one another from here on, after closed pieces, with the space between them, and answers
-    /// how many bytes they have.
+    /// Takes the tokens that follow one another from here on, after closed pieces, with the space between them.
     #[inline(always)]
-    fn take_tokens(&mut self, bytes: &[u8]) -> Result<usize, AllocError>
+    fn take_tokens(&mut self, bytes: &[u8]) -> Result<Taken, AllocError>
         requires free { is_free self.old.piece.mode ≡ true }
         requires bytes { self.old.stop + length bytes.now < 2 ^ 64 }
-        ensures { TakesTokens self.old bytes.now result self.new }
+        ensures { TakesPiece self.old bytes.now result self.new }
     {
         let len = self.add_tokens(bytes)?;
-        if len > 0 {
-            self.stop += len;
-            self.count.after_return = false;
-            self.margin = false;
-            self.kind = UnitKind::Code;
-            self.stay_free();
+        if len == 0 {
+            return Ok(Taken::Nothing);
         }
-        Ok(len)
+        self.stop += len;
+        self.count.after_return = false;
+        self.margin = false;
+        self.kind = UnitKind::Code;
+        self.stay_free();
+        Ok(Taken::Bytes(len))
     }
 
-    /// Takes the word that the bytes begin with, after closed pieces, or the string with fields whose prefix it is.
-    fn take_word_or_string(&mut self, bytes: &[u8]) -> Result<Taken, AllocError>
-        requires bytes { self.old.stop + length bytes.now < 2 ^ 64 }
-        requires begins { begins is_ascii_word bytes.now ≡ true }
-        ensures { TakesPiece self.old bytes.now result self.new }
-    {
-        match self.take_string_with_fields(bytes)? {
-            Taken::Nothing => Ok(Taken::Bytes(self.take_word(bytes)?)),
-            taken => Ok(taken),
-        }
-    }
-
-    /// Takes the word, the string with fields or the operator that the bytes begin with, after closed pieces.
-    fn take_token(&mut self, bytes: &[u8]) -> Result<Taken, AllocError>
-        requires bytes { self.old.stop + length bytes.now < 2 ^ 64 }
-        requires some { 0 < length bytes.now }
-        ensures { TakesPiece self.old bytes.now result self.new }
-    {
-        let first = bytes[0];
-        match FirstByte::of(first) {
-            FirstByte::Word => self.take_word_or_string(bytes),
-            FirstByte::Operator => {
-                self.add(TokKind::Op(first), 1)?;
-                Ok(Taken::Bytes(1))
-            }
-            FirstByte::Bracket => self.take_bracket(bytes),
-            _ => Ok(Taken::Nothing),
-        }
-    }
-
-    /// Takes the tokens that the bytes begin with, after closed pieces: all that follow one another, or one.
-    #[inline(always)]
-    fn take_tokens_or_one(&mut self, bytes: &[u8]) -> Result<Taken, AllocError>
-        requires free { is_free self.old.piece.mode ≡ true }
-        requires bytes { self.old.stop + length bytes.now < 2 ^ 64 }
-        requires some { 0 < length bytes.now }
-        ensures { TakesPiece self.old bytes.now result self.new }
-    {
-        let len = self.take_tokens(bytes)?;
-        if len > 0 {
-            return Ok(Taken::Bytes(len));
-        }
-        self.take_token(bytes)
-    }
-
-    /// Takes the piece that the bytes begin with, after closed pieces: a word, space, an operator, a string, a comment or a
-    /// line end; or several words and operators.
+    /// Takes the piece that the bytes begin with, after closed pieces: space, a comment, a line end, or tokens that follow one
+    /// another.
     #[inline(always)]
     fn take_piece(&mut self, bytes: &[u8]) -> Result<Taken, AllocError>
         requires free { is_free self.old.piece.mode ≡ true }
@@ -518,11 +370,10 @@ impl Scan {
             return Ok(self.take_feed());
         }
         match FirstByte::of(first) {
-            FirstByte::Word | FirstByte::Operator | FirstByte::Bracket => self.take_tokens_or_one(
-                bytes,
-            ),
-            FirstByte::Space => Ok(Taken::Bytes(self.take_space(bytes))),
-            FirstByte::Quote => self.take_string(bytes),
+            FirstByte::Word | FirstByte::Operator | FirstByte::Bracket | FirstByte::Quote => {
+                self.take_tokens(bytes)
+            }
+            FirstByte::Space => Ok(self.take_space(bytes)),
             FirstByte::Return => Ok(self.take_return(bytes)),
             FirstByte::Hash => self.take_comment(bytes),
             FirstByte::LineFeed | FirstByte::Backslash | FirstByte::Other => Ok(Taken::Nothing),

@@ -21,7 +21,6 @@ use Rattle.py_lines.proofs.LineScan.Comments.{comment_goes, comment_reached}
 use Rattle.py_lines.proofs.LineScan.LineStops.{ShutsTo, StopsNow, TakesTo, goes_character, stops_line}
 use Rattle.py_lines.proofs.LineScan.Runs.{space_low}
 use Rattle.py_lines.proofs.LineScan.ShortPieces.{Goes, ascii_scalar, free_is, run_goes, shut_from, space_reached}
-use Rattle.py_lines.proofs.LineScan.WholeStrings.{token_goes, token_reached}
 
 -- LF, as the bytes spell it
 feed_spell : (bytes : List ℕ) → BeginsWithFeed bytes → 10 ∷ drop 1 bytes ≡ bytes
@@ -57,12 +56,11 @@ module _ (first : Scan) (text : List ℕ) (old new : Scan) (bytes : List ℕ) (f
       is = free_is old.piece.mode free
 
       go : TakesPieceInLine old bytes len new → ReachedShut m at whole new (drop len bytes)
-      go (inl token) = token_reached m at whole old new bytes len is before start token
-      go (inr (inl space)) = space_reached m at whole old new bytes len is before start space
-      go (inr (inr (inl remark))) = comment_reached m at whole old new bytes len is before start remark
-      go (inr (inr (inr (inl (inl (feeds, feed)))))) = feed_goes len feeds feed m at whole start r
-      go (inr (inr (inr (inl (inr returns))))) = return_goes first text old bytes free shuts new len returns m at whole start r
-      go (inr (inr (inr (inr (some, tokens))))) = tokens.leads m at whole start before
+      go (inl space) = space_reached m at whole old new bytes len is before start space
+      go (inr (inl remark)) = comment_reached m at whole old new bytes len is before start remark
+      go (inr (inr (inl (inl (feeds, feed))))) = feed_goes len feeds feed m at whole start r
+      go (inr (inr (inl (inr returns)))) = return_goes first text old bytes free shuts new len returns m at whole start r
+      go (inr (inr (inr tokens))) = tokens.leads m at whole start before
 
   -- where nothing was taken
   pub none_goes : TakesPiece old bytes (Ok taken.Nothing) new → ShutsTo first text new bytes
@@ -93,9 +91,8 @@ feed_far old new bytes len feeds (one, begun) =
     }
 
 pub piece_far : (old new : Scan) (bytes : List ℕ) (len : ℕ) → TakesPiece old bytes (Ok (taken.Bytes len)) new → Goes old bytes len new
-piece_far old new bytes len (inl token) = token_goes old new bytes len token
-piece_far old new bytes len (inr (inl space)) = run_goes is_space may_begin space_mode old new bytes len space_low space
-piece_far old new bytes len (inr (inr (inl remark))) = comment_goes old new bytes len remark
-piece_far old new bytes len (inr (inr (inr (inl (inl (feeds, feed)))))) = feed_far old new bytes len feeds feed
-piece_far old new bytes len (inr (inr (inr (inl (inr returns))))) = return_far old new bytes len returns
-piece_far old new bytes len (inr (inr (inr (inr (some, tokens))))) = record { stop = tokens.stop; some = some; within = tokens.within; lines = omega (arith, tokens.line) }
+piece_far old new bytes len (inl space) = run_goes is_space may_begin space_mode old new bytes len space_low space
+piece_far old new bytes len (inr (inl remark)) = comment_goes old new bytes len remark
+piece_far old new bytes len (inr (inr (inl (inl (feeds, feed))))) = feed_far old new bytes len feeds feed
+piece_far old new bytes len (inr (inr (inl (inr returns)))) = return_far old new bytes len returns
+piece_far old new bytes len (inr (inr (inr tokens))) = record { stop = tokens.stop; some = tokens.some; within = tokens.within; lines = omega (arith, tokens.line) }

@@ -1,12 +1,11 @@
 -- Words, spaces and operators that runs of bytes spell are taken whole.
-use Rattle.std.proofs.Common.{◌≡◌, ℕ, zero, suc, ◌+◌, ◌-◌, ◌<◌, ◌≤◌, ◌⊎◌, inl, inr, Bool, true, false, cond, not, ◌||◌, ◌&&◌, Some, Ok, List, [], ◌∷◌, ◌++◌, length, take, drop, slice_index, slice_get, refl, sym, ap, ◌∙◌, subst, append_assoc, append-nil, arith, ⊎_elim, take-append-drop, length-append, lit<, take_all, length-drop}
+use Rattle.std.proofs.Common.{◌≡◌, ℕ, zero, suc, ◌+◌, ◌-◌, ◌<◌, ◌≤◌, inl, inr, Bool, true, false, cond, not, ◌||◌, ◌&&◌, Some, Ok, List, [], ◌∷◌, ◌++◌, length, take, drop, slice_index, slice_get, refl, sym, ap, ◌∙◌, subst, append_assoc, append-nil, arith, ⊎_elim, take-append-drop, length-append, lit<, take_all, length-drop}
 use Rattle.std.specs.Prelude.{encode_utf8_all, encode_utf8, codes, nat_lt}
 use Rattle.std.specs.Str.{all_scalars}
 use Rattle.std.specs.List.{list_all}
 use Rattle.std.specs.Char.{is_ascii_digit, IsScalar}
 use Rattle.std.proofs.lemmas.Bool.{and_parts, and_from, and_right, or_cases, both_ways, eq-eqb}
 use Rattle.std.proofs.lemmas.Bool.Decides.{nat_tests}
-use Rattle.std.proofs.lemmas.List.Folds.{list_all-append}
 use Rattle.std.proofs.lemmas.List.{length-take-le}
 use Rattle.std.proofs.lemmas.Str.{encode_ascii, len_utf8_ascii, encodes-append}
 use Rattle.std.proofs.Math.Utf8.{low_scalar}
@@ -112,10 +111,10 @@ space_closes old len indent is =
     }
 
 -- the run that a piece is made of
-pub takes_run : (passes : ℕ → Bool) (next : List Bracket → ℕ → Bool) (mode_of : List ℕ → Mode) (old : Scan) (bytes : List ℕ) (len : ℕ) (new : Scan) → IsRunOf passes bytes len → begins passes bytes ≡ true → (new ≡ opened old (mode_of (take len bytes)) len) ⊎ (Closes (opened old (mode_of (take len bytes)) len) new × (begins (next (stack_of old.brackets)) (drop len bytes) ≡ true)) → TakesRun passes next mode_of old bytes len new
-takes_run passes next mode_of old bytes len new is some how =
+pub takes_run : (passes : ℕ → Bool) (next : List Bracket → ℕ → Bool) (mode_of : List ℕ → Mode) (old : Scan) (bytes : List ℕ) (len : ℕ) (new : Scan) → IsRunOf passes bytes len → begins passes bytes ≡ true → Closes (opened old (mode_of (take len bytes)) len) new → begins (next (stack_of old.brackets)) (drop len bytes) ≡ true → TakesRun passes next mode_of old bytes len new
+takes_run passes next mode_of old bytes len new is some closes shows =
     let r = run_of passes bytes len is some in
-    record { run = take len bytes; after = drop len bytes; spell = r.spell; size = r.size; full = r.full; all = r.all; ends = r.ends; how = how }
+    record { run = take len bytes; after = drop len bytes; spell = r.spell; size = r.size; full = r.full; all = r.all; ends = r.ends; closes = closes; shows = shows }
 
 -- the token of a word
 pub word_kind : (cs : List ℕ) → IsFull cs → token_of (word_mode cs) ≡ Some (cond (begins is_digit cs) kind.Number kind.Name)
@@ -147,7 +146,7 @@ takes_word old new bytes len digit is some next digits adds =
     let full = (run_of is_ascii_word bytes len is some).full in
     let token : token_of (word_mode (take len bytes)) ≡ Some (cond digit kind.Number kind.Name)
     = word_kind (take len bytes) full ∙ ap (λ (b : Bool). Some (cond b kind.Number kind.Name)) (begin_take is_digit bytes len full ∙ sym (digit_same (slice_index bytes 0)) ∙ digits) in
-    takes_run is_ascii_word follows word_mode old bytes len new is some (inr (token_closes old new (word_mode (take len bytes)) (cond digit kind.Number kind.Name) len refl token (no_remark digit) adds, next))
+    takes_run is_ascii_word follows word_mode old bytes len new is some (token_closes old new (word_mode (take len bytes)) (cond digit kind.Number kind.Name) len refl token (no_remark digit) adds) next
   where
     no_remark : (b : Bool) → cond b kind.Number kind.Name ≡ kind.Remark → ⊥
     no_remark true e = cc
@@ -250,30 +249,27 @@ begins_wider p q each [] h = absurd (both_ways _ refl h)
 begins_wider p q each (c ∷ cs) h = each c h
 
 -- and is closed where what follows shows its end
-run_reached : (passes : ℕ → Bool) (next : List Bracket → ℕ → Bool) (wider : (st : List Bracket) (d : ℕ) → next st d ≡ true → may_begin st d ≡ true) (mode_of : List ℕ → Mode) (low : (d : ℕ) → passes d ≡ true → d < 128) (whole : (d : ℕ) → passes d ≡ true → not (is_break d) ≡ true) (first : ℕ → Mode) (starts_as : (d : ℕ) → passes d ≡ true → start_of d ≡ starts.Open (first d)) (steps : (done : List Piece) (d : ℕ) (ds : List ℕ) → list_all passes ds ≡ true → scan_steps (Some (scanned done (first d) (d ∷ []))) ds ≡ Some (scanned done (mode_of (d ∷ ds)) (d ∷ ds))) (stops : (run : List ℕ) (d : ℕ) (st : List Bracket) → passes d ≡ false → next st d ≡ true → meet_of (mode_of run) d ≡ moves.Breaks) (unreturned : (run : List ℕ) → is_return_mode (mode_of run) ≡ false) (plain : (run : List ℕ) → mode_of run ≡ modes.Fielded → ⊥) (m : Mode) (at : ℕ) (text : List ℕ) (scan new : Scan) (c : ℕ) (cs after : List ℕ) → MeetsPiece m at text scan c (cs ++ after) → IsScanSound (line_start m) [] → list_all passes (c ∷ cs) ≡ true → begins passes after ≡ false → (new ≡ opened scan (mode_of (c ∷ cs)) (length (c ∷ cs))) ⊎ (Closes (opened scan (mode_of (c ∷ cs)) (length (c ∷ cs))) new × (begins (next (stack_of scan.brackets)) after ≡ true)) → ReachedShut m at text new after
-run_reached passes next wider mode_of low whole first starts_as steps stops unreturned plain m at text scan new c cs after meet start all ends how =
+run_reached : (passes : ℕ → Bool) (next : List Bracket → ℕ → Bool) (wider : (st : List Bracket) (d : ℕ) → next st d ≡ true → may_begin st d ≡ true) (mode_of : List ℕ → Mode) (low : (d : ℕ) → passes d ≡ true → d < 128) (whole : (d : ℕ) → passes d ≡ true → not (is_break d) ≡ true) (first : ℕ → Mode) (starts_as : (d : ℕ) → passes d ≡ true → start_of d ≡ starts.Open (first d)) (steps : (done : List Piece) (d : ℕ) (ds : List ℕ) → list_all passes ds ≡ true → scan_steps (Some (scanned done (first d) (d ∷ []))) ds ≡ Some (scanned done (mode_of (d ∷ ds)) (d ∷ ds))) (stops : (run : List ℕ) (d : ℕ) (st : List Bracket) → passes d ≡ false → next st d ≡ true → meet_of (mode_of run) d ≡ moves.Breaks) (unreturned : (run : List ℕ) → is_return_mode (mode_of run) ≡ false) (plain : (run : List ℕ) → mode_of run ≡ modes.Fielded → ⊥) (m : Mode) (at : ℕ) (text : List ℕ) (scan new : Scan) (c : ℕ) (cs after : List ℕ) → MeetsPiece m at text scan c (cs ++ after) → IsScanSound (line_start m) [] → list_all passes (c ∷ cs) ≡ true → begins passes after ≡ false → Closes (opened scan (mode_of (c ∷ cs)) (length (c ∷ cs))) new × (begins (next (stack_of scan.brackets)) after ≡ true) → ReachedShut m at text new after
+run_reached passes next wider mode_of low whole first starts_as steps stops unreturned plain m at text scan new c cs after meet start all ends shut =
     let parts = and_parts (passes c) (list_all passes cs) all in
-    let reached = opens_reached m at text scan c cs after (first c) (mode_of (c ∷ cs)) meet start (starts_as c parts.0) (λ done. steps done c cs parts.1) (plain (c ∷ cs)) (list_all_more passes (λ d. not (is_break d)) whole (c ∷ cs) all) (low_encodes passes (c ∷ cs) low all) in
-    ⊎_elim
-    (λ is. record { unshut = new; reached = subst (λ (s : Scan). Reached m at text s after) (sym is) reached; how = inl refl })
-    (λ shut. record {
+    record {
       unshut = opened scan (mode_of (c ∷ cs)) (length (c ∷ cs));
-      reached = reached;
+      reached = opens_reached m at text scan c cs after (first c) (mode_of (c ∷ cs)) meet start (starts_as c parts.0) (λ done. steps done c cs parts.1) (plain (c ∷ cs)) (list_all_more passes (λ d. not (is_break d)) whole (c ∷ cs) all) (low_encodes passes (c ∷ cs) low all);
       how = inr (record {
         closes = shut.0;
         breaks = λ d more is. stops (c ∷ cs) d (stack_of scan.brackets) (sym (ap (begins passes) is) ∙ ends) (sym (ap (begins (next (stack_of scan.brackets))) is) ∙ shut.1);
         unreturned = unreturned (c ∷ cs);
         next = ap (λ (x : Scan). begins (may_begin (stack_of x.brackets)) after) shut.0.same ∙ begins_wider (next (stack_of scan.brackets)) (may_begin (stack_of scan.brackets)) (wider (stack_of scan.brackets)) after shut.1;
       });
-    }) how
+    }
 
 -- what such a run comes to
 abbrev EndsPieceRun : (ℕ → Bool) → (List Bracket → ℕ → Bool) → Mode → Scan → Scan → List ℕ → ℕ → Type 0
-EndsPieceRun passes next m scan new after len = (new ≡ opened scan m len) ⊎ (Closes (opened scan m len) new × (begins (next (stack_of scan.brackets)) after ≡ true))
+EndsPieceRun passes next m scan new after len = Closes (opened scan m len) new × (begins (next (stack_of scan.brackets)) after ≡ true)
 
 -- the run of a piece from its first character
 from_first : (passes : ℕ → Bool) (next : List Bracket → ℕ → Bool) (mode_of : List ℕ → Mode) (m : Mode) (at : ℕ) (text : List ℕ) (scan new : Scan) (bytes : List ℕ) (len : ℕ) → scan.piece.mode ≡ modes.Free → ReachedShut m at text scan bytes → ((c : ℕ) (cs after : List ℕ) → MeetsPiece m at text scan c (cs ++ after) → list_all passes (c ∷ cs) ≡ true → begins passes after ≡ false → EndsPieceRun passes next (mode_of (c ∷ cs)) scan new after (length (c ∷ cs)) → ReachedShut m at text new after) → TakesRun passes next mode_of scan bytes len new → ReachedShut m at text new (drop len bytes)
-from_first passes next mode_of m at text scan new bytes len free r reaches takes = go takes.run takes.spell takes.size takes.full takes.all takes.how
+from_first passes next mode_of m at text scan new bytes len free r reaches takes = go takes.run takes.spell takes.size takes.full takes.all (takes.closes, takes.shows)
   where
     go : (run : List ℕ) → run ++ takes.after ≡ bytes → length run ≡ len → IsFull run → list_all passes run ≡ true → EndsPieceRun passes next (mode_of run) scan new takes.after len → ReachedShut m at text new (drop len bytes)
     go [] spell size full all how = absurd full
@@ -517,35 +513,11 @@ full_length (c ∷ cs) full = omega arith
 
 pub run_goes : (passes : ℕ → Bool) (next : List Bracket → ℕ → Bool) (mode_of : List ℕ → Mode) (old new : Scan) (bytes : List ℕ) (len : ℕ) → ((d : ℕ) → passes d ≡ true → d < 128) → TakesRun passes next mode_of old bytes len new → Goes old bytes len new
 run_goes passes next mode_of old new bytes len low takes = record {
-  stop = ⊎_elim (λ is. ap (λ (s : Scan). s.stop) is) (λ shut. ap (λ (s : Scan). s.stop) shut.0.same) takes.how;
+  stop = ap (λ (s : Scan). s.stop) takes.closes.same;
   some = omega (arith, takes.size, full_length takes.run takes.full);
   within = omega (arith, takes.size, ap length takes.spell, length-append takes.run takes.after);
-  lines = ⊎_elim (λ (is : new ≡ opened old (mode_of takes.run) len). omega (arith, ap (λ (s : Scan). s.count.line) is)) (λ shut. omega (arith, ap (λ (s : Scan). s.count.line) shut.0.same)) takes.how;
+  lines = omega (arith, ap (λ (s : Scan). s.count.line) takes.closes.same);
 }
-
-pub operator_goes : (old new : Scan) (bytes : List ℕ) (len : ℕ) → TakesOperator old bytes len new → Goes old bytes len new
-operator_goes old new bytes len takes = record {
-  stop = ap (λ (s : Scan). s.stop) takes.adds.same ∙ ap (λ (n : ℕ). old.stop + n) takes.size;
-  some = omega (arith, takes.size);
-  within = omega (arith, takes.size, ap length takes.spell, length-append (takes.c ∷ []) takes.after);
-  lines = omega (arith, ap (λ (s : Scan). s.count.line) takes.adds.same);
-}
-
-pub string_goes : (old new : Scan) (bytes : List ℕ) (len : ℕ) → TakesString old bytes len new → Goes old bytes len new
-string_goes old new bytes len takes =
-    let q = takes.whole.q in
-    let run = takes.whole.run in
-    let size : length (q ∷ run ++ q ∷ []) ≡ len = omega (arith, takes.whole.size, length-append run (q ∷ [])) in
-    let spell : (q ∷ run ++ q ∷ []) ++ takes.whole.after ≡ bytes = ap (λ t. q ∷ t) (append_assoc run (q ∷ []) takes.whole.after) ∙ takes.whole.spell in
-    let quote_low = is_low_from q (quote_ascii q takes.whole.quote) in
-    let body_low = list_all_more (is_text_byte q) is_low (text_low q) run takes.whole.all in
-    let low = low_encodes is_low (q ∷ run ++ q ∷ []) low_is (and_from _ _ quote_low (list_all-append is_low run (q ∷ []) ∙ and_from _ _ body_low (and_from _ _ quote_low refl))) in
-    record {
-      stop = ap (λ (s : Scan). s.stop) takes.adds.same;
-      some = omega (arith, takes.whole.size);
-      within = omega (arith, size, ap length spell, length-append (q ∷ run ++ q ∷ []) takes.whole.after);
-      lines = omega (arith, ap (λ (s : Scan). s.count.line) takes.adds.same);
-    }
 
 -- the byte that the bytes begin with
 pub begins_with : (bytes : List ℕ) (b : ℕ) → Some b ≡ slice_get bytes 0 → b ∷ drop 1 bytes ≡ bytes

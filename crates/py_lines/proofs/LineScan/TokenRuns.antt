@@ -169,7 +169,7 @@ space_takes : (scan : Scan) (n : ℕ) (rest : List ℕ) (len : ℕ) → 0 < len 
 space_takes scan n rest len some run next =
     let closes : Closes (opened (coded scan n) modes.Space len) (coded scan (n + len)) =
     subst (Closes (opened (coded scan n) modes.Space len)) (sym (some_coded scan n len scan.brackets scan.tokens)) (space_closes (coded scan n) len scan.indent refl) in
-    takes_run is_space may_begin space_mode (coded scan n) rest len (coded scan (n + len)) run (begins_from is_space rest (omega (arith, some, run.within)) (run.each 0 some)) (inr (closes, next))
+    takes_run is_space may_begin space_mode (coded scan n) rest len (coded scan (n + len)) run (begins_from is_space rest (omega (arith, some, run.within)) (run.each 0 some)) closes next
 
 pub space_leads : (first scan : Scan) (bytes rest : List ℕ) (n len : ℕ) → IsSpaceAfter (stack_of scan.brackets) rest len → LeadsTo first bytes (coded scan n) rest → LeadsTo first bytes (coded scan (n + len)) (drop len rest)
 space_leads first scan bytes rest n len how leads =
@@ -244,21 +244,9 @@ ahead_more first scan met bytes rest place len space tokens k free ahead (same, 
 pub some_taken : (old added new : Scan) (bytes : List ℕ) (len : ℕ) → 0 < len → HasAdded old bytes len added → new ≡ coded added len → HasTaken old bytes len new
 some_taken old added new bytes len some has is = record {
   within = has.within;
-  none = λ nothing. absurd (omega (arith, nothing, some));
+  some = some;
   free = ap (λ (s : Scan). is_free s.piece.mode) is;
   stop = ap (λ (s : Scan). s.stop) is ∙ ap (λ (s : Scan). s.stop + len) has.same;
   line = ap (λ (s : Scan). s.count.line) is ∙ ap (λ (s : Scan). s.count.line) has.same;
   leads = subst (λ (s : Scan). LeadsTo old bytes s (drop len bytes)) (sym is) (subst (λ b. LeadsTo old bytes (coded_if b added len) (drop len bytes)) (is_some_from len some) has.leads);
 }
-
-pub none_taken : (old added : Scan) (bytes : List ℕ) (len : ℕ) → is_free old.piece.mode ≡ true → len ≤ 0 → HasAdded old bytes len added → HasTaken old bytes len added
-none_taken old added bytes len free none has =
-    let is : len ≡ 0 = omega (arith, none) in
-    record {
-      within = has.within;
-      none = has.none;
-      free = ap (λ (s : Scan). is_free s.piece.mode) has.same ∙ free;
-      stop = ap (λ (s : Scan). s.stop) has.same ∙ omega (arith, none);
-      line = ap (λ (s : Scan). s.count.line) has.same;
-      leads = subst (λ b. LeadsTo old bytes (coded_if b added len) (drop len bytes)) (ap (nat_lt 0) is) has.leads;
-    }

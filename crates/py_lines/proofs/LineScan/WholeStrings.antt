@@ -26,7 +26,7 @@ use Rattle.py_lines.specs.Private.FieldScan.{GoesThrough}
 use Rattle.py_lines.specs.Private.FieldText.{InText, IsWholeStringWithFields, Leads}
 use Rattle.py_lines.specs.Private.ScanMachine.{IsScanSound, fielded_move, host_in, is_field_spelling, is_raw_spelling, meet_of, opened_move, quote_move, scan_step, scan_steps, string_state, move_at}
 use Rattle.py_lines.specs.Private.Scan.{Tallies, line_start, stack_of, is_return_mode, depth_of}
-use Rattle.py_lines.specs.Private.Run.{AddsToken, Reached, ReachedShut, TakesStringWithFields, TakesToken, is_ascii_word, follows, word_mode, opened, with_bytes}
+use Rattle.py_lines.specs.Private.Run.{AddsToken, Reached, ReachedShut, TakesStringWithFields, TakesToken, opened, with_bytes}
 use Rattle.py_lines.proofs.Pieces.PieceLists.{piece}
 use Rattle.py_lines.proofs.Pieces.OpenBrackets.{stands}
 use Rattle.py_lines.proofs.Text.CharacterTests.{each_of, quote-not-word}
@@ -45,10 +45,10 @@ use Rattle.py_lines.proofs.FieldScans.Steps.{comes_closed}
 use Rattle.py_lines.proofs.LineScan.LineSteps.{sound_steps}
 use Rattle.py_lines.proofs.LineScan.NextCharacter.{closed_one_line, tallies_in}
 use Rattle.py_lines.proofs.LineScan.PieceEnd.{closes_shut, shut_as}
-use Rattle.py_lines.proofs.LineScan.Runs.{counts_run, quote_ascii, string_no_break, string_run, word_byte_low}
+use Rattle.py_lines.proofs.LineScan.Runs.{counts_run, quote_ascii, string_no_break, string_run}
 use Rattle.py_lines.proofs.LineScan.StringOpenings.{opened_as_body}
 use Rattle.py_lines.proofs.LineScan.StringSteps.{no_fields, string_more}
-use Rattle.py_lines.proofs.LineScan.ShortPieces.{Goes, MeetsPiece, is_low, is_low_from, low_encodes, low_is, meets, quote-no_break, settled, shut_from, token_closes, word_reached, operator_reached, string_reached, run_goes, operator_goes, string_goes}
+use Rattle.py_lines.proofs.LineScan.ShortPieces.{MeetsPiece, is_low, is_low_from, low_encodes, low_is, meets, quote-no_break, settled, shut_from, token_closes, word_reached, operator_reached, string_reached}
 
 -- the letters of its prefix are ASCII, and end no line
 letter_low : (c : ℕ) → IsLetter c → (is_low c ≡ true) × (not (is_break c) ≡ true)
@@ -311,25 +311,9 @@ string_size bytes len is =
       omega (arith, far, ap length spell, length-append (is.prefix ++ is.q ∷ (is.run ++ is.q ∷ [])) is.after),
     )
 
-pub fields_goes : (old new : Scan) (bytes : List ℕ) (len : ℕ) → TakesStringWithFields old bytes len new → Goes old bytes len new
-fields_goes old new bytes len takes =
-    let size = string_size bytes len takes.whole in
-    record {
-      stop = ap (λ (s : Scan). s.stop) takes.adds.same;
-      some = size.0;
-      within = size.1;
-      lines = omega (arith, ap (λ (s : Scan). s.count.line) takes.adds.same);
-    }
-
 -- a word, an operator or a string
 pub token_reached : (m : Mode) (at : ℕ) (text : List ℕ) (scan new : Scan) (bytes : List ℕ) (len : ℕ) → scan.piece.mode ≡ modes.Free → ReachedShut m at text scan bytes → IsScanSound (line_start m) [] → TakesToken scan bytes len new → ReachedShut m at text new (drop len bytes)
 token_reached m at text scan new bytes len free r start (inl word) = word_reached m at text scan new bytes len free r start word
 token_reached m at text scan new bytes len free r start (inr (inl stands)) = operator_reached m at text scan new bytes len free r start stands
 token_reached m at text scan new bytes len free r start (inr (inr (inl quoted))) = string_reached m at text scan new bytes len free r start quoted
 token_reached m at text scan new bytes len free r start (inr (inr (inr fields))) = fields_reached m at text scan new bytes len free r start fields
-
-pub token_goes : (old new : Scan) (bytes : List ℕ) (len : ℕ) → TakesToken old bytes len new → Goes old bytes len new
-token_goes old new bytes len (inl word) = run_goes is_ascii_word follows word_mode old new bytes len word_byte_low word
-token_goes old new bytes len (inr (inl stands)) = operator_goes old new bytes len stands
-token_goes old new bytes len (inr (inr (inl quoted))) = string_goes old new bytes len quoted
-token_goes old new bytes len (inr (inr (inr fields))) = fields_goes old new bytes len fields

@@ -1,5 +1,5 @@
 -- Lanes that pass a test, marked by vectors of 16 bytes.
-use Rattle.std.proofs.Common.{◌≡◌, ℕ, ◌%◌, ◌^◌, ◌≤◌, ◌<◌, ◌&&◌, ◌||◌, not, List, [], ◌∷◌, Bool, true, false, cond, ◌+◌, ◌-◌, take, drop, slice_index, leb, ltb, eqb, length, map, replicate, refl, sym, ap, inl, inr, ◌∙◌, subst, arith, w8, bit_and, bit_or}
+use Rattle.std.proofs.Common.{◌≡◌, ℕ, ◌%◌, ◌^◌, ◌≤◌, ◌<◌, ◌&&◌, ◌||◌, not, List, [], ◌∷◌, Bool, true, false, cond, ◌+◌, ◌-◌, take, drop, slice_index, leb, ltb, eqb, length, map, ◌++◌, replicate, refl, sym, ap, inl, inr, ◌∙◌, subst, arith, w8, bit_and, bit_or}
 use Rattle.std.specs.List.{prefix_len}
 use Rattle.std.specs.Simd.Lanes.{chunk, zip2, sel_l, mask_l, top}
 use Rattle.std.specs.Int.Count.{count_trailing_zeros}
@@ -7,9 +7,9 @@ use Rattle.std.proofs.lemmas.Simd.{length-chunk, get_or-chunk, map-map, tops_com
 use Rattle.std.proofs.lemmas.Str.Ascii.{IsAscii-from_all}
 use Rattle.std.proofs.lemmas.List.Elements.{All-from_get_or}
 use Rattle.std.specs.Str.{IsAscii}
-use Rattle.std.proofs.lemmas.List.{take_all, length-map, length-drop, get_or-drop}
+use Rattle.std.proofs.lemmas.List.{take_all, length-map, length-drop, length-append, length-replicate, get_or-drop, get_or_append_left, get_or-append_right, get_or-replicate}
 use Rattle.std.proofs.lemmas.List.Sums.{prefix_len-le-length, prefix_len_passes, prefix_len_stops}
-use Rattle.std.proofs.lemmas.Bool.{ne_eqb, cases_lt}
+use Rattle.std.proofs.lemmas.Bool.{both_ways, ne_eqb, cases_lt}
 use Rattle.py_lines.specs.Character.{is_one_of}
 use Rattle.py_lines.specs.Private.Run.{CountsSet, Marks, IsRunOf}
 
@@ -177,3 +177,40 @@ low_lanes vs long none =
   where
     low : (b : ℕ) → not (leb 128 b) ≡ true → b < 128
     low b h = grind (arith, h)
+
+-- the run that fewer than sixteen bytes begin with, where lanes hold them and then a byte that ends the run
+pub filled_run : (p : ℕ → Bool) (bytes block mask : List ℕ) (pad r : ℕ) → block ≡ bytes → length bytes < 16 → p pad ≡ false
+    → CountsSet mask r → Marks p (block ++ drop (length bytes) (replicate 16 pad)) mask → IsRunOf p bytes r
+filled_run p bytes block mask pad r same few stops counts marks =
+    record {
+      within = within;
+      each = λ k less. subst (λ x. p x ≡ true) (get_or_append_left bytes rest 0 k (omega (arith, less, within))) (passes k less);
+      ends = λ less. subst (λ x. p x ≡ false) (ap (λ j. slice_index whole j) (sym counted) ∙ get_or_append_left bytes rest 0 r less) (prefix_len_stops p whole 0 (omega (arith, counted, less, few, long)));
+    }
+  where
+    rest : List ℕ
+    rest = drop (length bytes) (replicate 16 pad)
+
+    whole : List ℕ
+    whole = bytes ++ rest
+
+    long : length whole ≡ 16
+    long = omega (arith, length-append bytes rest, length-drop (length bytes) (replicate 16 pad), length-replicate 16 pad, few)
+
+    counted : r ≡ prefix_len p whole
+    counted = counts p whole long (subst (λ (l : List ℕ). Marks p (l ++ rest) mask) same marks)
+
+    passes : (k : ℕ) → k < r → p (slice_index whole k) ≡ true
+    passes k less = prefix_len_passes p whole k 0 (omega (arith, counted, less))
+
+    at_pad : slice_index whole (length bytes) ≡ pad
+    at_pad =
+        get_or-append_right bytes rest (length bytes) (length bytes) 0 refl (omega arith)
+        ∙ get_or-drop (length bytes) (replicate 16 pad) (length bytes - length bytes) 0
+        ∙ get_or-replicate 16 (length bytes + (length bytes - length bytes)) pad 0 (omega (arith, few))
+
+    within : r ≤ length bytes
+    within = elim (cases_lt (length bytes) r) [
+      | inl past ↦ absurd (both_ways _ (ap p at_pad ∙ stops) (passes (length bytes) past))
+      | inr le ↦ le
+    ]

@@ -238,7 +238,7 @@ pub record AddsToken (old : Scan) (k : TokKind) (len : ℕ) (new : Scan) : Type 
   pub tokens : new.tokens.items ≡ old.tokens.items ++ token_at old k len ∷ []
   pub same : new ≡ record (freed (with_bytes old len)) { margin = false; kind = unit_kind.Code; tokens = new.tokens }
 
--- a piece that this run spells came after closed ones: it is open, or closed where what follows shows its end
+-- a piece that this run spells came after closed ones, and what follows shows its end
 pub record TakesRun (passes : ℕ → Bool) (next : List Bracket → ℕ → Bool) (mode_of : List ℕ → Mode)
     (old : Scan) (bytes : List ℕ) (len : ℕ) (new : Scan) : Type 0 where
   pub run : List ℕ
@@ -248,8 +248,8 @@ pub record TakesRun (passes : ℕ → Bool) (next : List Bracket → ℕ → Boo
   pub full : IsFull run
   pub all : list_all passes run ≡ true
   pub ends : begins passes after ≡ false
-  pub how : (new ≡ opened old (mode_of run) len)
-      ⊎ (Closes (opened old (mode_of run) len) new × (begins (next (stack_of old.brackets)) after ≡ true))
+  pub closes : Closes (opened old (mode_of run) len) new
+  pub shows : begins (next (stack_of old.brackets)) after ≡ true
 
 -- an operator came after closed pieces
 pub record TakesOperator (old : Scan) (bytes : List ℕ) (len : ℕ) (new : Scan) : Type 0 where
@@ -300,17 +300,6 @@ TakesOrNot Takes old (Ok taken.Nothing) new = new ≡ old
 TakesOrNot Takes old (Ok (taken.Bytes len)) new = Takes len new
 TakesOrNot Takes old (Ok (taken.LineEnd len)) new = ⊥
 TakesOrNot Takes old (Err e) new = Unit {0}
-
--- such a string came, or nothing was taken
-abbrev pub TakesText : Scan → List ℕ → Result Taken AllocError → Scan → Type 0
-TakesText old bytes = TakesOrNot (TakesString old bytes) old
-
-abbrev pub TakesFields : Scan → List ℕ → Result Taken AllocError → Scan → Type 0
-TakesFields old bytes = TakesOrNot (TakesStringWithFields old bytes) old
-
--- an operator came, or nothing was taken
-abbrev pub TakesBracket : Scan → List ℕ → Result Taken AllocError → Scan → Type 0
-TakesBracket old bytes = TakesOrNot (TakesOperator old bytes) old
 
 -- a comment that a line end follows came after closed pieces
 pub record TakesComment (old : Scan) (bytes : List ℕ) (len : ℕ) (new : Scan) : Type 0 where
@@ -377,6 +366,10 @@ TakesWord = TakesRun is_ascii_word follows word_mode
 abbrev pub TakesSpace : Scan → List ℕ → ℕ → Scan → Type 0
 TakesSpace = TakesRun is_space may_begin space_mode
 
+-- space came, or nothing was taken
+abbrev pub TakesMargin : Scan → List ℕ → Taken → Scan → Type 0
+TakesMargin old bytes result = TakesOrNot (TakesSpace old bytes) old (Ok result)
+
 -- the scan has closed the open piece, since the next byte shows its end
 pub record IsShut (before scan : Scan) (rest : List ℕ) : Type 0 where
   pub closes : Closes before scan
@@ -418,15 +411,11 @@ AddsTokens old bytes (Err e) new = Unit {0}
 -- tokens came after closed pieces, of so many bytes with the space between them
 pub record HasTaken (old : Scan) (bytes : List ℕ) (len : ℕ) (new : Scan) : Type 0 where
   pub within : len ≤ length bytes
-  pub none : len ≡ 0 → new ≡ old
+  pub some : 0 < len
   pub free : is_free new.piece.mode ≡ true
   pub stop : new.stop ≡ old.stop + len
   pub line : new.count.line ≡ old.count.line
   pub leads : LeadsTo old bytes new (drop len bytes)
-
-abbrev pub TakesTokens : Scan → List ℕ → Result ℕ AllocError → Scan → Type 0
-TakesTokens old bytes (Ok len) new = HasTaken old bytes len new
-TakesTokens old bytes (Err e) new = Unit {0}
 
 -- a word, an operator or a string came
 abbrev pub TakesToken : Scan → List ℕ → ℕ → Scan → Type 0
@@ -434,11 +423,11 @@ TakesToken old bytes len new =
     TakesWord old bytes len new
     ⊎ (TakesOperator old bytes len new ⊎ (TakesString old bytes len new ⊎ TakesStringWithFields old bytes len new))
 
--- such a piece came, or another that ends no line
+-- space, a comment, a line end or tokens came, and the line goes on
 abbrev pub TakesPieceInLine : Scan → List ℕ → ℕ → Scan → Type 0
 TakesPieceInLine old bytes len new =
-    TakesToken old bytes len new ⊎ (TakesSpace old bytes len new ⊎ (TakesComment old bytes len new
-    ⊎ (TakesLineEnd old bytes (taken.Bytes len) new ⊎ ((0 < len) × HasTaken old bytes len new))))
+    TakesSpace old bytes len new ⊎ (TakesComment old bytes len new
+    ⊎ (TakesLineEnd old bytes (taken.Bytes len) new ⊎ HasTaken old bytes len new))
 
 -- so does what may stand after a space: no space, and what may begin a piece
 abbrev pub follows_space : List Bracket → ℕ → Type 0

@@ -1,4 +1,4 @@
-use Rattle.std.proofs.Common.{◌≡◌, ◌+◌, inl, inr, sym, ap, subst, Bool, true, false}
+use Rattle.std.proofs.Common.{◌≡◌, ◌+◌, sym, ap, subst, Bool, true, false}
 use Rattle.py_lines.specs.Character.{is_space}
 use Rattle.py_lines.specs.declared.mode.Mode.TheVariants as modes
 use Rattle.py_lines.specs.declared.scan.Scan.{Scan}
@@ -16,13 +16,10 @@ returns c =
     let by : (b : Bool) → old.margin ≡ b → indent_closed old.indent modes.Space b len ≡ indent_closed old.indent modes.Space old.margin len = λ b is. ap (λ (m : Bool). indent_closed old.indent modes.Space m len) (sym is) in
     let next = followed_by may_begin (stack_of old.brackets) c.args.bytes.now len true (sym (c.is_begun.ensures c.if-not-is_begun.false)) in
     takes_run is_space may_begin space_mode old c.args.bytes.now len _ c.len_in-len.ensures c.requires.begins
-    (inr (
-      subst (Closes (opened old modes.Space len)) (sym c.free.ensures) (elim c.if-self.branch [
-        | then-self w ↦ subst P (sym w.self-is) (space_closes old len len (by true w.if-self.true))
-        | else-self w ↦ subst P (sym w.self-is) (space_closes old len old.indent (by false w.if-self.false))
-      ]),
-      next,
-    ))
-
-pub returns-then-not-is_begun : goal.returns-then-not-is_begun
-returns-then-not-is_begun c = takes_run is_space may_begin space_mode c.args.self.now c.args.bytes.now c.len_in-len.result c.open.new.self c.len_in-len.ensures c.requires.begins (inl c.open.ensures)
+    (
+    subst (Closes (opened old modes.Space len)) (sym c.free.ensures) (elim c.if-self.branch [
+      | then-self w ↦ subst P (sym w.self-is) (space_closes old len len (by true w.if-self.true))
+      | else-self w ↦ subst P (sym w.self-is) (space_closes old len old.indent (by false w.if-self.false))
+    ])
+    )
+    next
