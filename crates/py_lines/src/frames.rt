@@ -25,17 +25,70 @@ pub struct OpenField {
     pub start: usize,
 }
 
-impl Frame {
-    ghost use Rattle.std.specs.Prelude.{◌≡◌};
-    ghost use Rattle.py_lines.specs.Private.Frames.{place_of};
-
+/// What is open, as an array keeps it: in few bytes.
+#[derive(Clone, Copy)]
+struct Slot {
     /// The byte where it stands.
-    fn place(self) -> usize
-        ensures { result ≡ place_of self }
+    place: usize,
+    /// The byte at which the string round the field begins.
+    start: usize,
+    /// The bracket, or the quote of that string.
+    sign: char,
+    /// Where in that string the field stands, if it is one.
+    region: Option<Region>,
+    /// Whether that string has three quotes at each end.
+    is_long: bool,
+    /// Whether it is raw.
+    is_raw: bool,
+}
+
+impl Slot {
+    ghost use Rattle.std.specs.Prelude.{◌≡◌};
+    ghost use Rattle.py_lines.specs.Private.Frames.{frame_of};
+
+    /// That of a bracket or a field.
+    fn of(frame: Frame) -> Slot
+        ensures { frame_of result ≡ frame }
     {
-        match self {
-            Frame::Bracket(_, place) => place,
-            Frame::Field(field) => field.place,
+        match frame {
+            Frame::Bracket(opener, place) => Slot {
+                place,
+                start: 0,
+                sign: opener,
+                region: None,
+                is_long: false,
+                is_raw: false,
+            },
+            Frame::Field(field) => {
+                let quote = field.host.quote;
+                Slot {
+                    place: field.place,
+                    start: field.start,
+                    sign: quote,
+                    region: Some(field.region),
+                    is_long: field.host.is_long,
+                    is_raw: field.host.is_raw,
+                }
+            }
+        }
+    }
+
+    /// The bracket or the field.
+    fn frame(self) -> Frame
+        ensures { result ≡ frame_of self }
+    {
+        match self.region {
+            None => Frame::Bracket(self.sign, self.place),
+            Some(region) => Frame::Field(OpenField {
+                place: self.place,
+                host: StringWithFields {
+                    quote: self.sign,
+                    is_long: self.is_long,
+                    is_raw: self.is_raw,
+                },
+                region,
+                start: self.start,
+            }),
         }
     }
 }
@@ -44,22 +97,22 @@ impl Frame {
 #[derive(Drop)]
 pub struct Frames {
     /// They, the innermost last. What stands after them counts for nothing.
-    frames: [Frame; 256],
+    slots: [Slot; 256],
     /// How many they are.
     depth: u8,
 }
 
 // Clauses see what is open, the innermost first.
 impl Model for Frames {
-    ghost use Rattle.std.specs.Prelude.{◌≡◌, List, length, reverse, take};
+    ghost use Rattle.std.specs.Prelude.{◌≡◌, List, length, take};
     ghost use Rattle.py_lines.specs.declared.frames.Frame.{Frame};
-    ghost use Rattle.py_lines.specs.Private.Frames.{AreNested};
+    ghost use Rattle.py_lines.specs.Private.Frames.{AreNested, frames_in};
 
     ghost Value = { List Frame };
 
-    ghost view = { λ f. reverse (take f.depth f.frames) };
+    ghost view = { λ f. frames_in (take f.depth f.slots) };
 
-    ghost invariant = { λ f. (length f.frames ≡ 256) × AreNested (reverse (take f.depth f.frames)) };
+    ghost invariant = { λ f. (length f.slots ≡ 256) × AreNested (frames_in (take f.depth f.slots)) };
 }
 
 impl Frames {
@@ -71,9 +124,17 @@ impl Frames {
     pub fn new() -> Frames
         ensures { result ≡ [] }
     {
-        // All are zero, so the compiler fills the array without a loop.
+        // All is zero, so the compiler fills the array without a loop.
+        let empty = Slot {
+            place: 0,
+            start: 0,
+            sign: '\0',
+            region: None,
+            is_long: false,
+            is_raw: false,
+        };
         Frames {
-            frames: [Frame::Bracket('\0', 0); 256],
+            slots: [empty; 256],
             depth: 0,
         }
     }
@@ -106,7 +167,7 @@ impl Frames {
         if self.depth == 0 {
             return None;
         }
-        Some(self.frames[self.depth as usize - 1])
+        Some(self.slots[self.depth as usize - 1].frame())
     }
 
     /// Whether it is a bracket that was opened last.
@@ -121,7 +182,7 @@ impl Frames {
         ensures { (frame : Frame) (others : List Frame)
             → self.now ≡ frame ∷ others → result ≡ place_of frame }
     {
-        self.frames[self.depth.saturating_sub(1) as usize].place()
+        self.slots[self.depth.saturating_sub(1) as usize].place
     }
 
     /// Opens a bracket or a field.
@@ -130,7 +191,7 @@ impl Frames {
         requires opens { OpensIn frame self.old }
         ensures { self.new ≡ frame ∷ self.old }
     {
-        self.frames[self.depth as usize] = frame;
+        self.slots[self.depth as usize] = Slot::of(frame);
         self.depth += 1;
     }
 

@@ -7,12 +7,12 @@ use Rattle.py_lines.proofs.frames.Frames.push.Goals as goal
 pub returns : goal.returns
 returns c =
     let q = c.self.inside in
-    let within : q.depth < length q.frames = omega (arith, c.self.invariant.0) in
-    first_frames-push q.frames q.depth c.args.frame within ∙ ap (λ (fs : List Frame). c.args.frame ∷ fs) c.self.view_is
+    let within : q.depth < length q.slots = omega (arith, c.self.invariant.0) in
+    first_frames-push q.slots q.depth c.of.result c.args.frame c.of.ensures within ∙ ap (λ (fs : List Frame). c.args.frame ∷ fs) c.self.view_is
 
 pub invariant_of-self : goal.invariant_of-self
 invariant_of-self c =
     let q = c.self.inside in
-    let within : q.depth < length q.frames = omega (arith, c.self.invariant.0) in
+    let within : q.depth < length q.slots = omega (arith, c.self.invariant.0) in
     let opens = subst (OpensIn c.args.frame) (sym c.self.view_is) c.requires.opens in
-    (length-set q.frames q.depth c.args.frame ∙ c.self.invariant.0, subst AreNested (sym (first_frames-push q.frames q.depth c.args.frame within)) (opens, c.self.invariant.1))
+    (length-set q.slots q.depth c.of.result ∙ c.self.invariant.0, subst AreNested (sym (first_frames-push q.slots q.depth c.of.result c.args.frame c.of.ensures within)) (opens, c.self.invariant.1))
