@@ -1,10 +1,9 @@
 //! The brackets that are open at a place of a text.
 
-ghost use Rattle.std.specs.Prelude.{◌≡◌, ◌==◌, ◌≤◌, [], OnOk, length};
+ghost use Rattle.std.specs.Prelude.{◌≡◌, ◌==◌, ◌≤◌, [], length};
 ghost use Rattle.py_lines.specs.Balance.{closing_of};
 
 use crate::character::{is_closing, is_opening};
-use std::alloc::{AllocError, Global};
 
 /// How many brackets and fields may be open at once.
 pub const MAX_DEPTH: usize = 200;
@@ -27,20 +26,15 @@ pub struct OpenBracket {
     pub place: usize,
 }
 
-impl OpenBracket {
-    /// The bracket that closes it.
-    fn closer(self) -> char
-        ensures { result ≡ closing_of self.opener }
-    {
-        closing_of(self.opener)
-    }
-}
-
-/// The open brackets, the innermost last.
+/// The open brackets. They take no memory.
 #[derive(Drop)]
 pub struct Brackets {
-    open: Vec<OpenBracket>,
-    pub ghost not_too_deep: { length open.items ≤ 200 },
+    /// They, the innermost last. What stands after them counts for nothing.
+    brackets: [OpenBracket; 200],
+    /// How many they are.
+    depth: u8,
+    ghost size: { length brackets ≡ 200 },
+    pub ghost not_too_deep: { depth ≤ 200 },
 }
 
 impl Brackets {
@@ -48,41 +42,49 @@ impl Brackets {
     ghost use Rattle.py_lines.specs.Private.Scan.{stack_of, depth_of, none_open, IsInnermost, Meets};
 
     /// No bracket is open.
-    pub fn new(alloc: Global) -> Brackets
+    pub fn new() -> Brackets
         ensures { stack_of result ≡ [] }
     {
+        // All is zero, so the compiler fills the array without a loop.
+        let none = OpenBracket {
+            opener: '\0',
+            place: 0,
+        };
         Brackets {
-            open: Vec::new(alloc),
+            brackets: [none; 200],
+            depth: 0,
         }
     }
 
-    /// None is open; the memory is kept.
+    /// None is open any longer.
     pub fn clear(&mut self)
         ensures { stack_of self.new ≡ [] }
     {
-        self.open.clear();
+        self.depth = 0;
     }
 
     /// How many brackets are open.
     pub fn len(&self) -> usize
         ensures { result ≡ depth_of self.now }
     {
-        self.open.len()
+        self.depth as usize
     }
 
     /// Whether no bracket is open.
     pub fn is_empty(&self) -> bool
         ensures { result ≡ none_open (stack_of self.now) }
     {
-        self.open.is_empty()
+        self.depth == 0
     }
 
     /// The bracket that was opened last and is still open.
-    #[tactic(auto, using(crate::proofs::LineScan::BracketStack::last_in))]
     pub fn innermost(&self) -> Option<OpenBracket>
         ensures { IsInnermost result (stack_of self.now) }
     {
-        self.open.last().copied()
+        if self.depth == 0 {
+            return None;
+        }
+        Some(self.brackets[self.depth as usize - 1])
     }
 
     /// Whether an operator may stand next.
@@ -90,10 +92,10 @@ impl Brackets {
         ensures { result ≡ operator_may_stand (stack_of self.now) c }
     {
         if is_opening(c) {
-            self.open.len() < MAX_DEPTH
+            self.len() < MAX_DEPTH
         } else if is_closing(c) {
             match self.innermost() {
-                Some(bracket) => c == bracket.closer(),
+                Some(bracket) => c == closing_of(bracket.opener),
                 None => false,
             }
         } else {
@@ -103,23 +105,24 @@ impl Brackets {
 
     /// Whether an operator may stand at this byte: a closing bracket closes the innermost open one, and an opening one
     /// finds room. Then it has done so.
-    pub fn meet(&mut self, c: char, place: usize) -> Result<bool, AllocError>
+    pub fn meet(&mut self, c: char, place: usize) -> bool
         ensures { Meets self.old c place result self.new }
     {
         if is_opening(c) {
-            if self.open.len() >= MAX_DEPTH {
-                return Ok(false);
+            if self.len() >= MAX_DEPTH {
+                return false;
             }
-            self.open.push(OpenBracket { opener: c, place })?;
+            self.brackets[self.depth as usize] = OpenBracket { opener: c, place };
+            self.depth += 1;
         } else if is_closing(c) {
             let Some(bracket) = self.innermost() else {
-                return Ok(false);
+                return false;
             };
-            if c != bracket.closer() {
-                return Ok(false);
+            if c != closing_of(bracket.opener) {
+                return false;
             }
-            self.open.pop();
+            self.depth = self.depth.saturating_sub(1);
         }
-        Ok(true)
+        true
     }
 }

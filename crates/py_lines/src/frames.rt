@@ -97,14 +97,14 @@ impl Slot {
 #[derive(Drop)]
 pub struct Frames {
     /// They, the innermost last. What stands after them counts for nothing.
-    slots: [Slot; 256],
+    slots: [Slot; 200],
     /// How many they are.
     depth: u8,
 }
 
 // Clauses see what is open, the innermost first.
 impl Model for Frames {
-    ghost use Rattle.std.specs.Prelude.{◌≡◌, List, length, take};
+    ghost use Rattle.std.specs.Prelude.{◌≡◌, ◌≤◌, List, length, take};
     ghost use Rattle.py_lines.specs.declared.frames.Frame.{Frame};
     ghost use Rattle.py_lines.specs.Private.Frames.{AreNested, frames_in};
 
@@ -112,7 +112,7 @@ impl Model for Frames {
 
     ghost view = { λ f. frames_in (take f.depth f.slots) };
 
-    ghost invariant = { λ f. (length f.slots ≡ 256) × AreNested (frames_in (take f.depth f.slots)) };
+    ghost invariant = { λ f. (length f.slots ≡ 200) × (f.depth ≤ 200) × AreNested (frames_in (take f.depth f.slots)) };
 }
 
 impl Frames {
@@ -134,7 +134,7 @@ impl Frames {
             is_raw: false,
         };
         Frames {
-            slots: [empty; 256],
+            slots: [empty; 200],
             depth: 0,
         }
     }

@@ -1,5 +1,6 @@
 //! Where a reader of logical lines stands. `Lines` and `Scanner` have it in common.
 
+ghost use Rattle.py_lines.specs.Private.LineState.{first_mode};
 ghost use Rattle.std.specs.Prelude.{◌≡◌, ℕ, ◌+◌, ◌<◌, ◌^◌, length};
 
 use crate::count::line_after;
@@ -8,6 +9,13 @@ use crate::mode::Mode;
 use crate::scan::{LineFault, Scan};
 use crate::unit::Unit;
 use std::alloc::Global;
+
+/// What is open where a line begins at this byte: a mark may stand at the text's start.
+fn first_mode(place: u64) -> Mode
+    ensures { result ≡ first_mode place }
+{
+    if place == 0 { Mode::Start } else { Mode::Free }
+}
 
 /// Where the next line begins, what the scan knows of that line, and the text's fault once it was met.
 #[derive(Drop)]
@@ -31,14 +39,12 @@ impl LineState {
     pub fn at(alloc: Global, place: u64, line: u64) -> LineState
         ensures { BeginsAt place line result }
     {
-        let mut state = LineState {
+        LineState {
             place,
             line,
             fault: None,
-            scan: Scan::new(alloc),
-        };
-        state.restart();
-        state
+            scan: Scan::new(alloc, first_mode(place), line),
+        }
     }
 
     /// The byte up to which lines were read, and its line.
@@ -60,23 +66,11 @@ impl LineState {
         self.line = line;
     }
 
-    /// What is open where a line begins: a mark may stand at the text's start.
-    fn first_mode(&self) -> Mode
-        ensures { result ≡ first_mode self.now.place }
-    {
-        if self.place == 0 {
-            Mode::Start
-        } else {
-            Mode::Free
-        }
-    }
-
     /// Begins the scan of the next line anew.
     pub fn restart(&mut self)
         ensures { BeginsAnew self.old self.new }
     {
-        let mode = self.first_mode();
-        self.scan.restart(mode, self.line);
+        self.scan.restart(first_mode(self.place), self.line);
     }
 
     /// The text has this fault, from now on. It stands after these characters, with which the next line begins.

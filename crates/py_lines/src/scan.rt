@@ -100,26 +100,27 @@ pub struct Scan {
 }
 
 impl Scan {
-    /// At the text's start.
-    pub fn new(alloc: Global) -> Scan
-        ensures start { Tallies result (line_start Mode.Start) }
-        ensures stacked { IsStacked result (line_start Mode.Start) }
-        ensures line { result.line ≡ 1 }
+    /// At the start of a line.
+    pub fn new(alloc: Global, mode: Mode, line: u64) -> Scan
+        requires { mode ≡ Fielded → ⊥ }
+        ensures start { Tallies result (line_start mode) }
+        ensures stacked { IsStacked result (line_start mode) }
+        ensures line { result.line ≡ line }
     {
         Scan {
             piece: OpenPiece {
-                mode: Mode::Start,
+                mode,
                 start: 0,
-                line: 1,
+                line,
             },
             stop: 0,
-            line: 1,
-            count: Count::from(1),
+            line,
+            count: Count::from(line),
             margin: true,
             indent: 0,
             kind: UnitKind::Blank,
             tokens: Vec::new(alloc),
-            brackets: Brackets::new(alloc),
+            brackets: Brackets::new(),
             fields: FieldScan::new(),
         }
     }
@@ -284,7 +285,7 @@ impl Scan {
                 Ok(Progress::Going)
             }
             Start::Operator => {
-                if !self.brackets.meet(c, self.stop)? {
+                if !self.brackets.meet(c, self.stop) {
                     return Ok(Progress::Refused);
                 }
                 self.take_operator(c)?;

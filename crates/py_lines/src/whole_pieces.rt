@@ -284,26 +284,22 @@ impl Scan {
     /// The token that the bytes begin with at this byte of the line, after closed pieces, and its length: a word, a string, or
     /// an operator that may stand there. Its brackets have met then.
     #[inline(always)]
-    fn meet_token(
-        &mut self,
-        bytes: &[u8],
-        place: usize,
-    ) -> Result<Option<(TokKind, usize)>, AllocError>
+    fn meet_token(&mut self, bytes: &[u8], place: usize) -> Option<(TokKind, usize)>
         requires { 17 < length bytes.now }
         ensures { MeetsToken self.old place bytes.now result self.new }
     {
         let first = bytes[0];
         match FirstByte::of(first) {
-            FirstByte::Word => Ok(self.find_word(first, bytes)),
-            FirstByte::Quote => Ok(self.find_plain_string(bytes)),
-            FirstByte::Operator => Ok(Some((TokKind::Op(first), 1))),
+            FirstByte::Word => self.find_word(first, bytes),
+            FirstByte::Quote => self.find_plain_string(bytes),
+            FirstByte::Operator => Some((TokKind::Op(first), 1)),
             FirstByte::Bracket => {
-                if !self.brackets.meet(first as char, place)? {
-                    return Ok(None);
+                if !self.brackets.meet(first as char, place) {
+                    return None;
                 }
-                Ok(Some((TokKind::Op(first), 1)))
+                Some((TokKind::Op(first), 1))
             }
-            _ => Ok(None),
+            _ => None,
         }
     }
 
@@ -318,7 +314,7 @@ impl Scan {
         let mut rest = bytes;
         let mut place = self.stop;
         while rest.len() > WINDOW {
-            let Some((kind, len)) = self.meet_token(rest, place)? else {
+            let Some((kind, len)) = self.meet_token(rest, place) else {
                 return Ok(bytes.len() - rest.len());
             };
             self.tokens.push(Token {

@@ -14,6 +14,10 @@ first_frames ss n = frames_in (take n ss)
 pub first_frames-length : (ss : List Slot) (n : ℕ) → n ≤ length ss → length (first_frames ss n) ≡ n
 first_frames-length ss n within = length-reverse (map frame_of (take n ss)) ∙ length-map (take n ss) frame_of ∙ length-take-le n ss within
 
+-- where fewer than 200 are open there is room for one more
+pub room_left : (ss : List Slot) (n : ℕ) (fs : List Frame) → length ss ≡ 200 → n ≤ 200 → first_frames ss n ≡ fs → length fs < 200 → n < length ss
+room_left ss n fs size few are room = omega (arith, size, first_frames-length ss n (omega (arith, size, few)), ap length are, room)
+
 -- with one more
 pub first_frames-push : (ss : List Slot) (n : ℕ) (s : Slot) (f : Frame) → frame_of s ≡ f → n < length ss → first_frames (set ss n s) (n + 1) ≡ f ∷ first_frames ss n
 first_frames-push ss n s f is within =

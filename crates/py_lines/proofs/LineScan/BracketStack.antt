@@ -1,12 +1,14 @@
 -- The stack of open brackets that the code keeps is the machine's.
-use Rattle.std.proofs.Common.{◌≡◌, ℕ, suc, Bool, ◌-◌, ◌<◌, ◌≤◌, true, false, eqb, ◌==◌, Option, None, Some, List, [], ◌∷◌, ◌++◌, length, slice_get, refl, sym, ap, ◌∙◌, subst, arith, length-append}
-use Rattle.std.specs.Prelude.{option_to_list, nat_lt, is_some, if◌then◌else◌}
+use Rattle.std.proofs.Common.{◌≡◌, ℕ, zero, suc, Bool, ◌+◌, ◌-◌, ◌<◌, ◌≤◌, true, false, eqb, ◌==◌, None, Some, List, [], ◌∷◌, ◌++◌, length, take, refl, sym, ap, ◌∙◌, arith, length-append}
+use Rattle.std.specs.Prelude.{set, get_or, nat_lt, is_some, if◌then◌else◌}
+use Rattle.std.proofs.lemmas.List.{length-take-le, take_more, take_more_set}
 use Rattle.std.proofs.lemmas.Bool.{false_from_ne_true, ltb-true, eqb-true, eq-eqb}
 use Rattle.py_lines.specs.Piece.{operator}
 use Rattle.py_lines.specs.Balance.{is_opening, is_closing, closing_of}
 use Rattle.py_lines.specs.Private.Machine.{Bracket, brackets_after, opened_by, closed_by}
 use Rattle.py_lines.specs.Private.Run.{operator_may_stand}
-use Rattle.py_lines.specs.Private.Scan.{stack, none_open, IsInnermost}
+use Rattle.py_lines.specs.Private.Scan.{stack, depth_of, none_open}
+use Rattle.py_lines.specs.declared.brackets.Brackets.{Brackets}
 use Rattle.py_lines.specs.declared.brackets.OpenBracket.{OpenBracket}
 use Rattle.py_lines.proofs.Pieces.PieceLists.{piece}
 use Rattle.py_lines.proofs.Pieces.OpenBrackets.{opener_pushes, closer_pops, other_keeps}
@@ -26,26 +28,31 @@ pub none_length : (st : List Bracket) (n : ℕ) → length st ≡ n → n == 0 �
 none_length [] n is = eq-eqb n 0 (sym is)
 none_length (b ∷ bs) n is = false_from_ne_true _ (λ (h : n == 0 ≡ true). omega (arith, eqb-true n 0 h, is))
 
-pub empty_none : (bs : List OpenBracket) → length bs == 0 ≡ none_open (stack bs)
-empty_none bs = none_length (stack bs) (length bs) (length-stack bs)
+-- the first of so many, which are open
+pub depth_is : (bs : List OpenBracket) (n : ℕ) → n ≤ length bs → length (stack (take n bs)) ≡ n
+depth_is bs n within = length-stack (take n bs) ∙ length-take-le n bs within
 
--- the last bracket is the innermost
-deeper : (o : Option OpenBracket) (st ts : List Bracket) → IsInnermost o st → 0 < length st → IsInnermost o (st ++ ts)
-deeper None st ts is some = absurd (omega (arith, ap length is, some))
-deeper (Some b) st ts is some = (is.0 ++ ts, ap (λ l. l ++ ts) is.1)
+pub room_left : (b : Brackets) → depth_of b < 200 → b.depth < 200
+room_left b few = omega (arith, few, depth_is b.brackets b.depth (omega (arith, b.size, b.not_too_deep)))
 
-pub last_in : (bs : List OpenBracket) → IsInnermost (slice_get bs (length bs - 1)) (stack bs)
-last_in [] = refl
-last_in (b ∷ []) = ([], refl)
-last_in (a ∷ b ∷ bs) =
-    let places : suc (length (b ∷ bs) - 1) ≡ length (a ∷ b ∷ bs) - 1 = omega arith in
-    subst (λ (n : ℕ). IsInnermost (slice_get (a ∷ b ∷ bs) n) (stack (b ∷ bs) ++ entry a ∷ [])) places
-    (deeper (slice_get (b ∷ bs) (length (b ∷ bs) - 1)) (stack (b ∷ bs)) (entry a ∷ []) (last_in (b ∷ bs)) (omega (arith, length-stack (b ∷ bs))))
+pub pushed : (bs : List OpenBracket) (n : ℕ) (b : OpenBracket) → n < length bs → stack (take (n + 1) (set bs n b)) ≡ entry b ∷ stack (take n bs)
+pushed bs n b within = ap stack (take_more_set bs n b within) ∙ stack-push (take n bs) b
 
-pub pops : (old new : List OpenBracket) (r : Option OpenBracket) (x : OpenBracket) (b : Bracket) (others : List Bracket) → r ≡ Some x → old ≡ new ++ option_to_list r → stack old ≡ b ∷ others → stack new ≡ others
-pops old new None y b others some is top = absurd (cc)
-pops old new (Some x) y b others some is top =
-    let both : entry x ∷ stack new ≡ b ∷ others = sym (stack-push new x) ∙ ap stack (sym is) ∙ top in
+-- the last of them is the innermost
+pub last_is : (bs : List OpenBracket) (n : ℕ) (d : OpenBracket) → n ≤ length bs → (n ≡ 0 → ⊥) → stack (take n bs) ≡ entry (get_or bs (n - 1) d) ∷ stack (take (n - 1) bs)
+last_is bs zero d within some = absurd (some refl)
+last_is bs (suc n) d within some =
+    let less : suc n - 1 ≡ n = omega arith in
+    let same : suc n ≡ n + 1 = omega arith in
+    ap (λ (k : ℕ). stack (take k bs)) same ∙ ap stack (take_more bs n d (omega (arith, within))) ∙ stack-push (take n bs) (get_or bs n d)
+    ∙ ap (λ (k : ℕ). entry (get_or bs k d) ∷ stack (take k bs)) (sym less)
+
+-- without it the others are open
+pub popped : (bs : List OpenBracket) (n : ℕ) (b : Bracket) (others : List Bracket) → n ≤ length bs → stack (take n bs) ≡ b ∷ others → stack (take (n - 1) bs) ≡ others
+popped bs zero b others within top = absurd (cc)
+popped bs (suc n) b others within top =
+    let d : OpenBracket = record { opener = 0; place = 0 } in
+    let both : entry (get_or bs (suc n - 1) d) ∷ stack (take (suc n - 1) bs) ≡ b ∷ others = sym (last_is bs (suc n) d within (λ none. absurd (omega (arith, none)))) ∙ top in
     cc
 
 -- an operator at a byte

@@ -524,7 +524,7 @@ pub begins_with : (bytes : List ℕ) (b : ℕ) → Some b ≡ slice_get bytes 0 
 begins_with [] b is = absurd (cc)
 begins_with (x ∷ xs) b is = let same : b ≡ x = cc in ap (λ (n : ℕ). n ∷ xs) same
 
-pub operator_taken : (old new : Scan) (bytes : List ℕ) (met : Brackets) (stands : Bool) → begins is_operator bytes ≡ true → Meets old.brackets (slice_index bytes 0) old.stop (Ok stands) met → stands ≡ true → AddsToken (with_brackets old met) (kind.Op (slice_index bytes 0)) 1 new → TakesOperator old bytes 1 new
+pub operator_taken : (old new : Scan) (bytes : List ℕ) (met : Brackets) (stands : Bool) → begins is_operator bytes ≡ true → Meets old.brackets (slice_index bytes 0) old.stop stands met → stands ≡ true → AddsToken (with_brackets old met) (kind.Op (slice_index bytes 0)) 1 new → TakesOperator old bytes 1 new
 operator_taken old new [] met stands some took holds adds = absurd (both_ways _ refl some)
 operator_taken old new (b ∷ bs) met true some took holds adds = record { c = b; after = bs; spell = refl; size = refl; passes = some; met = met; stands = took; adds = adds }
 operator_taken old new (b ∷ bs) met false some took holds adds = absurd (both_ways _ refl holds)

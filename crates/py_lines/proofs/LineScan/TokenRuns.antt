@@ -1,5 +1,5 @@
 -- Tokens that follow one another, with the space between them, are taken in one loop.
-use Rattle.std.proofs.Common.{◌≡◌, ℕ, zero, suc, ◌+◌, ◌-◌, ◌<◌, ◌≤◌, inl, inr, Bool, true, false, Option, None, Some, Ok, List, [], ◌∷◌, ◌++◌, length, take, drop, slice_index, refl, sym, ap, ◌∙◌, subst, arith, ⊎_elim, take_all, length-drop}
+use Rattle.std.proofs.Common.{◌≡◌, ℕ, zero, suc, ◌+◌, ◌-◌, ◌<◌, ◌≤◌, inl, inr, Bool, true, false, Option, None, Some, List, [], ◌∷◌, ◌++◌, length, take, drop, slice_index, refl, sym, ap, ◌∙◌, subst, arith, ⊎_elim, take_all, length-drop}
 use Rattle.std.specs.Prelude.{nat_lt}
 use Rattle.std.specs.Char.{is_ascii_digit}
 use Rattle.std.specs.Global.{Vec}
@@ -55,7 +55,7 @@ begins_from passes [] some is = absurd (omega (arith, some))
 begins_from passes (b ∷ bs) some is = is
 
 -- the token of a word
-pub word_met : (scan : Scan) (place : ℕ) (bytes : List ℕ) (found : Option (TokKind × ℕ)) → begins is_ascii_word bytes ≡ true → IsWholeWord (stack_of scan.brackets) bytes found → MeetsToken scan place bytes (Ok found) scan
+pub word_met : (scan : Scan) (place : ℕ) (bytes : List ℕ) (found : Option (TokKind × ℕ)) → begins is_ascii_word bytes ≡ true → IsWholeWord (stack_of scan.brackets) bytes found → MeetsToken scan place bytes found scan
 word_met scan place bytes None first is = refl
 word_met scan place [] (Some (k, len)) first is = absurd (both_ways _ refl first)
 word_met scan place (b ∷ bs) (Some (k, len)) first (short, run, next, is) = (
@@ -69,7 +69,7 @@ word_met scan place (b ∷ bs) (Some (k, len)) first (short, run, next, is) = (
 )
 
 -- an operator that is no bracket
-pub operator_met : (scan : Scan) (place : ℕ) (bytes : List ℕ) → 2 < length bytes → BeginsSo first.Operator (slice_index bytes 0) → MeetsToken scan place bytes (Ok (Some (kind.Op (slice_index bytes 0), 1))) scan
+pub operator_met : (scan : Scan) (place : ℕ) (bytes : List ℕ) → 2 < length bytes → BeginsSo first.Operator (slice_index bytes 0) → MeetsToken scan place bytes (Some (kind.Op (slice_index bytes 0), 1)) scan
 operator_met scan place [] some so = absurd (omega (arith, some))
 operator_met scan place (b ∷ bs) some so = (
   refl,
@@ -80,19 +80,19 @@ operator_met scan place (b ∷ bs) some so = (
 )
 
 -- a bracket that its brackets have met
-pub bracket_met : (scan new : Scan) (place : ℕ) (bytes : List ℕ) (met : Brackets) (may : Bool) → 2 < length bytes → new ≡ with_brackets scan met → begins is_operator bytes ≡ true → Meets scan.brackets (slice_index bytes 0) place (Ok may) met → may ≡ true → MeetsToken scan place bytes (Ok (Some (kind.Op (slice_index bytes 0), 1))) new
+pub bracket_met : (scan new : Scan) (place : ℕ) (bytes : List ℕ) (met : Brackets) (may : Bool) → 2 < length bytes → new ≡ with_brackets scan met → begins is_operator bytes ≡ true → Meets scan.brackets (slice_index bytes 0) place may met → may ≡ true → MeetsToken scan place bytes (Some (kind.Op (slice_index bytes 0), 1)) new
 bracket_met scan new place bytes met may room is begun meets so = (
   is ∙ ap (λ (s : Scan). with_brackets scan s.brackets) (sym is),
   omega arith,
   room,
   λ old later brackets stop adds.
-      let at_stop : Meets old.brackets (slice_index bytes 0) old.stop (Ok may) met = subst (λ (x : Brackets). Meets x (slice_index bytes 0) old.stop (Ok may) met) (sym brackets) (subst (λ (n : ℕ). Meets scan.brackets (slice_index bytes 0) n (Ok may) met) (sym stop) meets) in
+      let at_stop : Meets old.brackets (slice_index bytes 0) old.stop may met = subst (λ (x : Brackets). Meets x (slice_index bytes 0) old.stop may met) (sym brackets) (subst (λ (n : ℕ). Meets scan.brackets (slice_index bytes 0) n may met) (sym stop) meets) in
       let met_is : new.brackets ≡ met = ap (λ (s : Scan). s.brackets) is in
       inr (inl (operator_taken old later bytes met may begun at_stop so (subst (λ (x : Brackets). AddsToken (with_brackets old x) (kind.Op (slice_index bytes 0)) 1 later) met_is adds))),
 )
 
 -- a string
-pub text_met : (scan : Scan) (place : ℕ) (bytes : List ℕ) (len : ℕ) → IsWholePlainString bytes len → len + 1 < length bytes → MeetsToken scan place bytes (Ok (Some (kind.Str, len))) scan
+pub text_met : (scan : Scan) (place : ℕ) (bytes : List ℕ) (len : ℕ) → IsWholePlainString bytes len → len + 1 < length bytes → MeetsToken scan place bytes (Some (kind.Str, len)) scan
 text_met scan place bytes len whole short = (
   refl,
   (text_size bytes len whole).0,
@@ -102,7 +102,7 @@ text_met scan place bytes len whole short = (
 )
 
 -- a string with fields
-pub fields_met : (scan : Scan) (place : ℕ) (bytes : List ℕ) (len : ℕ) → IsWholeStringWithFields bytes len → len + 1 < length bytes → depth_of scan.brackets ≤ 100 → MeetsToken scan place bytes (Ok (Some (kind.Str, len))) scan
+pub fields_met : (scan : Scan) (place : ℕ) (bytes : List ℕ) (len : ℕ) → IsWholeStringWithFields bytes len → len + 1 < length bytes → depth_of scan.brackets ≤ 100 → MeetsToken scan place bytes (Some (kind.Str, len)) scan
 fields_met scan place bytes len whole short room = (
   refl,
   (string_size bytes len whole).0,
@@ -213,7 +213,7 @@ pub space_within : (st : List Bracket) (rest : List ℕ) (len : ℕ) → IsSpace
 space_within st rest len how = ⊎_elim (λ none. omega (arith, none)) (λ (some, run, next). run.within) how
 
 -- one more token, and the space after it
-pub ahead_more : (first scan met : Scan) (bytes rest : List ℕ) (place len space : ℕ) (tokens : Vec Token) (k : TokKind) → is_free first.piece.mode ≡ true → StandsAhead first bytes scan place rest → MeetsToken scan place rest (Ok (Some (k, len))) met → tokens.items ≡ met.tokens.items ++ token k place (place + len) met.count.line ∷ [] → IsSpaceAfter (stack_of met.brackets) (take (length rest - len) (drop len rest)) space → StandsAhead first bytes (record met { tokens = tokens }) (place + (len + space)) (take (length rest - (len + space)) (drop (len + space) rest))
+pub ahead_more : (first scan met : Scan) (bytes rest : List ℕ) (place len space : ℕ) (tokens : Vec Token) (k : TokKind) → is_free first.piece.mode ≡ true → StandsAhead first bytes scan place rest → MeetsToken scan place rest (Some (k, len)) met → tokens.items ≡ met.tokens.items ++ token k place (place + len) met.count.line ∷ [] → IsSpaceAfter (stack_of met.brackets) (take (length rest - len) (drop len rest)) space → StandsAhead first bytes (record met { tokens = tokens }) (place + (len + space)) (take (length rest - (len + space)) (drop (len + space) rest))
 ahead_more first scan met bytes rest place len space tokens k free ahead (same, some, short, next) pushed spaces =
     let n = length bytes - length rest in
     let new = record met { tokens = tokens } in

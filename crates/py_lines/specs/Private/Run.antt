@@ -460,15 +460,14 @@ IsNextToken before after place bytes k len =
     → TakesToken old bytes len new
 
 -- such a token was met, or the scan is as it was
-abbrev pub MeetsToken : Scan → ℕ → List ℕ → Result (Option (TokKind × ℕ)) AllocError → Scan → Type 0
-MeetsToken old place bytes (Ok None) new = new ≡ old
-MeetsToken old place bytes (Ok (Some (k, len))) new =
+abbrev pub MeetsToken : Scan → ℕ → List ℕ → Option (TokKind × ℕ) → Scan → Type 0
+MeetsToken old place bytes None new = new ≡ old
+MeetsToken old place bytes (Some (k, len)) new =
     (new ≡ with_brackets old new.brackets) × (0 < len) × (len + 1 < length bytes) × IsNextToken old.brackets new.brackets place bytes k len
-MeetsToken old place bytes (Err e) new = Unit {0}
 
 -- so at each byte, where no bracket is met
 abbrev pub FindsToken : Scan → List ℕ → Option (TokKind × ℕ) → Type 0
-FindsToken scan bytes found = (place : ℕ) → MeetsToken scan place bytes (Ok found) scan
+FindsToken scan bytes found = (place : ℕ) → MeetsToken scan place bytes found scan
 
 -- a piece came after closed ones, or nothing was taken
 abbrev pub TakesPiece : Scan → List ℕ → Result Taken AllocError → Scan → Type 0

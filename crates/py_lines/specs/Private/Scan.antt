@@ -1,5 +1,5 @@
 -- What the scan of one logical line holds, in the words of the machine. It serves the contracts of private functions.
-use Rattle.std.specs.Prelude.{◌≡◌, ℕ, ◌+◌, ◌-◌, ◌==◌, ◌&&◌, ◌||◌, not, Bool, true, false, Option, None, Some, Result, Ok, Err, List, [], ◌∷◌, ◌++◌, length, encode_utf8, encode_utf8_all, if◌then◌else◌, ◌⊎◌}
+use Rattle.std.specs.Prelude.{◌≡◌, ℕ, ◌+◌, ◌-◌, ◌==◌, ◌&&◌, ◌||◌, not, Bool, true, false, Option, None, Some, Result, Ok, Err, List, [], ◌∷◌, ◌++◌, length, take, encode_utf8, encode_utf8_all, if◌then◌else◌, ◌⊎◌}
 use Rattle.std.specs.Str.{all_scalars, StartsWithNoChar}
 use Rattle.std.specs.Char.{len_utf8, IsScalar}
 use Rattle.std.specs.declared.alloc.AllocError.{AllocError}
@@ -51,7 +51,7 @@ stack (b ∷ bs) = stack bs ++ record { opener = b.opener; place = b.place } ∷
 
 -- the open brackets, the innermost first
 abbrev pub stack_of : Brackets → List Bracket
-stack_of b = stack b.open.items
+stack_of b = stack (take b.depth b.brackets)
 
 -- the innermost bracket, if one is open
 abbrev pub IsInnermost : Option OpenBracket → List Bracket → Type 0
@@ -63,10 +63,9 @@ abbrev pub stack_with : Brackets → ℕ → ℕ → Option (List Bracket)
 stack_with b place c = brackets_after (stack_of b) place (record { class = operator; text = c ∷ [] })
 
 -- an operator at this byte goes into the stack, or may not stand there
-abbrev pub Meets : Brackets → ℕ → ℕ → Result Bool AllocError → Brackets → Type 0
-Meets old c place (Ok true) new = stack_with old place c ≡ Some (stack_of new)
-Meets old c place (Ok false) new = (stack_with old place c ≡ None) × (new ≡ old)
-Meets old c place (Err e) new = Unit {0}
+abbrev pub Meets : Brackets → ℕ → ℕ → Bool → Brackets → Type 0
+Meets old c place true new = stack_with old place c ≡ Some (stack_of new)
+Meets old c place false new = (stack_with old place c ≡ None) × (new ≡ old)
 
 -- the kind of a line with one more token
 abbrev pub kind_with : UnitKind → TokKind → UnitKind

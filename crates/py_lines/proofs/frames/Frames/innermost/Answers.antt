@@ -6,5 +6,5 @@ use Rattle.py_lines.proofs.frames.Frames.innermost.Goals as goal
 pub returns : goal.returns
 returns c =
     let q = c.self.inside in
-    let within : q.depth ≤ length q.slots = omega (arith, c.self.invariant.0) in
+    let within : q.depth ≤ length q.slots = omega (arith, c.self.invariant.0, c.self.invariant.1) in
     (first_frames q.slots (q.depth - 1), sym c.self.view_is ∙ first_frames-last q.slots q.depth within c.if-self-eq0.false ∙ ap (λ (f : Frame). f ∷ first_frames q.slots (q.depth - 1)) (sym c.frame.ensures))

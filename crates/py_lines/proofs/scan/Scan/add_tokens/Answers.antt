@@ -1,4 +1,4 @@
-use Rattle.std.proofs.Common.{◌≡◌, ℕ, ◌+◌, ◌-◌, take, Option, Some, Ok, length, drop, sym, ap, subst, arith, length-drop, take_all}
+use Rattle.std.proofs.Common.{◌≡◌, ℕ, ◌+◌, ◌-◌, take, Option, Some, length, drop, sym, ap, subst, arith, length-drop, take_all}
 use Rattle.py_lines.specs.declared.token.TokKind.{TokKind}
 use Rattle.py_lines.specs.Private.Run.{HasAdded, MeetsToken}
 use Rattle.py_lines.proofs.LineScan.TokenRuns.{ahead_first, ahead_added, ahead_more, space_within}
@@ -6,8 +6,8 @@ use Rattle.py_lines.proofs.scan.Scan.add_tokens.Goals as goal
 use Rattle.py_lines.proofs.scan.Scan.add_tokens.Goals.{In-Some}
 
 -- the token that was met
-met : (c : In-Some) → MeetsToken c.loop-rest.self c.loop-rest.place c.loop-rest.rest.now (Ok (Some (c.in-Some.kind, c.in-Some.len))) c.meet_token.new.self
-met c = subst (λ (o : Option (TokKind × ℕ)). MeetsToken c.loop-rest.self c.loop-rest.place c.loop-rest.rest.now (Ok o) c.meet_token.new.self) c.in-Some.is c.in_ok-kind.ensures
+met : (c : In-Some) → MeetsToken c.loop-rest.self c.loop-rest.place c.loop-rest.rest.now (Some (c.in-Some.kind, c.in-Some.len)) c.meet_token.new.self
+met c = subst (λ (o : Option (TokKind × ℕ)). MeetsToken c.loop-rest.self c.loop-rest.place c.loop-rest.rest.now o c.meet_token.new.self) c.in-Some.is c.meet_token.ensures
 
 pub loop-rest-init : goal.loop-rest-init
 loop-rest-init c = record { ahead = ahead_first c.args.self.now c.args.bytes.now }
@@ -17,7 +17,7 @@ overflow_sub-result c = c.loop-rest.invariant.ahead.shorter
 
 pub returns-in_default : goal.returns-in_default
 returns-in_default c =
-    let same = subst (λ (o : Option (TokKind × ℕ)). MeetsToken c.loop-rest.self c.loop-rest.place c.loop-rest.rest.now (Ok o) c.meet_token.new.self) c.in_default.is c.in_ok-kind.ensures in
+    let same = subst (λ (o : Option (TokKind × ℕ)). MeetsToken c.loop-rest.self c.loop-rest.place c.loop-rest.rest.now o c.meet_token.new.self) c.in_default.is c.meet_token.ensures in
     subst (HasAdded c.args.self.now c.args.bytes.now _) (sym same) (ahead_added c.args.self.now c.loop-rest.self c.args.bytes.now c.loop-rest.rest.now c.loop-rest.place c.loop-rest.invariant.ahead)
 
 pub overflow_add-place : goal.overflow_add-place

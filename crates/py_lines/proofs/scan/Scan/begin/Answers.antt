@@ -1,4 +1,4 @@
-use Rattle.std.proofs.Common.{Bool, Ok, refl, sym, ap, subst}
+use Rattle.std.proofs.Common.{Bool, refl, sym, ap, subst}
 use Rattle.py_lines.specs.declared.scan.Scan.{Scan}
 use Rattle.py_lines.specs.Private.Scan.{Meets, in_mode}
 use Rattle.py_lines.proofs.Machine.Starts.{StartsSo, starts_so}
@@ -19,6 +19,6 @@ pub returns-in_ok-take_operator-in-Operator : goal.returns-in_ok-take_operator-i
 returns-in_ok-take_operator-in-Operator c =
     rw (← c.in-Operator.ensures) (
       c.meet.new.self,
-      subst (λ (b : Bool). Meets c.args.self.now.brackets c.args.c c.args.self.now.stop (Ok b) c.meet.new.self) c.if-not-branch.false c.in_ok-meet-in-Operator.ensures,
+      subst (λ (b : Bool). Meets c.args.self.now.brackets c.args.c c.args.self.now.stop b c.meet.new.self) c.if-not-meet.false c.meet.ensures,
       c.in_ok-take_operator-in-Operator.ensures,
     )

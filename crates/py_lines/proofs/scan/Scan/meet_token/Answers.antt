@@ -6,5 +6,5 @@ use Rattle.py_lines.proofs.scan.Scan.meet_token.Goals as goal
 pub returns-in-Operator : goal.returns-in-Operator
 returns-in-Operator c = operator_met c.args.self.now c.args.place c.args.bytes.now (omega (arith, c.requires)) c.in-Operator.ensures.begins
 
-pub returns-else-not-branch : goal.returns-else-not-branch
-returns-else-not-branch c = bracket_met c.args.self.now _ c.args.place c.args.bytes.now c.meet.new.self c.in_ok-meet-in-Bracket.field-0 (omega (arith, c.requires)) refl (begins_from is_operator c.args.bytes.now (omega (arith, c.requires)) c.in-Bracket.ensures.begins) c.in_ok-meet-in-Bracket.ensures c.if-not-branch.false
+pub returns-else-not-meet : goal.returns-else-not-meet
+returns-else-not-meet c = bracket_met c.args.self.now _ c.args.place c.args.bytes.now c.meet.new.self c.meet.result (omega (arith, c.requires)) refl (begins_from is_operator c.args.bytes.now (omega (arith, c.requires)) c.in-Bracket.ensures.begins) c.meet.ensures c.if-not-meet.false
