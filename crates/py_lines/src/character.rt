@@ -3,7 +3,7 @@
 ghost use Rattle.std.specs.Prelude.{◌≡◌};
 ghost use Rattle.py_lines.specs.Character.{is_mark, is_space, is_word_character, is_word_start, is_digit, is_quote};
 ghost use Rattle.py_lines.specs.Character.{is_operator, is_line_feed, is_return, is_break, is_hash, is_backslash};
-ghost use Rattle.py_lines.specs.Character.{is_brace, is_r, is_b, is_f, is_t, is_u};
+ghost use Rattle.py_lines.specs.Character.{is_brace};
 ghost use Rattle.py_lines.specs.Balance.{is_opening, is_closing};
 
 use crate::run::is_ascii_word;
@@ -143,46 +143,6 @@ pub fn is_brace(c: char) -> bool
     ensures { result ≡ is_brace c }
 {
     matches!(c, '{' | '}')
-}
-
-/// `r` in either case, in the prefix of a string.
-#[tactic(auto, unfolding(crate::specs::Character::is_r))]
-pub fn is_r(c: char) -> bool
-    ensures { result ≡ is_r c }
-{
-    matches!(c, 'r' | 'R')
-}
-
-/// `b` in either case, in the prefix of a string.
-#[tactic(auto, unfolding(crate::specs::Character::is_b))]
-pub fn is_b(c: char) -> bool
-    ensures { result ≡ is_b c }
-{
-    matches!(c, 'b' | 'B')
-}
-
-/// `f` in either case, in the prefix of a string.
-#[tactic(auto, unfolding(crate::specs::Character::is_f))]
-pub fn is_f(c: char) -> bool
-    ensures { result ≡ is_f c }
-{
-    matches!(c, 'f' | 'F')
-}
-
-/// `t` in either case, in the prefix of a string.
-#[tactic(auto, unfolding(crate::specs::Character::is_t))]
-pub fn is_t(c: char) -> bool
-    ensures { result ≡ is_t c }
-{
-    matches!(c, 't' | 'T')
-}
-
-/// `u` in either case, in the prefix of a string.
-#[tactic(auto, unfolding(crate::specs::Character::is_u))]
-pub fn is_u(c: char) -> bool
-    ensures { result ≡ is_u c }
-{
-    matches!(c, 'u' | 'U')
 }
 
 /// Opening brackets.

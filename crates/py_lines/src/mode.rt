@@ -8,8 +8,8 @@ ghost use Rattle.py_lines.specs.Private.Run.{word_spelling, is_free};
 ghost use Rattle.py_lines.specs.Private.Scan.{is_join_mode, is_return_mode, holds_nothing};
 
 use crate::character::{
-    is_b, is_backslash, is_break, is_digit, is_f, is_hash, is_line_feed, is_mark, is_operator,
-    is_quote, is_r, is_return, is_space, is_t, is_u, is_word_character, is_word_start,
+    is_backslash, is_break, is_hash, is_line_feed, is_mark, is_operator, is_quote, is_return,
+    is_space, is_word_character, is_word_start,
 };
 use crate::host::StringWithFields;
 use crate::token::TokKind;
@@ -99,40 +99,34 @@ pub enum Start {
 
 impl Spelling {
     /// The spelling of a word that begins with `c`.
-    #[tactic(auto, unfolding(crate::specs::Private::Machine::first_spelling))]
+    #[tactic(auto, unfolding(crate::specs::Private::Machine::first_spelling, crate::specs::Character::is_digit, crate::specs::Character::is_r, crate::specs::Character::is_b, crate::specs::Character::is_f, crate::specs::Character::is_t, crate::specs::Character::is_u))]
     fn of(c: char) -> Spelling
         ensures { result ≡ first_spelling c }
     {
-        if is_digit(c) {
-            Spelling::Number
-        } else if is_r(c) {
-            Spelling::R
-        } else if is_b(c) {
-            Spelling::B
-        } else if is_f(c) {
-            Spelling::F
-        } else if is_t(c) {
-            Spelling::T
-        } else if is_u(c) {
-            Spelling::Prefix
-        } else {
-            Spelling::Name
+        match c {
+            '0'..='9' => Spelling::Number,
+            'r' | 'R' => Spelling::R,
+            'b' | 'B' => Spelling::B,
+            'f' | 'F' => Spelling::F,
+            't' | 'T' => Spelling::T,
+            'u' | 'U' => Spelling::Prefix,
+            _ => Spelling::Name,
         }
     }
 
     /// The spelling of the word with one more character.
-    #[tactic(auto, unfolding(crate::specs::Private::Machine::spelling_with))]
+    #[tactic(auto, unfolding(crate::specs::Private::Machine::spelling_with, crate::specs::Character::is_r, crate::specs::Character::is_b, crate::specs::Character::is_f, crate::specs::Character::is_t))]
     fn with(self, c: char) -> Spelling
         ensures { result ≡ spelling_with self c }
     {
         match self {
             Spelling::Number => Spelling::Number,
-            Spelling::R if is_b(c) => Spelling::Prefix,
-            Spelling::R if is_f(c) => Spelling::Fr,
-            Spelling::R if is_t(c) => Spelling::Tr,
-            Spelling::B if is_r(c) => Spelling::Prefix,
-            Spelling::F if is_r(c) => Spelling::Fr,
-            Spelling::T if is_r(c) => Spelling::Tr,
+            Spelling::R if matches!(c, 'b' | 'B') => Spelling::Prefix,
+            Spelling::R if matches!(c, 'f' | 'F') => Spelling::Fr,
+            Spelling::R if matches!(c, 't' | 'T') => Spelling::Tr,
+            Spelling::B if matches!(c, 'r' | 'R') => Spelling::Prefix,
+            Spelling::F if matches!(c, 'r' | 'R') => Spelling::Fr,
+            Spelling::T if matches!(c, 'r' | 'R') => Spelling::Tr,
             _ => Spelling::Name,
         }
     }

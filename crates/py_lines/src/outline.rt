@@ -1,7 +1,7 @@
 //! The outline of simple lines: where each of them ends, told by what opens and closes alone. No token is made.
 
 ghost use Rattle.std.specs.Prelude.{◌≡◌, ◌+◌, ◌<◌, true, IsTrue, drop, length, slice_index};
-ghost use Rattle.py_lines.specs.Character.{is_backslash, is_hash, is_line_feed, is_quote};
+ghost use Rattle.py_lines.specs.Character.{is_backslash, is_hash, is_quote};
 ghost use Rattle.py_lines.specs.Private.Marks.{is_of_class};
 ghost use Rattle.py_lines.specs.Private.Outline.{BeginWithLines, BeginsLineEnd, IsAt, IsFurther, IsPast, PassesFirst, PassesPiece};
 
@@ -103,17 +103,6 @@ impl Outline {
         }
     }
 
-    /// Passes the LF at this byte.
-    #[inline(always)]
-    fn pass_line_feed(&mut self, bytes: &[u8], at: usize)
-        requires within { at < length bytes.now }
-        requires stands { IsAt bytes.now at self.old }
-        requires feed { is_line_feed (slice_index bytes.now at) ≡ true }
-        ensures { IsFurther bytes.now at self.new }
-    {
-        self.pass_line_end(bytes, at, 1);
-    }
-
     /// Passes the CR at this byte, and the LF after it. The result is whether LF follows, so that they were passed.
     fn pass_return(&mut self, bytes: &[u8], at: usize) -> bool
         requires within { at < length bytes.now }
@@ -156,7 +145,7 @@ impl Outline {
     {
         match Class::of(bytes[at]) {
             Class::LineFeed => {
-                self.pass_line_feed(bytes, at);
+                self.pass_line_end(bytes, at, 1);
                 true
             }
             Class::Return => self.pass_return(bytes, at),

@@ -132,21 +132,13 @@ fn literal(quote: u8, lanes: u8x16) -> u8x16
     text(quote, lanes) & equal(braces, 0)
 }
 
-/// The lanes that hold spaces, or operators that code in fields has mostly.
-#[inline(always)]
-fn code_signs(lanes: u8x16) -> u8x16
-    ensures { Marks is_code_sign lanes result }
-{
-    let others = between(lanes, b' ', b'!') | equal(lanes, b'=');
-    between(lanes, b'*', b'/') | others
-}
-
 /// The lanes of code in fields.
 #[inline(always)]
 fn code(lanes: u8x16) -> u8x16
     ensures { Marks is_code_byte lanes result }
 {
-    words(lanes) | code_signs(lanes)
+    let others = between(lanes, b' ', b'!') | equal(lanes, b'=');
+    words(lanes) | (between(lanes, b'*', b'/') | others)
 }
 
 /// The lanes of a comment, where it is ASCII.

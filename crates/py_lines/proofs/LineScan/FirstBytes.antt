@@ -1,5 +1,5 @@
 -- What the kind of a byte tells of the piece that it begins.
-use Rattle.std.proofs.Common.{◌≡◌, ℕ, ◌⊎◌, Bool, true, false, ◌||◌, Some, List, [], ◌∷◌, ◌<◌, length, drop, slice_get, slice_index, refl, sym, subst, ⊎_elim, arith}
+use Rattle.std.proofs.Common.{◌≡◌, ℕ, ◌⊎◌, Bool, true, false, ◌||◌, Some, List, drop, slice_get, refl, sym, subst, ⊎_elim}
 use Rattle.std.proofs.lemmas.Bool.{and_from}
 use Rattle.py_lines.specs.Balance.{is_opening, is_closing}
 use Rattle.py_lines.specs.Character.{is_space, is_operator, is_line_feed, is_return, is_break, is_hash, is_backslash}
@@ -71,7 +71,3 @@ break_follows st b f so how =
 -- an operator that is no bracket leaves the brackets
 pub alone_taken : (old new : Scan) (bytes : List ℕ) (b : ℕ) → Some b ≡ slice_get bytes 0 → (is_operator b ≡ true) × (is_opening b ≡ false) × (is_closing b ≡ false) → AddsToken old (kind.Op b) 1 new → TakesOperator old bytes 1 new
 alone_taken old new bytes b first (passes, opens, closes) adds = record { c = b; after = drop 1 bytes; spell = begins_with bytes b first; size = refl; passes = passes; met = old.brackets; stands = keeps_at (stack_of old.brackets) old.stop b opens closes; adds = adds }
-
-pub alone_first : (old new : Scan) (bytes : List ℕ) → 0 < length bytes → BeginsSo first.Operator (slice_index bytes 0) → AddsToken old (kind.Op (slice_index bytes 0)) 1 new → TakesOperator old bytes 1 new
-alone_first old new [] some so adds = absurd (omega (arith, some))
-alone_first old new (b ∷ bs) some so adds = alone_taken old new (b ∷ bs) b refl so adds
