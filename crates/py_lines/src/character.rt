@@ -1,7 +1,7 @@
 //! Which characters the pieces of a text are made of (Python Language Reference, 2.1 to 2.6).
 
 ghost use Rattle.std.specs.Prelude.{◌≡◌};
-ghost use Rattle.py_lines.specs.Character.{is_mark, is_space, is_word_character, is_word_start, is_digit, is_quote};
+ghost use Rattle.py_lines.specs.Character.{is_mark, is_space, is_word_character, is_word_start, is_quote};
 ghost use Rattle.py_lines.specs.Character.{is_operator, is_line_feed, is_return, is_break, is_hash, is_backslash};
 ghost use Rattle.py_lines.specs.Character.{is_brace};
 ghost use Rattle.py_lines.specs.Balance.{is_opening, is_closing};
@@ -36,23 +36,15 @@ pub fn is_word_character(c: char) -> bool
     }
 }
 
-/// The digits from 0 to 9.
-#[tactic(auto, unfolding(crate::specs::Character::is_digit))]
-pub fn is_digit(c: char) -> bool
-    ensures { result ≡ is_digit c }
-{
-    matches!(c, '0'..='9')
-}
-
 /// The characters that may begin an identifier, the underscore and the digits.
-#[tactic(auto, using(crate::proofs::LineScan::Runs::word_byte_starts), unfolding(crate::specs::Character::is_word_start))]
+#[tactic(auto, using(crate::proofs::LineScan::Runs::word_byte_starts), unfolding(crate::specs::Character::is_word_start, crate::specs::Character::is_digit))]
 pub fn is_word_start(c: char) -> bool
     ensures { result ≡ is_word_start c }
 {
     if c.is_ascii() {
         is_ascii_word(c as u8)
     } else {
-        unicode_ident::is_xid_start(c) || c == '_' || is_digit(c)
+        unicode_ident::is_xid_start(c) || c == '_' || c.is_ascii_digit()
     }
 }
 

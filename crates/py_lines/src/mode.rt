@@ -1,6 +1,6 @@
 //! The machine that reads a text one character at a time.
 
-ghost use Rattle.std.specs.Prelude.{◌≡◌, ◌<◌, ◌==◌, ◌||◌, ◌&&◌, length};
+ghost use Rattle.std.specs.Prelude.{◌≡◌, ◌<◌, ◌==◌, ◌||◌, ◌&&◌, if◌then◌else◌, length};
 ghost use Rattle.py_lines.specs.Private.Machine.{first_spelling, spelling_with, token_of, short_move, long_move};
 ghost use Rattle.py_lines.specs.Private.Machine.{start_of, in_short, in_long, is_after_backslash};
 ghost use Rattle.py_lines.specs.Private.ScanMachine.{is_field_spelling, is_raw_spelling, begins_string, quote_move, opened_move, meet_of};
@@ -200,12 +200,14 @@ fn opened_move(host: StringWithFields, c: char) -> Move
     }
 }
 
-/// What a character that doesn't close the string does in a short string.
+/// What a character does in a short string, where its quote does this.
 #[tactic(auto, unfolding(crate::specs::Private::Machine::short_move))]
-fn short_move(quote: char, c: char) -> Move
-    ensures { result ≡ short_move quote c }
+fn short_move(quote: char, c: char, at_quote: Move) -> Move
+    ensures { result ≡ (if c == quote then at_quote else short_move quote c) }
 {
-    if is_backslash(c) {
+    if c == quote {
+        at_quote
+    } else if is_backslash(c) {
         Move::Grows(Mode::Escape(quote))
     } else if is_break(c) {
         Move::Refused
@@ -214,12 +216,14 @@ fn short_move(quote: char, c: char) -> Move
     }
 }
 
-/// What a character other than the quote does in a long string.
+/// What a character does in a long string, where a quote of its kind does this.
 #[tactic(auto, unfolding(crate::specs::Private::Machine::long_move))]
-fn long_move(quote: char, c: char) -> Move
-    ensures { result ≡ long_move quote c }
+fn long_move(quote: char, c: char, at_quote: Move) -> Move
+    ensures { result ≡ (if c == quote then at_quote else long_move quote c) }
 {
-    if is_backslash(c) {
+    if c == quote {
+        at_quote
+    } else if is_backslash(c) {
         Move::Grows(Mode::LongEscape(quote))
     } else {
         Move::Grows(Mode::Long(quote))
@@ -333,23 +337,17 @@ impl Mode {
             Mode::Word(_) => Move::Breaks,
             Mode::Comment if is_break(c) => Move::Breaks,
             Mode::Comment => Move::Grows(Mode::Comment),
-            Mode::Opened(quote) if c == quote => Move::Grows(Mode::Empty(quote)),
-            Mode::Opened(quote) => short_move(quote, c),
-            Mode::Inside(quote) if c == quote => Move::Closes,
-            Mode::Inside(quote) => short_move(quote, c),
+            Mode::Opened(quote) => short_move(quote, c, Move::Grows(Mode::Empty(quote))),
+            Mode::Inside(quote) => short_move(quote, c, Move::Closes),
             Mode::Escape(quote) if is_return(c) => Move::Grows(Mode::EscapeReturn(quote)),
             Mode::Escape(quote) => Move::Grows(Mode::Inside(quote)),
             Mode::EscapeReturn(quote) if is_line_feed(c) => Move::Grows(Mode::Inside(quote)),
-            Mode::EscapeReturn(quote) if c == quote => Move::Closes,
-            Mode::EscapeReturn(quote) => short_move(quote, c),
+            Mode::EscapeReturn(quote) => short_move(quote, c, Move::Closes),
             Mode::Empty(quote) if c == quote => Move::Grows(Mode::Long(quote)),
             Mode::Empty(_) => Move::Breaks,
-            Mode::Long(quote) if c == quote => Move::Grows(Mode::LongOne(quote)),
-            Mode::Long(quote) => long_move(quote, c),
-            Mode::LongOne(quote) if c == quote => Move::Grows(Mode::LongTwo(quote)),
-            Mode::LongOne(quote) => long_move(quote, c),
-            Mode::LongTwo(quote) if c == quote => Move::Closes,
-            Mode::LongTwo(quote) => long_move(quote, c),
+            Mode::Long(quote) => long_move(quote, c, Move::Grows(Mode::LongOne(quote))),
+            Mode::LongOne(quote) => long_move(quote, c, Move::Grows(Mode::LongTwo(quote))),
+            Mode::LongTwo(quote) => long_move(quote, c, Move::Closes),
             Mode::LongEscape(quote) => Move::Grows(Mode::Long(quote)),
             Mode::FieldOpened(host) => opened_move(host, c),
             Mode::FieldEmpty(host) if c == host.quote => Move::Grows(Mode::Fielded),

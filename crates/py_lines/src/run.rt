@@ -22,7 +22,7 @@ use std::simd::prelude::*;
 pub fn is_ascii_word(b: u8) -> bool
     ensures { result ≡ is_ascii_word b }
 {
-    b.is_ascii_lowercase() || matches!(b, b'A'..=b'Z' | b'0'..=b'9' | b'_')
+    b.is_ascii_alphanumeric() || b == b'_'
 }
 
 /// What a piece begins with, where it is ASCII and closed pieces stand before.
