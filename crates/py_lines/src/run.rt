@@ -201,16 +201,6 @@ impl ByteRun {
         }
     }
 
-    /// How many of the first sixteen bytes are such, up to the first that isn't.
-    #[inline(always)]
-    pub fn len_in_sixteen(self, bytes: &[u8]) -> usize
-        requires { 16 ≤ length bytes.now }
-        ensures most { result ≤ 16 }
-        ensures run { result < 16 → IsRunOf (is_in_run self) bytes.now result }
-    {
-        set_first(self.mark(u8x16::from_slice(bytes)))
-    }
-
     /// How many such bytes a text begins with. They are taken sixteen at a time.
     #[inline(always)]
     pub fn len_in(self, bytes: &[u8]) -> usize
@@ -245,11 +235,11 @@ pub fn word_before_more(bytes: &[u8]) -> Option<usize>
     requires { 17 < length bytes.now }
     ensures { IsWordBeforeMore bytes.now result }
 {
-    let len = ByteRun::Word.len_in_sixteen(bytes);
+    let len = set_first(words(u8x16::from_slice(bytes)));
     if len < 16 {
         return Some(len);
     }
-    let long = long_word_run(bytes);
+    let long = word_run(bytes);
     if long < bytes.len() - 1 {
         Some(long)
     } else {
@@ -257,15 +247,8 @@ pub fn word_before_more(bytes: &[u8]) -> Option<usize>
     }
 }
 
-/// How many bytes of words a text begins with. It is seldom called.
-fn long_word_run(bytes: &[u8]) -> usize
-    ensures { IsRunOf is_ascii_word bytes.now result }
-{
-    ByteRun::Word.len_in(bytes)
-}
-
-/// How many bytes of words a text begins with, where it mostly begins with none: after a character of another script.
-fn later_word_run(bytes: &[u8]) -> usize
+/// How many bytes of words a text begins with. After a character of another script it mostly begins with none.
+fn word_run(bytes: &[u8]) -> usize
     ensures { IsRunOf is_ascii_word bytes.now result }
 {
     if bytes.is_empty() || !is_ascii_word(bytes[0]) {
@@ -279,7 +262,7 @@ fn later_characters(spelling: Spelling, bytes: &[u8]) -> usize
     ensures { Spans (stays (Word spelling)) bytes.now result }
 {
     match spelling {
-        Spelling::Number | Spelling::Name => later_word_run(bytes),
+        Spelling::Number | Spelling::Name => word_run(bytes),
         _ => 0,
     }
 }

@@ -4,14 +4,14 @@ ghost use Rattle.std.specs.Prelude.{◌≡◌, ◌+◌, ◌<◌, ◌^◌, true, 
 ghost use Rattle.py_lines.specs.Character.{is_hash, is_quote, is_return, is_space};
 ghost use Rattle.py_lines.specs.Piece.{begins};
 ghost use Rattle.py_lines.specs.Private.Scan.{stack_of};
-ghost use Rattle.py_lines.specs.Private.Run.{WhereverReached, is_free, opened, AddsTokens, FindsToken, IsSpaceAfter};
+ghost use Rattle.py_lines.specs.Private.Run.{WhereverReached, is_free, AddsTokens, FindsToken, IsSpaceAfter};
 ghost use Rattle.py_lines.specs.Private.Run.{IsWholeWord, MeetsToken, follows_space};
 ghost use Rattle.py_lines.specs.Private.Run.{TakesLineFeed, TakesMargin, TakesReturn};
 ghost use Rattle.py_lines.specs.Private.Run.{TakesPiece, TakesRemark, line_ended, IsNoLonger};
 ghost use Rattle.py_lines.specs.Private.Run.{LeavesOff, is_ascii_word, follows, may_begin};
 
 use crate::character::is_line_feed;
-use crate::mode::{Mode, Spelling};
+use crate::mode::Mode;
 use crate::run::{ByteRun, FirstByte, whole_comment, word_before_more};
 use crate::scan::{OpenPiece, Scan};
 use crate::token::{TokKind, Token};
@@ -42,20 +42,6 @@ pub enum Left<'s> {
 }
 
 impl Scan {
-    /// Opens a piece of so many bytes, none of which ends a line, after closed ones.
-    fn open(&mut self, mode: Mode, len: usize)
-        requires { self.old.stop + len < 2 ^ 64 }
-        ensures { self.new ≡ opened self.old mode len }
-    {
-        self.piece = OpenPiece {
-            mode,
-            start: self.stop,
-            line: self.count.line,
-        };
-        self.stop += len;
-        self.count.after_return = false;
-    }
-
     /// Whether a piece that may stand next begins so, other than a string.
     #[inline(always)]
     fn follows(&self, byte: u8) -> bool
@@ -81,25 +67,14 @@ impl Scan {
         }
     }
 
-    /// Whether the bytes begin with a piece that may stand next.
-    #[inline(always)]
-    fn is_begun(&self, bytes: &[u8]) -> bool
-        ensures { result ≡ true → begins (may_begin (stack_of self.now.brackets)) bytes.now ≡ true }
-    {
-        match bytes.first().copied() {
-            Some(byte) => self.may_begin(byte),
-            None => false,
-        }
-    }
-
     /// Takes the space that the bytes begin with, after closed pieces, if a piece that may follow begins after it.
     fn take_space(&mut self, bytes: &[u8]) -> Taken
         requires bytes { self.old.stop + length bytes.now < 2 ^ 64 }
         requires begins { begins is_space bytes.now ≡ true }
         ensures { TakesMargin self.old bytes.now result self.new }
     {
-        let len = ByteRun::Space.len_in(bytes);
-        if !self.is_begun(&bytes[len..]) {
+        let len = self.more_space(bytes);
+        if len == 0 {
             return Taken::Nothing;
         }
         if self.margin {
@@ -121,7 +96,13 @@ impl Scan {
         let Some(len) = whole_comment(bytes) else {
             return Ok(Taken::Nothing);
         };
-        self.open(Mode::Comment, len);
+        self.piece = OpenPiece {
+            mode: Mode::Comment,
+            start: self.stop,
+            line: self.count.line,
+        };
+        self.stop += len;
+        self.count.after_return = false;
         self.close()?;
         Ok(Taken::Bytes(len))
     }
@@ -197,14 +178,17 @@ impl Scan {
         }
     }
 
-    /// The same, where it isn't one byte alone.
+    /// How many bytes of space the bytes begin with, if a piece that may follow begins after it; else 0.
     #[inline(always)]
     fn more_space(&self, bytes: &[u8]) -> usize
         requires { begins is_space bytes.now ≡ true }
         ensures { IsSpaceAfter (stack_of self.now.brackets) bytes.now result }
     {
         let len = ByteRun::Space.len_in(bytes);
-        if self.is_begun(&bytes[len..]) { len } else { 0 }
+        match bytes[len..].first().copied() {
+            Some(byte) if self.may_begin(byte) => len,
+            _ => 0,
+        }
     }
 
     /// The length of the space that the bytes begin with, if a piece that may follow begins after it; else 0. A tab or a form

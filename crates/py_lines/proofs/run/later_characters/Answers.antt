@@ -7,6 +7,6 @@ use Rattle.py_lines.proofs.run.later_characters.Goals as goal
 
 pub returns-in-Number : goal.returns-in-Number
 returns-in-Number c =
-    let P : Spelling → Type 0 = λ s. Spans (stays (modes.Word s)) c.args.bytes.now c.later_word_run.result in
-    let spans = word_spans c.args.bytes.now c.later_word_run.result c.later_word_run.ensures in
+    let P : Spelling → Type 0 = λ s. Spans (stays (modes.Word s)) c.args.bytes.now c.word_run.result in
+    let spans = word_spans c.args.bytes.now c.word_run.result c.word_run.ensures in
     ⊎_elim (λ is. subst P (sym is) spans) (λ is. subst P (sym is) spans) c.in-Number.is
