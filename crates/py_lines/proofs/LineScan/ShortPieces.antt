@@ -1,5 +1,5 @@
 -- Words, spaces and operators that runs of bytes spell are taken whole.
-use Rattle.std.proofs.Common.{◌≡◌, ℕ, zero, suc, ◌+◌, ◌-◌, ◌<◌, ◌≤◌, inl, inr, Bool, true, false, cond, not, ◌||◌, ◌&&◌, Some, Ok, List, [], ◌∷◌, ◌++◌, length, take, drop, slice_index, slice_get, refl, sym, ap, ◌∙◌, subst, append_assoc, append-nil, arith, ⊎_elim, take-append-drop, length-append, lit<, take_all, length-drop}
+use Rattle.std.proofs.Common.{◌≡◌, ℕ, zero, suc, ◌+◌, ◌-◌, ◌<◌, ◌≤◌, inl, inr, Bool, true, false, cond, not, ◌||◌, ◌&&◌, Some, Ok, List, [], ◌∷◌, ◌++◌, length, take, drop, slice_index, slice_get, refl, sym, ap, ◌∙◌, subst, append_assoc, append-nil, arith, ⊎_elim, take-append-drop, length-append, lit<}
 use Rattle.std.specs.Prelude.{encode_utf8_all, encode_utf8, codes, nat_lt}
 use Rattle.std.specs.Str.{all_scalars}
 use Rattle.std.specs.List.{list_all}
@@ -125,10 +125,6 @@ pub full_take : (bytes : List ℕ) (n : ℕ) → 1 ≤ n → n < length bytes �
 full_take bytes zero some within = absurd (omega (arith, some))
 full_take [] (suc n) some within = absurd (omega (arith, within))
 full_take (b ∷ bs) (suc n) some within = tt
-
--- what follows a run, as a slice from its end says it
-pub followed_by : (next : List Bracket → ℕ → Bool) (st : List Bracket) (bytes : List ℕ) (len : ℕ) (b : Bool) → b ≡ begins (next st) (take (length bytes - len) (drop len bytes)) → begins (next st) (drop len bytes) ≡ b
-followed_by next st bytes len b is = ap (begins (next st)) (sym (take_all (length bytes - len) (drop len bytes) (omega (arith, length-drop len bytes)))) ∙ sym is
 
 -- whether a word is a number
 digit_same : (c : ℕ) → is_ascii_digit c ≡ is_digit c

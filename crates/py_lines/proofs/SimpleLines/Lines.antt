@@ -468,11 +468,3 @@ module _ (bytes : List ℕ) (at : ℕ) (o : Outline) (on : IsAt bytes at o) (wit
 
   pub own_few : o.line_ends ≤ at
   own_few = few_ends bytes o.lines at o.line_ends on.st on.come
-
-  -- what `pass` of the marks requires
-  pub base_before : (p : Passed) → PassesPiece bytes at (Some p) → o.marks.base ≤ at + p.len
-  base_before p passes = omega (arith, passes.1.some, (on.marked within).base)
-
--- what `next` of the marks requires
-pub base_within : (bytes : List ℕ) (at : ℕ) (o : Outline) → IsFurther bytes at o → o.marks.base ≤ length bytes
-base_within bytes at o far = let marked = far.on.marked in omega (arith, marked.base, marked.within)
