@@ -2,7 +2,7 @@
 use Rattle.std.proofs.Common.{◌≡◌, ℕ, ◌+◌, ◌-◌, ◌<◌, ◌≤◌, Bool, true, false, nat_lt, inl, inr, List, [], ◌∷◌, ◌++◌, length, take, drop, slice_range, codes, refl, sym, ap, ◌∙◌, subst, ⊎_elim, arith, append_assoc, ◌==◌, length-append, length-drop}
 use Rattle.std.specs.Prelude.{slice_index, encode_utf8_all}
 use Rattle.std.specs.List.{list_all}
-use Rattle.std.proofs.lemmas.Bool.{and_parts, or_cases, eqb-true, both_ways, ltb-true, ltb-false}
+use Rattle.std.proofs.lemmas.Bool.{cases_lt, and_parts, or_cases, eqb-true, both_ways, ltb-true, ltb-false}
 use Rattle.std.proofs.lemmas.List.{get_or_append_left, get_or-append-add, length-take-le}
 use Rattle.std.proofs.lemmas.Str.{encode_ascii}
 use Rattle.std.proofs.Math.Seq.{get_or-append_seam}
@@ -13,6 +13,7 @@ use Rattle.memchr.proofs.lemmas.MatchLemmas.{OccursAt-from_part}
 use Rattle.py_lines.specs.Character.{is_one_of, is_space, is_mark, is_break}
 use Rattle.py_lines.specs.PieceGrammar.{IsLineEnd, feed, return_feed, return, IsJoin, IsSingle}
 use Rattle.py_imports.specs.FirstWords.{opens_statement, StandsOpen, MayBegin, NoImportBegins}
+use Rattle.py_imports.specs.Private.Gaps.{IsGap}
 
 -- what each one of a list is
 abbrev Each : (ℕ → Type 0) → List ℕ → Type 0
@@ -141,12 +142,37 @@ past_opening text start place bytes low stands o =
     }
 
 -- where a line begins at a later byte too, no import statement begins after it
-pub later_start : (text : List ℕ) (start stop from : ℕ) → NoImportBegins text start stop → start ≤ from → StandsOpen text start from → NoImportBegins text from stop
+later_start : (text : List ℕ) (start stop from : ℕ) → NoImportBegins text start stop → start ≤ from → StandsOpen text start from → NoImportBegins text from stop
 later_start text start stop from none low opens place above below (may, word) = none place (omega (arith, low, above)) below (record { from = may.from; low = omega (arith, low, may.low); high = may.high; spaces = may.spaces; opens = by may.opens }, word)
   where
     by : StandsOpen text from may.from → StandsOpen text start may.from
     by (inr o) = inr o
     by (inl e) = ⊎_elim (λ same. inl (e ∙ same)) (λ o. inr (o.0, e ∙ o.1, o.2)) opens
+
+-- where a line begins later, before the place, a statement may begin at the place too
+later_may : (text : List ℕ) (start from place : ℕ) → start ≤ from → from ≤ place → MayBegin text start place → MayBegin text from place
+later_may text start from place low high may = ⊎_elim before after (cases_lt may.from from)
+  where
+    before : may.from < from → MayBegin text from place
+    before less = record { from = from; low = omega arith; high = high; spaces = λ i above below. may.spaces i (omega (arith, less, above)) below; opens = inl refl }
+
+    after : from ≤ may.from → MayBegin text from place
+    after above = record {
+      from = may.from;
+      low = above;
+      high = may.high;
+      spaces = may.spaces;
+      opens = ⊎_elim (λ same. inl (omega (arith, same, low, above))) (λ o. inr o) may.opens;
+    }
+
+-- a gap from a later byte on after which a statement may begin
+pub later_gap : (text : List ℕ) (start stop from : ℕ) → IsGap text start stop → start ≤ from → from ≤ stop → StandsOpen text start from → IsGap text from stop
+later_gap text start stop from gap low high opens = record {
+  none = later_start text start stop from gap.none low opens;
+  first = ⊎_elim (λ ends. inl ends) (λ (may, word). inr (later_may text start from stop low high may, word)) gap.first;
+  further = high;
+  within = gap.within;
+}
 
 -- where a byte stands before spaces that is no space and opens no statement
 pub begins_nowhere : (text : List ℕ) (start place at : ℕ) → start ≤ at → at < place → ((i : ℕ) → at + 1 ≤ i → i < place → is_space (slice_index text i) ≡ true) → is_space (slice_index text at) ≡ false → opens_statement (slice_index text at) ≡ false → ¬ (MayBegin text start place)

@@ -31,6 +31,10 @@ ImportMayBegin text start place = MayBegin text start place × (OccursAt text (c
 abbrev pub NoImportBegins : List ℕ → ℕ → ℕ → Type 0
 NoImportBegins text start stop = Nowhere (ImportMayBegin text start) start stop
 
+-- the text ends there, or an import statement may begin there
+abbrev pub EndsAtImport : List ℕ → ℕ → ℕ → Type 0
+EndsAtImport text start stop = (stop ≡ length text) ⊎ ImportMayBegin text start stop
+
 -- Logical lines that were read, the last ones as far as was read: their bytes, one line after another, are those of a part of a text
 -- in which no import statement begins from its start on.
 pub record LieWithoutImport (lines : List LogicalLine) : Type 0 where

@@ -5,3 +5,4 @@ pub mod Lexemes
 pub mod Items
 pub mod Bindings
 pub mod Places
+pub mod Gaps

@@ -1,14 +1,13 @@
 //! Where import statements may begin in a text.
-ghost use Rattle.std.specs.Prelude.{◌≡◌, ◌+◌, ◌<◌, ◌≤◌, IsTrue, ℕ, false, List, codes, length};
-ghost use Rattle.memchr.specs.Find.{OccursAt};
+ghost use Rattle.std.specs.Prelude.{◌≡◌, ◌+◌, ◌<◌, ◌≤◌, IsTrue, ℕ, false, List, length, slice_index};
+ghost use Rattle.std.specs.Int.{bit_at};
+ghost use Rattle.memchr.specs.Find.{Nowhere};
 ghost use Rattle.py_lines.specs.Character.{is_space};
-ghost use Rattle.py_imports.specs.FirstWords.{opens_statement, MayBegin, NoImportBegins, StandsOpen};
+ghost use Rattle.py_imports.specs.FirstWords.{opens_statement, EndsAtImport, ImportMayBegin, MayBegin, NoImportBegins};
+ghost use Rattle.py_imports.specs.Private.Gaps.{IsGap, WordLetters};
 
-use memchr::memchr;
 use std::marker::Model;
-
-/// The letter that both words have, as few other words do: it stands at place 1 of `import`, and at place 3 of `from`.
-const LETTER: u8 = b'm';
+use std::simd::prelude::*;
 
 /// Whether the byte is a space, a tab or a form feed.
 #[inline(always)]
@@ -33,7 +32,8 @@ fn opens_statement(b: u8) -> bool
 fn may_begin(text: &[u8], start: usize, place: usize) -> bool
     requires start { start ≤ place }
     requires within { place ≤ length text.now }
-    ensures { result ≡ false → ¬ (MayBegin text.now start place) }
+    ensures yes { IsTrue result → MayBegin text.now start place }
+    ensures no { result ≡ false → ¬ (MayBegin text.now start place) }
 {
     'spaces: for from in (start..place).rev() {
         let b = text[from];
@@ -44,61 +44,65 @@ fn may_begin(text: &[u8], start: usize, place: usize) -> bool
     true
 }
 
-/// Whether the word stands in the text at byte `place`.
+/// Whether an import statement may begin at byte `place`, where a line begins at byte `start`.
 #[inline(always)]
-fn stands_at(text: &[u8], word: &[u8], place: usize) -> bool
-    requires { place ≤ length text.now }
-    ensures { result ≡ false → ¬ (OccursAt text.now word.now place) }
+fn import_may_begin(text: &[u8], start: usize, place: usize) -> bool
+    requires start { start ≤ place }
+    requires within { place ≤ length text.now }
+    ensures yes { IsTrue result → ImportMayBegin text.now start place }
+    ensures no { result ≡ false → ¬ (ImportMayBegin text.now start place) }
 {
-    text[place..].starts_with(word)
+    let rest = &text[place..];
+    (rest.starts_with(b"import") || rest.starts_with(b"from")) && may_begin(text, start, place)
 }
 
-/// Whether `from` stands round the letter at byte `letter`, where a statement may begin and a line begins at byte `start`.
+/// At which of the first 64 bytes stand the first two letters of `import` or `from`, a bit for each. More bits may be set.
 #[inline(always)]
-fn from_at(text: &[u8], start: usize, letter: usize) -> bool
-    requires start { start ≤ letter }
-    requires within { letter < length text.now }
-    ensures none { result ≡ false → (k : ℕ) → start ≤ k → k + 3 ≡ letter
-        → MayBegin text.now start k → ¬ (OccursAt text.now (codes "from") k) }
-    ensures room { IsTrue result → start + 3 ≤ letter }
+fn words64(bytes: &[u8]) -> u64
+    requires { 65 ≤ length bytes.now }
+    ensures { (k : ℕ) → k < 64 → WordLetters bytes.now k → bit_at result k ≡ 1 }
 {
-    letter - start >= 3
-        && stands_at(text, b"from", letter - 3)
-        && may_begin(text, start, letter - 3)
+    let first = u8x64::from_slice(bytes);
+    let second = u8x64::from_slice(&bytes[1..]);
+    // A lane is 0 where both letters are those of the word.
+    let import = (first ^ u8x64::splat(b'i')) | (second ^ u8x64::splat(b'm'));
+    let from = (first ^ u8x64::splat(b'f')) | (second ^ u8x64::splat(b'r'));
+    import.simd_min(from).simd_eq(u8x64::splat(0)).to_bitmask()
 }
 
-/// Whether `import` stands round the letter at byte `letter`, where a statement may begin and a line begins at byte `start`.
+/// A byte, from `place` on, before which neither word begins. The last 64 bytes are not looked at.
 #[inline(always)]
-fn import_at(text: &[u8], start: usize, letter: usize) -> bool
-    requires start { start ≤ letter }
-    requires within { letter < length text.now }
-    ensures none { result ≡ false → (k : ℕ) → start ≤ k → k + 1 ≡ letter
-        → MayBegin text.now start k → ¬ (OccursAt text.now (codes "import") k) }
-    ensures room { IsTrue result → start + 1 ≤ letter }
+fn next_word(text: &[u8], place: usize) -> usize
+    requires { place < length text.now }
+    ensures none { Nowhere (WordLetters text.now) place result }
+    ensures further { place ≤ result }
+    ensures within { result < length text.now }
 {
-    letter > start && stands_at(text, b"import", letter - 1) && may_begin(text, start, letter - 1)
+    let mut at = place;
+    'letters: while text.len() - at > 64 {
+        let words = words64(&text[at..]);
+        if words != 0 {
+            return at + words.trailing_zeros() as usize;
+        }
+        at += 64;
+    }
+    at
 }
 
-/// A byte, from `start` on, where a line begins, before which no import statement begins: the first at which one may begin, or the
-/// text's end.
+/// The first byte, from `start` on, where a line begins, at which an import statement may begin, or the text's end.
 fn next_import(text: &[u8], start: usize) -> usize
     requires { start ≤ length text.now }
-    ensures none { NoImportBegins text.now start result }
-    ensures further { start ≤ result }
-    ensures within { result ≤ length text.now }
+    ensures { IsGap text.now start result }
 {
     let mut place = start;
-    'letters: while let Some(len) = memchr(LETTER, &text[place..]) {
-        let letter = place + len;
-        if from_at(text, start, letter) {
-            return letter - 3;
+    'words: while place < text.len() {
+        place = next_word(text, place);
+        if import_may_begin(text, start, place) {
+            return place;
         }
-        if import_at(text, start, letter) {
-            return letter - 1;
-        }
-        place = letter + 1;
+        place += 1;
     }
-    text.len()
+    place
 }
 
 /// The bytes of a text from `start`, where a line begins, up to `stop`, at none of which an import statement begins.
@@ -110,31 +114,19 @@ struct Gap {
     stop: usize,
 }
 
-/// Whether byte `start` is byte `first`, where a line begins, or comes directly after a byte after which a statement may begin.
-#[inline(always)]
-fn stands_open(text: &[u8], first: usize, start: usize) -> bool
-    requires first { first ≤ start }
-    requires within { start ≤ length text.now }
-    ensures { IsTrue result → StandsOpen text.now first start }
-{
-    if start == first {
-        return true;
-    }
-    opens_statement(text[start - 1])
-}
-
-/// A gap that holds byte `start`, or ends there. The text is searched only where the known one is no such gap.
+/// A gap that holds byte `start`, or ends there. The text is searched only where the known one is no such gap, or where no statement may
+/// begin directly at byte `start`.
 #[inline(always)]
 fn gap_at(text: &[u8], known: Gap, start: usize) -> Gap
     requires start { start ≤ length text.now }
-    requires known { NoImportBegins text.now known.start known.stop }
-    requires within { known.stop ≤ length text.now }
-    ensures gap { NoImportBegins text.now result.start result.stop }
-    ensures none { NoImportBegins text.now start result.stop }
-    ensures further { start ≤ result.stop }
-    ensures within { result.stop ≤ length text.now }
+    requires known { IsGap text.now known.start known.stop }
+    ensures gap { IsGap text.now result.start result.stop }
+    ensures from { IsGap text.now start result.stop }
 {
-    if known.start <= start && start <= known.stop && stands_open(text, known.start, start) {
+    if known.start <= start
+        && start <= known.stop
+        && (start == known.start || opens_statement(text[start - 1]))
+    {
         return known;
     }
     Gap {
@@ -159,8 +151,7 @@ impl<'t> Model for FirstWords<'t> {
 
     ghost view = { λ f. f.text.now };
 
-    ghost invariant = { λ f. NoImportBegins f.text.now f.gap.start f.gap.stop
-        × (f.gap.stop ≤ length f.text.now) };
+    ghost invariant = { λ f. IsGap f.text.now f.gap.start f.gap.stop };
 }
 
 impl<'t> FirstWords<'t> {
@@ -171,17 +162,20 @@ impl<'t> FirstWords<'t> {
         FirstWords {
             text,
             // It holds no byte.
-            gap: Gap { start: 1, stop: 0 },
+            gap: Gap {
+                start: text.len(),
+                stop: text.len(),
+            },
         }
     }
 
-    /// A byte, from `start` on, where a logical line begins, before which no import statement begins. How far it lies from `start` is not
-    /// promised: it is the first byte at which one may begin by the text's bytes alone, or the text's end. Words in strings and comments
-    /// count too. Where no line begins at `start`, the text is searched anew.
+    /// The first byte, from `start` on, where a logical line begins, at which an import statement may begin by the text's bytes alone, or
+    /// the text's end. Words in strings and comments count too. Where no line begins at `start`, the text is searched anew.
     #[inline(always)]
     pub fn clear_up_to(&mut self, start: usize) -> usize
         requires { start ≤ length self.old }
         ensures none { NoImportBegins self.old start result }
+        ensures first { EndsAtImport self.old start result }
         ensures further { start ≤ result }
         ensures within { result ≤ length self.old }
         ensures same { self.new ≡ self.old }

@@ -1,47 +1,33 @@
--- Each `m` is looked at: where one of the words begins, so many bytes before its `m`.
-use Rattle.std.proofs.Common.{◌≡◌, ◌+◌, ⊎_elim, sym, ap, ◌∙◌, arith}
-use Rattle.std.specs.Prelude.{slice_index}
-use Rattle.py_imports.proofs.WordPlaces.{letter_from, letter_stands, letter_within, no_letter, past}
+-- Where no word begins, no import statement begins.
+use Rattle.std.proofs.Common.{inl, inr, arith}
+use Rattle.py_imports.specs.FirstWords.{ImportMayBegin}
+use Rattle.py_imports.proofs.WordPlaces.{one_more, passed_words}
 use Rattle.py_imports.proofs.first_words.next_import.Goals as goal
 
-pub returns-then-from_at-clause-none : goal.returns-then-from_at-clause-none
-returns-then-from_at-clause-none c =
-    let text = c.args.text.now in
-    let i = c.letters.invariant in
-    λ k low high. λ (m, w). ⊎_elim
-    (λ h. omega (arith, letter_from text 109 c.letters.place c.in-Some.len c.in-Some.ensures (k + 1) (i.import k low m h) (h.reads 1 (omega arith)), high))
-    (λ h. omega (arith, letter_from text 109 c.letters.place c.in-Some.len c.in-Some.ensures (k + 3) (i.from k low m h) (h.reads 3 (omega arith)), high)) w
+pub words-init : goal.words-init
+words-init c = record { further = omega arith; within = c.requires; none = λ k low high. absurd (omega (arith, low, high)) }
 
-pub returns-then-import_at-clause-none : goal.returns-then-import_at-clause-none
-returns-then-import_at-clause-none c =
-    let text = c.args.text.now in
-    let i = c.letters.invariant in
-    let letter = c.letters.place + c.in-Some.len in
-    λ k low high. λ (m, w). ⊎_elim
-    (λ h. omega (arith, letter_from text 109 c.letters.place c.in-Some.len c.in-Some.ensures (k + 1) (i.import k low m h) (h.reads 1 (omega arith)), high))
-    (λ h.
-    let before = letter_from text 109 c.letters.place c.in-Some.len c.in-Some.ensures (k + 3) (i.from k low m h) (h.reads 3 (omega arith)) in
-    let later = past letter (k + 3) before (λ at. c.from_at.ensures.none c.if-from_at.false k low at m h) in
-    let two : k + 2 ≡ letter = omega (arith, later, high) in
-    let other : 111 ≡ 109 = sym (h.reads 2 (omega arith)) ∙ ap (slice_index text) two ∙ letter_stands text 109 c.letters.place c.in-Some.len c.in-Some.ensures in
-    omega (arith, other)) w
+pub import_may_begin-requires-clause-start : goal.import_may_begin-requires-clause-start
+import_may_begin-requires-clause-start c = omega (arith, c.words.invariant.further, c.next_word-place.ensures.further)
 
-pub letters-preserved : goal.letters-preserved
-letters-preserved c =
-    let text = c.args.text.now in
-    let i = c.letters.invariant in
-    let letter = c.letters.place + c.in-Some.len in
+pub returns-then-import_may_begin : goal.returns-then-import_may_begin
+returns-then-import_may_begin c =
+    let next = c.next_word-place in
     record {
-      within = omega (arith, letter_within text 109 c.letters.place c.in-Some.len i.within c.in-Some.ensures);
-      further = omega (arith, i.further);
-      import = λ k low m h. past letter (k + 1) (letter_from text 109 c.letters.place c.in-Some.len c.in-Some.ensures (k + 1) (i.import k low m h) (h.reads 1 (omega arith))) (λ at. c.import_at.ensures.none c.if-import_at.false k low at m h);
-      from = λ k low m h. past letter (k + 3) (letter_from text 109 c.letters.place c.in-Some.len c.in-Some.ensures (k + 3) (i.from k low m h) (h.reads 3 (omega arith))) (λ at. c.from_at.ensures.none c.if-from_at.false k low at m h);
+      none = passed_words c.args.text.now c.args.start c.words.place next.result c.words.invariant.none next.ensures.none;
+      first = inr (c.import_may_begin.ensures.yes (c.if-import_may_begin.true));
+      further = omega (arith, c.words.invariant.further, next.ensures.further);
+      within = omega (arith, next.ensures.within);
     }
 
-pub returns-clause-none : goal.returns-clause-none
-returns-clause-none c =
-    let text = c.args.text.now in
-    let i = c.letters.invariant in
-    λ k low high. λ (m, w). ⊎_elim
-    (λ h. no_letter text 109 c.letters.place c.in_default.ensures (k + 1) (i.import k low m h) (omega (arith, h.fits)) (h.reads 1 (omega arith)))
-    (λ h. no_letter text 109 c.letters.place c.in_default.ensures (k + 3) (i.from k low m h) (omega (arith, h.fits)) (h.reads 3 (omega arith))) w
+pub words-preserved : goal.words-preserved
+words-preserved c =
+    let next = c.next_word-place in
+    record {
+      further = omega (arith, c.words.invariant.further, next.ensures.further);
+      within = omega (arith, next.ensures.within);
+      none = one_more (ImportMayBegin c.args.text.now c.args.start) c.args.start next.result (passed_words c.args.text.now c.args.start c.words.place next.result c.words.invariant.none next.ensures.none) (c.import_may_begin.ensures.no c.if-import_may_begin.false);
+    }
+
+pub returns : goal.returns
+returns c = record { none = c.words.invariant.none; first = inl (omega (arith, c.words.invariant.within, c.words-test.false)); further = c.words.invariant.further; within = c.words.invariant.within }
