@@ -5,7 +5,7 @@ use Rattle.std.specs.Int.Bits.{bit_xor, xor_self}
 use Rattle.std.specs.Str.{byte}
 use Rattle.std.specs.Simd.Lanes.{chunk, mask_l, sel_l, top, zip2}
 use Rattle.std.proofs.lemmas.List.{get_or-map}
-use Rattle.std.proofs.lemmas.Bool.{eq-eqb}
+use Rattle.std.proofs.lemmas.Bool.{eq-eqb, ltb-false, ltb-true}
 use Rattle.std.proofs.lemmas.Simd.{bit_mask_l, bitmask_splat, get_or-chunk, get_or-replicate, get_or-sel_l, get_or-zip2, length-chunk, length-replicate, length-sel_l, length-zip2, tops_compared}
 use Rattle.py_imports.specs.Private.Gaps.{WordLetters}
 
@@ -62,13 +62,13 @@ first_none a b none = by (ltb a b) refl
   where
     by : (less : Bool) → ltb a b ≡ less → cond less a b ≡ 0
     by true e = none
-    by false e = grind (arith, none, e)
+    by false e = omega (arith, ltb-false a b e, none)
 
 second_none : (a b : ℕ) → b ≡ 0 → cond (ltb a b) a b ≡ 0
 second_none a b none = by (ltb a b) refl
   where
     by : (less : Bool) → ltb a b ≡ less → cond less a b ≡ 0
-    by true e = grind (arith, none, e)
+    by true e = absurd (omega (arith, ltb-true a b e, none))
     by false e = none
 
 -- the bit of a lane that is 0

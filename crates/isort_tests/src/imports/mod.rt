@@ -1,2 +1,3 @@
 //! Tests of py_imports.
 mod bindings;
+mod first_words;
