@@ -1,9 +1,9 @@
 //! What comments ask of isort.
 ghost use Rattle.std.specs.Prelude.{◌≡◌};
-ghost use Rattle.py_imports.specs.ActionComment.{is_word_byte, begins_with_word_byte, begins_with_phrase, begins_with_action, says};
+ghost use Rattle.py_imports.specs.ActionComment.{begins_with_word_byte, begins_with_phrase, begins_with_action, says};
 
 /// What a comment can ask of isort (isort documentation, "Action Comments").
-#[derive(Clone, Copy, Debug, PartialEq, Eq)]
+#[derive(Clone, Copy)]
 pub enum ActionComment {
     /// `skip_file`: leave the whole file as it is.
     SkipFile,
@@ -34,19 +34,12 @@ impl ActionComment {
     }
 }
 
-/// Whether a byte is an ASCII letter, a digit or `_`.
-fn is_word_byte(b: u8) -> bool
-    ensures { result ≡ is_word_byte b }
-{
-    b.is_ascii_alphanumeric() || b == b'_'
-}
-
-/// Whether the text begins with such a byte.
+/// Whether the text begins with an ASCII letter, a digit or `_`.
 fn begins_with_word_byte(text: &[u8]) -> bool
     ensures { result ≡ begins_with_word_byte text.now }
 {
     match text.first() {
-        Some(b) => is_word_byte(*b),
+        Some(b) => b.is_ascii_alphanumeric() || *b == b'_',
         None => false,
     }
 }

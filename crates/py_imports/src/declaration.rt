@@ -1,23 +1,16 @@
 //! Whether a logical line declares a function or class.
 ghost use Rattle.std.specs.Prelude.{◌≡◌, slice_get};
 ghost use Rattle.py_lines.specs.Lines.{line_in};
-ghost use Rattle.py_imports.specs.Declaration.{is_name, is_word, is_at, begins_declaration, is_declaration};
+ghost use Rattle.py_imports.specs.Declaration.{is_word, is_at, begins_declaration, is_declaration};
 
 use py_lines::{TokKind, Unit, UnitKind};
-
-/// Whether it is a name or a keyword.
-fn is_name(kind: TokKind) -> bool
-    ensures { result ≡ is_name kind }
-{
-    matches!(kind, TokKind::Name)
-}
 
 /// Whether the token at place `i`, if there is one, is this word.
 fn is_word(unit: &Unit<'_>, i: usize, word: &str) -> bool
     ensures { result ≡ is_word unit.now.text.now word.now (slice_get unit.now.tokens.now i) }
 {
     match unit.tokens.get(i) {
-        Some(token) => is_name(token.kind) && unit.word(i) == word,
+        Some(token) => matches!(token.kind, TokKind::Name) && unit.word(i) == word,
         None => false,
     }
 }
