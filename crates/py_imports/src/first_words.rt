@@ -105,7 +105,8 @@ fn next_import(text: &[u8], start: usize) -> usize
     place
 }
 
-/// The bytes of a text from `start`, where a line begins, up to `stop`, at none of which an import statement begins.
+/// The bytes of a text from `start`, where a line begins, up to `stop`, at none of which an import statement begins. At `stop` one may
+/// begin, or the text ends.
 #[derive(Clone, Copy)]
 struct Gap {
     /// The first of them.
