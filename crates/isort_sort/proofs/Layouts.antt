@@ -4,7 +4,6 @@ pub mod Lengths
 pub mod Widths
 pub mod Writing
 pub mod Packing
-pub mod Framed
 pub mod Cuts
 pub mod Pieces
 pub mod LaidOut

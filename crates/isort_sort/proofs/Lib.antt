@@ -24,7 +24,7 @@
 -- what its imports bring, and that is what the definitions take. Sorting puts it in order (Orders/SortedVectors,
 -- Groups/Ordered).
 --
--- Layout (proofs/Layouts: Packing, Cuts, Framed, Writing, Pieces, LaidOut): packing from left to right is the cut, and
+-- Layout (proofs/Layouts: Packing, Cuts, Writing, Pieces, LaidOut): packing from left to right is the cut, and
 -- what is written one after another, statement by statement, is the layout.
 --
 -- One call: `find_blocks` answers the blocks of a cut (`IsFoundIn`), and `arrange` the layout of each (`IsArranged`), of which

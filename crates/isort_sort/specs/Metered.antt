@@ -31,10 +31,14 @@ is_interruption _ = false
 abbrev pub end_of_error : Last → Error → Last
 end_of_error before e = if is_interruption (error_kind e) then last.Interrupted (min 1000 (interruptions before + 1)) else last.Failed
 
+-- what a call leaves, by what it leaves where it doesn't fail
+abbrev pub end_of : {A : Type 0} → Last → Last → Result A Error → Last
+end_of before if_ok (Ok done) = if_ok
+end_of before if_ok (Err e) = end_of_error before e
+
 -- what a read leaves
 abbrev pub end_of_read : Last → Result ℕ Error → Last
-end_of_read before (Ok n) = last.Fine
-end_of_read before (Err e) = end_of_error before e
+end_of_read before answer = end_of before last.Fine answer
 
 -- what a write of these bytes leaves: one that took no byte of some is empty
 abbrev pub end_of_write : Last → List ℕ → Result ℕ Error → Last
@@ -43,8 +47,7 @@ end_of_write before bytes (Err e) = end_of_error before e
 
 -- what a flush leaves
 abbrev pub end_of_flush : Last → Result (Unit {0}) Error → Last
-end_of_flush before (Ok done) = last.Fine
-end_of_flush before (Err e) = end_of_error before e
+end_of_flush before answer = end_of before last.Fine answer
 
 -- a writer that is given up: it failed, took no byte, or was interrupted 1000 times in a row
 abbrev pub IsGivenUp : Last → Type 0

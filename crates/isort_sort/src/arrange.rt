@@ -22,11 +22,15 @@ use std::alloc::{AllocError, Global};
 use std::mem;
 use std::vec::IntoIter;
 
-/// How many blank lines the settings, or the line after it, ask for after a block (isort documentation,
-/// "lines_after_imports").
-fn asked_lines(settings: &Settings, block: &FoundBlock) -> usize
-    ensures { result ≡ blanks_of (values settings.now) (found_value block.now) }
+/// How many blank lines are written after a block: none where its last line has no line end, else as many as the settings or
+/// the line after it ask for (isort documentation, "lines_after_imports").
+fn blank_lines(settings: &Settings, block: &FoundBlock) -> usize
+    ensures { result ≡ (if block.now.ended then blanks_of (values settings.now)
+        (found_value block.now) else 0) }
 {
+    if !block.ended {
+        return 0;
+    }
     let Some(next) = block.next else {
         return block.blanks;
     };
@@ -40,18 +44,6 @@ fn asked_lines(settings: &Settings, block: &FoundBlock) -> usize
         BlankLines::Two => 2,
         BlankLines::AsMany => block.blanks,
         BlankLines::One => 1,
-    }
-}
-
-/// How many blank lines are written after a block: none where its last line has no line end.
-fn blank_lines(settings: &Settings, block: &FoundBlock) -> usize
-    ensures { result ≡ (if block.now.ended then blanks_of (values settings.now)
-        (found_value block.now) else 0) }
-{
-    if block.ended {
-        asked_lines(settings, block)
-    } else {
-        0
     }
 }
 
@@ -145,10 +137,10 @@ impl Arrangement<'_> {
         Ok(true)
     }
 
-    /// Takes the text of what is left of the layout.
-    pub(crate) fn take_text(&mut self, alloc: Global) -> Result<String, AllocError>
-        requires { IsReady self.old }
-        ensures { IfOk result (λ text. string_bytes text ≡ text_left self.old) }
+    /// The text of what is left of the layout.
+    pub(crate) fn take_text(mut self, alloc: Global) -> Result<String, AllocError>
+        requires { IsReady self }
+        ensures { IfOk result (λ text. string_bytes text ≡ text_left self.entry) }
     {
         let mut text = String::new(alloc);
         'pieces: while self.push_next(&mut text)? {}

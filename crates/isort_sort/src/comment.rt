@@ -1,10 +1,9 @@
 //! The comments of a logical line.
-ghost use Rattle.std.specs.Prelude.{◌≡◌, ◌++◌, IfOk, OnOk, map, string_bytes};
+ghost use Rattle.std.specs.Prelude.{◌≡◌, IfOk, map, string_bytes};
 ghost use Rattle.std.specs.List.{list_any};
 ghost use Rattle.py_lines.specs.Lines.{line_in};
 ghost use Rattle.py_imports.specs.ActionComment.{says};
 ghost use Rattle.isort_sort.specs.Line.{comment_texts, own_comments, stripped, without_hash};
-ghost use Rattle.isort_sort.specs.Private.Actions.{content_of};
 
 use crate::texts::push_copy;
 use py_imports::{ActionComment, says};
@@ -34,33 +33,6 @@ pub(crate) fn comments_say(unit: &Unit<'_>, action: ActionComment) -> bool
     false
 }
 
-/// Puts what a comment says after `comments`, if it says something.
-fn push_content(alloc: Global, comments: &mut Vec<String>, comment: &str) -> Result<(), AllocError>
-    ensures { OnOk result
-        (map string_bytes comments.new.items
-        ≡ map string_bytes comments.old.items ++ content_of comment.now) }
-{
-    let content = content(comment);
-    if content.is_empty() {
-        return Ok(());
-    }
-    push_copy(alloc, comments, content)
-}
-
-/// The line's own comments: what each says, without the empty ones.
-pub(crate) fn own_comments(alloc: Global, unit: &Unit<'_>) -> Result<Vec<String>, AllocError>
-    ensures { IfOk result
-        (λ comments. map string_bytes comments.items ≡ own_comments (line_in unit.now)) }
-{
-    let mut comments = Vec::new(alloc);
-    'tokens: for (place, token) in unit.tokens.iter().enumerate() {
-        if token.kind.is_comment() {
-            push_content(alloc, &mut comments, unit.word(place))?;
-        }
-    }
-    Ok(comments)
-}
-
 /// The line's comments as they are written, with `#`.
 pub(crate) fn comment_texts(alloc: Global, unit: &Unit<'_>) -> Result<Vec<String>, AllocError>
     ensures { IfOk result
@@ -70,6 +42,22 @@ pub(crate) fn comment_texts(alloc: Global, unit: &Unit<'_>) -> Result<Vec<String
     'tokens: for (place, token) in unit.tokens.iter().enumerate() {
         if token.kind.is_comment() {
             push_copy(alloc, &mut comments, unit.word(place))?;
+        }
+    }
+    Ok(comments)
+}
+
+/// The line's own comments: what each says, without the empty ones.
+pub(crate) fn own_comments(alloc: Global, unit: &Unit<'_>) -> Result<Vec<String>, AllocError>
+    ensures { IfOk result
+        (λ comments. map string_bytes comments.items ≡ own_comments (line_in unit.now)) }
+{
+    let mut comments = Vec::new(alloc);
+    let texts = comment_texts(alloc, unit)?;
+    for comment in &texts {
+        let content = content(comment.as_str());
+        if !content.is_empty() {
+            push_copy(alloc, &mut comments, content)?;
         }
     }
     Ok(comments)

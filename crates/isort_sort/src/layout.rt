@@ -35,17 +35,6 @@ fn gap_by_kind(settings: &Settings, before: &Group, group: &Group) -> u32
     }
 }
 
-/// How many blank lines the comments above a statement ask for.
-fn gap_by_comment(settings: &Settings, above: &[String]) -> u32
-    ensures { result ≡ gap_by_comment (values settings.now) (map string_bytes above.now) }
-{
-    if settings.ensure_newline_before_comments && !above.is_empty() {
-        1
-    } else {
-        0
-    }
-}
-
 /// How many blank lines stand between two statements, the second with the comments above it.
 fn gap(settings: &Settings, before: &Group, group: &Group) -> u32
     requires first { HasSection (values settings.now) before.now }
@@ -55,7 +44,8 @@ fn gap(settings: &Settings, before: &Group, group: &Group) -> u32
         (statement_value group.now.statement))
         (gap_by_comment (values settings.now) (map string_bytes group.now.above.items)) }
 {
-    gap_by_kind(settings, before, group).max(gap_by_comment(settings, &group.above))
+    let by_comment = settings.ensure_newline_before_comments && !group.above.is_empty();
+    gap_by_kind(settings, before, group).max(u32::from(by_comment))
 }
 
 /// What a statement of names writes.
@@ -104,7 +94,7 @@ impl Layout<'_> {
     ghost use Rattle.isort_sort.specs.Private.Values.{item_value};
     ghost use Rattle.isort_sort.specs.Private.Writes.{Writes};
     ghost use Rattle.isort_sort.specs.Statement.{straight, star};
-    ghost use Rattle.isort_sort.specs.Wrapping.{is_forced, trailing_comma};
+    ghost use Rattle.isort_sort.specs.Wrapping.{trailing_comma};
 
     /// How many characters the names on a line of a wrapped statement may have, where they are several.
     fn line_room(&self, path: &str) -> usize
@@ -246,14 +236,6 @@ impl Layout<'_> {
         push_remark(out, names.comments)
     }
 
-    /// Whether the settings ask for more lines than one.
-    fn is_forced(&self, items: &[FromItem]) -> bool
-        ensures { result ≡ is_forced (values_by self.now) (map item_value items.now) }
-    {
-        let least = self.settings.force_grid_wrap as usize;
-        least > 0 && least <= items.len()
-    }
-
     /// Whether a statement of names is wrapped, which would be this on one line.
     fn wraps(&self, line: &[u8], items: &[FromItem]) -> bool
         ensures { result ≡ wraps (values_by self.now) line.now (map item_value items.now) }
@@ -262,7 +244,9 @@ impl Layout<'_> {
             WrapMode::Grid | WrapMode::Vertical => items.len() == 1,
             WrapMode::HangingIndent | WrapMode::VerticalHangingIndent => false,
         };
-        !is_whole && (self.is_forced(items) || width(line) > self.settings.line_length as usize)
+        let least = self.settings.force_grid_wrap as usize;
+        let is_forced = least > 0 && least <= items.len();
+        !is_whole && (is_forced || width(line) > self.settings.line_length as usize)
     }
 
     /// Puts the lines of names from a module after `out`.

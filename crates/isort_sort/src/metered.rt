@@ -2,7 +2,7 @@
 ghost use Rattle.std.specs.Prelude.{◌≡◌};
 ghost use Rattle.std.specs.Io.{ReadsAtMost, WritesAtMost};
 ghost use Rattle.std.specs.Io.KnownBytes.{Keeps, ReadConsumes, WriteAppends};
-ghost use Rattle.isort_sort.specs.Metered.{inner_of, last_of, interruptions, end_of_error, end_of_read, end_of_write, end_of_flush};
+ghost use Rattle.isort_sort.specs.Metered.{inner_of, last_of, end_of, end_of_read, end_of_write, end_of_flush};
 
 use std::io;
 use std::io::{ErrorKind, Read, Write};
@@ -21,18 +21,6 @@ pub enum Last {
     Empty,
     /// In an interruption: how many in a row, up to 1000.
     Interrupted(u16),
-}
-
-impl Last {
-    /// How many calls in a row ended in an interruption, up to 1000.
-    fn interruptions(self) -> u16
-        ensures { result ≡ interruptions self }
-    {
-        match self {
-            Last::Interrupted(count) => count,
-            _ => 0,
-        }
-    }
 }
 
 /// A reader or writer, and how its last `read`, `write` or `flush` ended.
@@ -73,17 +61,20 @@ impl<T> Metered<T> {
         self.last
     }
 
-    /// Notes a call that failed.
-    fn note_error(&mut self, e: &io::Error)
+    /// Notes how a call ended: in this way where it didn't fail, in `Failed`, or in one more interruption.
+    fn note<A>(&mut self, answer: &io::Result<A>, if_ok: Last)
         ensures inner { inner_of self.new ≡ inner_of self.old }
-        ensures last { last_of self.new ≡ end_of_error (last_of self.old) e.now }
+        ensures last { last_of self.new ≡ end_of (last_of self.old) if_ok answer.now }
     {
-        self.last = match e.kind() {
-            ErrorKind::Interrupted => {
-                let count = self.last.interruptions().saturating_add(1);
-                Last::Interrupted(count.min(MAX_INTERRUPTIONS))
-            }
-            _ => Last::Failed,
+        self.last = match answer {
+            Ok(_) => if_ok,
+            Err(e) => match (e.kind(), self.last()) {
+                (ErrorKind::Interrupted, Last::Interrupted(count)) => {
+                    Last::Interrupted(count.saturating_add(1).min(MAX_INTERRUPTIONS))
+                }
+                (ErrorKind::Interrupted, _) => Last::Interrupted(1),
+                _ => Last::Failed,
+            },
         };
     }
 }
@@ -98,16 +89,9 @@ impl<R: Read> Read for Metered<R> {
             (R.remaining (inner_of self.new)) result buf.new }
         ensures last { last_of self.new ≡ end_of_read (last_of self.old) result }
     {
-        match self.inner.read(buf) {
-            Ok(count) => {
-                self.last = Last::Fine;
-                Ok(count)
-            }
-            Err(e) => {
-                self.note_error(&e);
-                Err(e)
-            }
-        }
+        let answer = self.inner.read(buf);
+        self.note(&answer, Last::Fine);
+        answer
     }
 }
 
@@ -122,20 +106,13 @@ impl<W: Write> Write for Metered<W> {
             (W.contents (inner_of self.new)) result buf.now }
         ensures last { last_of self.new ≡ end_of_write (last_of self.old) buf.now result }
     {
-        match self.inner.write(buf) {
-            Ok(count) => {
-                self.last = if count == 0 && !buf.is_empty() {
-                    Last::Empty
-                } else {
-                    Last::Fine
-                };
-                Ok(count)
-            }
-            Err(e) => {
-                self.note_error(&e);
-                Err(e)
-            }
-        }
+        let answer = self.inner.write(buf);
+        let if_ok = match &answer {
+            Ok(0) if !buf.is_empty() => Last::Empty,
+            _ => Last::Fine,
+        };
+        self.note(&answer, if_ok);
+        answer
     }
 
     /// Flushes, and notes how that ended: in `Fine`, in `Failed`, or in one more interruption.
@@ -143,15 +120,8 @@ impl<W: Write> Write for Metered<W> {
         ensures bytes { Keeps (W.contents (inner_of self.old)) (W.contents (inner_of self.new)) }
         ensures last { last_of self.new ≡ end_of_flush (last_of self.old) result }
     {
-        match self.inner.flush() {
-            Ok(()) => {
-                self.last = Last::Fine;
-                Ok(())
-            }
-            Err(e) => {
-                self.note_error(&e);
-                Err(e)
-            }
-        }
+        let answer = self.inner.flush();
+        self.note(&answer, Last::Fine);
+        answer
     }
 }

@@ -20,24 +20,17 @@ use isort_settings::laws::{modules_are_totally_ordered, names_are_totally_ordere
 use std::alloc::{AllocError, Global};
 use std::io::Write;
 
-/// The span of a block, and how many members it has.
-fn span(block: &FoundBlock) -> Block
-    ensures { result ≡ span_of (found_value block.now) }
-{
-    Block {
-        start: block.start as u64,
-        stop: block.stop as u64,
-        members: block.members.len(),
-    }
-}
-
-/// The spans of the blocks, in order.
+/// The spans of the blocks, in order, and how many members each has.
 fn spans(alloc: Global, found: &[FoundBlock]) -> Result<Vec<Block>, AllocError>
     ensures { IfOk result (λ blocks. blocks.items ≡ map (λ b. span_of (found_value b)) found.now) }
 {
     let mut blocks = Vec::new(alloc);
     'found: for block in found {
-        blocks.push(span(block))?;
+        blocks.push(Block {
+            start: block.start as u64,
+            stop: block.stop as u64,
+            members: block.members.len(),
+        })?;
     }
     Ok(blocks)
 }

@@ -1,11 +1,11 @@
 //! A sorted text, of which the layouts alone are copies.
-ghost use Rattle.std.specs.Prelude.{◌≡◌, ◌≢◌, MatchBool, string_bytes, IfOk, OnOk, OnErr, IfErr};
+ghost use Rattle.std.specs.Prelude.{◌≡◌, ◌≢◌, ◌++◌, MatchBool, string_bytes, IfOk, OnOk, OnErr, IfErr};
 ghost use Rattle.std.specs.Io.KnownBytes.{Appends};
 ghost use Rattle.std.specs.Str.{IsUtf8};
 ghost use Rattle.isort_settings.specs.Values.{values};
 ghost use Rattle.isort_sort.specs.Metered.{inner_of, last_of, IsGivenUp};
 ghost use Rattle.isort_sort.specs.Private.Arranged.{IsReady};
-ghost use Rattle.isort_sort.specs.Private.Parts.{part_text, sorted_bytes, sorted_part_text, AreTexts};
+ghost use Rattle.isort_sort.specs.Private.Parts.{bytes_of, part_text, piece_bytes, sorted_bytes, AreTexts};
 ghost use Rattle.isort_sort.specs.Private.Reading.{IsFoundIn};
 ghost use Rattle.isort_sort.specs.Sorted.{IsLaidOut};
 ghost use Rattle.isort_sort.specs.Written.{AppendsPrefix};
@@ -22,36 +22,51 @@ use std::alloc::{AllocError, Global};
 use std::io::Write;
 use std::str;
 
-/// What a sorted text has up to the end of a block.
+/// A piece of a sorted text.
 #[derive(Drop)]
-pub(crate) struct SortedPart<'t> {
-    /// What stays of the text before the block.
-    before: &'t [u8],
-    /// The layout of the block.
-    layout: String,
+pub(crate) enum Piece<'t> {
+    /// What stays of the text beside blocks.
+    Kept(&'t [u8]),
+    /// The layout of a block.
+    Laid(String),
 }
 
-impl<'t> SortedPart<'t> {
-    /// The part, with the text of its layout.
-    fn new(alloc: Global, mut part: Part<'t>) -> Result<SortedPart<'t>, AllocError>
-        requires { IsReady part.layout }
-        ensures text { IfOk result (λ sorted. sorted_part_text sorted ≡ part_text part.entry) }
-        ensures before { IfOk result (λ sorted. sorted.before.now ≡ part.entry.before.now) }
+impl Piece<'_> {
+    /// Its bytes.
+    fn as_bytes(&self) -> &[u8]
+        ensures { result.now ≡ piece_bytes self.now }
     {
-        Ok(SortedPart {
-            before: part.before,
-            layout: part.layout.take_text(alloc)?,
-        })
+        match self {
+            Piece::Kept(bytes) => bytes,
+            Piece::Laid(layout) => layout.as_bytes(),
+        }
     }
 }
 
-/// A sorted text: its parts, and what stays of the text after the last of them.
+/// Puts the two pieces of a part after `pieces`.
+fn push_part<'t>(
+    alloc: Global,
+    pieces: &mut Vec<Piece<'t>>,
+    part: Part<'t>,
+) -> Result<(), AllocError>
+    requires { IsReady part.layout }
+    ensures text { OnOk result (bytes_of pieces.new.items
+        ≡ bytes_of pieces.old.items ++ part_text part.entry) }
+    ensures utf8 { OnOk result (AreTexts pieces.old.items → IsUtf8 part.entry.before.now
+        → AreTexts pieces.new.items) }
+{
+    let Part { before, layout } = part;
+    let text = layout.take_text(alloc)?;
+    pieces.push(Piece::Kept(before))?;
+    pieces.push(Piece::Laid(text))?;
+    Ok(())
+}
+
+/// A sorted text.
 #[derive(Drop)]
 pub(crate) struct SortedText<'t> {
-    /// The parts, one after another.
-    parts: Vec<SortedPart<'t>>,
-    /// What stays of the text after the last part.
-    rest: &'t [u8],
+    /// Its pieces, one after another.
+    pieces: Vec<Piece<'t>>,
 }
 
 impl<'t> SortedText<'t> {
@@ -65,19 +80,15 @@ impl<'t> SortedText<'t> {
         requires { IsFoundIn text.now (FoundText.Blocks blocks) }
         ensures laid { IfOk result
             (λ sorted. IsLaidOut text.now (values settings.now) (sorted_bytes sorted)) }
-        ensures parts { IfOk result (λ sorted. AreTexts sorted.parts.items) }
-        ensures rest { IfOk result (λ sorted. IsUtf8 sorted.rest.now) }
+        ensures utf8 { IfOk result (λ sorted. AreTexts sorted.pieces.items) }
     {
         let mut made = Parts::new(text, settings, blocks);
-        let mut parts = Vec::new(alloc);
+        let mut pieces = Vec::new(alloc);
         'parts: while let Some(part) = made.next(alloc)? {
-            let sorted = SortedPart::new(alloc, part)?;
-            parts.push(sorted)?;
+            push_part(alloc, &mut pieces, part)?;
         }
-        Ok(SortedText {
-            parts,
-            rest: made.rest(),
-        })
+        pieces.push(Piece::Kept(made.rest()))?;
+        Ok(SortedText { pieces })
     }
 
     /// Whether it is this text.
@@ -86,25 +97,21 @@ impl<'t> SortedText<'t> {
             (sorted_bytes self.now ≢ text.now) }
     {
         let mut compared = Comparison::of(text);
-        'parts: for part in &self.parts {
-            compared.take(part.before);
-            compared.take(part.layout.as_bytes());
+        'pieces: for piece in &self.pieces {
+            compared.take(piece.as_bytes());
         }
-        compared.ends_with(self.rest)
+        compared.ends_with(&[])
     }
 
     /// It as one text.
     pub(crate) fn joined(&self, alloc: Global) -> Result<String, AllocError>
-        requires parts { AreTexts self.now.parts.items }
-        requires rest { IsUtf8 self.now.rest.now }
+        requires { AreTexts self.now.pieces.items }
         ensures { IfOk result (λ sorted. string_bytes sorted ≡ sorted_bytes self.now) }
     {
         let mut sorted = String::new(alloc);
-        'parts: for part in &self.parts {
-            sorted.push_str(text_of(part.before))?;
-            sorted.push_str(part.layout.as_str())?;
+        'pieces: for piece in &self.pieces {
+            sorted.push_str(text_of(piece.as_bytes()))?;
         }
-        sorted.push_str(text_of(self.rest))?;
         Ok(sorted)
     }
 
@@ -121,11 +128,10 @@ impl<'t> SortedText<'t> {
         ensures err { IfErr result (λ e. e ≡ SortError.Write) }
         ensures stopped { OnErr result (IsGivenUp (last_of writer.new)) }
     {
-        'parts: for part in &self.parts {
-            write_whole(writer, part.before)?;
-            write_whole(writer, part.layout.as_bytes())?;
+        'pieces: for piece in &self.pieces {
+            write_whole(writer, piece.as_bytes())?;
         }
-        write_whole(writer, self.rest)
+        Ok(())
     }
 }
 

@@ -136,7 +136,7 @@ member_step at rows o row stop m h is same value s =
     let run : Run = record { first = h.run.first; others = h.run.others ++ f ∷ [] } in
     let rows_of_run : run_rows run ≡ run_rows h.run ++ ((h.blanks ++ h.later) ++ row ∷ []) = run_pushed h.run f in
     let split : rows ++ row ∷ [] ≡ h.before ++ (run_rows run ++ ([] ++ [])) =
-    ap (λ (rs : List Row). rs ++ row ∷ []) h.split ∙ regroup h.before (run_rows h.run) (h.blanks ++ h.later) row ∙ ap (λ (rs : List Row). h.before ++ rs) (sym rows_of_run ∙ sym (append-nil (run_rows run))) in
+    more_split rows h.before (run_rows h.run) h.blanks h.later row h.split ∙ ap (λ (rs : List Row). h.before ++ (run_rows h.run ++ rs)) (sym (append_assoc h.blanks h.later (row ∷ []))) ∙ ap (λ (rs : List Row). h.before ++ rs) (sym rows_of_run ∙ sym (append-nil (run_rows run))) in
     let between : list_all stands_between (h.blanks ++ h.later) ≡ true = list_all-append stands_between h.blanks h.later ∙ and_from _ _ (blanks_between h.blanks h.blank_rows) h.between in
     let indentation : bytes_eq row.indentation h.run.first.indentation ≡ true = subst (λ (i : List ℕ). bytes_eq row.indentation i ≡ true) (ap (λ (x : Found). x.indentation) h.found) same in
     let goes : goes_on h.run.first.indentation f ≡ true = and_from _ _ (and_from _ _ between is) indentation in
@@ -160,9 +160,6 @@ member_step at rows o row stop m h is same value s =
       above = refl;
       commented = refl;
     }
-  where
-    regroup : (a b c : List Row) (r : Row) → (a ++ (b ++ c)) ++ r ∷ [] ≡ a ++ (b ++ (c ++ r ∷ []))
-    regroup a b c r = append_assoc a (b ++ c) (r ∷ []) ∙ ap (λ (x : List Row). a ++ x) (append_assoc b c (r ∷ []))
 
 -- a member that begins a run
 pub begin_step : (at : ℕ) (rows : List Row) (row : Row) (place stop : ℕ) (m : Member) → list_any is_member rows ≡ false → is_member row ≡ true → m ≡ member_of [] row → place ≡ at + length (texts_of rows) → stop ≡ at + length (texts_of (rows ++ row ∷ [])) → EndInOpenRun at (rows ++ row ∷ []) (begun_with place stop row.ended row.indentation m)
@@ -234,7 +231,7 @@ pub record IsEndedRun (at : ℕ) (left more : List Row) (o : Open) (h : EndInOpe
 pub ended : (at : ℕ) (left more : List Row) (o : Open) (h : EndInOpenRun at left o) → leads_to h.run.first.indentation more ≡ false → begins_blank (h.later ++ more) ≡ false → IsEndedRun at left more o h (next_of more)
 ended at left more o h stops begins = record {
   cuts = λ cut is. record {
-    all = ap (λ (rows : List Row). h.before ++ (run_rows h.run ++ (h.blanks ++ rows))) is.all ∙ sym (ap (λ (rows : List Row). rows ++ more) h.split ∙ regroup h.before (run_rows h.run) h.blanks h.later);
+    all = ap (λ (rows : List Row). h.before ++ (run_rows h.run ++ (h.blanks ++ rows))) is.all ∙ sym (simp append_assoc at (ap (λ (rows : List Row). rows ++ more) h.split));
     blocks = (
       h.none,
       h.is,
@@ -248,6 +245,3 @@ ended at left more o h stops begins = record {
       let next : next_of (cut_rows cut) ≡ cond o.commented (Some as_many) (next_of more) = ap next_of is.all ∙ next_after h.later more h.between h.ends ∙ ap (λ (b : Bool). cond b (Some as_many) (next_of more)) (sym h.commented) in
       λ i. record (sym h.found i) { next = next i } ∷ found_from (sym h.found i).stop cut;
 }
-  where
-    regroup : (a b c d : List Row) → (a ++ (b ++ (c ++ d))) ++ more ≡ a ++ (b ++ (c ++ (d ++ more)))
-    regroup a b c d = append_assoc a (b ++ (c ++ d)) more ∙ ap (λ (x : List Row). a ++ x) (append_assoc b (c ++ d) more ∙ ap (λ (x : List Row). b ++ x) (append_assoc c d more))

@@ -103,12 +103,9 @@ room_left None long room h = let gt : ¬ (long ≤ room) = h in omega arith
 room_left (Some x) long room h = h.1
 
 -- what was written before an item, the item, and what is written after it
-regroup : (at sep item rest : List ℕ) → ((at ++ sep) ++ item) ++ rest ≡ at ++ (sep ++ (item ++ rest))
-regroup at sep item rest = simp append_assoc
-
 pub one_more : (at sep item rest before more whole mid out : List ℕ) → mid ≡ at ++ sep → out ≡ mid ++ item → before ≡ more → more ≡ sep ++ (item ++ rest) → at ++ before ≡ whole → out ++ rest ≡ whole
 one_more at sep item rest before more whole mid out a b e f w =
-    ap (λ t. t ++ rest) (b ∙ ap (λ t. t ++ item) a) ∙ regroup at sep item rest ∙ ap (λ t. at ++ t) (sym f ∙ sym e) ∙ w
+    simp append_assoc at (ap (λ t. t ++ rest) (b ∙ ap (λ t. t ++ item) a)) ∙ ap (λ t. at ++ t) (sym f ∙ sym e) ∙ w
 
 -- one item more, on the same line or on the next one
 pub item_written : (next : List ℕ) (room left rest : ℕ) (others : List code.FromItem) (k : ℕ) (x : code.FromItem) (at mid out whole : List ℕ) → k < length others → x ≡ get_or others k x → 2 + item_width (item_value x) ≤ left → rest ≡ left - (2 + item_width (item_value x)) → mid ≡ at ++ codes ", " → out ≡ mid ++ item_text (item_value x) → at ++ more_items next room (map item_value (drop k others)) left ≡ whole → out ++ more_items next room (map item_value (drop (k + 1) others)) rest ≡ whole

@@ -34,11 +34,7 @@ left_line v indentation end before (g ∷ gs) some = subst AreSome (sym (left_st
 -- lines with line ends are joined lines and a line end
 turned : (end : List ℕ) (lines : List (List ℕ)) → end ++ text_with end lines ≡ flat_map (λ l. end ++ l) lines ++ end
 turned end [] = append-nil end
-turned end (l ∷ lines) =
-    shift end l (text_with end lines) ∙ ap (λ t. (end ++ l) ++ t) (turned end lines) ∙ sym (append_assoc (end ++ l) (flat_map (λ l. end ++ l) lines) end)
-  where
-    shift : (e l t : List ℕ) → e ++ ((l ++ e) ++ t) ≡ (e ++ l) ++ (e ++ t)
-    shift e l t = simp append_assoc
+turned end (l ∷ lines) = simp append_assoc (ap (λ t. end ++ (l ++ t)) (turned end lines))
 
 abbrev joined : List ℕ → List (List ℕ) → List ℕ
 joined end lines = join_by (λ (t : List ℕ). t) end lines

@@ -5,14 +5,8 @@ use Rattle.std.specs.String.Boundary.{IsSplitPoint}
 use Rattle.std.proofs.lemmas.Str.{IsCharBoundary-from_take}
 use Rattle.std.specs.List.{join_by}
 use Rattle.std.proofs.lemmas.List.{at_drop_more, at_drop_all, take_all, take-append-le}
-use Rattle.std.proofs.lemmas.List.Folds.{flat_map-map}
 use Rattle.isort_sort.specs.Private.Packing.{text_with}
 use Rattle.isort_sort.specs.Wrapping.{remark}
-
--- values that are joined by their texts
-pub join_by-map : {X Y : Type 0} (text : Y → List ℕ) (value : X → Y) (sep : List ℕ) (xs : List X) → join_by text sep (map value xs) ≡ join_by (λ x. text (value x)) sep xs
-join_by-map text value sep [] = refl
-join_by-map text value sep (x ∷ xs) = ap (λ t. text (value x) ++ t) (flat_map-map (λ y. sep ++ text y) value xs)
 
 -- one text after another
 pub extend : (old a b mid new : List ℕ) → mid ≡ old ++ a → new ≡ mid ++ b → new ≡ old ++ (a ++ b)
@@ -21,6 +15,13 @@ extend old a b mid new e f = f ∙ ap (λ t. t ++ b) e ∙ append_assoc old a b
 pub last_extended : {X E : Type 0} (r : Result X E) (old a b mid new text : List ℕ) → mid ≡ old ++ a → OnOk r (new ≡ mid ++ b) → a ++ b ≡ text → OnOk r (new ≡ old ++ text)
 last_extended (Ok x) old a b mid new text e f g = extend old a b mid new e f ∙ ap (λ t. old ++ t) g
 last_extended (Err x) old a b mid new text e f g = tt
+
+-- the text of a statement, in the parts in which it was written
+pub hung : (i h s e f j r : List ℕ) → (((i ++ (h ++ s)) ++ e) ++ (i ++ (f ++ j))) ++ (r ++ e) ≡ (i ++ (h ++ ((s ++ (e ++ (i ++ f))) ++ (j ++ r)))) ++ e
+hung i h s e f j r = simp append_assoc
+
+pub hung_in_brackets : (i h o r e f j t q : List ℕ) → (((i ++ (h ++ o)) ++ (r ++ e)) ++ (i ++ (f ++ j))) ++ (t ++ (e ++ (i ++ (q ++ e)))) ≡ (i ++ (h ++ (o ++ (r ++ ((e ++ (i ++ f)) ++ (j ++ (t ++ (e ++ (i ++ q))))))))) ++ e
+hung_in_brackets i h o r e f j t q = simp append_assoc
 
 -- texts, the first after `first` and each other one after `sep`
 unfoldable pub following : {X : Type 0} → (X → List ℕ) → List ℕ → List ℕ → List X → List ℕ
@@ -62,13 +63,9 @@ following-remark value (x ∷ xs) =
     ap (λ t. codes "  # " ++ (value x ++ t)) (following-others (λ t. t) value (codes "; ") xs)
 
 -- a text written many times: spaces, and blank lines
-spaces : (n : ℕ) → flat_map (λ (t : List ℕ). t) (replicate n (32 ∷ [])) ≡ replicate n 32
+pub spaces : (n : ℕ) → flat_map (λ (t : List ℕ). t) (replicate n (32 ∷ [])) ≡ replicate n 32
 spaces zero = refl
 spaces (suc n) = ap (λ t. 32 ∷ t) (spaces n)
-
-pub broken : (between end indentation : List ℕ) (n : ℕ) → ((between ++ end) ++ indentation) ++ flat_map (λ (t : List ℕ). t) (replicate n (32 ∷ [])) ≡ between ++ (end ++ (indentation ++ replicate n 32))
-broken between end indentation n =
-    append_assoc (between ++ end) indentation _ ∙ append_assoc between end _ ∙ ap (λ t. between ++ (end ++ (indentation ++ t))) (spaces n)
 
 pub blank_lines : (end : List ℕ) (n : ℕ) → flat_map (λ (t : List ℕ). t) (replicate n end) ≡ text_with end (replicate n [])
 blank_lines end zero = refl

@@ -128,9 +128,6 @@ breaks t a end pad rest is whole p =
 regroup_brackets : (i h o l e n m more r : List ℕ) → i ++ (h ++ (o ++ ((l ++ (((44 ∷ (e ++ n)) ++ m) ++ more)) ++ r))) ≡ (i ++ (h ++ (o ++ (l ++ (44 ∷ []))))) ++ (e ++ (n ++ ((m ++ more) ++ r)))
 regroup_brackets i h o l e n m more r = simp append_assoc
 
-regroup_hanging : (i h e n r : List ℕ) → i ++ (h ++ ((92 ∷ (e ++ n)) ++ r)) ≡ (i ++ (h ++ (92 ∷ []))) ++ (e ++ (n ++ r))
-regroup_hanging i h e n r = simp append_assoc
-
 regroup_hung : (i h o c e n r : List ℕ) → i ++ (h ++ (o ++ (c ++ ((e ++ n) ++ r)))) ≡ (i ++ (h ++ (o ++ c))) ++ (e ++ (n ++ r))
 regroup_hung i h o c e n r = simp append_assoc
 
@@ -155,8 +152,8 @@ first_names law v indentation end m comment items cut i h c t ls = by (is_wrappe
     by false a b = inr (joins indentation (head m ++ (items_text items ++ comment)) spaces (joins (head m) (items_text items ++ comment) (unbroken_head m h) (joins (items_text items) comment (unbroken_items law items t) c)), (λ e. refl))
     by true true b = first_brackets law v indentation end m comment cut i h c ls
     by true false true =
-        breaks (λ e. hanging indentation e m comment cut) (indentation ++ (head m ++ (92 ∷ []))) end (indentation ++ four_spaces) _
-        (regroup_hanging indentation (head m) end (indentation ++ four_spaces) _)
+        breaks (λ e. hanging indentation e m comment cut) (indentation ++ (head m ++ (92 ∷ []))) end (indentation ++ four_spaces)
+        (join_by items_text (codes ", " ++ 92 ∷ (end ++ (indentation ++ four_spaces))) cut ++ comment) (simp append_assoc)
         (joins indentation (head m ++ (92 ∷ [])) spaces (joins (head m) (92 ∷ []) (unbroken_head m h) refl)) (four-pad indentation i)
     by true false false =
         breaks (λ e. hanging_in_brackets v indentation e m comment cut) (indentation ++ (head m ++ (codes "(" ++ comment))) end (indentation ++ four_spaces) _

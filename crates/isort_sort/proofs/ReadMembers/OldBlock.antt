@@ -73,12 +73,11 @@ through_block off (u ∷ us) (row ∷ rows) h k =
 
 pub seen_rows : (us : List (List Piece)) (rows : List Row) → AreUnitRows false us rows → list_all in_block rows ≡ true → AreSeen us rows
 seen_rows [] [] h k = tt
-seen_rows [] (row ∷ rows) h k = absurd h
-seen_rows (u ∷ us) [] h k = absurd h
 seen_rows (u ∷ us) (row ∷ rows) h k =
     let parts = and_parts (in_block row) (list_all in_block rows) k in
     let same = silent false false (unit_line u) row.role h.0.role parts.0 in
     (record { role = h.0.role; indentation = h.0.indentation; ended = h.0.ended }, seen_rows us rows (subst (λ (b : Bool). AreUnitRows b us rows) same h.1) parts.1)
+seen_rows _ _ h k = absurd h
 
 -- sorting isn't off at a member
 pub member_off : (off : Bool) (u : List Piece) (row : Row) → HasRole off (unit_line u) row.role → is_member row ≡ true → off ≡ false
@@ -111,9 +110,8 @@ last_ended row (r ∷ rs) = last_ended r rs
 seen_ended : (u : List Piece) (us vs : List (List Piece)) (row : Row) (rows : List Row) → AreSome vs → AreUnits ((u ∷ us) ++ vs) → AreSeen (u ∷ us) (row ∷ rows) → last_ended row rows ≡ true
 seen_ended u [] [] row rows some are h = absurd (let e = some.2 in cc)
 seen_ended u [] (v ∷ vs) row [] some are h = h.0.ended ∙ ends_bytes u are.0 are.1.0
-seen_ended u [] (v ∷ vs) row (r ∷ rs) some are h = absurd h.1
-seen_ended u (w ∷ us) vs row [] some are h = absurd h.1
 seen_ended u (w ∷ us) vs row (r ∷ rs) some are h = seen_ended w us vs r rs some are.2 h.1
+seen_ended u _ vs row _ some are h = absurd h.1
 
 past_between : (row : Row) (between : List Row) (r : Row) (rows : List Row) → last_ended row ((between ++ r ∷ []) ++ rows) ≡ last_ended r rows
 past_between row [] r rows = refl

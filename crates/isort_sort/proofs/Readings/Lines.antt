@@ -102,10 +102,6 @@ module _ (off : Bool) (line : LogicalLine) (utf8 : IsUtf8 line.text) (f new : Fi
         (found, is_row off mark line (other b) utf8 is, found_other start rows f found stop b h refl (stop_is mark line f.place stop s at within));
   })
 
-pub none_open : {A : Type 0} (x : Option A) → is_some x ≡ false → x ≡ None
-none_open None none = refl
-none_open (Some o) none = absurd (cc)
-
 -- what is asked for where a block may go on
 pub any_match : {A : Type 0} {P : Type 0} (x : Option A) → P → MatchOption x (Unit {0}) (λ o. P)
 any_match None is = tt

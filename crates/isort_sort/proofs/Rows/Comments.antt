@@ -1,13 +1,14 @@
 -- What is cut off a comment, and the comments of a line one after another.
-use Rattle.std.proofs.Common.{◌≡◌, ℕ, ◌+◌, ◌-◌, ◌<◌, Bool, true, false, cond, ◌||◌, ◌&&◌, Option, None, Some, MatchOption, Bor, lit<, List, [], ◌∷◌, ◌++◌, length, take, drop, get_or, append_assoc, length-drop, length-append, map, refl, sym, ap, ◌∙◌, arith}
-use Rattle.std.specs.Prelude.{filter, slice_range, if◌then◌else◌, slice_get}
+use Rattle.std.proofs.Common.{◌≡◌, ℕ, ◌+◌, ◌-◌, ◌<◌, Bool, true, false, cond, ◌||◌, ◌&&◌, Option, None, Some, MatchOption, Bor, lit<, List, [], ◌∷◌, ◌++◌, length, take, drop, get_or, append_assoc, length-drop, length-append, map, string_bytes, String, Global, refl, sym, ap, ◌∙◌, arith}
+use Rattle.std.specs.Prelude.{filter, slice_range, if◌then◌else◌, slice_get, ◌==◌}
 use Rattle.std.specs.Char.{IsScalar, char_set_contains}
 use Rattle.std.specs.List.{list_all, list_any}
 use Rattle.std.specs.Str.Pattern.{FindsPrefixBy, FindsSuffixBy, HasCharAt, FindsCharPrefix, StripsPrefix, CutsPrefixes, CutsSuffixes, IsFullyTrimmed, IsTrimStartMatches, IsTrimEndMatches}
 use Rattle.std.specs.Option.{unwrap_or}
 use Rattle.std.proofs.lemmas.Bool.{lt-ltb, ne_eqb}
 use Rattle.std.proofs.lemmas.Bool.Decides.{nat_tests}
-use Rattle.std.proofs.lemmas.List.{take-append-drop, length-take, drop_more}
+use Rattle.std.proofs.lemmas.List.{take-append-drop, length-take, drop_more, take_more, map-append}
+use Rattle.std.proofs.lemmas.List.Elements.{filter-append}
 use Rattle.std.proofs.lemmas.Str.{encode_ascii}
 use Rattle.std.proofs.lemmas.Str.Pattern.{drop_at_char}
 use Rattle.std.proofs.Math.Seq.{drop-length}
@@ -21,7 +22,6 @@ use Rattle.isort_sort.specs.Line.{without_hash, without_start, without_end, stri
 use Rattle.std.proofs.Math.Bool.{and-false}
 use Rattle.isort_sort.proofs.Rows.Spaces.{space_low}
 use Rattle.std.proofs.lemmas.Option.{slice_get-get_or}
-use Rattle.isort_sort.specs.Private.Actions.{content_of}
 
 -- space, tab and form feed
 abbrev pub spaces : List ℕ
@@ -163,16 +163,13 @@ says_on a text tokens i within e = e ∙ ap (comments_say a text) (drop_more tok
     by true = refl
     by false = refl
 
--- what is taken of tokens, where one token after the others brings some more
-taken_on : (f : List Token → List (List ℕ)) (tokens : List Token) (i : ℕ) (before after here : List (List ℕ)) → i < length tokens → before ++ f (drop i tokens) ≡ f tokens → after ≡ before ++ here → f (token_at tokens i ∷ drop (i + 1) tokens) ≡ here ++ f (drop (i + 1) tokens) → after ++ f (drop (i + 1) tokens) ≡ f tokens
-taken_on f tokens i before after here within e is more =
-    ap (λ l. l ++ f (drop (i + 1) tokens)) is
-    ∙ append_assoc before here (f (drop (i + 1) tokens))
-    ∙ ap (λ l. before ++ l) (sym more ∙ sym (ap f (drop_more tokens i _ within)))
-    ∙ e
-
+-- where one token after the others brings some more comments
 pub texts_on : (text : List ℕ) (tokens : List Token) (i : ℕ) (before after : List (List ℕ)) → i < length tokens → before ++ texts text (drop i tokens) ≡ texts text tokens → after ≡ before ++ (if is_comment (token_at tokens i).kind then word_at text tokens i ∷ [] else []) → after ++ texts text (drop (i + 1) tokens) ≡ texts text tokens
-texts_on text tokens i before after within e is = taken_on (texts text) tokens i before after _ within e is (by (is_comment (token_at tokens i).kind))
+texts_on text tokens i before after within e is =
+    ap (λ l. l ++ texts text (drop (i + 1) tokens)) is
+    ∙ append_assoc before _ (texts text (drop (i + 1) tokens))
+    ∙ ap (λ l. before ++ l) (sym (by (is_comment (token_at tokens i).kind)) ∙ sym (ap (texts text) (drop_more tokens i _ within)))
+    ∙ e
   where
     others : List Token
     others = filter (λ t. is_comment t.kind) (drop (i + 1) tokens)
@@ -181,20 +178,20 @@ texts_on text tokens i before after within e is = taken_on (texts text) tokens i
     by true = refl
     by false = refl
 
--- what the comments among these tokens of a text say
-abbrev pub contents : List ℕ → List Token → List (List ℕ)
-contents text tokens = filter is_text (map (λ t. stripped (without_hash t)) (texts text tokens))
+-- what comments say, without the empty ones
+abbrev pub said : List (List ℕ) → List (List ℕ)
+said comments = filter is_text (map (λ t. stripped (without_hash t)) comments)
 
-pub contents_on : (text : List ℕ) (tokens : List Token) (i : ℕ) (before after : List (List ℕ)) → i < length tokens → before ++ contents text (drop i tokens) ≡ contents text tokens → after ≡ before ++ (if is_comment (token_at tokens i).kind then content_of (word_at text tokens i) else []) → after ++ contents text (drop (i + 1) tokens) ≡ contents text tokens
-contents_on text tokens i before after within e is = taken_on (contents text) tokens i before after _ within e is (by (is_comment (token_at tokens i).kind))
-  where
-    others : List Token
-    others = filter (λ t. is_comment t.kind) (drop (i + 1) tokens)
+-- one comment more
+text_unless : (t : List ℕ) → (if is_text t then t ∷ [] else []) ≡ (if length t == 0 then [] else t ∷ [])
+text_unless [] = refl
+text_unless (b ∷ bs) = sym (ap (λ x. if x then [] else (b ∷ bs) ∷ []) (ne_eqb (length (b ∷ bs)) 0 (λ e. omega (arith, e))))
 
-    by_text : (content : List ℕ) (cs : List (List ℕ)) (b : Bool) → cond b (content ∷ cs) cs ≡ cond b (content ∷ []) [] ++ cs
-    by_text content cs true = refl
-    by_text content cs false = refl
-
-    by : (b : Bool) → filter is_text (map (λ t. stripped (without_hash t)) (map (λ t. slice_range text t.start t.stop) (cond b (token_at tokens i ∷ others) others))) ≡ (if b then content_of (word_at text tokens i) else []) ++ filter is_text (map (λ t. stripped (without_hash t)) (map (λ t. slice_range text t.start t.stop) others))
-    by true = by_text (stripped (without_hash (word_at text tokens i))) _ (is_text (stripped (without_hash (word_at text tokens i))))
-    by false = refl
+pub said_more : (items : List (String Global)) (k : ℕ) (item : String Global) (content : List ℕ) (empty : Bool) → k < length items → item ≡ get_or items k item → content ≡ stripped (without_hash (string_bytes item)) → empty ≡ (length content == 0) → said (map string_bytes (take (k + 1) items)) ≡ said (map string_bytes (take k items)) ++ (if empty then [] else content ∷ [])
+said_more items k item content empty within at is none =
+    ap (λ l. said (map string_bytes l)) (take_more items k item within)
+    ∙ ap said (map-append string_bytes (take k items) (get_or items k item ∷ []))
+    ∙ ap (filter is_text) (map-append (λ t. stripped (without_hash t)) (map string_bytes (take k items)) (string_bytes (get_or items k item) ∷ []))
+    ∙ filter-append is_text (map (λ t. stripped (without_hash t)) (map string_bytes (take k items))) (stripped (without_hash (string_bytes (get_or items k item))) ∷ [])
+    ∙ ap (λ (c : List ℕ). said (map string_bytes (take k items)) ++ (if is_text c then c ∷ [] else [])) (ap (λ s. stripped (without_hash (string_bytes s))) (sym at) ∙ sym is)
+    ∙ ap (λ (l : List (List ℕ)). said (map string_bytes (take k items)) ++ l) (text_unless content ∙ ap (λ b. if b then [] else content ∷ []) (sym none))

@@ -212,9 +212,54 @@ again_block v end off a rs bs cs before run blanks cut own others body run_is ar
         ∙ ap (λ (t : List ℕ). t ++ (w.mine ++ others)) (sym (flat_map-append (λ (row : Row). row.text) before w.above))
 
 -- sorting is on where a block begins
-pub run_on : (off : Bool) (us : List (List Piece)) (run : Run) → AreUnitRows off us (run_rows run) → is_run run ≡ true → off ≡ false
-run_on off [] run h k = absurd h
-run_on off (u ∷ us) run h k = member_off off u run.first h.0.role (run_member run k)
+run_on : (off : Bool) (us : List (List Piece)) (run : Run) (rows : List Row) → AreUnitRows off us (run_rows run ++ rows) → is_run run ≡ true → off ≡ false
+run_on off [] run rows h k = absurd h
+run_on off (u ∷ us) run rows h k = member_off off u run.first h.0.role (run_member run k)
+
+-- the logical lines of a block: those before it, of its run, of the blank lines after that, and the others
+pub record IsParted (off : Bool) (us : List (List Piece)) (before : List Row) (run : Run) (cut : Cut) : Type 0 where
+  pub a : List (List Piece)
+  pub rs : List (List Piece)
+  pub bs : List (List Piece)
+  pub cs : List (List Piece)
+  pub whole : us ≡ a ++ (rs ++ (bs ++ cs))
+  pub are : AreUnits (a ++ (rs ++ (bs ++ cs)))
+  pub rows : AreUnitRows off a before
+  pub on : off_through off a ≡ false
+  pub seen : AreSeen rs (run_rows run)
+  pub others : AreUnitRows false cs (cut_rows cut)
+  pub unskipped : (list_any says_skip_file a ≡ false) × (list_any says_skip_file rs ≡ false) × (list_any says_skip_file cs ≡ false)
+
+pub parted : (off : Bool) (us : List (List Piece)) (before : List Row) (run : Run) (blanks : List Row) (cut : Cut) → AreBlocks (block before run blanks cut) → AreUnits us → AreUnitRows off us (before ++ (run_rows run ++ (blanks ++ cut_rows cut))) → list_any says_skip_file us ≡ false → IsParted off us before run cut
+parted off us before run blanks cut blocks are seen unskipped =
+    let a = rows_apart off us before (run_rows run ++ (blanks ++ cut_rows cut)) seen in
+    let on : off_through off a.front ≡ false = run_on (off_through off a.front) a.back run (blanks ++ cut_rows cut) a.second blocks.1 in
+    let r = rows_apart false a.back (run_rows run) (blanks ++ cut_rows cut) (subst (λ (x : Bool). AreUnitRows x a.back (run_rows run ++ (blanks ++ cut_rows cut))) on a.second) in
+    let after : off_through false r.front ≡ false = through_block false r.front (run_rows run) r.first (run_in_block run blocks.1) in
+    let b = rows_apart false r.back blanks (cut_rows cut) (subst (λ (x : Bool). AreUnitRows x r.back (blanks ++ cut_rows cut)) after r.second) in
+    let last : off_through false b.front ≡ false = through_block false b.front blanks b.first (blanks_in_block blanks blocks.3) in
+    let whole : us ≡ a.front ++ (r.front ++ (b.front ++ b.back)) = a.split ∙ ap (λ l. a.front ++ l) (r.split ∙ ap (λ l. r.front ++ l) b.split) in
+    let none_a = none_first says_skip_file a.front (r.front ++ (b.front ++ b.back)) (ap (list_any says_skip_file) (sym whole) ∙ unskipped) in
+    let none_r = none_first says_skip_file r.front (b.front ++ b.back) none_a.1 in
+    record {
+      a = a.front;
+      rs = r.front;
+      bs = b.front;
+      cs = b.back;
+      whole = whole;
+      are = subst AreUnits whole are;
+      rows = a.first;
+      on = on;
+      seen = seen_rows r.front (run_rows run) r.first (run_in_block run blocks.1);
+      others = subst (λ (x : Bool). AreUnitRows x b.back (cut_rows cut)) last b.second;
+      unskipped = (none_a.0, none_r.0, (none_first says_skip_file b.front b.back none_r.1).1);
+    }
+
+-- the block, and the lines after it
+pub after_block : (off : Bool) (us : List (List Piece)) (before : List Row) (run : Run) (cut : Cut) → (p : IsParted off us before run cut) → AreUnits (p.rs ++ (p.bs ++ p.cs)) × AreUnits p.cs
+after_block off us before run cut p =
+    let here = units_after p.a (p.rs ++ (p.bs ++ p.cs)) p.are in
+    (here, units_after p.bs p.cs (units_after p.rs (p.bs ++ p.cs) here))
 
 -- sorting is done block by block
 pub again : (v : Values) → SortLaws v → (end : List ℕ) → IsLineEnd end → (off : Bool) (us : List (List Piece)) (cut : Cut) (body : List ℕ) → AreBlocks cut → AreUnits us → AreUnitRows off us (cut_rows cut) → list_any says_skip_file us ≡ false → IsSortedCut v end cut body → IsAgain v end off us cut body
@@ -235,22 +280,9 @@ again v laws end is off us (rest rows) body blocks are seen unskipped sorted = r
   no_string = λ h. h;
 }
 again v laws end is off us (block before run blanks cut) body blocks are seen unskipped sorted =
-    let a = rows_apart off us before (run_rows run ++ (blanks ++ cut_rows cut)) seen in
-    let r = rows_apart (off_through off a.front) a.back (run_rows run) (blanks ++ cut_rows cut) a.second in
-    let b = rows_apart (off_through (off_through off a.front) r.front) r.back blanks (cut_rows cut) r.second in
-    let on : off_through off a.front ≡ false = run_on (off_through off a.front) r.front run r.first blocks.1 in
-    let on_after : off_through (off_through off a.front) r.front ≡ false = through_block (off_through off a.front) r.front (run_rows run) r.first (run_in_block run blocks.1) ∙ on in
-    let on_last : off_through (off_through (off_through off a.front) r.front) b.front ≡ false = through_block (off_through (off_through off a.front) r.front) b.front blanks b.first (blanks_in_block blanks blocks.3) ∙ on_after in
-    let whole : us ≡ a.front ++ (r.front ++ (b.front ++ b.back)) = a.split ∙ ap (λ l. a.front ++ l) (r.split ∙ ap (λ l. r.front ++ l) b.split) in
-    let all : AreUnits (a.front ++ (r.front ++ (b.front ++ b.back))) = subst AreUnits whole are in
-    let here : AreUnits (r.front ++ (b.front ++ b.back)) = units_after a.front (r.front ++ (b.front ++ b.back)) all in
-    let there : AreUnits b.back = units_after b.front b.back (units_after r.front (b.front ++ b.back) here) in
-    let none_a = none_first says_skip_file a.front (r.front ++ (b.front ++ b.back)) (ap (list_any says_skip_file) (sym whole) ∙ unskipped) in
-    let none_r = none_first says_skip_file r.front (b.front ++ b.back) none_a.1 in
-    let none_b = none_first says_skip_file b.front b.back none_r.1 in
-    let seen_run = seen_rows r.front (run_rows run) (subst (λ (x : Bool). AreUnitRows x r.front (run_rows run)) on r.first) (run_in_block run blocks.1) in
-    let seen_rest : AreUnitRows false b.back (cut_rows cut) = subst (λ (x : Bool). AreUnitRows x b.back (cut_rows cut)) on_last b.second in
-    let z = again v laws end is false b.back cut sorted.1 blocks.5 there seen_rest none_b.1 sorted.4 in
-    let w = block_again v laws end is r.front b.front b.back run blanks cut sorted.0 sorted.1 blocks.1 blocks.4 here seen_run seen_rest none_r.0 sorted.3 z in
-    subst (λ (l : List (List Piece)). IsAgain v end off l (block before run blanks cut) body) (sym whole)
-    (again_block v end off a.front r.front b.front b.back before run blanks cut sorted.0 sorted.1 body blocks.1 all a.first on seen_run none_a.0 sorted.2 sorted.3 z w)
+    let p = parted off us before run blanks cut blocks are seen unskipped in
+    let units = after_block off us before run cut p in
+    let z = again v laws end is false p.cs cut sorted.1 blocks.5 units.1 p.others p.unskipped.2 sorted.4 in
+    let w = block_again v laws end is p.rs p.bs p.cs run blanks cut sorted.0 sorted.1 blocks.1 blocks.4 units.0 p.seen p.others p.unskipped.1 sorted.3 z in
+    subst (λ (l : List (List Piece)). IsAgain v end off l (block before run blanks cut) body) (sym p.whole)
+    (again_block v end off p.a p.rs p.bs p.cs before run blanks cut sorted.0 sorted.1 body blocks.1 p.are p.rows p.on p.seen p.unskipped.0 sorted.2 sorted.3 z w)

@@ -1,10 +1,10 @@
 -- A text that begins with a block, perhaps after a byte order mark; and so any sorted text.
 use Rattle.std.proofs.Common.{◌≡◌, ℕ, nat_eq, Bool, true, false, ◌&&◌, ◌||◌, ⊎_elim, inl, inr, List, [], ◌∷◌, ◌++◌, map, flat_map, take, refl, sym, ap, ◌∙◌, subst, append_assoc}
 use Rattle.std.specs.Prelude.{count_by, encode_utf8_all, if◌then◌else◌}
-use Rattle.std.specs.List.{list_any, list_all, starts_with}
+use Rattle.std.specs.List.{list_any, starts_with}
 use Rattle.std.specs.Str.{StartsWithNoChar}
 use Rattle.std.proofs.Math.Utf8.{encode}
-use Rattle.std.proofs.lemmas.Bool.{and_parts, both_ways, or_parts}
+use Rattle.std.proofs.lemmas.Bool.{both_ways, or_parts}
 use Rattle.std.proofs.lemmas.Bool.Decides.{Decides-eqb}
 use Rattle.std.proofs.lemmas.List.{map-append}
 use Rattle.std.proofs.lemmas.Slice.Eq.{starts_is}
@@ -18,30 +18,30 @@ use Rattle.py_imports.specs.ActionComment.{says}
 use Rattle.py_imports.specs.Shape.{mark_len}
 use Rattle.py_imports.specs.declared.action_comment.ActionComment.TheVariants as action
 use Rattle.isort_settings.specs.Values.{Values}
-use Rattle.isort_sort.specs.Blocks.{is_blank, is_member, Run, run_rows, further_rows, is_run, Cut, rest, block, cut_rows, begins_blank, AreBlocks}
+use Rattle.isort_sort.specs.Blocks.{is_member, Run, run_rows, further_rows, Cut, rest, block, cut_rows, AreBlocks}
 use Rattle.isort_sort.specs.BlocksReplaced.{one_more}
 use Rattle.isort_sort.specs.Layout.{block_lines, text_of_lines}
 use Rattle.isort_sort.specs.ReadBack.{AreReadBack, HasBlocksBack}
-use Rattle.isort_sort.specs.Row.{Row, IsRow, AreRows, first_string_skips}
+use Rattle.isort_sort.specs.Row.{Row, AreRows, first_string_skips}
 use Rattle.isort_sort.specs.Sorted.{HasBlocks, first_end, last_row, blanks_after, texts_of, mark_of, IsLayout, IsSortedCut, IsSkipped, IsLaidOut, IsSorted}
 use Rattle.isort_sort.specs.WrittenLine.{mark_pieces, mark_bytes}
 use Rattle.isort_sort.proofs.Finding.Replaced.{blocks_again}
 use Rattle.isort_sort.proofs.Rows.OneRows.{BindsOneList}
 use Rattle.isort_sort.proofs.Rows.Texts.{text_of_rows}
 use Rattle.isort_sort.proofs.SortedTexts.OneSorted.{HasOneLexing, never_both, same_cut}
-use Rattle.isort_sort.proofs.LineLaws.Units.{IsUnit, MayFollowUnit, AreUnits, first_character, units_after}
+use Rattle.isort_sort.proofs.LineLaws.Units.{IsUnit, MayFollowUnit, first_character}
 use Rattle.isort_sort.specs.Private.LineRole.{turned}
-use Rattle.isort_sort.proofs.WrittenLines.UnitRows.{TokenLaws, unit_line, comments_of_unit, AreUnitRows, off_through, rows_apart, silent}
-use Rattle.isort_sort.proofs.WrittenLines.LineUnits.{are_some, says_skip_file}
+use Rattle.isort_sort.proofs.WrittenLines.UnitRows.{TokenLaws, unit_line, comments_of_unit, AreUnitRows, silent}
+use Rattle.isort_sort.proofs.WrittenLines.LineUnits.{says_skip_file}
 use Rattle.isort_sort.proofs.LineLaws.Joined.{some_append, bytes_of, bytes_of-cons, bytes_of-append, none-append}
 use Rattle.isort_sort.proofs.WrittenLines.BlockUnits.{closing}
 use Rattle.isort_sort.proofs.WrittenLines.UnitBinds.{UnitBinds, EachBinds, role_binds}
 use Rattle.isort_sort.proofs.LineLaws.Each.{each-append, each-parts}
-use Rattle.isort_sort.proofs.ReadMembers.OldBlock.{AreSeen, in_block, run_in_block, blanks_in_block, through_block, seen_rows, run_ended}
+use Rattle.isort_sort.proofs.ReadMembers.OldBlock.{AreSeen, run_ended}
 use Rattle.isort_sort.proofs.WrittenLines.FirstEnds.{is_end_byte, Breaks, first_is_end, breaks_first, ends_first}
 use Rattle.isort_sort.proofs.SortedAgain.WrittenBlocks.{first_line, IsWrittenBlock, read_back}
-use Rattle.isort_sort.proofs.SortedAgain.Again.{SortLaws, IsReadable, IsAgain, each_unit, none_first, some_from, block_again, again}
-use Rattle.isort_sort.proofs.SortedAgain.SortedAgain.{IsCutText, first_seen, text_again, cut_text, IsLaidBack, ahead}
+use Rattle.isort_sort.proofs.SortedAgain.Again.{SortLaws, IsReadable, IsAgain, IsParted, each_unit, block_again, parted, after_block, again}
+use Rattle.isort_sort.proofs.SortedAgain.SortedAgain.{IsCutText, first_seen, marked_row, marked_seen, text_again, cut_text, IsLaidBack, ahead}
 
 -- a byte order mark before pieces
 marked_unit : (marked : Bool) (u : List Piece) → IsUnit u → begins_marked u ≡ false → IsUnit (mark_pieces marked ++ u)
@@ -104,86 +104,40 @@ unfolding encode
 mark_unbroken true = refl
 mark_unbroken false = refl
 
--- the logical lines of a text that begins with a block
-pub record IsSplit (us : List (List Piece)) (run : Run) (blanks : List Row) (later : Cut) : Type 0 where
-  pub rs : List (List Piece)
-  pub bs : List (List Piece)
-  pub cs : List (List Piece)
-  pub whole : us ≡ rs ++ (bs ++ cs)
-  pub seen : AreSeen rs (run_rows run)
-  pub rows : AreUnitRows false cs (cut_rows later)
+-- a text that begins with a block, whose first row has the byte order mark
+abbrev IsFirstBlock : List (List Piece) → List Piece → Run → Cut → Type 0
+IsFirstBlock us u run later = IsParted false us [] (record run { first = marked_row u run.first }) later
 
-pub split_rows : (u : List Piece) (us : List (List Piece)) (run : Run) (blanks : List Row) (later : Cut) → is_run run ≡ true → list_all is_blank blanks ≡ true → IsRow [] (unit_line u) run.first → AreUnitRows (turned false (unit_line u)) us (flat_map further_rows run.others ++ (blanks ++ cut_rows later)) → IsSplit (u ∷ us) run blanks later
-split_rows u us run blanks later is blank first rows =
-    let inside = run_in_block run is in
-    let parts = and_parts (in_block run.first) (list_all in_block (flat_map further_rows run.others)) inside in
-    let on : turned false (unit_line u) ≡ false = silent false false (unit_line u) run.first.role first.role parts.0 in
-    let r = rows_apart false us (flat_map further_rows run.others) (blanks ++ cut_rows later) (subst (λ (b : Bool). AreUnitRows b us (flat_map further_rows run.others ++ (blanks ++ cut_rows later))) on rows) in
-    let b = rows_apart (off_through false r.front) r.back blanks (cut_rows later) r.second in
-    let on_after : off_through false r.front ≡ false = through_block false r.front (flat_map further_rows run.others) r.first parts.1 in
-    let on_last : off_through (off_through false r.front) b.front ≡ false = through_block (off_through false r.front) b.front blanks b.first (blanks_in_block blanks blank) ∙ on_after in
-    record {
-      rs = u ∷ r.front;
-      bs = b.front;
-      cs = b.back;
-      whole = ap (λ l. u ∷ l) (r.split ∙ ap (λ l. r.front ++ l) b.split);
-      seen = (record { role = first.role; indentation = first.indentation; ended = first.ended }, seen_rows r.front (flat_map further_rows run.others) r.first parts.1);
-      rows = subst (λ (x : Bool). AreUnitRows x b.back (cut_rows later)) on_last b.second;
-    }
-
--- what is known of it
-record IsFirstBlock (v : Values) (laws : SortLaws v) (us : List (List Piece)) (run : Run) (blanks : List Row) (later : Cut) : Type 0 where
-  split : IsSplit us run blanks later
-  are : AreUnits (split.rs ++ (split.bs ++ split.cs))
-  run_is : is_run run ≡ true
-  unblank : begins_blank (cut_rows later) ≡ false
-  later_blocks : AreBlocks later
-  all_blocks : AreBlocks (block [] run blanks later)
-  unskipped_run : list_any says_skip_file split.rs ≡ false
-  unskipped_later : list_any says_skip_file split.cs ≡ false
-  binds : EachBinds split.cs
-
-first_block : (v : Values) (laws : SortLaws v) (text : List ℕ) (u : List Piece) (us : List (List Piece)) (run : Run) (blanks : List Row) (later : Cut) → IsCutText text (u ∷ us) (block [] run blanks later) → IsFirstBlock v laws (u ∷ us) run blanks later
-first_block v laws text u us run blanks later c =
-    let seen = first_seen laws.tokens u us run.first (flat_map further_rows run.others ++ (blanks ++ cut_rows later)) c.seen in
-    let split = split_rows u us run blanks later c.blocks.1 c.blocks.3 seen.0 seen.1 in
-    let none_r = none_first says_skip_file split.rs (split.bs ++ split.cs) (ap (list_any says_skip_file) (sym split.whole) ∙ c.unskipped) in
-    record {
-      split = split;
-      are = subst AreUnits split.whole c.are;
-      run_is = c.blocks.1;
-      unblank = c.blocks.4;
-      later_blocks = c.blocks.5;
-      all_blocks = c.blocks;
-      unskipped_run = none_r.0;
-      unskipped_later = (none_first says_skip_file split.bs split.cs none_r.1).1;
-      binds = (each-parts UnitBinds split.bs split.cs (each-parts UnitBinds split.rs (split.bs ++ split.cs) (subst EachBinds split.whole c.binds)).1).1;
-    }
+first_rows : (us : List (List Piece)) (u : List Piece) (run : Run) (later : Cut) (f : IsFirstBlock us u run later) → AreSeen f.rs (run_rows run)
+first_rows us u run later f = unmarked f.rs f.seen
+  where
+    unmarked : (rs : List (List Piece)) → AreSeen rs (run_rows (record run { first = marked_row u run.first })) → AreSeen rs (run_rows run)
+    unmarked [] h = absurd h
+    unmarked (r ∷ rs) h = (record { role = h.0.role; indentation = h.0.indentation; ended = h.0.ended }, h.1)
 
 -- the rest of the text, and the block before it
-rest_again : (v : Values) (laws : SortLaws v) (us : List (List Piece)) (run : Run) (blanks : List Row) (later : Cut) (f : IsFirstBlock v laws us run blanks later) (end others : List ℕ) → IsLineEnd end → IsSortedCut v end later others → IsAgain v end false f.split.cs later others
-rest_again v laws us run blanks later f end others is sorted =
-    again v laws end is false f.split.cs later others f.later_blocks (units_after f.split.bs f.split.cs (units_after f.split.rs (f.split.bs ++ f.split.cs) f.are)) f.split.rows f.unskipped_later sorted
+rest_again : (v : Values) (laws : SortLaws v) (us : List (List Piece)) (u : List Piece) (run : Run) (later : Cut) (f : IsFirstBlock us u run later) (end others : List ℕ) → IsLineEnd end → AreBlocks later → IsSortedCut v end later others → IsAgain v end false f.cs later others
+rest_again v laws us u run later f end others is blocks sorted = again v laws end is false f.cs later others blocks (after_block false us [] _ later f).1 f.others f.unskipped.2 sorted
 
 -- such a text is its own sorted text, as soon as its first line end is the one that was written; its layouts may have been
 -- found with another
-laid_first : (v : Values) (laws : SortLaws v) (sorted : List ℕ) (us : List (List Piece)) (run : Run) (blanks : List Row) (later : Cut) (f : IsFirstBlock v laws us run blanks later) (marked : Bool) (end wanted own others : List ℕ) → IsLineEnd end → (layout : IsLayout v end run blanks (cut_rows later) own) → own ≡ text_of_lines wanted (last_row run.first run.others).ended (blanks_after v run (count_by (λ (row : Row). row.ended) blanks) (cut_rows later)) (block_lines v run.first.indentation wanted layout.0) → IsSortedCut v end later others → ((new : Cut) → AreReadBack v end later new → AreReadBack v wanted later new) → sorted ≡ encode_utf8_all (spelled (mark_pieces marked)) ++ (own ++ others) → first_end sorted ≡ end → StartsWithNoChar [] → IsLaidBack v wanted (block [] run blanks later) sorted sorted
-laid_first v laws sorted us run blanks later f marked end wanted own others is layout spelled_so layouts turns text same done =
-    let z = rest_again v laws us run blanks later f end others is layouts in
-    let w = block_again v laws end is f.split.rs f.split.bs f.split.cs run blanks later own others f.run_is f.unblank f.are f.split.seen f.split.rows f.unskipped_run layout z in
+laid_first : (v : Values) (laws : SortLaws v) (sorted : List ℕ) (us : List (List Piece)) (u : List Piece) (run : Run) (blanks : List Row) (later : Cut) (f : IsFirstBlock us u run later) (blocks : AreBlocks (block [] run blanks later)) (binds : EachBinds f.cs) (marked : Bool) (end wanted own others : List ℕ) → IsLineEnd end → (layout : IsLayout v end run blanks (cut_rows later) own) → own ≡ text_of_lines wanted (last_row run.first run.others).ended (blanks_after v run (count_by (λ (row : Row). row.ended) blanks) (cut_rows later)) (block_lines v run.first.indentation wanted layout.0) → IsSortedCut v end later others → ((new : Cut) → AreReadBack v end later new → AreReadBack v wanted later new) → sorted ≡ encode_utf8_all (spelled (mark_pieces marked)) ++ (own ++ others) → first_end sorted ≡ end → StartsWithNoChar [] → IsLaidBack v wanted (block [] run blanks later) sorted sorted
+laid_first v laws sorted us u run blanks later f blocks binds marked end wanted own others is layout spelled_so layouts turns text same done =
+    let z = rest_again v laws us u run later f end others is blocks.5 layouts in
+    let w = block_again v laws end is f.rs f.bs f.cs run blanks later own others blocks.1 blocks.4 (after_block false us [] _ later f).0 (first_rows us u run later f) f.others f.unskipped.1 layout z in
     finish z w
   where
-    finish : (z : IsAgain v end false f.split.cs later others) → IsWrittenBlock v end run layout.0 own z.units (cut_rows z.cut) → IsLaidBack v wanted (block [] run blanks later) sorted sorted
+    finish : (z : IsAgain v end false f.cs later others) → IsWrittenBlock v end run layout.0 own z.units (cut_rows z.cut) → IsLaidBack v wanted (block [] run blanks later) sorted sorted
     finish z w =
-        let u : List Piece = mark_pieces marked ++ w.first in
+        let line : List Piece = mark_pieces marked ++ w.first in
         let rest_units : List (List Piece) = w.later ++ z.units in
         let new : Cut = block w.above w.new w.blanks z.cut in
         let rows = subst (AreUnitRows false (w.first ∷ rest_units)) w.top.is w.rows in
         let row = w.top.starts marked in
         let plain : turned false (unit_line w.first) ≡ false = silent false false (unit_line w.first) w.top.row.role rows.0.role w.top.inside in
-        let on : turned false (unit_line u) ≡ false = silent false false (unit_line u) w.top.row.role row.role w.top.inside in
-        let below : AreUnitRows (turned false (unit_line u)) rest_units w.top.below = subst (λ (b : Bool). AreUnitRows b rest_units w.top.below) (plain ∙ sym on) rows.1 in
-        let bytes : bytes_of (u ∷ rest_units) ≡ sorted =
+        let on : turned false (unit_line line) ≡ false = silent false false (unit_line line) w.top.row.role row.role w.top.inside in
+        let below : AreUnitRows (turned false (unit_line line)) rest_units w.top.below = subst (λ (b : Bool). AreUnitRows b rest_units w.top.below) (plain ∙ sym on) rows.1 in
+        let bytes : bytes_of (line ∷ rest_units) ≡ sorted =
         marked_bytes marked w.first rest_units
         ∙ ap (λ (t : List ℕ). encode_utf8_all (spelled (mark_pieces marked)) ++ t) (bytes_of-append (w.first ∷ w.later) z.units ∙ (λ i. w.text i ++ z.text i))
         ∙ sym text in
@@ -192,18 +146,18 @@ laid_first v laws sorted us run blanks later f marked end wanted own others is l
         let sorted_again : IsSortedCut v end new (own ++ others) = (w.mine, others, ap (λ (t : List ℕ). t ++ others) w.split ∙ append_assoc (texts_of w.above) w.mine others, w.layout, z.sorted) in
         record {
           laid = record {
-            lines = lines_from 0 1 (u ∷ rest_units);
+            lines = lines_from 0 1 (line ∷ rest_units);
             cut = new;
-            blocks = text_again v laws sorted u rest_units w.top.row w.top.below new
+            blocks = text_again v laws sorted line rest_units w.top.row w.top.below new
                 (marked_unit marked w.first w.are.0 w.top.unmarked, marked_follows marked w.first rest_units w.are.0 w.are.1, w.are.2)
                 bytes done row below
-                (role_binds false 0 1 u w.top.row.role row.role w.top.inside, each-append UnitBinds w.later z.units w.binds.1 (z.binds f.binds))
+                (role_binds false 0 1 line w.top.row.role row.role w.top.inside, each-append UnitBinds w.later z.units w.binds.1 (z.binds binds))
                 (ap (λ (b : Bool). b || list_any says_skip_file rest_units) (marked_skips laws.tokens marked w.first) ∙ skip_rest)
-                (ap (λ l. first_string_skips (unit_line u ∷ l)) (map-append unit_line w.later z.units) ∙ w.top.no_string marked (map unit_line z.units))
-                w.top.is (blocks_again (block [] run blanks later) new f.all_blocks replaced);
+                (ap (λ l. first_string_skips (unit_line line ∷ l)) (map-append unit_line w.later z.units) ∙ w.top.no_string marked (map unit_line z.units))
+                w.top.is (blocks_again (block [] run blanks later) new blocks replaced);
             body = own ++ others;
             layouts = subst (λ (e : List ℕ). IsSortedCut v e new (own ++ others)) (sym same) sorted_again;
-            is = text ∙ ap (λ (t : List ℕ). t ++ (own ++ others)) (sym (ap (λ (n : ℕ). take n (encode_utf8_all (spelled u))) (w.top.mark marked) ∙ marked_take marked w.first));
+            is = text ∙ ap (λ (t : List ℕ). t ++ (own ++ others)) (sym (ap (λ (n : ℕ). take n (encode_utf8_all (spelled line))) (w.top.mark marked) ∙ marked_take marked w.first));
           };
           back = ((w.above, refl, read_back v wanted end run blanks (cut_rows later) own z.units (cut_rows z.cut) (layout.0, layout.1, spelled_so) w), turns z.cut z.back);
         }
@@ -220,20 +174,16 @@ nothing_back v end wanted (rest rows) (block ahead new others later) seen h = ab
 nothing_back v end wanted (block [] run blanks later) new seen h = absurd seen
 nothing_back v end wanted (block (b ∷ bs) run blanks later) new seen h = absurd seen
 
-no_lists : (us : List (List Piece)) → are_some us ≡ false → us ≡ []
-no_lists [] h = refl
-no_lists (u ∷ us) h = absurd (cc)
-
 -- a run without a line end is the last of its text
-last_run : (v : Values) (laws : SortLaws v) (us : List (List Piece)) (run : Run) (blanks : List Row) (later : Cut) (f : IsFirstBlock v laws us run blanks later) → (last_row run.first run.others).ended ≡ false → f.split.cs ≡ []
-last_run v laws us run blanks later f open_yet = by (are_some f.split.cs) refl
+last_run : (us : List (List Piece)) (u : List Piece) (run : Run) (later : Cut) (f : IsFirstBlock us u run later) → (last_row run.first run.others).ended ≡ false → f.cs ≡ []
+last_run us u run later f open_yet = by f.cs refl
   where
-    by : (b : Bool) → are_some f.split.cs ≡ b → f.split.cs ≡ []
-    by true e = absurd (both_ways _ open_yet (run_ended f.split.rs (f.split.bs ++ f.split.cs) run (some_append f.split.bs f.split.cs (some_from f.split.cs e)) f.are f.split.seen))
-    by false e = no_lists f.split.cs e
+    by : (cs : List (List Piece)) → f.cs ≡ cs → f.cs ≡ []
+    by [] e = e
+    by (c ∷ cs) e = absurd (both_ways _ open_yet (run_ended f.rs (f.bs ++ f.cs) run (some_append f.bs f.cs (c, cs, e)) (after_block false us [] _ later f).0 (first_rows us u run later f)))
 
-at_start : (v : Values) (laws : SortLaws v) (sorted : List ℕ) (us : List (List Piece)) (run : Run) (blanks : List Row) (later : Cut) (f : IsFirstBlock v laws us run blanks later) (marked : Bool) (end own others : List ℕ) → IsLineEnd end → IsLayout v end run blanks (cut_rows later) own → IsSortedCut v end later others → sorted ≡ encode_utf8_all (spelled (mark_pieces marked)) ++ (own ++ others) → StartsWithNoChar [] → IsLaidBack v end (block [] run blanks later) sorted sorted
-at_start v laws sorted us run blanks later f marked end own others is layout layouts text done =
+at_start : (v : Values) (laws : SortLaws v) (sorted : List ℕ) (us : List (List Piece)) (u : List Piece) (run : Run) (blanks : List Row) (later : Cut) (f : IsFirstBlock us u run later) (blocks : AreBlocks (block [] run blanks later)) (binds : EachBinds f.cs) (marked : Bool) (end own others : List ℕ) → IsLineEnd end → IsLayout v end run blanks (cut_rows later) own → IsSortedCut v end later others → sorted ≡ encode_utf8_all (spelled (mark_pieces marked)) ++ (own ++ others) → StartsWithNoChar [] → IsLaidBack v end (block [] run blanks later) sorted sorted
+at_start v laws sorted us u run blanks later f blocks binds marked end own others is layout layouts text done =
     ⊎_elim
     (λ (b : Breaks end (line end)). as_written (found_so (ap (λ (t : List ℕ). first_end (p ++ (t ++ rest))) w.top.bytes ∙ ap (λ (t : List ℕ). first_end (p ++ t)) (append_assoc (line end) (closing w.top.ends end) rest) ∙ breaks_first p end (line end) (closing w.top.ends end ++ rest) (mark_unbroken marked) is b)))
     (λ (whole : (list_any is_end_byte (line end) ≡ false) × ((e : List ℕ) → line e ≡ line end)). unbroken whole w.top.ends refl)
@@ -251,14 +201,14 @@ at_start v laws sorted us run blanks later f marked end own others is layout lay
     line : List ℕ → List ℕ
     line e = first_line v run.first.indentation e layout.0
 
-    z : IsAgain v end false f.split.cs later others
-    z = rest_again v laws us run blanks later f end others is layouts
+    z : IsAgain v end false f.cs later others
+    z = rest_again v laws us u run later f end others is blocks.5 layouts
 
     w : IsWrittenBlock v end run layout.0 own z.units (cut_rows z.cut)
-    w = block_again v laws end is f.split.rs f.split.bs f.split.cs run blanks later own others f.run_is f.unblank f.are f.split.seen f.split.rows f.unskipped_run layout z
+    w = block_again v laws end is f.rs f.bs f.cs run blanks later own others blocks.1 blocks.4 (after_block false us [] _ later f).0 (first_rows us u run later f) f.others f.unskipped.1 layout z
 
     read : IsReadable v end run layout.0
-    read = laws.reads end f.split.rs run layout.0 is (each-parts IsUnit f.split.rs (f.split.bs ++ f.split.cs) (each_unit (f.split.rs ++ (f.split.bs ++ f.split.cs)) f.are)).0 f.split.seen f.run_is f.unskipped_run layout.1
+    read = laws.reads end f.rs run layout.0 is (each-parts IsUnit f.rs (f.bs ++ f.cs) (each_unit (f.rs ++ (f.bs ++ f.cs)) (after_block false us [] _ later f).0)).0 (first_rows us u run later f) blocks.1 f.unskipped.1 layout.1
 
     rest : List ℕ
     rest = bytes_of (w.later ++ z.units)
@@ -267,15 +217,15 @@ at_start v laws sorted us run blanks later f marked end own others is layout lay
     found_so e = ap first_end (text ∙ ap (λ (t : List ℕ). p ++ t) ((λ i. sym w.text i ++ sym z.text i) ∙ sym (bytes_of-append (w.first ∷ w.later) z.units) ∙ bytes_of-cons w.first (w.later ++ z.units))) ∙ e
 
     as_written : first_end sorted ≡ end → IsLaidBack v end (block [] run blanks later) sorted sorted
-    as_written e = laid_first v laws sorted us run blanks later f marked end end own others is layout layout.2 layouts (λ new h. h) text e done
+    as_written e = laid_first v laws sorted us u run blanks later f blocks binds marked end end own others is layout layout.2 layouts (λ new h. h) text e done
 
     alone : (ended ≡ false) × ((e : List ℕ) → block_lines v run.first.indentation e layout.0 ≡ line e ∷ []) → ((e : List ℕ) → line e ≡ line end) → IsLaidBack v end (block [] run blanks later) sorted sorted
     alone one same =
-        let none : AreUnitRows false [] (cut_rows later) = subst (λ (l : List (List Piece)). AreUnitRows false l (cut_rows later)) (last_run v laws us run blanks later f one.0) f.split.rows in
+        let none : AreUnitRows false [] (cut_rows later) = subst (λ (l : List (List Piece)). AreUnitRows false l (cut_rows later)) (last_run us u run later f one.0) f.others in
         let e : List ℕ = first_end sorted in
         let other : own ≡ text_of_lines e ended n (block_lines v run.first.indentation e layout.0) =
         layout.2 ∙ (λ i. text_of_lines end (one.0 i) n (one.1 end i)) ∙ ap (λ (t : List ℕ). t ++ []) (sym (same e)) ∙ (λ i. text_of_lines e (sym one.0 i) n (sym (one.1 e) i)) in
-        laid_first v laws sorted us run blanks later f marked e end own others (first_is_end sorted) (layout.0, layout.1, other) layout.2
+        laid_first v laws sorted us u run blanks later f blocks binds marked e end own others (first_is_end sorted) (layout.0, layout.1, other) layout.2
         (nothing_later v end e others later none layouts) (λ new. nothing_back v e end later new none) text refl done
 
     unbroken : (list_any is_end_byte (line end) ≡ false) × ((e : List ℕ) → line e ≡ line end) → (b : Bool) → w.top.ends ≡ b → IsLaidBack v end (block [] run blanks later) sorted sorted
@@ -297,8 +247,11 @@ starts_with_row v laws text sorted (u ∷ us) row before run blanks later body c
 starts_with_block : (v : Values) → SortLaws v → (text sorted : List ℕ) (us : List (List Piece)) (run : Run) (blanks : List Row) (later : Cut) (body : List ℕ) → IsCutText text us (block [] run blanks later) → IsSortedCut v (first_end text) (block [] run blanks later) body → sorted ≡ mark_of (lines_from 0 1 us) ++ body → IsLaidBack v (first_end text) (block [] run blanks later) sorted sorted
 starts_with_block v laws text sorted [] run blanks later body c layouts is = absurd (let e = c.seen in cc)
 starts_with_block v laws text sorted (u ∷ us) run blanks later body c layouts is =
+    let seen = first_seen laws.tokens u us run.first (flat_map further_rows run.others ++ (blanks ++ cut_rows later)) c.seen in
+    let f : IsFirstBlock (u ∷ us) u run later = parted false (u ∷ us) [] (record run { first = marked_row u run.first }) blanks later c.blocks c.are (marked_seen u run.first seen.0, seen.1) c.unskipped in
+    let binds = each-parts UnitBinds f.rs (f.bs ++ f.cs) (each-parts UnitBinds f.a (f.rs ++ (f.bs ++ f.cs)) (subst EachBinds f.whole c.binds)).1 in
     let m = has_mark (unit_line u) in
-    at_start v laws sorted (u ∷ us) run blanks later (first_block v laws text u us run blanks later c) m.0 (first_end text) layouts.0 layouts.1 (first_is_end text) layouts.3 layouts.4
+    at_start v laws sorted (u ∷ us) u run blanks later f c.blocks (each-parts UnitBinds f.bs f.cs binds.1).1 m.0 (first_end text) layouts.0 layouts.1 (first_is_end text) layouts.3 layouts.4
     (is ∙ (λ i. m.1 i ++ layouts.2 i)) c.done
 
 by_cut : (v : Values) → SortLaws v → (text sorted : List ℕ) (lines : List LogicalLine) (old : Cut) (body : List ℕ) → HasBlocks text lines old → IsSortedCut v (first_end text) old body → sorted ≡ mark_of lines ++ body → IsLaidBack v (first_end text) old sorted sorted

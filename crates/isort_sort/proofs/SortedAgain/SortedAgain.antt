@@ -23,7 +23,7 @@ use Rattle.isort_sort.proofs.Finding.Replaced.{blocks_again}
 use Rattle.isort_sort.proofs.LineLaws.Units.{LineLaws, AreUnits, flat, read_units, cut_units, scalar_units, flat_cut, text_units}
 use Rattle.isort_sort.specs.Private.LineRole.{turned}
 use Rattle.isort_sort.proofs.Rows.Switches.{off_push}
-use Rattle.isort_sort.proofs.WrittenLines.UnitRows.{TokenLaws, unit_line, AreUnitRows, rows_from, rows_to}
+use Rattle.isort_sort.proofs.WrittenLines.UnitRows.{TokenLaws, unit_line, IsUnitRow, AreUnitRows, rows_from, rows_to}
 use Rattle.isort_sort.proofs.WrittenLines.LineUnits.{says_skip_file}
 use Rattle.isort_sort.proofs.LineLaws.Joined.{bytes_of, bytes_of-cons}
 use Rattle.isort_sort.proofs.WrittenLines.UnitBinds.{EachBinds, binds_from, binds_to, comments_skip, strings_skip}
@@ -50,6 +50,13 @@ first_seen laws u us row rows h =
       subst (IsRow [] (unit_line u)) first h.3,
       subst (λ (b : Bool). AreUnitRows b us rows) (off_push [] (unit_line u)) (subst (AreUnitRows (is_off_after (unit_line u ∷ [])) us) later after),
     )
+
+-- the row with the byte order mark that its line begins with, so that it is a row as those of other lines are
+abbrev pub marked_row : List Piece → Row → Row
+marked_row u row = record row { text = encode_utf8_all (spelled u) }
+
+pub marked_seen : (u : List Piece) (row : Row) → IsRow [] (unit_line u) row → IsUnitRow false u (marked_row u row)
+marked_seen u row h = record { role = h.role; text = refl; indentation = h.indentation; ended = h.ended }
 
 -- logical lines and rows make a text that is cut at its blocks
 pub text_again : (v : Values) → SortLaws v → (text : List ℕ) (u : List Piece) (us : List (List Piece)) (row : Row) (rows : List Row) (new : Cut) → AreUnits (u ∷ us) → bytes_of (u ∷ us) ≡ text → StartsWithNoChar [] → IsRow [] (unit_line u) row → AreUnitRows (turned false (unit_line u)) us rows → EachBinds (u ∷ us) → list_any says_skip_file (u ∷ us) ≡ false → first_string_skips (map unit_line (u ∷ us)) ≡ false → cut_rows new ≡ row ∷ rows → AreBlocks new → HasBlocks text (lines_from 0 1 (u ∷ us)) new
@@ -111,9 +118,8 @@ prepend_replaced row (block before run blanks later) _ (one_more _ above _ new _
 
 prepend_back : (v : Values) (end : List ℕ) (row : Row) (a b : Cut) → AreReadBack v end a b → AreReadBack v end (prepend row a) (prepend row b)
 prepend_back v end row (rest rows) (rest others) h = ap (λ l. row ∷ l) h
-prepend_back v end row (rest rows) (block ahead new blanks later) h = absurd h
-prepend_back v end row (block before run blanks cut) (rest others) h = absurd h
 prepend_back v end row (block before run blanks cut) (block ahead new others later) h = ((h.0.0, ap (λ l. row ∷ l) h.0.1, h.0.2), h.1)
+prepend_back v end row _ _ h = absurd h
 
 prepend_sorted : (v : Values) (end : List ℕ) (row : Row) (rows : Cut) (body : List ℕ) → IsSortedCut v end rows body → IsSortedCut v end (prepend row rows) (row.text ++ body)
 prepend_sorted v end row (rest rows) body h = ap (λ (t : List ℕ). row.text ++ t) h

@@ -88,9 +88,6 @@ one_more text v end mark cut b left at out own new h is written = by h.rest refl
     lengths : (a b c d : List ℕ) (n : ℕ) → n ≡ length a → n + length b + length c + length d ≡ length (a ++ (b ++ (c ++ d)))
     lengths a b c d n e = omega (arith, length-append a (b ++ (c ++ d)), length-append b (c ++ d), length-append c d)
 
-    regroup_out : (a b c d : List ℕ) → ((a ++ b) ++ c) ++ d ≡ a ++ (b ++ (c ++ d))
-    regroup_out a b c d = simp append_assoc
-
     by : (c : Cut) → h.rest ≡ c → IsArranging text v end mark cut left b.stop new
     by (rest rows) e = absurd (let k : b ∷ left ≡ [] = h.spans ∙ ap (found_from at) e in cc)
     by (block before run blanks c) e =
@@ -109,7 +106,7 @@ one_more text v end mark cut b left at out own new h is written = by h.rest refl
           place = ap (λ (f : Found). f.stop) same ∙ lengths h.passed (texts_of before) (texts_of (run_rows run)) (texts_of blanks) at h.place;
           spans = others ∙ ap (λ (f : Found). found_from f.stop c) (sym same);
           utf8 = utf8_last blanks (cut_rows c) (utf8_last (run_rows run) (blanks ++ cut_rows c) (utf8_last before (run_rows run ++ (blanks ++ cut_rows c)) (subst (λ (x : Cut). AreUtf8 (cut_rows x)) e h.utf8)));
-          written = written ∙ (λ i. (h.written i ++ gap i) ++ own) ∙ regroup_out mark h.done (texts_of before) own;
+          written = written ∙ (λ i. (h.written i ++ gap i) ++ own) ∙ simp append_assoc;
           goes_on = λ x sorted. subst (IsSortedCut v end cut) (sym (append_assoc h.done (texts_of before ++ own) x))
               (goes ((texts_of before ++ own) ++ x) (subst (λ (y : Cut). IsSortedCut v end y ((texts_of before ++ own) ++ x)) (sym e) (own, x, append_assoc (texts_of before) own x, layout, sorted)));
         }

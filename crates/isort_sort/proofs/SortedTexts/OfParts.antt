@@ -1,41 +1,48 @@
 -- A sorted text in parts is the text of its parts.
-use Rattle.std.proofs.Common.{◌≡◌, ◌⊎◌, inl, inr, ℕ, ◌+◌, ◌<◌, ◌≤◌, true, false, is_some, Option, Result, Ok, Err, OnErr, List, [], ◌∷◌, ◌++◌, length, drop, get_or, flat_map, sym, ap, ◌∙◌, append_assoc, append-nil}
+use Rattle.std.proofs.Common.{◌≡◌, ◌⊎◌, inl, inr, ℕ, ◌+◌, ◌<◌, ◌≤◌, true, false, is_some, Option, Result, Ok, Err, OnErr, List, [], ◌∷◌, ◌++◌, length, drop, take, get_or, sym, ap, ◌∙◌, subst, append_assoc, append-nil}
 use Rattle.std.specs.Io.KnownBytes.{Appends}
-use Rattle.std.specs.Str.{IsUtf8}
 use Rattle.std.proofs.KnownBytes.{Appends-trans}
-use Rattle.std.proofs.lemmas.List.{drop_all, drop_more}
+use Rattle.std.specs.Str.{IsUtf8}
+use Rattle.std.proofs.lemmas.List.Elements.{All-push}
+use Rattle.std.proofs.lemmas.List.{take_all, take_more, take-append-drop}
 use Rattle.std.proofs.lemmas.List.Concat.{flat_map-append}
 use Rattle.isort_settings.specs.Values.{Values}
 use Rattle.isort_sort.specs.Private.Compared.{IsCompared}
-use Rattle.isort_sort.specs.Private.Parts.{sorted_part_text, AreTexts, HasMade}
+use Rattle.isort_sort.specs.Private.Parts.{bytes_of, piece_bytes, AreTexts, HasMade}
 use Rattle.isort_sort.specs.Answers.{Checks, IsSortedAs, TellsOutcome}
 use Rattle.isort_sort.specs.declared.comparison.Comparison.{Comparison}
 use Rattle.isort_sort.specs.declared.answer.Outcome.{Outcome}
 use Rattle.isort_sort.specs.declared.answer.Outcome.TheVariants as outcome
 use Rattle.isort_sort.specs.Written.{AppendsPrefix}
 use Rattle.isort_sort.specs.declared.answer.SortError.{SortError}
-use Rattle.isort_sort.specs.declared.sorted_text.SortedPart.{SortedPart}
+use Rattle.isort_sort.specs.declared.sorted_text.Piece.{Piece}
 use Rattle.isort_sort.specs.declared.parts.Parts.{Parts}
 use Rattle.isort_sort.proofs.SortedTexts.Comparing.{ends_no_more, none_left}
 use Rattle.isort_sort.proofs.SortedTexts.Parts.{goes_on_sorted}
 use Rattle.isort_sort.proofs.Orders.Statements.{AreOrders}
 
-pub texts_snoc : (parts : List SortedPart) (part : SortedPart) → AreTexts parts → IsUtf8 part.before.now → AreTexts (parts ++ part ∷ [])
-texts_snoc [] part h is = (is, tt)
-texts_snoc (p ∷ parts) part h is = (h.0, texts_snoc parts part h.1 is)
+-- one piece more, all pieces, and what a piece stands between
+pub bytes_push : (pieces : List Piece) (piece : Piece) → bytes_of (pieces ++ piece ∷ []) ≡ bytes_of pieces ++ piece_bytes piece
+bytes_push pieces piece = flat_map-append piece_bytes pieces (piece ∷ []) ∙ ap (λ (t : List ℕ). bytes_of pieces ++ t) (append-nil (piece_bytes piece))
 
-pub bytes_snoc : (parts : List SortedPart) (part : SortedPart) → flat_map sorted_part_text (parts ++ part ∷ []) ≡ flat_map sorted_part_text parts ++ sorted_part_text part
-bytes_snoc parts part = flat_map-append sorted_part_text parts (part ∷ []) ∙ ap (λ (t : List ℕ). flat_map sorted_part_text parts ++ t) (append-nil (sorted_part_text part))
+pub bytes_more : (items : List Piece) (k : ℕ) (piece : Piece) (bytes : List ℕ) → k < length items → piece ≡ get_or items k piece → bytes ≡ piece_bytes piece → bytes_of (take (k + 1) items) ≡ bytes_of (take k items) ++ bytes
+bytes_more items k piece bytes within at same =
+    ap bytes_of (take_more items k piece within)
+    ∙ bytes_push (take k items) (get_or items k piece)
+    ∙ ap (λ (t : List ℕ). bytes_of (take k items) ++ t) (ap piece_bytes (sym at) ∙ sym same)
 
--- the bytes from a part on
-pub bytes_from : (sorted done rest : List ℕ) (parts : List SortedPart) (i : ℕ) (part : SortedPart) → sorted ≡ done ++ (flat_map sorted_part_text (drop i parts) ++ rest) → i < length parts → part ≡ get_or parts i part → sorted ≡ done ++ (sorted_part_text part ++ (flat_map sorted_part_text (drop (i + 1) parts) ++ rest))
-bytes_from sorted done rest parts i part is within at =
-    let next : flat_map sorted_part_text (drop i parts) ≡ sorted_part_text part ++ flat_map sorted_part_text (drop (i + 1) parts) =
-    ap (flat_map sorted_part_text) (drop_more parts i part within) ∙ ap (λ (p : SortedPart). sorted_part_text p ++ flat_map sorted_part_text (drop (i + 1) parts)) (sym at) in
-    is ∙ ap (λ (t : List ℕ). done ++ (t ++ rest)) next ∙ ap (λ (t : List ℕ). done ++ t) (append_assoc (sorted_part_text part) (flat_map sorted_part_text (drop (i + 1) parts)) rest)
+pub texts_push : (pieces new : List Piece) (piece : Piece) → new ≡ pieces ++ piece ∷ [] → AreTexts pieces → IsUtf8 (piece_bytes piece) → AreTexts new
+texts_push pieces new piece is texts utf8 = subst AreTexts (sym is) (All-push (λ p. IsUtf8 (piece_bytes p)) pieces piece texts utf8)
 
-pub bytes_last : (sorted done rest : List ℕ) (parts : List SortedPart) (i : ℕ) → sorted ≡ done ++ (flat_map sorted_part_text (drop i parts) ++ rest) → length parts ≤ i → sorted ≡ done ++ rest
-bytes_last sorted done rest parts i is past = is ∙ ap (λ (l : List SortedPart). done ++ (flat_map sorted_part_text l ++ rest)) (drop_all i parts past)
+pub bytes_all : (items pieces : List Piece) (k : ℕ) → items ≡ pieces → length items ≤ k → bytes_of (take k items) ≡ bytes_of pieces
+bytes_all items pieces k are past = ap bytes_of (take_all k items past ∙ are)
+
+pub bytes_split : (items pieces : List Piece) (k : ℕ) (piece : Piece) (bytes : List ℕ) → items ≡ pieces → k < length items → piece ≡ get_or items k piece → bytes ≡ piece_bytes piece → bytes_of pieces ≡ bytes_of (take k items) ++ (bytes ++ bytes_of (drop (k + 1) items))
+bytes_split items pieces k piece bytes are within at same =
+    ap bytes_of (sym are ∙ sym (take-append-drop (k + 1) items))
+    ∙ flat_map-append piece_bytes (take (k + 1) items) (drop (k + 1) items)
+    ∙ ap (λ (t : List ℕ). t ++ bytes_of (drop (k + 1) items)) (bytes_more items k piece bytes within at same)
+    ∙ append_assoc (bytes_of (take k items)) bytes (bytes_of (drop (k + 1) items))
 
 pub regrouped : (all done part more : List ℕ) → all ≡ done ++ (part ++ more) → all ≡ (done ++ part) ++ more
 regrouped all done part more is = is ∙ sym (append_assoc done part more)
@@ -63,12 +70,9 @@ pub appends_prefix : (old mid new : Option (List ℕ)) (all done bytes more : Li
 appends_prefix old mid new all done bytes more before f is = record {
   prefix = done ++ f.prefix;
   rest = f.rest ++ more;
-  split = regroup f.prefix f.rest ∙ ap (λ (t : List ℕ). done ++ (t ++ more)) f.split ∙ sym is;
+  split = sym (is ∙ ap (λ (t : List ℕ). done ++ (t ++ more)) (sym f.split) ∙ simp append_assoc);
   appended = Appends-trans _ _ _ _ _ before f.appended;
 }
-  where
-    regroup : (prefix rest : List ℕ) → (done ++ prefix) ++ (rest ++ more) ≡ done ++ ((prefix ++ rest) ++ more)
-    regroup prefix rest = simp append_assoc
 
 pub on_err : {T : Type 0} (r : Result T SortError) (P : Type 0) → P → OnErr r P
 on_err (Ok x) P h = tt

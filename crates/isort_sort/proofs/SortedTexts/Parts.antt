@@ -72,7 +72,7 @@ next_made text v old new out before own b left h is same_text same_values same_e
     let joined : before ≡ slice_range text old.at h.at ++ slice_range text h.at b.start = gap ∙ sym (slices_join text old.at h.at b.start h.ordered ordered) in
     let all : (out ++ (before ++ own)) ++ slice_range text new.at b.stop ≡ (written ++ slice_range text h.at b.start) ++ own =
     ap (λ (t : List ℕ). (out ++ (before ++ own)) ++ t) (ap (λ (n : ℕ). slice_range text n b.stop) place ∙ nothing_between text b.stop)
-    ∙ append-nil (out ++ (before ++ own)) ∙ ap (λ (t : List ℕ). out ++ (t ++ own)) joined ∙ regroup out (slice_range text old.at h.at) (slice_range text h.at b.start) own in
+    ∙ append-nil (out ++ (before ++ own)) ∙ ap (λ (t : List ℕ). out ++ (t ++ own)) joined ∙ simp append_assoc in
     let more = one_more text v end mark h.cut b left h.at written own ((out ++ (before ++ own)) ++ slice_range text new.at b.stop) arranging arranged all in
     record {
       lines = h.lines;
@@ -87,9 +87,6 @@ next_made text v old new out before own b left h is same_text same_values same_e
       utf8 = subst IsUtf8 (sym (ap (λ (n : ℕ). slice_range text n b.stop) place ∙ nothing_between text b.stop)) IsUtf8-nil;
       arranging = subst (λ (l : List Found). IsArranging text v end mark h.cut l b.stop ((out ++ (before ++ own)) ++ slice_range text new.at b.stop)) (sym rest) more;
     }
-  where
-    regroup : (a b c d : List ℕ) → a ++ ((b ++ c) ++ d) ≡ ((a ++ b) ++ c) ++ d
-    regroup a b c d = simp append_assoc
 
 -- nothing is made where no block is left
 pub same_made : (text : List ℕ) (v : Values) (old new : Parts) (out : List ℕ) → HasMade text v old out → new.text.now ≡ old.text.now → values new.settings.now ≡ values old.settings.now → end_bytes new.end ≡ end_bytes old.end → new.at ≡ old.at → parts_left new ≡ parts_left old → HasMade text v new out

@@ -1,5 +1,5 @@
 -- The first line end of a text.
-use Rattle.std.proofs.Common.{◌≡◌, ℕ, ◌<◌, ◌==◌, Bool, true, false, cond, ◌&&◌, ◌||◌, ◌⊎◌, List, [], ◌∷◌, ◌++◌, length, refl, sym, ap, ◌∙◌, subst, append_assoc, append-nil, inl, inr, arith}
+use Rattle.std.proofs.Common.{◌≡◌, ℕ, ◌<◌, ◌==◌, Bool, true, false, cond, ◌&&◌, ◌||◌, ◌⊎◌, List, [], ◌∷◌, ◌++◌, length, refl, sym, ap, ◌∙◌, subst, append_assoc, inl, inr, arith}
 use Rattle.std.specs.Prelude.{encode_utf8_all}
 use Rattle.std.proofs.Math.Utf8.{encode}
 use Rattle.std.specs.List.{list_any}
@@ -11,7 +11,6 @@ use Rattle.py_lines.specs.Fields.{InClass, AreReadBefore}
 use Rattle.py_lines.specs.Reading.{EndsLine}
 use Rattle.py_lines.specs.Piece.{Class, line_end, Piece, begins, ends, spelled}
 use Rattle.isort_sort.specs.Sorted.{first_end}
-use Rattle.isort_sort.specs.WrittenLine.{end_pieces}
 use Rattle.isort_sort.proofs.LineLaws.Units.{IsUnit, MayFollowUnit, AreUnits, flat, begins-first, ends-last}
 use Rattle.isort_sort.proofs.WrittenLines.LineUnits.{are_some, IsEndedUnit}
 use Rattle.isort_sort.proofs.LineLaws.Joined.{none-append, none_inside, some_encoded, bytes_of, bytes_of-cons}
@@ -119,17 +118,11 @@ follows_bytes u (w ∷ us) are h k =
 pub follows_end : (u : List Piece) (c : IsClosed u) (us : List (List Piece)) → AreUnits us → MayFollowUnit u us → c.end ≡ 13 ∷ [] → begins is_feed_byte (bytes_of us) ≡ false
 follows_end u c us are h e = follows_bytes u us are h (c.last ∙ return_ends c.end e)
 
-pub follows_blank : (end : List ℕ) (us : List (List Piece)) → AreUnits us → MayFollowUnit (end_pieces true end) us → end ≡ 13 ∷ [] → begins is_feed_byte (bytes_of us) ≡ false
-follows_blank end us are h e = follows_bytes (end_pieces true end) us are h (ap (ends is_return) (append-nil end) ∙ return_ends end e)
-
 -- the first line end of lines after a text without any
-regroup_first : (p a e r x : List ℕ) → p ++ ((a ++ (e ++ r)) ++ x) ≡ (p ++ a) ++ (e ++ (r ++ x))
-regroup_first p a e r x = simp append_assoc
-
 pub breaks_first : (p end text rest : List ℕ) → list_any is_end_byte p ≡ false → IsLineEnd end → Breaks end text → first_end (p ++ (text ++ rest)) ≡ end
 breaks_first p end text rest none is b =
-    ap (λ (t : List ℕ). first_end (p ++ (t ++ rest))) b.is ∙ ap first_end (regroup_first p b.before end (b.next ∷ b.rest) rest)
-    ∙ first_end_is (p ++ b.before) end ((b.next ∷ b.rest) ++ rest) (none-append is_end_byte p b.before none b.whole) is (λ e. b.apart)
+    simp append_assoc at (ap (λ (t : List ℕ). first_end (p ++ (t ++ rest))) b.is)
+    ∙ simp append_assoc at (first_end_is (p ++ b.before) end ((b.next ∷ b.rest) ++ rest) (none-append is_end_byte p b.before none b.whole) is (λ e. b.apart))
 
 pub ends_first : (p end line : List ℕ) (u : List Piece) (us : List (List Piece)) → list_any is_end_byte p ≡ false → IsLineEnd end → list_any is_end_byte line ≡ false → IsEndedUnit end u → MayFollowUnit u us → AreUnits us → first_end (p ++ ((line ++ end) ++ bytes_of us)) ≡ end
 ends_first p end line u us none is whole ended follow are =

@@ -105,18 +105,16 @@ lines_units end ended (u ∷ us) vs (row ∷ rows) is all f g k = (
 
 pub lines_rows : (end : List ℕ) (ended : Bool) (us vs : List (List Piece)) (rows others : List Row) → AreLines end ended us rows → AreUnitRows false vs others → AreUnitRows false (us ++ vs) (rows ++ others)
 lines_rows end ended [] vs [] others h k = k
-lines_rows end ended [] vs (row ∷ rows) others h k = absurd h
-lines_rows end ended (u ∷ us) vs [] others h k = absurd h
 lines_rows end ended (u ∷ us) vs (row ∷ rows) others h k = (
   h.0.is,
   subst (λ (b : Bool). AreUnitRows b (us ++ vs) (rows ++ others)) (sym (silent false false (unit_line u) row.role h.0.is.role h.0.inside)) (lines_rows end ended us vs rows others h.1 k),
 )
+lines_rows end ended _ vs _ others h k = absurd h
 
 pub lines_text : (end : List ℕ) (ended : Bool) (us : List (List Piece)) (rows : List Row) → AreLines end ended us rows → texts_of rows ≡ bytes_of us
 lines_text end ended [] [] h = refl
-lines_text end ended [] (row ∷ rows) h = absurd h
-lines_text end ended (u ∷ us) [] h = absurd h
 lines_text end ended (u ∷ us) (row ∷ rows) h = (λ i. h.0.is.text i ++ lines_text end ended us rows h.1 i) ∙ sym (bytes_of-cons u us)
+lines_text end ended _ _ h = absurd h
 
 pub lines_unskipped : (end : List ℕ) (ended : Bool) (us : List (List Piece)) (rows : List Row) → AreLines end ended us rows → list_any says_skip_file us ≡ false
 lines_unskipped end ended [] rows h = refl
@@ -125,12 +123,11 @@ lines_unskipped end ended (u ∷ us) (row ∷ rows) h = λ i. h.0.unskipped i ||
 
 pub lines_append : (end : List ℕ) (ended : Bool) (us vs : List (List Piece)) (rows others : List Row) → AreLines end true us rows → AreLines end ended vs others → AreLines end ended (us ++ vs) (rows ++ others)
 lines_append end ended [] vs [] others h k = k
-lines_append end ended [] vs (row ∷ rows) others h k = absurd h
-lines_append end ended (u ∷ us) vs [] others h k = absurd h
 lines_append end ended (u ∷ us) vs (row ∷ rows) others h k = (
   record { unit = h.0.unit; unmarked = h.0.unmarked; uncut = h.0.uncut; ended = λ e. h.0.ended refl; is = h.0.is; inside = h.0.inside; unskipped = h.0.unskipped },
   lines_append end ended us vs rows others h.1 k,
 )
+lines_append end ended _ vs _ others h k = absurd h
 
 -- the row of a logical line
 abbrev pub row_of : List Piece → Role → Row

@@ -73,8 +73,6 @@ rows_from laws first before offset line (u ∷ us) rows h =
 
 pub rows_to : TokenLaws → (first : LogicalLine) (before : List LogicalLine) (offset line : ℕ) (us : List (List Piece)) (rows : List Row) → AreUnitRows (is_off_after (first ∷ before)) us rows → AreRows (first ∷ before) (lines_from offset line us) rows
 rows_to laws first before offset line [] [] h = refl
-rows_to laws first before offset line [] (row ∷ rows) h = absurd h
-rows_to laws first before offset line (u ∷ us) [] h = absurd h
 rows_to laws first before offset line (u ∷ us) (row ∷ rows) h =
     let here : LogicalLine = line_of offset line u in
     let off : Bool = is_off_after (first ∷ before) in
@@ -86,15 +84,15 @@ rows_to laws first before offset line (u ∷ us) (row ∷ rows) h =
       record { role = role_moved off (unit_line u) here row.role (moved_unit laws 0 1 offset line u) h.0.role; text = h.0.text; indentation = h.0.indentation; ended = h.0.ended },
       rows_to laws first (before ++ here ∷ []) (offset + byte_len (spelled u)) (line + line_ends (spelled u)) us rows (subst (λ (b : Bool). AreUnitRows b us rows) (sym same) h.1),
     )
+rows_to laws first before offset line _ _ h = absurd h
 
 -- the text of rows is that of their pieces
 pub rows_spelled : (off : Bool) (us : List (List Piece)) (rows : List Row) → AreUnitRows off us rows → texts_of rows ≡ encode_utf8_all (spelled (flat us))
 rows_spelled off [] [] h = refl
-rows_spelled off [] (row ∷ rows) h = absurd h
-rows_spelled off (u ∷ us) [] h = absurd h
 rows_spelled off (u ∷ us) (row ∷ rows) h =
     (λ i. h.0.text i ++ rows_spelled (turned off (unit_line u)) us rows h.1 i)
     ∙ sym (encodes-append (spelled u) (spelled (flat us))) ∙ sym (ap encode_utf8_all (spelled-append u (flat us)))
+rows_spelled off _ _ h = absurd h
 
 -- whether sorting is off after logical lines
 abbrev pub off_through : Bool → List (List Piece) → Bool
@@ -118,9 +116,8 @@ rows_apart off (u ∷ us) (row ∷ rows) others h =
 
 pub rows_together : (off : Bool) (us vs : List (List Piece)) (rows others : List Row) → AreUnitRows off us rows → AreUnitRows (off_through off us) vs others → AreUnitRows off (us ++ vs) (rows ++ others)
 rows_together off [] vs [] others h k = k
-rows_together off [] vs (row ∷ rows) others h k = absurd h
-rows_together off (u ∷ us) vs [] others h k = absurd h
 rows_together off (u ∷ us) vs (row ∷ rows) others h k = (h.0, rows_together (turned off (unit_line u)) us vs rows others h.1 k)
+rows_together off _ vs _ others h k = absurd h
 
 -- whether the row may stand in a block
 abbrev pub role_in_block : Role → Bool

@@ -1,11 +1,11 @@
 -- What a line says to isort, as the program finds it by one look, and texts that say nothing.
-use Rattle.std.specs.Prelude.{◌≡◌, ℕ, Bool, false, not, ◌||◌, ◌&&◌, List, [], ◌∷◌, ◌++◌, codes, slice_get, if◌then◌else◌}
+use Rattle.std.specs.Prelude.{◌≡◌, ℕ, Bool, false, not, ◌||◌, ◌&&◌, List, ◌++◌, codes, slice_get}
 use Rattle.std.specs.List.{list_any}
 use Rattle.py_lines.specs.LogicalLine.{LogicalLine}
 use Rattle.py_imports.specs.ActionComment.{says}
 use Rattle.py_imports.specs.Statement.{significant}
 use Rattle.py_imports.specs.declared.action_comment.ActionComment.TheVariants as action
-use Rattle.isort_sort.specs.Line.{comment_texts, without_hash, stripped, is_text}
+use Rattle.isort_sort.specs.Line.{comment_texts}
 use Rattle.isort_sort.specs.Row.{says_alone, string_skips}
 use Rattle.isort_sort.specs.declared.actions.Actions.{Actions}
 
@@ -30,7 +30,3 @@ abbrev pub asks_to_skip : Bool → LogicalLine → Bool
 asks_to_skip begun line =
     list_any (says action.SkipFile) (comment_texts line)
     || (not begun && string_skips line (slice_get (significant line.tokens) 0))
-
--- what a comment says, if it says something
-abbrev pub content_of : List ℕ → List (List ℕ)
-content_of comment = if is_text (stripped (without_hash comment)) then stripped (without_hash comment) ∷ [] else []

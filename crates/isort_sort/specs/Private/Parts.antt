@@ -1,6 +1,7 @@
 -- A sorted text in parts, as the program makes it.
-use Rattle.std.specs.Prelude.{◌≡◌, ℕ, ◌≤◌, ◌<◌, List, [], ◌∷◌, ◌++◌, length, map, flat_map}
+use Rattle.std.specs.Prelude.{◌≡◌, ℕ, ◌≤◌, ◌<◌, List, [], ◌++◌, length, map, flat_map}
 use Rattle.std.specs.Prelude.{slice_range, string_bytes, Option, None, Some}
+use Rattle.std.specs.List.{All}
 use Rattle.std.specs.Str.{IsUtf8}
 use Rattle.py_lines.specs.LogicalLine.{LogicalLine}
 use Rattle.isort_settings.specs.Values.{Values, values}
@@ -11,13 +12,11 @@ use Rattle.isort_sort.specs.Private.LineEnd.{end_bytes}
 use Rattle.isort_sort.specs.Sorted.{first_end, mark_of, HasBlocks}
 use Rattle.isort_sort.specs.declared.parts.Part.{Part}
 use Rattle.isort_sort.specs.declared.parts.Parts.{Parts}
-use Rattle.isort_sort.specs.declared.sorted_text.SortedPart.{SortedPart}
+use Rattle.isort_sort.specs.declared.sorted_text.Piece.{Piece}
+use Rattle.isort_sort.specs.declared.sorted_text.Piece.TheVariants as piece
 use Rattle.isort_sort.specs.declared.sorted_text.SortedText.{SortedText}
 
--- the bytes of a part, and of one whose text isn't made yet
-abbrev pub sorted_part_text : SortedPart → List ℕ
-sorted_part_text p = p.before.now ++ string_bytes p.layout
-
+-- the bytes of a part, whose layout isn't made yet
 abbrev pub part_text : Part → List ℕ
 part_text p = p.before.now ++ text_left p.layout
 
@@ -26,13 +25,19 @@ abbrev pub parts_left : Parts → List Found
 parts_left p = map found_value p.blocks.rest.items
 
 -- the bytes of a sorted text
-abbrev pub sorted_bytes : SortedText → List ℕ
-sorted_bytes s = flat_map sorted_part_text s.parts.items ++ s.rest.now
+abbrev pub piece_bytes : Piece → List ℕ
+piece_bytes (piece.Kept bytes) = bytes.now
+piece_bytes (piece.Laid layout) = string_bytes layout
 
--- what stays of the text is UTF-8
-abbrev pub AreTexts : List SortedPart → Type 0
-AreTexts [] = Unit {0}
-AreTexts (part ∷ parts) = IsUtf8 part.before.now × AreTexts parts
+abbrev pub bytes_of : List Piece → List ℕ
+bytes_of pieces = flat_map piece_bytes pieces
+
+abbrev pub sorted_bytes : SortedText → List ℕ
+sorted_bytes s = bytes_of s.pieces.items
+
+-- each piece is UTF-8
+abbrev pub AreTexts : List Piece → Type 0
+AreTexts pieces = All (λ p. IsUtf8 (piece_bytes p)) pieces
 
 -- `out` was made of the text, and the text from `p.at` on is left: up to a place `at` as it is, and then as rows cut at
 -- blocks

@@ -1,7 +1,7 @@
--- The comments so far were taken.
-use Rattle.std.proofs.Common.{◌≡◌, ◌++◌, map, drop, string_bytes}
-use Rattle.isort_sort.proofs.Rows.Comments.{contents}
+-- What the comments so far say was taken.
+use Rattle.std.proofs.Common.{◌≡◌, map, take, string_bytes}
+use Rattle.isort_sort.proofs.Rows.Comments.{said}
 use Rattle.isort_sort.proofs.comment.own_comments.Given as goal
 
-abbrev pub invariant-tokens : goal.invariant-tokens
-invariant-tokens l = map string_bytes l.comments.items ++ contents l.unit.text.now (drop l.place l.unit.tokens.now) ≡ contents l.unit.text.now l.unit.tokens.now
+abbrev pub invariant-loop-comment : goal.invariant-loop-comment
+invariant-loop-comment l = map string_bytes l.comments.items ≡ said (map string_bytes (take l.comment-index l.comment-items))

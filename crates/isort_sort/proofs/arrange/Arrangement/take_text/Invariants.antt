@@ -6,7 +6,7 @@ use Rattle.isort_sort.proofs.arrange.Arrangement.take_text.Given as goal
 abbrev pub invariant-pieces : goal.invariant-pieces
 invariant-pieces l = record {
   ready : IsReady l.self;
-  text : string_bytes l.text ++ text_left l.self ≡ text_left l.initial.self;
+  text : string_bytes l.text ++ text_left l.self ≡ text_left l.fn.self;
 }
 
 abbrev pub decreases-pieces : goal.decreases-pieces

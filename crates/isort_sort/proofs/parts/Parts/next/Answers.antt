@@ -15,14 +15,10 @@ returns-in_default-clause-makes c = (
   λ text v out h. same_made text v c.args.self.now _ out h refl refl refl refl (ap (map found_value) (sym c.in_default.ensures.items)),
 )
 
-pub between-before-requires-clause-ordered : goal.between-before-requires-clause-ordered
-between-before-requires-clause-ordered c =
-    (made_gap c.requires.0 c.requires.1 c.args.self.now c.requires.2 (found_value c.in-Some.block) (map found_value (into_iter_items c.next.new.self)) c.requires.3 (ap (map found_value) c.in-Some.ensures.items)).ordered
-
-pub between-before-requires-clause-within : goal.between-before-requires-clause-within
-between-before-requires-clause-within c =
+pub between-before-requires : goal.between-before-requires
+between-before-requires c =
     let gap = made_gap c.requires.0 c.requires.1 c.args.self.now c.requires.2 (found_value c.in-Some.block) (map found_value (into_iter_items c.next.new.self)) c.requires.3 (ap (map found_value) c.in-Some.ensures.items) in
-    omega (arith, gap.within, ap length c.requires.3.same_text)
+    record { ordered = gap.ordered; within = omega (arith, gap.within, ap length c.requires.3.same_text) }
 
 pub returns-clause-makes : goal.returns-clause-makes
 returns-clause-makes c =
