@@ -3,17 +3,10 @@ ghost use Rattle.std.specs.Prelude.{◌≡◌, ◌||◌, []};
 ghost use Rattle.py_lines.specs.Lines.{line_in};
 ghost use Rattle.py_lines.specs.LogicalLine.{LogicalLine};
 ghost use Rattle.isort_sort.specs.Private.Actions.{asks_to_skip, AreActions};
-ghost use Rattle.isort_sort.specs.Private.Reading.{has_code, IsSkipSoFar, ReadsSkip};
+ghost use Rattle.isort_sort.specs.Private.Reading.{IsSkipSoFar, ReadsSkip};
 
 use crate::actions::{Actions, first_code};
 use py_lines::Unit;
-
-/// Whether the line has a token that is no comment.
-fn has_code(unit: &Unit<'_>) -> bool
-    ensures { result ≡ has_code (line_in unit.now) }
-{
-    first_code(unit.tokens).is_some()
-}
 
 /// Whether a text asks to be left as it is (isort documentation, "Action Comments"), as far as its lines were read.
 #[derive(Clone, Copy)]
@@ -42,7 +35,7 @@ impl SkipReader {
     {
         *self = SkipReader {
             skips: self.skips_with(actions),
-            begun: self.begun || has_code(unit),
+            begun: self.begun || first_code(unit.tokens).is_some(),
         };
     }
 

@@ -128,9 +128,6 @@ breaks t a end pad rest is whole p =
 regroup_brackets : (i h o l e n m more r : List ℕ) → i ++ (h ++ (o ++ ((l ++ (((44 ∷ (e ++ n)) ++ m) ++ more)) ++ r))) ≡ (i ++ (h ++ (o ++ (l ++ (44 ∷ []))))) ++ (e ++ (n ++ ((m ++ more) ++ r)))
 regroup_brackets i h o l e n m more r = simp append_assoc
 
-regroup_hung : (i h o c e n r : List ℕ) → i ++ (h ++ (o ++ (c ++ ((e ++ n) ++ r)))) ≡ (i ++ (h ++ (o ++ c))) ++ (e ++ (n ++ r))
-regroup_hung i h o c e n r = simp append_assoc
-
 first_brackets : WordsLaw → (v : Values) (indentation end m comment : List ℕ) (cut : List (List Item)) → list_all is_space indentation ≡ true → IsUnbroken m → IsUnbroken comment → AreLines cut → IsFirstLine end (λ e. in_brackets v indentation e m comment cut)
 first_brackets law v indentation end m comment [] i h c ls =
     inr (joins indentation _ (unbroken_spaces indentation i) (joins (head m) _ (unbroken_head m h) (joins (trailing_comma v) (codes ")" ++ comment) (unbroken_comma v) c)), (λ e. refl))
@@ -156,8 +153,8 @@ first_names law v indentation end m comment items cut i h c t ls = by (is_wrappe
         (join_by items_text (codes ", " ++ 92 ∷ (end ++ (indentation ++ four_spaces))) cut ++ comment) (simp append_assoc)
         (joins indentation (head m ++ (92 ∷ [])) spaces (joins (head m) (92 ∷ []) (unbroken_head m h) refl)) (four-pad indentation i)
     by true false false =
-        breaks (λ e. hanging_in_brackets v indentation e m comment cut) (indentation ++ (head m ++ (codes "(" ++ comment))) end (indentation ++ four_spaces) _
-        (regroup_hung indentation (head m) (codes "(") comment end (indentation ++ four_spaces) _)
+        breaks (λ e. hanging_in_brackets v indentation e m comment cut) (indentation ++ (head m ++ (codes "(" ++ comment))) end (indentation ++ four_spaces)
+        (join_by items_text (codes "," ++ (end ++ (indentation ++ four_spaces))) cut ++ (trailing_comma v ++ (end ++ (indentation ++ codes ")")))) (simp append_assoc)
         (joins indentation (head m ++ (codes "(" ++ comment)) spaces (joins (head m) (codes "(" ++ comment) (unbroken_head m h) c)) (four-pad indentation i)
 
 first_statement : WordsLaw → (v : Values) (indentation end : List ℕ) (s : Laid) → list_all is_space indentation ≡ true → IsWritable s.statement s.items → IsCut (fits_line v indentation (module_of s.statement)) s.items s.cut → AreRemarks s.comments → IsFirstLine end (λ e. own_text v indentation e s)
