@@ -7,7 +7,7 @@ use std::alloc::{AllocError, Global};
 use std::marker::Model;
 
 /// A list of modules, in which a module is found by one look-up.
-#[derive(Debug, Drop)]
+#[derive(Drop)]
 pub struct IndexedModules {
     /// The modules, in their order.
     modules: Vec<String>,

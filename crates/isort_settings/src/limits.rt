@@ -1,5 +1,5 @@
 //! The limits of the keys that are whole numbers, each named once.
-ghost use Rattle.std.specs.Prelude.{◌≡◌, ◌&&◌, nat_le, int_le};
+ghost use Rattle.std.specs.Prelude.{◌≡◌, ◌&&◌, nat_le};
 
 /// The whole numbers from `least` to `most`.
 #[derive(Drop)]
@@ -45,15 +45,6 @@ impl Limits<u32> {
     /// Whether the number is within the limits.
     pub fn contain(self, n: u32) -> bool
         ensures { result ≡ (nat_le self.least n && nat_le n self.most) }
-    {
-        self.least <= n && n <= self.most
-    }
-}
-
-impl Limits<i32> {
-    /// Whether the number is within the limits.
-    pub fn contain_signed(self, n: i32) -> bool
-        ensures { result ≡ (int_le self.least n && int_le n self.most) }
     {
         self.least <= n && n <= self.most
     }

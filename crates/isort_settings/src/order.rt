@@ -12,7 +12,7 @@ ghost use Rattle.isort_settings.specs.Orders.NameClasses.{place_of};
 use std::cmp::Ordering;
 
 /// The class of a name, in the order in which classes are sorted.
-#[derive(Clone, Copy, PartialEq, Eq, PartialOrd, Ord)]
+#[derive(Clone, Copy)]
 enum NameClass {
     Constant,
     Class,
@@ -26,10 +26,11 @@ impl NameClass {
     {
         if is_constant(name) {
             NameClass::Constant
-        } else if name.first().is_some_and(|b| b.is_ascii_uppercase()) {
-            NameClass::Class
         } else {
-            NameClass::Other
+            match name.first() {
+                Some(first) if first.is_ascii_uppercase() => NameClass::Class,
+                _ => NameClass::Other,
+            }
         }
     }
 }
@@ -38,44 +39,35 @@ impl NameClass {
 pub fn class_cmp(a: &[u8], b: &[u8]) -> Ordering
     ensures { result ≡ nat_cmp (class_place a.now) (class_place b.now) }
 {
-    NameClass::of(a).cmp(&NameClass::of(b))
+    (NameClass::of(a) as u8).cmp(&(NameClass::of(b) as u8))
 }
 
 /// Whether the name is a constant: two or more characters, an ASCII capital among them and no small ASCII letter.
 fn is_constant(name: &[u8]) -> bool
     ensures { result ≡ is_constant name.now }
 {
-    name.len() >= 2 && has_capital(name) && !has_small_letter(name)
+    name.len() >= 2
+        && name.iter().any(u8::is_ascii_uppercase)
+        && !name.iter().any(u8::is_ascii_lowercase)
 }
 
-/// Whether the name has an ASCII capital.
-fn has_capital(name: &[u8]) -> bool
-    ensures { result ≡ list_any is_ascii_uppercase name.now }
+/// How often the byte stands at the beginning of a text, and what follows.
+pub fn split_run(text: &[u8], byte: u8) -> (usize, &[u8])
+    ensures count { result.0 ≡ prefix_len (λ b. b == byte) text.now }
+    ensures rest { result.1.now ≡ drop (prefix_len (λ b. b == byte) text.now) text.now }
 {
-    name.iter().any(|b| b.is_ascii_uppercase())
-}
-
-/// Whether the name has a small ASCII letter.
-fn has_small_letter(name: &[u8]) -> bool
-    ensures { result ≡ list_any is_ascii_lowercase name.now }
-{
-    name.iter().any(|b| b.is_ascii_lowercase())
-}
-
-/// How many dots a module begins with, and what follows them.
-pub fn split_dots(name: &[u8]) -> (usize, &[u8])
-    ensures dots { result.0 ≡ dots name.now }
-    ensures rest { result.1.now ≡ drop (dots name.now) name.now }
-{
-    let dots = name.iter().position(|b| *b != b'.').unwrap_or(name.len());
-    (dots, name.split_at(dots).1)
+    let count = text.iter().position(|b| *b != byte).unwrap_or(text.len());
+    (count, text.split_at(count).1)
 }
 
 /// The natural order of two texts: numbers by value, the rest by bytes, and ties by the bytes of the whole texts.
 pub fn natural_cmp(a: &[u8], b: &[u8], case_sensitive: bool) -> Ordering
     ensures { result ≡ natural_cmp case_sensitive a.now b.now }
 {
-    parts_cmp(a, b, case_sensitive).then_with(|| a.cmp(b))
+    match parts_cmp(a, b, case_sensitive) {
+        Ordering::Equal => a.cmp(b),
+        by_parts => by_parts,
+    }
 }
 
 /// The order of two texts by their parts alone: text, number, text, number and so on.
@@ -113,7 +105,7 @@ fn split_text(text: &[u8]) -> (&[u8], &[u8])
 {
     let start = text
         .iter()
-        .position(|b| b.is_ascii_digit())
+        .position(u8::is_ascii_digit)
         .unwrap_or(text.len());
     text.split_at(start)
 }
@@ -138,8 +130,8 @@ fn text_cmp(a: &[u8], b: &[u8], case_sensitive: bool) -> Ordering
         a.cmp(b)
     } else {
         a.iter()
-            .map(|x| x.to_ascii_lowercase())
-            .cmp(b.iter().map(|x| x.to_ascii_lowercase()))
+            .map(u8::to_ascii_lowercase)
+            .cmp(b.iter().map(u8::to_ascii_lowercase))
     }
 }
 
@@ -149,21 +141,10 @@ fn number_cmp(a: &[u8], b: &[u8]) -> Ordering
     requires digits_b { AllDigits 10 b.now }
     ensures { result ≡ nat_cmp (digits_value 10 a.now) (digits_value 10 b.now) }
 {
-    let a = without_zeros(a);
-    let b = without_zeros(b);
-    match a.len().cmp(&b.len()) {
-        Ordering::Equal => a.cmp(b),
+    let (_, a_digits) = split_run(a, b'0');
+    let (_, b_digits) = split_run(b, b'0');
+    match a_digits.len().cmp(&b_digits.len()) {
+        Ordering::Equal => a_digits.cmp(b_digits),
         by_length => by_length,
     }
-}
-
-/// The digits after the zeros that they begin with.
-fn without_zeros(digits: &[u8]) -> &[u8]
-    ensures { result.now ≡ drop (prefix_len (λ d. d == byte "0") digits.now) digits.now }
-{
-    let zeros = digits
-        .iter()
-        .position(|d| *d != b'0')
-        .unwrap_or(digits.len());
-    digits.split_at(zeros).1
 }

@@ -1,5 +1,5 @@
 //! The lists of the own sections.
-ghost use Rattle.std.specs.Prelude.{◌≡◌, IfOk, []};
+ghost use Rattle.std.specs.Prelude.{◌≡◌, IfOk};
 ghost use Rattle.std.specs.List.{position_from};
 ghost use Rattle.isort_settings.specs.Holds.{holds};
 ghost use Rattle.isort_settings.specs.OwnLists.{modules_of_lists};
@@ -10,7 +10,7 @@ use std::alloc::{AllocError, Global};
 use std::marker::Model;
 
 /// The lists of the own sections, a list of modules for each.
-#[derive(Debug, Drop)]
+#[derive(Drop)]
 pub struct OwnLists {
     /// The modules of each own section, in their order.
     lists: Vec<Vec<String>>,
@@ -32,16 +32,6 @@ impl Model for OwnLists {
 }
 
 impl OwnLists {
-    /// No list. This takes no memory.
-    pub(crate) fn none(alloc: Global) -> OwnLists
-        ensures { result ≡ [] }
-    {
-        OwnLists {
-            lists: Vec::new(alloc),
-            index: None,
-        }
-    }
-
     /// The lists, in this order, with an index of them.
     pub(crate) fn indexed(alloc: Global, lists: Vec<Vec<String>>) -> Result<OwnLists, AllocError>
         ensures { IfOk result (λ own. own ≡ modules_of_lists lists.items) }

@@ -85,18 +85,11 @@ fn own_keys(alloc: Global, own_names: &[String]) -> Result<Vec<OwnKey>, AllocErr
     Ok(keys)
 }
 
-/// Whether one of the keys is spelled so.
-fn has_key(own_keys: &[OwnKey], name: &str) -> bool
-    ensures { result ≡ list_any (λ key. bytes_eq key name.now) own_keys.now }
-{
-    own_keys.iter().any(|key| key.as_str() == name)
-}
-
 /// Whether the name is a key, where these are the keys of the lists of own sections.
 fn is_key(own_keys: &[OwnKey], name: &str) -> bool
     ensures { result ≡ is_key own_keys.now name.now }
 {
-    SettingKey::is_known(name) || has_key(own_keys, name)
+    SettingKey::is_known(name) || own_keys.iter().any(|key| key.as_str() == name)
 }
 
 /// The names in the table that are no key, where these are the keys of the lists of own sections.

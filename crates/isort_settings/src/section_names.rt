@@ -25,28 +25,16 @@ fn is_same_word(a: &str, b: &str) -> bool
     a.eq_ignore_ascii_case(b)
 }
 
-/// Whether the name begins with an ASCII letter.
-fn begins_with_letter(name: &[u8]) -> bool
-    ensures { result ≡ is_ascii_alphabetic (slice_index name.now 0) }
-{
-    match name.first() {
-        Some(first) => first.is_ascii_alphabetic(),
-        None => false,
-    }
-}
-
-/// Whether the name has ASCII letters, digits and `_` alone.
-fn has_word_characters(name: &str) -> bool
-    ensures { result ≡ list_all (λ c. is_ascii_alphanumeric c || c == byte "_") name.now }
-{
-    name.bytes().all(|b| b.is_ascii_alphanumeric() || b == b'_')
-}
-
 /// Whether the name has ASCII letters, digits and `_` alone, and first a letter.
 fn is_plain_name(name: &str) -> bool
     ensures { result ≡ is_plain_name name.now }
 {
-    begins_with_letter(name.as_bytes()) && has_word_characters(name)
+    match name.as_bytes().first() {
+        Some(first) if first.is_ascii_alphabetic() => {
+            name.bytes().all(|b| b.is_ascii_alphanumeric() || b == b'_')
+        }
+        _ => false,
+    }
 }
 
 /// Whether the name is one of the five when the case of ASCII letters is ignored.

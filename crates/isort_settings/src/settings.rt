@@ -14,7 +14,7 @@ use crate::error::SettingsError;
 use crate::key::SettingKey as Key;
 use crate::limits::{END_GAP, GRID_WRAP, LINE_LENGTH, MODES, SECTION_GAP, TYPE_GAP};
 use crate::modules::Modules;
-use crate::order::{class_cmp, natural_cmp, split_dots};
+use crate::order::{class_cmp, natural_cmp, split_run};
 use crate::own_lists::OwnLists;
 use crate::profile::Profile;
 use crate::pyproject;
@@ -27,7 +27,7 @@ use std::cmp::Ordering;
 use toml::{Table, Value};
 
 /// Settings: a value for each key of the table `[tool.isort]` except `profile`.
-#[derive(Debug, Drop, PartialEq, Eq)]
+#[derive(Drop, PartialEq, Eq)]
 pub struct Settings {
     /// The longest line in characters, 1 to 10000, before a `from` import is wrapped.
     pub line_length: u32,
@@ -195,7 +195,7 @@ impl Settings {
         let mut settings = Settings::with_sections(
             alloc,
             Listed::five_alone(alloc),
-            OwnLists::none(alloc),
+            OwnLists::from(Vec::new(alloc)),
         );
         settings.take_profile(profile);
         settings
@@ -497,11 +497,12 @@ impl Settings {
     pub fn order_modules(&self, a: &str, b: &str) -> Ordering
         ensures { result ≡ module_cmp (values self.now) a.now b.now }
     {
-        let (a_dots, a_name) = split_dots(a.as_bytes());
-        let (b_dots, b_name) = split_dots(b.as_bytes());
-        b_dots
-            .cmp(&a_dots)
-            .then_with(|| natural_cmp(a_name, b_name, self.case_sensitive))
+        let (a_dots, a_name) = split_run(a.as_bytes(), b'.');
+        let (b_dots, b_name) = split_run(b.as_bytes(), b'.');
+        match b_dots.cmp(&a_dots) {
+            Ordering::Equal => natural_cmp(a_name, b_name, self.case_sensitive),
+            by_dots => by_dots,
+        }
     }
 
     /// The order of two names: with `order_by_type` set constants come first, then classes, then the rest; then the
@@ -514,10 +515,14 @@ impl Settings {
     {
         let a = a.as_bytes();
         let b = b.as_bytes();
-        if self.order_by_type {
-            class_cmp(a, b).then_with(|| natural_cmp(a, b, self.case_sensitive))
+        let by_class = if self.order_by_type {
+            class_cmp(a, b)
         } else {
-            natural_cmp(a, b, self.case_sensitive)
+            Ordering::Equal
+        };
+        match by_class {
+            Ordering::Equal => natural_cmp(a, b, self.case_sensitive),
+            by_class => by_class,
         }
     }
 

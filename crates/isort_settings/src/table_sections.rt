@@ -171,7 +171,7 @@ impl TableSections {
         let Some(listed) = read_sections(alloc, table)? else {
             return Ok(TableSections {
                 listed: Listed::five_alone(alloc),
-                own_lists: OwnLists::none(alloc),
+                own_lists: OwnLists::from(Vec::new(alloc)),
                 refused: Some(SettingKey::Sections),
             });
         };

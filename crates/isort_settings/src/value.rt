@@ -27,29 +27,16 @@ pub fn within(n: i64, limits: Limits<u32>) -> Option<u32>
     }
 }
 
-/// The whole number of either sign, if it is within the limits.
-fn within_signed(n: i64, limits: Limits<i32>) -> Option<i32>
-    ensures { result ≡ whole_within limits.least limits.most n }
-{
-    match i32::try_from(n) {
-        Ok(n) if limits.contain_signed(n) => Some(n),
-        _ => None,
-    }
-}
-
-/// Whether a text holds `*` or `?`.
-fn has_wildcard(text: &str) -> bool
-    ensures { result ≡ list_any is_wildcard text.now }
-{
-    text.bytes().any(|b| b == b'*' || b == b'?')
-}
-
 /// An entry of a list: a text without `*` and `?`.
 fn entry(value: &Value) -> Option<&str>
     ensures { option_copied result ≡ entry_of (view value.now) }
 {
     let text = value.as_str()?;
-    if has_wildcard(text) { None } else { Some(text) }
+    if text.bytes().any(|b| b == b'*' || b == b'?') {
+        None
+    } else {
+        Some(text)
+    }
 }
 
 /// A whole number within the limits.
@@ -65,7 +52,10 @@ pub fn read_whole(value: &Value, limits: Limits<i32>) -> Option<i32>
     ensures { result ≡ option_and_then (whole_within limits.least limits.most)
         (as_integer (view value.now)) }
 {
-    within_signed(value.as_integer()?, limits)
+    match i32::try_from(value.as_integer()?) {
+        Ok(n) if limits.least <= n && n <= limits.most => Some(n),
+        _ => None,
+    }
 }
 
 /// A section by its name, where these are the names of the own ones.

@@ -1,7 +1,10 @@
 -- The parts decide, and then the bytes.
-use Rattle.std.proofs.Common.{rules}
-use Rattle.isort_settings.proofs.OrderThen.{then_with-second}
+use Rattle.std.proofs.Common.{◌∙◌}
+use Rattle.isort_settings.proofs.OrderThen.{then-tied, then-decided}
 use Rattle.isort_settings.proofs.order.natural_cmp.Goals as goal
 
-pub returns : goal.returns
-returns c = rw (← c.parts_cmp.ensures) (then_with-second c.parts_cmp.result c.then_with.result _ c.then_with.ensures (λ b. search rules))
+pub returns-in-Equal : goal.returns-in-Equal
+returns-in-Equal c = c.cmp.ensures ∙ then-tied _ _ _ c.parts_cmp.ensures c.in-Equal.is
+
+pub returns-in_default : goal.returns-in_default
+returns-in_default c = then-decided _ _ _ c.parts_cmp.ensures c.in_default.not-Equal

@@ -1,9 +1,15 @@
 -- The dots decide, and then the order of what follows them.
-use Rattle.std.proofs.Common.{rules}
-use Rattle.isort_settings.proofs.OrderThen.{then_with-second}
+use Rattle.std.proofs.Common.{◌∙◌}
+use Rattle.isort_settings.proofs.OrderThen.{then-tied, then-decided}
 use Rattle.isort_settings.proofs.settings.Settings.order_modules.Goals as goal
 
-pub returns : goal.returns
-returns c =
-    let e = rw (c.split_dots-a_dots.ensures.dots, c.split_dots-b_dots.ensures.dots, c.as_bytes.ensures.value, c.as_bytes-2.ensures.value) at c.cmp.ensures in
-    rw (← e) (then_with-second c.cmp.result c.then_with.result _ c.then_with.ensures (λ b. search rules))
+pub returns-in-Equal : goal.returns-in-Equal
+returns-in-Equal c =
+    let e = rw (c.split_run-a_dots.ensures.count, c.split_run-b_dots.ensures.count, c.as_bytes.ensures.value, c.as_bytes-2.ensures.value) at c.cmp.ensures in
+    let n = rw (c.split_run-a_dots.ensures.rest, c.split_run-b_dots.ensures.rest, c.as_bytes.ensures.value, c.as_bytes-2.ensures.value) at c.natural_cmp.ensures in
+    n ∙ then-tied _ _ _ e c.in-Equal.is
+
+pub returns-in_default : goal.returns-in_default
+returns-in_default c =
+    let e = rw (c.split_run-a_dots.ensures.count, c.split_run-b_dots.ensures.count, c.as_bytes.ensures.value, c.as_bytes-2.ensures.value) at c.cmp.ensures in
+    then-decided _ _ _ e c.in_default.not-Equal
