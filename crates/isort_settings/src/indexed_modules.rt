@@ -3,16 +3,15 @@ ghost use Rattle.std.specs.Prelude.{◌≡◌, ℕ, IfOk, List, map, string_byte
 ghost use Rattle.isort_settings.specs.Holds.{holds};
 
 use crate::index::Index;
+use crate::with_index::WithIndex;
 use std::alloc::{AllocError, Global};
 use std::marker::Model;
 
 /// A list of modules, in which a module is found by one look-up.
 #[derive(Drop)]
 pub struct IndexedModules {
-    /// The modules, in their order.
-    modules: Vec<String>,
-    /// The index of this one list.
-    index: Index,
+    /// The modules, in their order, with the index of this one list.
+    kept: WithIndex<String, Index>,
 }
 
 impl Model for IndexedModules {
@@ -22,10 +21,10 @@ impl Model for IndexedModules {
 
     ghost use Rattle.isort_settings.specs.OwnLists.{IsIndexOf};
 
-    ghost view = { λ list. map string_bytes list.modules.items };
+    ghost view = { λ modules. map string_bytes modules.kept.list.items };
 
-    ghost invariant = { λ list.
-        IsIndexOf (map string_bytes list.modules.items ∷ []) list.index.places };
+    ghost invariant = { λ modules.
+        IsIndexOf (map string_bytes modules.kept.list.items ∷ []) modules.kept.index.places };
 }
 
 impl IndexedModules {
@@ -35,27 +34,32 @@ impl IndexedModules {
     {
         let mut index = Index::empty(alloc);
         index.add_list(modules.as_slice(), 0)?;
-        Ok(IndexedModules { modules, index })
+        Ok(IndexedModules {
+            kept: WithIndex {
+                list: modules,
+                index,
+            },
+        })
     }
 
     /// The modules, in their order.
     pub fn modules(&self) -> &[String]
         ensures { map string_bytes result.now ≡ self.now }
     {
-        self.modules.as_slice()
+        self.kept.as_slice()
     }
 
     /// The modules, in their order, without the index. This takes no memory.
     pub fn into_modules(self) -> Vec<String>
         ensures { map string_bytes result.items ≡ self }
     {
-        self.modules
+        self.kept.into_list()
     }
 
     /// Whether the list holds the module.
     pub(crate) fn holds(&self, module: &str) -> bool
         ensures { result ≡ holds self.now «module».now }
     {
-        self.index.get(module).is_some()
+        self.kept.index.get(module).is_some()
     }
 }

@@ -21,6 +21,7 @@ mod settings;
 mod standard_library;
 mod table_sections;
 mod value;
+mod with_index;
 
 pub use error::SettingsError;
 pub use indexed_modules::IndexedModules;

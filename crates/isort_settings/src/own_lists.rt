@@ -6,16 +6,15 @@ ghost use Rattle.isort_settings.specs.OwnLists.{modules_of_lists};
 
 use crate::index::Index;
 use crate::modules::is_among;
+use crate::with_index::WithIndex;
 use std::alloc::{AllocError, Global};
 use std::marker::Model;
 
 /// The lists of the own sections, a list of modules for each.
 #[derive(Drop)]
 pub struct OwnLists {
-    /// The modules of each own section, in their order.
-    lists: Vec<Vec<String>>,
-    /// The index of the lists, where they were read from a table.
-    index: Option<Index>,
+    /// The modules of each own section, in their order, with the index of the lists, where they were read from a table.
+    kept: WithIndex<Vec<String>, Option<Index>>,
 }
 
 impl Model for OwnLists {
@@ -25,10 +24,10 @@ impl Model for OwnLists {
 
     ghost use Rattle.isort_settings.specs.OwnLists.{modules_of_lists, IsIndexOf};
 
-    ghost view = { λ own. modules_of_lists own.lists.items };
+    ghost view = { λ own. modules_of_lists own.kept.list.items };
 
-    ghost invariant = { λ own. IfSome own.index (λ index.
-        IsIndexOf (modules_of_lists own.lists.items) index.places) };
+    ghost invariant = { λ own. IfSome own.kept.index (λ index.
+        IsIndexOf (modules_of_lists own.kept.list.items) index.places) };
 }
 
 impl OwnLists {
@@ -40,33 +39,34 @@ impl OwnLists {
         for (place, list) in lists.iter().enumerate() {
             index.add_list(list, place)?;
         }
-        Ok(OwnLists {
-            lists,
+        let kept = WithIndex {
+            list: lists,
             index: Some(index),
-        })
+        };
+        Ok(OwnLists { kept })
     }
 
     /// The lists.
     pub fn lists(&self) -> &[Vec<String>]
         ensures { modules_of_lists result.now ≡ self.now }
     {
-        self.lists.as_slice()
+        self.kept.as_slice()
     }
 
     /// The lists, without the index. This takes no memory.
     pub fn into_lists(self) -> Vec<Vec<String>>
         ensures { modules_of_lists result.items ≡ self }
     {
-        self.lists
+        self.kept.into_list()
     }
 
     /// The place of the first list that holds the module.
     pub(crate) fn holder(&self, module: &str) -> Option<usize>
         ensures { result ≡ position_from (λ list. holds list «module».now) 0 self.now }
     {
-        match &self.index {
+        match &self.kept.index {
             Some(index) => index.get(module),
-            None => first_holder(self.lists.as_slice(), module.as_bytes()),
+            None => first_holder(self.kept.as_slice(), module.as_bytes()),
         }
     }
 }
@@ -86,7 +86,12 @@ impl From<Vec<Vec<String>>> for OwnLists {
     fn from(lists: Vec<Vec<String>>) -> OwnLists
         ensures { result ≡ modules_of_lists lists.items }
     {
-        OwnLists { lists, index: None }
+        OwnLists {
+            kept: WithIndex {
+                list: lists,
+                index: None,
+            },
+        }
     }
 }
 
@@ -101,7 +106,7 @@ impl PartialEq for OwnLists {
     ghost laws = { partial_equiv_from_equiv (lists_equiv (lists_equiv nat_list_eq_equiv)) };
 
     fn eq(&self, other: &OwnLists) -> bool {
-        self.lists == other.lists
+        self.kept.list == other.kept.list
     }
 }
 

@@ -4,4 +4,4 @@ use Rattle.isort_settings.proofs.Indexes.{same_lists}
 use Rattle.isort_settings.proofs.own_lists.OwnListsPartialEq.eq.Goals as goal
 
 pub returns : goal.returns
-returns c = rw (← c.self.view_is, ← c.other.view_is) (c.eq.ensures ∙ sym (same_lists c.self.inside.lists.items c.other.inside.lists.items))
+returns c = rw (← c.self.view_is, ← c.other.view_is) (c.eq.ensures ∙ sym (same_lists c.self.inside.kept.list.items c.other.inside.kept.list.items))
