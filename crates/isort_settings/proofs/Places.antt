@@ -1,11 +1,12 @@
 -- The place of the first element that passes a test, and the lists of own sections by their places.
-use Rattle.std.proofs.Common.{◌≡◌, IfSome, ℕ, ◌+◌, ◌==◌, ◌<◌, sym, suc, Bool, true, false, not, cond, List, [], ◌∷◌, ◌++◌, map, length, Option, Some, None, option_map, unwrap_or, refl, ◌∙◌, ap, arith, inl, inr}
+use Rattle.std.proofs.Common.{◌≡◌, IfSome, ℕ, ◌+◌, ◌==◌, ◌<◌, sym, suc, Bool, true, false, not, ◌||◌, cond, List, [], ◌∷◌, ◌++◌, map, length, Option, Some, None, option_map, unwrap_or, refl, ◌∙◌, ap, arith, inl, inr}
 use Rattle.std.proofs.lemmas.Bool.{cases_eq, eq-eqb, ne_eqb, cases_lt, lt-ltb, le-ltb}
+use Rattle.std.proofs.lemmas.Iterator.Adapters.{position_from-zero}
 use Rattle.std.proofs.lemmas.List.Folds.{find-append}
 use Rattle.std.proofs.lemmas.List.Sums.{prefix_len-le-length}
 use Rattle.std.specs.Cmp.Lexicographic.{pointwise}
-use Rattle.std.specs.List.{find, position, position_from, position_or_len, enumerate_from}
-use Rattle.std.specs.Option.{option_or}
+use Rattle.std.specs.List.{find, list_any, position, position_from, position_or_len, enumerate_from}
+use Rattle.std.specs.Option.{is_some, option_or}
 use Rattle.isort_settings.specs.declared.section.Section.{Section}
 use Rattle.isort_settings.specs.declared.section.Section.TheVariants.{Own}
 use Rattle.isort_settings.specs.FiveSections.{same_section}
@@ -43,6 +44,18 @@ place_within p i (x ∷ xs) =
       | true ↦ omega arith
       | false ↦ rw next at (place_within p (i + 1) xs)
     ]
+
+some_step : (b : Bool) (i : ℕ) (later : Option ℕ) (rest : Bool) → is_some later ≡ rest → is_some (cond b (Some i) later) ≡ (b || rest)
+some_step true i later rest e = refl
+some_step false i later rest e = e
+
+some_from : {X : Type 0} (p : X → Bool) (i : ℕ) (xs : List X) → is_some (position_from p i xs) ≡ list_any p xs
+some_from p i [] = refl
+some_from p i (x ∷ xs) = some_step (p x) i (position_from p (i + 1) xs) (list_any p xs) (some_from p (i + 1) xs)
+
+-- there is a place just where an element passes the test
+pub some_place : {X : Type 0} (p : X → Bool) (xs : List X) → is_some (position p xs) ≡ list_any p xs
+some_place p xs = ap is_some (position_from-zero p xs) ∙ some_from p 0 xs
 
 -- a place among other things that pass the same test
 pub place_from-map : {X Y : Type 0} (p : Y → Bool) (f : X → Y) (i : ℕ) (xs : List X) → position_from (λ x. p (f x)) i xs ≡ position_from p i (map f xs)

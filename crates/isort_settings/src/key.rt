@@ -74,13 +74,6 @@ impl SettingKey {
         }
     }
 
-    /// Whether the table spells the key so.
-    fn is_spelled(&self, name: &str) -> bool
-        ensures { result ≡ bytes_eq (name_of self.now) name.now }
-    {
-        self.name() == name
-    }
-
     /// The keys that are read one by one, by the bytes of their names.
     pub(crate) fn in_order() -> [SettingKey; 21]
         ensures { result ≡ keys_in_order }
@@ -122,7 +115,7 @@ impl SettingKey {
         ensures { result ≡ (bytes_eq (name_of SettingKey.Profile) name.now
             || bytes_eq (name_of SettingKey.Sections) name.now) }
     {
-        SettingKey::Profile.is_spelled(name) || SettingKey::Sections.is_spelled(name)
+        SettingKey::Profile.name() == name || SettingKey::Sections.name() == name
     }
 
     /// Whether a key is spelled so whatever own sections there are.
@@ -130,8 +123,6 @@ impl SettingKey {
         ensures { result ≡ is_known name.now }
     {
         SettingKey::is_read_apart(name)
-            || SettingKey::in_order()
-                .iter()
-                .any(|key| key.is_spelled(name))
+            || SettingKey::in_order().iter().any(|key| key.name() == name)
     }
 }

@@ -1,5 +1,6 @@
 //! Lists of modules, as settings have them.
-ghost use Rattle.std.specs.Prelude.{◌≡◌, bytes_eq, length, map, option_copied, slice_get, string_bytes};
+ghost use Rattle.std.specs.Prelude.{◌≡◌, ◌<◌, IfSome, bytes_eq, length, map, option_copied, slice_get, string_bytes};
+ghost use Rattle.std.specs.List.{position};
 ghost use Rattle.isort_settings.specs.Sections.{holds};
 
 use crate::indexed_modules::IndexedModules;
@@ -56,7 +57,7 @@ impl Modules {
         match self {
             Modules::StandardLibrary => standard_library::holds(module.as_bytes()),
             Modules::Future => module.as_bytes() == b"__future__".as_slice(),
-            Modules::Listed(modules) => is_among(modules, module.as_bytes()),
+            Modules::Listed(modules) => is_among(modules, module),
             Modules::Indexed(list) => list.holds(module),
         }
     }
@@ -110,16 +111,18 @@ fn entry_at(entries: &[String], index: usize) -> Option<&str>
     Some(entries.get(index)?.as_str())
 }
 
-/// Whether the entry is the text.
-pub(crate) fn is_text(entry: &String, text: &[u8]) -> bool
-    ensures { result ≡ bytes_eq (string_bytes entry.now) text.now }
+/// The place of the first entry that is the text.
+pub(crate) fn place_of(entries: &[String], text: &str) -> Option<usize>
+    ensures place { result
+        ≡ position (λ entry. bytes_eq entry text.now) (map string_bytes entries.now) }
+    ensures within { IfSome result (λ place. place < length entries.now) }
 {
-    entry.as_bytes() == text
+    entries.iter().position(|entry| entry.as_str() == text)
 }
 
 /// Whether the text is one of the entries.
-pub(crate) fn is_among(entries: &[String], text: &[u8]) -> bool
+pub(crate) fn is_among(entries: &[String], text: &str) -> bool
     ensures { result ≡ holds (map string_bytes entries.now) text.now }
 {
-    entries.iter().any(|entry| is_text(entry, text))
+    place_of(entries, text).is_some()
 }

@@ -66,13 +66,13 @@ impl OwnLists {
     {
         match &self.kept.index {
             Some(index) => index.get(module),
-            None => first_holder(self.kept.as_slice(), module.as_bytes()),
+            None => first_holder(self.kept.as_slice(), module),
         }
     }
 }
 
 /// The place of the first list that holds the module, found list by list.
-fn first_holder(lists: &[Vec<String>], module: &[u8]) -> Option<usize>
+fn first_holder(lists: &[Vec<String>], module: &str) -> Option<usize>
     ensures { result
         ≡ position_from (λ list. holds list «module».now) 0 (modules_of_lists lists.now) }
 {

@@ -9,7 +9,7 @@ ghost use Rattle.isort_settings.specs.SectionNames.{is_plain_name, is_one_of_fiv
 ghost use Rattle.isort_settings.specs.SectionNames.{own_among, are_sections, section_named, order_listed};
 
 use crate::key::SettingKey;
-use crate::modules::{is_among, is_text};
+use crate::modules::{is_among, place_of};
 use crate::own_key::OwnKey;
 use crate::section::Section;
 use crate::value::push_copy;
@@ -118,15 +118,6 @@ pub fn are_sections(alloc: Global, names: &[String], own: &[String]) -> Result<b
     Ok(are_section_names(alloc, names)? && own.len() <= MAX_OWN && are_apart(names))
 }
 
-/// The place of the name that is the text.
-fn place_of(names: &[String], text: &str) -> Option<usize>
-    ensures place { result
-        ≡ position (λ name. bytes_eq name text.now) (map string_bytes names.now) }
-    ensures within { IfSome result (λ place. place < length names.now) }
-{
-    names.iter().position(|name| is_text(name, text.as_bytes()))
-}
-
 /// The section that a text names where these are the own names: one of the five, or an own one by its exact spelling.
 pub fn section_named(own: &[String], text: &str) -> Option<Section>
     requires { length own.now ≤ 256 }
@@ -166,7 +157,7 @@ fn is_listed(section: Section, names: &[String]) -> bool
     ensures { result
         ≡ list_any (λ name. bytes_eq name (section_spelling section)) (map string_bytes names.now) }
 {
-    is_among(names, section.spelling().as_bytes())
+    is_among(names, section.spelling())
 }
 
 /// Adds those of the five that no name spells, in their usual order.

@@ -5,7 +5,7 @@ pub returns-in-StandardLibrary : goal.returns-in-StandardLibrary
 returns-in-StandardLibrary c = rw c.in-StandardLibrary.is (rw c.as_bytes.ensures.value at c.holds.ensures)
 
 pub returns-in-Listed : goal.returns-in-Listed
-returns-in-Listed c = rw c.in-Listed.is (rw (c.as_bytes-in-Listed.ensures.value, c.deref.ensures.value) at c.is_among.ensures)
+returns-in-Listed c = rw c.in-Listed.is (rw c.deref.ensures.value at c.is_among.ensures)
 
 pub returns-in-Indexed : goal.returns-in-Indexed
 returns-in-Indexed c = rw c.in-Indexed.is c.holds-in-Indexed.ensures

@@ -12,4 +12,4 @@ returns-in-Some c =
 
 pub returns-in-None : goal.returns-in-None
 returns-in-None c =
-    c.first_holder.ensures ∙ rw (c.as_slice.ensures, c.as_bytes.ensures.value) (ap (position_from (λ list. holds list c.args.«module».now) 0) c.self.view_is)
+    c.first_holder.ensures ∙ rw c.as_slice.ensures (ap (position_from (λ list. holds list c.args.«module».now) 0) c.self.view_is)
