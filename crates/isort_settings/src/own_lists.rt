@@ -66,19 +66,13 @@ impl OwnLists {
     {
         match &self.kept.index {
             Some(index) => index.get(module),
-            None => first_holder(self.kept.as_slice(), module),
+            None => self
+                .kept
+                .as_slice()
+                .iter()
+                .position(|list| is_among(list.as_slice(), module)),
         }
     }
-}
-
-/// The place of the first list that holds the module, found list by list.
-fn first_holder(lists: &[Vec<String>], module: &str) -> Option<usize>
-    ensures { result
-        ≡ position_from (λ list. holds list «module».now) 0 (modules_of_lists lists.now) }
-{
-    lists
-        .iter()
-        .position(|list| is_among(list.as_slice(), module))
 }
 
 /// The lists, in this order, without an index: a module is searched in one after another. This takes no memory.
