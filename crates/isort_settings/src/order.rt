@@ -1,12 +1,11 @@
 //! The natural order of texts, in which a number counts by its value, and the classes of names.
 ghost use Rattle.std.specs.Prelude.{◌≡◌, ◌==◌, drop, take};
 ghost use Rattle.std.specs.Cmp.Lexicographic.{slice_cmp};
-ghost use Rattle.std.specs.List.{list_any, prefix_len, position_or_len};
-ghost use Rattle.std.specs.Char.{is_ascii_digit, is_ascii_lowercase, is_ascii_uppercase};
+ghost use Rattle.std.specs.List.{prefix_len, position_or_len};
+ghost use Rattle.std.specs.Char.{is_ascii_digit};
 ghost use Rattle.std.specs.Ordering.{nat_cmp};
-ghost use Rattle.std.specs.Str.{byte};
 ghost use Rattle.std.specs.Str.Parse.{AllDigits, digits_value};
-ghost use Rattle.isort_settings.specs.Orders.{cased, class_place, dots, is_constant, natural_cmp, part_cmp, parts};
+ghost use Rattle.isort_settings.specs.Orders.{cased, class_place, is_constant, natural_cmp, part_cmp, parts};
 ghost use Rattle.isort_settings.specs.Orders.NameClasses.{place_of};
 
 use std::cmp::Ordering;

@@ -1,6 +1,5 @@
 //! Reading a `pyproject.toml` down to the table `[tool.isort]`.
-ghost use Rattle.std.specs.Prelude.{◌≡◌, ◌≢◌, IfOk, IfErr, Ok, Err, bytes_eq, filter, map, not, option_map, string_bytes, unwrap_or};
-ghost use Rattle.std.specs.List.{list_any};
+ghost use Rattle.std.specs.Prelude.{◌≡◌, ◌≢◌, IfOk, IfErr, Ok, Err, filter, map, not, option_map, string_bytes, unwrap_or};
 ghost use Rattle.toml.specs.Data.{get_member, no_members};
 ghost use Rattle.toml.specs.View.{view, table_view};
 ghost use Rattle.isort_settings.specs.Keys.{Ascends};

@@ -1,9 +1,7 @@
 //! The names that `sections` may list, and the sections that they give.
-ghost use Rattle.std.specs.Prelude.{◌≡◌, ◌<◌, ◌≤◌, ◌++◌, ◌==◌, ◌||◌, not, true, IfOk, IfSome, OnOk, filter, length};
-ghost use Rattle.std.specs.Prelude.{map, slice_index, string_bytes};
-ghost use Rattle.std.specs.Char.{is_ascii_alphabetic, is_ascii_alphanumeric};
-ghost use Rattle.std.specs.List.{list_all, list_any, position};
-ghost use Rattle.std.specs.Str.{byte, bytes_eq, str_eq_ignore_ascii_case};
+ghost use Rattle.std.specs.Prelude.{◌≡◌, ◌≤◌, ◌++◌, not, true, IfOk, OnOk, filter, length, map, string_bytes};
+ghost use Rattle.std.specs.List.{list_all, list_any};
+ghost use Rattle.std.specs.Str.{bytes_eq, str_eq_ignore_ascii_case};
 ghost use Rattle.isort_settings.specs.FiveSections.{section_spelling, usual_order};
 ghost use Rattle.isort_settings.specs.SectionNames.{is_plain_name, is_one_of_five, is_section_name, are_apart};
 ghost use Rattle.isort_settings.specs.SectionNames.{own_among, are_sections, section_named, order_listed};

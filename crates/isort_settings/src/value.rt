@@ -1,11 +1,9 @@
 //! A reader for each kind of value that a key may have: nothing where the value is refused.
 ghost use Rattle.std.specs.Prelude.{◌≡◌, ◌≤◌, [], ◌∷◌, ◌++◌, IfOk, OnOk, length, map, option_and_then};
 ghost use Rattle.std.specs.Prelude.{option_copied, option_map, string_bytes};
-ghost use Rattle.std.specs.List.{list_any};
 ghost use Rattle.toml.specs.Data.{as_array, as_integer, as_str};
 ghost use Rattle.toml.specs.View.{view};
 ghost use Rattle.isort_settings.specs.Modules.{modules_of};
-ghost use Rattle.isort_settings.specs.Entries.{is_wildcard};
 ghost use Rattle.isort_settings.specs.Reading.{entry_of, entries_of, count_within, whole_within};
 ghost use Rattle.isort_settings.specs.SectionNames.{section_named};
 
