@@ -33,11 +33,6 @@ abbrev pub left_in : Position → List BindingValue
 left_in (position.Within pending) = pending.left
 left_in other = []
 
--- the byte up to which text was passed over after the end
-abbrev pub passed_in : Position → ℕ
-passed_in (position.End passed) = passed
-passed_in other = 0
-
 -- whether a logical line was left unread
 abbrev pub is_unread : Position → Bool
 is_unread (position.Unread start skip) = true

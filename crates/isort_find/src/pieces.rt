@@ -1,5 +1,5 @@
 //! The imports of a text that comes in pieces.
-ghost use Rattle.std.specs.Prelude.{◌≡◌, ◌↔◌, ◌+◌, ◌-◌, ◌≤◌, ◌^◌, ℕ, List, [], true, false, Ok, drop, length, IsTrue, IfOk, IfErr};
+ghost use Rattle.std.specs.Prelude.{◌≡◌, ◌+◌, ◌-◌, ◌≤◌, ◌^◌, ℕ, List, [], true, false, Ok, drop, length, IsTrue, IfOk, IfErr};
 ghost use Rattle.py_imports.specs.BindingValue.{BindingValue};
 
 use crate::cursor::Cursor;
@@ -193,20 +193,13 @@ impl PieceFinder {
         ensures goes { IsTrue result → IsToGoOn self.now more }
         ensures done { result ≡ false → has_ready self.now ≡ false → IsToStop self.now more }
     {
-        if !self.is_open() || self.has_ready() {
+        if !self.walker.is_open() || self.has_ready() {
             return false;
         }
         match self.scanner.ready() {
             Some(_) => true,
             None => more,
         }
-    }
-
-    /// Whether neither the end nor a fault was met.
-    fn is_open(&self) -> bool
-        ensures { IsTrue result ↔ (phase_in self.now.position ≡ Phase.Open) }
-    {
-        self.walker.is_open()
     }
 
     /// After the top every piece is taken whole.
@@ -259,7 +252,7 @@ impl PieceFinder {
     fn rest(&mut self)
         ensures { Rests self.old self.new }
     {
-        if self.is_open() {
+        if self.walker.is_open() {
             self.let_go();
         }
         let start = self.start();
@@ -356,9 +349,9 @@ impl PieceFinder {
     pub fn held(&self) -> &[u8]
         ensures { result.now ≡ held_by self.now }
     {
-        match self.walker.phase() {
-            Phase::End => &[],
-            Phase::Open | Phase::Fault(_) => self.scanner.held(),
+        match self.walker.passed() {
+            Some(_) => &[],
+            None => self.scanner.held(),
         }
     }
 
@@ -366,7 +359,10 @@ impl PieceFinder {
     pub fn fed(&self) -> u64
         ensures { result ≡ fed_by self.now }
     {
-        self.scanner.fed().max(self.walker.passed())
+        match self.walker.passed() {
+            Some(passed) => passed.max(self.scanner.fed()),
+            None => self.scanner.fed(),
+        }
     }
 
     /// The cursor from which another finder goes on, over pieces or over the whole text. It takes no memory.

@@ -62,10 +62,10 @@ impl Model for Walker {
 
 impl Walker {
     ghost use Rattle.isort_find.specs.Pending.{pending_state};
-    ghost use Rattle.isort_find.specs.Position.{passed_in, phase_in, ready_in, skip_in};
+    ghost use Rattle.isort_find.specs.Position.{phase_in, ready_in, skip_in};
     ghost use Rattle.isort_find.specs.Private.CursorMoves.{cursor_before};
     ghost use Rattle.isort_find.specs.Private.Walks.{FollowsStep, LooksAhead, ReadsOrLosesLine, TakesOne, TriesLine, walker_state};
-    ghost use Rattle.isort_find.specs.Private.Walks.{with_fault, with_position, after_line, passed_up_to, read_again, unread_in};
+    ghost use Rattle.isort_find.specs.Private.Walks.{with_fault, with_position, after_line, passed_in, passed_up_to, read_again, unread_in};
 
     /// Where the cursor stands.
     pub fn at(alloc: Global, cursor: Cursor) -> Walker
@@ -144,13 +144,13 @@ impl Walker {
         self.skip() == 0 && !self.options().top_only
     }
 
-    /// The byte up to which text was passed over after the end, or 0.
-    pub fn passed(&self) -> u64
+    /// Once the end was met, the byte up to which text was passed over after it, or 0.
+    pub fn passed(&self) -> Option<u64>
         ensures { result ≡ passed_in self.now.position }
     {
         match &self.position {
-            Position::End { passed } => *passed,
-            _ => 0,
+            Position::End { passed } => Some(*passed),
+            _ => None,
         }
     }
 

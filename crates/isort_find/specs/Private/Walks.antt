@@ -58,6 +58,11 @@ read_again other = other
 abbrev pub StandsAtNew : WalkerState → Type 0
 StandsAtNew w = BeginsNew w.cursor (left_in w.position)
 
+-- once the end was met, the byte up to which text was passed over after it
+abbrev pub passed_in : Position → Option ℕ
+passed_in (position.End passed) = Some passed
+passed_in other = None
+
 -- once text after the end was passed over up to this byte
 abbrev pub passed_up_to : Position → ℕ → Position
 passed_up_to (position.End passed) place = position.End place
