@@ -105,10 +105,7 @@ impl<'t> Finder<'t> {
         requires stands { StandsBefore self.old self.old }
         ensures { StandsBefore self.old self.new }
     {
-        if !self.walker.may_pass_lines() {
-            return;
-        }
-        if !self.pauses.are_over() {
+        if !self.walker.may_pass_lines() || !self.pauses.are_over() {
             return;
         }
         lines_without_import_bind_nothing();

@@ -50,13 +50,12 @@ fn skip_first(bindings: &mut VecDeque<Binding>, count: usize)
 }
 
 impl Pending {
+    ghost use Rattle.isort_find.specs.Pending.{pending_state};
     ghost use Rattle.isort_find.specs.Private.LooksAtBindings.{Looks};
 
     /// Nothing to look at yet.
     pub(crate) fn none(alloc: Global, start: LineStart) -> Pending
-        ensures start { result.start ≡ start }
-        ensures taken { result.taken ≡ 0 }
-        ensures left { result.left ≡ [] }
+        ensures { result ≡ pending_state start 0 [] }
     {
         Pending {
             bindings: VecDeque::new(alloc),

@@ -119,10 +119,7 @@ impl PieceFinder {
     {
         lines_without_import_bind_nothing();
         self.let_go();
-        if !self.walker.may_pass_lines() {
-            return 0;
-        }
-        if !pauses.are_over() {
+        if !self.walker.may_pass_lines() || !pauses.are_over() {
             return 0;
         }
         let before = words.clear_up_to(start) - start;

@@ -61,7 +61,6 @@ impl Model for Walker {
 }
 
 impl Walker {
-    ghost use Rattle.isort_find.specs.Pending.{pending_state};
     ghost use Rattle.isort_find.specs.Position.{phase_in, ready_in, skip_in};
     ghost use Rattle.isort_find.specs.Private.CursorMoves.{cursor_before};
     ghost use Rattle.isort_find.specs.Private.Walks.{FollowsStep, LooksAhead, ReadsOrLosesLine, TakesOne, TriesLine, walker_state};
@@ -199,18 +198,10 @@ impl Walker {
         ensures { TriesLine self.old (line_in unit.now) start result self.new }
     {
         if is_plain(unit, self.options()) {
-            self.pass_by(start);
+            self.position = Position::Within(Pending::none(self.alloc, start));
             return Ok(());
         }
         self.try_words(unit, start)
-    }
-
-    /// The logical line that begins at `start` binds nothing.
-    #[inline(always)]
-    fn pass_by(&mut self, start: LineStart)
-        ensures { self.new ≡ with_position self.old (Position.Within (pending_state start 0 [])) }
-    {
-        self.position = Position::Within(Pending::none(self.alloc, start));
     }
 
     /// The same, for a logical line that may bind something. It is apart so that other lines take few steps.

@@ -1,0 +1,8 @@
+-- No key was given.
+use Rattle.std.proofs.Common.{List, ap}
+use Rattle.isort_find.specs.Cursor.{CursorState, first_cursor}
+use Rattle.isort_find.specs.Key.{Key}
+use Rattle.isort_find.proofs.cursor.Cursor.start.Goals as goal
+
+pub returns : goal.returns
+returns c = ap (λ (ks : List Key). record (first_cursor c.args.options) { keys = ks }) c.new.ensures
