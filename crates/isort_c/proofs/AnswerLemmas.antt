@@ -3,6 +3,7 @@ use Rattle.std.proofs.Common.{◌≡◌, ◌⊎◌, ℕ, List, Result, Ok, Err, 
 use Rattle.isort_settings.specs.Values.{Values}
 use Rattle.isort_sort.specs.declared.answer.SortError.TheVariants as error
 use Rattle.isort_c.specs.Answers.{plain_answer}
+use Rattle.isort_c.specs.Kept.{Answered, KeepsReading}
 use Rattle.isort_c.specs.Sorting.{AnswersSort, AnswersCheck}
 use Rattle.isort_c.specs.declared.answer.Answer.{Answer}
 use Rattle.isort_c.specs.declared.answer.TheConstants.{MEMORY}
@@ -24,3 +25,11 @@ sort_unread text r a out (inr is) = rw is (sort_memory text r out)
 pub check_unread : (text : List ℕ) (r : Result (Values × List (List ℕ)) Answer) (a : Answer) → (r ≡ Err a) ⊎ (a ≡ plain_answer MEMORY) → AnswersCheck text r a
 check_unread text r a (inl is) = rw is (inl refl)
 check_unread text r a (inr is) = rw is (check_memory text r)
+
+keeps_memory : (r old : Answered) → KeepsReading r (plain_answer MEMORY) old old
+keeps_memory (Ok v) old = inr (refl, refl)
+keeps_memory (Err e) old = (inr refl, refl)
+
+pub keeps_unread : (r : Answered) (a : Answer) (old : Answered) → (r ≡ Err a) ⊎ (a ≡ plain_answer MEMORY) → KeepsReading r a old old
+keeps_unread r a old (inl is) = rw is (inl refl, refl)
+keeps_unread r a old (inr is) = rw is (keeps_memory r old)

@@ -29,9 +29,7 @@ reading-refused text n profile refusal.UnknownProfile is refused = inl (reading-
 reading-refused text n profile refusal.UnsupportedMode is refused = inl (reading-err text n profile refusal.UnsupportedMode is (refused (λ same. cc)))
 
 -- what a text stands for is shown by the reading of it, if there is memory for it
-pub stands_shared : {A E : Type 0} (shown : A → Values × List (List ℕ)) (stands : Result (Values × List (List ℕ)) Answer) (r : Values × List (List ℕ)) (made : Result A E) (answer : Result A Answer)
-    → stands ≡ Ok r → IfOk made (λ a. shown a ≡ r) → IfOk answer (λ a. made ≡ Ok a) → IfOk answer (λ a. stands ≡ Ok (shown a))
-stands_shared shown stands r made (Ok a) is holds same =
-    let kept : shown a ≡ r = rw same at holds in
-    is ∙ ap (λ v. Ok v) (sym kept)
-stands_shared shown stands r made (Err e) is holds same = tt
+pub stands_shared : {A : Type 0} (shown : A → Values × List (List ℕ)) (stands : Result (Values × List (List ℕ)) Answer) (r : Values × List (List ℕ)) (made : Result A Answer)
+    → stands ≡ Ok r → IfOk made (λ a. shown a ≡ r) → IfOk made (λ a. stands ≡ Ok (shown a))
+stands_shared shown stands r (Ok a) is holds = is ∙ ap (λ v. Ok v) (sym holds)
+stands_shared shown stands r (Err e) is holds = tt

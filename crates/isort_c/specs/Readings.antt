@@ -46,6 +46,10 @@ abbrev pub TellsNames : List (List ℕ) → Answer → List ℕ → List ℕ →
 TellsNames names answer old new =
     (answer ≡ record (plain_answer SAME) { size = length (name_records names) }) × (new ≡ filled (name_records names) old)
 
+-- so, or that memory ran out
+abbrev pub TellsAllNames : List (List ℕ) → Answer → List ℕ → List ℕ → Type 0
+TellsAllNames names answer old new = TellsNames names answer old new ⊎ ((answer ≡ plain_answer MEMORY) × (new ≡ old))
+
 -- the names of the unknown keys in the buffer; or why settings are refused, and the name of the key whose value is bad
 abbrev pub TellsOf : Result (Values × List (List ℕ)) SettingsError → Answer → List ℕ → List ℕ → Type 0
 TellsOf (Ok (v, unknown)) answer old new = TellsNames unknown answer old new

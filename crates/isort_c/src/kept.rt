@@ -1,5 +1,5 @@
 //! Settings that are read once and kept for calls.
-ghost use Rattle.std.specs.Prelude.{◌≡◌, ◌≢◌, ◌⊎◌, Ok, Err, IsOk, IfOk, IfErr};
+ghost use Rattle.std.specs.Prelude.{◌≡◌, ◌≢◌, Ok, Err};
 ghost use Rattle.std.specs.Arc.{arc_value};
 ghost use Rattle.isort_c.specs.Answers.{plain_answer};
 ghost use Rattle.isort_c.specs.Kept.{kept_reading, read_values, KeepsReading, TellsUnknown};
@@ -9,34 +9,26 @@ ghost use Rattle.isort_c.specs.Sorting.{AnswersSort, AnswersCheck};
 ghost use Rattle.isort_c.specs.declared.answer.TheConstants.{MEMORY, ARGUMENT};
 
 use crate::answer::{ARGUMENT, Answer, MEMORY, SAME};
-use crate::buffer::fill;
 use crate::handle::KeptSettings;
-use crate::place::tell;
-use crate::settings::{read, records_of};
+use crate::place::tell_section;
+use crate::settings::{read, tell_names};
 use crate::sort::{check_under, sort_under};
 use crate::stored::{Reading, Stored};
-use std::alloc::{AllocError, Global};
+use std::alloc::Global;
 use std::str;
 use std::sync::Arc;
 
-/// A handle that keeps this reading.
-fn keep(alloc: Global, reading: Arc<Reading>) -> Result<KeptSettings, AllocError>
-    ensures { IfOk result (λ kept. kept_reading kept ≡ Ok (read_values (arc_value reading))) }
+/// Has the handle keep this reading, and gives back what it kept before.
+fn keep(alloc: Global, reading: Arc<Reading>, kept: &mut KeptSettings) -> Answer
+    ensures { KeepsReading (Ok (read_values (arc_value reading))) result
+        (kept_reading kept.old) (kept_reading kept.new) }
 {
-    Ok(KeptSettings::of(Box::new(alloc, Stored { reading })?))
-}
-
-/// A handle that keeps what the text of a `pyproject.toml` stands for, with the profile of this number; or the answer where
-/// there is none.
-fn keep_reading(alloc: Global, text: &[u8], profile: u32) -> Result<KeptSettings, Answer>
-    ensures ok { IfOk result (λ kept. kept_reading kept ≡ reading text.now profile) }
-    ensures read { IfOk result (λ kept. IsOk (reading text.now profile)) }
-    ensures err { IfErr result (λ a.
-        (reading text.now profile ≡ Err a) ⊎ (a ≡ plain_answer MEMORY)) }
-{
-    match keep(alloc, read(alloc, text, profile)?) {
-        Ok(kept) => Ok(kept),
-        Err(_) => Err(Answer::plain(MEMORY)),
+    match Box::new(alloc, Stored { reading }) {
+        Ok(stored) => {
+            *kept = KeptSettings::of(stored);
+            Answer::plain(SAME)
+        }
+        Err(_) => Answer::plain(MEMORY),
     }
 }
 
@@ -53,11 +45,8 @@ pub extern "C" fn fihroste_settings_read(
     ensures { KeepsReading (reading settings.now profile) result
         (kept_reading kept.old) (kept_reading kept.new) }
 {
-    match keep_reading(alloc, settings, profile) {
-        Ok(read) => {
-            *kept = read;
-            Answer::plain(SAME)
-        }
+    match read(alloc, settings, profile) {
+        Ok(reading) => keep(alloc, reading, kept),
         Err(answer) => answer,
     }
 }
@@ -81,14 +70,8 @@ pub extern "C" fn fihroste_settings_share(
     };
     let reading = Arc::try_clone(&stored.reading);
     *kept = KeptSettings::of(stored);
-    let Ok(reading) = reading else {
-        return Answer::plain(MEMORY);
-    };
-    match keep(alloc, reading) {
-        Ok(shared) => {
-            *other = shared;
-            Answer::plain(SAME)
-        }
+    match reading {
+        Ok(reading) => keep(alloc, reading, other),
         Err(_) => Answer::plain(MEMORY),
     }
 }
@@ -117,14 +100,8 @@ pub extern "C" fn fihroste_settings_unknown(
     let Some(stored) = kept.take(alloc) else {
         return Answer::plain(ARGUMENT);
     };
-    let records = records_of(alloc, &stored.reading.unknown);
+    let answer = tell_names(alloc, &stored.reading.unknown, out);
     *kept = KeptSettings::of(stored);
-    let Ok(records) = records else {
-        return Answer::plain(MEMORY);
-    };
-    fill(&records, out);
-    let mut answer = Answer::plain(SAME);
-    answer.size = records.len();
     answer
 }
 
@@ -180,8 +157,7 @@ pub extern "C" fn fihroste_place_kept(
     let Some(stored) = kept.take(alloc) else {
         return Answer::plain(ARGUMENT);
     };
-    let settings = &stored.reading.settings;
-    let answer = tell(settings, settings.section_of(module_name), out);
+    let answer = tell_section(module_name, &stored.reading.settings, out);
     *kept = KeptSettings::of(stored);
     answer
 }

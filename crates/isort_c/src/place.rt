@@ -1,5 +1,6 @@
 //! The section of a module.
 ghost use Rattle.std.specs.Prelude.{◌≡◌};
+ghost use Rattle.isort_settings.specs.Sections.{section_in};
 ghost use Rattle.isort_settings.specs.Values.{values};
 ghost use Rattle.isort_c.specs.Places.{AnswersPlace, TellsSection};
 ghost use Rattle.isort_c.specs.Readings.{reading};
@@ -7,14 +8,16 @@ ghost use Rattle.isort_c.specs.Readings.{reading};
 use crate::answer::{ARGUMENT, Answer, SAME};
 use crate::buffer::fill;
 use crate::settings::read;
-use isort_settings::{Section, Settings};
+use isort_settings::Settings;
 use std::alloc::Global;
 use std::str;
 
-/// Tells the section, with its name in the buffer.
-pub fn tell(settings: &Settings, section: Section, out: &mut [u8]) -> Answer
-    ensures { TellsSection (values settings.now) section result out.old out.new }
+/// Tells the section of the module of this name, with the section's name in the buffer.
+pub fn tell_section(module_name: &str, settings: &Settings, out: &mut [u8]) -> Answer
+    ensures { TellsSection (values settings.now) (section_in (values settings.now) module_name.now)
+        result out.old out.new }
 {
+    let section = settings.section_of(module_name);
     let name = settings.section_name(section).as_bytes();
     fill(name, out);
     let mut answer = Answer::plain(SAME);
@@ -43,10 +46,7 @@ pub extern "C" fn fihroste_place(
         return Answer::plain(ARGUMENT);
     };
     match read(alloc, settings, profile) {
-        Ok(reading) => {
-            let settings = &reading.settings;
-            tell(settings, settings.section_of(module_name), out)
-        }
+        Ok(reading) => tell_section(module_name, &reading.settings, out),
         Err(answer) => answer,
     }
 }

@@ -4,7 +4,7 @@ ghost use Rattle.std.specs.Arc.{arc_value};
 ghost use Rattle.isort_settings.specs.Values.{values};
 ghost use Rattle.isort_c.specs.Answers.{plain_answer, filled};
 ghost use Rattle.isort_c.specs.Kept.{read_values};
-ghost use Rattle.isort_c.specs.Readings.{bad_key_name, profile_at, refused_answer, reading, AnswersSettings};
+ghost use Rattle.isort_c.specs.Readings.{bad_key_name, profile_at, refused_answer, reading, AnswersSettings, TellsAllNames};
 ghost use Rattle.isort_c.specs.Records.{name_records};
 ghost use Rattle.isort_c.specs.declared.answer.TheConstants.{MEMORY};
 
@@ -46,24 +46,13 @@ fn refused(error: &SettingsError) -> Answer
     answer
 }
 
-/// A reading of these settings and names, which handles can share.
-fn shared(
-    alloc: Global,
-    settings: Settings,
-    unknown: Vec<String>,
-) -> Result<Arc<Reading>, AllocError>
-    ensures { IfOk result (λ r.
+/// A reading of these settings and names, which handles can share; or the answer where memory ran out.
+fn shared(alloc: Global, settings: Settings, unknown: Vec<String>) -> Result<Arc<Reading>, Answer>
+    ensures ok { IfOk result (λ r.
         read_values (arc_value r) ≡ (values settings, map string_bytes unknown.items)) }
-{
-    Ok(Arc::new(alloc, Reading { settings, unknown })?)
-}
-
-/// The reading, or the answer where memory ran out.
-fn unless_memory(read: Result<Arc<Reading>, AllocError>) -> Result<Arc<Reading>, Answer>
-    ensures ok { IfOk result (λ r. read ≡ Ok r) }
     ensures err { IfErr result (λ a. a ≡ plain_answer MEMORY) }
 {
-    match read {
+    match Arc::new(alloc, Reading { settings, unknown }) {
         Ok(reading) => Ok(reading),
         Err(_) => Err(Answer::plain(MEMORY)),
     }
@@ -78,13 +67,13 @@ pub fn read(alloc: Global, text: &[u8], profile: u32) -> Result<Arc<Reading>, An
 {
     let profile = profile_at(profile)?;
     match Settings::from_pyproject(alloc, text, profile) {
-        Ok((settings, unknown)) => unless_memory(shared(alloc, settings, unknown)),
+        Ok((settings, unknown)) => shared(alloc, settings, unknown),
         Err(error) => Err(refused(&error)),
     }
 }
 
 /// The records of the names.
-pub fn records_of(alloc: Global, names: &[String]) -> Result<Vec<u8>, AllocError>
+fn records_of(alloc: Global, names: &[String]) -> Result<Vec<u8>, AllocError>
     ensures { IfOk result (λ v. v.items ≡ name_records (map string_bytes names.now)) }
 {
     let mut records = Vec::new(alloc);
@@ -92,6 +81,19 @@ pub fn records_of(alloc: Global, names: &[String]) -> Result<Vec<u8>, AllocError
         push_text(name.as_str(), &mut records)?;
     }
     Ok(records)
+}
+
+/// Tells the names of unknown keys.
+pub fn tell_names(alloc: Global, names: &[String], out: &mut [u8]) -> Answer
+    ensures { TellsAllNames (map string_bytes names.now) result out.old out.new }
+{
+    let Ok(records) = records_of(alloc, names) else {
+        return Answer::plain(MEMORY);
+    };
+    fill(&records, out);
+    let mut answer = Answer::plain(SAME);
+    answer.size = records.len();
+    answer
 }
 
 /// The answer where settings are refused, with the name of the key whose value is bad.
@@ -127,18 +129,11 @@ pub extern "C" fn fihroste_settings(
         Ok(profile) => profile,
         Err(answer) => return answer,
     };
-    let unknown = match Settings::from_pyproject(alloc, settings, profile) {
+    match Settings::from_pyproject(alloc, settings, profile) {
         Ok((settings, unknown)) => {
             drop(settings);
-            unknown
+            tell_names(alloc, &unknown, out)
         }
-        Err(error) => return tell_refusal(&error, out),
-    };
-    let Ok(records) = records_of(alloc, &unknown) else {
-        return Answer::plain(MEMORY);
-    };
-    fill(&records, out);
-    let mut answer = Answer::plain(SAME);
-    answer.size = records.len();
-    answer
+        Err(error) => tell_refusal(&error, out),
+    }
 }

@@ -12,7 +12,7 @@ returns-in_err-profile-clause-err c =
 pub returns-in-Ok-clause-ok : goal.returns-in-Ok-clause-ok
 returns-in-Ok-clause-ok c =
     let stands = reading-ok c.args.text.now c.args.profile _ _ (sym c.profile_at.ensures ∙ c.in_ok-profile.was) c.in-Ok.ensures.ok in
-    stands_shared (λ a. read_values (arc_value a)) (reading c.args.text.now c.args.profile) _ _ _ stands c.shared.ensures c.unless_memory.ensures.ok
+    stands_shared (λ a. read_values (arc_value a)) (reading c.args.text.now c.args.profile) _ _ stands c.shared.ensures.ok
 
 pub returns-in-Err-clause-err : goal.returns-in-Err-clause-err
 returns-in-Err-clause-err c =

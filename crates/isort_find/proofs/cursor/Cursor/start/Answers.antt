@@ -1,6 +1,6 @@
 -- No key was given.
 use Rattle.std.proofs.Common.{List, ap}
-use Rattle.isort_find.specs.Cursor.{CursorState, first_cursor}
+use Rattle.isort_find.specs.Cursor.{first_cursor}
 use Rattle.isort_find.specs.Key.{Key}
 use Rattle.isort_find.proofs.cursor.Cursor.start.Goals as goal
 
