@@ -52,18 +52,27 @@ struct CountedTexts<'b> {
 fn counted_texts<'b>(binding: &'b Binding, key: ImportKey) -> CountedTexts<'b>
     ensures { counted_key result ≡ key_of key (binding_value binding.now) }
 {
-    let module = binding.module_name.as_str();
-    let attribute = binding.attribute_name.as_deref();
-    let (text, attribute, alias) = match key {
-        ImportKey::Package => (package_of(module), None, None),
-        ImportKey::Module => (module, None, None),
-        ImportKey::Attribute => (module, attribute, None),
-        ImportKey::Alias => (module, attribute, binding.alias_name.as_deref()),
+    let whole = CountedTexts {
+        text: binding.module_name.as_str(),
+        attribute: binding.attribute_name.as_deref(),
+        alias: binding.alias_name.as_deref(),
     };
-    CountedTexts {
-        text,
-        attribute,
-        alias,
+    match key {
+        ImportKey::Package => CountedTexts {
+            text: package_of(whole.text),
+            attribute: None,
+            alias: None,
+        },
+        ImportKey::Module => CountedTexts {
+            attribute: None,
+            alias: None,
+            ..whole
+        },
+        ImportKey::Attribute => CountedTexts {
+            alias: None,
+            ..whole
+        },
+        ImportKey::Alias => whole,
     }
 }
 
