@@ -18,7 +18,7 @@ use std::alloc::Global;
 use std::str;
 use std::sync::Arc;
 
-/// Has the handle keep this reading, and gives back what it kept before.
+/// Has the handle keep this reading, unless memory runs out.
 fn keep(alloc: Global, reading: Arc<Reading>, kept: &mut KeptSettings) -> Answer
     ensures { KeepsReading (Ok (read_values (arc_value reading))) result
         (kept_reading kept.old) (kept_reading kept.new) }
