@@ -1,5 +1,5 @@
 -- What the getters of the matches read, by the rows.
-use Rattle.std.proofs.Common.{◌≡◌, ◌∙◌, ◌^◌, ◌&&◌, ℕ, Bool, true, false, ap, sym, refl, Option, Some, None, Result, Ok, Err, List, [], ◌∷◌, length, lt-ltb, ltb-true, nat_lt}
+use Rattle.std.proofs.Common.{◌≡◌, ◌∙◌, ◌^◌, ◌&&◌, ℕ, Bool, true, false, ap, sym, refl, Option, Some, None, Result, Ok, Err, List, [], ◌∷◌, length, lt-ltb, ltb-true, map, nat_lt, unwrap_or, Bor}
 use Rattle.std.specs.Prelude.{option_map, option_and_then}
 use Rattle.std.specs.Char.{digit_value}
 use Rattle.std.specs.List.{find, list_all}
@@ -32,6 +32,12 @@ first_found f id = first_value-rows f id
 -- the texts that `get_raw` reads
 pub all_values_found : (f : Found) (id : Text) → option_map raw_values (matched_of f id) ≡ all_of id (rows_of f)
 all_values_found f id = raw_values-rows f id
+
+-- the texts of an option that was given, or none
+pub texts_or_none : (o : Option (Bor (List (Bor (List ℕ))))) (none : Bor (List (Bor (List ℕ)))) → none.now ≡ []
+    → map (λ v. v.now) (unwrap_or o none).now ≡ unwrap_or (option_map (λ s. map (λ v. v.now) s.now) o) []
+texts_or_none None none e = rw e refl
+texts_or_none (Some texts) none e = refl
 
 digits_pass : (ds : List ℕ) → AllDigits 10 ds → list_all (λ d. nat_lt (digit_value d) 10) ds ≡ true
 digits_pass [] h = refl

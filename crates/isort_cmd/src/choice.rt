@@ -97,26 +97,15 @@ fn key_option(matches: &ArgMatches<'_>) -> Option<ImportKey>
 }
 
 /// The files, in their order.
-#[tactic(auto, using(crate::proofs::MatchLemmas::all_values_found))]
 fn files_of(alloc: Global, matches: &ArgMatches<'_>) -> Result<Vec<String>, AllocError>
     ensures { IfOk result (λ files. map string_bytes files.items
         ≡ unwrap_or (all_of (codes "FILE") (rows_in matches.now)) []) }
 {
-    match matches.get_raw("FILE") {
-        Some(paths) => copies(alloc, paths),
-        None => Ok(Vec::new(alloc)),
+    let mut files = Vec::new(alloc);
+    for path in matches.get_raw("FILE").unwrap_or(&[]) {
+        files.push(String::from_str(alloc, path)?)?;
     }
-}
-
-/// Copies of the texts, in their order.
-fn copies(alloc: Global, texts: &[&str]) -> Result<Vec<String>, AllocError>
-    ensures { IfOk result (λ all. map string_bytes all.items ≡ map (λ text. text.now) texts.now) }
-{
-    let mut all = Vec::new(alloc);
-    for text in texts {
-        all.push(String::from_str(alloc, text)?)?;
-    }
-    Ok(all)
+    Ok(files)
 }
 
 /// The number that the option was given.

@@ -1,5 +1,5 @@
 //! The words of a command line, read as a job.
-ghost use Rattle.std.specs.Prelude.{◌≡◌, IfOk, IfErr, IsTrue, map, true, string_bytes};
+ghost use Rattle.std.specs.Prelude.{◌≡◌, IfOk, IfErr, map, true, string_bytes};
 ghost use Rattle.clap.specs.Words.{HasKind, fault_of, kind_of, takes};
 ghost use Rattle.isort_cmd.specs.Options.{isort_app};
 ghost use Rattle.isort_cmd.specs.CommandLine.{IsOfParser, IsReadAsJob, IsUsageError};
@@ -70,15 +70,8 @@ fn parser_text(alloc: Global, error: &Error) -> Result<String, AllocError>
     ensures { IfOk result (λ text. EndsInLineFeed (string_bytes text)) }
 {
     let mut text = format!(in alloc; "{error}")?;
-    if !ends_in_line_feed(text.as_str()) {
+    if !text.ends_with('\n') {
         text.push('\n')?;
     }
     Ok(text)
-}
-
-/// Whether the text ends in a line feed.
-fn ends_in_line_feed(text: &str) -> bool
-    ensures { IsTrue result → EndsInLineFeed text.now }
-{
-    matches!(text.as_bytes().split_last(), Some((b'\n', _)))
 }

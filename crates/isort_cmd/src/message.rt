@@ -33,21 +33,15 @@ pub fn settings_text(alloc: Global, error: &SettingsError) -> Result<String, Run
     ensures line { IfOk result (λ text. string_bytes text ≡ settings_line error.now) }
     ensures memory { IfErr result (λ e. e ≡ RunError.Memory) }
 {
-    let text = match error {
-        SettingsError::Memory => String::from_str(alloc, OUT_OF_MEMORY)?,
-        SettingsError::BadToml => String::from_str(alloc, "isort: settings: S1 not TOML\n")?,
+    let line = match error {
+        SettingsError::Memory => OUT_OF_MEMORY,
+        SettingsError::BadToml => "isort: settings: S1 not TOML\n",
         SettingsError::BadValue(key) => {
             let name = key.name();
-            format!(in alloc; "isort: settings: S2 bad value for {name}\n")?
+            return Ok(format!(in alloc; "isort: settings: S2 bad value for {name}\n")?);
         }
-        SettingsError::UnknownProfile => String::from_str(
-            alloc,
-            "isort: settings: S3 unknown profile\n",
-        )?,
-        SettingsError::UnsupportedMode => String::from_str(
-            alloc,
-            "isort: settings: S4 unsupported multi_line_output\n",
-        )?,
+        SettingsError::UnknownProfile => "isort: settings: S3 unknown profile\n",
+        SettingsError::UnsupportedMode => "isort: settings: S4 unsupported multi_line_output\n",
     };
-    Ok(text)
+    Ok(String::from_str(alloc, line)?)
 }
