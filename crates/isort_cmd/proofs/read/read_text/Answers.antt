@@ -1,5 +1,6 @@
 -- What was read is a prefix of the text, and all of it at the end.
-use Rattle.std.proofs.Common.{arith}
+use Rattle.std.proofs.Common.{◌∙◌, arith, length-take, take}
+use Rattle.std.proofs.KnownBytes.{Consumes-trans}
 use Rattle.std.proofs.lemmas.Result.{err_from_is_err_and}
 use Rattle.isort_cmd.proofs.InputLemmas.{error_of_read, read_whole}
 use Rattle.isort_cmd.proofs.ReadLemmas.{ends_reading}
@@ -23,3 +24,19 @@ returns-then-count-eq0 g c =
       length = tt;
       reader = read.fine;
     }
+
+pub chunks-preserved : goal.chunks-preserved
+chunks-preserved g c =
+    let so_far = c.chunks.invariant in
+    let read = c.in_ok-count.ensures in
+    record {
+      fine = read.fine;
+      within = rw c.len.ensures at c.if-len-max.false;
+      room = c.read_chunk.auto.chunk ∙ so_far.room;
+      taken = rw c.in_ok-extend_from_slice.ensures.items (Consumes-trans _ _ _ c.chunks.text.items (take c.in_ok-count.count c.read_chunk.new.chunk) so_far.taken read.bytes.0);
+    }
+
+pub chunks-smaller : goal.chunks-smaller
+chunks-smaller g c =
+    let bytes = length-take c.in_ok-count.count c.read_chunk.new.chunk in
+    omega (arith, bytes, c.in_ok-extend_from_slice.ensures.len, c.in_ok-count.ensures.bound, c.if-count-eq0.false, c.chunks.invariant.within)
