@@ -38,7 +38,7 @@ pub enum Action {
 }
 
 /// What is done with one file.
-#[derive(Clone, Copy)]
+#[derive(Clone, Copy, Debug)]
 pub enum Task {
     /// Its imports are listed on standard output: those that the options ask for.
     List(FindOptions),

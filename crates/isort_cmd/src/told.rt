@@ -1,7 +1,7 @@
 //! What a run prints, and its status.
 
 /// What a run over one file prints, and the status that it asks for.
-#[derive(Drop)]
+#[derive(Debug, Drop)]
 pub struct Report {
     /// The text for standard output.
     pub out: String,

@@ -12,7 +12,7 @@ use std::alloc::{AllocError, Global};
 
 /// By what an import counts as one with another: two keys made for one [`ImportKey`] are equal exactly where the
 /// imports count as one.
-#[derive(Drop, PartialEq, Eq, PartialOrd, Ord, Hash)]
+#[derive(Debug, Drop, PartialEq, Eq, PartialOrd, Ord, Hash)]
 pub struct KeyText {
     /// The module, or its leading dots and first name.
     text: String,

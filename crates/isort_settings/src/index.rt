@@ -8,7 +8,7 @@ use std::alloc::{AllocError, Global};
 use std::collections::HashMap;
 
 /// For each module in some lists, the place of the first list that holds it.
-#[derive(Drop)]
+#[derive(Debug, Drop)]
 pub struct Index {
     /// The places.
     pub places: HashMap<String, usize>,

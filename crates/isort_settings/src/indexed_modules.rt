@@ -8,7 +8,7 @@ use std::alloc::{AllocError, Global};
 use std::marker::Model;
 
 /// A list of modules, in which a module is found by one look-up.
-#[derive(Drop)]
+#[derive(Debug, Drop)]
 pub struct IndexedModules {
     /// The modules, in their order, with the index of this one list.
     kept: WithIndex<String, Index>,

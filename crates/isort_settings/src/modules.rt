@@ -7,7 +7,7 @@ use crate::indexed_modules::IndexedModules;
 use crate::standard_library;
 
 /// The modules that a key lists. Only a list that settings give takes memory.
-#[derive(Drop)]
+#[derive(Debug, Drop)]
 pub enum Modules {
     /// The default of `known_standard_library`: the modules that count as the standard library where no setting says
     /// otherwise.

@@ -11,7 +11,7 @@ use std::alloc::{AllocError, Global};
 use std::marker::Model;
 
 /// The lists of the own sections, a list of modules for each.
-#[derive(Drop)]
+#[derive(Debug, Drop)]
 pub struct OwnLists {
     /// The modules of each own section, in their order, with the index of the lists, where they were read from a table.
     kept: WithIndex<Vec<String>, Option<Index>>,

@@ -5,7 +5,7 @@ ghost use Rattle.isort_settings.specs.Reading.{profile_named};
 use crate::error::SettingsError;
 
 /// A profile. `Black` is the only one.
-#[derive(Clone, Copy, PartialEq, Eq)]
+#[derive(Clone, Copy, Debug, PartialEq, Eq)]
 pub enum Profile {
     Black,
 }

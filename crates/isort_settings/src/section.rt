@@ -3,7 +3,7 @@ ghost use Rattle.std.specs.Prelude.{◌≡◌};
 ghost use Rattle.isort_settings.specs.FiveSections.{usual_order, section_number, same_section, section_spelling, section_spelled};
 
 /// A section: one of the five that are always there, or an own one of the settings.
-#[derive(Clone, Copy, PartialEq, Eq)]
+#[derive(Clone, Copy, Debug, PartialEq, Eq)]
 pub enum Section {
     Future,
     Stdlib,

@@ -5,7 +5,7 @@ ghost use Rattle.std.specs.List.{position_or_len};
 use crate::section::Section;
 
 /// Sections in the order in which they are printed. Only an order that settings give takes memory.
-#[derive(Drop)]
+#[derive(Debug, Drop)]
 pub enum SectionOrder {
     /// The five in their usual order.
     Usual,

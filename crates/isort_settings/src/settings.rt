@@ -27,7 +27,7 @@ use std::cmp::Ordering;
 use toml::{Table, Value};
 
 /// Settings: a value for each key of the table `[tool.isort]` except `profile`.
-#[derive(Drop, PartialEq, Eq)]
+#[derive(Debug, Drop, PartialEq, Eq)]
 pub struct Settings {
     /// The longest line in characters, 1 to 10000, before a `from` import is wrapped.
     pub line_length: u32,

@@ -2,7 +2,7 @@
 ghost use Rattle.std.specs.Prelude.{◌≡◌};
 
 /// A list, and the index of the modules in it.
-#[derive(Drop)]
+#[derive(Debug, Drop)]
 pub struct WithIndex<T, I> {
     pub list: Vec<T>,
     pub index: I,

@@ -3,7 +3,7 @@ ghost use Rattle.std.specs.Prelude.{◌≡◌};
 ghost use Rattle.py_imports.specs.ActionComment.{begins_with_word_byte, begins_with_phrase, begins_with_action, says};
 
 /// What a comment can ask of isort (isort documentation, "Action Comments").
-#[derive(Clone, Copy)]
+#[derive(Clone, Copy, Debug, PartialEq, Eq)]
 pub enum ActionComment {
     /// `skip_file`: leave the whole file as it is.
     SkipFile,

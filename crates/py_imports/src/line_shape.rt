@@ -1,7 +1,7 @@
 //! What a logical line is to sorting.
 
 /// Whether a logical line can be put in order with others: what [`shape`](crate::shape) answers.
-#[derive(Clone, Copy, PartialEq, Eq)]
+#[derive(Clone, Copy, Debug, PartialEq, Eq)]
 pub enum Shape {
     /// It can: it is one import statement, and nothing of it is lost where it is written anew.
     Sortable,
