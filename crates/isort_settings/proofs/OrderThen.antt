@@ -1,7 +1,6 @@
 -- An order and then another: the first decides unless it is `Equal`.
 use Rattle.std.proofs.Common.{◌≡◌, Bool, true, false, Ordering, Less, Equal, Greater, refl, sym, ◌∙◌}
-use Rattle.std.specs.Ordering.{is_ne, ordering_then, MatchOrdering}
-use Rattle.std.proofs.lemmas.Cmp.{by_ranked}
+use Rattle.std.specs.Ordering.{is_ne, ordering_then}
 
 -- the first doesn't decide
 pub then-tied : (o p q : Ordering) → o ≡ q → o ≡ Equal → p ≡ ordering_then q p
@@ -26,7 +25,3 @@ pub then-decided_by_test : (o p q : Ordering) (b : Bool) → o ≡ q → b ≡ i
 then-decided_by_test Less p q b e t h = rw (← e) refl
 then-decided_by_test Equal p q b e t h = cc
 then-decided_by_test Greater p q b e t h = rw (← e) refl
-
--- what `then_with` answers, where its closure answers the second order
-pub then_with-second : {B : Type 0} (o r s : Ordering) → MatchOrdering o (r ≡ Less) B (r ≡ Greater) → (B → r ≡ s) → r ≡ ordering_then o s
-then_with-second o r s m h = by_ranked _ _ _ o m (λ e p. rw e p) (λ e p. rw e (h p)) (λ e p. rw e p)
