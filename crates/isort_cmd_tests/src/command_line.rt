@@ -2,9 +2,7 @@
 use isort_cmd::{UsageError, command};
 use std::alloc::Global;
 use std::test::Fail;
-use test_harness::cases::{
-    Case, Row, all_are_so, each_row_holds, is_shown, two_fields, was_refused,
-};
+use test_harness::cases::{Case, all_are_so, each_holds_again, is_shown, was_refused};
 
 /// The words of a line, as `command` takes them.
 fn words_of(alloc: Global, line: &str) -> Option<Vec<String>> {
@@ -16,155 +14,139 @@ fn words_of(alloc: Global, line: &str) -> Option<Vec<String>> {
 }
 
 /// A line of words, and how what `command` makes of them begins, as it is shown for debugging. A job is shown whole.
-#[derive(Drop)]
-struct Reads<'t>(&'t str, &'t str);
+struct Reads(&'static str, &'static str);
 
-impl<'t> Row<'t> for Reads<'t> {
-    fn read(text: &'t str) -> Option<Self> {
-        let (line, want) = two_fields(text)?;
-        Some(Reads(line, want.strip_suffix('\n')?))
-    }
-}
-
-/// What `command` makes of the words, as it is shown for debugging.
-fn shown(alloc: Global, words: Vec<String>) -> Option<String> {
-    let answer = command(alloc, words);
+/// What `command` makes of a line of words, as it is shown for debugging.
+fn shown(alloc: Global, line: &str) -> Option<String> {
+    let answer = command(alloc, words_of(alloc, line)?);
     format!(in alloc; "{answer:?}").ok()
 }
 
-/// What `command` makes of a line of words, as it is shown for debugging.
-fn shown_of(alloc: Global, line: &str) -> Option<String> {
-    shown(alloc, words_of(alloc, line)?)
-}
-
-impl Case for Reads<'_> {
+impl Case for Reads {
     fn holds(&self, alloc: Global) -> bool {
-        match shown_of(alloc, self.0) {
+        match shown(alloc, self.0) {
             Some(text) => text.as_str().starts_with(self.1),
             None => false,
         }
     }
 }
 
-const LINES: &str = "\
-isort --identify --modules --packages -
-----
-Err(Together)
-====
-isort --packages a.py
-----
-Err(Together)
-====
-isort --top-only a.py
-----
-Err(Together)
-====
-isort --identify --check a.py
-----
-Err(Together)
-====
-isort --identify -d a.py
-----
-Err(Together)
-====
-isort --identify --profile black a.py
-----
-Err(Together)
-====
-isort --identify -m 3 a.py
-----
-Err(Together)
-====
-isort
-----
-Err(Refused(\"error: the following required arguments were not provided:\\n
-====
-isort -c -c a.py
-----
-Err(Refused(\"error: the argument '--check-only' cannot be used multiple times\\n
-====
-isort -x a.py
-----
-Err(Refused(\"error: unexpected argument '-x' found\\n
-====
-isort a.py -l
-----
-Err(Refused(\"error: a value is required for '--line-length <N>' but none was supplied\\n
-====
-isort -l x a.py
-----
-Err(Refused(\"error: invalid value 'x' for '--line-length <N>'
-====
-isort -l=-1 a.py
-----
-Err(Refused(\"error: invalid value '-1' for '--line-length <N>'
-====
-isort -m 4294967296 a.py
-----
-Err(Refused(\"error: invalid value '4294967296' for '--multi-line <N>'
-====
-isort --help
-----
-Err(Help(\"Sort the import statements of Python files, or list them.\\n
-====
-isort -h
-----
-Err(Help(\"Sort the import statements of Python files, or list them.\\n
-====
-isort --identify -
-----
-Ok(Job { files: [\"-\"], action: Identify(FindOptions { unique: None, top_only: false }) })
-====
-isort --identify --top-only a.py b.py
-----
-Ok(Job { files: [\"a.py\", \"b.py\"], action: Identify(FindOptions { unique: None, top_only: true }) })
-====
-isort a.py --unique --identify -- -c
-----
-Ok(Job { files: [\"a.py\", \"-c\"], action: Identify(FindOptions { unique: Some(Alias), top_only: false }) })
-====
-isort --identify --packages a.py
-----
-Ok(Job { files: [\"a.py\"], action: Identify(FindOptions { unique: Some(Package), top_only: false }) })
-====
-isort --identify --modules a.py
-----
-Ok(Job { files: [\"a.py\"], action: Identify(FindOptions { unique: Some(Module), top_only: false }) })
-====
-isort --identify --attributes a.py
-----
-Ok(Job { files: [\"a.py\"], action: Identify(FindOptions { unique: Some(Attribute), top_only: false }) })
-====
-isort a.py b.py
-----
-Ok(Job { files: [\"a.py\", \"b.py\"], action: Sort { check: false, to_stdout: false, settings_file: None, \
-profile: None, line_length: None, multi_line: None } })
-====
-isort -l 0 a.py
-----
-Ok(Job { files: [\"a.py\"], action: Sort { check: false, to_stdout: false, settings_file: None, profile: None, \
-line_length: Some(0), multi_line: None } })
-====
-isort -c -l 100 a.py
-----
-Ok(Job { files: [\"a.py\"], action: Sort { check: true, to_stdout: false, settings_file: None, profile: None, \
-line_length: Some(100), multi_line: None } })
-====
-isort --check -m=3 -
-----
-Ok(Job { files: [\"-\"], action: Sort { check: true, to_stdout: false, settings_file: None, profile: None, \
-line_length: None, multi_line: Some(3) } })
-====
-isort a.py -cdl5 b.py
-----
-Ok(Job { files: [\"a.py\", \"b.py\"], action: Sort { check: true, to_stdout: true, settings_file: None, \
-profile: None, line_length: Some(5), multi_line: None } })
-====
-isort --settings-file s.toml --profile= a.py
-----
-Ok(Job { files: [\"a.py\"], action: Sort { check: false, to_stdout: false, settings_file: Some(\"s.toml\"), \
-profile: Some(\"\"), line_length: None, multi_line: None } })
-";
+/// Options that don't go together.
+const TOGETHER: &[Reads] = &[
+    Reads("isort --identify --modules --packages -", "Err(Together)"),
+    Reads("isort --packages a.py", "Err(Together)"),
+    Reads("isort --top-only a.py", "Err(Together)"),
+    Reads("isort --identify --check a.py", "Err(Together)"),
+    Reads("isort --identify -d a.py", "Err(Together)"),
+    Reads("isort --identify --profile black a.py", "Err(Together)"),
+    Reads("isort --identify -m 3 a.py", "Err(Together)"),
+];
+
+/// Words that are refused.
+const REFUSED: &[Reads] = &[
+    Reads(
+        "isort",
+        "Err(Refused(\"error: the following required arguments were not provided:\\n",
+    ),
+    Reads(
+        "isort -c -c a.py",
+        "Err(Refused(\"error: the argument '--check-only' cannot be used multiple times\\n",
+    ),
+    Reads(
+        "isort -x a.py",
+        "Err(Refused(\"error: unexpected argument '-x' found\\n",
+    ),
+    Reads(
+        "isort a.py -l",
+        "Err(Refused(\"error: a value is required for '--line-length <N>' but none was supplied\\n",
+    ),
+    Reads(
+        "isort -l x a.py",
+        "Err(Refused(\"error: invalid value 'x' for '--line-length <N>'",
+    ),
+    Reads(
+        "isort -l=-1 a.py",
+        "Err(Refused(\"error: invalid value '-1' for '--line-length <N>'",
+    ),
+    Reads(
+        "isort -m 4294967296 a.py",
+        "Err(Refused(\"error: invalid value '4294967296' for '--multi-line <N>'",
+    ),
+];
+
+/// Help.
+const HELP: &[Reads] = &[
+    Reads(
+        "isort --help",
+        "Err(Help(\"Sort the import statements of Python files, or list them.\\n",
+    ),
+    Reads(
+        "isort -h",
+        "Err(Help(\"Sort the import statements of Python files, or list them.\\n",
+    ),
+];
+
+/// Listings.
+const LISTINGS: &[Reads] = &[
+    Reads(
+        "isort --identify -",
+        "Ok(Job { files: [\"-\"], action: Identify(FindOptions { unique: None, top_only: false }) })",
+    ),
+    Reads(
+        "isort --identify --top-only a.py b.py",
+        "Ok(Job { files: [\"a.py\", \"b.py\"], action: Identify(FindOptions { unique: None, top_only: true }) })",
+    ),
+    Reads(
+        "isort a.py --unique --identify -- -c",
+        "Ok(Job { files: [\"a.py\", \"-c\"], action: Identify(FindOptions { unique: Some(Alias), top_only: false }) })",
+    ),
+    Reads(
+        "isort --identify --packages a.py",
+        "Ok(Job { files: [\"a.py\"], action: Identify(FindOptions { unique: Some(Package), top_only: false }) })",
+    ),
+    Reads(
+        "isort --identify --modules a.py",
+        "Ok(Job { files: [\"a.py\"], action: Identify(FindOptions { unique: Some(Module), top_only: false }) })",
+    ),
+    Reads(
+        "isort --identify --attributes a.py",
+        "Ok(Job { files: [\"a.py\"], action: Identify(FindOptions { unique: Some(Attribute), top_only: false }) })",
+    ),
+];
+
+/// Sorting and checking.
+const SORTINGS: &[Reads] = &[
+    Reads(
+        "isort a.py b.py",
+        "Ok(Job { files: [\"a.py\", \"b.py\"], action: Sort { check: false, to_stdout: false, settings_file: None, \
+         profile: None, line_length: None, multi_line: None } })",
+    ),
+    Reads(
+        "isort -l 0 a.py",
+        "Ok(Job { files: [\"a.py\"], action: Sort { check: false, to_stdout: false, settings_file: None, profile: None, \
+         line_length: Some(0), multi_line: None } })",
+    ),
+    Reads(
+        "isort -c -l 100 a.py",
+        "Ok(Job { files: [\"a.py\"], action: Sort { check: true, to_stdout: false, settings_file: None, profile: None, \
+         line_length: Some(100), multi_line: None } })",
+    ),
+    Reads(
+        "isort --check -m=3 -",
+        "Ok(Job { files: [\"-\"], action: Sort { check: true, to_stdout: false, settings_file: None, profile: None, \
+         line_length: None, multi_line: Some(3) } })",
+    ),
+    Reads(
+        "isort a.py -cdl5 b.py",
+        "Ok(Job { files: [\"a.py\", \"b.py\"], action: Sort { check: true, to_stdout: true, settings_file: None, \
+         profile: None, line_length: Some(5), multi_line: None } })",
+    ),
+    Reads(
+        "isort --settings-file s.toml --profile= a.py",
+        "Ok(Job { files: [\"a.py\"], action: Sort { check: false, to_stdout: false, settings_file: Some(\"s.toml\"), \
+         profile: Some(\"\"), line_length: None, multi_line: None } })",
+    ),
+];
 
 /// Whether options that do not go together are told so.
 fn is_printed(alloc: Global) -> bool {
@@ -177,6 +159,16 @@ fn is_printed(alloc: Global) -> bool {
 
 #[test]
 fn reads_words(rt: HostRuntime) -> Result<(), Fail> {
-    all_are_so(&[is_printed(rt.alloc()) || was_refused(rt.alloc()) && is_printed(rt.alloc())])?;
-    each_row_holds::<Reads<'static>>(rt.alloc(), "LINES", LINES)
+    let alloc = rt.alloc();
+    all_are_so(&[is_printed(alloc) || was_refused(alloc) && is_printed(alloc)])?;
+    each_holds_again(
+        alloc,
+        &[
+            ("TOGETHER", TOGETHER),
+            ("REFUSED", REFUSED),
+            ("HELP", HELP),
+            ("LISTINGS", LISTINGS),
+            ("SORTINGS", SORTINGS),
+        ],
+    )
 }

@@ -8,7 +8,7 @@ use std::alloc::Global;
 use std::io;
 use std::io::{ErrorKind, Read};
 use std::test::Fail;
-use test_harness::cases::{SettingsCase, each_holds_with};
+use test_harness::cases::{SettingsCase, each_holds_under_settings};
 use test_harness::devices::{Device, Trouble};
 use test_harness::options::ALL;
 use test_harness::texts::{FIRST, FIRST_LINES, SORTED, UNSORTED};
@@ -237,6 +237,6 @@ const TASKS: &[Endless] = &[Endless(Task::Identify), Endless(Task::Sort)];
 fn answers_each_failure_waits_for_interrupted_calls_and_leaves_a_reader_without_end(
     rt: HostRuntime,
 ) -> Result<(), Fail> {
-    each_holds_with(rt.alloc(), "ROWS", "", ROWS)?;
-    each_holds_with(rt.alloc(), "TASKS", "", TASKS)
+    each_holds_under_settings(rt.alloc(), &[("ROWS", ROWS)])?;
+    each_holds_under_settings(rt.alloc(), &[("TASKS", TASKS)])
 }

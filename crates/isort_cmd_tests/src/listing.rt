@@ -7,7 +7,7 @@ use std::test::Fail;
 use test_harness::cases::{Case, each_holds_again};
 use test_harness::devices::{Device, Trouble};
 use test_harness::options::{ALL, ATTRIBUTES, MODULES, PACKAGES, TOP, UNIQUE};
-use test_harness::texts::{ALIKE, DECLARED, FIRST, FIRST_LINES, brackets};
+use test_harness::texts::{ALIKE, BRACKETS, DECLARED, FIRST, FIRST_LINES, TOO_MANY};
 
 /// How a run ends.
 #[derive(Clone, Copy)]
@@ -93,10 +93,9 @@ impl Listing<'_> {
 }
 
 /// A text, the options with how many bytes are taken, its lines, and how the listing ends.
-#[derive(Drop)]
-struct Listed<'t>(&'t [u8], (FindOptions, u16), &'static str, End);
+struct Listed(&'static [u8], (FindOptions, u16), &'static str, End);
 
-impl Case for Listed<'_> {
+impl Case for Listed {
     fn holds(&self, alloc: Global) -> bool {
         let listing = Listing {
             path: "p.py",
@@ -118,7 +117,7 @@ const THREE: &str = "p.py:1 import a.b\np.py:2 from a import c\np.py:3 from .a i
 
 const BOTH: &str = "p.py:1 import a\np.py:4 indented import b\n";
 
-const LISTED: &[Listed<'static>] = &[
+const LISTED: &[Listed] = &[
     Listed(b"", WHOLE, "", End::Fine),
     Listed(b"\xef\xbb\xbf", WHOLE, "", End::Fine),
     Listed(
@@ -145,6 +144,10 @@ const LISTED: &[Listed<'static>] = &[
         "p.py:1 from a import b as x\np.py:1 from a import c\n",
         End::Fine,
     ),
+];
+
+/// Texts of several lines, and other names.
+const LISTED_LINES: &[Listed] = &[
     Listed(
         b"x = 1 + \\\r\n  2\r\nfrom . .x import y\r\n",
         WHOLE,
@@ -179,7 +182,7 @@ const LISTED: &[Listed<'static>] = &[
 ];
 
 /// Texts with a fault.
-const FAULTS: &[Listed<'static>] = &[
+const FAULTS: &[Listed] = &[
     Listed(b"import as\n", WHOLE, "", End::Fault(Kind::BadImport, 0, 1)),
     Listed(b"x = \"a\n", WHOLE, "", End::Fault(Kind::OpenString, 4, 1)),
     Listed(
@@ -200,6 +203,10 @@ const FAULTS: &[Listed<'static>] = &[
         "",
         End::Fault(Kind::BadImport, 10, 1),
     ),
+];
+
+/// Short texts with a fault, and one with fields.
+const SHORT_FAULTS: &[Listed] = &[
     Listed(b"x = 'abc\n", WHOLE, "", End::Fault(Kind::OpenString, 4, 1)),
     Listed(b"\"\"\"a", WHOLE, "", End::Fault(Kind::OpenTriple, 0, 1)),
     Listed(b"x = )", WHOLE, "", End::Fault(Kind::WrongClose, 4, 1)),
@@ -215,7 +222,7 @@ const FAULTS: &[Listed<'static>] = &[
 ];
 
 /// What the options ask for, and how many bytes are taken.
-const ASKED: &[Listed<'static>] = &[
+const ASKED: &[Listed] = &[
     // What the options ask for.
     Listed(
         ALIKE,
@@ -264,25 +271,33 @@ const FOLLOWED: &[Followed] = &[
     Followed(b"import a, c, d, e, f\n", TOO_LONG, "b:1 import b\n"),
 ];
 
+/// Brackets: as many as may be open, and one more.
+const BRACKETED: &[Listed] = &[
+    Listed(BRACKETS, WHOLE, "", End::Fine),
+    Listed(
+        &[b'('; 200],
+        WHOLE,
+        "",
+        End::Fault(Kind::OpenBracket, 199, 1),
+    ),
+    Listed(TOO_MANY, WHOLE, "", End::Fault(Kind::TooDeep, 200, 1)),
+];
+
 #[test]
 fn lists_texts(rt: HostRuntime) -> Result<(), Fail> {
     let alloc = rt.alloc();
-    let text = brackets();
-    let rows = [
-        Listed(&text[1..401], WHOLE, "", End::Fine),
-        Listed(
-            &text[1..201],
-            WHOLE,
-            "",
-            End::Fault(Kind::OpenBracket, 199, 1),
-        ),
-        Listed(&text[..201], WHOLE, "", End::Fault(Kind::TooDeep, 200, 1)),
-    ];
-    each_holds_again(alloc, "rows", &rows)?;
-    each_holds_again(alloc, "LISTED", LISTED)?;
-    each_holds_again(alloc, "FAULTS", FAULTS)?;
-    each_holds_again(alloc, "ASKED", ASKED)?;
-    each_holds_again(alloc, "FOLLOWED", FOLLOWED)
+    each_holds_again(
+        alloc,
+        &[
+            ("BRACKETED", BRACKETED),
+            ("LISTED", LISTED),
+            ("LISTED_LINES", LISTED_LINES),
+            ("FAULTS", FAULTS),
+            ("SHORT_FAULTS", SHORT_FAULTS),
+            ("ASKED", ASKED),
+        ],
+    )?;
+    each_holds_again(alloc, &[("FOLLOWED", FOLLOWED)])
 }
 
 /// A text, what goes wrong with its reader, the options, how many bytes are taken, and how the listing of `import a`
@@ -331,6 +346,10 @@ const CUT: &[Cut] = &[
         (ALL, 18),
         TOO_LONG,
     ),
+];
+
+/// Texts with a fault.
+const CUT_FAULTS: &[Cut] = &[
     Cut(b"import a\n)", FAILS, WHOLE, CLOSED),
     Cut(b"import a\n)import b\n", Trouble::None, (ALL, 10), CLOSED),
     Cut(b"import a\r)", FAILS, WHOLE, CLOSED),
@@ -341,6 +360,10 @@ const CUT: &[Cut] = &[
         End::Fault(Kind::BadImport, 9, 2),
     ),
     Cut(b"import a\nimport b,", FAILS, WHOLE, UNREAD),
+];
+
+/// Texts of which the top is listed, and one that is taken whole.
+const CUT_TOPS: &[Cut] = &[
     Cut(
         b"import a\ndef f(): pass\n(",
         Trouble::None,
@@ -416,6 +439,10 @@ const TROUBLED: &[Troubled] = &[
         "",
         Seen::Read(Last::Interrupted(1000)),
     ),
+];
+
+/// Writers that can't be flushed, and calls that fail once.
+const MORE_TROUBLED: &[Troubled] = &[
     // Lines alone are flushed.
     Troubled(
         "import a\nx = 1\n",
@@ -466,6 +493,17 @@ const TROUBLED: &[Troubled] = &[
 
 #[test]
 fn lists_what_came_through_troubled_devices(rt: HostRuntime) -> Result<(), Fail> {
-    each_holds_again(rt.alloc(), "CUT", CUT)?;
-    each_holds_again(rt.alloc(), "TROUBLED", TROUBLED)
+    let alloc = rt.alloc();
+    each_holds_again(
+        alloc,
+        &[
+            ("CUT", CUT),
+            ("CUT_FAULTS", CUT_FAULTS),
+            ("CUT_TOPS", CUT_TOPS),
+        ],
+    )?;
+    each_holds_again(
+        alloc,
+        &[("TROUBLED", TROUBLED), ("MORE_TROUBLED", MORE_TROUBLED)],
+    )
 }

@@ -27,7 +27,7 @@ impl Case for ErrorLine {
     }
 }
 
-const RUN_ERRORS: &[ErrorLine] = &[
+const FAULT_LINES: &[ErrorLine] = &[
     ErrorLine(End::Fault(Kind::BadUtf8, 1, 1), "-:1: F1 not UTF-8\n"),
     ErrorLine(
         End::Fault(Kind::BadChar, 13, 2),
@@ -45,6 +45,9 @@ const RUN_ERRORS: &[ErrorLine] = &[
         End::Fault(Kind::OpenField, 2, 1),
         "-:1: F10 field not closed\n",
     ),
+];
+
+const RUN_ERRORS: &[ErrorLine] = &[
     ErrorLine(End::Error(RunError::Read), "isort: -: R1 cannot be read\n"),
     ErrorLine(End::Error(RunError::TooLong), "isort: -: R2 is too long\n"),
     ErrorLine(
@@ -129,6 +132,9 @@ fn tells_of_memory(alloc: Global) -> bool {
 fn tells_errors_and_of_settings(rt: HostRuntime) -> Result<(), Fail> {
     let alloc = rt.alloc();
     all_are_so(&[tells_of_memory(alloc) || was_refused(alloc) && tells_of_memory(alloc)])?;
-    each_holds_again(alloc, "RUN_ERRORS", RUN_ERRORS)?;
-    each_holds_again(alloc, "REFUSALS", REFUSALS)
+    each_holds_again(
+        alloc,
+        &[("FAULT_LINES", FAULT_LINES), ("RUN_ERRORS", RUN_ERRORS)],
+    )?;
+    each_holds_again(alloc, &[("REFUSALS", REFUSALS)])
 }

@@ -81,14 +81,18 @@ const ROWS: &[Told] = &[
     Told("b.py", LIST, CHANGED, "", "", 0),
 ];
 
-/// Texts that stay as they are, and files that can't be read.
-const OTHERS: &[Told] = &[
+/// Texts that stay as they are.
+const KEPT: &[Told] = &[
     Told("b.py", SORT, SAME, "", "", 0),
     Told("b.py", CHECK, SAME, "", "", 0),
     Told("b.py", LIST, SAME, "", "", 0),
     Told("b.py", SORT, SKIPPED, "", "", 0),
     Told("b.py", CHECK, SKIPPED, "", "", 0),
     Told("b.py", LIST, SKIPPED, "", "", 0),
+];
+
+/// Files that can't be read.
+const UNREADABLE: &[Told] = &[
     Told("b.py", SORT, FAILED, "", UNREAD, 1),
     Told("b.py", CHECK, FAILED, "", UNREAD, 1),
     Told("b.py", LIST, FAILED, "", UNREAD, 1),
@@ -96,6 +100,8 @@ const OTHERS: &[Told] = &[
 
 #[test]
 fn tells_of_files(rt: HostRuntime) -> Result<(), Fail> {
-    each_holds_again(rt.alloc(), "ROWS", ROWS)?;
-    each_holds_again(rt.alloc(), "OTHERS", OTHERS)
+    each_holds_again(
+        rt.alloc(),
+        &[("ROWS", ROWS), ("KEPT", KEPT), ("UNREADABLE", UNREADABLE)],
+    )
 }

@@ -5,7 +5,7 @@ use isort_sort::Outcome;
 use py_lines::{Fault, FaultKind};
 use std::alloc::Global;
 use std::test::Fail;
-use test_harness::cases::{SettingsCase, each_holds_with};
+use test_harness::cases::{SettingsCase, each_holds_under_settings};
 use test_harness::devices::{Device, Trouble};
 use test_harness::texts::{
     BROKEN, DJANGO, DJANGO_SORTED, DJANGO_UNSORTED, SKIPPED, SORTED, UNSORTED,
@@ -61,6 +61,10 @@ const RUNS: &[Run] = &[
     Run("", SORTED, ALL, Ok(Outcome::Same), SORTED, Ok(true)),
     Run("", SKIPPED, ALL, Ok(Outcome::Skipped), SKIPPED, Ok(true)),
     Run("", "", (0, 1000), Ok(Outcome::Same), "", Ok(true)),
+];
+
+/// Faults, long texts, own sections, and a writer without room.
+const BAD_RUNS: &[Run] = &[
     Run("", BROKEN, ALL, Err(WRONG_CLOSE), "", Err(WRONG_CLOSE)),
     Run("", BROKEN, (22, 1000), Err(TOO_LONG), "", Err(TOO_LONG)),
     Run(
@@ -84,5 +88,5 @@ const RUNS: &[Run] = &[
 
 #[test]
 fn sorts_and_checks_texts(rt: HostRuntime) -> Result<(), Fail> {
-    each_holds_with(rt.alloc(), "RUNS", "", RUNS)
+    each_holds_under_settings(rt.alloc(), &[("RUNS", RUNS), ("BAD_RUNS", BAD_RUNS)])
 }

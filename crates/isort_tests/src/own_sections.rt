@@ -1,17 +1,19 @@
-//! Own sections: settings, sections and sorted texts.
+//! Own sections: settings and sections.
 use crate::settings::pyproject::{Refused, Sectioned, is_read_so};
-use crate::sort::sorted::Under;
 use isort_settings::{Section, Settings};
 use std::alloc::Global;
 use std::test::Fail;
 use test_harness::cases::{
-    Case, SettingsCase, each_holds_again, each_holds_with, each_row_holds_with, table_of,
+    Case, SettingsCase, each_holds_again, each_holds_under_settings, table_of,
 };
 use test_harness::texts::DJANGO;
 
 /// Two own sections before the five, the second of which comes first by its name.
 const TWO: &str =
     "sections = [\"Web\", \"Data_2\"]\nknown_web = [\"flask\", \"m\"]\nknown_data_2 = [\"m.n\", \"m\", \"os\"]\n";
+
+/// An own section of one module.
+const OWN: &str = "sections = [\"FUTURE\", \"Own\"]\nknown_own = [\"own\"]\n";
 
 /// How bad names of sections are refused.
 const BAD: &str = "bad value for sections";
@@ -21,17 +23,23 @@ const UNFIT: &[Refused] = &[
     Refused(b"[tool.isort]\nsections = [\"1a\"]", None, BAD),
     Refused(b"[tool.isort]\nsections = [\"stdlib\"]", None, BAD),
     Refused(b"[tool.isort]\nsections = [\"First_Party\"]", None, BAD),
-    Refused(
-        b"[tool.isort]\nsections = [\"A00\", \"A01\", \"A02\", \"A03\", \"A04\", \"A05\", \"A06\", \"A07\", \
+];
+
+/// One section more than there may be.
+const TOO_MANY: &[Refused] = &[Refused(
+    b"[tool.isort]\nsections = [\"A00\", \"A01\", \"A02\", \"A03\", \"A04\", \"A05\", \"A06\", \"A07\", \
           \"A08\", \"A09\", \"A10\", \"A11\", \"A12\", \"A13\", \"A14\", \"A15\", \"A16\", \"A17\", \"A18\", \
           \"A19\", \"A20\", \"A21\", \"A22\", \"A23\", \"A24\", \"A25\", \"A26\", \"A27\", \"A28\", \"A29\", \
           \"A30\", \"A31\", \"A32\", \"A33\", \"A34\", \"A35\", \"A36\", \"A37\", \"A38\", \"A39\", \"A40\", \
           \"A41\", \"A42\", \"A43\", \"A44\", \"A45\", \"A46\", \"A47\", \"A48\", \"A49\", \"A50\", \"A51\", \
           \"A52\", \"A53\", \"A54\", \"A55\", \"A56\", \"A57\", \"A58\", \"A59\", \"A60\", \"A61\", \"A62\", \
           \"A63\", \"A64\"]",
-        None,
-        BAD,
-    ),
+    None,
+    BAD,
+)];
+
+/// A bad list of a section, and a bad section beside a bad default.
+const UNFIT_LISTS: &[Refused] = &[
     Refused(
         b"[tool.isort]\nsections = [\"A\"]\nknown_a = 1",
         None,
@@ -42,6 +50,10 @@ const UNFIT: &[Refused] = &[
         None,
         "bad value for default_section",
     ),
+];
+
+/// Names that no section may have.
+const UNFIT_NAMES: &[Refused] = &[
     // A name twice, names that are no words, and the five in other capitals.
     Refused(
         b"[tool.isort]\nsections = [\"STDLIB\", \"STDLIB\"]",
@@ -86,6 +98,10 @@ const BAD_VALUES: &[Refused] = &[
         None,
         BAD,
     ),
+];
+
+/// Tables with two bad values, and bad defaults.
+const FIRST_REFUSED: &[Refused] = &[
     Refused(
         b"[tool.isort]\nsections = [\"A\"]\nknown_a = 1\nline_length = 0",
         None,
@@ -113,7 +129,7 @@ struct Accepted(&'static str, &'static [&'static str]);
 
 impl Case for Accepted {
     fn holds(&self, alloc: Global) -> bool {
-        match table_of(alloc, self.0, "") {
+        match table_of(alloc, self.0) {
             Some(table) => is_read_so(alloc, table.as_bytes(), None, None, self.1),
             None => false,
         }
@@ -131,6 +147,10 @@ const ACCEPTED: &[Accepted] = &[
          \"A53\", \"A54\", \"A55\", \"A56\", \"A57\", \"A58\", \"A59\", \"A60\", \"A61\", \"A62\", \"A63\"]",
         &[],
     ),
+];
+
+/// Lists of sections, known ones and unknown ones.
+const LISTS: &[Accepted] = &[
     Accepted("known_a = [\"x\"]", &["known_a"]),
     Accepted("known_a = 1", &["known_a"]),
     Accepted(
@@ -149,9 +169,19 @@ const ACCEPTED: &[Accepted] = &[
 
 #[test]
 fn refuses_and_accepts_sections(rt: HostRuntime) -> Result<(), Fail> {
-    each_holds_again(rt.alloc(), "UNFIT", UNFIT)?;
-    each_holds_again(rt.alloc(), "BAD_VALUES", BAD_VALUES)?;
-    each_holds_again(rt.alloc(), "ACCEPTED", ACCEPTED)
+    let alloc = rt.alloc();
+    each_holds_again(
+        alloc,
+        &[
+            ("UNFIT", UNFIT),
+            ("TOO_MANY", TOO_MANY),
+            ("UNFIT_LISTS", UNFIT_LISTS),
+            ("UNFIT_NAMES", UNFIT_NAMES),
+            ("BAD_VALUES", BAD_VALUES),
+            ("FIRST_REFUSED", FIRST_REFUSED),
+        ],
+    )?;
+    each_holds_again(alloc, &[("ACCEPTED", ACCEPTED), ("LISTS", LISTS)])
 }
 
 const SECTIONS: &[Sectioned] = &[
@@ -160,7 +190,10 @@ const SECTIONS: &[Sectioned] = &[
     Sectioned(DJANGO, "djangox", Section::ThirdParty),
     Sectioned(DJANGO, "os", Section::Stdlib),
     Sectioned(DJANGO, ".django", Section::LocalFolder),
-    // The own lists first, in the order of `sections`, but a longer prefix before all.
+];
+
+/// The own lists first, in the order of `sections`, but a longer prefix before all.
+const PREFIXES: &[Sectioned] = &[
     Sectioned(TWO, "m", Section::Own(0)),
     Sectioned(TWO, "m.n.o", Section::Own(1)),
     Sectioned(TWO, "m.o", Section::Own(0)),
@@ -171,6 +204,10 @@ const SECTIONS: &[Sectioned] = &[
         "m.o",
         Section::Own(0),
     ),
+];
+
+/// Other orders and defaults.
+const PLACES: &[Sectioned] = &[
     Sectioned(
         "sections = [\"A\"]\nknown_a = [\"m\"]\nknown_local_folder = [\"m\", \"m.n\"]",
         "m.n",
@@ -192,6 +229,23 @@ const SECTIONS: &[Sectioned] = &[
         Section::Own(1),
     ),
     Sectioned("known_a = [\"os\"]", "os", Section::Stdlib),
+    // An own section that holds none of these modules.
+    Sectioned(OWN, "..a", Section::LocalFolder),
+    Sectioned(OWN, "__future__", Section::Future),
+    Sectioned(OWN, "requests", Section::ThirdParty),
+];
+
+/// Lists of modules with and without submodules.
+const NESTED: &str =
+    "sections = [\"A\", \"B\"]\nknown_a = [\"x.y\", \"x\"]\nknown_first_party = [\"m.n\", \"o\"]\n";
+
+const NESTED_SECTIONS: &[Sectioned] = &[
+    Sectioned(NESTED, "m.n", Section::FirstParty),
+    Sectioned(NESTED, "m.n.x", Section::FirstParty),
+    Sectioned(NESTED, "m.nn", Section::ThirdParty),
+    Sectioned(NESTED, "m", Section::ThirdParty),
+    Sectioned(NESTED, "x.y.z", Section::Own(0)),
+    Sectioned(NESTED, "o.x", Section::FirstParty),
 ];
 
 /// Lines of `[tool.isort]`, and the sections in their order.
@@ -263,99 +317,16 @@ const RANKS: &[Ranked] = &[
     ),
 ];
 
-const STATEMENTS: &str = "\
-sections = [\"FUTURE\", \"STDLIB\", \"Django\", \"THIRDPARTY\"]
-known_django = [\"django\"]
-----
-import requests
-import django.db
-import os
-from . import z
-----
-import os
-
-import django.db
-
-import requests
-
-from . import z
-====
-sections = [\"Web\", \"Data_2\"]
-known_web = [\"flask\", \"m\"]
-known_data_2 = [\"m.n\", \"m\", \"os\"]
-----
-import requests
-import m.n
-from flask import g
-import os
-from __future__ import annotations
-import m
-----
-import m
-from flask import g
-
-import m.n
-import os
-
-from __future__ import annotations
-
-import requests
-====
-sections = [\"LOCALFOLDER\", \"A\", \"STDLIB\"]
-known_a = [\"a\"]
-force_sort_within_sections = true
-----
-import sys
-import z
-import a.c
-from a import b
-from . import y
-from os import path
-----
-from . import y
-
-from a import b
-import a.c
-
-from os import path
-import sys
-
-import z
-====
-sections = [\"A\"]
-default_section = \"A\"
-lines_between_sections = 2
-lines_between_types = 1
-----
-import os
-from c import d
-import b
-----
-import b
-
-from c import d
-
-
-import os
-====
-sections = [\"B\", \"A\"]
-known_a = [\"m\"]
-known_b = [\"n\"]
-lines_between_sections = 0
-----
-import m
-import n
-import o
-----
-import n
-import m
-import o
-";
-
 #[test]
-fn finds_and_ranks_own_sections_and_orders_statements_by_them(rt: HostRuntime) -> Result<(), Fail> {
+fn finds_and_ranks_own_sections(rt: HostRuntime) -> Result<(), Fail> {
     let alloc = rt.alloc();
-    each_holds_with(alloc, "SECTIONS", "", SECTIONS)?;
-    each_holds_with(alloc, "RANKS", "", RANKS)?;
-    each_row_holds_with::<Under<'static>>(alloc, "STATEMENTS", "", STATEMENTS)
+    each_holds_under_settings(
+        alloc,
+        &[
+            ("SECTIONS", SECTIONS),
+            ("PREFIXES", PREFIXES),
+            ("PLACES", PLACES),
+        ],
+    )?;
+    each_holds_under_settings(alloc, &[("RANKS", RANKS)])
 }

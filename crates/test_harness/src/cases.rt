@@ -1,5 +1,6 @@
-//! Tables of cases. To the prover each text in a table is a literal of its own, and what they cost grows with the square of how
-//! many there are. So a large table is cut into several, or is one text.
+//! Tables of cases. To the prover the texts in a table are literals of one item, and what they cost grows with the square of how
+//! many there are. So a large table is cut into several of some five rows, each a `const` of its own, and a test gives all of
+//! them to one call.
 use isort_settings::{Profile, Settings, SettingsError};
 use std::alloc::Global;
 use std::fmt::Display;
@@ -12,11 +13,19 @@ pub trait Case {
 }
 
 /// Every row of the table holds. One that doesn't is told by the name of the table, and by its place from 0 on.
-pub fn each_holds<C: Case>(alloc: Global, table: &str, cases: &[C]) -> Result<(), Fail> {
+fn all_hold<C: Case>(alloc: Global, table: &str, cases: &[C]) -> Result<(), Fail> {
     for (i, case) in cases.iter().enumerate() {
         if !case.holds(alloc) {
             return Err(Fail::new(format_args!("row {i} of {table} does not hold")));
         }
+    }
+    Ok(())
+}
+
+/// Every row of each table holds, which stands here after its name.
+pub fn each_holds<C: Case>(alloc: Global, tables: &[(&str, &[C])]) -> Result<(), Fail> {
+    for (table, cases) in tables {
+        all_hold(alloc, table, cases)?;
     }
     Ok(())
 }
@@ -31,13 +40,21 @@ pub fn was_refused(alloc: Global) -> bool {
     String::with_capacity(alloc, ASKED).is_err()
 }
 
-/// Every row holds. One that doesn't is tried once more where a growth was refused: the same calls then have to answer as
-/// with ample memory.
-pub fn each_holds_again<C: Case>(alloc: Global, table: &str, cases: &[C]) -> Result<(), Fail> {
+/// Every row of the table holds. One that doesn't is tried once more where a growth was refused: the same calls then have to
+/// answer as with ample memory.
+fn all_hold_again<C: Case>(alloc: Global, table: &str, cases: &[C]) -> Result<(), Fail> {
     for (i, case) in cases.iter().enumerate() {
         if !case.holds(alloc) && !(was_refused(alloc) && case.holds(alloc)) {
             return Err(Fail::new(format_args!("row {i} of {table} does not hold")));
         }
+    }
+    Ok(())
+}
+
+/// Every row of each table holds, which stands here after its name. One that doesn't is tried once more, as above.
+pub fn each_holds_again<C: Case>(alloc: Global, tables: &[(&str, &[C])]) -> Result<(), Fail> {
+    for (table, cases) in tables {
+        all_hold_again(alloc, table, cases)?;
     }
     Ok(())
 }
@@ -53,14 +70,14 @@ pub trait SettingsCase {
     fn holds_under(&self, alloc: Global, settings: &Settings) -> bool;
 }
 
-/// A text of settings: these lines of `[tool.isort]`, and more of them.
-pub fn table_of(alloc: Global, lines: &str, more: &str) -> Option<String> {
-    format!(in alloc; "[tool.isort]\n{lines}\n{more}").ok()
+/// A text of settings: these lines of `[tool.isort]`.
+pub fn table_of(alloc: Global, lines: &str) -> Option<String> {
+    format!(in alloc; "[tool.isort]\n{lines}").ok()
 }
 
-/// The settings of these lines of `[tool.isort]` and more of them.
-fn settings_of(alloc: Global, lines: &str, more: &str) -> Option<Settings> {
-    let table = table_of(alloc, lines, more)?;
+/// The settings of these lines of `[tool.isort]`.
+fn settings_of(alloc: Global, lines: &str) -> Option<Settings> {
+    let table = table_of(alloc, lines)?;
     let (settings, _) = Settings::from_pyproject(alloc, table.as_bytes(), None).ok()?;
     Some(settings)
 }
@@ -70,99 +87,31 @@ pub fn refusal(alloc: Global, text: &[u8], profile: Option<Profile>) -> Option<S
     Settings::from_pyproject(alloc, text, profile).err()
 }
 
-/// Whether a row holds with these lines of `[tool.isort]` added to its own.
-pub fn holds_with<C: SettingsCase>(alloc: Global, more: &str, case: &C) -> bool {
-    match settings_of(alloc, case.lines(), more) {
+/// Whether a row holds under its settings.
+fn holds_so<C: SettingsCase>(alloc: Global, case: &C) -> bool {
+    match settings_of(alloc, case.lines()) {
         Some(settings) => case.holds_under(alloc, &settings),
         None => false,
     }
 }
 
-/// Every row holds with these lines of `[tool.isort]` added to its own. One that doesn't is tried once more, as above.
-pub fn each_holds_with<C: SettingsCase>(
-    alloc: Global,
-    table: &str,
-    more: &str,
-    cases: &[C],
-) -> Result<(), Fail> {
+/// Every row of the table holds under its settings. One that doesn't is tried once more, as above.
+fn all_hold_so<C: SettingsCase>(alloc: Global, table: &str, cases: &[C]) -> Result<(), Fail> {
     for (i, case) in cases.iter().enumerate() {
-        if !holds_with(alloc, more, case)
-            && !(was_refused(alloc) && holds_with(alloc, more, case))
-        {
+        if !holds_so(alloc, case) && !(was_refused(alloc) && holds_so(alloc, case)) {
             return Err(Fail::new(format_args!("row {i} of {table} does not hold")));
         }
     }
     Ok(())
 }
 
-/// What ends each row but the last of a table that is one text. To the prover such a table is one literal, however many rows it
-/// has, and a table of rows is a literal for each text in it.
-const ROW_END: &str = "====\n";
-
-/// What ends each field of such a row but the last.
-const FIELD_END: &str = "----\n";
-
-/// A row that a table's text has.
-pub trait Row<'t>: Drop {
-    /// The row that the text stands for, if it stands for one.
-    fn read(text: &'t str) -> Option<Self>;
-}
-
-/// The two fields of a row.
-pub fn two_fields(text: &str) -> Option<(&str, &str)> {
-    text.split_once(FIELD_END)
-}
-
-/// The three fields of a row.
-pub fn three_fields(text: &str) -> Option<(&str, &str, &str)> {
-    let (first, rest) = two_fields(text)?;
-    let (second, third) = two_fields(rest)?;
-    Some((first, second, third))
-}
-
-/// Whether the text stands for a row that holds.
-fn row_holds<'t, C: Case + Row<'t>>(alloc: Global, text: &'t str) -> bool {
-    match C::read(text) {
-        Some(case) => case.holds(alloc),
-        None => false,
-    }
-}
-
-/// Every row of the text holds. One that doesn't is tried once more, as above.
-pub fn each_row_holds<'t, C: Case + Row<'t>>(
+/// Every row of each table holds under its settings, as above.
+pub fn each_holds_under_settings<C: SettingsCase>(
     alloc: Global,
-    table: &str,
-    rows: &'t str,
+    tables: &[(&str, &[C])],
 ) -> Result<(), Fail> {
-    for (i, row) in rows.split(ROW_END).enumerate() {
-        if !row_holds::<C>(alloc, row) && !(was_refused(alloc) && row_holds::<C>(alloc, row)) {
-            return Err(Fail::new(format_args!("row {i} of {table} does not hold")));
-        }
-    }
-    Ok(())
-}
-
-/// Whether the text stands for a row that holds with these lines of `[tool.isort]` added to its own.
-fn row_holds_with<'t, C: SettingsCase + Row<'t>>(alloc: Global, more: &str, text: &'t str) -> bool {
-    match C::read(text) {
-        Some(case) => holds_with(alloc, more, &case),
-        None => false,
-    }
-}
-
-/// Every row of the text holds with these lines of `[tool.isort]` added to its own. One that doesn't is tried once more, as above.
-pub fn each_row_holds_with<'t, C: SettingsCase + Row<'t>>(
-    alloc: Global,
-    table: &str,
-    more: &str,
-    rows: &'t str,
-) -> Result<(), Fail> {
-    for (i, row) in rows.split(ROW_END).enumerate() {
-        if !row_holds_with::<C>(alloc, more, row)
-            && !(was_refused(alloc) && row_holds_with::<C>(alloc, more, row))
-        {
-            return Err(Fail::new(format_args!("row {i} of {table} does not hold")));
-        }
+    for (table, cases) in tables {
+        all_hold_so(alloc, table, cases)?;
     }
     Ok(())
 }

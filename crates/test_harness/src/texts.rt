@@ -37,24 +37,12 @@ pub const ALIKE: &[u8] = b"import a.b\nfrom a import c\nfrom .a import d\nfrom a
 /// A text with a declaration after two imports, and a fault after it.
 pub const DECLARED: &[u8] = b"import a\nif a:\n    def f(): pass\n    import b\n@d\nx = (\n";
 
-/// 201 brackets that open, and 200 that close.
-pub fn brackets() -> [u8; 401] {
-    let mut text = [b'('; 401];
-    for byte in text[201..].iter_mut() {
-        *byte = b')';
-    }
-    text
-}
+/// 200 brackets that open, and as many that close.
+pub const BRACKETS: &[u8] =
+    b"((((((((((((((((((((((((((((((((((((((((((((((((((((((((((((((((((((((((((((((((((((((((((((((((((((\
+    ((((((((((((((((((((((((((((((((((((((((((((((((((((((((((((((((((((((((((((((((((((((((((((((((((((\
+    ))))))))))))))))))))))))))))))))))))))))))))))))))))))))))))))))))))))))))))))))))))))))))))))))))))\
+    ))))))))))))))))))))))))))))))))))))))))))))))))))))))))))))))))))))))))))))))))))))))))))))))))))))";
 
-/// The starts of 201 strings with a field, each in the field of the one before.
-pub fn fields() -> [u8; 603] {
-    let mut text = [b'{'; 603];
-    for (i, byte) in text.iter_mut().enumerate() {
-        if i % 3 == 0 {
-            *byte = b'f';
-        } else if i % 3 == 1 {
-            *byte = b'"';
-        }
-    }
-    text
-}
+/// 201 brackets that open.
+pub const TOO_MANY: &[u8] = &[b'('; 201];

@@ -68,7 +68,10 @@ const STORIES: &[Story] = &[
         &[3, 2],
         "1 import a.b\n2 from a import c\n3 from .a import d\nat 27, 3\n4 from a import c as e\nend\nat 65, 4\n",
     ),
-    // Later imports of a key are dropped.
+];
+
+/// Later imports of a key are dropped.
+const DROPPED: &[Story] = &[
     Story(
         b"import a, b, a as c\nimport b.c\n",
         MODULES,
@@ -119,6 +122,10 @@ const FAULTS: &[Story] = &[
         &[3, 1],
         "1 import a\n2 import b\nF6 bracket not closed, 22, 3\nat 18, 2\nF6 bracket not closed, 22, 3\nat 18, 2\n",
     ),
+];
+
+/// Faults of imports, bytes and brackets.
+const MORE_FAULTS: &[Story] = &[
     Story(
         b"import a\nfrom b import c,\n",
         TOP,
@@ -270,6 +277,10 @@ const KEYS: &[Keys] = &[
         ImportKey::Package,
         true,
     ),
+];
+
+/// Keys of modules, attributes and aliases.
+const MORE_KEYS: &[Keys] = &[
     Keys("import a.b", "import a", ImportKey::Package, true),
     Keys("import a.b", "import a", ImportKey::Module, false),
     Keys("import a as b", "from a import b", ImportKey::Module, true),
@@ -297,10 +308,17 @@ const KEYS: &[Keys] = &[
 #[test]
 fn tells_stories_refuses_short_texts_and_makes_keys(rt: HostRuntime) -> Result<(), Fail> {
     let alloc = rt.alloc();
-    each_holds(alloc, "STORIES", STORIES)?;
-    each_holds(alloc, "FAULTS", FAULTS)?;
-    each_holds(alloc, "STOPS", STOPS)?;
-    each_holds_again(alloc, "SHORT", SHORT)?;
-    each_holds_again(alloc, "KEYS", KEYS)?;
+    each_holds(
+        alloc,
+        &[
+            ("STORIES", STORIES),
+            ("DROPPED", DROPPED),
+            ("FAULTS", FAULTS),
+            ("MORE_FAULTS", MORE_FAULTS),
+            ("STOPS", STOPS),
+        ],
+    )?;
+    each_holds_again(alloc, &[("SHORT", SHORT)])?;
+    each_holds_again(alloc, &[("KEYS", KEYS), ("MORE_KEYS", MORE_KEYS)])?;
     all_are_so(&[keeps(alloc, ASKED_FOR) || was_refused(alloc) && keeps(alloc, ASKED_FOR)])
 }

@@ -2,4 +2,5 @@
 pub(crate) mod acts;
 mod finder;
 mod pieces;
+mod scripts;
 mod starts;

@@ -4,7 +4,7 @@ use std::test::Fail;
 use test_harness::cases::each_holds;
 use test_harness::options::ALL;
 
-const STARTS: &[Row<'static>] = &[
+const STARTS: &[Row] = &[
     // After `;` and `:`.
     Row(
         b"x = 1\ny = 2; import b\nz = 3\n",
@@ -34,6 +34,10 @@ const STARTS: &[Row<'static>] = &[
         ALL,
         "4 import b\nend\nat 34, 1\n",
     ),
+];
+
+/// After a string, and where no statement starts.
+const NO_STARTS: &[Row] = &[
     // After a string, and in one.
     Row(
         b"x = 1\n\"\"\"a\nimport z\n\"\"\"; import b\n",
@@ -57,6 +61,10 @@ const STARTS: &[Row<'static>] = &[
         ALL,
         "4 import b\nend\nat 57, 1\n",
     ),
+];
+
+/// After marks, line ends and blanks.
+const LINE_STARTS: &[Row] = &[
     // After a byte order mark, CR, a form feed and a tab.
     Row(
         b"\xef\xbb\xbfimport a\nx = 1\nimport b\n",
@@ -83,5 +91,12 @@ const STARTS: &[Row<'static>] = &[
 
 #[test]
 fn finds_where_statements_start(rt: HostRuntime) -> Result<(), Fail> {
-    each_holds(rt.alloc(), "STARTS", STARTS)
+    each_holds(
+        rt.alloc(),
+        &[
+            ("STARTS", STARTS),
+            ("NO_STARTS", NO_STARTS),
+            ("LINE_STARTS", LINE_STARTS),
+        ],
+    )
 }

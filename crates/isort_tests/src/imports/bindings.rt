@@ -142,6 +142,10 @@ const BINDINGS: &[Listed] = &[
         "x = 1 + \\\r\n  2\r\nfrom . .x import y\r\n",
         "3 from ..x import y\n",
     ),
+];
+
+/// Bindings after other statements, and several in a line.
+const MORE_BINDINGS: &[Listed] = &[
     Listed(
         "if a: import b; from c import *\nraise X from Y\nz = yield from w\n",
         "1 import b\n1 from c import *\n",
@@ -188,6 +192,10 @@ const REFUSED: &[First] = &[
     First("from a import if", Said::Refused(0)),
     First("import a; import\n", Said::Refused(10)),
     First("from b import c,\n", Said::Refused(0)),
+];
+
+/// Statements with `from` that are none.
+const BAD_FROM: &[First] = &[
     First("from import a", Said::Refused(0)),
     First("from a b", Said::Refused(0)),
     First("from a. import b", Said::Refused(0)),
@@ -196,6 +204,10 @@ const REFUSED: &[First] = &[
     First("from a import b.c", Said::Refused(0)),
     First("from a import (b; c)", Said::Refused(0)),
     First("from a import (b,,)", Said::Refused(0)),
+];
+
+/// Bad names, and bad statements after others.
+const BAD_NAMES: &[First] = &[
     First("from a import (b) c", Said::Refused(0)),
     First("from a import *, b", Said::Refused(0)),
     First("from a import b as", Said::Refused(0)),
@@ -215,6 +227,10 @@ const DECLARATIONS: &[First] = &[
     First("async def f(): pass", DECLARATION),
     First("async with a: pass", NO_DECLARATION),
     First("async", NO_DECLARATION),
+];
+
+/// Lines that are none.
+const NO_DECLARATIONS: &[First] = &[
     First("  def f(): pass", NO_DECLARATION),
     First("\u{c}def f(): pass", NO_DECLARATION),
     First("define", NO_DECLARATION),
@@ -232,6 +248,10 @@ const SORTABLES: &[First] = &[
     First("\u{feff}  import a", SORTABLE),
     First("from a import (  # k\n    b,\n)\n", SORTABLE),
     First("import a  # isort: skip_file", SORTABLE),
+];
+
+/// Lines over several physical lines, and with comments.
+const MORE_SORTABLES: &[First] = &[
     First("import a  # isort:  skip", SORTABLE),
     First("import a, \\\n b", SORTABLE),
     First("from . import *", SORTABLE),
@@ -240,7 +260,7 @@ const SORTABLES: &[First] = &[
 ];
 
 /// Lines that stay where they are.
-const OTHERS: &[First] = &[
+const PINNED_LINES: &[First] = &[
     First(
         "from a import (  # k\n    b as x,  # l\n    c,\n)\n",
         PINNED,
@@ -253,6 +273,10 @@ const OTHERS: &[First] = &[
     First("from a import (  # isort: skip\n    b,\n)\n", PINNED),
     First("\\\nimport a", PINNED),
     First("from a import b,", PINNED),
+];
+
+/// Lines that are no import statement alone.
+const OTHER_LINES: &[First] = &[
     First("x = 1", OTHER),
     First("if a: import b", OTHER),
     First("# import a", OTHER),
@@ -275,6 +299,10 @@ const ACTIONS: &[Saying] = &[
     Saying("# isort:  skip", ActionComment::Skip, false),
     Saying("# isort: skip!", ActionComment::Skip, true),
     Saying("# isort: skips isort: skip", ActionComment::Skip, true),
+];
+
+/// Other actions, and comments that say none.
+const MORE_ACTIONS: &[Saying] = &[
     Saying("# isort: off", ActionComment::Off, true),
     Saying("# isort: on", ActionComment::On, true),
     Saying("# isort: one", ActionComment::On, false),
@@ -286,11 +314,27 @@ const ACTIONS: &[Saying] = &[
 #[test]
 fn gives_bindings_and_says_of_lines_and_comments(rt: HostRuntime) -> Result<(), Fail> {
     let alloc = rt.alloc();
-    each_holds_again(alloc, "BINDINGS", BINDINGS)?;
-    each_holds_again(alloc, "MARKED", MARKED)?;
-    each_holds_again(alloc, "REFUSED", REFUSED)?;
-    each_holds_again(alloc, "DECLARATIONS", DECLARATIONS)?;
-    each_holds_again(alloc, "SORTABLES", SORTABLES)?;
-    each_holds_again(alloc, "OTHERS", OTHERS)?;
-    each_holds_again(alloc, "ACTIONS", ACTIONS)
+    each_holds_again(
+        alloc,
+        &[("BINDINGS", BINDINGS), ("MORE_BINDINGS", MORE_BINDINGS)],
+    )?;
+    each_holds_again(
+        alloc,
+        &[
+            ("MARKED", MARKED),
+            ("REFUSED", REFUSED),
+            ("BAD_FROM", BAD_FROM),
+            ("BAD_NAMES", BAD_NAMES),
+            ("DECLARATIONS", DECLARATIONS),
+            ("NO_DECLARATIONS", NO_DECLARATIONS),
+            ("SORTABLES", SORTABLES),
+            ("MORE_SORTABLES", MORE_SORTABLES),
+            ("PINNED_LINES", PINNED_LINES),
+            ("OTHER_LINES", OTHER_LINES),
+        ],
+    )?;
+    each_holds_again(
+        alloc,
+        &[("ACTIONS", ACTIONS), ("MORE_ACTIONS", MORE_ACTIONS)],
+    )
 }

@@ -42,6 +42,10 @@ const PASSING: &[Passing] = &[
     // Strings of three quotes: on one line, over several, and with a quote in them, also before a line end.
     Passing("a\nb = '''c'''\n", 14, 12, (14, 3)),
     Passing("a\n\"\"\"b\n\nc\"\"\"\nd\n", 15, 13, (15, 6)),
+];
+
+/// Strings.
+const STRINGS: &[Passing] = &[
     Passing("a\n'''b'c'\nd'''\n", 15, 13, (15, 4)),
     Passing("a\nb(\"\"\"c\"\"\", '''d\n''')\n", 23, 21, (23, 4)),
     // Prefixes, escapes, empty strings, and joins.
@@ -50,6 +54,10 @@ const PASSING: &[Passing] = &[
     Passing("a\nb = Rb\"c\\\"d\", '', \"\"\n", 23, 21, (23, 3)),
     Passing("a\nb'''c'''\n", 11, 9, (11, 3)),
     Passing("a\n'''b\\\n'''\n", 12, 10, (12, 4)),
+];
+
+/// Joins, short strings with fields, and lines at the byte.
+const SHORT: &[Passing] = &[
     Passing("a\n'b\\\n'\n", 8, 6, (8, 4)),
     Passing("a\nb = \\\n c\n", 11, 9, (11, 4)),
     // Short strings with fields.
@@ -84,6 +92,10 @@ const LINE_ENDS: &[Passing] = &[
     Passing("a\nb  # c\r\n# d\r\n", 15, 13, (15, 4)),
     Passing("a\nb = \\\r\n c\r\n", 13, 11, (13, 4)),
     Passing("a\r\nb\nc\r\n", 8, 5, (8, 4)),
+];
+
+/// Line ends in strings, and at the byte.
+const INNER_ENDS: &[Passing] = &[
     // In strings: one in three quotes counts, also after a quote, and one after a backslash.
     Passing("a\n'''b\r\n\r\nc'\r\n'''\r\n", 19, 17, (19, 6)),
     Passing("a\n'b\\\r\nc'\r\n", 11, 9, (11, 4)),
@@ -91,7 +103,11 @@ const LINE_ENDS: &[Passing] = &[
     // A line that ends at CR, and one whose CR LF goes past the byte.
     Passing("a\nb\nc\rd\n", 8, 2, (4, 3)),
     Passing("a\nb\r\nc\r\n", 4, 0, (2, 2)),
-    // CR alone: after code, before CR LF, after a comment, in a join, in a string of three quotes, and after a backslash.
+];
+
+/// CR alone, which is left to the scan.
+const RETURNS: &[Passing] = &[
+    // After code, before CR LF, after a comment, in a join, in a string of three quotes, and after a backslash.
     Passing("a\nb = c\rd\n", 10, 0, (2, 2)),
     Passing("a\nb\r\r\n", 6, 0, (2, 2)),
     Passing("a\n# b\rc\n", 8, 0, (2, 2)),
@@ -121,6 +137,10 @@ const FIELDS: &[Passing] = &[
     Passing("a\nf\"\"\"b\n{c!r:>9}\n\"\"\"\n", 21, 19, (21, 5)),
     Passing("a\nTR'''{{}}\\t'''\n", 17, 15, (17, 3)),
     Passing("a\nf'''b''c'''\n", 14, 12, (14, 3)),
+];
+
+/// Fields in fields, and in brackets.
+const NESTED_FIELDS: &[Passing] = &[
     // Fields in specifications and in strings in fields, a name, a line end in a field, and one that a backslash escapes.
     Passing("a\nf'{b:{c}}'\n", 13, 11, (13, 3)),
     Passing("a\nf'{b!r:{c}.{d}}'\n", 19, 17, (19, 3)),
@@ -130,7 +150,10 @@ const FIELDS: &[Passing] = &[
     Passing("a\nf'''\\\n'''\n", 12, 10, (12, 4)),
     // In brackets.
     Passing("a\n(f'{b}',\n f'{{')\n", 19, 17, (19, 4)),
-    // What is left to the scan: CR in such a string, and one that isn't closed.
+];
+
+/// What is left to the scan: CR in such a string, and one that isn't closed.
+const OPEN_FIELDS: &[Passing] = &[
     Passing("a\nf'''b\r\nc'''\n", 14, 0, (2, 2)),
     Passing("a\nf'''b\n", 8, 0, (2, 2)),
     Passing("a\nf'{b'\n", 8, 0, (2, 2)),
@@ -167,14 +190,22 @@ const PIECES: &[PassingPiece] = &[
 
 #[test]
 fn simple_lines_are_passed_over(rt: HostRuntime) -> Result<(), Fail> {
-    each_holds_again(rt.alloc(), "PASSING", PASSING)?;
-    each_holds_again(rt.alloc(), "LEFT", LEFT)?;
-    each_holds_again(rt.alloc(), "LINE_ENDS", LINE_ENDS)?;
-    each_holds_again(rt.alloc(), "CHARACTERS", CHARACTERS)?;
-    each_holds_again(rt.alloc(), "FIELDS", FIELDS)
-}
-
-#[test]
-fn lines_of_a_piece_are_passed_over(rt: HostRuntime) -> Result<(), Fail> {
-    each_holds_again(rt.alloc(), "PIECES", PIECES)
+    let alloc = rt.alloc();
+    each_holds_again(
+        alloc,
+        &[
+            ("PASSING", PASSING),
+            ("STRINGS", STRINGS),
+            ("SHORT", SHORT),
+            ("LEFT", LEFT),
+            ("LINE_ENDS", LINE_ENDS),
+            ("INNER_ENDS", INNER_ENDS),
+            ("RETURNS", RETURNS),
+            ("CHARACTERS", CHARACTERS),
+            ("FIELDS", FIELDS),
+            ("NESTED_FIELDS", NESTED_FIELDS),
+            ("OPEN_FIELDS", OPEN_FIELDS),
+        ],
+    )?;
+    each_holds_again(alloc, &[("PIECES", PIECES)])
 }

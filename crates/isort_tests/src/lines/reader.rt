@@ -3,8 +3,7 @@ use crate::lines::rows::{Lexed, tell_fault, tell_unit};
 use crate::told::tell;
 use py_lines::*;
 use std::alloc::Global;
-use std::test::Fail;
-use test_harness::cases::{Case, each_holds_again, page, was_refused};
+use test_harness::cases::{page, was_refused};
 
 /// The next answer of the reader: whether it is a logical line. It is asked for once more where a growth was refused.
 fn tell_next(alloc: Global, told: &mut String, lines: &mut Lines<'_>) -> bool {
@@ -75,25 +74,11 @@ impl Lexed<'_> {
     }
 }
 
-/// A text, and what a reader tells that begins at its byte 2, in line 2, and where it then stands.
-struct MidText(Lexed<'static>);
-
-impl Case for MidText {
-    fn holds(&self, alloc: Global) -> bool {
-        match Lines::at(alloc, self.0.0, 2, 2) {
-            Ok(mut lines) => answers(alloc, &mut lines, self.0.1, self.0.2),
-            Err(_) => false,
-        }
+/// Whether a reader that begins at byte 2 of a text, in line 2, takes no byte order mark there.
+pub(crate) fn goes_on_in_mid_text(alloc: Global) -> bool {
+    let told = "(Code, 2, 2, 0, 1) (Name, \"b\", 2); 4 line 3: F2 unexpected character";
+    match Lines::at(alloc, b"a\nb\n\xef\xbb\xbf", 2, 2) {
+        Ok(mut lines) => answers(alloc, &mut lines, told, (4, 3)),
+        Err(_) => false,
     }
-}
-
-const MID_TEXT: &[MidText] = &[MidText(Lexed(
-    b"a\nb\n\xef\xbb\xbf",
-    "(Code, 2, 2, 0, 1) (Name, \"b\", 2); 4 line 3: F2 unexpected character",
-    (4, 3),
-))];
-
-#[test]
-fn goes_on_in_mid_text(rt: HostRuntime) -> Result<(), Fail> {
-    each_holds_again(rt.alloc(), "MID_TEXT", MID_TEXT)
 }

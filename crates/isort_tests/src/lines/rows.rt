@@ -1,11 +1,11 @@
 //! The logical lines of texts, which both readers tell.
+use crate::lines::reader::goes_on_in_mid_text;
 use crate::told::tell;
 use py_lines::{LexError, Unit};
 use std::alloc::Global;
 use std::fmt::Write;
 use std::test::Fail;
-use test_harness::cases::{Case, all_are_so, each_holds, page};
-use test_harness::texts::brackets;
+use test_harness::cases::{Case, all_are_so, each_holds, was_refused};
 
 /// A text, what is told of it, and the byte and the line that a reader of the whole text reaches. What is told are the
 /// logical lines, each with its kind, byte, line, indentation, length of its line end, and tokens, and then the end or the
@@ -18,7 +18,7 @@ pub(crate) struct Lexed<'t>(
 );
 
 /// Texts without a fault.
-const ROWS: &[Lexed<'static>] = &[
+const LINES: &[Lexed<'static>] = &[
     Lexed(
         b"import \xc3\xa9\r\nx = \"\"\"\"\"\"\nimport b",
         "(Code, 0, 1, 0, 2) (Name, \"import\", 1) (Name, \"é\", 1); \
@@ -53,6 +53,10 @@ const ROWS: &[Lexed<'static>] = &[
         "(Code, 0, 1, 0, 0) (Number, \"1if\", 1) (Name, \"x\", 1); end",
         (5, 1),
     ),
+];
+
+/// Texts that end in a join, a line end or a comment, or in nothing.
+const ENDS: &[Lexed<'static>] = &[
     Lexed(b"\\\n", "(Code, 0, 1, 0, 0); end", (2, 2)),
     Lexed(b"", "end", (0, 1)),
     Lexed(
@@ -120,6 +124,10 @@ const WORKED: &[Lexed<'static>] = &[
          end",
         (64, 4),
     ),
+];
+
+/// Others, with indented lines and faults.
+const WORKED_LINES: &[Lexed<'static>] = &[
     Lexed(
         b"if a:\n    import b\n",
         "(Code, 0, 1, 0, 1) (Name, \"if\", 1) (Name, \"a\", 1) (Op(58), \":\", 1); \
@@ -168,7 +176,7 @@ const WORKED: &[Lexed<'static>] = &[
     ),
 ];
 
-/// Import statements, good and bad ones: to the lexer both are logical lines.
+/// Import statements: to the lexer they are logical lines.
 const STATEMENTS: &[Lexed<'static>] = &[
     Lexed(
         b"from ... import x, y as z",
@@ -202,6 +210,10 @@ const STATEMENTS: &[Lexed<'static>] = &[
          end",
         (27, 1),
     ),
+];
+
+/// Bad ones: to the lexer they are logical lines, too.
+const BAD_STATEMENTS: &[Lexed<'static>] = &[
     Lexed(
         b"from a import ()",
         "(Code, 0, 1, 0, 0) (Name, \"from\", 1) (Name, \"a\", 1) (Name, \"import\", 1) (Op(40), \"(\", 1) \
@@ -263,6 +275,10 @@ const FAULTS: &[Lexed<'static>] = &[
         "7 line 2: F5 closing bracket without its opening",
         (0, 1),
     ),
+];
+
+/// Texts in which something stays open, or is closed that is not.
+const OPEN: &[Lexed<'static>] = &[
     Lexed(
         b"\"\"\"a",
         "0 line 1: F4 triple-quoted string not closed",
@@ -284,6 +300,10 @@ const FAULTS: &[Lexed<'static>] = &[
         "(Code, 0, 1, 0, 1) (Name, \"a\", 1); 2 line 2: F7 backslash not before a line end",
         (2, 2),
     ),
+];
+
+/// Texts with a fault after other bytes.
+const LATER_FAULTS: &[Lexed<'static>] = &[
     Lexed(
         b"a\r\xff",
         "(Code, 0, 1, 0, 1) (Name, \"a\", 1); 2 line 2: F1 not UTF-8",
@@ -354,6 +374,10 @@ const FIELDS: &[Lexed<'static>] = &[
         "(Code, 0, 1, 0, 0) (Str, \"f\\\"\\\\N{DASH}\\\"\", 1); end",
         (11, 1),
     ),
+];
+
+/// Strings with fields, escapes and braces.
+const ESCAPES: &[Lexed<'static>] = &[
     Lexed(
         b"rf\"\\N{a}\"",
         "(Code, 0, 1, 0, 0) (Str, \"rf\\\"\\\\N{a}\\\"\", 1); end",
@@ -384,6 +408,10 @@ const FIELDS: &[Lexed<'static>] = &[
         "(Code, 0, 1, 0, 0) (Str, \"f\\\"{{\\\"\", 1) (Str, \"f\\\"}}\\\"\", 1); end",
         (11, 1),
     ),
+];
+
+/// Lines after strings with fields.
+const LINES_WITH_FIELDS: &[Lexed<'static>] = &[
     Lexed(
         b"f'{\n1}'\nimport a\n",
         "(Code, 0, 1, 0, 1) (Str, \"f'{\\n1}'\", 1); (Code, 8, 3, 0, 1) (Name, \"import\", 3) (Name, \"a\", 3); end",
@@ -391,12 +419,14 @@ const FIELDS: &[Lexed<'static>] = &[
     ),
     Lexed(
         b"rF'{a.b(c, d)[0] + e!r:>9} {{}} }{}'\nimport a\n",
-        "(Code, 0, 1, 0, 1) (Str, \"rF'{a.b(c, d)[0] + e!r:>9} {{}} }{}'\", 1); (Code, 37, 2, 0, 1) (Name, \"import\", 2) (Name, \"a\", 2); end",
+        "(Code, 0, 1, 0, 1) (Str, \"rF'{a.b(c, d)[0] + e!r:>9} {{}} }{}'\", 1); \
+         (Code, 37, 2, 0, 1) (Name, \"import\", 2) (Name, \"a\", 2); end",
         (46, 3),
     ),
     Lexed(
         b"f\"\\t{', '.join(x)}\\\"{b'}'}\"\nimport a\n",
-        "(Code, 0, 1, 0, 1) (Str, \"f\\\"\\\\t{', '.join(x)}\\\\\\\"{b'}'}\\\"\", 1); (Code, 28, 2, 0, 1) (Name, \"import\", 2) (Name, \"a\", 2); end",
+        "(Code, 0, 1, 0, 1) (Str, \"f\\\"\\\\t{', '.join(x)}\\\\\\\"{b'}'}\\\"\", 1); \
+         (Code, 28, 2, 0, 1) (Name, \"import\", 2) (Name, \"a\", 2); end",
         (37, 3),
     ),
 ];
@@ -440,6 +470,10 @@ const DEEP: &[Deep] = &[
     Deep(b"f\"{{x", "200 line 1: F3 string not closed"),
     Deep(b"f\"{x", "202 line 1: F8 more than 200 brackets open"),
     Deep(b"f\"{}\"", "202 line 1: F8 more than 200 brackets open"),
+];
+
+/// The same with a fault at that brace.
+const DEEP_FIELDS: &[Deep] = &[
     Deep(b"f\"{\"", "202 line 1: F8 more than 200 brackets open"),
     Deep(b"f\"{\n", "202 line 1: F8 more than 200 brackets open"),
     Deep(b"f\"{", "202 line 1: F8 more than 200 brackets open"),
@@ -447,36 +481,29 @@ const DEEP: &[Deep] = &[
     Deep(b"f\"{\xc3", "203 line 1: F1 not UTF-8"),
 ];
 
-/// What is told of 200 brackets that open, and as many that close.
-fn tell_brackets(told: &mut String) {
-    tell("(Code, 0, 1, 0, 0)", told);
-    for _ in 0..200 {
-        tell(" (Op(40), \"(\", 1)", told);
-    }
-    for _ in 0..200 {
-        tell(" (Op(41), \")\", 1)", told);
-    }
-    tell("; end", told);
-}
-
-/// Whether that is told.
-fn closes_brackets(alloc: Global) -> bool {
-    let mut want = page(alloc);
-    tell_brackets(&mut want);
-    Lexed(&brackets()[1..], want.as_str(), (400, 1)).holds(alloc)
-}
-
 #[test]
 fn reads_texts_whole_and_gives_the_same_in_every_cut(rt: HostRuntime) -> Result<(), Fail> {
     let alloc = rt.alloc();
-    each_holds(alloc, "ROWS", ROWS)?;
-    each_holds(alloc, "WORKED", WORKED)?;
-    each_holds(alloc, "STATEMENTS", STATEMENTS)?;
-    each_holds(alloc, "FAULTS", FAULTS)?;
-    each_holds(alloc, "FIELDS", FIELDS)?;
-    each_holds(alloc, "BAD_FIELDS", BAD_FIELDS)?;
-    each_holds(alloc, "DEEP", DEEP)?;
-    all_are_so(&[closes_brackets(alloc)])
+    each_holds(
+        alloc,
+        &[
+            ("LINES", LINES),
+            ("ENDS", ENDS),
+            ("WORKED", WORKED),
+            ("WORKED_LINES", WORKED_LINES),
+            ("STATEMENTS", STATEMENTS),
+            ("BAD_STATEMENTS", BAD_STATEMENTS),
+            ("FAULTS", FAULTS),
+            ("OPEN", OPEN),
+            ("LATER_FAULTS", LATER_FAULTS),
+            ("FIELDS", FIELDS),
+            ("ESCAPES", ESCAPES),
+            ("LINES_WITH_FIELDS", LINES_WITH_FIELDS),
+            ("BAD_FIELDS", BAD_FIELDS),
+        ],
+    )?;
+    each_holds(alloc, &[("DEEP", DEEP), ("DEEP_FIELDS", DEEP_FIELDS)])?;
+    all_are_so(&[goes_on_in_mid_text(alloc) || was_refused(alloc) && goes_on_in_mid_text(alloc)])
 }
 
 /// A logical line: what it holds, its byte, line, indentation and line end, and then its tokens.

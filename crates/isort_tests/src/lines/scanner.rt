@@ -350,6 +350,10 @@ const SCRIPTS: &[Script] = &[
         true,
         "took 9; -; import a\r; ",
     ),
+];
+
+/// Strings with fields, and scanners that begin in mid-text.
+const OTHER_SCRIPTS: &[Script] = &[
     // A string goes on after its fields, whatever stands in them, and a quote in a specification is refused at once.
     Script(
         0,
@@ -434,6 +438,10 @@ const HALVES: &[Halves] = &[
         "took 2; -; took 7; \
          (\"\\\"\\\"\\\"a\\n\\\"\\\"\\\"\\n\", 1, [Token { kind: Str, start: 0, stop: 8, line: 1 }]); ",
     ),
+];
+
+/// Line ends, numbers and fields in two pieces.
+const OTHER_HALVES: &[Halves] = &[
     Halves(
         b"a\r",
         b"\nb",
@@ -465,6 +473,10 @@ const HALVES: &[Halves] = &[
 
 #[test]
 fn follows_scripts(rt: HostRuntime) -> Result<(), Fail> {
-    each_holds_again(rt.alloc(), "SCRIPTS", SCRIPTS)?;
-    each_holds_again(rt.alloc(), "HALVES", HALVES)
+    let alloc = rt.alloc();
+    each_holds_again(
+        alloc,
+        &[("SCRIPTS", SCRIPTS), ("OTHER_SCRIPTS", OTHER_SCRIPTS)],
+    )?;
+    each_holds_again(alloc, &[("HALVES", HALVES), ("OTHER_HALVES", OTHER_HALVES)])
 }

@@ -1,5 +1,5 @@
 //! Lists of modules that are made from a `Vec`, and given back.
-use isort_settings::{Modules, OwnLists, Section, Settings};
+use isort_settings::{Modules, OwnLists, Settings};
 use std::alloc::{AllocError, Global};
 use std::test::Fail;
 use test_harness::cases::{all_are_so, are_texts, was_refused};
@@ -27,12 +27,6 @@ fn lists_of_table(alloc: Global) -> Result<Vec<Vec<String>>, AllocError> {
     Ok(lists)
 }
 
-/// The settings of the table.
-fn settings_of_table(alloc: Global) -> Option<Settings> {
-    let (settings, _) = Settings::from_pyproject(alloc, TABLE, None).ok()?;
-    Some(settings)
-}
-
 /// Whether these are the own lists of the table.
 fn are_of_table(lists: &[Vec<String>]) -> bool {
     match lists {
@@ -49,16 +43,6 @@ fn are_own_lists(alloc: Global, lists: Vec<Vec<String>>, read: &OwnLists) -> boo
         && are_of_table(made.into_lists().as_slice())
 }
 
-/// Whether modules have their sections, with the lists of the table.
-fn are_placed(settings: &Settings) -> bool {
-    settings.section_of("m.n") == Section::FirstParty
-        && settings.section_of("m.n.x") == Section::FirstParty
-        && settings.section_of("m.nn") == Section::ThirdParty
-        && settings.section_of("m") == Section::ThirdParty
-        && settings.section_of("x.y.z") == Section::Own(0)
-        && settings.section_of("o.x") == Section::FirstParty
-}
-
 /// Whether a list with an index has its modules, and gives its `Vec` back.
 fn gives_back(list: Modules) -> bool {
     match list {
@@ -71,27 +55,12 @@ fn gives_back(list: Modules) -> bool {
     }
 }
 
-/// The settings with own lists without an index, and with this list of the first party; and the list that they had.
-fn without_index(mut settings: Settings, listed: Vec<String>) -> (Settings, Modules) {
-    settings.own_lists = OwnLists::from(settings.own_lists.into_lists());
-    let read = settings.known_first_party;
-    settings.known_first_party = Modules::Listed(listed);
-    (settings, read)
-}
-
-/// Whether modules have the same sections by lists with an index and by lists without.
-fn are_placed_alike(settings: Settings, listed: Vec<String>) -> bool {
-    let are_placed_first = are_placed(&settings);
-    let (settings, read) = without_index(settings, listed);
-    are_placed_first && are_placed(&settings) && gives_back(read)
-}
-
 /// Whether all lists of the table are given back.
 fn are_given_back(alloc: Global) -> Option<bool> {
     let lists = lists_of_table(alloc).ok()?;
-    let listed = list_of(alloc, &["m.n", "o"]).ok()?;
-    let settings = settings_of_table(alloc)?;
-    Some(are_own_lists(alloc, lists, &settings.own_lists) && are_placed_alike(settings, listed))
+    let (settings, _) = Settings::from_pyproject(alloc, TABLE, None).ok()?;
+    let are_own = are_own_lists(alloc, lists, &settings.own_lists);
+    Some(gives_back(settings.known_first_party) && are_own)
 }
 
 #[test]

@@ -5,8 +5,8 @@ use std::cmp::Ordering;
 use std::cmp::Ordering::{Equal, Greater, Less};
 use std::test::Fail;
 use test_harness::cases::{
-    Case, SettingsCase, all_are_so, are_texts, each_holds_again, each_holds_with, is_shown,
-    refusal, was_refused,
+    Case, SettingsCase, all_are_so, are_texts, each_holds_again, each_holds_under_settings,
+    is_shown, refusal, was_refused,
 };
 
 /// Whether the second name comes after the first, and the first is equal to itself.
@@ -70,6 +70,10 @@ const REFUSED: &[Refused] = &[
         None,
         "unknown profile",
     ),
+];
+
+/// Bad profiles and modes.
+const REFUSED_MODES: &[Refused] = &[
     Refused(
         b"[tool.isort]\nprofile = \"google\"",
         None,
@@ -115,6 +119,10 @@ const REFUSED_LISTS: &[Refused] = &[
         None,
         "bad value for default_section",
     ),
+];
+
+/// Bad numbers.
+const REFUSED_NUMBERS: &[Refused] = &[
     Refused(
         b"[tool.isort]\nlines_after_imports = -2",
         None,
@@ -130,6 +138,10 @@ const REFUSED_LISTS: &[Refused] = &[
         None,
         "bad value for force_grid_wrap",
     ),
+];
+
+/// Texts that are not TOML, or have other tables.
+const REFUSED_TEXTS: &[Refused] = &[
     Refused(b"[tool", BLACK, "the settings are not TOML"),
     Refused(b"# \xff\n", BLACK, "the settings are not TOML"),
     Refused(b"tool = 1", BLACK, "bad value for tool"),
@@ -271,9 +283,18 @@ const STANDS: &[Stands] = &[
 
 #[test]
 fn refusals_profiles_and_texts(rt: HostRuntime) -> Result<(), Fail> {
-    each_holds_again(rt.alloc(), "REFUSED", REFUSED)?;
-    each_holds_again(rt.alloc(), "REFUSED_LISTS", REFUSED_LISTS)?;
-    each_holds_again(rt.alloc(), "STANDS", STANDS)
+    let alloc = rt.alloc();
+    each_holds_again(
+        alloc,
+        &[
+            ("REFUSED", REFUSED),
+            ("REFUSED_MODES", REFUSED_MODES),
+            ("REFUSED_LISTS", REFUSED_LISTS),
+            ("REFUSED_NUMBERS", REFUSED_NUMBERS),
+            ("REFUSED_TEXTS", REFUSED_TEXTS),
+        ],
+    )?;
+    each_holds_again(alloc, &[("STANDS", STANDS)])
 }
 
 /// A line length, whether its setter takes it, and the length that the settings then have.
@@ -380,9 +401,6 @@ impl SettingsCase for Sectioned {
     }
 }
 
-/// An own section that holds no module of the other rows.
-pub(crate) const OWN: &str = "sections = [\"FUTURE\", \"Own\"]\nknown_own = [\"own\"]\n";
-
 const SECTIONS: &[Sectioned] = &[
     Sectioned("", "os.path", Section::Stdlib),
     Sectioned("", "requests", Section::ThirdParty),
@@ -399,6 +417,10 @@ const SECTIONS: &[Sectioned] = &[
         "a",
         Section::FirstParty,
     ),
+];
+
+/// Sections by lists and by prefixes.
+const LISTED_SECTIONS: &[Sectioned] = &[
     Sectioned(
         "extra_standard_library = [\"six\"]",
         "six.moves",
@@ -497,8 +519,10 @@ fn names_sections_and_orders(rt: HostRuntime) -> Result<(), Fail> {
         is_named(SettingKey::ToolIsort, "tool.isort"),
         is_named(SettingKey::Sections, "sections"),
     ])?;
-    each_holds_with(alloc, "SECTIONS", "", SECTIONS)?;
-    each_holds_with(alloc, "SECTIONS with OWN", OWN, SECTIONS)?;
-    each_holds_with(alloc, "ORDERS", "", ORDERS)?;
-    each_holds_with(alloc, "MODULES", "", MODULES)
+    each_holds_under_settings(
+        alloc,
+        &[("SECTIONS", SECTIONS), ("LISTED_SECTIONS", LISTED_SECTIONS)],
+    )?;
+    each_holds_under_settings(alloc, &[("ORDERS", ORDERS)])?;
+    each_holds_under_settings(alloc, &[("MODULES", MODULES)])
 }

@@ -16,10 +16,15 @@ impl Case for Spans {
     }
 }
 
-const SPANS: &[Spans] = &[
+/// Texts without blocks.
+const NONE: &[Spans] = &[
     Spans("", &[]),
     Spans("\u{feff}", &[]),
     Spans("x = 1\n", &[]),
+    Spans("import b\nimport a  # isort: skip_file\n", &[]),
+];
+
+const SPANS: &[Spans] = &[
     // Words in a string start no statement.
     Spans(
         "x = 1\n\"\"\"from a to b, import c\n\"\"\"\nimport b\nimport a\n",
@@ -76,6 +81,10 @@ const SPANS: &[Spans] = &[
             members: 2,
         }],
     ),
+];
+
+/// Where blocks end.
+const ENDS: &[Spans] = &[
     Spans(
         "if a:\n    import b\nimport c\n",
         &[
@@ -127,5 +136,8 @@ const SPANS: &[Spans] = &[
 
 #[test]
 fn finds_blocks(rt: HostRuntime) -> Result<(), Fail> {
-    each_holds_again(rt.alloc(), "SPANS", SPANS)
+    each_holds_again(
+        rt.alloc(),
+        &[("NONE", NONE), ("SPANS", SPANS), ("ENDS", ENDS)],
+    )
 }

@@ -1,7 +1,5 @@
-//! Tests of isort_sort.
+//! Tests of isort_sort. The rows of checks/gate/cases tell what texts are sorted to.
 mod blocks;
 mod metered;
-pub(crate) mod sorted;
-mod sorted_again;
-mod sorted_blocks;
-pub(crate) mod writing;
+mod sorted;
+mod writing;

@@ -3,13 +3,12 @@ ghost use Rattle.std.specs.Prelude.{◌≡◌, ◌≤◌, length};
 ghost use Rattle.isort_sort.specs.Metered.{last_of};
 
 use isort_settings::Settings;
-use isort_sort::{Last, Metered, Outcome, SortError, sort_to};
-use py_lines::{Fault, FaultKind};
+use isort_sort::{Last, Metered, Outcome, SortError, Sorted, sort_code, sort_to};
 use std::alloc::Global;
 use std::test::Fail;
-use test_harness::cases::{SettingsCase, each_holds_with};
+use test_harness::cases::{SettingsCase, each_holds_under_settings};
 use test_harness::devices::{Device, Trouble};
-use test_harness::texts::{BROKEN, SKIPPED, SORTED, UNSORTED};
+use test_harness::texts::{SKIPPED, SORTED, UNSORTED};
 
 /// Whether sorting the text to the writer gives this answer, and leaves these bytes in it.
 fn leaves(
@@ -38,42 +37,19 @@ pub(crate) fn is_written(
     leaves(alloc, settings, text, writer, want, bytes)
 }
 
-/// The fault of `BROKEN`.
-const WRONG_CLOSE: SortError = SortError::Fault(Fault {
-    kind: FaultKind::WrongClose,
-    offset: 22,
-    line: 3,
-});
-
-/// The fault of a text that begins with a bad import statement.
-const BAD_IMPORT: SortError = SortError::Fault(Fault {
-    kind: FaultKind::BadImport,
-    offset: 0,
-    line: 1,
-});
-
-/// A text, the answer, and what is written.
-struct Written(&'static str, Result<Outcome, SortError>, &'static str);
-
-impl SettingsCase for Written {
-    fn holds_under(&self, alloc: Global, settings: &Settings) -> bool {
-        is_written(alloc, settings, self.0, self.1, self.2.as_bytes())
-    }
-}
-
-const WRITTEN: &[Written] = &[
-    Written(UNSORTED, Ok(Outcome::Changed), SORTED),
-    Written(SORTED, Ok(Outcome::Same), SORTED),
-    Written(SKIPPED, Ok(Outcome::Skipped), SKIPPED),
-    Written("", Ok(Outcome::Same), ""),
-    Written(BROKEN, Err(WRONG_CLOSE), ""),
-    Written("from b import c,\n", Err(BAD_IMPORT), ""),
-];
-
 /// A text, what sorting it comes to, and the sorted text.
 struct Sorting(&'static str, Outcome, &'static str);
 
 impl Sorting {
+    /// Whether the text is sorted so in memory.
+    fn is_in_memory(&self, alloc: Global, settings: &Settings) -> bool {
+        match sort_code(alloc, self.0.as_bytes(), settings) {
+            Ok(Sorted::Changed(text)) => text.as_str() == self.2,
+            Ok(_) => self.0 == self.2,
+            Err(_) => false,
+        }
+    }
+
     /// Whether the text is written whole to writers that take one byte a call, and that are interrupted 999 times before
     /// each; and whether one that is interrupted 1000 times is given up.
     fn is_written_slowly(&self, alloc: Global, settings: &Settings) -> bool {
@@ -110,7 +86,10 @@ impl Sorting {
 
 impl SettingsCase for Sorting {
     fn holds_under(&self, alloc: Global, settings: &Settings) -> bool {
-        self.is_written_slowly(alloc, settings) && self.is_cut_everywhere(alloc, settings)
+        self.is_in_memory(alloc, settings)
+            && is_written(alloc, settings, self.0, Ok(self.1), self.2.as_bytes())
+            && self.is_written_slowly(alloc, settings)
+            && self.is_cut_everywhere(alloc, settings)
     }
 }
 
@@ -122,6 +101,5 @@ const SORTINGS: &[Sorting] = &[
 
 #[test]
 fn writes_whole_texts_slowly_and_prefixes_of_every_length(rt: HostRuntime) -> Result<(), Fail> {
-    each_holds_with(rt.alloc(), "WRITTEN", "", WRITTEN)?;
-    each_holds_with(rt.alloc(), "SORTINGS", "", SORTINGS)
+    each_holds_under_settings(rt.alloc(), &[("SORTINGS", SORTINGS)])
 }
