@@ -33,5 +33,5 @@ const STOPS: &[Stop] = &[
 
 #[test]
 fn tells_where_imports_may_begin(rt: HostRuntime) -> Result<(), Fail> {
-    each_holds(rt.alloc(), "STOPS", STOPS)
+    each_holds(rt.alloc(), &[("STOPS", STOPS)])
 }
