@@ -25,7 +25,7 @@ const STOPS: &[Stop] = &[
     Stop("import a\nframes = time\n", 9, 23),
     Stop("a = 1\nimportant = 2\n", 6, 6),
     Stop(
-        "x = 'aaaaaaaaaaaaaaaaaaaaaaaaaaaaaaaaaaaaaaaaaaaaaaaaaaaaaaaaa'\nfrom a import b  # aaaaaaaaaaaaaaaaaaaaaaaaaaaaaaaaaaaaaaaaaaaaaaaa",
+        "x = 'aaaaaaaaaaaaaaaaaaaaaaaaaaaaaaaaaaaaaaaaaaaaaaaaaaaaaaaaa'\nfrom a import b  # aaaaaaaaaaaaaaaaaaaaaaaaaaaaaaa",
         0,
         64,
     ),
