@@ -1,14 +1,13 @@
 //! The keys under which only the first import is found.
-ghost use Rattle.std.specs.Prelude.{◌≡◌, ◌↔◌, IsTrue, IfOk, IfErr, string_bytes};
-ghost use Rattle.std.specs.Option.{option_map};
+ghost use Rattle.std.specs.Prelude.{◌≡◌, ◌↔◌, IsTrue, IfOk, IfErr};
 ghost use Rattle.py_imports.specs.BindingValue.{binding_value};
 ghost use Rattle.isort_find.specs.Key.{key_of, key_eq, package_of};
 ghost use Rattle.isort_find.specs.KeyText.{counted_key, key_in};
 
 use crate::error::FindError;
 use crate::options::ImportKey;
-use py_imports::Binding;
-use std::alloc::{AllocError, Global};
+use py_imports::{Binding, copy_of_text};
+use std::alloc::Global;
 
 /// By what an import counts as one with another: two keys made for one [`ImportKey`] are equal exactly where the
 /// imports count as one.
@@ -84,17 +83,6 @@ pub(crate) fn is_key_of(known: &KeyText, binding: &Binding, key: ImportKey) -> b
     counted.text == known.text.as_str()
         && counted.attribute == known.attribute.as_deref()
         && counted.alias == known.alias.as_deref()
-}
-
-/// A copy of the text, if there is one.
-fn copy_of_text(alloc: Global, text: Option<&str>) -> Result<Option<String>, AllocError>
-    ensures { IfOk result (λ copy. option_map string_bytes copy
-        ≡ option_map (λ t. t.now) text.entry) }
-{
-    match text {
-        Some(text) => Ok(Some(String::from_str(alloc, text)?)),
-        None => Ok(None),
-    }
 }
 
 /// The key of a binding, by copies of its texts. It answers `Memory` alone.

@@ -20,8 +20,8 @@ pub struct Binding {
     pub alias_name: Option<String>,
 }
 
-/// The text in memory of its own, if there is one.
-pub(crate) fn copy_of_text(alloc: Global, text: Option<&str>) -> Result<Option<String>, AllocError>
+/// A copy of the text, if there is one. The only error is that memory ran out.
+pub fn copy_of_text(alloc: Global, text: Option<&str>) -> Result<Option<String>, AllocError>
     ensures { IfOk result (λ copy. option_map string_bytes copy
         ≡ option_map (λ t. t.now) text.entry) }
 {

@@ -16,7 +16,7 @@ mod sortable;
 mod statement;
 
 pub use action_comment::{ActionComment, says};
-pub use binding::Binding;
+pub use binding::{Binding, copy_of_text};
 pub use bindings::{bindings_of, has_first_word};
 pub use declaration::is_declaration;
 pub use error::ImportError;
