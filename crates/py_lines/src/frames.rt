@@ -112,7 +112,8 @@ impl Model for Frames {
 
     ghost view = { λ f. frames_in (take f.depth f.slots) };
 
-    ghost invariant = { λ f. (length f.slots ≡ 200) × (f.depth ≤ 200) × AreNested (frames_in (take f.depth f.slots)) };
+    ghost invariant = { λ f. (length f.slots ≡ 200) × (f.depth ≤ 200)
+        × AreNested (frames_in (take f.depth f.slots)) };
 }
 
 impl Frames {

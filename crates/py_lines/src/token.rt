@@ -28,7 +28,9 @@ impl TokKind {
     /// The byte of the operator or delimiter, if it is one.
     #[inline(always)]
     fn operator(self) -> Option<u8>
-        ensures { MatchOption result ((passes : ℕ → Bool) → is_operator_where passes self ≡ false) (λ byte. self ≡ TokKind.Op byte) }
+        ensures { MatchOption result
+            ((passes : ℕ → Bool) → is_operator_where passes self ≡ false)
+            (λ byte. self ≡ TokKind.Op byte) }
     {
         match self {
             TokKind::Op(byte) => Some(byte),
