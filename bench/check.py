@@ -18,6 +18,7 @@ Each is run ROUNDS times (3). Wall clock and CPU time are each the best of all r
 of those that it started, so it is hurt less by other work on the machine. Two Markdown tables are printed, and the load
 before and after."""
 
+import argparse
 import os
 import shutil
 import subprocess
@@ -61,9 +62,13 @@ def best(command: list[str], runs: int) -> tuple[float, float]:
 
 
 def main() -> int:
-    program, folder = str(Path(sys.argv[1]).resolve()), sys.argv[2]
-    rounds = int(sys.argv[3]) if len(sys.argv) > 3 else 3
-    isort5 = sys.argv[4] if len(sys.argv) > 4 else "/usr/bin/isort"
+    parser = argparse.ArgumentParser(usage=__doc__)
+    parser.add_argument("program", type=os.path.abspath)
+    parser.add_argument("folder", type=os.path.abspath)
+    parser.add_argument("rounds", type=int, nargs="?", default=3)
+    parser.add_argument("isort5", nargs="?", default="/usr/bin/isort")
+    given = parser.parse_args()
+    program, folder, rounds, isort5 = given.program, given.folder, given.rounds, given.isort5
     cores = os.cpu_count() or 1
     os.environ["LC_ALL"] = "C.UTF-8"
     print(f"load before: {os.getloadavg()}")

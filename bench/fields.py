@@ -71,7 +71,7 @@ def seconds(program: str, path: Path, cpu: int | None) -> float:
 
 
 def main() -> int:
-    parser = argparse.ArgumentParser()
+    parser = argparse.ArgumentParser(usage=__doc__)
     parser.add_argument("program")
     parser.add_argument("folders", nargs="+")
     parser.add_argument("--size", type=int, default=40_000_000)

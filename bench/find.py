@@ -18,6 +18,7 @@ Each is run ROUNDS times (3), and the best time counts. Times are wall clock and
 except for `ast`, which is timed inside its process. A Markdown table is printed, and after it the peak memory of one
 process that lists 400 MB: the one text ten times over, from a pipe. It is read from `/proc` (Linux)."""
 
+import argparse
 import ast
 import subprocess
 import sys
@@ -122,8 +123,12 @@ def peak_memory(command: list[str], text: bytes, times: int) -> int:
 
 
 def main() -> int:
-    program, folder = sys.argv[1:3]
-    rounds = int(sys.argv[3]) if len(sys.argv) > 3 else 3
+    parser = argparse.ArgumentParser(usage=__doc__)
+    parser.add_argument("program")
+    parser.add_argument("folder")
+    parser.add_argument("rounds", type=int, nargs="?", default=3)
+    given = parser.parse_args()
+    program, folder, rounds = given.program, given.folder, given.rounds
     warnings.simplefilter("ignore")
     texts = corpus(program, folder)
     sets = {"one text": [whole(texts)], f"{len(texts)} files": texts}

@@ -66,7 +66,7 @@ def least(commands: dict[str, list[str]], path: Path, rounds: int) -> dict[str, 
 
 
 def main() -> int:
-    parser = argparse.ArgumentParser()
+    parser = argparse.ArgumentParser(usage=__doc__)
     parser.add_argument("program")
     parser.add_argument("other", nargs="?")
     parser.add_argument("--text")

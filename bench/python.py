@@ -14,6 +14,7 @@ file of two lines anew; eight threads at once; and starting Python with an impor
 Prints a Markdown table, with the time of a text and how many times as long isort 5 takes, and the load. The rows of `file`, of
 threads and of starting are by the clock."""
 
+import argparse
 import ast
 import io
 import os
@@ -191,8 +192,12 @@ def measure(fihroste, isort, folder, rounds):
 
 
 def main():
-    wheel, folder = sys.argv[1:3]
-    rounds = int(sys.argv[3]) if len(sys.argv) > 3 else 5
+    parser = argparse.ArgumentParser(usage=__doc__)
+    parser.add_argument("wheel")
+    parser.add_argument("folder")
+    parser.add_argument("rounds", type=int, nargs="?", default=5)
+    given = parser.parse_args()
+    wheel, folder, rounds = given.wheel, given.folder, given.rounds
     warnings.simplefilter("ignore")
     with tempfile.TemporaryDirectory() as unpacked:
         zipfile.ZipFile(wheel).extractall(unpacked)

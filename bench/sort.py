@@ -13,6 +13,7 @@ of the process in it. The time of the program on an empty text under the same se
 printed, with the time per line and per doubling of lines, which n log n keeps the same, and with how many times as long
 as under the default settings it takes."""
 
+import argparse
 import json
 import math
 import os
@@ -65,8 +66,11 @@ def least(commands: list[list[str]], path: Path, rounds: int) -> list[float]:
 
 
 def main() -> int:
-    program = str(Path(sys.argv[1]).resolve())
-    rounds = int(sys.argv[2]) if len(sys.argv) > 2 else 15
+    parser = argparse.ArgumentParser(usage=__doc__)
+    parser.add_argument("program")
+    parser.add_argument("rounds", type=int, nargs="?", default=15)
+    given = parser.parse_args()
+    program, rounds = str(Path(given.program).resolve()), given.rounds
     with tempfile.TemporaryDirectory() as work:
         folder = Path(work)
         path = folder / "text.py"

@@ -6,8 +6,9 @@
 PROGRAM is the built isort. The files are all `*.py` below the folders. Each import of each file is compared: its line,
 module, attribute and alias, in the order written. Files that are not UTF-8, or that `ast.parse` refuses, are left out,
 and so are those in which a coding comment names another encoding. The last line counts the files read, their imports,
-and the files that differ. The status is 1 where one differs."""
+and the files that differ. The status is 1 where one differs, or none was read."""
 
+import argparse
 import ast
 import io
 import subprocess
@@ -62,9 +63,12 @@ def listed(program: str, text: bytes) -> list[str]:
 
 
 def main() -> int:
-    program, *folders = sys.argv[1:]
+    parser = argparse.ArgumentParser(usage=__doc__)
+    parser.add_argument("program")
+    parser.add_argument("folders", nargs="+")
+    given = parser.parse_args()
     files = imports = size = differences = 0
-    for folder in folders:
+    for folder in given.folders:
         for path in sorted(Path(folder).rglob("*.py")):
             text = path.read_bytes()
             want = parsed(text) if is_utf8(text) else None
@@ -73,13 +77,13 @@ def main() -> int:
             files += 1
             size += len(text)
             imports += len(want)
-            got = listed(program, text)
+            got = listed(given.program, text)
             if got != want:
                 differences += 1
                 line = next((pair for pair in zip(want + [""], got + [""]) if pair[0] != pair[1]), ("", ""))
                 print(f"{path}: ast has {line[0]!r}, isort {line[1]!r}")
     print(f"{files} files of {size} bytes with {imports} imports compared, {differences} differ")
-    return 1 if differences else 0
+    return 1 if differences or not files else 0
 
 
 if __name__ == "__main__":

@@ -16,7 +16,7 @@ classes that make it equal. In each class the results of files are counted that 
 stays, or blocks of different indentation meet, only what the imports bind is compared.
 
 Regions that no classes make equal are printed with both results, and so is a region in which isort does not bind what
-the text binds. The status is 1 if there is one."""
+the text binds. The status is 1 if there is one, or if no file was read."""
 
 import argparse
 import ast
@@ -34,7 +34,10 @@ from dataclasses import dataclass, replace
 from itertools import combinations, groupby
 from pathlib import Path
 
-import isort
+try:
+    import isort
+except ImportError:
+    sys.exit(f"compare_isort.py: {sys.executable} has no isort 5. With that of Debian: /usr/bin/python3 {' '.join(sys.argv)}")
 
 TOP = Path(__file__).resolve().parents[2]
 SKIP = re.compile(r"isort: ?skip(?![A-Za-z0-9_])")
@@ -483,7 +486,7 @@ def read(path: Path) -> str | None:
 
 
 def main() -> int:
-    parser = argparse.ArgumentParser(usage="checks/judges/compare_isort.py PROGRAM FOLDER.. [--every N]")
+    parser = argparse.ArgumentParser(usage=__doc__)
     parser.add_argument("program")
     parser.add_argument("folders", nargs="+")
     parser.add_argument("--every", type=int, default=1)
@@ -514,7 +517,7 @@ def main() -> int:
         print(f"{count:6} {name}")
     print(f"{files} files, each under {len(settings)} settings: {same} results are those of isort {isort.__version__},", end=" ")
     print(f"{unexplained} differ in a way that no class explains")
-    return 1 if unexplained else 0
+    return 1 if unexplained or not files else 0
 
 
 if __name__ == "__main__":

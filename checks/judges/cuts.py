@@ -11,7 +11,7 @@ PROGRAM is the built isort. The files are all `*.py` below the folders, or every
   status 1 with the same fault, in words that docs/MESSAGES.md has; and what was sorted is sorted.
 
 Files of more than 40,000 bytes are cut to that length first. A line tells each difference. The last line counts the files,
-the runs, and the files that differ. The status is 1 where one differs."""
+the runs, and the files that differ. The status is 1 where one differs, or there is none."""
 
 import argparse
 import multiprocessing
@@ -132,7 +132,7 @@ def try_file(job: tuple[str, set[bytes], Path, int]) -> tuple[Path, int, list[st
 
 
 def main() -> int:
-    words = argparse.ArgumentParser(description="Cuts, truncates and changes real files, and runs isort over them.")
+    words = argparse.ArgumentParser(usage=__doc__)
     words.add_argument("program")
     words.add_argument("folders", nargs="+")
     words.add_argument("--every", type=int, default=1)
@@ -149,7 +149,7 @@ def main() -> int:
             for what in told:
                 print(f"{path}: {what}")
     print(f"{len(jobs)} files, {count} runs: {differ} files differ")
-    return 1 if differ else 0
+    return 1 if differ or not jobs else 0
 
 
 if __name__ == "__main__":

@@ -147,7 +147,7 @@ def try_batch(task: tuple[str, int, list[tuple[str, bytes]]]) -> tuple[int, list
 def main() -> int:
     parser = argparse.ArgumentParser(usage=__doc__)
     parser.add_argument("program")
-    parser.add_argument("folder", nargs="*")
+    parser.add_argument("folder", nargs="*", default=[])
     parser.add_argument("--every", type=int, default=1)
     parser.add_argument("--texts", type=int, default=20_000)
     parser.add_argument("--seed", type=int, default=1)

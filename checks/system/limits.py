@@ -9,6 +9,7 @@ has to. Under each limit it either says R5 with status 1, or does exactly what i
 whole lines of the listing was written, and the file is as it was. A line tells each difference, and for each task how many
 limits were tried. The status is 1 where one differs."""
 
+import argparse
 import os
 import resource
 import subprocess
@@ -55,8 +56,11 @@ def least(works, low: int, high: int) -> int:
 
 
 def main() -> int:
-    program = os.path.abspath(sys.argv[1])
-    size = int(sys.argv[2]) if len(sys.argv) > 2 else 10
+    parser = argparse.ArgumentParser(usage=__doc__)
+    parser.add_argument("program", type=os.path.abspath)
+    parser.add_argument("megabytes", type=int, nargs="?", default=10)
+    given = parser.parse_args()
+    program, size = given.program, given.megabytes
     text = HEAD + BODY * (size * 1_000_000 // len(BODY))
     differ = 0
     with tempfile.TemporaryDirectory() as folder:
