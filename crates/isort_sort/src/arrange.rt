@@ -132,8 +132,10 @@ impl Arrangement<'_> {
             push_times(out, self.end.as_str(), blanks)?;
             return Ok(blanks > 0);
         };
-        self.push_statement(out, &group)?;
+        let pushed = self.push_statement(out, &group);
+        // Moved in before an error is answered, so that no path has to drop it.
         self.before = Some(group);
+        pushed?;
         Ok(true)
     }
 

@@ -32,5 +32,5 @@ returns-in_default-clause-piece c =
 pub returns-clause-piece : goal.returns-clause-piece
 returns-clause-piece c =
     let a = c.args.self.now in
-    let p = c.in_ok-push_statement.ensures in
+    let p = rw c.in_ok-pushed.was at c.push_statement-pushed.ensures in
     (p.0, p.1, ap (λ gs. text_of_groups a (option_map group_value a.before) (map group_value gs)) c.in-Some.ensures.items ∙ p.2)
