@@ -15,8 +15,6 @@ pub mod WholeStrings
 pub mod EarlyEnds
 pub mod ByteTable
 pub mod FirstBytes
-pub mod Comments
-pub mod CarriageReturns
 pub mod TokenRuns
 pub mod NextPieces
 pub mod LineStops

@@ -1,19 +1,17 @@
 //! Pieces that bytes hold whole. Each is taken at once, after closed ones.
 
 ghost use Rattle.std.specs.Prelude.{◌≡◌, ◌+◌, ◌<◌, ◌^◌, true, false, length, slice_index, IfOk};
-ghost use Rattle.py_lines.specs.Character.{is_hash, is_quote, is_return, is_space};
+ghost use Rattle.py_lines.specs.Character.{is_quote, is_space};
 ghost use Rattle.py_lines.specs.Piece.{begins};
 ghost use Rattle.py_lines.specs.Private.Scan.{stack_of};
 ghost use Rattle.py_lines.specs.Private.Run.{WhereverReached, is_free, AddsTokens, FindsToken, IsSpaceAfter};
 ghost use Rattle.py_lines.specs.Private.Run.{IsWholeWord, MeetsToken, follows_space};
-ghost use Rattle.py_lines.specs.Private.Run.{TakesLineFeed, TakesMargin, TakesReturn};
-ghost use Rattle.py_lines.specs.Private.Run.{TakesPiece, TakesRemark, line_ended, IsNoLonger};
+ghost use Rattle.py_lines.specs.Private.Run.{TakesLineFeed, TakesMargin, TakesPiece, IsNoLonger};
 ghost use Rattle.py_lines.specs.Private.Run.{LeavesOff, is_ascii_word, follows, may_begin};
 
 use crate::character::is_line_feed;
-use crate::mode::Mode;
-use crate::run::{ByteRun, FirstByte, whole_comment, word_before_more};
-use crate::scan::{OpenPiece, Scan};
+use crate::run::{ByteRun, FirstByte, word_before_more};
+use crate::scan::Scan;
 use crate::token::{TokKind, Token};
 use crate::unit::UnitKind;
 use crate::whole_strings::{whole_plain_string, whole_string_with_fields};
@@ -87,26 +85,6 @@ impl Scan {
         Taken::Bytes(len)
     }
 
-    /// Takes the comment that the bytes begin with, after closed pieces, if it is whole characters and a line end follows it.
-    fn take_comment(&mut self, bytes: &[u8]) -> Result<Taken, AllocError>
-        requires bytes { self.old.stop + length bytes.now < 2 ^ 64 }
-        requires begins { begins is_hash bytes.now ≡ true }
-        ensures { TakesRemark self.old bytes.now result self.new }
-    {
-        let Some(len) = whole_comment(bytes) else {
-            return Ok(Taken::Nothing);
-        };
-        self.piece = OpenPiece {
-            mode: Mode::Comment,
-            start: self.stop,
-            line: self.count.line,
-        };
-        self.stop += len;
-        self.count.after_return = false;
-        self.close()?;
-        Ok(Taken::Bytes(len))
-    }
-
     /// Takes the LF that the bytes begin with, after closed pieces.
     #[inline(always)]
     fn take_feed(&mut self) -> Taken
@@ -123,48 +101,6 @@ impl Scan {
         } else {
             Taken::Bytes(1)
         }
-    }
-
-    /// Passes a line end of so many bytes, which CR begins, after closed pieces.
-    #[inline(always)]
-    fn pass_return(&mut self, len: usize)
-        requires bytes { self.old.stop + len < 2 ^ 64 }
-        requires lines { self.old.count.line + 1 < 2 ^ 64 }
-        ensures { self.new ≡ line_ended self.old len }
-    {
-        self.stop += len;
-        self.count.line += 1;
-        self.count.after_return = len == 1;
-        self.margin = false;
-        self.free();
-    }
-
-    /// Takes the line end that the bytes begin with, after closed pieces: CR LF, or CR alone where it ends the line before
-    /// another byte.
-    #[inline(always)]
-    fn take_return(&mut self, bytes: &[u8]) -> Taken
-        requires bytes { self.old.stop + length bytes.now < 2 ^ 64 }
-        requires lines { self.old.count.line + length bytes.now < 2 ^ 64 }
-        requires begins { begins is_return bytes.now ≡ true }
-        ensures { TakesReturn self.old bytes.now result self.new }
-    {
-        let Some(next) = bytes.get(1).copied() else {
-            return Taken::Nothing;
-        };
-        let ends = self.ends_line();
-        if is_line_feed(next as char) {
-            self.pass_return(2);
-            return if ends {
-                Taken::LineEnd(2)
-            } else {
-                Taken::Bytes(2)
-            };
-        }
-        if !ends {
-            return Taken::Nothing;
-        }
-        self.pass_return(1);
-        Taken::LineEnd(1)
     }
 
     /// Whether a piece that may follow space begins so.
@@ -333,8 +269,7 @@ impl Scan {
         Ok(Taken::Bytes(len))
     }
 
-    /// Takes the piece that the bytes begin with, after closed pieces: space, a comment, a line end, or tokens that follow one
-    /// another.
+    /// Takes the piece that the bytes begin with, after closed pieces: space, LF, or tokens that follow one another.
     #[inline(always)]
     fn take_piece(&mut self, bytes: &[u8]) -> Result<Taken, AllocError>
         requires free { is_free self.old.piece.mode ≡ true }
@@ -354,9 +289,7 @@ impl Scan {
                 self.take_tokens(bytes)
             }
             FirstByte::Space => Ok(self.take_space(bytes)),
-            FirstByte::Return => Ok(self.take_return(bytes)),
-            FirstByte::Hash => self.take_comment(bytes),
-            FirstByte::LineFeed | FirstByte::Backslash | FirstByte::Other => Ok(Taken::Nothing),
+            _ => Ok(Taken::Nothing),
         }
     }
 

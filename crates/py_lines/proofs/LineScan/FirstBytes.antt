@@ -22,7 +22,7 @@ return_breaks : (b : ℕ) → is_return b ≡ true → is_break b ≡ true
 unfolding is_break
 return_breaks b h = rw (return_is b h) refl
 
-pub or_more : (a b : Bool) → b ≡ true → a || b ≡ true
+or_more : (a b : Bool) → b ≡ true → a || b ≡ true
 or_more true b h = refl
 or_more false b h = h
 

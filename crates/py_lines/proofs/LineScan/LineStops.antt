@@ -135,25 +135,6 @@ pub goes_run : (first : Scan) (text : List ℕ) (old new : Scan) (before rest : 
 goes_run first text old new before rest goes holds m line whole start r = reached_run m line whole old new before rest (goes m line whole start r) start holds
 
 module _ (first : Scan) (text : List ℕ) (old : Scan) (before : List ℕ) (shuts : ShutsTo first text old before) where
-  -- the line had ended with CR, before what follows
-  pub stops_before : (new : Scan) → is_returned old ≡ true → ((read : List ℕ) → EndsWhole read before) → Closes old new → StopsNow first text new (stops.LineEnd 1)
-  stops_before new ended apart_from_it closes m line whole start r =
-      let parts = and_parts _ _ ended in
-      let o = open_reached m line whole old before (return_open old.piece.mode parts.0) (shuts m line whole start r) in
-      let returns = return_ends o.way.state o.read (sound_steps m o.read o.way.state start o.way.steps) (ap is_return_mode (sym o.way.tallies.counts.mode) ∙ parts.0) in
-      record {
-        read = o.read;
-        rest = before;
-        scalars = o.scalars;
-        spell = o.spell;
-        stops = ((λ after apart. returned m old new o.read (encode_utf8_all after) o.way start parts.0 parts.1 closes (λ a spells. ap (begins is_line_feed) (encodes_same a after spells) ∙ apart returns)), apart_from_it o.read);
-        number = ap (λ (s : Scan). s.line) closes.same ∙ o.line;
-      }
-    where
-      return_open : (n : Mode) → is_return_mode n ≡ true → is_free n ≡ false
-      return_open modes.Return h = refl
-      return_open n h = absurd (both_ways _ refl h)
-
   module _ (c : ℕ) (scalar : IsScalar c) (rest : List ℕ) (is : before ≡ encode_utf8 c ++ rest) (new : Scan) where
     -- where the machine takes it
     taken_at : (p : Progress) (m : Mode) (line : ℕ) (whole : List ℕ) → IsScanSound (line_start m) [] → is_returned old && not (is_line_feed c) ≡ false → TakesTo old c p new → ReachedShut m line whole old before → TakesFrom m line whole before c p new
@@ -184,11 +165,29 @@ module _ (first : Scan) (text : List ℕ) (old : Scan) (before : List ℕ) (shut
           number = from.takes.1 ∙ o.line;
         }
 
-    -- the line had ended before it
+    -- the line had ended before it, with CR
     pub stops_returned : is_returned old && not (is_line_feed c) ≡ true → Closes old new → StopsNow first text new (stops.LineEnd 1)
-    stops_returned ended closes =
+    stops_returned ended closes m line whole start r =
         let both = and_parts _ _ ended in
-        stops_before new both.0 (λ read. other_whole read before c rest is (not_true (is_line_feed c) both.1)) closes
+        let parts = and_parts _ _ both.0 in
+        let o = open_reached m line whole old before (return_open old.piece.mode parts.0) (shuts m line whole start r) in
+        record {
+          read = o.read;
+          rest = before;
+          scalars = o.scalars;
+          spell = o.spell;
+          stops = (
+            (λ after apart.
+                let returns = return_ends o.way.state o.read (sound_steps m o.read o.way.state start o.way.steps) (ap is_return_mode (sym o.way.tallies.counts.mode) ∙ parts.0) in
+                returned m old new o.read (encode_utf8_all after) o.way start parts.0 parts.1 closes (λ a spells. ap (begins is_line_feed) (encodes_same a after spells) ∙ apart returns)),
+            other_whole o.read before c rest is (not_true (is_line_feed c) both.1),
+          );
+          number = ap (λ (s : Scan). s.line) closes.same ∙ o.line;
+        }
+      where
+        return_open : (n : Mode) → is_return_mode n ≡ true → is_free n ≡ false
+        return_open modes.Return h = refl
+        return_open n h = absurd (both_ways _ refl h)
 
     -- it was refused
     pub stops_refused : is_returned old && not (is_line_feed c) ≡ false → TakesTo old c progress.Refused new → StopsNow first text new (stops.Refused c)

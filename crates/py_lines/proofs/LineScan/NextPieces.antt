@@ -1,5 +1,5 @@
 -- What the scan comes to after one more piece.
-use Rattle.std.proofs.Common.{◌≡◌, ℕ, ◌≤◌, Bool, true, false, not, ◌&&◌, Ok, List, [], ◌∷◌, ◌++◌, length, drop, refl, sym, ap, ◌∙◌, subst, arith, ⊎_elim, inl, inr, lit<}
+use Rattle.std.proofs.Common.{◌≡◌, ℕ, ◌≤◌, Bool, true, false, not, ◌&&◌, Ok, List, [], ◌∷◌, ◌++◌, length, drop, refl, sym, ap, ◌∙◌, subst, arith, inl, inr, lit<}
 use Rattle.std.specs.Prelude.{encode_utf8}
 use Rattle.std.proofs.lemmas.Bool.{and_right, both_ways}
 use Rattle.std.proofs.lemmas.Str.{encode_ascii, len_utf8_ascii}
@@ -16,8 +16,6 @@ use Rattle.py_lines.specs.Private.Scan.{Begins, counts_after, is_returned}
 use Rattle.py_lines.specs.Private.Run.{BeginsWithFeed, Reached, ReachedShut, TakesPieceInLine, TakesLineFeed, TakesPiece, is_free, may_begin, space_mode}
 use Rattle.py_lines.proofs.Machine.Starts.{start-feed}
 use Rattle.py_lines.proofs.Text.CharacterTests.{feed_is, feed_from}
-use Rattle.py_lines.proofs.LineScan.CarriageReturns.{return_ends_line, return_far, return_goes}
-use Rattle.py_lines.proofs.LineScan.Comments.{comment_goes, comment_reached}
 use Rattle.py_lines.proofs.LineScan.LineStops.{ShutsTo, StopsNow, TakesTo, goes_character, stops_line}
 use Rattle.py_lines.proofs.LineScan.Runs.{space_low}
 use Rattle.py_lines.proofs.LineScan.ShortPieces.{Goes, ascii_scalar, free_is, run_goes, shut_from, space_reached}
@@ -57,10 +55,8 @@ module _ (first : Scan) (text : List ℕ) (old new : Scan) (bytes : List ℕ) (f
 
       go : TakesPieceInLine old bytes len new → ReachedShut m at whole new (drop len bytes)
       go (inl space) = space_reached m at whole old new bytes len is before start space
-      go (inr (inl remark)) = comment_reached m at whole old new bytes len is before start remark
-      go (inr (inr (inl (inl (feeds, feed))))) = feed_goes len feeds feed m at whole start r
-      go (inr (inr (inl (inr returns)))) = return_goes first text old bytes free shuts new len returns m at whole start r
-      go (inr (inr (inr tokens))) = tokens.leads m at whole start before
+      go (inr (inl (feeds, feed))) = feed_goes len feeds feed m at whole start r
+      go (inr (inr tokens)) = tokens.leads m at whole start before
 
   -- where nothing was taken
   pub none_goes : TakesPiece old bytes (Ok taken.Nothing) new → ShutsTo first text new bytes
@@ -68,10 +64,7 @@ module _ (first : Scan) (text : List ℕ) (old new : Scan) (bytes : List ℕ) (f
 
   -- the line has ended
   pub ends_line : (len : ℕ) → TakesPiece old bytes (Ok (taken.LineEnd len)) new → StopsNow first text new (stops.LineEnd len)
-  ends_line len takes =
-      ⊎_elim
-      (λ (feeds, begun). stops_line first text old bytes shuts 10 (ascii_scalar 10 (lit< tt)) (drop 1 bytes) (feed_encodes bytes feeds) new len (no_wait old) (feed_takes old new (progress.LineEnded len) free begun))
-      (λ returns. return_ends_line first text old bytes free shuts new len returns) takes
+  ends_line len (feeds, begun) = stops_line first text old bytes shuts 10 (ascii_scalar 10 (lit< tt)) (drop 1 bytes) (feed_encodes bytes feeds) new len (no_wait old) (feed_takes old new (progress.LineEnded len) free begun)
 
 -- how far LF goes
 one_line : (after_return : Bool) → counts_after after_return 10 ≤ 1
@@ -92,7 +85,5 @@ feed_far old new bytes len feeds (one, begun) =
 
 pub piece_far : (old new : Scan) (bytes : List ℕ) (len : ℕ) → TakesPiece old bytes (Ok (taken.Bytes len)) new → Goes old bytes len new
 piece_far old new bytes len (inl space) = run_goes is_space may_begin space_mode old new bytes len space_low space
-piece_far old new bytes len (inr (inl remark)) = comment_goes old new bytes len remark
-piece_far old new bytes len (inr (inr (inl (inl (feeds, feed))))) = feed_far old new bytes len feeds feed
-piece_far old new bytes len (inr (inr (inl (inr returns)))) = return_far old new bytes len returns
-piece_far old new bytes len (inr (inr (inr tokens))) = record { stop = tokens.stop; some = tokens.some; within = tokens.within; lines = omega (arith, tokens.line) }
+piece_far old new bytes len (inr (inl (feeds, feed))) = feed_far old new bytes len feeds feed
+piece_far old new bytes len (inr (inr tokens)) = record { stop = tokens.stop; some = tokens.some; within = tokens.within; lines = omega (arith, tokens.line) }

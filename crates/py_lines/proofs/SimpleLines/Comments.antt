@@ -13,10 +13,14 @@ use Rattle.py_lines.specs.Private.ScanMachine.{meet_of}
 use Rattle.py_lines.specs.Private.Run.{IsRunOf, IsWholeComment, is_ascii_word, is_comment_byte, stays}
 use Rattle.py_lines.specs.Private.Outline.{EndsBefore, GoesOnAfter, IsInPiece, Passes, StandsBefore}
 use Rattle.py_lines.proofs.Machine.Starts.{start-hash}
-use Rattle.py_lines.proofs.LineScan.Comments.{hash_is}
+use Rattle.py_lines.proofs.Text.CharacterTests.{the_one}
 use Rattle.py_lines.proofs.LineScan.Runs.{word_byte_continues}
 use Rattle.py_lines.proofs.SimpleLines.Code.{break-begins_none, code_ends, ends_so, holds_one, opens, pieces}
 use Rattle.py_lines.proofs.SimpleLines.Runs.{goes_on, stay_spelled}
+
+hash_is : (c : ℕ) → is_hash c ≡ true → c ≡ 35
+unfolding is_hash
+hash_is c h = the_one 35 c h
 
 hash-no-word : is_ascii_word 35 ≡ false
 unfolding is_ascii_word

@@ -13,7 +13,7 @@ use Rattle.py_lines.specs.Private.ScanMachine.{IsInString, IsScanSound, meet_of}
 use Rattle.py_lines.specs.Private.FieldMachine.{FieldScanned}
 use Rattle.py_lines.specs.Private.FieldScan.{Follows, GoesThrough}
 use Rattle.py_lines.specs.Private.FieldText.{IsWholeStringWithFields}
-use Rattle.py_lines.specs.Private.Scan.{Begins, Closes, depth_of, freed, IsUnderWay, ScansIn, line_start, stack_of, none_open, with_brackets, is_return_mode, stack_with}
+use Rattle.py_lines.specs.Private.Scan.{Begins, Closes, depth_of, freed, IsUnderWay, ScansIn, line_start, stack_of, with_brackets, is_return_mode, stack_with}
 use Rattle.py_lines.specs.declared.brackets.Brackets.{Brackets}
 use Rattle.py_lines.specs.declared.token.Token.{Token}
 use Rattle.py_lines.specs.declared.token.TokKind.{TokKind}
@@ -294,25 +294,6 @@ pub record TakesStringWithFields (old : Scan) (bytes : List ℕ) (len : ℕ) (ne
   pub room : depth_of old.brackets ≤ 100
   pub adds : AddsToken old kind.Str len new
 
--- so many bytes were taken, of which this holds, and they end no line; or nothing was taken
-abbrev pub TakesOrNot : (ℕ → Scan → Type 0) → Scan → Result Taken AllocError → Scan → Type 0
-TakesOrNot Takes old (Ok taken.Nothing) new = new ≡ old
-TakesOrNot Takes old (Ok (taken.Bytes len)) new = Takes len new
-TakesOrNot Takes old (Ok (taken.LineEnd len)) new = ⊥
-TakesOrNot Takes old (Err e) new = Unit {0}
-
--- a comment that a line end follows came after closed pieces
-pub record TakesComment (old : Scan) (bytes : List ℕ) (len : ℕ) (new : Scan) : Type 0 where
-  pub hash : begins is_hash bytes ≡ true
-  pub run : IsRunOf is_comment_byte bytes len
-  pub utf8 : IsUtf8 (take len bytes)
-  pub within : len < length bytes
-  pub closes : Closes (opened old modes.Comment len) new
-
--- such a comment came, or nothing was taken
-abbrev pub TakesRemark : Scan → List ℕ → Result Taken AllocError → Scan → Type 0
-TakesRemark old bytes = TakesOrNot (TakesComment old bytes) old
-
 -- LF came after closed pieces: in brackets the line goes on
 abbrev pub TakesLineFeed : Scan → Taken → Scan → Type 0
 TakesLineFeed old taken.Nothing new = ⊥
@@ -323,42 +304,6 @@ TakesLineFeed old (taken.LineEnd len) new = Begins old 10 starts.LineEnd (Ok (pr
 abbrev pub BeginsWithFeed : List ℕ → Type 0
 BeginsWithFeed bytes = begins is_line_feed bytes ≡ true
 
--- the scan after a line end of so many bytes, which CR begins, after closed pieces
-abbrev pub line_ended : Scan → ℕ → Scan
-line_ended old len = record old {
-  piece = record { mode = modes.Free; start = old.stop + len; line = old.count.line + 1 };
-  stop = old.stop + len;
-  count = record { line = old.count.line + 1; after_return = len == 1 };
-  margin = false;
-}
-
--- CR LF came after closed pieces
-pub record TakesReturnFeed (old : Scan) (bytes : List ℕ) (new : Scan) : Type 0 where
-  pub after : List ℕ
-  pub spell : 13 ∷ 10 ∷ after ≡ bytes
-  pub is : new ≡ line_ended old 2
-
--- CR came after closed pieces, outside brackets, and another byte than LF stands next
-pub record TakesReturnAlone (old : Scan) (bytes : List ℕ) (new : Scan) : Type 0 where
-  pub next : ℕ
-  pub after : List ℕ
-  pub spell : 13 ∷ next ∷ after ≡ bytes
-  pub apart : is_line_feed next ≡ false
-  pub ends : none_open (stack_of old.brackets) ≡ true
-  pub is : new ≡ line_ended old 1
-
--- a line end that CR begins came, or nothing was taken: in brackets the line goes on
-abbrev pub TakesReturn : Scan → List ℕ → Taken → Scan → Type 0
-TakesReturn old bytes taken.Nothing new = new ≡ old
-TakesReturn old bytes (taken.Bytes len) new = (len ≡ 2) × (none_open (stack_of old.brackets) ≡ false) × TakesReturnFeed old bytes new
-TakesReturn old bytes (taken.LineEnd len) new =
-    ((len ≡ 2) × (none_open (stack_of old.brackets) ≡ true) × TakesReturnFeed old bytes new)
-    ⊎ ((len ≡ 1) × TakesReturnAlone old bytes new)
-
--- a line end came after closed pieces: in brackets the line goes on
-abbrev pub TakesLineEnd : Scan → List ℕ → Taken → Scan → Type 0
-TakesLineEnd old bytes taken new = (BeginsWithFeed bytes × TakesLineFeed old taken new) ⊎ TakesReturn old bytes taken new
-
 -- a word came after closed pieces, or space
 abbrev pub TakesWord : Scan → List ℕ → ℕ → Scan → Type 0
 TakesWord = TakesRun is_ascii_word follows word_mode
@@ -368,7 +313,9 @@ TakesSpace = TakesRun is_space may_begin space_mode
 
 -- space came, or nothing was taken
 abbrev pub TakesMargin : Scan → List ℕ → Taken → Scan → Type 0
-TakesMargin old bytes result = TakesOrNot (TakesSpace old bytes) old (Ok result)
+TakesMargin old bytes taken.Nothing new = new ≡ old
+TakesMargin old bytes (taken.Bytes len) new = TakesSpace old bytes len new
+TakesMargin old bytes (taken.LineEnd len) new = ⊥
 
 -- the scan has closed the open piece, since the next byte shows its end
 pub record IsShut (before scan : Scan) (rest : List ℕ) : Type 0 where
@@ -423,11 +370,10 @@ TakesToken old bytes len new =
     TakesWord old bytes len new
     ⊎ (TakesOperator old bytes len new ⊎ (TakesString old bytes len new ⊎ TakesStringWithFields old bytes len new))
 
--- space, a comment, a line end or tokens came, and the line goes on
+-- space, LF or tokens came, and the line goes on
 abbrev pub TakesPieceInLine : Scan → List ℕ → ℕ → Scan → Type 0
 TakesPieceInLine old bytes len new =
-    TakesSpace old bytes len new ⊎ (TakesComment old bytes len new
-    ⊎ (TakesLineEnd old bytes (taken.Bytes len) new ⊎ HasTaken old bytes len new))
+    TakesSpace old bytes len new ⊎ ((BeginsWithFeed bytes × TakesLineFeed old (taken.Bytes len) new) ⊎ HasTaken old bytes len new)
 
 -- so does what may stand after a space: no space, and what may begin a piece
 abbrev pub follows_space : List Bracket → ℕ → Type 0
@@ -473,7 +419,7 @@ FindsToken scan bytes found = (place : ℕ) → MeetsToken scan place bytes foun
 abbrev pub TakesPiece : Scan → List ℕ → Result Taken AllocError → Scan → Type 0
 TakesPiece old bytes (Ok taken.Nothing) new = new ≡ old
 TakesPiece old bytes (Ok (taken.Bytes len)) new = TakesPieceInLine old bytes len new
-TakesPiece old bytes (Ok (taken.LineEnd len)) new = TakesLineEnd old bytes (taken.LineEnd len) new
+TakesPiece old bytes (Ok (taken.LineEnd len)) new = BeginsWithFeed bytes × TakesLineFeed old (taken.LineEnd len) new
 TakesPiece old bytes (Err e) new = Unit {0}
 
 -- what pieces leave of these bytes is no longer than they are
