@@ -13,7 +13,6 @@ pub mod Spans
 pub mod ShortPieces
 pub mod WholeStrings
 pub mod EarlyEnds
-pub mod ByteTable
 pub mod FirstBytes
 pub mod TokenRuns
 pub mod NextPieces

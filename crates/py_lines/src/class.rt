@@ -4,23 +4,26 @@ ghost use Rattle.std.specs.Prelude.{◌≡◌, ◌<◌, ◌≤◌, ℕ, true, le
 ghost use Rattle.py_lines.specs.Private.Marks.{is_of_class, is_plain, is_set, plain_uppers, upper_bit};
 
 use crate::class::Class::{
-    Backslash as B, Closing as C, Hash as H, LineFeed as F, Opening as O, Other as X, Plain as P,
-    Quote as Q, Return as R, Wide as W,
+    Backslash as K, Closing as E, Hash as H, LineFeed as L, Opening as B, Operator as O,
+    Other as X, Quote as Q, Return as R, Space as S, Wide as N, Word as W,
 };
 use std::simd::prelude::*;
 
 /// What a byte is outside strings and comments.
 #[derive(Clone, Copy)]
 pub enum Class {
-    /// A byte of words, a space, or an operator that is no bracket.
-    Plain,
-    LineFeed,
-    Return,
+    /// An ASCII letter, a digit or the underscore.
+    Word,
+    Space,
+    /// An operator that is no bracket.
+    Operator,
     /// `(`, `[` or `{`.
     Opening,
     /// `)`, `]` or `}`.
     Closing,
     Quote,
+    LineFeed,
+    Return,
     Hash,
     Backslash,
     /// A byte of a character that is no ASCII.
@@ -41,14 +44,14 @@ impl Class {
 
 /// What each byte is.
 static CLASSES: [Class; 256] = [
-    X, X, X, X, X, X, X, X, X, P, F, X, P, R, X, X, X, X, X, X, X, X, X, X, X, X, X, X, X, X, X, X,
-    P, P, Q, H, X, P, P, Q, O, C, P, P, P, P, P, P, P, P, P, P, P, P, P, P, P, P, P, P, P, P, P, X,
-    P, P, P, P, P, P, P, P, P, P, P, P, P, P, P, P, P, P, P, P, P, P, P, P, P, P, P, O, B, C, P, P,
-    X, P, P, P, P, P, P, P, P, P, P, P, P, P, P, P, P, P, P, P, P, P, P, P, P, P, P, O, P, C, P, X,
-    W, W, W, W, W, W, W, W, W, W, W, W, W, W, W, W, W, W, W, W, W, W, W, W, W, W, W, W, W, W, W, W,
-    W, W, W, W, W, W, W, W, W, W, W, W, W, W, W, W, W, W, W, W, W, W, W, W, W, W, W, W, W, W, W, W,
-    W, W, W, W, W, W, W, W, W, W, W, W, W, W, W, W, W, W, W, W, W, W, W, W, W, W, W, W, W, W, W, W,
-    W, W, W, W, W, W, W, W, W, W, W, W, W, W, W, W, W, W, W, W, W, W, W, W, W, W, W, W, W, W, W, W,
+    X, X, X, X, X, X, X, X, X, S, L, X, S, R, X, X, X, X, X, X, X, X, X, X, X, X, X, X, X, X, X, X,
+    S, O, Q, H, X, O, O, Q, B, E, O, O, O, O, O, O, W, W, W, W, W, W, W, W, W, W, O, O, O, O, O, X,
+    O, W, W, W, W, W, W, W, W, W, W, W, W, W, W, W, W, W, W, W, W, W, W, W, W, W, W, B, K, E, O, W,
+    X, W, W, W, W, W, W, W, W, W, W, W, W, W, W, W, W, W, W, W, W, W, W, W, W, W, W, B, O, E, O, X,
+    N, N, N, N, N, N, N, N, N, N, N, N, N, N, N, N, N, N, N, N, N, N, N, N, N, N, N, N, N, N, N, N,
+    N, N, N, N, N, N, N, N, N, N, N, N, N, N, N, N, N, N, N, N, N, N, N, N, N, N, N, N, N, N, N, N,
+    N, N, N, N, N, N, N, N, N, N, N, N, N, N, N, N, N, N, N, N, N, N, N, N, N, N, N, N, N, N, N, N,
+    N, N, N, N, N, N, N, N, N, N, N, N, N, N, N, N, N, N, N, N, N, N, N, N, N, N, N, N, N, N, N, N,
 ];
 
 /// For each lower half of a byte, the upper halves with which the byte is plain, a bit for each; four times.

@@ -3,17 +3,13 @@
 ghost use Rattle.std.specs.Prelude.{◌≡◌, ◌<◌, ◌≤◌, ◌==◌, true, length};
 ghost use Rattle.py_lines.specs.Character.{is_space};
 ghost use Rattle.py_lines.specs.declared.mode.Mode.TheVariants.{Word};
-ghost use Rattle.py_lines.specs.Private.Run.{BeginsSo, CountsSet, HasAsciiQuote, IsRunOf, IsWholeComment};
+ghost use Rattle.py_lines.specs.Private.Run.{CountsSet, HasAsciiQuote, IsRunOf, IsWholeComment};
 ghost use Rattle.py_lines.specs.Private.Run.{IsWordBeforeMore, Marks, Spans, is_between, is_in_run, is_ascii_word};
 ghost use Rattle.py_lines.specs.Private.Run.{is_comment_byte, is_body_byte, is_text_byte, is_literal_byte};
 ghost use Rattle.py_lines.specs.Private.Run.{is_code_byte, is_code_sign, is_remark_byte, stays};
 
 use crate::character::is_break;
 use crate::mode::{Mode, Spelling};
-use crate::run::FirstByte::{
-    Backslash as K, Bracket as B, Hash as H, LineFeed as L, Operator as O, Other as X, Quote as Q,
-    Return as R, Space as S, Word as W,
-};
 use crate::utf8::utf8_len;
 use std::simd::prelude::*;
 
@@ -24,45 +20,6 @@ pub fn is_ascii_word(b: u8) -> bool
 {
     b.is_ascii_alphanumeric() || b == b'_'
 }
-
-/// What a piece begins with, where it is ASCII and closed pieces stand before.
-#[derive(Clone, Copy)]
-pub enum FirstByte {
-    Word,
-    Space,
-    /// An operator that is no bracket.
-    Operator,
-    Bracket,
-    Quote,
-    LineFeed,
-    Return,
-    Hash,
-    Backslash,
-    Other,
-}
-
-impl FirstByte {
-    /// What a byte begins.
-    #[inline(always)]
-    pub fn of(b: u8) -> FirstByte
-        ensures begins { BeginsSo result b }
-        ensures space { is_space b ≡ true → result ≡ FirstByte.Space }
-    {
-        FIRST_BYTES[b as usize]
-    }
-}
-
-/// What each byte begins.
-static FIRST_BYTES: [FirstByte; 256] = [
-    X, X, X, X, X, X, X, X, X, S, L, X, S, R, X, X, X, X, X, X, X, X, X, X, X, X, X, X, X, X, X, X,
-    S, O, Q, H, X, O, O, Q, B, B, O, O, O, O, O, O, W, W, W, W, W, W, W, W, W, W, O, O, O, O, O, X,
-    O, W, W, W, W, W, W, W, W, W, W, W, W, W, W, W, W, W, W, W, W, W, W, W, W, W, W, B, K, B, O, W,
-    X, W, W, W, W, W, W, W, W, W, W, W, W, W, W, W, W, W, W, W, W, W, W, W, W, W, W, B, O, B, O, X,
-    X, X, X, X, X, X, X, X, X, X, X, X, X, X, X, X, X, X, X, X, X, X, X, X, X, X, X, X, X, X, X, X,
-    X, X, X, X, X, X, X, X, X, X, X, X, X, X, X, X, X, X, X, X, X, X, X, X, X, X, X, X, X, X, X, X,
-    X, X, X, X, X, X, X, X, X, X, X, X, X, X, X, X, X, X, X, X, X, X, X, X, X, X, X, X, X, X, X, X,
-    X, X, X, X, X, X, X, X, X, X, X, X, X, X, X, X, X, X, X, X, X, X, X, X, X, X, X, X, X, X, X, X,
-];
 
 /// The lanes whose bytes are from `low` to `high`.
 #[inline(always)]

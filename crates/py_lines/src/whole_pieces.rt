@@ -5,12 +5,13 @@ ghost use Rattle.py_lines.specs.Character.{is_quote, is_space};
 ghost use Rattle.py_lines.specs.Piece.{begins};
 ghost use Rattle.py_lines.specs.Private.Scan.{stack_of};
 ghost use Rattle.py_lines.specs.Private.Run.{WhereverReached, is_free, AddsTokens, FindsToken, IsSpaceAfter};
-ghost use Rattle.py_lines.specs.Private.Run.{IsWholeWord, MeetsToken, follows_space};
+ghost use Rattle.py_lines.specs.Private.Run.{IsWholeWord, MeetsToken};
 ghost use Rattle.py_lines.specs.Private.Run.{TakesLineFeed, TakesMargin, TakesPiece, IsNoLonger};
 ghost use Rattle.py_lines.specs.Private.Run.{LeavesOff, is_ascii_word, follows, may_begin};
 
 use crate::character::is_line_feed;
-use crate::run::{ByteRun, FirstByte, word_before_more};
+use crate::class::Class;
+use crate::run::{ByteRun, word_before_more};
 use crate::scan::Scan;
 use crate::token::{TokKind, Token};
 use crate::unit::UnitKind;
@@ -45,12 +46,11 @@ impl Scan {
     fn follows(&self, byte: u8) -> bool
         ensures { result ≡ true → follows (stack_of self.now.brackets) byte ≡ true }
     {
-        match FirstByte::of(byte) {
-            FirstByte::Word | FirstByte::Space | FirstByte::Operator => true,
-            FirstByte::LineFeed | FirstByte::Return => true,
-            FirstByte::Hash | FirstByte::Backslash => true,
-            FirstByte::Bracket => self.brackets.allows(byte as char),
-            FirstByte::Quote | FirstByte::Other => false,
+        match Class::of(byte) {
+            Class::Word | Class::Space | Class::Operator => true,
+            Class::LineFeed | Class::Return | Class::Hash | Class::Backslash => true,
+            Class::Opening | Class::Closing => self.brackets.allows(byte as char),
+            Class::Quote | Class::Wide | Class::Other => false,
         }
     }
 
@@ -59,8 +59,8 @@ impl Scan {
     fn may_begin(&self, byte: u8) -> bool
         ensures { result ≡ true → may_begin (stack_of self.now.brackets) byte ≡ true }
     {
-        match FirstByte::of(byte) {
-            FirstByte::Quote => true,
+        match Class::of(byte) {
+            Class::Quote => true,
             _ => self.follows(byte),
         }
     }
@@ -103,17 +103,6 @@ impl Scan {
         }
     }
 
-    /// Whether a piece that may follow space begins so.
-    #[inline(always)]
-    fn follows_space(&self, byte: u8) -> bool
-        ensures { result ≡ true → follows_space (stack_of self.now.brackets) byte }
-    {
-        match FirstByte::of(byte) {
-            FirstByte::Space => false,
-            _ => self.may_begin(byte),
-        }
-    }
-
     /// How many bytes of space the bytes begin with, if a piece that may follow begins after it; else 0.
     #[inline(always)]
     fn more_space(&self, bytes: &[u8]) -> usize
@@ -137,7 +126,8 @@ impl Scan {
         if bytes[0] != b' ' {
             return 0;
         }
-        if self.follows_space(bytes[1]) {
+        let next = bytes[1];
+        if next > b' ' && self.may_begin(next) {
             return 1;
         }
         self.more_space(bytes)
@@ -209,11 +199,11 @@ impl Scan {
         ensures { MeetsToken self.old place bytes.now result self.new }
     {
         let first = bytes[0];
-        match FirstByte::of(first) {
-            FirstByte::Word => self.find_word(first, bytes),
-            FirstByte::Quote => self.find_plain_string(bytes),
-            FirstByte::Operator => Some((TokKind::Op(first), 1)),
-            FirstByte::Bracket => {
+        match Class::of(first) {
+            Class::Word => self.find_word(first, bytes),
+            Class::Quote => self.find_plain_string(bytes),
+            Class::Operator => Some((TokKind::Op(first), 1)),
+            Class::Opening | Class::Closing => {
                 if !self.brackets.meet(first as char, place) {
                     return None;
                 }
@@ -284,11 +274,11 @@ impl Scan {
         if is_line_feed(first as char) {
             return Ok(self.take_feed());
         }
-        match FirstByte::of(first) {
-            FirstByte::Word | FirstByte::Operator | FirstByte::Bracket | FirstByte::Quote => {
+        match Class::of(first) {
+            Class::Word | Class::Operator | Class::Opening | Class::Closing | Class::Quote => {
                 self.take_tokens(bytes)
             }
-            FirstByte::Space => Ok(self.take_space(bytes)),
+            Class::Space => Ok(self.take_space(bytes)),
             _ => Ok(Taken::Nothing),
         }
     }

@@ -1,16 +1,19 @@
--- What the kind of a byte tells of the piece that it begins.
+-- What the class of a byte tells of the piece that it begins.
 use Rattle.std.proofs.Common.{◌≡◌, ℕ, ◌⊎◌, Bool, true, false, ◌||◌, Some, List, drop, slice_get, refl, sym, subst, ⊎_elim}
-use Rattle.std.proofs.lemmas.Bool.{and_from}
+use Rattle.std.proofs.lemmas.Bool.{and_from, and_parts, not-true, or_parts}
 use Rattle.py_lines.specs.Balance.{is_opening, is_closing}
 use Rattle.py_lines.specs.Character.{is_space, is_operator, is_line_feed, is_return, is_break, is_hash, is_backslash}
-use Rattle.py_lines.specs.declared.run.FirstByte.{FirstByte}
-use Rattle.py_lines.specs.declared.run.FirstByte.TheVariants as first
+use Rattle.py_lines.specs.declared.class.Class.{Class}
+use Rattle.py_lines.specs.declared.class.Class.TheVariants as class
 use Rattle.py_lines.specs.declared.scan.Scan.{Scan}
 use Rattle.py_lines.specs.declared.token.TokKind.TheVariants as kind
 use Rattle.py_lines.specs.Private.Machine.{Bracket}
+use Rattle.py_lines.specs.Private.Marks.{is_of_class}
 use Rattle.py_lines.specs.Private.Scan.{stack_of}
-use Rattle.py_lines.specs.Private.Run.{BeginsSo, is_ascii_word, is_apart, operator_may_stand, follows, AddsToken, TakesOperator}
+use Rattle.py_lines.specs.Private.Run.{is_ascii_word, is_apart, operator_may_stand, follows, AddsToken, TakesOperator}
 use Rattle.py_lines.proofs.Text.CharacterTests.{feed_is, return_is}
+use Rattle.py_lines.proofs.Machine.LiveTexts.{closing-operator}
+use Rattle.py_lines.proofs.FieldMachine.PieceRuns.{opening_operator}
 use Rattle.py_lines.proofs.LineScan.BracketStack.{keeps_at, stands_anywhere}
 use Rattle.py_lines.proofs.LineScan.ShortPieces.{begins_with}
 
@@ -26,48 +29,68 @@ or_more : (a b : Bool) → b ≡ true → a || b ≡ true
 or_more true b h = refl
 or_more false b h = h
 
--- what may always follow a closed piece
-pub always_follows : (st : List Bracket) (b : ℕ) (f : FirstByte) → BeginsSo f b → (f ≡ first.Word) ⊎ ((f ≡ first.Space) ⊎ (f ≡ first.Operator)) → follows st b ≡ true
-always_follows st b f so how =
-    ⊎_elim
-    (λ is. word (subst (λ (k : FirstByte). BeginsSo k b) is so))
-    (λ other. ⊎_elim
-    (λ is. space (subst (λ (k : FirstByte). BeginsSo k b) is so))
-    (λ is. stands (subst (λ (k : FirstByte). BeginsSo k b) is so)) other) how
-  where
-    word : is_ascii_word b ≡ true → follows st b ≡ true
-    word h = rw h refl
+-- an operator that is no bracket
+record IsSign (b : ℕ) : Type 0 where
+  stands : is_operator b ≡ true
+  opens : is_opening b ≡ false
+  closes : is_closing b ≡ false
 
-    space : is_space b ≡ true → follows st b ≡ true
-    space h = or_more (is_ascii_word b) _ (rw h refl)
+sign : (b : ℕ) → is_of_class class.Operator b ≡ true → IsSign b
+sign b so =
+    let parts = and_parts (is_operator b) _ so in
+    let none = or_parts (is_opening b) (is_closing b) (not-true _ parts.1) in
+    record { stands = parts.0; opens = none.0; closes = none.1 }
 
-    stands : (is_operator b ≡ true) × (is_opening b ≡ false) × (is_closing b ≡ false) → follows st b ≡ true
-    stands (h, opens, closes) = or_more (is_ascii_word b) _ (or_more (is_space b) _ (or_more (is_apart b) _ (and_from (is_operator b) (operator_may_stand st b) h (sym (stands_anywhere st b opens closes)))))
+-- an operator that may stand follows a closed piece
+operator_follows : (st : List Bracket) (b : ℕ) → is_operator b ≡ true → operator_may_stand st b ≡ true → follows st b ≡ true
+operator_follows st b h stands = or_more (is_ascii_word b) _ (or_more (is_space b) _ (or_more (is_apart b) _ (and_from (is_operator b) (operator_may_stand st b) h stands)))
 
-apart_next : (st : List Bracket) (b : ℕ) → is_apart b ≡ true → follows st b ≡ true
-apart_next st b h = or_more (is_ascii_word b) _ (or_more (is_space b) _ (rw h refl))
+module _ (b : ℕ) (k : Class) (so : is_of_class k b ≡ true) where
+  of_class : (j : Class) → k ≡ j → is_of_class j b ≡ true
+  of_class j is = subst (λ (i : Class). is_of_class i b ≡ true) is so
 
-pub apart_follows : (st : List Bracket) (b : ℕ) (f : FirstByte) → BeginsSo f b → (f ≡ first.Hash) ⊎ (f ≡ first.Backslash) → follows st b ≡ true
-apart_follows st b f so how =
-    ⊎_elim
-    (λ is. hashes (subst (λ (k : FirstByte). BeginsSo k b) is so))
-    (λ is. slashes (subst (λ (k : FirstByte). BeginsSo k b) is so)) how
-  where
-    hashes : is_hash b ≡ true → follows st b ≡ true
-    hashes h = apart_next st b (or_more (is_break b) _ (rw h refl))
+  pub bracket_operator : (k ≡ class.Opening) ⊎ (k ≡ class.Closing) → is_operator b ≡ true
+  bracket_operator how = ⊎_elim (λ is. opening_operator b (of_class class.Opening is)) (λ is. closing-operator b (of_class class.Closing is)) how
 
-    slashes : is_backslash b ≡ true → follows st b ≡ true
-    slashes h = apart_next st b (or_more (is_break b) _ (or_more (is_hash b) _ h))
+  pub bracket_follows : (st : List Bracket) → (k ≡ class.Opening) ⊎ (k ≡ class.Closing) → operator_may_stand st b ≡ true → follows st b ≡ true
+  bracket_follows st how stands = operator_follows st b (bracket_operator how) stands
 
-pub break_follows : (st : List Bracket) (b : ℕ) (f : FirstByte) → BeginsSo f b → (f ≡ first.LineFeed) ⊎ (f ≡ first.Return) → follows st b ≡ true
-break_follows st b f so how =
-    ⊎_elim
-    (λ is. breaks (feed_breaks b (subst (λ (k : FirstByte). BeginsSo k b) is so)))
-    (λ is. breaks (return_breaks b (subst (λ (k : FirstByte). BeginsSo k b) is so))) how
-  where
-    breaks : is_break b ≡ true → follows st b ≡ true
-    breaks h = apart_next st b (rw h refl)
+  -- what may always follow a closed piece
+  pub always_follows : (st : List Bracket) → (k ≡ class.Word) ⊎ ((k ≡ class.Space) ⊎ (k ≡ class.Operator)) → follows st b ≡ true
+  always_follows st how =
+      ⊎_elim
+      (λ is. word (of_class class.Word is))
+      (λ other. ⊎_elim
+      (λ is. space (of_class class.Space is))
+      (λ is. let o = sign b (of_class class.Operator is) in operator_follows st b o.stands (sym (stands_anywhere st b o.opens o.closes))) other) how
+    where
+      word : is_ascii_word b ≡ true → follows st b ≡ true
+      word h = rw h refl
+
+      space : is_space b ≡ true → follows st b ≡ true
+      space h = or_more (is_ascii_word b) _ (rw h refl)
+
+  pub apart_follows : (st : List Bracket) → (k ≡ class.LineFeed) ⊎ ((k ≡ class.Return) ⊎ ((k ≡ class.Hash) ⊎ (k ≡ class.Backslash))) → follows st b ≡ true
+  apart_follows st how =
+      ⊎_elim
+      (λ is. breaks (feed_breaks b (of_class class.LineFeed is)))
+      (λ other. ⊎_elim
+      (λ is. breaks (return_breaks b (of_class class.Return is)))
+      (λ third. ⊎_elim
+      (λ is. next (or_more (is_break b) _ (hash (of_class class.Hash is))))
+      (λ is. next (or_more (is_break b) _ (or_more (is_hash b) _ (of_class class.Backslash is)))) third) other) how
+    where
+      next : is_apart b ≡ true → follows st b ≡ true
+      next h = or_more (is_ascii_word b) _ (or_more (is_space b) _ (rw h refl))
+
+      breaks : is_break b ≡ true → follows st b ≡ true
+      breaks h = next (rw h refl)
+
+      hash : is_hash b ≡ true → is_hash b || is_backslash b ≡ true
+      hash h = rw h refl
 
 -- an operator that is no bracket leaves the brackets
-pub alone_taken : (old new : Scan) (bytes : List ℕ) (b : ℕ) → Some b ≡ slice_get bytes 0 → (is_operator b ≡ true) × (is_opening b ≡ false) × (is_closing b ≡ false) → AddsToken old (kind.Op b) 1 new → TakesOperator old bytes 1 new
-alone_taken old new bytes b first (passes, opens, closes) adds = record { c = b; after = drop 1 bytes; spell = begins_with bytes b first; size = refl; passes = passes; met = old.brackets; stands = keeps_at (stack_of old.brackets) old.stop b opens closes; adds = adds }
+pub alone_taken : (old new : Scan) (bytes : List ℕ) (b : ℕ) → Some b ≡ slice_get bytes 0 → is_of_class class.Operator b ≡ true → AddsToken old (kind.Op b) 1 new → TakesOperator old bytes 1 new
+alone_taken old new bytes b first so adds =
+    let o = sign b so in
+    record { c = b; after = drop 1 bytes; spell = begins_with bytes b first; size = refl; passes = o.stands; met = old.brackets; stands = keeps_at (stack_of old.brackets) old.stop b o.opens o.closes; adds = adds }

@@ -1,6 +1,6 @@
 -- Tokens that follow one another, with the space between them, are taken in one loop.
-use Rattle.std.proofs.Common.{◌≡◌, ℕ, zero, suc, ◌+◌, ◌-◌, ◌<◌, ◌≤◌, inl, inr, Bool, true, false, Option, None, Some, List, [], ◌∷◌, ◌++◌, length, take, drop, slice_index, refl, sym, ap, ◌∙◌, subst, arith, ⊎_elim, take_all, length-drop}
-use Rattle.std.specs.Prelude.{nat_lt}
+use Rattle.std.proofs.Common.{◌≡◌, ℕ, zero, suc, ◌+◌, ◌-◌, ◌<◌, ◌≤◌, inl, inr, Bool, true, false, leb, Option, None, Some, List, [], ◌∷◌, ◌++◌, length, take, drop, slice_index, refl, sym, ap, ◌∙◌, subst, arith, ⊎_elim, take_all, length-drop}
+use Rattle.std.specs.Prelude.{codes, nat_lt}
 use Rattle.std.specs.Char.{is_ascii_digit}
 use Rattle.std.specs.Global.{Vec}
 use Rattle.std.proofs.lemmas.Bool.Decides.{nat_tests}
@@ -16,13 +16,15 @@ use Rattle.py_lines.specs.declared.token.TokKind.{TokKind}
 use Rattle.py_lines.specs.declared.token.TokKind.TheVariants as kind
 use Rattle.py_lines.specs.Private.Machine.{Bracket}
 use Rattle.py_lines.specs.Private.Scan.{Closes, Meets, depth_of, stack_of, with_brackets}
-use Rattle.py_lines.specs.declared.run.FirstByte.TheVariants as first
-use Rattle.std.proofs.lemmas.Bool.{both_ways}
+use Rattle.py_lines.specs.declared.class.Class.TheVariants as class
+use Rattle.py_lines.specs.Private.Marks.{is_of_class}
+use Rattle.std.proofs.lemmas.Bool.{both_ways, false_from_ne_true, leb-false}
+use Rattle.py_lines.proofs.Text.CharacterTests.{none_of}
 use Rattle.py_lines.proofs.LineScan.FirstBytes.{alone_taken}
 use Rattle.py_lines.proofs.LineScan.ShortPieces.{free_is, operator_taken, space_closes, space_reached, takes_run, takes_word, text_size}
 use Rattle.py_lines.proofs.LineScan.WholeStrings.{token_reached, string_size}
 use Rattle.py_lines.specs.Private.FieldText.{IsWholeStringWithFields}
-use Rattle.py_lines.specs.Private.Run.{BeginsSo, HasAdded, IsWholePlainString, HasTaken, IsRunOf, LeadsTo, IsSpaceAfter, IsWholeWord, IsNextToken, MeetsToken, TakesSpace, AddsToken, coded, coded_if, follows, follows_space, is_ascii_word, is_free, may_begin, opened, space_mode}
+use Rattle.py_lines.specs.Private.Run.{HasAdded, IsWholePlainString, HasTaken, IsRunOf, LeadsTo, IsSpaceAfter, IsWholeWord, IsNextToken, MeetsToken, TakesSpace, AddsToken, coded, coded_if, follows, is_ascii_word, is_free, may_begin, opened, space_mode}
 
 -- a run of at least one byte
 run_some : (passes : ℕ → Bool) (bytes : List ℕ) (len : ℕ) → IsRunOf passes bytes len → begins passes bytes ≡ true → 0 < len
@@ -36,17 +38,22 @@ unfolding is_space
 space_is [] some is = absurd (omega (arith, some))
 space_is (b ∷ bs) some is = rw is refl
 
-pub space_alone : (st : List Bracket) (bytes : List ℕ) → 1 < length bytes → slice_index bytes 0 ≡ 32 → follows_space st (slice_index bytes 1) → IsSpaceAfter st bytes 1
-space_alone st [] more is next = absurd (omega (arith, more))
-space_alone st (b ∷ []) more is next = absurd (omega (arith, more))
-space_alone st (b ∷ d ∷ bs) more is next = inr (
+-- no space stands above a space
+above-space : (c : ℕ) → 32 < c → is_space c ≡ false
+unfolding is_space
+above-space c more = false_from_ne_true _ (λ h. absurd (omega (arith, more, leb-false 33 c (none_of (λ d. leb 33 d) (codes " \t" ++ 0x0C ∷ []) c refl h))))
+
+pub space_alone : (st : List Bracket) (bytes : List ℕ) → 1 < length bytes → slice_index bytes 0 ≡ 32 → 32 < slice_index bytes 1 → may_begin st (slice_index bytes 1) ≡ true → IsSpaceAfter st bytes 1
+space_alone st [] more is above next = absurd (omega (arith, more))
+space_alone st (b ∷ []) more is above next = absurd (omega (arith, more))
+space_alone st (b ∷ d ∷ bs) more is above next = inr (
   omega arith,
   record {
     within = omega (arith, more);
     each = λ i less. let zero_is : 0 ≡ i = omega (arith, less) in subst (λ (k : ℕ). is_space (slice_index (b ∷ d ∷ bs) k) ≡ true) zero_is (space_is (b ∷ d ∷ bs) (omega (arith, more)) is);
-    ends = λ rest. next.0;
+    ends = λ rest. above-space d above;
   },
-  next.1,
+  next,
 )
 
 -- what the first byte passes
@@ -69,7 +76,7 @@ word_met scan place (b ∷ bs) (Some (k, len)) first (short, run, next, is) = (
 )
 
 -- an operator that is no bracket
-pub operator_met : (scan : Scan) (place : ℕ) (bytes : List ℕ) → 2 < length bytes → BeginsSo first.Operator (slice_index bytes 0) → MeetsToken scan place bytes (Some (kind.Op (slice_index bytes 0), 1)) scan
+pub operator_met : (scan : Scan) (place : ℕ) (bytes : List ℕ) → 2 < length bytes → is_of_class class.Operator (slice_index bytes 0) ≡ true → MeetsToken scan place bytes (Some (kind.Op (slice_index bytes 0), 1)) scan
 operator_met scan place [] some so = absurd (omega (arith, some))
 operator_met scan place (b ∷ bs) some so = (
   refl,

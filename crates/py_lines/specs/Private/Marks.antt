@@ -19,12 +19,14 @@ begins_nothing c = nat_lt c 128 && not (is_plain c || (is_operator c || (is_quot
 
 -- whether a byte is of this class
 abbrev pub is_of_class : Class → ℕ → Bool
-is_of_class class.Plain b = is_plain b
-is_of_class class.LineFeed b = is_line_feed b
-is_of_class class.Return b = is_return b
+is_of_class class.Word b = is_ascii_word b
+is_of_class class.Space b = is_space b
+is_of_class class.Operator b = is_operator b && not (is_opening b || is_closing b)
 is_of_class class.Opening b = is_opening b
 is_of_class class.Closing b = is_closing b
 is_of_class class.Quote b = is_quote b
+is_of_class class.LineFeed b = is_line_feed b
+is_of_class class.Return b = is_return b
 is_of_class class.Hash b = is_hash b
 is_of_class class.Backslash b = is_backslash b
 is_of_class class.Wide b = nat_le 128 b

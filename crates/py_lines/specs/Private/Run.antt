@@ -3,8 +3,7 @@ use Rattle.std.specs.Prelude.{◌&&◌, is_some, Option, None, Some, Result, Ok,
 use Rattle.std.specs.Str.{all_scalars, byte, IsUtf8}
 use Rattle.std.specs.Char.{is_ascii_alphanumeric, is_ascii_digit, len_utf8, IsScalar}
 use Rattle.std.specs.List.{list_all, prefix_len}
-use Rattle.py_lines.specs.Character.{is_one_of, is_brace, is_space, is_break, is_operator, is_hash, is_backslash, is_quote, is_line_feed, is_return}
-use Rattle.py_lines.specs.Balance.{is_opening, is_closing}
+use Rattle.py_lines.specs.Character.{is_one_of, is_brace, is_space, is_break, is_operator, is_hash, is_backslash, is_quote, is_line_feed}
 use Rattle.py_lines.specs.LogicalLine.{byte_len, token}
 use Rattle.std.specs.declared.alloc.AllocError.{AllocError}
 use Rattle.py_lines.specs.Piece.{operator, begins}
@@ -25,8 +24,6 @@ use Rattle.py_lines.specs.declared.mode.Mode.{Mode}
 use Rattle.py_lines.specs.declared.mode.Mode.TheVariants as modes
 use Rattle.py_lines.specs.declared.mode.Move.TheVariants as moves
 use Rattle.py_lines.specs.declared.mode.Start.TheVariants as starts
-use Rattle.py_lines.specs.declared.run.FirstByte.{FirstByte}
-use Rattle.py_lines.specs.declared.run.FirstByte.TheVariants as first
 use Rattle.py_lines.specs.declared.run.ByteRun.{ByteRun}
 use Rattle.py_lines.specs.declared.run.ByteRun.TheVariants as runs
 use Rattle.py_lines.specs.declared.scan.Progress.TheVariants as progress
@@ -181,19 +178,6 @@ ReachedInSomeLine scan rest =
 -- what a line end, a comment or a join of lines begins with
 abbrev pub is_apart : ℕ → Bool
 is_apart c = is_break c || (is_hash c || is_backslash c)
-
--- what a byte passes that is of this kind
-abbrev pub BeginsSo : FirstByte → ℕ → Type 0
-BeginsSo first.Word b = is_ascii_word b ≡ true
-BeginsSo first.Space b = is_space b ≡ true
-BeginsSo first.Operator b = (is_operator b ≡ true) × (is_opening b ≡ false) × (is_closing b ≡ false)
-BeginsSo first.Bracket b = is_operator b ≡ true
-BeginsSo first.Quote b = is_quote b ≡ true
-BeginsSo first.LineFeed b = is_line_feed b ≡ true
-BeginsSo first.Return b = is_return b ≡ true
-BeginsSo first.Hash b = is_hash b ≡ true
-BeginsSo first.Backslash b = is_backslash b ≡ true
-BeginsSo first.Other b = Unit {0}
 
 -- whether no piece is open, after the text's start
 abbrev pub is_free : Mode → Bool
@@ -374,10 +358,6 @@ TakesToken old bytes len new =
 abbrev pub TakesPieceInLine : Scan → List ℕ → ℕ → Scan → Type 0
 TakesPieceInLine old bytes len new =
     TakesSpace old bytes len new ⊎ ((BeginsWithFeed bytes × TakesLineFeed old (taken.Bytes len) new) ⊎ HasTaken old bytes len new)
-
--- so does what may stand after a space: no space, and what may begin a piece
-abbrev pub follows_space : List Bracket → ℕ → Type 0
-follows_space st c = (is_space c ≡ false) × (may_begin st c ≡ true)
 
 -- so many bytes of space before a piece that may follow, or nothing
 abbrev pub IsSpaceAfter : List Bracket → List ℕ → ℕ → Type 0

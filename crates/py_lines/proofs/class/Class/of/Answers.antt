@@ -11,13 +11,14 @@ use Rattle.py_lines.specs.Private.Marks.{begins_nothing, is_of_class, is_plain}
 use Rattle.py_lines.proofs.class.Class.of.Goals as goal
 
 -- a table whose each entry is the class of its place
-tabled : (table : List Class) (b : ℕ) → agree_below (λ i. is_of_class (slice_index_or table i class.Plain) i) (λ _. true) 256 ≡ true → b < 256
-    → is_of_class (slice_index_or table b class.Plain) b ≡ true
-tabled table b all less = agree_below_at (λ i. is_of_class (slice_index_or table i class.Plain) i) (λ _. true) 256 b all less
+tabled : (table : List Class) (b : ℕ) → agree_below (λ i. is_of_class (slice_index_or table i class.Word) i) (λ _. true) 256 ≡ true → b < 256
+    → is_of_class (slice_index_or table b class.Word) b ≡ true
+tabled table b all less = agree_below_at (λ i. is_of_class (slice_index_or table i class.Word) i) (λ _. true) 256 b all less
 
 abbrev class_of : ℕ → Class
 class_of b =
-    if is_plain b then class.Plain
+    if is_ascii_word b then class.Word
+    else (if is_space b then class.Space
     else (if is_line_feed b then class.LineFeed
     else (if is_return b then class.Return
     else (if is_opening b then class.Opening
@@ -25,8 +26,9 @@ class_of b =
     else (if is_quote b then class.Quote
     else (if is_hash b then class.Hash
     else (if is_backslash b then class.Backslash
+    else (if is_operator b then class.Operator
     else (if leb 128 b then class.Wide
-    else class.Other))))))))
+    else class.Other))))))))))
 
 pub returns : goal.returns
 unfolding is_plain begins_nothing is_space is_operator is_quote is_line_feed is_return is_hash is_backslash is_opening is_closing is_ascii_word is_break
