@@ -3,7 +3,7 @@ use Rattle.std.proofs.Common.{◌≡◌, ℕ, ◌+◌, ◌≤◌, Bool, true, fa
 use Rattle.std.specs.Prelude.{encode_utf8, encode_utf8_all, IsUtf8}
 use Rattle.std.specs.Str.{all_scalars, StartsWithNoChar}
 use Rattle.std.specs.Char.{IsScalar}
-use Rattle.std.proofs.lemmas.Bool.{and_parts, both_ways, false_from_ne_true}
+use Rattle.std.proofs.lemmas.Bool.{and_parts, both_ways, false_from_ne_true, not-true}
 use Rattle.std.proofs.lemmas.Str.{encode_ascii, encode_same, encodes_same, length-encode, len_utf8_bounds}
 use Rattle.py_lines.specs.Character.{is_line_feed, is_return}
 use Rattle.py_lines.specs.Piece.{Piece, ends, begins, spelled}
@@ -126,10 +126,6 @@ other_whole read (b ∷ more) c rest is other = inr (
       both_ways (is_line_feed c) other (feed_from c (sym (encode_same 10 c more rest bytes).0))),
 )
 
-not_true : (b : Bool) → not b ≡ true → b ≡ false
-not_true true h = sym h
-not_true false h = refl
-
 -- a run of characters was held
 pub goes_run : (first : Scan) (text : List ℕ) (old new : Scan) (before rest : List ℕ) → GoesTo first text old before → HoldsRun old before rest new → GoesTo first text new rest
 goes_run first text old new before rest goes holds m line whole start r = reached_run m line whole old new before rest (goes m line whole start r) start holds
@@ -180,7 +176,7 @@ module _ (first : Scan) (text : List ℕ) (old : Scan) (before : List ℕ) (shut
             (λ after apart.
                 let returns = return_ends o.way.state o.read (sound_steps m o.read o.way.state start o.way.steps) (ap is_return_mode (sym o.way.tallies.counts.mode) ∙ parts.0) in
                 returned m old new o.read (encode_utf8_all after) o.way start parts.0 parts.1 closes (λ a spells. ap (begins is_line_feed) (encodes_same a after spells) ∙ apart returns)),
-            other_whole o.read before c rest is (not_true (is_line_feed c) both.1),
+            other_whole o.read before c rest is (not-true (is_line_feed c) both.1),
           );
           number = ap (λ (s : Scan). s.line) closes.same ∙ o.line;
         }

@@ -4,7 +4,7 @@ use Rattle.std.specs.Prelude.{encode_utf8_all, encode_utf8, codes, nat_le, if◌
 use Rattle.std.specs.Str.{IsUtf8}
 use Rattle.std.specs.Char.{IsScalar}
 use Rattle.std.specs.List.{list_all}
-use Rattle.std.proofs.lemmas.Bool.{and_parts, and_from, cases_lt, both_ways, eqb-true, false_from_ne_true, or_parts, leb-false}
+use Rattle.std.proofs.lemmas.Bool.{and_parts, and_from, cases_lt, both_ways, eqb-true, false_from_ne_true, not-true, or_parts, leb-false}
 use Rattle.std.proofs.lemmas.List.{get_or-append-add, length-take-le, get_or-take}
 use Rattle.std.proofs.lemmas.Bool.Decides.{nat_tests}
 use Rattle.std.proofs.lemmas.Str.{encodes-append, length-encode, len_utf8_bounds, char_from_byte, byte_from_char}
@@ -77,17 +77,13 @@ body_parts q c h = go (c == q) (c == 92) (is_one_of (codes "\n\r") c) h
     go false false true e = absurd (both_ways _ refl e)
     go false false false e = (refl, refl, refl)
 
-no_longer : (b : Bool) → not b ≡ true → b ≡ false
-no_longer true h = sym h
-no_longer false h = refl
-
 -- what stays grows the open piece, in its mode
 pub stays-grows : (m : Mode) (depth : ℕ) (held : List ℕ) (c : ℕ) → stays m c ≡ true → move_in m depth held c ≡ moves.Grows m
 unfolding meet_of move_of short_move long_move spelling_with
 stays-grows modes.Space depth held c h = rw h refl
 stays-grows (modes.Word spellings.Number) depth held c h = rw (word_byte_continues c (word_byte_low c h) ∙ h) refl
 stays-grows (modes.Word spellings.Name) depth held c h = rw (word_byte_continues c (word_byte_low c h) ∙ h) refl
-stays-grows modes.Comment depth held c h = rw (no_longer (is_break c) h) refl
+stays-grows modes.Comment depth held c h = rw (not-true (is_break c) h) refl
 stays-grows (modes.Inside q) depth held c h = let parts = body_parts q c h in rw (parts.0, parts.1, parts.2) refl
 stays-grows (modes.Long q) depth held c h = let parts = body_parts q c h in rw (parts.0, parts.1) refl
 stays-grows m depth held c h = absurd (both_ways _ refl h)
@@ -97,7 +93,7 @@ pub stays-no_break : (m : Mode) (c : ℕ) → stays m c ≡ true → is_break c 
 stays-no_break modes.Space c h = excluded is_space is_break c (space-no_break c) h
 stays-no_break (modes.Word spellings.Number) c h = excluded is_ascii_word is_break c (word_byte-no_break c) h
 stays-no_break (modes.Word spellings.Name) c h = excluded is_ascii_word is_break c (word_byte-no_break c) h
-stays-no_break modes.Comment c h = no_longer (is_break c) h
+stays-no_break modes.Comment c h = not-true (is_break c) h
 stays-no_break (modes.Inside q) c h = (body_parts q c h).2
 stays-no_break (modes.Long q) c h = (body_parts q c h).2
 stays-no_break m c h = absurd (both_ways _ refl h)
@@ -221,7 +217,7 @@ pub line_ends-run : (before run : List ℕ) → list_all (λ d. not (is_break d)
 line_ends-run before [] all = ap line_ends (append-nil before)
 line_ends-run before (c ∷ cs) all =
     let parts = and_parts (not (is_break c)) (list_all (λ d. not (is_break d)) cs) all in
-    ap line_ends (sym (append_assoc before (c ∷ []) cs)) ∙ line_ends-run (before ++ c ∷ []) cs parts.1 ∙ omega (arith, line_ends-step before c, counts_none (ends is_return before) c (no_longer (is_break c) parts.0))
+    ap line_ends (sym (append_assoc before (c ∷ []) cs)) ∙ line_ends-run (before ++ c ∷ []) cs parts.1 ∙ omega (arith, line_ends-step before c, counts_none (ends is_return before) c (not-true (is_break c) parts.0))
 
 pub break-return : (c : ℕ) → is_break c ≡ false → is_return c ≡ false
 unfolding is_break is_return
@@ -229,7 +225,7 @@ break-return c h = (or_parts (c == 10) (is_one_of (codes "\r") c) h).1
 
 pub ends-run : (before run : List ℕ) → IsFull run → list_all (λ d. not (is_break d)) run ≡ true → ends is_return (before ++ run) ≡ false
 ends-run before [] full all = absurd full
-ends-run before (c ∷ []) full all = ends-last is_return before c ∙ break-return c (no_longer (is_break c) (and_parts (not (is_break c)) true all).0)
+ends-run before (c ∷ []) full all = ends-last is_return before c ∙ break-return c (not-true (is_break c) (and_parts (not (is_break c)) true all).0)
 ends-run before (c ∷ d ∷ cs) full all =
     let parts = and_parts (not (is_break c)) (list_all (λ e. not (is_break e)) (d ∷ cs)) all in
     ap (ends is_return) (sym (append_assoc before (c ∷ []) (d ∷ cs))) ∙ ends-run (before ++ c ∷ []) (d ∷ cs) tt parts.1

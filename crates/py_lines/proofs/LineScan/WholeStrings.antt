@@ -21,7 +21,7 @@ use Rattle.py_lines.specs.declared.mode.Move.TheVariants as moves
 use Rattle.py_lines.specs.declared.scan.Scan.{Scan}
 use Rattle.py_lines.specs.Private.Machine.{Scanned, fresh, closed, moved, started, first_spelling, spelling_on, IsFull, brackets_of}
 use Rattle.py_lines.specs.Private.FieldMachine as spots
-use Rattle.py_lines.specs.Private.FieldMachine.{between, body, grows, closes, FieldMove, Level, FieldScanned, field_state, field_text_start, field_move, field_step, field_moved, body_move, between_move, host_of, frames, has_room_at}
+use Rattle.py_lines.specs.Private.FieldMachine.{between, body, closes, Level, FieldScanned, field_state, field_text_start, field_move, body_move, between_move, host_of, frames}
 use Rattle.py_lines.specs.Private.FieldScan.{GoesThrough}
 use Rattle.py_lines.specs.Private.FieldText.{InText, IsWholeStringWithFields, Leads}
 use Rattle.py_lines.specs.Private.ScanMachine.{IsScanSound, fielded_move, host_in, is_field_spelling, is_raw_spelling, meet_of, opened_move, quote_move, scan_step, scan_steps, string_state, move_at}
