@@ -1,7 +1,7 @@
 //! The brackets that are open at a place of a text.
 
-ghost use Rattle.std.specs.Prelude.{◌≡◌, ◌==◌, ◌≤◌, [], length};
-ghost use Rattle.py_lines.specs.Balance.{closing_of};
+ghost use Rattle.std.specs.Prelude.{◌≡◌, ◌==◌, ◌≤◌, ℕ, true, [], length};
+ghost use Rattle.py_lines.specs.Balance.{closing_of, is_closing, is_opening};
 
 use crate::character::{is_closing, is_opening};
 
@@ -64,6 +64,7 @@ impl Brackets {
     }
 
     /// How many brackets are open.
+    #[inline(always)]
     pub fn len(&self) -> usize
         ensures { result ≡ depth_of self.now }
     {
@@ -71,6 +72,7 @@ impl Brackets {
     }
 
     /// Whether no bracket is open.
+    #[inline(always)]
     pub fn is_empty(&self) -> bool
         ensures { result ≡ none_open (stack_of self.now) }
     {
@@ -78,6 +80,7 @@ impl Brackets {
     }
 
     /// The bracket that was opened last and is still open.
+    #[inline(always)]
     pub fn innermost(&self) -> Option<OpenBracket>
         ensures { IsInnermost result (stack_of self.now) }
     {
@@ -103,26 +106,47 @@ impl Brackets {
         }
     }
 
+    /// Opens a bracket at this byte, if there is room for it.
+    #[inline(always)]
+    pub fn open(&mut self, opener: char, place: usize) -> bool
+        requires { is_opening opener ≡ true }
+        ensures { Meets self.old opener place result self.new }
+    {
+        if self.len() >= MAX_DEPTH {
+            return false;
+        }
+        self.brackets[self.depth as usize] = OpenBracket { opener, place };
+        self.depth += 1;
+        true
+    }
+
+    /// Closes the innermost open bracket, if this closes it.
+    #[inline(always)]
+    pub fn close(&mut self, closer: char) -> bool
+        requires { is_closing closer ≡ true }
+        ensures { (place : ℕ) → Meets self.old closer place result self.new }
+    {
+        let Some(bracket) = self.innermost() else {
+            return false;
+        };
+        if closer != closing_of(bracket.opener) {
+            return false;
+        }
+        self.depth = self.depth.saturating_sub(1);
+        true
+    }
+
     /// Whether an operator may stand at this byte: a closing bracket closes the innermost open one, and an opening one
     /// finds room. Then it has done so.
     pub fn meet(&mut self, c: char, place: usize) -> bool
         ensures { Meets self.old c place result self.new }
     {
         if is_opening(c) {
-            if self.len() >= MAX_DEPTH {
-                return false;
-            }
-            self.brackets[self.depth as usize] = OpenBracket { opener: c, place };
-            self.depth += 1;
+            self.open(c, place)
         } else if is_closing(c) {
-            let Some(bracket) = self.innermost() else {
-                return false;
-            };
-            if c != closing_of(bracket.opener) {
-                return false;
-            }
-            self.depth = self.depth.saturating_sub(1);
+            self.close(c)
+        } else {
+            true
         }
-        true
     }
 }
