@@ -55,8 +55,9 @@
 --
 -- Simple lines (proofs/SimpleLines) are passed over from one such byte to the next. After each step the machine of the scan has gone
 -- through the line so far, and a piece is open that goes on or ends there; the word that the bytes end with is known from the bytes
--- alone. What closes the open brackets is kept in an array. After a line end outside brackets the line is whole, and the machine begins
--- the next one (Lines). That such lines are the text's next is in Readers/PassedLines, and where it comes in pieces in Feeds/PassedLines.
+-- alone. The open brackets are kept as the scan keeps them (LineScan/BracketStack). After a line end outside brackets the line is
+-- whole, and the machine begins the next one (Lines). That such lines are the text's next is in Readers/PassedLines, and where it
+-- comes in pieces in Feeds/PassedLines.
 --
 -- The reader (proofs/Readers) puts these together for one call: a line, a fault or the end.
 --

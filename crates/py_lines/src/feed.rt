@@ -408,10 +408,8 @@ impl Feed {
         if !self.stands_between_lines() {
             return 0;
         }
-        let lines = simple_lines(&piece[..before.min(piece.len())]);
-        if lines.len == 0 {
-            return 0;
-        }
+        let bytes = &piece[..before.min(piece.len())];
+        let lines = simple_lines(&mut self.state.scan.brackets, bytes);
         let line = self.state.line + lines.line_ends;
         self.state.pass(lines.len, line);
         self.state.restart();

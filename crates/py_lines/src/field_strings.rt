@@ -11,7 +11,7 @@ use crate::host::StringWithFields;
 use crate::plain_strings::Passed;
 
 /// How many brackets may be open round a string that is passed over.
-const MAX_DEPTH: usize = 100;
+pub const MAX_DEPTH: usize = 100;
 
 /// What is left of a string with fields, whose scan has come to this byte of it.
 fn rest_of_string(scan: &mut FieldScan, place: usize, bytes: &[u8]) -> Option<Passed>

@@ -4,7 +4,6 @@
 mod brackets;
 mod character;
 mod class;
-mod closers;
 mod count;
 mod fault;
 mod feed;

@@ -5,9 +5,9 @@ ghost use Rattle.py_lines.specs.Character.{is_backslash, is_hash, is_quote};
 ghost use Rattle.py_lines.specs.Private.Marks.{is_of_class};
 ghost use Rattle.py_lines.specs.Private.Outline.{BeginWithLines, BeginsLineEnd, IsAt, IsFurther, IsPast, PassesFirst, PassesPiece};
 
+use crate::brackets::Brackets;
 use crate::class::Class;
-use crate::closers::Closers;
-use crate::field_strings::string_with_fields;
+use crate::field_strings::{MAX_DEPTH, string_with_fields};
 use crate::marks::Marks;
 use crate::plain_strings::{Passed, line_end_len, plain_string};
 use crate::prefix::Prefix;
@@ -78,8 +78,6 @@ struct Outline {
     lines: Passed,
     /// How many line ends they and the next one have so far.
     line_ends: u64,
-    /// The brackets that are open in the next line.
-    closers: Closers,
     /// The bytes after it that are not plain.
     marks: Marks,
 }
@@ -87,15 +85,15 @@ struct Outline {
 impl Outline {
     /// Passes the line end of so many bytes at this byte: where no bracket is open it ends the line.
     #[inline(always)]
-    fn pass_line_end(&mut self, bytes: &[u8], at: usize, len: usize)
+    fn pass_line_end(&mut self, brackets: &Brackets, bytes: &[u8], at: usize, len: usize)
         requires within { at < length bytes.now }
-        requires stands { IsAt bytes.now at self.old }
+        requires stands { IsAt bytes.now at self.old brackets.now }
         requires ends { BeginsLineEnd (drop at bytes.now) len }
-        ensures past { IsPast bytes.now (at + len) self.new }
+        ensures past { IsPast bytes.now (at + len) self.new brackets.now }
         ensures marks { self.new.marks ≡ self.old.marks }
     {
         self.line_ends += 1;
-        if self.closers.is_empty() {
+        if brackets.is_empty() {
             self.lines = Passed {
                 len: at + len,
                 line_ends: self.line_ends,
@@ -104,29 +102,33 @@ impl Outline {
     }
 
     /// Passes the CR at this byte, and the LF after it. The result is whether LF follows, so that they were passed.
-    fn pass_return(&mut self, bytes: &[u8], at: usize) -> bool
+    fn pass_return(&mut self, brackets: &Brackets, bytes: &[u8], at: usize) -> bool
         requires within { at < length bytes.now }
-        requires stands { IsAt bytes.now at self.old }
-        ensures further { IsTrue result → IsFurther bytes.now at self.new }
+        requires stands { IsAt bytes.now at self.old brackets.now }
+        ensures further { IsTrue result → IsFurther bytes.now at self.new brackets.now }
         ensures lines { BeginWithLines bytes.now self.new.lines }
     {
         let Some(len) = line_end_len(&bytes[at..]) else {
             return false;
         };
-        self.pass_line_end(bytes, at, len);
+        self.pass_line_end(brackets, bytes, at, len);
         self.marks.pass(bytes, at + len);
         true
     }
 
-    /// Passes the piece that begins at this byte. The result is whether it was passed.
+    /// Passes the piece that begins at this byte, where so few brackets are open that there is room for all that a string with
+    /// fields opens. The result is whether it was passed.
     #[inline(always)]
-    fn pass_piece(&mut self, bytes: &[u8], class: Class, at: usize) -> bool
+    fn pass_piece(&mut self, brackets: &Brackets, bytes: &[u8], class: Class, at: usize) -> bool
         requires within { at < length bytes.now }
-        requires stands { IsAt bytes.now at self.old }
+        requires stands { IsAt bytes.now at self.old brackets.now }
         requires class { is_of_class class (slice_index bytes.now at) ≡ true }
-        ensures further { IsTrue result → IsFurther bytes.now at self.new }
+        ensures further { IsTrue result → IsFurther bytes.now at self.new brackets.now }
         ensures lines { self.new.lines ≡ self.old.lines }
     {
+        if brackets.len() > MAX_DEPTH {
+            return false;
+        }
         let Some(piece) = piece(bytes, class, at) else {
             return false;
         };
@@ -137,42 +139,42 @@ impl Outline {
 
     /// Passes the byte at this place, which is not plain, or the piece that it begins. The result is whether it was passed.
     #[inline(always)]
-    fn pass(&mut self, bytes: &[u8], at: usize) -> bool
+    fn pass(&mut self, brackets: &mut Brackets, bytes: &[u8], at: usize) -> bool
         requires within { at < length bytes.now }
-        requires stands { IsAt bytes.now at self.old }
-        ensures further { IsTrue result → IsFurther bytes.now at self.new }
+        requires stands { IsAt bytes.now at self.old brackets.old }
+        ensures further { IsTrue result → IsFurther bytes.now at self.new brackets.new }
         ensures lines { BeginWithLines bytes.now self.new.lines }
     {
         match Class::of(bytes[at]) {
             Class::LineFeed => {
-                self.pass_line_end(bytes, at, 1);
+                self.pass_line_end(brackets, bytes, at, 1);
                 true
             }
-            Class::Return => self.pass_return(bytes, at),
-            Class::Opening => self.closers.open(bytes[at]),
-            Class::Closing => self.closers.close(bytes[at]),
-            class => self.pass_piece(bytes, class, at),
+            Class::Return => self.pass_return(brackets, bytes, at),
+            Class::Opening => brackets.open(bytes[at] as char, at - self.lines.len),
+            Class::Closing => brackets.close(bytes[at] as char),
+            class => self.pass_piece(brackets, bytes, class, at),
         }
     }
 }
 
 /// The logical lines that the bytes begin with, as long as they are simple: words of ASCII, operators, comments, joins and strings, and
-/// LF or CR LF. No line is open before the bytes, and no bracket.
-pub fn simple_lines(bytes: &[u8]) -> Passed
+/// LF or CR LF. No line is open before the bytes. The brackets are those of the line after them, as far as it was passed.
+pub fn simple_lines(brackets: &mut Brackets, bytes: &[u8]) -> Passed
     ensures { BeginWithLines bytes.now result }
 {
+    brackets.clear();
     let mut outline = Outline {
         lines: Passed {
             len: 0,
             line_ends: 0,
         },
         line_ends: 0,
-        closers: Closers::new(),
         marks: Marks::at(bytes, 0),
     };
     let mut at = outline.marks.next(bytes);
     'specials: while at < bytes.len() {
-        if !outline.pass(bytes, at) {
+        if !outline.pass(brackets, bytes, at) {
             return outline.lines;
         }
         at = outline.marks.next(bytes);

@@ -180,7 +180,8 @@ impl<'t> Source<'t> {
         {
             return 0;
         }
-        let lines = simple_lines(&self.characters.as_bytes()[place..before]);
+        let bytes = &self.characters.as_bytes()[place..before];
+        let lines = simple_lines(&mut self.state.scan.brackets, bytes);
         let line = self.state.line + lines.line_ends;
         self.state.pass(lines.len, line);
         lines.len

@@ -1,5 +1,5 @@
 -- Lines that a scanner passed over are the next ones of each text that goes on with them.
-use Rattle.std.proofs.Common.{◌≡◌, ℕ, zero, suc, ◌+◌, ◌<◌, ◌≤◌, ◌^◌, Option, None, Some, List, [], ◌∷◌, ◌++◌, length, take, drop, refl, sym, ap, ◌∙◌, subst, append_assoc, append-nil, arith, length-append}
+use Rattle.std.proofs.Common.{◌≡◌, ℕ, ◌+◌, ◌<◌, ◌≤◌, ◌^◌, Option, None, Some, List, [], ◌∷◌, ◌++◌, length, take, drop, refl, sym, ap, ◌∙◌, subst, append_assoc, append-nil, arith, length-append}
 use Rattle.std.specs.Prelude.{encode_utf8_all, flat_map, min}
 use Rattle.std.proofs.lemmas.List.{length-take-le, length-take}
 use Rattle.std.proofs.lemmas.Str.{encodes-append, length-le-encodes}
@@ -15,6 +15,7 @@ use Rattle.py_lines.specs.declared.feed.Feed.{Feed}
 use Rattle.py_lines.specs.declared.line_state.LineState.{LineState}
 use Rattle.py_lines.specs.declared.mode.Mode.{Mode}
 use Rattle.py_lines.specs.declared.plain_strings.Passed.{Passed}
+use Rattle.py_lines.specs.declared.scan.Scan.{Scan}
 use Rattle.py_lines.specs.Private.Feed.{IsSoundFeed, StandsSo}
 use Rattle.py_lines.specs.Private.LineState.{BeginsAnew, first_mode}
 use Rattle.py_lines.specs.Private.Scan.{line_start}
@@ -127,10 +128,6 @@ none_ready : (f : Feed) (ready : Option ℕ) → ready_of f ready ≡ None → r
 none_ready f None seen = refl
 none_ready f (Some n) seen = absurd (cc)
 
-some_from : (n : ℕ) → (n ≡ 0 → ⊥) → 0 < n
-some_from zero not = absurd (not refl)
-some_from (suc n) not = omega arith
-
 -- the lines that the code has found in the first bytes of a piece, after which the scan of the next line begins
 module _ (f : Feed) (state : LineState) (piece : List ℕ) (before stop : ℕ) (p : Passed) (between : StandsBetweenLines (scanning_of f)) (stop_is : stop ≡ min before (length piece)) (found : BeginWithLines (take stop piece) p) where
   read : List ℕ
@@ -165,7 +162,7 @@ module _ (f : Feed) (state : LineState) (piece : List ℕ) (before stop : ℕ) (
   not_ready : f.ready ≡ None
   not_ready = none_ready f f.ready between.ready
 
-  module _ (some : p.len ≡ 0 → ⊥) (anew : BeginsAnew (record f.state { place = f.state.place + p.len; line = f.state.line + p.line_ends }) state) where
+  module _ (scan : Scan) (anew : BeginsAnew (record f.state { place = f.state.place + p.len; line = f.state.line + p.line_ends; scan = scan }) state) where
     abbrev after : Feed
     after = record f { state = state }
 
@@ -181,20 +178,20 @@ module _ (f : Feed) (state : LineState) (piece : List ℕ) (before stop : ℕ) (
     ready : ready_of after f.ready ≡ None
     ready = ap (ready_of after) not_ready
 
-    first : (text : List ℕ) (given : List LogicalLine) → IsScanning (scanning_of f) text given → GoesOnWith text f.state.place (encode_utf8_all read) → AreSettledAt text state.place state.line (given ++ lines)
+    first : 0 < p.len → (text : List ℕ) (given : List LogicalLine) → IsScanning (scanning_of f) text given → GoesOnWith text f.state.place (encode_utf8_all read) → AreSettledAt text state.place state.line (given ++ lines)
     unfolding lines
-    first text given scanning goes =
+    first some text given scanning goes =
         let there : f.state.place + byte_len read ≡ state.place = omega (arith, place, read_size) in
-        let at = all_settled found.texts text f.state.place f.state.line given read p.line_ends are (omega (arith, some_from p.len some, read_size)) (λ (none : f.state.place ≡ 0). omega (arith, none, between.later)) scanning.first goes in
+        let at = all_settled found.texts text f.state.place f.state.line given read p.line_ends are (omega (arith, some, read_size)) (λ (none : f.state.place ≡ 0). omega (arith, none, between.later)) scanning.first goes in
         subst (λ (m : ℕ). AreSettledAt text m state.line (given ++ lines)) there
         (subst (λ (m : ℕ). AreSettledAt text (f.state.place + byte_len read) m (given ++ lines)) (sym line) at)
 
-    scans : (text : List ℕ) (given : List LogicalLine) → IsScanning (scanning_of f) text given → GoesOnWith text (fed_of (scanning_of f)) (take p.len piece) → HasSettled (scanning_of after) text (given ++ lines)
-    scans text given scanning goes =
+    scans : 0 < p.len → (text : List ℕ) (given : List LogicalLine) → IsScanning (scanning_of f) text given → GoesOnWith text (fed_of (scanning_of f)) (take p.len piece) → HasSettled (scanning_of after) text (given ++ lines)
+    scans some text given scanning goes =
         let here : fed_of (scanning_of f) ≡ f.state.place = omega (arith, ap length between.held) in
         let fed : state.place ≡ fed_of (scanning_of after) = omega (arith, ap length between.held) in
         let next : GoesOnWith text f.state.place (encode_utf8_all read) = subst (GoesOnWith text f.state.place) (sym read_is) (subst (λ (m : ℕ). GoesOnWith text m (take p.len piece)) here goes) in
-        let at = first text given scanning next in (
+        let at = first some text given scanning next in (
           record {
             first = at.0;
             held = subst (GoesOnWith text state.place) (sym between.held) refl;
@@ -211,6 +208,12 @@ module _ (f : Feed) (state : LineState) (piece : List ℕ) (before stop : ℕ) (
         let same : ready_of after f.ready ≡ ready_of f f.ready = ready ∙ sym between.ready in
         λ i. record { place = state.place; line = state.line; held = f.held.items; ready = same i; ended = f.ended; fault = fault i }
 
+    nothing : p.len ≡ 0 → scanning_of after ≡ scanning_of f
+    nothing none =
+        let at : state.place ≡ f.state.place = omega (arith, place, none) in
+        let row : state.line ≡ f.state.line = omega (arith, line, none, few) in
+        others ∙ (λ i. record (scanning_of f) { place = at i; line = row i })
+
     texts : flat_map (λ (l : LogicalLine). l.text) lines ≡ take p.len piece
     unfolding lines
     texts = lines_spell found.texts f.state.place f.state.line read p.line_ends are ∙ read_is
@@ -222,10 +225,10 @@ module _ (f : Feed) (state : LineState) (piece : List ℕ) (before stop : ℕ) (
       within = within;
       ends = up_to;
       between = λ more. between;
-      scans = λ more. scans;
+      scans = scans;
       place = place;
       others = others;
-      same = λ none. absurd (some none);
+      same = nothing;
     }
 
     pub passed_sound : f.state.place + length f.held.items + length piece ≤ 2 ^ 62 → IsSoundFeed f → IsSoundFeed after
@@ -234,7 +237,7 @@ module _ (f : Feed) (state : LineState) (piece : List ℕ) (before stop : ℕ) (
         fits = omega (arith, place, within, fits);
         few_lines = omega (arith, place, line, few, sound.room.few_lines);
       };
-      state = subst (λ x. StandsSo x after) (sym not_ready) (λ no_fault. ([], f.held.items, restarts_open (record f { state = record f.state { place = f.state.place + p.len; line = f.state.line + p.line_ends } }) after (record { same = refl; begins = anew })));
+      state = subst (λ x. StandsSo x after) (sym not_ready) (λ no_fault. ([], f.held.items, restarts_open (record f { state = record f.state { place = f.state.place + p.len; line = f.state.line + p.line_ends; scan = scan } }) after (record { same = refl; begins = anew })));
     }
 
 -- no line was passed over

@@ -1,17 +1,17 @@
 -- Simple lines follow one another: from one byte that is not plain to the next, and from line end to line end.
-use Rattle.std.proofs.Common.{◌≡◌, ℕ, ◌+◌, ◌-◌, ◌<◌, ◌≤◌, ◌⊎◌, inl, inr, Bool, true, false, not, ◌&&◌, ◌==◌, ◌||◌, Option, None, Some, List, [], ◌∷◌, ◌++◌, length, take, drop, slice_index, refl, sym, ap, ◌∙◌, subst, append_assoc, append-nil, arith, length-append, length-drop}
+use Rattle.std.proofs.Common.{◌≡◌, ℕ, ◌+◌, ◌-◌, ◌<◌, ◌≤◌, ◌⊎◌, inl, inr, Bool, true, false, not, ◌&&◌, ◌||◌, Option, None, Some, List, [], ◌∷◌, ◌++◌, length, take, drop, slice_index, refl, sym, ap, ◌∙◌, subst, append_assoc, append-nil, arith, length-append, length-drop}
 use Rattle.std.specs.List.{list_all}
 use Rattle.std.specs.Str.{all_scalars}
-use Rattle.std.proofs.lemmas.Bool.{and_from, and_parts, both_ways, eq-eqb, or_cases}
-use Rattle.std.proofs.lemmas.List.{drop-drop, drop_more, get_or-drop, get_or-set_other, get_or-set_same, length-set, length-take-le, take-append-drop}
+use Rattle.std.proofs.lemmas.Bool.{and_from, and_parts, both_ways, or_cases}
+use Rattle.std.proofs.lemmas.List.{drop-drop, drop_more, get_or-drop, length-take-le, take-append-drop}
 use Rattle.std.proofs.lemmas.Str.{encodes-append}
 use Rattle.std.proofs.Math.Seq.{take-add}
-use Rattle.std.specs.Prelude.{codes, encode_utf8_all, slice_set}
-use Rattle.py_lines.specs.Balance.{closing_of, is_closing, is_opening}
+use Rattle.std.specs.Prelude.{IsTrue, encode_utf8_all}
+use Rattle.py_lines.specs.Balance.{is_closing, is_opening}
 use Rattle.py_lines.specs.Character.{is_operator, is_space}
 use Rattle.py_lines.specs.LogicalLine.{byte_len, line_ends}
 use Rattle.py_lines.specs.Piece.{operator}
-use Rattle.py_lines.specs.declared.closers.Closers.{Closers}
+use Rattle.py_lines.specs.declared.brackets.Brackets.{Brackets}
 use Rattle.py_lines.specs.declared.marks.Marks.{Marks}
 use Rattle.py_lines.specs.declared.mode.Spelling.{Spelling}
 use Rattle.py_lines.specs.declared.outline.Outline.{Outline}
@@ -19,15 +19,16 @@ use Rattle.py_lines.specs.declared.plain_strings.Passed.{Passed}
 use Rattle.py_lines.specs.Private.Machine.{Bracket, brackets_after}
 use Rattle.py_lines.specs.Private.Marks.{FindsNext, HasMarks, is_plain}
 use Rattle.py_lines.specs.Private.Run.{is_ascii_word}
-use Rattle.py_lines.specs.Private.Scan.{none_open}
-use Rattle.py_lines.specs.Private.Outline.{AreClosers, AreWholeLines, BeginsLineEnd, Close, ClosesInnermost, HasComeTo, IsAfter, IsAfterLineEnd, IsAt, IsFurther, IsPast, IsWholeLine, Opens, PassesPiece, StandsBefore, line_end_of, line_up_to, tail_of, tail_on}
+use Rattle.py_lines.specs.Private.Scan.{Meets, depth_of, none_open, stack_of}
+use Rattle.py_lines.specs.Private.Outline.{AreWholeLines, BeginsLineEnd, HasComeTo, IsAfter, IsAfterLineEnd, IsAt, IsFurther, IsPast, IsWholeLine, PassesPiece, StandsBefore, line_end_of, line_up_to, tail_of, tail_on}
 use Rattle.py_lines.proofs.Pieces.PieceLists.{piece}
+use Rattle.py_lines.proofs.Machine.LiveTexts.{closing-operator}
+use Rattle.py_lines.proofs.FieldMachine.PieceRuns.{opening_operator}
 use Rattle.py_lines.proofs.FieldScans.TextLengths.{later, rest_is}
-use Rattle.py_lines.proofs.LineScan.BracketStack.{closes_top, none_length, opens_at}
 use Rattle.py_lines.proofs.LineScan.LineCount.{line_ends-bytes}
 use Rattle.py_lines.proofs.LineScan.ShortPieces.{all_pass, is_low, low_encodes, low_is}
 use Rattle.py_lines.proofs.LogicalLines.Cuts.{byte_len-append}
-use Rattle.py_lines.proofs.Text.CharacterTests.{none_of, operator_ascii}
+use Rattle.py_lines.proofs.Text.CharacterTests.{operator_ascii}
 use Rattle.py_lines.proofs.Text.Utf8Prefixes.{all_scalars-append}
 use Rattle.py_lines.proofs.SimpleLines.Code.{IsCodeByte, begun, code_low, code_run, ends_so, line_end_on, operator_ends, operator_passed, stands, tail-encoded, tail_on-append}
 use Rattle.py_lines.proofs.SimpleLines.FirstBytes.{feed_found, line_end_low}
@@ -295,121 +296,49 @@ module _ (bytes : List ℕ) where
       own : StandsBefore (drop at bytes) come.read come.more st → come.more ≤ byte_len come.read
       own on = in_line (drop at bytes) come.read come.more on
 
--- what closes the open brackets
-others_close : (closers : List ℕ) (st : List Bracket) (k c : ℕ) → length st < k → AreClosers closers st → AreClosers (slice_set closers k c) st
-others_close closers [] k c less are = tt
-others_close closers (b ∷ bs) k c less are = (
-  get_or-set_other closers k (length bs + 1) c 0 (λ same. omega (arith, same, less)) ∙ are.0,
-  others_close closers bs k c (omega (arith, less)) are.1,
-)
+pub next_is : (bytes : List ℕ) (from at : ℕ) (old new : Outline) (b : Brackets) → IsAfter bytes from old b → new ≡ record old { marks = new.marks } → FindsNext bytes from at new.marks → IsAt bytes at new b
+next_is bytes from at old new b on same next =
+    let come = plain_on bytes old.lines from at old.line_ends (stack_of b) new.marks on.come next in
+    subst (λ (o : Outline). IsAt bytes at o b) (sym same) (record { come = come; special = next.special; marked = next.rest })
 
-pub closer_opens : (old new : Closers) (opener : ℕ) → old.depth < 100 → new.depth ≡ old.depth + 1 → new.closers ≡ slice_set old.closers (old.depth + 1) (closing_of opener) → Opens opener old new
-closer_opens old new opener room deeper set_so st close =
-    let depth = close.depth in (
-      omega (arith, room, depth),
-      λ place. record {
-        depth = omega (arith, deeper, depth);
-        size = ap length set_so ∙ length-set old.closers (old.depth + 1) (closing_of opener) ∙ close.size;
-        room = omega (arith, room, depth);
-        each = (
-          ap (λ (cs : List ℕ). slice_index cs (length st + 1)) set_so
-              ∙ ap (λ (k : ℕ). slice_index (slice_set old.closers k (closing_of opener)) (length st + 1)) (ap (λ (n : ℕ). n + 1) depth)
-              ∙ get_or-set_same old.closers (length st + 1) (closing_of opener) 0 (omega (arith, room, depth, close.size)),
-          subst (λ (cs : List ℕ). AreClosers cs st) (sym set_so) (others_close old.closers st (old.depth + 1) (closing_of opener) (omega (arith, depth)) close.each),
-        );
-      },
-    )
-
-pub closer_closes : (old new : Closers) (closer : ℕ) → (old.depth ≡ 0 → ⊥) → slice_index old.closers old.depth ≡ closer → new.depth ≡ old.depth - 1 → new.closers ≡ old.closers → ClosesInnermost closer old new
-closer_closes old new closer some is less same [] close = absurd (some close.depth)
-closer_closes old new closer some is less same (b ∷ bs) close =
-    let depth = close.depth in
-    let here : old.depth ≡ length bs + 1 = omega (arith, depth) in
-    record {
-      last = b;
-      others = bs;
-      are = refl;
-      fits = sym is ∙ ap (λ (k : ℕ). slice_index old.closers k) here ∙ close.each.0;
-      rest = record {
-        depth = omega (arith, depth, less);
-        size = ap length same ∙ close.size;
-        room = omega (arith, close.room);
-        each = subst (λ (cs : List ℕ). AreClosers cs bs) (sym same) close.each.1;
-      };
-    }
-
-pub none_closes : (c : Closers) (st : List Bracket) → Close c st → c.depth == 0 ≡ none_open st
-none_closes c st close = none_length st c.depth (sym close.depth)
-
-pub next_is : (bytes : List ℕ) (from at : ℕ) (old new : Outline) → IsAfter bytes from old → new ≡ record old { marks = new.marks } → FindsNext bytes from at new.marks → IsAt bytes at new
-next_is bytes from at old new on same next =
-    let come = plain_on bytes old.lines from at old.line_ends on.st new.marks on.come next in
-    subst (λ (o : Outline). IsAt bytes at o) (sym same) (record { st = on.st; close = on.close; come = come; special = next.special; marked = next.rest })
-
-pub begins_at : (bytes : List ℕ) (at : ℕ) (new : Outline) (marks : Marks) → Close new.closers [] → new.lines ≡ record { len = 0; line_ends = 0 } → new.line_ends ≡ 0 → HasMarks bytes 0 marks → FindsNext bytes 0 at new.marks → IsAt bytes at new
-begins_at bytes at new marks close lines ends marked next = record {
-  st = [];
-  close = close;
-  come = subst (λ (p : Passed). HasComeTo bytes p at new.line_ends []) (sym lines) (subst (λ (n : ℕ). HasComeTo bytes (record { len = 0; line_ends = 0 }) at n []) (sym ends) (plain_on bytes (record { len = 0; line_ends = 0 }) 0 at 0 [] new.marks (first_come bytes) next));
+pub begins_at : (bytes : List ℕ) (at : ℕ) (new : Outline) (b : Brackets) → stack_of b ≡ [] → new.lines ≡ record { len = 0; line_ends = 0 } → new.line_ends ≡ 0 → FindsNext bytes 0 at new.marks → IsAt bytes at new b
+begins_at bytes at new b none lines ends next = record {
+  come =
+      subst (λ (st : List Bracket). HasComeTo bytes new.lines at new.line_ends st) (sym none)
+      (subst (λ (p : Passed). HasComeTo bytes p at new.line_ends []) (sym lines)
+      (subst (λ (n : ℕ). HasComeTo bytes (record { len = 0; line_ends = 0 }) at n []) (sym ends)
+      (plain_on bytes (record { len = 0; line_ends = 0 }) 0 at 0 [] new.marks (first_come bytes) next)));
   special = next.special;
   marked = next.rest;
 }
 
--- brackets
-yes : (b : Bool) → not b ≡ false → b ≡ true
-yes true e = refl
-yes false e = sym e
-
-opening_operator : (c : ℕ) → is_opening c ≡ true → is_operator c ≡ true
-unfolding is_opening is_operator
-opening_operator c is = yes (is_operator c) (none_of (λ d. not (is_operator d)) (codes "([{") c refl is)
-
-closing_operator : (c : ℕ) → is_closing c ≡ true → is_operator c ≡ true
-unfolding is_closing is_operator
-closing_operator c is = yes (is_operator c) (none_of (λ d. not (is_operator d)) (codes ")]}") c refl is)
-
-closing-not-opening : (c : ℕ) → is_closing c ≡ true → is_opening c ≡ false
-unfolding is_closing is_opening
-closing-not-opening c is = none_of is_opening (codes ")]}") c refl is
-
 -- the outline comes further
-module _ (bytes : List ℕ) (at : ℕ) (o : Outline) (on : IsAt bytes at o) (within : at < length bytes) where
-  pub line_ended : (len : ℕ) (new : Outline) → BeginsLineEnd (drop at bytes) len → new ≡ record o { lines = record { len = at + len; line_ends = o.line_ends + 1 }; line_ends = o.line_ends + 1 } → none_open on.st ≡ true → IsPast bytes (at + len) new
-  line_ended len new ends same none = subst (λ (x : Outline). IsPast bytes (at + len) x) (sym same) (record {
-    st = on.st;
-    close = on.close;
-    come = line_end_ends_line bytes o.lines at o.line_ends len on.st on.come within ends none;
-  })
+module _ (bytes : List ℕ) (at : ℕ) (o : Outline) (b : Brackets) (on : IsAt bytes at o b) (within : at < length bytes) where
+  pub line_ended : (len : ℕ) (new : Outline) → BeginsLineEnd (drop at bytes) len → new ≡ record o { lines = record { len = at + len; line_ends = o.line_ends + 1 }; line_ends = o.line_ends + 1 } → none_open (stack_of b) ≡ true → IsPast bytes (at + len) new b
+  line_ended len new ends same none =
+      subst (λ (x : Outline). IsPast bytes (at + len) x b) (sym same) (line_end_ends_line bytes o.lines at o.line_ends len (stack_of b) on.come within ends none)
 
-  pub line_goes_on : (len : ℕ) (new : Outline) → BeginsLineEnd (drop at bytes) len → new ≡ record o { line_ends = o.line_ends + 1 } → none_open on.st ≡ false → IsPast bytes (at + len) new
-  line_goes_on len new ends same some = subst (λ (x : Outline). IsPast bytes (at + len) x) (sym same) (record {
-    st = on.st;
-    close = on.close;
-    come = line_end_in_brackets bytes o.lines at o.line_ends len on.st on.come within ends some;
-  })
+  pub line_goes_on : (len : ℕ) (new : Outline) → BeginsLineEnd (drop at bytes) len → new ≡ record o { line_ends = o.line_ends + 1 } → none_open (stack_of b) ≡ false → IsPast bytes (at + len) new b
+  line_goes_on len new ends same some =
+      subst (λ (x : Outline). IsPast bytes (at + len) x b) (sym same) (line_end_in_brackets bytes o.lines at o.line_ends len (stack_of b) on.come within ends some)
 
   -- what follows LF is marked
-  pub feed_passed : (new : Outline) → IsPast bytes (at + 1) new → new.marks ≡ o.marks → IsFurther bytes at new
+  pub feed_passed : (new : Outline) → IsPast bytes (at + 1) new b → new.marks ≡ o.marks → IsFurther bytes at new b
   feed_passed new past same = record {
     from = at + 1;
     further = omega arith;
-    on = record { st = past.st; close = past.close; come = past.come; marked = subst (λ (m : Marks). HasMarks bytes (at + 1) m) (sym same) (on.marked within) };
+    on = record { come = past; marked = subst (λ (m : Marks). HasMarks bytes (at + 1) m) (sym same) (on.marked within) };
   }
 
   -- and what follows CR LF, once that is passed
-  pub return_passed : (len : ℕ) (mid : Outline) (marks : Marks) → BeginsLineEnd (drop at bytes) len → IsPast bytes (at + len) mid → mid.marks ≡ o.marks
-      → ((from : ℕ) → HasMarks bytes from mid.marks → from ≤ at + len → HasMarks bytes (at + len) marks) → IsFurther bytes at (record mid { marks = marks })
+  pub return_passed : (len : ℕ) (mid : Outline) (marks : Marks) → BeginsLineEnd (drop at bytes) len → IsPast bytes (at + len) mid b → mid.marks ≡ o.marks
+      → ((from : ℕ) → HasMarks bytes from mid.marks → from ≤ at + len → HasMarks bytes (at + len) marks) → IsFurther bytes at (record mid { marks = marks }) b
   return_passed len mid marks ends past same pass =
       let some = ends.some in
       record {
         from = at + len;
         further = omega (arith, some);
-        on = record {
-          st = past.st;
-          close = past.close;
-          come = past.come;
-          marked = pass (at + 1) (subst (λ (m : Marks). HasMarks bytes (at + 1) m) (sym same) (on.marked within)) (omega (arith, some));
-        };
+        on = record { come = past; marked = pass (at + 1) (subst (λ (m : Marks). HasMarks bytes (at + 1) m) (sym same) (on.marked within)) (omega (arith, some)) };
       }
 
   -- what `pass` of the marks requires there
@@ -419,52 +348,38 @@ module _ (bytes : List ℕ) (at : ℕ) (o : Outline) (on : IsAt bytes at o) (wit
       let base = (on.marked within).base in
       omega (arith, some, base, ap (λ (m : Marks). m.base) same)
 
-  pub opened : (new : Closers) → is_opening (slice_index bytes at) ≡ true → Opens (slice_index bytes at) o.closers new → IsFurther bytes at (record o { closers = new })
-  opened new is opens =
-      let c = slice_index bytes at in
-      let room = opens on.st on.close in
-      let place = byte_len on.come.read in
-      let after : List Bracket = record { opener = c; place = place } ∷ on.st in
+  -- over a bracket, which its brackets have met at its place in the line
+  bracket_passed : (new : Brackets) → is_operator (slice_index bytes at) ≡ true → Meets b (slice_index bytes at) (at - o.lines.len) true new → IsFurther bytes at o new
+  bracket_passed new is meets =
+      let place = ap length on.come.spell ∙ line_size bytes o.lines at on.come.ordered on.come.within in
       record {
         from = at + 1;
         further = omega arith;
         on = record {
-          st = after;
-          close = room.1 place;
-          come = bracket_on bytes o.lines at o.line_ends on.st after on.come within (opening_operator c is) (opens_at on.st place c is (omega (arith, room.0)));
+          come = bracket_on bytes o.lines at o.line_ends (stack_of b) (stack_of new) on.come within is (ap (λ (k : ℕ). brackets_after (stack_of b) k (piece operator (slice_index bytes at ∷ []))) place ∙ meets);
           marked = on.marked within;
         };
       }
 
-  pub closed : (new : Closers) → is_closing (slice_index bytes at) ≡ true → ClosesInnermost (slice_index bytes at) o.closers new → IsFurther bytes at (record o { closers = new })
-  closed new is closes =
-      let c = slice_index bytes at in
-      let close = closes on.st on.close in
-      let place = byte_len on.come.read in
-      record {
-        from = at + 1;
-        further = omega arith;
-        on = record {
-          st = close.others;
-          close = close.rest;
-          come = bracket_on bytes o.lines at o.line_ends on.st close.others on.come within (closing_operator c is) (closes_top on.st place c close.last close.others close.are (closing-not-opening c is) is (eq-eqb c (closing_of close.last.opener) close.fits));
-          marked = on.marked within;
-        };
-      }
+  pub opened : (met : Bool) (new : Brackets) → is_opening (slice_index bytes at) ≡ true → Meets b (slice_index bytes at) (at - o.lines.len) met new → IsTrue met → IsFurther bytes at o new
+  opened met new is meets met_is = bracket_passed new (opening_operator (slice_index bytes at) is) (subst (λ (m : Bool). Meets b (slice_index bytes at) (at - o.lines.len) m new) met_is meets)
 
-  pub piece_passed : (new : Marks) (p : Passed) → PassesPiece bytes at (Some p) → ((from : ℕ) → HasMarks bytes from o.marks → from ≤ at + p.len → HasMarks bytes (at + p.len) new) → IsFurther bytes at (record o { line_ends = o.line_ends + p.line_ends; marks = new })
-  piece_passed new p passes pass =
+  pub closed : (met : Bool) (new : Brackets) → is_closing (slice_index bytes at) ≡ true → Meets b (slice_index bytes at) (at - o.lines.len) met new → IsTrue met → IsFurther bytes at o new
+  closed met new is meets met_is = bracket_passed new (closing-operator (slice_index bytes at) is) (subst (λ (m : Bool). Meets b (slice_index bytes at) (at - o.lines.len) m new) met_is meets)
+
+  pub piece_passed : (new : Marks) (p : Passed) → depth_of b ≤ 100 → PassesPiece bytes at (Some p) → ((from : ℕ) → HasMarks bytes from o.marks → from ≤ at + p.len → HasMarks bytes (at + p.len) new) → IsFurther bytes at (record o { line_ends = o.line_ends + p.line_ends; marks = new }) b
+  piece_passed new p few passes pass =
       let some = passes.1.some in
       record {
         from = at + p.len;
         further = omega (arith, some);
-        on = record { st = on.st; close = on.close; come = piece_on bytes o.lines at o.line_ends on.st p on.close.room on.come passes; marked = pass (at + 1) (on.marked within) (omega (arith, some)) };
+        on = record { come = piece_on bytes o.lines at o.line_ends (stack_of b) p few on.come passes; marked = pass (at + 1) (on.marked within) (omega (arith, some)) };
       }
 
-  pub piece_few : (p : Passed) → PassesPiece bytes at (Some p) → o.line_ends + p.line_ends ≤ length bytes
-  piece_few p passes =
-      let few = few_ends bytes o.lines (at + p.len) (o.line_ends + p.line_ends) on.st (piece_on bytes o.lines at o.line_ends on.st p on.close.room on.come passes) in
-      omega (arith, few, passes.0)
+  pub piece_few : (p : Passed) → depth_of b ≤ 100 → PassesPiece bytes at (Some p) → o.line_ends + p.line_ends ≤ length bytes
+  piece_few p few passes =
+      let ends = few_ends bytes o.lines (at + p.len) (o.line_ends + p.line_ends) (stack_of b) (piece_on bytes o.lines at o.line_ends (stack_of b) p few on.come passes) in
+      omega (arith, ends, passes.0)
 
   pub own_few : o.line_ends ≤ at
-  own_few = few_ends bytes o.lines at o.line_ends on.st on.come
+  own_few = few_ends bytes o.lines at o.line_ends (stack_of b) on.come

@@ -1,16 +1,15 @@
 -- Simple lines that bytes begin with, which are passed over: what the machine has come to in such a line, after the text's first.
 use Rattle.std.specs.Prelude.{◌≡◌, ℕ, ◌+◌, ◌-◌, ◌<◌, ◌≤◌, ◌⊎◌, ◌==◌, ◌||◌, Bool, true, false, if◌then◌else◌, Option, None, Some, List, [], ◌∷◌, ◌++◌, length, take, drop, slice_index, encode_utf8_all}
 use Rattle.std.specs.Str.{all_scalars}
-use Rattle.py_lines.specs.Balance.{closing_of}
 use Rattle.py_lines.specs.Character.{is_break, is_quote, is_return}
 use Rattle.py_lines.specs.Piece.{Piece, ends}
 use Rattle.py_lines.specs.LogicalLine.{line_ends}
 use Rattle.py_lines.specs.Private.Machine.{Scanned, fresh, Bracket, brackets_of, first_spelling, spelling_with}
 use Rattle.py_lines.specs.Private.ScanMachine.{begins_string, is_field_spelling, is_raw_spelling, meet_of, scan_steps}
-use Rattle.py_lines.specs.Private.Scan.{AreLine, EndsNoLine, line_start}
+use Rattle.py_lines.specs.Private.Scan.{AreLine, EndsNoLine, line_start, stack_of}
 use Rattle.py_lines.specs.Private.Run.{is_ascii_word}
 use Rattle.py_lines.specs.Private.FieldText.{is_apart_mode}
-use Rattle.py_lines.specs.declared.closers.Closers.{Closers}
+use Rattle.py_lines.specs.declared.brackets.Brackets.{Brackets}
 use Rattle.py_lines.specs.declared.mode.Mode.{Mode}
 use Rattle.py_lines.specs.declared.mode.Mode.TheVariants as modes
 use Rattle.py_lines.specs.declared.mode.Move.TheVariants as moves
@@ -234,57 +233,23 @@ pub record HasComeTo (bytes : List ℕ) (lines : Passed) (at n : ℕ) (st : List
   pub spell : encode_utf8_all read ≡ line_up_to bytes lines at
   pub stands : StandsBefore (drop at bytes) read more st
 
--- these bytes close the open brackets, the innermost last, from place 1 on
-abbrev pub AreClosers : List ℕ → List Bracket → Type 0
-AreClosers closers [] = Unit {0}
-AreClosers closers (b ∷ bs) = (slice_index closers (length bs + 1) ≡ closing_of b.opener) × AreClosers closers bs
+-- the outline has come to this byte, with these brackets; its marks are left out of account
+abbrev pub IsPast : List ℕ → ℕ → Outline → Brackets → Type 0
+IsPast bytes from o b = HasComeTo bytes o.lines from o.line_ends (stack_of b)
 
-pub record Close (c : Closers) (st : List Bracket) : Type 0 where
-  pub depth : c.depth ≡ length st
-  pub size : length c.closers ≡ 256
-  pub room : length st ≤ 100
-  pub each : AreClosers c.closers st
-
--- a bracket was opened
-abbrev pub Opens : ℕ → Closers → Closers → Type 0
-Opens opener old new =
-    (st : List Bracket) → Close old st
-    → (length st < 100) × ((place : ℕ) → Close new (record { opener = opener; place = place } ∷ st))
-
--- the innermost bracket was closed
-pub record ClosesLast (closer : ℕ) (new : Closers) (st : List Bracket) : Type 0 where
-  pub last : Bracket
-  pub others : List Bracket
-  pub are : st ≡ last ∷ others
-  pub fits : closer ≡ closing_of last.opener
-  pub rest : Close new others
-
-abbrev pub ClosesInnermost : ℕ → Closers → Closers → Type 0
-ClosesInnermost closer old new = (st : List Bracket) → Close old st → ClosesLast closer new st
-
--- the outline stands at a byte that isn't plain, or at the end of the bytes
-pub record IsAt (bytes : List ℕ) (at : ℕ) (o : Outline) : Type 0 where
-  pub st : List Bracket
-  pub close : Close o.closers st
-  pub come : HasComeTo bytes o.lines at o.line_ends st
+-- it stands at a byte that isn't plain, or at the end of the bytes
+pub record IsAt (bytes : List ℕ) (at : ℕ) (o : Outline) (b : Brackets) : Type 0 where
+  pub come : IsPast bytes at o b
   pub special : at < length bytes → is_plain (slice_index bytes at) ≡ false
   pub marked : at < length bytes → HasMarks bytes (at + 1) o.marks
 
--- it has come to this byte; its marks are left out of account
-pub record IsPast (bytes : List ℕ) (from : ℕ) (o : Outline) : Type 0 where
-  pub st : List Bracket
-  pub close : Close o.closers st
-  pub come : HasComeTo bytes o.lines from o.line_ends st
-
 -- or after such a byte
-pub record IsAfter (bytes : List ℕ) (from : ℕ) (o : Outline) : Type 0 where
-  pub st : List Bracket
-  pub close : Close o.closers st
-  pub come : HasComeTo bytes o.lines from o.line_ends st
+pub record IsAfter (bytes : List ℕ) (from : ℕ) (o : Outline) (b : Brackets) : Type 0 where
+  pub come : IsPast bytes from o b
   pub marked : HasMarks bytes from o.marks
 
 -- it has come further than this byte
-pub record IsFurther (bytes : List ℕ) (at : ℕ) (o : Outline) : Type 0 where
+pub record IsFurther (bytes : List ℕ) (at : ℕ) (o : Outline) (b : Brackets) : Type 0 where
   pub from : ℕ
   pub further : at < from
-  pub on : IsAfter bytes from o
+  pub on : IsAfter bytes from o b

@@ -3,7 +3,7 @@ use Rattle.py_lines.proofs.SimpleLines.Lines.{begins_at, next_is}
 use Rattle.py_lines.proofs.outline.simple_lines.Goals as goal
 
 pub specials-init : goal.specials-init
-specials-init c = begins_at c.args.bytes.now c.next-at.result _ c.at.result c.new.ensures refl refl c.at.ensures.marks (c.next-at.ensures 0 c.at.ensures.marks)
+specials-init c = begins_at c.args.bytes.now c.next-at.result _ _ c.clear.ensures refl refl (c.next-at.ensures 0 c.at.ensures.marks)
 
 pub specials-smaller : goal.specials-smaller
 specials-smaller c =
@@ -14,4 +14,4 @@ specials-smaller c =
 pub specials-preserved : goal.specials-preserved
 specials-preserved c =
     let far = c.pass.ensures.further c.if-not-pass.false in
-    next_is c.args.bytes.now far.from c.next-at-in-specials.result c.pass.new.self _ far.on refl (c.next-at-in-specials.ensures far.from far.on.marked)
+    next_is c.args.bytes.now far.from c.next-at-in-specials.result c.pass.new.self _ c.pass.new.brackets far.on refl (c.next-at-in-specials.ensures far.from far.on.marked)

@@ -14,10 +14,10 @@ pub returns-clause-passes : goal.returns-clause-passes
 returns-clause-passes c =
     let between = c.stands_between_lines.ensures c.if-not-stands_between_lines.false in
     let anew = subst (λ (s : LineState). BeginsAnew s c.restart.new.self) c.pass.ensures c.restart.ensures in
-    passes_lines c.args.self.now c.restart.new.self c.args.piece.now c.args.before c.min.result c.simple_lines-lines.result between c.min.ensures c.simple_lines-lines.ensures c.if-lines-eq0.false anew
+    passes_lines c.args.self.now c.restart.new.self c.args.piece.now c.args.before c.min.result c.simple_lines-lines.result between c.min.ensures c.simple_lines-lines.ensures _ anew
 
 pub returns-clause-sound : goal.returns-clause-sound
 returns-clause-sound c =
     let between = c.stands_between_lines.ensures c.if-not-stands_between_lines.false in
     let anew = subst (λ (s : LineState). BeginsAnew s c.restart.new.self) c.pass.ensures c.restart.ensures in
-    passed_sound c.args.self.now c.restart.new.self c.args.piece.now c.args.before c.min.result c.simple_lines-lines.result between c.min.ensures c.simple_lines-lines.ensures c.if-lines-eq0.false anew c.requires.fits c.requires.sound
+    passed_sound c.args.self.now c.restart.new.self c.args.piece.now c.args.before c.min.result c.simple_lines-lines.result between c.min.ensures c.simple_lines-lines.ensures _ anew c.requires.fits c.requires.sound
