@@ -35,7 +35,7 @@ use Rattle.py_lines.proofs.LineScan.PieceEnd.{closed_text}
 use Rattle.py_lines.proofs.LineScan.Runs.{break_low, ends-run, line_ends-run, space_low, word_byte_continues, word_byte_low}
 use Rattle.py_lines.proofs.LineScan.ShortPieces.{ascii_scalar, free_breaks, operator-no_break, operator-not-quote, word_starts, word_whole, space-not-quote, space_whole}
 use Rattle.py_lines.proofs.LineScan.TextSteps.{begun_sound}
-use Rattle.py_lines.proofs.Text.CharacterTests.{excluded, feed_from, none_of, operator_ascii}
+use Rattle.py_lines.proofs.Text.CharacterTests.{break-not-quote, excluded, feed_from, none_of, operator_ascii}
 use Rattle.py_lines.proofs.Text.Utf8Prefixes.{all_scalars-append}
 use Rattle.py_lines.proofs.Text.Utf8Shapes.{one, two, three, four}
 
@@ -91,7 +91,7 @@ returned_feed_counts : counts_after true 10 ≡ 0
 unfolding counts_after is_return is_line_feed
 returned_feed_counts = refl
 
-feed_unreturned : is_return 10 ≡ false
+pub feed_unreturned : is_return 10 ≡ false
 unfolding is_return
 feed_unreturned = refl
 
@@ -292,10 +292,6 @@ code_ends read n st c on word quote space none =
 break-no_word : (c : ℕ) → is_break c ≡ true → is_ascii_word c ≡ false
 unfolding is_break is_ascii_word
 break-no_word c is = none_of is_ascii_word (codes "\n\r") c refl is
-
-break-not-quote : (c : ℕ) → is_break c ≡ true → is_quote c ≡ false
-unfolding is_break is_quote
-break-not-quote c is = none_of is_quote (codes "\n\r") c refl is
 
 break-not-space : (c : ℕ) → is_break c ≡ true → is_space c ≡ false
 unfolding is_break is_space

@@ -37,11 +37,11 @@ slash-not-space : is_space 92 ≡ false
 unfolding is_space
 slash-not-space = refl
 
-slash-not-break : is_break 92 ≡ false
+pub slash-not-break : is_break 92 ≡ false
 unfolding is_break
 slash-not-break = refl
 
-slash_slash : is_backslash 92 ≡ true
+pub slash_slash : is_backslash 92 ≡ true
 unfolding is_backslash
 slash_slash = refl
 

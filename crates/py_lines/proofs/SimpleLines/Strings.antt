@@ -29,9 +29,10 @@ use Rattle.py_lines.proofs.FieldScans.TextLengths.{later, rest_is}
 use Rattle.py_lines.proofs.LineScan.Increments.{EndsNoLine-push}
 use Rattle.py_lines.proofs.LineScan.LineSteps.{steps_push}
 use Rattle.py_lines.proofs.LineScan.Runs.{body_parts, break-return, quote_ascii, stays-no_break}
-use Rattle.py_lines.proofs.LineScan.ShortPieces.{is_low, is_low_from, low_encodes, low_is, quote-no_break}
+use Rattle.py_lines.proofs.LineScan.ShortPieces.{inside_closes, is_low, is_low_from, low_encodes, low_is, quote-no_break}
 use Rattle.py_lines.proofs.Text.CharacterTests.{quote-not-word}
-use Rattle.py_lines.proofs.SimpleLines.Code.{apart_breaks, apart_tail, code_other, holds_line_end, holds_more, holds_one, no_tail, opens, quote-no-word, quote-not-space, stands, tail_code}
+use Rattle.py_lines.proofs.SimpleLines.Code.{apart_breaks, apart_tail, code_other, feed_unreturned, holds_line_end, holds_more, holds_one, no_tail, opens, quote-no-word, quote-not-space, stands, tail_code}
+use Rattle.py_lines.proofs.SimpleLines.Joins.{slash-not-break, slash_slash}
 use Rattle.py_lines.proofs.SimpleLines.FirstBytes.{first_then, line_end_low, taken_one, taken_two}
 use Rattle.py_lines.proofs.SimpleLines.Runs.{goes_on, stay_spelled}
 
@@ -89,10 +90,6 @@ empty_breaks : (q c : ℕ) → c == q ≡ false → meet_of (modes.Empty q) c �
 unfolding meet_of move_of
 empty_breaks q c other = rw other refl
 
-inside_quote : (q : ℕ) → meet_of (modes.Inside q) q ≡ moves.Closes
-unfolding meet_of move_of
-inside_quote q = rw (eq-eqb q q refl) refl
-
 long_quote : (q : ℕ) → meet_of (modes.Long q) q ≡ moves.Grows (modes.LongOne q)
 unfolding meet_of move_of
 long_quote q = rw (eq-eqb q q refl) refl
@@ -123,29 +120,21 @@ unfolding meet_of move_of long_move
 one_other q c other plain = rw (other, plain) refl
 
 -- a backslash, and what it escapes
-slash : is_backslash 92 ≡ true
-unfolding is_backslash
-slash = refl
-
-slash_whole : is_break 92 ≡ false
-unfolding is_break is_line_feed is_return
-slash_whole = refl
-
 slash-not-quote : (q : ℕ) → is_quote q ≡ true → 92 == q ≡ false
 unfolding is_quote
 slash-not-quote q is = grind (arith)
 
 opened_slash : (q : ℕ) → is_quote q ≡ true → meet_of (modes.Opened q) 92 ≡ moves.Grows (modes.Escape q)
 unfolding meet_of move_of short_move
-opened_slash q quote = rw (slash-not-quote q quote, slash) refl
+opened_slash q quote = rw (slash-not-quote q quote, slash_slash) refl
 
 inside_slash : (q : ℕ) → is_quote q ≡ true → meet_of (modes.Inside q) 92 ≡ moves.Grows (modes.Escape q)
 unfolding meet_of move_of short_move
-inside_slash q quote = rw (slash-not-quote q quote, slash) refl
+inside_slash q quote = rw (slash-not-quote q quote, slash_slash) refl
 
 long_slash : (q : ℕ) → is_quote q ≡ true → meet_of (modes.Long q) 92 ≡ moves.Grows (modes.LongEscape q)
 unfolding meet_of move_of long_move
-long_slash q quote = rw (slash-not-quote q quote, slash) refl
+long_slash q quote = rw (slash-not-quote q quote, slash_slash) refl
 
 escape_other : (q c : ℕ) → is_return c ≡ false → meet_of (modes.Escape q) c ≡ moves.Grows (modes.Inside q)
 unfolding meet_of move_of
@@ -179,10 +168,6 @@ feed-plain = refl
 return-plain : is_backslash 13 ≡ false
 unfolding is_backslash
 return-plain = refl
-
-feed-not-return : is_return 10 ≡ false
-unfolding is_return
-feed-not-return = refl
 
 -- what the bytes begin with that a backslash escapes
 pub escapes_byte : (bytes : List ℕ) → 1 < length bytes → slice_index bytes 0 ≡ 92 → slice_index bytes 1 < 128 → is_break (slice_index bytes 1) ≡ false → HasEscape bytes (Some (record { len = 2; line_ends = 0 }))
@@ -346,7 +331,7 @@ module _ (q : ℕ) (quote : is_quote q ≡ true) where
       → (read text : List ℕ) (n feeds : ℕ) (st : List Bracket) → IsEscaped text feeds → IsInPiece mid read n st → IsInPiece next (read ++ text) (n + feeds) st
   escaped_leads mid after_return next other return feed read text n feeds st (inl (returned, is, one)) on =
       one_more next (read ++ text) n feeds st one
-      (subst (λ (t : List ℕ). IsInPiece next (read ++ t) (n + 1) st) (sym is) (line_end_grows mid after_return next returned read n st (other 10 feed-not-return) return feed on))
+      (subst (λ (t : List ℕ). IsInPiece next (read ++ t) (n + 1) st) (sym is) (line_end_grows mid after_return next returned read n st (other 10 feed_unreturned) return feed on))
   escaped_leads mid after_return next other return feed read text n feeds st (inr (c, is, low, none, zero)) on =
       none_more next (read ++ text) n feeds st zero
       (subst (λ (t : List ℕ). IsInPiece next (read ++ t) n st) (sym is) (grows mid next c n read n st (other c (break-return c none)) (holds_one read c n on.come.holds low none) on))
@@ -376,7 +361,7 @@ module _ (q : ℕ) (quote : is_quote q ≡ true) where
       (λ c other done held. ap (moved (scanned done (modes.Escape q) held) c) (escape_other q c other))
       (λ done held. ap (moved (scanned done (modes.Escape q) held) 13) (escape_return q))
       (λ done held. ap (moved (scanned done (modes.EscapeReturn q) held) 10) (returned_feed q))
-      (read ++ 92 ∷ []) text n feeds st escaped (grows (short_is b) (modes.Escape q) 92 n read n st (by b) (holds_one read 92 n on.come.holds (lit< tt) slash_whole) on))
+      (read ++ 92 ∷ []) text n feeds st escaped (grows (short_is b) (modes.Escape q) 92 n read n st (by b) (holds_one read 92 n on.come.holds (lit< tt) slash-not-break) on))
     where
       by : (b : Bool) → Steps (short_is b) 92 (modes.Escape q)
       by true done held = ap (moved (scanned done (modes.Opened q) held) 92) (opened_slash q quote)
@@ -412,7 +397,7 @@ module _ (q : ℕ) (quote : is_quote q ≡ true) where
   pub short_last : (bytes rest : List ℕ) (len : ℕ) → 1 < len → 0 < length bytes → slice_index bytes 0 ≡ q → PassesPart bytes 1 0 (IsInShort q len) (StandsBefore rest)
   short_last bytes rest len more within is = low_still bytes (q ∷ []) 1 within quote_low (taken_one bytes within ∙ ap (λ (c : ℕ). c ∷ []) is) (λ read n st on.
       stands rest (read ++ q ∷ []) n st
-      (closes (modes.Inside q) read n st (λ s. ap (moved (scanned s.done (modes.Inside q) s.held) q) (inside_quote q)) (subst (λ (m : Mode). IsInPiece m read n st) (short_later len more) on)))
+      (closes (modes.Inside q) read n st (λ s. ap (moved (scanned s.done (modes.Inside q) s.held) q) (inside_closes q)) (subst (λ (m : Mode). IsInPiece m read n st) (short_later len more) on)))
 
   -- a string of three quotes begins
   begun_long : (read : List ℕ) (n : ℕ) (st : List Bracket) → StringBegins q read n st → IsInLong q (read ++ q ∷ q ∷ q ∷ []) n st
@@ -510,7 +495,7 @@ module _ (q : ℕ) (quote : is_quote q ≡ true) where
       (escaped_leads (modes.LongEscape q) (modes.Long q) (modes.Long q)
       (λ c other done held. ap (moved (scanned done (modes.LongEscape q) held) c) (long_escape q c))
       (λ done held. ap (moved (scanned done (modes.LongEscape q) held) 13) (long_escape q 13)) feed_in_long
-      (read ++ 92 ∷ []) text n feeds st escaped (grows (modes.Long q) (modes.LongEscape q) 92 n read n st (λ done held. ap (moved (scanned done (modes.Long q) held) 92) (long_slash q quote)) (holds_one read 92 n on.come.holds (lit< tt) slash_whole) on))
+      (read ++ 92 ∷ []) text n feeds st escaped (grows (modes.Long q) (modes.LongEscape q) 92 n read n st (λ done held. ap (moved (scanned done (modes.Long q) held) 92) (long_slash q quote)) (holds_one read 92 n on.come.holds (lit< tt) slash-not-break) on))
 
   long_escape_part : (bytes : List ℕ) (p : Passed) → HasEscape bytes (Some p) → PassesPart bytes p.len p.line_ends (IsInLong q) (IsInLong q)
   long_escape_part bytes p has =
