@@ -32,7 +32,7 @@ impl Case for Reads {
 }
 
 /// Options that don't go together.
-const TOGETHER: &[Reads] = &[
+static TOGETHER: &[Reads] = &[
     Reads("isort --identify --modules --packages -", "Err(Together)"),
     Reads("isort --packages a.py", "Err(Together)"),
     Reads("isort --top-only a.py", "Err(Together)"),
@@ -43,7 +43,7 @@ const TOGETHER: &[Reads] = &[
 ];
 
 /// Words that are refused.
-const REFUSED: &[Reads] = &[
+static REFUSED: &[Reads] = &[
     Reads(
         "isort",
         "Err(Refused(\"error: the following required arguments were not provided:\\n",
@@ -75,7 +75,7 @@ const REFUSED: &[Reads] = &[
 ];
 
 /// Help.
-const HELP: &[Reads] = &[
+static HELP: &[Reads] = &[
     Reads(
         "isort --help",
         "Err(Help(\"Sort the import statements of Python files, or list them.\\n",
@@ -87,7 +87,7 @@ const HELP: &[Reads] = &[
 ];
 
 /// Listings.
-const LISTINGS: &[Reads] = &[
+static LISTINGS: &[Reads] = &[
     Reads(
         "isort --identify -",
         "Ok(Job { files: [\"-\"], action: Identify(FindOptions { unique: None, top_only: false }) })",
@@ -115,7 +115,7 @@ const LISTINGS: &[Reads] = &[
 ];
 
 /// Sorting and checking.
-const SORTINGS: &[Reads] = &[
+static SORTINGS: &[Reads] = &[
     Reads(
         "isort a.py b.py",
         "Ok(Job { files: [\"a.py\", \"b.py\"], action: Sort { check: false, to_stdout: false, settings_file: None, \

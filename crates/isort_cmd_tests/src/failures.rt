@@ -51,7 +51,7 @@ enum Side {
 #[derive(Clone, Copy)]
 struct Failure(Side, ErrorKind, RunError);
 
-const FAILURES: &[Failure] = &[
+static FAILURES: &[Failure] = &[
     Failure(Side::Reader, ErrorKind::Other, RunError::Read),
     Failure(Side::Reader, ErrorKind::Interrupted, RunError::NeverEnds),
     Failure(Side::Writer, ErrorKind::Other, RunError::Write),
@@ -81,7 +81,7 @@ enum Met {
 }
 
 /// How often a reader and a writer are interrupted before each call, and what a run answers.
-const WAITS: &[(u16, u16, Result<(), RunError>)] = &[
+static WAITS: &[(u16, u16, Result<(), RunError>)] = &[
     (999, 999, Ok(())),
     (1000, 0, Err(RunError::NeverEnds)),
     (0, 1000, Err(RunError::Write)),
@@ -204,7 +204,7 @@ impl SettingsCase for Ran {
     }
 }
 
-const ROWS: &[Ran] = &[
+static ROWS: &[Ran] = &[
     Ran(Task::Identify, FIRST, FIRST_LINES),
     Ran(
         Task::Identify,
@@ -231,7 +231,7 @@ impl SettingsCase for Endless {
     }
 }
 
-const TASKS: &[Endless] = &[Endless(Task::Identify), Endless(Task::Sort)];
+static TASKS: &[Endless] = &[Endless(Task::Identify), Endless(Task::Sort)];
 
 #[test]
 fn answers_each_failure_waits_for_interrupted_calls_and_leaves_a_reader_without_end(

@@ -117,7 +117,7 @@ const THREE: &str = "p.py:1 import a.b\np.py:2 from a import c\np.py:3 from .a i
 
 const BOTH: &str = "p.py:1 import a\np.py:4 indented import b\n";
 
-const LISTED: &[Listed] = &[
+static LISTED: &[Listed] = &[
     Listed(b"", WHOLE, "", End::Fine),
     Listed(b"\xef\xbb\xbf", WHOLE, "", End::Fine),
     Listed(
@@ -147,7 +147,7 @@ const LISTED: &[Listed] = &[
 ];
 
 /// Texts of several lines, and other names.
-const LISTED_LINES: &[Listed] = &[
+static LISTED_LINES: &[Listed] = &[
     Listed(
         b"x = 1 + \\\r\n  2\r\nfrom . .x import y\r\n",
         WHOLE,
@@ -182,7 +182,7 @@ const LISTED_LINES: &[Listed] = &[
 ];
 
 /// Texts with a fault.
-const FAULTS: &[Listed] = &[
+static FAULTS: &[Listed] = &[
     Listed(b"import as\n", WHOLE, "", End::Fault(Kind::BadImport, 0, 1)),
     Listed(b"x = \"a\n", WHOLE, "", End::Fault(Kind::OpenString, 4, 1)),
     Listed(
@@ -206,7 +206,7 @@ const FAULTS: &[Listed] = &[
 ];
 
 /// Short texts with a fault, and one with fields.
-const SHORT_FAULTS: &[Listed] = &[
+static SHORT_FAULTS: &[Listed] = &[
     Listed(b"x = 'abc\n", WHOLE, "", End::Fault(Kind::OpenString, 4, 1)),
     Listed(b"\"\"\"a", WHOLE, "", End::Fault(Kind::OpenTriple, 0, 1)),
     Listed(b"x = )", WHOLE, "", End::Fault(Kind::WrongClose, 4, 1)),
@@ -222,7 +222,7 @@ const SHORT_FAULTS: &[Listed] = &[
 ];
 
 /// What the options ask for, and how many bytes are taken.
-const ASKED: &[Listed] = &[
+static ASKED: &[Listed] = &[
     // What the options ask for.
     Listed(
         ALIKE,
@@ -261,7 +261,7 @@ impl Case for Followed {
     }
 }
 
-const FOLLOWED: &[Followed] = &[
+static FOLLOWED: &[Followed] = &[
     Followed(b"import a", End::Fine, "a:1 import a\nb:1 import b\n"),
     Followed(
         b"import a\nx = )",
@@ -272,7 +272,7 @@ const FOLLOWED: &[Followed] = &[
 ];
 
 /// Brackets: as many as may be open, and one more.
-const BRACKETED: &[Listed] = &[
+static BRACKETED: &[Listed] = &[
     Listed(BRACKETS, WHOLE, "", End::Fine),
     Listed(
         &[b'('; 200],
@@ -330,7 +330,7 @@ const UNREAD: End = End::Error(RunError::Read);
 /// The fault of a bracket at byte 9, in line 2.
 const CLOSED: End = End::Fault(Kind::WrongClose, 9, 2);
 
-const CUT: &[Cut] = &[
+static CUT: &[Cut] = &[
     Cut(b"import a\nimport b", FAILS, WHOLE, UNREAD),
     Cut(
         b"import a\nimport b",
@@ -349,7 +349,7 @@ const CUT: &[Cut] = &[
 ];
 
 /// Texts with a fault.
-const CUT_FAULTS: &[Cut] = &[
+static CUT_FAULTS: &[Cut] = &[
     Cut(b"import a\n)", FAILS, WHOLE, CLOSED),
     Cut(b"import a\n)import b\n", Trouble::None, (ALL, 10), CLOSED),
     Cut(b"import a\r)", FAILS, WHOLE, CLOSED),
@@ -363,7 +363,7 @@ const CUT_FAULTS: &[Cut] = &[
 ];
 
 /// Texts of which the top is listed, and one that is taken whole.
-const CUT_TOPS: &[Cut] = &[
+static CUT_TOPS: &[Cut] = &[
     Cut(
         b"import a\ndef f(): pass\n(",
         Trouble::None,
@@ -404,7 +404,7 @@ impl Case for Troubled {
     }
 }
 
-const TROUBLED: &[Troubled] = &[
+static TROUBLED: &[Troubled] = &[
     // A writer is full, or takes a byte a call.
     Troubled(
         FIRST,
@@ -442,7 +442,7 @@ const TROUBLED: &[Troubled] = &[
 ];
 
 /// Writers that can't be flushed, and calls that fail once.
-const MORE_TROUBLED: &[Troubled] = &[
+static MORE_TROUBLED: &[Troubled] = &[
     // Lines alone are flushed.
     Troubled(
         "import a\nx = 1\n",

@@ -27,7 +27,7 @@ impl Case for ErrorLine {
     }
 }
 
-const FAULT_LINES: &[ErrorLine] = &[
+static FAULT_LINES: &[ErrorLine] = &[
     ErrorLine(End::Fault(Kind::BadUtf8, 1, 1), "-:1: F1 not UTF-8\n"),
     ErrorLine(
         End::Fault(Kind::BadChar, 13, 2),
@@ -47,7 +47,7 @@ const FAULT_LINES: &[ErrorLine] = &[
     ),
 ];
 
-const RUN_ERRORS: &[ErrorLine] = &[
+static RUN_ERRORS: &[ErrorLine] = &[
     ErrorLine(End::Error(RunError::Read), "isort: -: R1 cannot be read\n"),
     ErrorLine(End::Error(RunError::TooLong), "isort: -: R2 is too long\n"),
     ErrorLine(
@@ -81,7 +81,7 @@ impl Case for Refusal {
     }
 }
 
-const REFUSALS: &[Refusal] = &[
+static REFUSALS: &[Refusal] = &[
     Refusal(
         "[tool",
         "the settings are not TOML",

@@ -72,7 +72,7 @@ impl Case for Told {
     }
 }
 
-const ROWS: &[Told] = &[
+static ROWS: &[Told] = &[
     Told("b.py", SORT, CHANGED, "Fixing b.py\n", "", 0),
     Told("-", SORT, CHANGED, "", "", 0),
     Told("b.py", TO_STDOUT, CHANGED, "", "", 0),
@@ -82,7 +82,7 @@ const ROWS: &[Told] = &[
 ];
 
 /// Texts that stay as they are.
-const KEPT: &[Told] = &[
+static KEPT: &[Told] = &[
     Told("b.py", SORT, SAME, "", "", 0),
     Told("b.py", CHECK, SAME, "", "", 0),
     Told("b.py", LIST, SAME, "", "", 0),
@@ -92,7 +92,7 @@ const KEPT: &[Told] = &[
 ];
 
 /// Files that can't be read.
-const UNREADABLE: &[Told] = &[
+static UNREADABLE: &[Told] = &[
     Told("b.py", SORT, FAILED, "", UNREAD, 1),
     Told("b.py", CHECK, FAILED, "", UNREAD, 1),
     Told("b.py", LIST, FAILED, "", UNREAD, 1),

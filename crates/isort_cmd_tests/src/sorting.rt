@@ -56,7 +56,7 @@ const CHANGED: Result<Outcome, RunError> = Ok(Outcome::Changed);
 
 const TOO_LONG: RunError = RunError::TooLong;
 
-const RUNS: &[Run] = &[
+static RUNS: &[Run] = &[
     Run("", UNSORTED, ALL, CHANGED, SORTED, Ok(false)),
     Run("", SORTED, ALL, Ok(Outcome::Same), SORTED, Ok(true)),
     Run("", SKIPPED, ALL, Ok(Outcome::Skipped), SKIPPED, Ok(true)),
@@ -64,7 +64,7 @@ const RUNS: &[Run] = &[
 ];
 
 /// Faults, long texts, own sections, and a writer without room.
-const BAD_RUNS: &[Run] = &[
+static BAD_RUNS: &[Run] = &[
     Run("", BROKEN, ALL, Err(WRONG_CLOSE), "", Err(WRONG_CLOSE)),
     Run("", BROKEN, (22, 1000), Err(TOO_LONG), "", Err(TOO_LONG)),
     Run(

@@ -17,7 +17,7 @@ const FAULT_TEXT: &str = "line 3: F2 unexpected character";
 
 const NO_MEMORY: &str = "out of memory";
 
-const KINDS: &[Shown<Kind>] = &[
+static KINDS: &[Shown<Kind>] = &[
     Shown(Kind::BadUtf8, "F1 not UTF-8"),
     Shown(Kind::BadChar, "F2 unexpected character"),
     Shown(Kind::OpenString, "F3 string not closed"),
@@ -25,7 +25,7 @@ const KINDS: &[Shown<Kind>] = &[
     Shown(Kind::WrongClose, "F5 closing bracket without its opening"),
 ];
 
-const OTHER_KINDS: &[Shown<Kind>] = &[
+static OTHER_KINDS: &[Shown<Kind>] = &[
     Shown(Kind::OpenBracket, "F6 bracket not closed"),
     Shown(Kind::BadJoin, "F7 backslash not before a line end"),
     Shown(Kind::TooDeep, "F8 more than 200 brackets open"),
@@ -33,22 +33,22 @@ const OTHER_KINDS: &[Shown<Kind>] = &[
     Shown(Kind::OpenField, "F10 field not closed"),
 ];
 
-const LEXING: &[Shown<LexError>] = &[
+static LEXING: &[Shown<LexError>] = &[
     Shown(LexError::Memory, NO_MEMORY),
     Shown(LexError::Fault(FAULT), FAULT_TEXT),
 ];
 
-const IMPORTS: &[Shown<ImportError>] = &[
+static IMPORTS: &[Shown<ImportError>] = &[
     Shown(ImportError::Memory, NO_MEMORY),
     Shown(ImportError::Fault(FAULT), FAULT_TEXT),
 ];
 
-const FINDING: &[Shown<FindError>] = &[
+static FINDING: &[Shown<FindError>] = &[
     Shown(FindError::Memory, NO_MEMORY),
     Shown(FindError::Fault(FAULT), FAULT_TEXT),
 ];
 
-const RESUMING: &[Shown<ResumeError>] = &[
+static RESUMING: &[Shown<ResumeError>] = &[
     Shown(ResumeError::Memory, NO_MEMORY),
     Shown(
         ResumeError::TextTooShort,
@@ -56,7 +56,7 @@ const RESUMING: &[Shown<ResumeError>] = &[
     ),
 ];
 
-const SORTING: &[Shown<SortError>] = &[
+static SORTING: &[Shown<SortError>] = &[
     Shown(SortError::Memory, NO_MEMORY),
     Shown(SortError::Fault(FAULT), FAULT_TEXT),
     Shown(SortError::Write, "cannot be written"),

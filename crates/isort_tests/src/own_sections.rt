@@ -18,7 +18,7 @@ const OWN: &str = "sections = [\"FUTURE\", \"Own\"]\nknown_own = [\"own\"]\n";
 /// How bad names of sections are refused.
 const BAD: &str = "bad value for sections";
 
-const UNFIT: &[Refused] = &[
+static UNFIT: &[Refused] = &[
     Refused(b"[tool.isort]\nsections = [\"A\", \"a\"]", None, BAD),
     Refused(b"[tool.isort]\nsections = [\"1a\"]", None, BAD),
     Refused(b"[tool.isort]\nsections = [\"stdlib\"]", None, BAD),
@@ -26,7 +26,7 @@ const UNFIT: &[Refused] = &[
 ];
 
 /// One section more than there may be.
-const TOO_MANY: &[Refused] = &[Refused(
+static TOO_MANY: &[Refused] = &[Refused(
     b"[tool.isort]\nsections = [\"A00\", \"A01\", \"A02\", \"A03\", \"A04\", \"A05\", \"A06\", \"A07\", \
           \"A08\", \"A09\", \"A10\", \"A11\", \"A12\", \"A13\", \"A14\", \"A15\", \"A16\", \"A17\", \"A18\", \
           \"A19\", \"A20\", \"A21\", \"A22\", \"A23\", \"A24\", \"A25\", \"A26\", \"A27\", \"A28\", \"A29\", \
@@ -39,7 +39,7 @@ const TOO_MANY: &[Refused] = &[Refused(
 )];
 
 /// A bad list of a section, and a bad section beside a bad default.
-const UNFIT_LISTS: &[Refused] = &[
+static UNFIT_LISTS: &[Refused] = &[
     Refused(
         b"[tool.isort]\nsections = [\"A\"]\nknown_a = 1",
         None,
@@ -53,7 +53,7 @@ const UNFIT_LISTS: &[Refused] = &[
 ];
 
 /// Names that no section may have.
-const UNFIT_NAMES: &[Refused] = &[
+static UNFIT_NAMES: &[Refused] = &[
     // A name twice, names that are no words, and the five in other capitals.
     Refused(
         b"[tool.isort]\nsections = [\"STDLIB\", \"STDLIB\"]",
@@ -78,7 +78,7 @@ const UNFIT_NAMES: &[Refused] = &[
 ];
 
 /// Settings with values that are refused.
-const BAD_VALUES: &[Refused] = &[
+static BAD_VALUES: &[Refused] = &[
     // Values that are no lists of texts.
     Refused(b"[tool.isort]\nsections = \"A\"", None, BAD),
     Refused(b"[tool.isort]\nsections = [\"A\", 1]", None, BAD),
@@ -101,7 +101,7 @@ const BAD_VALUES: &[Refused] = &[
 ];
 
 /// Tables with two bad values, and bad defaults.
-const FIRST_REFUSED: &[Refused] = &[
+static FIRST_REFUSED: &[Refused] = &[
     Refused(
         b"[tool.isort]\nsections = [\"A\"]\nknown_a = 1\nline_length = 0",
         None,
@@ -136,7 +136,7 @@ impl Case for Accepted {
     }
 }
 
-const ACCEPTED: &[Accepted] = &[
+static ACCEPTED: &[Accepted] = &[
     Accepted("sections = []", &[]),
     Accepted(
         "sections = [\"A00\", \"A01\", \"A02\", \"A03\", \"A04\", \"A05\", \"A06\", \"A07\", \"A08\", \
@@ -150,7 +150,7 @@ const ACCEPTED: &[Accepted] = &[
 ];
 
 /// Lists of sections, known ones and unknown ones.
-const LISTS: &[Accepted] = &[
+static LISTS: &[Accepted] = &[
     Accepted("known_a = [\"x\"]", &["known_a"]),
     Accepted("known_a = 1", &["known_a"]),
     Accepted(
@@ -184,7 +184,7 @@ fn refuses_and_accepts_sections(rt: HostRuntime) -> Result<(), Fail> {
     each_holds_again(alloc, &[("ACCEPTED", ACCEPTED), ("LISTS", LISTS)])
 }
 
-const SECTIONS: &[Sectioned] = &[
+static SECTIONS: &[Sectioned] = &[
     Sectioned(DJANGO, "django.db", Section::Own(0)),
     Sectioned(DJANGO, "django", Section::Own(0)),
     Sectioned(DJANGO, "djangox", Section::ThirdParty),
@@ -193,7 +193,7 @@ const SECTIONS: &[Sectioned] = &[
 ];
 
 /// The own lists first, in the order of `sections`, but a longer prefix before all.
-const PREFIXES: &[Sectioned] = &[
+static PREFIXES: &[Sectioned] = &[
     Sectioned(TWO, "m", Section::Own(0)),
     Sectioned(TWO, "m.n.o", Section::Own(1)),
     Sectioned(TWO, "m.o", Section::Own(0)),
@@ -207,7 +207,7 @@ const PREFIXES: &[Sectioned] = &[
 ];
 
 /// Other orders and defaults.
-const PLACES: &[Sectioned] = &[
+static PLACES: &[Sectioned] = &[
     Sectioned(
         "sections = [\"A\"]\nknown_a = [\"m\"]\nknown_local_folder = [\"m\", \"m.n\"]",
         "m.n",
@@ -239,7 +239,7 @@ const PLACES: &[Sectioned] = &[
 const NESTED: &str =
     "sections = [\"A\", \"B\"]\nknown_a = [\"x.y\", \"x\"]\nknown_first_party = [\"m.n\", \"o\"]\n";
 
-const NESTED_SECTIONS: &[Sectioned] = &[
+static NESTED_SECTIONS: &[Sectioned] = &[
     Sectioned(NESTED, "m.n", Section::FirstParty),
     Sectioned(NESTED, "m.n.x", Section::FirstParty),
     Sectioned(NESTED, "m.nn", Section::ThirdParty),
@@ -277,7 +277,7 @@ const FIVE: &[Section] = &[
     Section::LocalFolder,
 ];
 
-const RANKS: &[Ranked] = &[
+static RANKS: &[Ranked] = &[
     Ranked("", FIVE),
     Ranked("sections = []", FIVE),
     Ranked(
@@ -326,6 +326,7 @@ fn finds_and_ranks_own_sections(rt: HostRuntime) -> Result<(), Fail> {
             ("SECTIONS", SECTIONS),
             ("PREFIXES", PREFIXES),
             ("PLACES", PLACES),
+            ("NESTED_SECTIONS", NESTED_SECTIONS),
         ],
     )?;
     each_holds_under_settings(alloc, &[("RANKS", RANKS)])

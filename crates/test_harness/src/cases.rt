@@ -1,6 +1,5 @@
-//! Tables of cases. To the prover the texts in a table are literals of one item, and what they cost grows with the square of how
-//! many there are. So a large table is cut into several of some five rows, each a `const` of its own, and a test gives all of
-//! them to one call.
+//! Tables of cases. A table is a `static`: the value of a `const` stands in each function that names it, where long texts are slow to
+//! prove. A test gives all of its tables to one call.
 use isort_settings::{Profile, Settings, SettingsError};
 use std::alloc::Global;
 use std::fmt::Display;

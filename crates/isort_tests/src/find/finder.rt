@@ -42,7 +42,7 @@ impl Case for Story {
     }
 }
 
-const STORIES: &[Story] = &[
+static STORIES: &[Story] = &[
     // The first import of each key is given.
     Story(
         ALIKE,
@@ -71,7 +71,7 @@ const STORIES: &[Story] = &[
 ];
 
 /// Later imports of a key are dropped.
-const DROPPED: &[Story] = &[
+static DROPPED: &[Story] = &[
     Story(
         b"import a, b, a as c\nimport b.c\n",
         MODULES,
@@ -100,7 +100,7 @@ const DROPPED: &[Story] = &[
 ];
 
 /// Texts that end at the top, or in a fault.
-const FAULTS: &[Story] = &[
+static FAULTS: &[Story] = &[
     // The finder stops at the top if it is asked to.
     Story(
         DECLARED,
@@ -125,7 +125,7 @@ const FAULTS: &[Story] = &[
 ];
 
 /// Faults of imports, bytes and brackets.
-const MORE_FAULTS: &[Story] = &[
+static MORE_FAULTS: &[Story] = &[
     Story(
         b"import a\nfrom b import c,\n",
         TOP,
@@ -151,7 +151,7 @@ const MORE_FAULTS: &[Story] = &[
 ];
 
 /// Stops inside a line and after each import.
-const STOPS: &[Story] = &[
+static STOPS: &[Story] = &[
     // The finder goes on inside a line.
     Story(
         b"import a, b, c",
@@ -202,7 +202,7 @@ impl Case for Short {
     }
 }
 
-const SHORT: &[Short] = &[Short(
+static SHORT: &[Short] = &[Short(
     b"import a, b, c",
     4,
     b"import a",
@@ -252,7 +252,7 @@ impl Case for Keys {
     }
 }
 
-const KEYS: &[Keys] = &[
+static KEYS: &[Keys] = &[
     Keys(
         "from ..x.y import z",
         "from ..x import w",
@@ -280,7 +280,7 @@ const KEYS: &[Keys] = &[
 ];
 
 /// Keys of modules, attributes and aliases.
-const MORE_KEYS: &[Keys] = &[
+static MORE_KEYS: &[Keys] = &[
     Keys("import a.b", "import a", ImportKey::Package, true),
     Keys("import a.b", "import a", ImportKey::Module, false),
     Keys("import a as b", "from a import b", ImportKey::Module, true),

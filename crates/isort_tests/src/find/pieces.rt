@@ -57,7 +57,7 @@ impl Case for Row {
     }
 }
 
-const STATEMENTS: &[Row] = &[
+static STATEMENTS: &[Row] = &[
     Row(
         b"import a, b, c",
         ALL,
@@ -91,7 +91,7 @@ const STATEMENTS: &[Row] = &[
 ];
 
 /// What the options ask for.
-const KEYS: &[Row] = &[
+static KEYS: &[Row] = &[
     Row(
         ALIKE,
         PACKAGES,
@@ -110,7 +110,7 @@ const KEYS: &[Row] = &[
 ];
 
 /// Texts of one line and of several.
-const LINES: &[Row] = &[
+static LINES: &[Row] = &[
     Row(
         b"import \xc3\xa9\r\nx = \"\"\"\"\"\"\nimport b",
         ALL,
@@ -136,7 +136,7 @@ const LINES: &[Row] = &[
 ];
 
 /// Other options.
-const LAST: &[Row] = &[
+static LAST: &[Row] = &[
     Row(
         ALIKE,
         MODULES,
@@ -160,7 +160,7 @@ const LAST: &[Row] = &[
 ];
 
 /// Texts with a fault.
-const BAD: &[Row] = &[
+static BAD: &[Row] = &[
     Row(
         b"import a; import\n",
         ALL,
@@ -187,7 +187,7 @@ const BAD: &[Row] = &[
 ];
 
 /// Texts with a fault after imports.
-const BAD_LATER: &[Row] = &[
+static BAD_LATER: &[Row] = &[
     Row(
         DECLARED,
         ALL,
@@ -231,7 +231,7 @@ const BAD_LATER: &[Row] = &[
 ];
 
 /// Strings with fields.
-const FIELDS: &[Row] = &[
+static FIELDS: &[Row] = &[
     Row(b"f\"{d[\"import\"]}\"", ALL, "end\nat 16, 0\n"),
     Row(b"t'{x:{w}}'", ALL, "end\nat 10, 0\n"),
     Row(b"f\"{{\"", ALL, "end\nat 5, 0\n"),
@@ -243,7 +243,7 @@ const FIELDS: &[Row] = &[
 ];
 
 /// Strings with fields and braces.
-const MORE_FIELDS: &[Row] = &[
+static MORE_FIELDS: &[Row] = &[
     Row(b"f\"a\\\nb\"", ALL, "end\nat 7, 0\n"),
     Row(b"f\"\"\"{x:\"\"}\"\"\"", ALL, "end\nat 13, 0\n"),
     Row(b"f\"\\N{{ {x}\"", ALL, "end\nat 11, 0\n"),
@@ -263,7 +263,7 @@ const MORE_FIELDS: &[Row] = &[
 ];
 
 /// Strings with bad fields.
-const BAD_FIELDS: &[Row] = &[
+static BAD_FIELDS: &[Row] = &[
     Row(
         b"f'{a(b]}'",
         ALL,
@@ -304,7 +304,7 @@ const TOO_NESTED: &[u8] =
     f\"{";
 
 /// Brackets and fields in one another: as many as there may be, and one more.
-const NESTINGS: &[Row] = &[
+static NESTINGS: &[Row] = &[
     Row(BRACKETS, ALL, "end\nat 400, 0\n"),
     Row(&[b'('; 200], ALL, OPEN),
     Row(TOO_MANY, ALL, TOO_DEEP),
@@ -399,7 +399,7 @@ impl Case for Prefixes {
     }
 }
 
-const PREFIXES: &[Prefixes] = &[
+static PREFIXES: &[Prefixes] = &[
     Prefixes(
         b"\"\"\"a\"\"\"",
         &[
@@ -426,7 +426,7 @@ const PREFIXES: &[Prefixes] = &[
 ];
 
 /// Strings with fields.
-const FIELD_PREFIXES: &[Prefixes] = &[
+static FIELD_PREFIXES: &[Prefixes] = &[
     Prefixes(
         b"f\"{d[\"import\"]}\"",
         &[
@@ -480,7 +480,7 @@ const FIELD_PREFIXES: &[Prefixes] = &[
 ];
 
 /// Triple-quoted and raw strings with fields.
-const OTHER_PREFIXES: &[Prefixes] = &[
+static OTHER_PREFIXES: &[Prefixes] = &[
     Prefixes(
         b"f\"\"\"{x:\"\"}\"\"\"",
         &[

@@ -16,7 +16,7 @@ impl Case for Script {
 }
 
 /// A line end CR needs one more byte. Where that byte has a fault, it comes as soon as nothing is ready.
-const STEPS: &[Script] = &[
+static STEPS: &[Script] = &[
     Script(
         ALL,
         &[
@@ -44,7 +44,7 @@ const STEPS: &[Script] = &[
 ];
 
 /// The same with more pieces.
-const MORE_STEPS: &[Script] = &[
+static MORE_STEPS: &[Script] = &[
     Script(
         ALL,
         &[Act::Steps(&[b"x\r)", b"", b""]), Act::Stop],
@@ -75,7 +75,7 @@ const MORE_STEPS: &[Script] = &[
 ];
 
 /// Other pieces: a line that ends the top, a character in two pieces, and a piece after a line without imports.
-const OTHER_STEPS: &[Script] = &[
+static OTHER_STEPS: &[Script] = &[
     Script(
         TOP,
         &[
@@ -110,7 +110,7 @@ const OTHER_STEPS: &[Script] = &[
     ),
 ];
 
-const SCRIPTS: &[Script] = &[
+static SCRIPTS: &[Script] = &[
     // Nothing is taken while an import is ready.
     Script(
         ALL,
@@ -148,7 +148,7 @@ const SCRIPTS: &[Script] = &[
 ];
 
 /// Scripts in which a finder goes on from a cursor.
-const CURSORS: &[Script] = &[
+static CURSORS: &[Script] = &[
     // A cursor stays inside a line.
     Script(
         ALL,
@@ -201,7 +201,7 @@ const CURSORS: &[Script] = &[
 ];
 
 /// Scripts in which a cursor stands at the top, or at the end.
-const LAST_CURSORS: &[Script] = &[
+static LAST_CURSORS: &[Script] = &[
     // After the line that ends the top a cursor stands at that line, whichever finder has it.
     Script(
         TOP,
@@ -232,7 +232,7 @@ const LAST_CURSORS: &[Script] = &[
 ];
 
 /// Scripts with faults.
-const FAULT_SCRIPTS: &[Script] = &[
+static FAULT_SCRIPTS: &[Script] = &[
     // The last logical line is bad: a text that is ended again, or fed, has the same fault.
     Script(
         ALL,
@@ -271,7 +271,7 @@ const FAULT_SCRIPTS: &[Script] = &[
 ];
 
 /// Scripts with faults that the bytes decide.
-const BAD_SCRIPTS: &[Script] = &[
+static BAD_SCRIPTS: &[Script] = &[
     // So does one that the bytes decide, and one of a bad import.
     Script(
         ALL,
@@ -328,7 +328,7 @@ impl Case for Faulty {
     }
 }
 
-const FAULTS: &[Faulty] = &[
+static FAULTS: &[Faulty] = &[
     Faulty(
         b"import a\n\xef\xbb\xbf",
         b"\xef\xbb\xbf",

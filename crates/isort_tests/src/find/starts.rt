@@ -4,7 +4,7 @@ use std::test::Fail;
 use test_harness::cases::each_holds;
 use test_harness::options::ALL;
 
-const STARTS: &[Row] = &[
+static STARTS: &[Row] = &[
     // After `;` and `:`.
     Row(
         b"x = 1\ny = 2; import b\nz = 3\n",
@@ -37,7 +37,7 @@ const STARTS: &[Row] = &[
 ];
 
 /// After a string, and where no statement starts.
-const NO_STARTS: &[Row] = &[
+static NO_STARTS: &[Row] = &[
     // After a string, and in one.
     Row(
         b"x = 1\n\"\"\"a\nimport z\n\"\"\"; import b\n",
@@ -64,7 +64,7 @@ const NO_STARTS: &[Row] = &[
 ];
 
 /// After marks, line ends and blanks.
-const LINE_STARTS: &[Row] = &[
+static LINE_STARTS: &[Row] = &[
     // After a byte order mark, CR, a form feed and a tab.
     Row(
         b"\xef\xbb\xbfimport a\nx = 1\nimport b\n",

@@ -122,7 +122,7 @@ impl Case for First {
     }
 }
 
-const BINDINGS: &[Listed] = &[
+static BINDINGS: &[Listed] = &[
     Listed(
         "from ... import x, y as z",
         "1 from ... import x\n1 from ... import y as z\n",
@@ -145,7 +145,7 @@ const BINDINGS: &[Listed] = &[
 ];
 
 /// Bindings after other statements, and several in a line.
-const MORE_BINDINGS: &[Listed] = &[
+static MORE_BINDINGS: &[Listed] = &[
     Listed(
         "if a: import b; from c import *\nraise X from Y\nz = yield from w\n",
         "1 import b\n1 from c import *\n",
@@ -176,13 +176,13 @@ const PINNED: Said = Said::Shaped(Shape::Pinned);
 const OTHER: Said = Said::Shaped(Shape::Other);
 
 /// Lines with a byte order mark, and without one.
-const MARKED: &[First] = &[
+static MARKED: &[First] = &[
     First("\u{feff}import a", Said::Marked(3)),
     First("import a", Said::Marked(0)),
 ];
 
 /// Import statements that are none.
-const REFUSED: &[First] = &[
+static REFUSED: &[First] = &[
     First("from a import ()", Said::Refused(0)),
     First("from a import (*)", Said::Refused(0)),
     First("from a import b,", Said::Refused(0)),
@@ -195,7 +195,7 @@ const REFUSED: &[First] = &[
 ];
 
 /// Statements with `from` that are none.
-const BAD_FROM: &[First] = &[
+static BAD_FROM: &[First] = &[
     First("from import a", Said::Refused(0)),
     First("from a b", Said::Refused(0)),
     First("from a. import b", Said::Refused(0)),
@@ -207,7 +207,7 @@ const BAD_FROM: &[First] = &[
 ];
 
 /// Bad names, and bad statements after others.
-const BAD_NAMES: &[First] = &[
+static BAD_NAMES: &[First] = &[
     First("from a import (b) c", Said::Refused(0)),
     First("from a import *, b", Said::Refused(0)),
     First("from a import b as", Said::Refused(0)),
@@ -220,7 +220,7 @@ const BAD_NAMES: &[First] = &[
 ];
 
 /// Declarations, and lines that are none.
-const DECLARATIONS: &[First] = &[
+static DECLARATIONS: &[First] = &[
     First("def f(): pass", DECLARATION),
     First("class C: pass", DECLARATION),
     First("@d", DECLARATION),
@@ -230,7 +230,7 @@ const DECLARATIONS: &[First] = &[
 ];
 
 /// Lines that are none.
-const NO_DECLARATIONS: &[First] = &[
+static NO_DECLARATIONS: &[First] = &[
     First("  def f(): pass", NO_DECLARATION),
     First("\u{c}def f(): pass", NO_DECLARATION),
     First("define", NO_DECLARATION),
@@ -241,7 +241,7 @@ const NO_DECLARATIONS: &[First] = &[
 ];
 
 /// Lines that may be sorted.
-const SORTABLES: &[First] = &[
+static SORTABLES: &[First] = &[
     First("import a", SORTABLE),
     First("  import a\n", SORTABLE),
     First("\u{feff}import a", SORTABLE),
@@ -251,7 +251,7 @@ const SORTABLES: &[First] = &[
 ];
 
 /// Lines over several physical lines, and with comments.
-const MORE_SORTABLES: &[First] = &[
+static MORE_SORTABLES: &[First] = &[
     First("import a  # isort:  skip", SORTABLE),
     First("import a, \\\n b", SORTABLE),
     First("from . import *", SORTABLE),
@@ -260,7 +260,7 @@ const MORE_SORTABLES: &[First] = &[
 ];
 
 /// Lines that stay where they are.
-const PINNED_LINES: &[First] = &[
+static PINNED_LINES: &[First] = &[
     First(
         "from a import (  # k\n    b as x,  # l\n    c,\n)\n",
         PINNED,
@@ -276,7 +276,7 @@ const PINNED_LINES: &[First] = &[
 ];
 
 /// Lines that are no import statement alone.
-const OTHER_LINES: &[First] = &[
+static OTHER_LINES: &[First] = &[
     First("x = 1", OTHER),
     First("if a: import b", OTHER),
     First("# import a", OTHER),
@@ -292,7 +292,7 @@ impl Case for Saying {
     }
 }
 
-const ACTIONS: &[Saying] = &[
+static ACTIONS: &[Saying] = &[
     Saying("# isort: skip_file", ActionComment::SkipFile, true),
     Saying("# isort: skip_file", ActionComment::Skip, false),
     Saying("# isort:skip", ActionComment::Skip, true),
@@ -302,7 +302,7 @@ const ACTIONS: &[Saying] = &[
 ];
 
 /// Other actions, and comments that say none.
-const MORE_ACTIONS: &[Saying] = &[
+static MORE_ACTIONS: &[Saying] = &[
     Saying("# isort: off", ActionComment::Off, true),
     Saying("# isort: on", ActionComment::On, true),
     Saying("# isort: one", ActionComment::On, false),

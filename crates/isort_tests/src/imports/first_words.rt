@@ -18,7 +18,7 @@ impl Case for Stop {
 }
 
 /// Where import statements may begin. Texts of more than 64 bytes are searched in blocks.
-const STOPS: &[Stop] = &[
+static STOPS: &[Stop] = &[
     Stop("x = 1\n\tfrom a import b\n", 0, 7),
     Stop("# from a import b\nraise X from Y; import b", 0, 34),
     Stop("\u{feff}import a", 0, 3),

@@ -33,7 +33,7 @@ impl Dice {
 }
 
 /// Pieces that leave nothing open: words, numbers, operators, spaces, line ends, joins, brackets, strings, comments, whole lines.
-const WHOLE: &[&[u8]] = &[
+static WHOLE: &[&[u8]] = &[
     b"a",
     b"bc_1",
     b"import",
@@ -98,7 +98,7 @@ const WHOLE: &[&[u8]] = &[
 ];
 
 /// Pieces that open or close something, and bytes that no text may have.
-const BROKEN: &[&[u8]] = &[
+static BROKEN: &[&[u8]] = &[
     b"(",
     b"[",
     b"{",

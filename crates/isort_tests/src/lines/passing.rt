@@ -30,7 +30,7 @@ impl Case for Passing {
     }
 }
 
-const PASSING: &[Passing] = &[
+static PASSING: &[Passing] = &[
     // Words, operators, spaces, brackets and strings, and a line without any.
     Passing("a\nb = c\n\n\td(e, 'f')\n", 20, 18, (20, 5)),
     // Brackets over several lines.
@@ -45,7 +45,7 @@ const PASSING: &[Passing] = &[
 ];
 
 /// Strings.
-const STRINGS: &[Passing] = &[
+static STRINGS: &[Passing] = &[
     Passing("a\n'''b'c'\nd'''\n", 15, 13, (15, 4)),
     Passing("a\nb(\"\"\"c\"\"\", '''d\n''')\n", 23, 21, (23, 4)),
     // Prefixes, escapes, empty strings, and joins.
@@ -57,7 +57,7 @@ const STRINGS: &[Passing] = &[
 ];
 
 /// Joins, short strings with fields, and lines at the byte.
-const SHORT: &[Passing] = &[
+static SHORT: &[Passing] = &[
     Passing("a\n'b\\\n'\n", 8, 6, (8, 4)),
     Passing("a\nb = \\\n c\n", 11, 9, (11, 4)),
     // Short strings with fields.
@@ -69,7 +69,7 @@ const SHORT: &[Passing] = &[
 ];
 
 /// Lines that are not passed over.
-const LEFT: &[Passing] = &[
+static LEFT: &[Passing] = &[
     // What is left to the scan: a word before a string, two quotes in a string of three, a quote before a backslash, and a backslash
     // before a space.
     Passing("a\nbar'c'\n", 9, 0, (2, 2)),
@@ -84,7 +84,7 @@ const LEFT: &[Passing] = &[
     Passing("a\n'''b''\n", 9, 0, (2, 2)),
 ];
 
-const LINE_ENDS: &[Passing] = &[
+static LINE_ENDS: &[Passing] = &[
     // CR LF after code, alone, in brackets, after a comment, and in a join; and both line ends.
     Passing("a\r\nb = c\r\n", 10, 7, (10, 3)),
     Passing("a\n\r\n\n\r\n", 7, 5, (7, 5)),
@@ -95,7 +95,7 @@ const LINE_ENDS: &[Passing] = &[
 ];
 
 /// Line ends in strings, and at the byte.
-const INNER_ENDS: &[Passing] = &[
+static INNER_ENDS: &[Passing] = &[
     // In strings: one in three quotes counts, also after a quote, and one after a backslash.
     Passing("a\n'''b\r\n\r\nc'\r\n'''\r\n", 19, 17, (19, 6)),
     Passing("a\n'b\\\r\nc'\r\n", 11, 9, (11, 4)),
@@ -106,7 +106,7 @@ const INNER_ENDS: &[Passing] = &[
 ];
 
 /// CR alone, which is left to the scan.
-const RETURNS: &[Passing] = &[
+static RETURNS: &[Passing] = &[
     // After code, before CR LF, after a comment, in a join, in a string of three quotes, and after a backslash.
     Passing("a\nb = c\rd\n", 10, 0, (2, 2)),
     Passing("a\nb\r\r\n", 6, 0, (2, 2)),
@@ -116,7 +116,7 @@ const RETURNS: &[Passing] = &[
     Passing("a\n'b\\\rc'\n", 9, 0, (2, 2)),
 ];
 
-const CHARACTERS: &[Passing] = &[
+static CHARACTERS: &[Passing] = &[
     // Characters outside ASCII in comments, and in strings: at their start, after ASCII, before an escape, and after a quote.
     Passing("a\nb  # \u{e4}\n", 10, 8, (10, 3)),
     Passing("a\n# \u{416}\u{4f60}\u{1f600}\r\n", 15, 13, (15, 3)),
@@ -129,7 +129,7 @@ const CHARACTERS: &[Passing] = &[
     Passing("a\nf'\u{e4}'\n", 8, 0, (2, 2)),
 ];
 
-const FIELDS: &[Passing] = &[
+static FIELDS: &[Passing] = &[
     // Strings with fields: empty, of three quotes on one line and over several, and with quotes in their text.
     Passing("a\nRT\"\"\n", 7, 5, (7, 3)),
     Passing("a\nf''''''\n", 10, 8, (10, 3)),
@@ -140,7 +140,7 @@ const FIELDS: &[Passing] = &[
 ];
 
 /// Fields in fields, and in brackets.
-const NESTED_FIELDS: &[Passing] = &[
+static NESTED_FIELDS: &[Passing] = &[
     // Fields in specifications and in strings in fields, a name, a line end in a field, and one that a backslash escapes.
     Passing("a\nf'{b:{c}}'\n", 13, 11, (13, 3)),
     Passing("a\nf'{b!r:{c}.{d}}'\n", 19, 17, (19, 3)),
@@ -153,7 +153,7 @@ const NESTED_FIELDS: &[Passing] = &[
 ];
 
 /// What is left to the scan: CR in such a string, and one that isn't closed.
-const OPEN_FIELDS: &[Passing] = &[
+static OPEN_FIELDS: &[Passing] = &[
     Passing("a\nf'''b\r\nc'''\n", 14, 0, (2, 2)),
     Passing("a\nf'''b\n", 8, 0, (2, 2)),
     Passing("a\nf'{b'\n", 8, 0, (2, 2)),
@@ -174,7 +174,7 @@ impl Case for PassingPiece {
     }
 }
 
-const PIECES: &[PassingPiece] = &[
+static PIECES: &[PassingPiece] = &[
     PassingPiece(b"b  # \xc3\xa4\n", 8),
     PassingPiece(b"# \xf0\x9f\x98\x80\r\n", 8),
     PassingPiece(b"'''\xe4\xbd\xa0\n'''\n", 11),

@@ -18,7 +18,7 @@ pub(crate) struct Lexed<'t>(
 );
 
 /// Texts without a fault.
-const LINES: &[Lexed<'static>] = &[
+static LINES: &[Lexed<'static>] = &[
     Lexed(
         b"import \xc3\xa9\r\nx = \"\"\"\"\"\"\nimport b",
         "(Code, 0, 1, 0, 2) (Name, \"import\", 1) (Name, \"é\", 1); \
@@ -56,7 +56,7 @@ const LINES: &[Lexed<'static>] = &[
 ];
 
 /// Texts that end in a join, a line end or a comment, or in nothing.
-const ENDS: &[Lexed<'static>] = &[
+static ENDS: &[Lexed<'static>] = &[
     Lexed(b"\\\n", "(Code, 0, 1, 0, 0); end", (2, 2)),
     Lexed(b"", "end", (0, 1)),
     Lexed(
@@ -80,7 +80,7 @@ const ENDS: &[Lexed<'static>] = &[
 ];
 
 /// Texts of import statements and what stands beside them: strings, comments, joins, indented lines and faults.
-const WORKED: &[Lexed<'static>] = &[
+static WORKED: &[Lexed<'static>] = &[
     Lexed(b"\xef\xbb\xbf", "(Blank, 0, 1, 0, 0); end", (3, 1)),
     Lexed(
         b"import os, sys as s",
@@ -127,7 +127,7 @@ const WORKED: &[Lexed<'static>] = &[
 ];
 
 /// Others, with indented lines and faults.
-const WORKED_LINES: &[Lexed<'static>] = &[
+static WORKED_LINES: &[Lexed<'static>] = &[
     Lexed(
         b"if a:\n    import b\n",
         "(Code, 0, 1, 0, 1) (Name, \"if\", 1) (Name, \"a\", 1) (Op(58), \":\", 1); \
@@ -177,7 +177,7 @@ const WORKED_LINES: &[Lexed<'static>] = &[
 ];
 
 /// Import statements: to the lexer they are logical lines.
-const STATEMENTS: &[Lexed<'static>] = &[
+static STATEMENTS: &[Lexed<'static>] = &[
     Lexed(
         b"from ... import x, y as z",
         "(Code, 0, 1, 0, 0) (Name, \"from\", 1) (Op(46), \".\", 1) (Op(46), \".\", 1) (Op(46), \".\", 1) \
@@ -213,7 +213,7 @@ const STATEMENTS: &[Lexed<'static>] = &[
 ];
 
 /// Bad ones: to the lexer they are logical lines, too.
-const BAD_STATEMENTS: &[Lexed<'static>] = &[
+static BAD_STATEMENTS: &[Lexed<'static>] = &[
     Lexed(
         b"from a import ()",
         "(Code, 0, 1, 0, 0) (Name, \"from\", 1) (Name, \"a\", 1) (Name, \"import\", 1) (Op(40), \"(\", 1) \
@@ -260,7 +260,7 @@ const BAD_STATEMENTS: &[Lexed<'static>] = &[
 ];
 
 /// Texts with a fault.
-const FAULTS: &[Lexed<'static>] = &[
+static FAULTS: &[Lexed<'static>] = &[
     Lexed(b"(a\r\xff", "3 line 2: F1 not UTF-8", (0, 1)),
     Lexed(b"a\xff", "1 line 1: F1 not UTF-8", (0, 1)),
     Lexed(b"$", "0 line 1: F2 unexpected character", (0, 1)),
@@ -278,7 +278,7 @@ const FAULTS: &[Lexed<'static>] = &[
 ];
 
 /// Texts in which something stays open, or is closed that is not.
-const OPEN: &[Lexed<'static>] = &[
+static OPEN: &[Lexed<'static>] = &[
     Lexed(
         b"\"\"\"a",
         "0 line 1: F4 triple-quoted string not closed",
@@ -303,7 +303,7 @@ const OPEN: &[Lexed<'static>] = &[
 ];
 
 /// Texts with a fault after other bytes.
-const LATER_FAULTS: &[Lexed<'static>] = &[
+static LATER_FAULTS: &[Lexed<'static>] = &[
     Lexed(
         b"a\r\xff",
         "(Code, 0, 1, 0, 1) (Name, \"a\", 1); 2 line 2: F1 not UTF-8",
@@ -338,7 +338,7 @@ const LATER_FAULTS: &[Lexed<'static>] = &[
 ];
 
 /// Strings with fields.
-const FIELDS: &[Lexed<'static>] = &[
+static FIELDS: &[Lexed<'static>] = &[
     Lexed(
         b"f\"{d[\"import\"]}\"",
         "(Code, 0, 1, 0, 0) (Str, \"f\\\"{d[\\\"import\\\"]}\\\"\", 1); end",
@@ -377,7 +377,7 @@ const FIELDS: &[Lexed<'static>] = &[
 ];
 
 /// Strings with fields, escapes and braces.
-const ESCAPES: &[Lexed<'static>] = &[
+static ESCAPES: &[Lexed<'static>] = &[
     Lexed(
         b"rf\"\\N{a}\"",
         "(Code, 0, 1, 0, 0) (Str, \"rf\\\"\\\\N{a}\\\"\", 1); end",
@@ -411,7 +411,7 @@ const ESCAPES: &[Lexed<'static>] = &[
 ];
 
 /// Lines after strings with fields.
-const LINES_WITH_FIELDS: &[Lexed<'static>] = &[
+static LINES_WITH_FIELDS: &[Lexed<'static>] = &[
     Lexed(
         b"f'{\n1}'\nimport a\n",
         "(Code, 0, 1, 0, 1) (Str, \"f'{\\n1}'\", 1); (Code, 8, 3, 0, 1) (Name, \"import\", 3) (Name, \"a\", 3); end",
@@ -432,7 +432,7 @@ const LINES_WITH_FIELDS: &[Lexed<'static>] = &[
 ];
 
 /// Strings with bad fields.
-const BAD_FIELDS: &[Lexed<'static>] = &[
+static BAD_FIELDS: &[Lexed<'static>] = &[
     Lexed(
         b"f'{a(b]}'",
         "6 line 1: F5 closing bracket without its opening",
@@ -464,7 +464,7 @@ impl Case for Deep {
 }
 
 /// A brace in a string with fields, where 200 brackets are open: what follows it says whether it opens a field.
-const DEEP: &[Deep] = &[
+static DEEP: &[Deep] = &[
     Deep(b"", "199 line 1: F6 bracket not closed"),
     Deep(b"f\"{{\"", "199 line 1: F6 bracket not closed"),
     Deep(b"f\"{{x", "200 line 1: F3 string not closed"),
@@ -473,7 +473,7 @@ const DEEP: &[Deep] = &[
 ];
 
 /// The same with a fault at that brace.
-const DEEP_FIELDS: &[Deep] = &[
+static DEEP_FIELDS: &[Deep] = &[
     Deep(b"f\"{\"", "202 line 1: F8 more than 200 brackets open"),
     Deep(b"f\"{\n", "202 line 1: F8 more than 200 brackets open"),
     Deep(b"f\"{", "202 line 1: F8 more than 200 brackets open"),

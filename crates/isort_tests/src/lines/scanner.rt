@@ -287,7 +287,7 @@ impl Case for Script {
     }
 }
 
-const SCRIPTS: &[Script] = &[
+static SCRIPTS: &[Script] = &[
     // Nothing is taken while a line is ready.
     Script(
         0,
@@ -353,7 +353,7 @@ const SCRIPTS: &[Script] = &[
 ];
 
 /// Strings with fields, and scanners that begin in mid-text.
-const OTHER_SCRIPTS: &[Script] = &[
+static OTHER_SCRIPTS: &[Script] = &[
     // A string goes on after its fields, whatever stands in them, and a quote in a specification is refused at once.
     Script(
         0,
@@ -411,7 +411,7 @@ impl Case for Halves {
     }
 }
 
-const HALVES: &[Halves] = &[
+static HALVES: &[Halves] = &[
     Halves(
         b"r",
         b"b'a'\n",
@@ -441,7 +441,7 @@ const HALVES: &[Halves] = &[
 ];
 
 /// Line ends, numbers and fields in two pieces.
-const OTHER_HALVES: &[Halves] = &[
+static OTHER_HALVES: &[Halves] = &[
     Halves(
         b"a\r",
         b"\nb",

@@ -4,7 +4,7 @@ use std::alloc::{AllocError, Global};
 use std::test::Fail;
 use test_harness::cases::{all_are_so, are_texts, was_refused};
 
-const TABLE: &[u8] = b"[tool.isort]
+static TABLE: &[u8] = b"[tool.isort]
 sections = [\"A\", \"B\"]
 known_a = [\"x.y\", \"x\"]
 known_first_party = [\"m.n\", \"o\"]

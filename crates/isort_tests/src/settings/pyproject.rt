@@ -44,7 +44,7 @@ impl Case for Refused {
     }
 }
 
-const REFUSED: &[Refused] = &[
+static REFUSED: &[Refused] = &[
     Refused(
         b"[tool.isort]\nline_length = \"x\"",
         None,
@@ -73,7 +73,7 @@ const REFUSED: &[Refused] = &[
 ];
 
 /// Bad profiles and modes.
-const REFUSED_MODES: &[Refused] = &[
+static REFUSED_MODES: &[Refused] = &[
     Refused(
         b"[tool.isort]\nprofile = \"google\"",
         None,
@@ -98,7 +98,7 @@ const REFUSED_MODES: &[Refused] = &[
 ];
 
 /// Bad lists, numbers and texts.
-const REFUSED_LISTS: &[Refused] = &[
+static REFUSED_LISTS: &[Refused] = &[
     Refused(
         b"[tool.isort]\nknown_first_party = [\"a*\"]",
         None,
@@ -122,7 +122,7 @@ const REFUSED_LISTS: &[Refused] = &[
 ];
 
 /// Bad numbers.
-const REFUSED_NUMBERS: &[Refused] = &[
+static REFUSED_NUMBERS: &[Refused] = &[
     Refused(
         b"[tool.isort]\nlines_after_imports = -2",
         None,
@@ -141,7 +141,7 @@ const REFUSED_NUMBERS: &[Refused] = &[
 ];
 
 /// Texts that are not TOML, or have other tables.
-const REFUSED_TEXTS: &[Refused] = &[
+static REFUSED_TEXTS: &[Refused] = &[
     Refused(b"[tool", BLACK, "the settings are not TOML"),
     Refused(b"# \xff\n", BLACK, "the settings are not TOML"),
     Refused(b"tool = 1", BLACK, "bad value for tool"),
@@ -243,7 +243,7 @@ impl Case for Stands {
     }
 }
 
-const STANDS: &[Stands] = &[
+static STANDS: &[Stands] = &[
     Stands(b"", None, Known::Plain, &[]),
     Stands(
         b"[tool.isort]\nknown_future_library = [\"__future__\"]",
@@ -298,7 +298,7 @@ fn refusals_profiles_and_texts(rt: HostRuntime) -> Result<(), Fail> {
 }
 
 /// A line length, whether its setter takes it, and the length that the settings then have.
-const LENGTHS: &[(u32, bool, u32)] = &[
+static LENGTHS: &[(u32, bool, u32)] = &[
     (0, false, 79),
     (1, true, 1),
     (10_000, true, 10_000),
@@ -327,7 +327,7 @@ fn sets_lengths(alloc: Global, settings: &mut Settings) -> bool {
 }
 
 /// A wrap mode, and whether its setter takes it.
-const MODES: &[(u32, bool)] = &[(3, true), (4, false)];
+static MODES: &[(u32, bool)] = &[(3, true), (4, false)];
 
 /// Whether each mode is set so, one after another.
 fn sets_modes(alloc: Global, settings: &mut Settings) -> bool {
@@ -401,7 +401,7 @@ impl SettingsCase for Sectioned {
     }
 }
 
-const SECTIONS: &[Sectioned] = &[
+static SECTIONS: &[Sectioned] = &[
     Sectioned("", "os.path", Section::Stdlib),
     Sectioned("", "requests", Section::ThirdParty),
     Sectioned("", "..a", Section::LocalFolder),
@@ -420,7 +420,7 @@ const SECTIONS: &[Sectioned] = &[
 ];
 
 /// Sections by lists and by prefixes.
-const LISTED_SECTIONS: &[Sectioned] = &[
+static LISTED_SECTIONS: &[Sectioned] = &[
     Sectioned(
         "extra_standard_library = [\"six\"]",
         "six.moves",
@@ -458,7 +458,7 @@ impl SettingsCase for Ordered {
     }
 }
 
-const ORDERS: &[Ordered] = &[
+static ORDERS: &[Ordered] = &[
     Ordered("", &["CONST", "A", "Klass", "b9", "b10", "func"]),
     Ordered("", &["a", "a01", "a1", "ab"]),
     Ordered(
@@ -482,7 +482,7 @@ impl SettingsCase for Compared {
     }
 }
 
-const MODULES: &[Compared] = &[
+static MODULES: &[Compared] = &[
     Compared("..a", ".b", Less),
     Compared(".b", "a", Less),
     Compared(".", ".a", Less),

@@ -17,14 +17,14 @@ impl Case for Spans {
 }
 
 /// Texts without blocks.
-const NONE: &[Spans] = &[
+static NONE: &[Spans] = &[
     Spans("", &[]),
     Spans("\u{feff}", &[]),
     Spans("x = 1\n", &[]),
     Spans("import b\nimport a  # isort: skip_file\n", &[]),
 ];
 
-const SPANS: &[Spans] = &[
+static SPANS: &[Spans] = &[
     // Words in a string start no statement.
     Spans(
         "x = 1\n\"\"\"from a to b, import c\n\"\"\"\nimport b\nimport a\n",
@@ -84,7 +84,7 @@ const SPANS: &[Spans] = &[
 ];
 
 /// Where blocks end.
-const ENDS: &[Spans] = &[
+static ENDS: &[Spans] = &[
     Spans(
         "if a:\n    import b\nimport c\n",
         &[

@@ -30,7 +30,7 @@ impl SettingsCase for Answered {
     }
 }
 
-const SAME: &[Answered] = &[
+static SAME: &[Answered] = &[
     Answered("", Outcome::Same),
     Answered("\u{feff}", Outcome::Same),
     Answered("x = 1\n", Outcome::Same),
@@ -40,7 +40,7 @@ const SAME: &[Answered] = &[
     Answered("import a\n\nx = 'isort: skip_file'\n", Outcome::Same),
 ];
 
-const SKIPPED: &[Answered] = &[
+static SKIPPED: &[Answered] = &[
     Answered(
         "\"\"\"isort: skip_file\"\"\"\nimport b\nimport a\n",
         Outcome::Skipped,
@@ -58,7 +58,7 @@ const SKIPPED: &[Answered] = &[
     Answered("import b\nimport a\n# isort: skip_file", Outcome::Skipped),
 ];
 
-const CHANGED: &[Answered] = &[
+static CHANGED: &[Answered] = &[
     Answered("import b\nimport a\n", Outcome::Changed),
     Answered("import a\nx = 1\n", Outcome::Changed),
     Answered("import b\nimport a\n'isort: skip_file'\n", Outcome::Changed),
@@ -92,7 +92,7 @@ impl SettingsCase for Faulty {
     }
 }
 
-const FAULTS: &[Faulty] = &[
+static FAULTS: &[Faulty] = &[
     Faulty("from b import c,\n", FaultKind::BadImport, 0, 1),
     Faulty("import a\nx = 1; import\n", FaultKind::BadImport, 16, 2),
     Faulty("import b\nimport a\nx = (\n", FaultKind::OpenBracket, 22, 3),

@@ -93,7 +93,7 @@ impl SettingsCase for Sorting {
     }
 }
 
-const SORTINGS: &[Sorting] = &[
+static SORTINGS: &[Sorting] = &[
     Sorting(UNSORTED, Outcome::Changed, SORTED),
     Sorting(SORTED, Outcome::Same, SORTED),
     Sorting(SKIPPED, Outcome::Skipped, SKIPPED),
