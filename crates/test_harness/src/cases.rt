@@ -137,15 +137,6 @@ pub fn is_shown<E: Display>(alloc: Global, shown: &E, want: &str) -> bool {
     }
 }
 
-/// What is shown, and how.
-pub struct Shown<E: 'static>(pub E, pub &'static str);
-
-impl<E: Display> Case for Shown<E> {
-    fn holds(&self, alloc: Global) -> bool {
-        is_shown(alloc, &self.0, self.1)
-    }
-}
-
 /// Each of these is so.
 pub fn all_are_so(facts: &[bool]) -> Result<(), Fail> {
     for (i, is_so) in facts.iter().enumerate() {

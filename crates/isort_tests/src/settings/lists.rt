@@ -1,6 +1,6 @@
 //! Lists of modules that are made from a `Vec`, and given back.
 use isort_settings::{Modules, OwnLists, Settings};
-use std::alloc::{AllocError, Global};
+use std::alloc::Global;
 use std::test::Fail;
 use test_harness::cases::{all_are_so, are_texts, was_refused};
 
@@ -11,20 +11,20 @@ known_first_party = [\"m.n\", \"o\"]
 ";
 
 /// A list of these modules.
-fn list_of(alloc: Global, names: &[&str]) -> Result<Vec<String>, AllocError> {
+pub(crate) fn list_of(alloc: Global, names: &[&str]) -> Option<Vec<String>> {
     let mut list = Vec::new(alloc);
     for name in names {
-        list.push(String::from_str(alloc, name)?)?;
+        list.push(String::from_str(alloc, name).ok()?).ok()?;
     }
-    Ok(list)
+    Some(list)
 }
 
 /// The own lists of the table.
-fn lists_of_table(alloc: Global) -> Result<Vec<Vec<String>>, AllocError> {
+fn lists_of_table(alloc: Global) -> Option<Vec<Vec<String>>> {
     let mut lists = Vec::new(alloc);
-    lists.push(list_of(alloc, &["x.y", "x"])?)?;
-    lists.push(Vec::new(alloc))?;
-    Ok(lists)
+    lists.push(list_of(alloc, &["x.y", "x"])?).ok()?;
+    lists.push(Vec::new(alloc)).ok()?;
+    Some(lists)
 }
 
 /// Whether these are the own lists of the table.
@@ -57,7 +57,7 @@ fn gives_back(list: Modules) -> bool {
 
 /// Whether all lists of the table are given back.
 fn are_given_back(alloc: Global) -> Option<bool> {
-    let lists = lists_of_table(alloc).ok()?;
+    let lists = lists_of_table(alloc)?;
     let (settings, _) = Settings::from_pyproject(alloc, TABLE, None).ok()?;
     let are_own = are_own_lists(alloc, lists, &settings.own_lists);
     Some(gives_back(settings.known_first_party) && are_own)

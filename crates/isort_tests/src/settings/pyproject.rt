@@ -1,6 +1,7 @@
 //! Settings files, settings, sections and orders.
+use crate::settings::lists::list_of;
 use isort_settings::{Modules, Profile, Section, SettingKey, Settings, SettingsError, laws};
-use std::alloc::{AllocError, Global};
+use std::alloc::Global;
 use std::cmp::Ordering;
 use std::cmp::Ordering::{Equal, Greater, Less};
 use std::test::Fail;
@@ -354,18 +355,16 @@ fn sets(alloc: Global) -> bool {
 }
 
 /// A list of one module.
-fn only(alloc: Global, module: &str) -> Result<Modules, AllocError> {
-    let mut modules = Vec::new(alloc);
-    modules.push(String::from_str(alloc, module)?)?;
-    Ok(Modules::Listed(modules))
+fn only(alloc: Global, module: &str) -> Option<Modules> {
+    Some(Modules::Listed(list_of(alloc, &[module])?))
 }
 
 /// Whether lists of modules are read, and compared by what they hold.
-fn are_lists(alloc: Global) -> Result<bool, AllocError> {
+fn are_lists(alloc: Global) -> Option<bool> {
     let (usual, standard) = (Modules::Future, Modules::StandardLibrary);
     let future = only(alloc, "__future__")?;
     let os = only(alloc, "os")?;
-    Ok(
+    Some(
         future == usual
             && os != usual
             && os != standard
@@ -380,7 +379,7 @@ fn setters_and_lists_of_modules(rt: HostRuntime) -> Result<(), Fail> {
     let alloc = rt.alloc();
     all_are_so(&[
         sets(alloc) || was_refused(alloc) && sets(alloc),
-        are_lists(alloc) == Ok(true) || was_refused(alloc) && are_lists(alloc) == Ok(true),
+        are_lists(alloc) == Some(true) || was_refused(alloc) && are_lists(alloc) == Some(true),
     ])
 }
 
