@@ -11,24 +11,6 @@ pub trait Case {
     fn holds(&self, alloc: Global) -> bool;
 }
 
-/// Every row of the table holds. One that doesn't is told by the name of the table, and by its place from 0 on.
-fn all_hold<C: Case>(alloc: Global, table: &str, cases: &[C]) -> Result<(), Fail> {
-    for (i, case) in cases.iter().enumerate() {
-        if !case.holds(alloc) {
-            return Err(Fail::new(format_args!("row {i} of {table} does not hold")));
-        }
-    }
-    Ok(())
-}
-
-/// Every row of each table holds, which stands here after its name.
-pub fn each_holds<C: Case>(alloc: Global, tables: &[(&str, &[C])]) -> Result<(), Fail> {
-    for (table, cases) in tables {
-        all_hold(alloc, table, cases)?;
-    }
-    Ok(())
-}
-
 /// How many bytes are asked for to learn whether a growth was refused. Nothing else asks for as many.
 const ASKED: usize = 65_521;
 
@@ -39,23 +21,37 @@ pub fn was_refused(alloc: Global) -> bool {
     String::with_capacity(alloc, ASKED).is_err()
 }
 
-/// Every row of the table holds. One that doesn't is tried once more where a growth was refused: the same calls then have to
-/// answer as with ample memory.
-fn all_hold_again<C: Case>(alloc: Global, table: &str, cases: &[C]) -> Result<(), Fail> {
+/// Every row of the table holds. One that doesn't is told by the name of the table, and by its place from 0 on. If `again` says so, it
+/// is tried once more before that where a growth was refused: the same calls then have to answer as with ample memory.
+fn all_hold<C: Case>(alloc: Global, table: &str, cases: &[C], again: bool) -> Result<(), Fail> {
     for (i, case) in cases.iter().enumerate() {
-        if !case.holds(alloc) && !(was_refused(alloc) && case.holds(alloc)) {
+        if !case.holds(alloc) && !(again && was_refused(alloc) && case.holds(alloc)) {
             return Err(Fail::new(format_args!("row {i} of {table} does not hold")));
         }
     }
     Ok(())
 }
 
-/// Every row of each table holds, which stands here after its name. One that doesn't is tried once more, as above.
-pub fn each_holds_again<C: Case>(alloc: Global, tables: &[(&str, &[C])]) -> Result<(), Fail> {
+/// Every row of each table holds so, which stands here after its name.
+fn all_hold_in_each<C: Case>(
+    alloc: Global,
+    tables: &[(&str, &[C])],
+    again: bool,
+) -> Result<(), Fail> {
     for (table, cases) in tables {
-        all_hold_again(alloc, table, cases)?;
+        all_hold(alloc, table, cases, again)?;
     }
     Ok(())
+}
+
+/// Every row of each table holds, which stands here after its name.
+pub fn each_holds<C: Case>(alloc: Global, tables: &[(&str, &[C])]) -> Result<(), Fail> {
+    all_hold_in_each(alloc, tables, false)
+}
+
+/// Every row of each table holds, which stands here after its name. One that doesn't is tried once more, as above.
+pub fn each_holds_again<C: Case>(alloc: Global, tables: &[(&str, &[C])]) -> Result<(), Fail> {
+    all_hold_in_each(alloc, tables, true)
 }
 
 /// A row of a test's table that is tried under settings.
