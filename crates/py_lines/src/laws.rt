@@ -57,7 +57,6 @@ pub fn one_fault()
 
 /// Every text has one list of logical lines, and then its end or one lexical fault: of one kind, at one byte, on one
 /// line.
-#[tactic(auto, using(crate::proofs::Lexings::Uniqueness::one_lexing_of, crate::proofs::Lexings::Uniqueness::one_end_of))]
 pub fn one_lexing()
     ensures some { (text : List ℕ)
         → (lines : List LogicalLine) × (end : Option Fault) × IsLexed text lines end }
@@ -69,7 +68,6 @@ pub fn one_lexing()
 
 /// The lines that a reader has given, wherever it stands, begin the lexing of the whole text: the rest of its lines and
 /// its end or fault come after them.
-#[tactic(auto, using(crate::proofs::Lexings::FirstLines::given_begin))]
 pub fn given_lines_begin_the_text()
     ensures begin { (reader : Reader) (lines : List LogicalLine)
         → HasGiven reader lines → BeginsLexing reader.text lines }
@@ -79,7 +77,6 @@ pub fn given_lines_begin_the_text()
 /// the lexing of each text that begins with them. More bytes settle no fewer lines. The first lines of a text, up to some
 /// byte, begin with those that the bytes before it settle. A fault that the known bytes decide is that of each text that
 /// begins with them, after the same lines.
-#[tactic(auto, using(crate::proofs::Lexings::SettledLines::settled_begin, crate::proofs::Lexings::DecidedFaults::decided_lexing))]
 pub fn settled_is_final()
     ensures some { (text : List ℕ) → (lines : List LogicalLine) × IsSettled text lines }
     ensures one { (text : List ℕ) (lines others : List LogicalLine)
@@ -103,7 +100,6 @@ pub fn settled_is_final()
 /// A text in which neither `f` nor `t`, alone or followed by `r`, stands directly before a quote is read by the same pieces
 /// whether strings hold fields or not, and these are as deep. Any bytes in whose characters none stands so have the same
 /// logical lines, and then the same end or fault.
-#[tactic(auto, using(crate::proofs::Elsewhere::SameLexings::elsewhere_laws))]
 pub fn fields_change_nothing_elsewhere()
     ensures read_with { (pieces : List Piece) (characters : List ℕ)
         → may_have_fields characters ≡ false → ReadsPlain pieces characters

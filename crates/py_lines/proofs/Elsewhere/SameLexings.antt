@@ -9,7 +9,6 @@ use Rattle.py_lines.specs.Lexed.{IsLexedIn, IsLexed}
 use Rattle.py_lines.specs.WithoutFields.{IsPlainLexed, HasNoFields}
 use Rattle.py_lines.specs.declared.fault.Fault.{Fault}
 use Rattle.py_lines.proofs.Text.Decoding.{decoded}
-use Rattle.py_lines.proofs.Fields.Elsewhere.{reads_with, reads_without, balanced_with, balanced_without}
 use Rattle.py_lines.proofs.Elsewhere.SamePlaces.{Carries, earlier, to_fielded, to_plain}
 use Rattle.py_lines.proofs.Elsewhere.SameFaults.{lexical_carried}
 
@@ -55,6 +54,3 @@ lexed_with text lines end free is = lexed_carried plain_dialect fielded_dialect 
 
 pub lexed_without : (text : List ℕ) (lines : List LogicalLine) (end : Option Fault) → HasNoFields text → IsLexed text lines end → IsPlainLexed text lines end
 lexed_without text lines end free is = lexed_carried fielded_dialect plain_dialect to_plain to_fielded text lines end free is
-
--- readings and lexings, both ways
-pub ruleset elsewhere_laws = (reads_with, reads_without, balanced_with, balanced_without, lexed_with, lexed_without)

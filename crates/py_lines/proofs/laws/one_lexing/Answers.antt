@@ -1,5 +1,12 @@
 use Rattle.py_lines.proofs.Lexings.Existence.{some_lexing_of}
+use Rattle.py_lines.proofs.Lexings.Uniqueness.{one_lexing_of, one_end_of}
 use Rattle.py_lines.proofs.laws.one_lexing.Goals as goal
 
 pub returns-clause-some : goal.returns-clause-some
 returns-clause-some c = some_lexing_of
+
+pub returns-clause-one_list : goal.returns-clause-one_list
+returns-clause-one_list c = one_lexing_of
+
+pub returns-clause-one_end : goal.returns-clause-one_end
+returns-clause-one_end c = one_end_of

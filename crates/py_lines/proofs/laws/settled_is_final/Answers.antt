@@ -1,6 +1,6 @@
-use Rattle.py_lines.proofs.Lexings.DecidedFaults.{decided_fault}
+use Rattle.py_lines.proofs.Lexings.DecidedFaults.{decided_fault, decided_lexing}
 use Rattle.py_lines.proofs.Lexings.Existence.{some_settled}
-use Rattle.py_lines.proofs.Lexings.SettledLines.{settled_before_settled}
+use Rattle.py_lines.proofs.Lexings.SettledLines.{settled_begin, settled_before_settled}
 use Rattle.py_lines.proofs.Lexings.SettledOrder.{settled_begin_first}
 use Rattle.py_lines.proofs.Lexings.Uniqueness.{one_settled}
 use Rattle.py_lines.proofs.laws.settled_is_final.Goals as goal
@@ -10,6 +10,12 @@ returns-clause-some c = some_settled
 
 pub returns-clause-one : goal.returns-clause-one
 returns-clause-one c = one_settled
+
+pub returns-clause-lines : goal.returns-clause-lines
+returns-clause-lines c = settled_begin
+
+pub returns-clause-all : goal.returns-clause-all
+returns-clause-all c = decided_lexing
 
 pub returns-clause-fault : goal.returns-clause-fault
 returns-clause-fault c = decided_fault
