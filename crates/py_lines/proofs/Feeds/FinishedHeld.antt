@@ -1,5 +1,5 @@
 -- The text's end, as a caller of the scanner sees it.
-use Rattle.std.proofs.Common.{◌≡◌, ℕ, ◌+◌, ◌<◌, true, false, Option, None, Some, Ok, Err, List, [], ◌++◌, length, take, drop, refl, sym, ap, ◌∙◌, subst, inl, inr, append-nil, arith, length-append, length-drop}
+use Rattle.std.proofs.Common.{◌≡◌, ℕ, ◌+◌, ◌<◌, true, false, Option, None, Some, Result, Ok, Err, List, [], ◌++◌, length, take, drop, refl, sym, ap, ◌∙◌, subst, inl, inr, append-nil, arith, length-append, length-drop}
 use Rattle.std.specs.Prelude.{encode_utf8_all, is_some}
 use Rattle.std.specs.Global.{Vec}
 use Rattle.std.proofs.lemmas.Bool.{both_ways}
@@ -16,13 +16,14 @@ use Rattle.py_lines.specs.declared.fault.LexError.{LexError}
 use Rattle.py_lines.specs.declared.fault.LexError.TheVariants as lex
 use Rattle.py_lines.specs.declared.feed.Feed.{Feed}
 use Rattle.py_lines.specs.Private.Scan.{EndsWhole}
-use Rattle.py_lines.specs.Private.Feed.{KeepsText, IsScanned, ScansHeld, EndsLineHeld, IsReady, HasEndedText, EndsText}
+use Rattle.py_lines.specs.Private.Feed.{KeepsText, IsScanned, ScansHeld, EndsLineHeld, EndsHeld, EndsWith, HasRoom, IsReady, StandsSo, HasEndedText, EndsText}
 use Rattle.py_lines.proofs.Feeds.Known.{is_known}
 use Rattle.py_lines.proofs.Feeds.SettledSoFar.{ended_before}
 use Rattle.py_lines.proofs.Feeds.Ended.{ended_empty}
 use Rattle.py_lines.proofs.Feeds.ReadyLines.{ended_ready, scanned_stands}
 use Rattle.py_lines.proofs.Feeds.NextHeld.{next_pieces, next_line, next_some}
 use Rattle.py_lines.proofs.Feeds.FailedHeld.{failed_held, failed_keeps}
+use Rattle.py_lines.proofs.Feeds.Loops.{restarts_on}
 
 items_kept : (old new : Feed) → KeepsText old new → new.held.items ≡ old.held.items
 items_kept old new keeps = ap (λ (v : Vec ℕ). v.items) keeps.held
@@ -89,6 +90,45 @@ text_left old mid some not_ready keeps fault scanned = go mid.ready refl
     go : (ready : Option ℕ) → mid.ready ≡ ready → EndsText old (Ok tt) mid
     go None is = absurd (both_ways _ (ap is_some is) some)
     go (Some n) is = text_ready old mid n not_ready is keeps fault scanned
+
+-- what ends with what a scan has kept ends with what was held before it
+ends_before_scan : (old mid : Feed) (text : List ℕ) (lines : List LogicalLine) → KeepsText old mid → EndsWith old text lines → EndsWith mid text lines
+ends_before_scan old mid text lines keeps e =
+    let held = items_kept old mid keeps in
+    record {
+      first = first_kept old mid text lines keeps e.first;
+      held = subst (GoesOnWith text mid.state.place) (sym held) (subst (λ (n : ℕ). GoesOnWith text n old.held.items) (sym keeps.place) e.held);
+      whole = e.whole ∙ ap (λ (n : ℕ). n + length old.held.items) (sym keeps.place) ∙ ap (λ (l : List ℕ). mid.state.place + length l) (sym held);
+    }
+
+kept_on : (old mid new : Feed) → KeepsText old mid → KeepsText mid new → KeepsText old new
+kept_on old mid new one two = record { held = two.held ∙ one.held; place = two.place ∙ one.place; line = two.line ∙ one.line; ended = two.ended ∙ one.ended }
+
+-- the scan has left a line open, which ends there
+pub text_ended : (old mid new : Feed) (result : Result (Unit {0}) LexError) → old.ready ≡ None → mid.ready ≡ None → KeepsText old mid → mid.state.fault ≡ old.state.fault → EndsHeld mid result new → EndsText old result new
+text_ended old mid new (Ok done) not_ready none keeps fault e = record {
+  text = kept_on old mid new keeps e.text;
+  fault = e.fault ∙ fault;
+  state = subst (λ (r : Option ℕ). StandsSo r new) (sym e.is_ready) e.ready;
+  lexed = λ text lines scanning whole.
+      let ends : EndsWith old text lines = record { first = scanning.first; held = scanning.held; whole = whole } in
+      subst (λ (r : Option ℕ). IsLexed text (lines ++ ready_lines (ready_of new r)) None × HoldsLast new.held.items (ready_of new r)) (sym e.is_ready)
+      (e.lexed text lines (ends_before_scan old mid text lines keeps ends), sym (take_all new.state.scan.stop new.held.items (omega (arith, e.all))));
+}
+text_ended old mid new (Err (lex.Fault f)) not_ready none keeps fault e = record {
+  text = kept_on old mid new keeps e.text;
+  none_ready = e.none_ready;
+  kept = e.kept;
+  lexed = λ text lines ends. e.lexed text lines (ends_before_scan old mid text lines keeps ends);
+}
+text_ended old mid new (Err lex.Memory) not_ready none keeps fault restarts = restarts_on old mid new keeps (none ∙ sym not_ready) fault restarts
+
+-- what a scan keeps leaves room
+pub room_kept : (old mid : Feed) → KeepsText old mid → HasRoom old 0 → HasRoom mid 0
+room_kept old mid keeps room = record {
+  fits = omega (arith, room.fits, keeps.place, ap length (items_kept old mid keeps));
+  few_lines = omega (arith, room.few_lines, keeps.place, keeps.line);
+}
 
 pub none_from : (ready : Option ℕ) → is_some ready ≡ false → ready ≡ None
 none_from None is = refl
