@@ -280,8 +280,7 @@ impl Scan {
         match Start::of(c) {
             Start::Open(mode) => {
                 self.close()?;
-                self.read(c);
-                self.piece.mode = mode;
+                self.grow(mode, c);
                 Ok(Progress::Going)
             }
             Start::Operator => {

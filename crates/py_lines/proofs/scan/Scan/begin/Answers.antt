@@ -1,6 +1,5 @@
-use Rattle.std.proofs.Common.{Bool, refl, sym, ap, subst}
-use Rattle.py_lines.specs.declared.scan.Scan.{Scan}
-use Rattle.py_lines.specs.Private.Scan.{Meets, in_mode}
+use Rattle.std.proofs.Common.{Bool, refl, sym, subst}
+use Rattle.py_lines.specs.Private.Scan.{Meets}
 use Rattle.py_lines.proofs.Machine.Starts.{StartsSo, starts_so}
 use Rattle.py_lines.proofs.Text.CharacterTests.{operator_ascii}
 use Rattle.py_lines.proofs.scan.Scan.begin.Goals as goal
@@ -12,7 +11,7 @@ pub returns-in_ok-close-in-Open : goal.returns-in_ok-close-in-Open
 returns-in_ok-close-in-Open c =
     rw (← c.in-Open.ensures) (
       refl,
-      record { mid = c.close.new.self; closes = c.in_ok-close-in-Open.ensures; is = ap (λ (s : Scan). in_mode s c.in-Open.mode) c.read.ensures },
+      record { mid = c.close.new.self; closes = c.in_ok-close-in-Open.ensures; is = c.grow.ensures },
     )
 
 pub returns-in_ok-take_operator-in-Operator : goal.returns-in_ok-take_operator-in-Operator
