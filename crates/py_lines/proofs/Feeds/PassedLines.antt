@@ -9,7 +9,7 @@ use Rattle.py_lines.specs.Piece.{Piece, ends, spelled}
 use Rattle.py_lines.specs.LogicalLine.{LogicalLine, byte_len, line_of}
 use Rattle.py_lines.specs.Settled.{IsSettled}
 use Rattle.py_lines.specs.Given.{AreFirstLines}
-use Rattle.py_lines.specs.ScannerState.{ScannerState, GoesOnWith, HasSettled, HoldsReady, IsScanning, PassesPieceLines, StandsBetweenLines, fed_of}
+use Rattle.py_lines.specs.ScannerState.{GoesOnWith, HasSettled, HoldsReady, IsScanning, PassesPieceLines, StandsBetweenLines, fed_of}
 use Rattle.py_lines.specs.ScannerState.View.{ready_of, scanning_of}
 use Rattle.py_lines.specs.declared.feed.Feed.{Feed}
 use Rattle.py_lines.specs.declared.line_state.LineState.{LineState}
@@ -239,17 +239,3 @@ module _ (f : Feed) (state : LineState) (piece : List ℕ) (before stop : ℕ) (
       };
       state = subst (λ x. StandsSo x after) (sym not_ready) (λ no_fault. ([], f.held.items, restarts_open (record f { state = record f.state { place = f.state.place + p.len; line = f.state.line + p.line_ends; scan = scan } }) after (record { same = refl; begins = anew })));
     }
-
--- no line was passed over
-pub passes_nothing : (s : ScannerState) (piece : List ℕ) (before : ℕ) → PassesPieceLines s piece before 0 s
-passes_nothing s piece before = record {
-  lines = [];
-  texts = refl;
-  within = omega arith;
-  ends = omega arith;
-  between = λ some. absurd (omega (arith, some));
-  scans = λ some. absurd (omega (arith, some));
-  place = omega arith;
-  others = refl;
-  same = λ none. refl;
-}

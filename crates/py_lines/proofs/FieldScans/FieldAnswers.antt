@@ -1,11 +1,10 @@
 -- What a character comes to that opens or ends a field of a string, or begins its code, wherever the machine stands.
-use Rattle.std.proofs.Common.{◌≡◌, ℕ, ◌+◌, ◌<◌, ◌≤◌, Bool, true, false, ◌==◌, List, [], ◌∷◌, ◌++◌, length, nat_lt, refl, sym, ap, ◌∙◌, subst, arith}
+use Rattle.std.proofs.Common.{◌≡◌, ℕ, ◌+◌, ◌<◌, ◌≤◌, Bool, true, false, ◌==◌, List, [], ◌∷◌, length, nat_lt, refl, sym, ap, ◌∙◌, subst, arith}
 use Rattle.std.specs.Prelude.{if◌then◌else◌}
 use Rattle.std.specs.Str.{byte}
 use Rattle.std.proofs.lemmas.Bool.{ltb-true, ltb-false, lt-ltb, le-ltb, eqb-true, eq-eqb, false_from_ne_true}
-use Rattle.std.proofs.lemmas.Str.{len_utf8_bounds}
 use Rattle.py_lines.specs.Character.{is_line_feed}
-use Rattle.py_lines.specs.Piece.{Piece, spelled}
+use Rattle.py_lines.specs.Piece.{Piece}
 use Rattle.py_lines.specs.LogicalLine.{byte_len}
 use Rattle.py_lines.specs.Balance.{is_opening, is_closing}
 use Rattle.py_lines.specs.FieldStrings.{Host, literal, specification}
@@ -22,13 +21,11 @@ use Rattle.py_lines.specs.declared.field_scan.FieldScan.{FieldScan}
 use Rattle.py_lines.specs.declared.field_scan.FieldProgress.{FieldProgress}
 use Rattle.py_lines.specs.declared.field_scan.FieldProgress.TheVariants as progress
 use Rattle.py_lines.specs.Private.Machine.{start_of}
-use Rattle.py_lines.specs.Private.FieldMachine.{FieldMode, body, after_brace, FieldMove, begins_code, opens_field, ends_field, refused, Level, FieldScanned, field_state, field_move, before, frames, has_room_at}
+use Rattle.py_lines.specs.Private.FieldMachine.{FieldMode, body, after_brace, FieldMove, begins_code, opens_field, ends_field, refused, Level, FieldScanned, field_state, field_move, frames, has_room_at}
 use Rattle.py_lines.specs.Private.FieldFaults.{here}
 use Rattle.py_lines.specs.Private.ScanMachine.{host_in}
 use Rattle.py_lines.specs.Private.FieldScan.{meets_field, HoldsCode, Follows, FramesFollow, none_open, ComesTo, freed_at, ended_in, opened_with, waiting_field}
 use Rattle.py_lines.proofs.Text.CharacterTests.{each_of}
-use Rattle.py_lines.proofs.LogicalLines.Cuts.{byte_len-append}
-use Rattle.py_lines.proofs.LineScan.LineCount.{byte_len-one}
 use Rattle.py_lines.proofs.LineScan.NextCharacter.{one_feed}
 use Rattle.py_lines.proofs.Machine.Starts as begun_so
 use Rattle.py_lines.proofs.Machine.Starts.{StartsSo}
@@ -36,7 +33,7 @@ use Rattle.py_lines.proofs.FieldScans.Moves.{meets, opens_specification, waits_l
 use Rattle.py_lines.proofs.FieldScans.Steps.{no_room, no_step}
 use Rattle.py_lines.proofs.FieldScans.Taking.{one_operator}
 use Rattle.py_lines.proofs.FieldScans.Operators.{open_frames}
-use Rattle.py_lines.proofs.FieldScans.FieldOpenings.{inner_field, begins_piece, begins_line, begins_nothing, ends_empty, specifies, closes_nothing, begins_bracket, begins_operator, specified_no_room, opens_in_specification, ends_specified}
+use Rattle.py_lines.proofs.FieldScans.FieldOpenings.{inner_field, begins_piece, begins_line, ends_empty, specifies, closes_nothing, begins_bracket, begins_operator, specified_no_room, opens_in_specification, ends_specified}
 
 -- the code meets the character as the machine does
 pub moves_so : (old : FieldScan) (base : ℕ) (t : FieldScanned) (c : ℕ) (v : FieldMove) → Follows old base t → v ≡ meets_field old.mode c → field_move t.mode t.held c ≡ v
@@ -120,17 +117,6 @@ module _ (old : FieldScan) (base depth c place : ℕ) (host : StringWithFields) 
   abbrev H : FieldMode
   H = body (host_in host) literal e.0 after_brace
 
-  -- its `{` stands before
-  pub some_before : 0 < place
-  some_before =
-      let f : Follows old base (In t H) = subst (λ (x : FieldMode). Follows old base (In t x)) e.1 follow in
-      let there : place ≡ base + here (In t H) = at ∙ ap (λ (x : FieldMode). base + here (In t x)) e.1 in
-      omega (arith, there, byte_len-append (before literal t.outer) (spelled t.done ++ t.held), byte_len-append (spelled t.done) t.held, some t.held (f.full refl))
-    where
-      some : (held : List ℕ) → (held ≡ [] → ⊥) → 0 < byte_len held
-      some [] full = absurd (full refl)
-      some (x ∷ xs) full = omega (arith, byte_len-append (x ∷ []) xs, byte_len-one x, len_utf8_bounds x)
-
   pub no_room_there : nat_lt (depth + length old.frames + opened_with c) 201 ≡ false → ComesTo base depth t c old progress.Refused old
   no_room_there room = no_room base depth t c (begins_code (host_in host)) is old (room_so old base depth c (host_in host) t false follow room)
 
@@ -146,9 +132,6 @@ module _ (old : FieldScan) (base depth c place : ℕ) (host : StringWithFields) 
 
     pub line_there : (mid : FieldScan) → mid.frames ≡ frame.Field Field ∷ old.frames → start_of c ≡ starts.LineEnd → ComesTo base depth t c old progress.Going (freed_at mid (place + 1))
     line_there mid pushed starts_with = there (freed_at mid (place + 1)) progress.Going (λ f a i. begins_line old base depth t.outer t.done t.openers t.held e.0 host c place f a i mid (room_so old base depth c (host_in host) (In t H) true f room) pushed starts_with (one_line c starts_with))
-
-    pub nothing_there : start_of c ≡ starts.Nothing → ComesTo base depth t c old progress.Refused old
-    nothing_there starts_with = there old progress.Refused (λ f a i. begins_nothing old base depth t.outer t.done t.openers t.held e.0 host c place f a i starts_with)
 
     -- with an operator
     module _ (starts_with : start_of c ≡ starts.Operator) where

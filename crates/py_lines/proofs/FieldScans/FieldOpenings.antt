@@ -94,10 +94,6 @@ module _ (old : FieldScan) (base depth : ℕ) (outer : List Level) (done : List 
         at = piece_after base place (L ∷ outer) [] line_end c one code_at;
       }))
 
-  -- with nothing
-  pub begins_nothing : start_of c ≡ starts.Nothing → ComesTo base depth T c old progress.Refused old
-  begins_nothing starts_with = no_step base depth T c (begins_code (host_in host)) is old (ap (field_started (L ∷ outer) [] [] c) starts_with)
-
   -- with an operator
   operator_comes : (o : Option FieldScanned) → start_of c ≡ starts.Operator → field_operator (L ∷ outer) [] [] c ≡ o → field_started (L ∷ outer) [] [] c (start_of c) ≡ o
   operator_comes o starts_with same = ap (field_started (L ∷ outer) [] [] c) starts_with ∙ same

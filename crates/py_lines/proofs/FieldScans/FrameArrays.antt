@@ -1,11 +1,10 @@
 -- The frames that are open are those of the first slots of an array.
-use Rattle.std.proofs.Common.{◌≡◌, ℕ, zero, suc, ◌+◌, ◌-◌, ◌<◌, ◌≤◌, None, Some, List, [], ◌∷◌, length, take, drop, refl, sym, ap, ◌∙◌, arith}
-use Rattle.std.specs.Prelude.{Option, false, map, reverse, set, get_or}
+use Rattle.std.proofs.Common.{◌≡◌, ℕ, zero, suc, ◌+◌, ◌-◌, ◌<◌, ◌≤◌, None, List, [], ◌∷◌, length, take, drop, refl, sym, ap, ◌∙◌, arith}
+use Rattle.std.specs.Prelude.{false, map, reverse, set, get_or}
 use Rattle.std.proofs.lemmas.List.{length-take-le, length-map, length-reverse, map-append, map_more, reverse-append, take_more_set}
-use Rattle.py_lines.specs.declared.host.Region.{Region}
 use Rattle.py_lines.specs.declared.frames.Frame.{Frame}
 use Rattle.py_lines.specs.declared.frames.Slot.{Slot}
-use Rattle.py_lines.specs.Private.Frames.{AreNested, frame_at, frame_of, frames_in, place_of}
+use Rattle.py_lines.specs.Private.Frames.{AreNested, frame_of, frames_in}
 
 -- those of so many slots, the innermost first
 abbrev pub first_frames : List Slot → ℕ → List Frame
@@ -48,10 +47,3 @@ first_frames-last ss (suc n) within some =
     let less : suc n - 1 ≡ n = omega arith in
     let same : suc n ≡ n + 1 = omega arith in
     ap (first_frames ss) same ∙ more ss n empty (omega (arith, within)) ∙ ap (λ (k : ℕ). frame_of (get_or ss k empty) ∷ first_frames ss k) (sym less)
-
-pub slot_place : (s : Slot) → place_of (frame_of s) ≡ s.place
-slot_place s = go s.region
-  where
-    go : (r : Option Region) → place_of (frame_at s r) ≡ s.place
-    go None = refl
-    go (Some region) = refl

@@ -73,9 +73,6 @@ settled_at characters tail s st base others rest steps pieces good yet spell =
     bounded rivals after body last spells is reading class deep settles stays (EndsNoneYet.none free) = within base others rivals body last (pieces_at s) pieces good.0 free is deep stays
     bounded rivals after body last spells is reading class deep settles stays (EndsNoneYet.by_return local text split_at free cr bare) = go (split base others body stays.line stays.others (sym pieces ∙ stays.is))
       where
-        cr_piece : Piece
-        cr_piece = piece line_end text
-
         second : (k : List Piece) → body ≡ base ++ k → others ≡ k ++ stays.line ∷ stays.others → depth_through 0 k ≡ 0 → Split local (piece line_end text ∷ []) k stays.line stays.others → length (spelled rivals) ≤ length (spelled base)
         second k one two level (Split.in_first m is_local rest_is) = absurd (no_end_in 0 k stays.line m (subst (EndsNoLine 0) is_local free) level stays.class)
         second k one two level (Split.in_second m is_k is_cr) = third (one_of (piece line_end text) stays.line m stays.others is_cr)

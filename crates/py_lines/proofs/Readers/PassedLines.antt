@@ -220,13 +220,3 @@ module _ (s : Source) (later : s.state.place ≡ 0 → ⊥) (no_fault : s.state.
         let line : s.state.line + p.line_ends ≡ s.state.line = omega (arith, none, few) in
         λ i. record { text = s.bytes.now; place = place i; line = line i; fault = s.state.fault };
   }
-
--- no line was passed
-pub passes_none : (r : Reader) (before : ℕ) → PassesUpTo r before 0 r
-passes_none r before = record {
-  lines = [];
-  passes = refl;
-  place = omega arith;
-  within = λ some. absurd (omega (arith, some));
-  same = λ none. refl;
-}

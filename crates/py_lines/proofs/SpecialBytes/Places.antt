@@ -2,10 +2,10 @@
 use Rattle.std.proofs.Common.{◌≡◌, ℕ, ◌+◌, ◌-◌, ◌*◌, ◌%◌, ◌^◌, ◌<◌, ◌≤◌, true, false, not, ◌&&◌, eqb, leb, ltb, List, length, slice_index, bit_and, refl, sym, ap, ◌∙◌, inl, inr, arith, w64, ◌++◌, drop, replicate}
 use Rattle.std.specs.Int.{trailing_zeros}
 use Rattle.std.proofs.lemmas.Bool.{and_parts, cases_eq, cases_lt, eq-eqb, leb-true, le-leb, le-ltb, lt-leb, lt-ltb, ltb-true, ne_eqb, not-true, not-false}
-use Rattle.std.proofs.lemmas.List.{get_or_append_left, get_or-append_right, get_or-drop, get_or-replicate, length-drop}
+use Rattle.std.proofs.lemmas.List.{get_or_append_left, get_or-append_right, get_or-drop, get_or-replicate}
 use Rattle.py_lines.specs.declared.marks.Marks.{Marks}
 use Rattle.py_lines.specs.Character.{is_space}
-use Rattle.py_lines.specs.Private.Run.{IsRunOf, is_ascii_word}
+use Rattle.py_lines.specs.Private.Run.{is_ascii_word}
 use Rattle.py_lines.specs.Private.Marks.{FindsNext, HasMarks, is_mark, is_plain, is_set}
 use Rattle.py_lines.proofs.SpecialBytes.Bits.{HasLowest, cleared_below-is, lowest, unset}
 
@@ -70,9 +70,6 @@ pub record HasPassed (text : List ℕ) (from : ℕ) (m : Marks) : Type 0 where
   pub after : from ≤ to
   pub marks : HasMarks text to m
   pub plain : (k : ℕ) → from ≤ k → k < to → is_plain (slice_index text k) ≡ true
-
-pub passed_none : (text : List ℕ) (from : ℕ) (m : Marks) → HasMarks text from m → HasPassed text from m
-passed_none text from m has = record { to = from; after = omega arith; marks = has; plain = λ k le less. absurd (omega (arith, le, less)) }
 
 -- where no bit is set, the block's bytes are plain
 plain_on : (text : List ℕ) (from : ℕ) (m : Marks) → HasPassed text from m → m.bits ≡ 0 → (k : ℕ) → from ≤ k → k < m.base + 64 → k < length text
@@ -180,16 +177,3 @@ filled text block k same few less =
         get_or-append_right text rest (length text) k 0 refl past
         ∙ get_or-drop (length text) (replicate 64 32) (k - length text) 0
         ∙ get_or-replicate 64 (length text + (k - length text)) 32 0 (omega (arith, less, past))
-
--- the bytes up to the next that isn't plain are a run
-pub finds_run : (text : List ℕ) (from at : ℕ) (m : Marks) → FindsNext text from at m → IsRunOf is_plain (drop from text) (at - from)
-finds_run text from at m found =
-    record {
-      within = omega (arith, found.after, found.within, length-drop from text);
-      each = λ i less. ap is_plain (get_or-drop from text i 0) ∙ found.plain (from + i) (omega arith) (omega (arith, less));
-      ends = λ more.
-          ap is_plain (get_or-drop from text (at - from) 0 ∙ ap (λ k. slice_index text k) stops) ∙ found.special (omega (arith, more, found.after, length-drop from text));
-    }
-  where
-    stops : from + (at - from) ≡ at
-    stops = omega (arith, found.after)
