@@ -16,8 +16,9 @@ use Rattle.py_lines.specs.Private.LineState.{first_mode}
 use Rattle.py_lines.specs.Private.Scan.{EndsWhole, IsLineBefore, line_start}
 use Rattle.py_lines.specs.declared.scan.Stop.TheVariants as stops
 use Rattle.py_lines.specs.ScannerState.{EndsExactly}
-use Rattle.py_lines.specs.Private.Feed.{HasScannedNext, IsScanned, EndsLineHeld, HadEnded, EndsAfter, whole_end, GivesBack, TakesOf}
+use Rattle.py_lines.specs.Private.Feed.{HasScannedNext, IsHeldSo, IsScanned, IsUnchanged, EndsLineHeld, HadEnded, EndsAfter, Restarts, whole_end, GivesBack, TakesOf}
 use Rattle.py_lines.proofs.Feeds.Chunks.{none_is}
+use Rattle.py_lines.proofs.Feeds.Loops.{restarts_fault, restarts_keep, restarts_open, restarts_ready}
 use Rattle.py_lines.proofs.Readers.LineAnswers.{IsScannedLine, line_at_end}
 
 -- a line's end stays whole where one byte after CR stays
@@ -185,4 +186,18 @@ line_taken old new chunk end_len n s is held place line ended fault ready scan =
       more = record { held = held; place = place; line = line; ended = ended };
       fault = fault;
       stops = subst (λ o. EndsAfter old.held.items o new) (sym ready) (ends, inl (taken_exactly mode old.state.scan chunk t.read t.rest end_len t.spell t.stops.0 t.stops.1 n is));
+    }
+
+-- the memory for a scan was refused: what was held before is held again, and its scan begins anew
+pub refused_unchanged : (f : Feed) (longer shorter : Vec ℕ) (new : Feed) → f.ready ≡ None → shorter.items ≡ f.held.items → Restarts (record f { held = longer }) new → IsUnchanged f (record new { held = shorter })
+refused_unchanged f longer shorter new not_ready items restarts =
+    let mid : Feed = record f { held = longer } in
+    let keeps = restarts_keep mid new restarts in
+    let ready : new.ready ≡ f.ready = restarts_ready mid new restarts in
+    let open_anew = restarts_open mid new restarts in
+    record {
+      same = record { held = items ∙ sym (append-nil f.held.items); place = keeps.place; line = keeps.line; ended = keeps.ended };
+      ready = ready;
+      fault = restarts_fault mid new restarts;
+      state = subst (λ (r : Option ℕ). IsHeldSo r (record new { held = shorter })) (sym (ready ∙ not_ready)) ([], shorter.items, record { scalars = refl; spell = refl; way = open_anew.way; number = open_anew.number });
     }

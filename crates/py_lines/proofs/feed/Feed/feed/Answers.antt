@@ -1,11 +1,11 @@
 use Rattle.std.specs.Prelude.{is_some}
-use Rattle.std.proofs.Common.{◌≡◌, true, ⊎_elim, Err, [], length, take, sym, ap, ◌∙◌, subst, inr, not, arith}
+use Rattle.std.proofs.Common.{◌≡◌, true, ⊎_elim, Err, [], length, take, sym, ap, ◌∙◌, subst, inl, inr, not, refl, arith}
 use Rattle.std.proofs.lemmas.Bool.{both_ways, cases_lt}
 use Rattle.std.proofs.lemmas.List.{nil_from_length}
 use Rattle.py_lines.specs.declared.feed.Feed.{Feed}
 use Rattle.std.proofs.lemmas.Result.{err_from_is_err_and}
 use Rattle.py_lines.specs.declared.fault.LexError.{LexError}
-use Rattle.py_lines.specs.Private.Feed.{TakesChunk}
+use Rattle.py_lines.specs.Private.Feed.{IsUnchanged, TakesChunk}
 use Rattle.py_lines.proofs.Feeds.Chunks.{none_is, none_taken, rest_of, grows, after_scanned, next_bytes, last_chunk, chunk_fails, stops_short, takes_some}
 use Rattle.py_lines.proofs.feed.Feed.feed.Goals as goal
 
@@ -69,3 +69,15 @@ returns-else-is_none c =
     (λ empty. nil_from_length piece (omega (arith, empty)))
     (cases_lt 0 (length piece)) in
     (c.in_default.is, inr (takes_some c.args.self.now c.loop-taken.self piece taken waiting inv.within none inv.more inv.fault inv.scanned inv.last))
+
+pub returns-in-Some : goal.returns-in-Some
+returns-in-Some c = inl (c.in-Some.is, refl)
+
+-- no chunk was taken before the one for which there is no memory
+pub returns-in-Err-Memory : goal.returns-in-Err-Memory
+returns-in-Err-Memory c =
+    let mid = c.loop-taken.self in
+    let chunk = take c.step_len-len.result (rest_of c.args.piece.now c.loop-taken.taken) in
+    let same = subst (λ (e : LexError). TakesChunk mid chunk (Err e) c.take.new.self) c.in-Err-Memory.field-0-is c.in-Err-Memory.ensures in
+    let begun = c.loop-taken.invariant.begun c.if-taken-eq0.true (omega arith) in
+    (c.in_default.is, none_is c.args.self.now.ready (sym c.is_some.ensures ∙ c.if-is_some.false), subst (λ (f : Feed). IsUnchanged f c.take.new.self) begun same)
