@@ -1,5 +1,5 @@
 -- A piece that is taken by chunks.
-use Rattle.std.proofs.Common.{◌≡◌, ℕ, ◌+◌, ◌-◌, ◌<◌, ◌≤◌, false, Option, None, Some, Result, Ok, Err, List, [], ◌++◌, length, take, drop, refl, sym, ap, ◌∙◌, subst, inr, append_assoc, append-nil, arith, length-drop, length-take}
+use Rattle.std.proofs.Common.{◌≡◌, ℕ, zero, suc, ◌+◌, ◌-◌, ◌<◌, ◌≤◌, false, Option, None, Some, Result, Ok, Err, List, [], ◌++◌, length, take, drop, refl, sym, ap, ◌∙◌, subst, inr, append_assoc, append-nil, arith, length-drop, length-take}
 use Rattle.std.specs.Prelude.{is_some}
 use Rattle.std.specs.Global.{Vec}
 use Rattle.std.proofs.lemmas.List.{take_all, take-take}
@@ -8,7 +8,7 @@ use Rattle.py_lines.specs.declared.feed.Feed.{Feed}
 use Rattle.py_lines.specs.declared.fault.LexError.{LexError}
 use Rattle.py_lines.specs.declared.fault.LexError.TheVariants as lex
 use Rattle.py_lines.specs.declared.scan.Scan.{Scan}
-use Rattle.py_lines.specs.Private.Feed.{Restarts, EndsAfter, HoldsMore, IsScanned, IsHeldSo, IsUnchanged, TakesChunk, ScansHeld, FailsWith, FailsPiece, IsLastChunk, StopsTaking, TakesSome, FeedsSo}
+use Rattle.py_lines.specs.Private.Feed.{Restarts, EndsAfter, HoldsMore, IsScanned, IsHeldSo, IsUnchanged, IsSoundFeed, StandsSo, TakesChunk, ScansHeld, FailsWith, FailsPiece, IsLastChunk, StopsTaking, TakesSome, FeedsSo}
 use Rattle.py_lines.proofs.Feeds.Loops.{restarts_keep, restarts_ready, restarts_fault, restarts_open}
 
 pub none_is : (r : Option ℕ) → is_some r ≡ false → r ≡ None
@@ -27,6 +27,15 @@ restarts_unchanged old new ready r =
       fault = restarts_fault old new r;
       state = subst (λ o. IsHeldSo o new) (sym (restarts_ready old new r ∙ ready)) ([], new.held.items, restarts_open old new r);
     }
+
+-- where bytes of a piece are left and no line is ready, a line is open in what is held
+pub open_next : (old mid : Feed) (piece : List ℕ) (taken : ℕ) → IsSoundFeed old → old.state.fault ≡ None → old.ready ≡ None → mid.ready ≡ None → 0 < length piece → (taken ≡ 0 → 0 < length piece → mid ≡ old) → ((taken ≡ 0 → piece ≡ []) → IsScanned mid.ready mid) → IsHeldSo None mid
+open_next old mid piece zero sound no_fault not_ready none some begun scanned =
+    subst (IsHeldSo None) (sym (begun refl some)) (subst (λ (r : Option ℕ). StandsSo r old) not_ready sound.state no_fault)
+open_next old mid piece (suc n) sound no_fault not_ready none some begun scanned = go (subst (λ (r : Option ℕ). IsScanned r mid) none (scanned (λ first. absurd (omega (arith, first)))))
+  where
+    go : IsScanned None mid → IsHeldSo None mid
+    go (read, rest, opens, part) = (read, rest, opens)
 
 -- no bytes are fed
 pub none_taken : (old new : Feed) (piece : List ℕ) (error : LexError) → old.ready ≡ None → old.state.fault ≡ None → ScansHeld old (Err error) new → FeedsSo old piece (Err error) new

@@ -1,12 +1,14 @@
 use Rattle.std.specs.Prelude.{is_some}
-use Rattle.std.proofs.Common.{◌≡◌, true, ⊎_elim, Err, [], length, take, sym, ap, ◌∙◌, subst, inl, inr, not, refl, arith}
-use Rattle.std.proofs.lemmas.Bool.{both_ways, cases_lt}
-use Rattle.std.proofs.lemmas.List.{nil_from_length}
+use Rattle.std.proofs.Common.{◌≡◌, ◌≢◌, ◌<◌, ◌≤◌, ℕ, true, ⊎_elim, Err, [], length, take, sym, ap, ◌∙◌, subst, inl, inr, not, refl, append-nil, length-append, length-drop, arith}
+use Rattle.std.proofs.lemmas.Bool.{both_ways, cases_lt, eqb-true, eqb-false}
+use Rattle.std.proofs.lemmas.List.{nil_from_length, length-take-le}
+use Rattle.std.specs.Global.{Vec}
 use Rattle.py_lines.specs.declared.feed.Feed.{Feed}
 use Rattle.std.proofs.lemmas.Result.{err_from_is_err_and}
 use Rattle.py_lines.specs.declared.fault.LexError.{LexError}
 use Rattle.py_lines.specs.Private.Feed.{IsUnchanged, TakesChunk}
-use Rattle.py_lines.proofs.Feeds.Chunks.{none_is, none_taken, rest_of, grows, after_scanned, next_bytes, last_chunk, chunk_fails, stops_short, takes_some}
+use Rattle.py_lines.proofs.Feeds.Chunks.{none_is, holds_none, open_next, none_taken, rest_of, grows, after_scanned, next_bytes, last_chunk, chunk_fails, stops_short, takes_some}
+use Rattle.py_lines.proofs.feed.Feed.feed.Goals.{then-is_empty+in_ok-scan_held, else-is_empty}
 use Rattle.py_lines.proofs.feed.Feed.feed.Goals as goal
 
 pub returns-in_err-scan_held : goal.returns-in_err-scan_held
@@ -81,3 +83,56 @@ returns-in-Err-Memory c =
     let same = subst (λ (e : LexError). TakesChunk mid chunk (Err e) c.take.new.self) c.in-Err-Memory.field-0-is c.in-Err-Memory.ensures in
     let begun = c.loop-taken.invariant.begun c.if-taken-eq0.true (omega arith) in
     (c.in_default.is, none_is c.args.self.now.ready (sym c.is_some.ensures ∙ c.if-is_some.false), subst (λ (f : Feed). IsUnchanged f c.take.new.self) begun same)
+
+-- before the first chunk: an empty piece had what is held scanned
+pub loop-taken-init : goal.loop-taken-init
+loop-taken-init c =
+    let old = c.args.self.now in
+    let piece = c.args.piece.now in
+    elim c.if-is_empty.branch [
+      | then-is_empty+in_ok-scan_held w ↦
+          let e = w.in_ok-scan_held.ensures in
+          let empty : length piece ≡ 0 = eqb-true (length piece) 0 (sym c.is_empty.ensures ∙ w.if-is_empty.true) in
+          rw w.self-is (record {
+            within = omega arith;
+            more = record { held = ap (λ (v : Vec ℕ). v.items) e.0.held ∙ sym (append-nil old.held.items); place = e.0.place; line = e.0.line; ended = e.0.ended };
+            fault = e.1;
+            begun = λ first some. absurd (omega (arith, some, empty));
+            scanned = λ none. e.2;
+            last = λ end_len some ready. absurd (omega (arith, some));
+          })
+      | else-is_empty w ↦
+          let some : length piece ≢ 0 = eqb-false (length piece) 0 (sym c.is_empty.ensures ∙ w.if-is_empty.false) in
+          rw w.self-is (record {
+            within = omega arith;
+            more = holds_none old;
+            fault = refl;
+            begun = λ first full. refl;
+            scanned = λ none. absurd (some (ap length (none refl)));
+            last = λ end_len full ready. absurd (omega (arith, full));
+          })
+    ]
+
+pub take-requires : goal.take-requires
+take-requires c =
+    let old = c.args.self.now in
+    let mid = c.loop-taken.self in
+    let piece = c.args.piece.now in
+    let taken = c.loop-taken.taken in
+    let len = c.step_len-len.result in
+    let inv = c.loop-taken.invariant in
+    let mid_ready = none_is mid.ready (c.is_none.ensures ∙ ap not c.if-is_none.true) in
+    let not_ready = none_is old.ready (sym c.is_some.ensures ∙ c.if-is_some.false) in
+    let some : 0 < length piece = omega arith in
+    let size : length (take len (rest_of piece taken)) ≡ len = length-take-le len (rest_of piece taken) c.step_len-len.ensures.within in
+    let first : length (take taken piece) ≡ taken = length-take-le taken piece inv.within in
+    let within : len ≤ length (rest_of piece taken) = c.step_len-len.ensures.within in
+    record {
+      opens = open_next old mid piece taken c.requires.sound c.in_default.is not_ready mid_ready some inv.begun inv.scanned;
+      not_ready = mid_ready;
+      some = omega (arith, size, c.step_len-len.ensures.some);
+      room = record {
+        fits = omega (arith, size, first, within, inv.within, c.requires.fits, inv.more.place, ap length inv.more.held, length-append old.held.items (take taken piece), length-drop taken piece);
+        few_lines = omega (arith, c.requires.sound.room.few_lines, inv.more.place, inv.more.line);
+      };
+    }
