@@ -10,7 +10,7 @@ use Rattle.isort_sort.specs.Metered.{IsGivenUp}
 use Rattle.isort_sort.specs.declared.metered.Last.{Last}
 use Rattle.isort_sort.specs.declared.metered.Last.TheVariants as last
 use Rattle.isort_cmd.specs.RunError.{run_error_of}
-use Rattle.isort_cmd.specs.Private.Stages.{ListingState, ListsAll, StopsReady, StopsInChunk, TakesWholeChunk}
+use Rattle.isort_cmd.specs.Private.Stages.{ListingState, EmptiesReady, StopsReady, StopsInChunk, TakesWholeChunk}
 use Rattle.isort_cmd.specs.Private.Steps.{IsOutputError, HasListedSettled, HasListedGiven, HoldsNone, LeavesChunk, LooksAtHeld}
 use Rattle.isort_cmd.specs.declared.error.RunError.{RunError}
 use Rattle.isort_cmd.specs.declared.error.RunError.TheVariants as run
@@ -76,7 +76,7 @@ parts_of : (n : ℕ) (bytes : List ℕ) → n ≤ length bytes → take n bytes 
 parts_of n bytes within = grind (arith, common_steps)
 
 -- more bytes of the chunk were taken, and what got ready was listed
-pub amid_next : FoundLaws → (chunk rest : List ℕ) (old now : ListingState) (n : ℕ) (mid : PieceFinderState) (new : ListingState) → IsAmid chunk rest old now → TakesFromPiece now.finder rest n mid → ListsAll (record now { finder = mid }) new → IsAmid chunk (take (length rest - n) (drop n rest)) old new
+pub amid_next : FoundLaws → (chunk rest : List ℕ) (old now : ListingState) (n : ℕ) (mid : PieceFinderState) (new : ListingState) → IsAmid chunk rest old now → TakesFromPiece now.finder rest n mid → EmptiesReady (record now { finder = mid }) new → IsAmid chunk (take (length rest - n) (drop n rest)) old new
 amid_next laws chunk rest old now n mid new amid takes all =
     let keeps = all.keeps in
     let size = length-take-le n rest takes.takes.within in

@@ -1,21 +1,24 @@
 -- What listing all that is ready leaves.
-use Rattle.std.proofs.Common.{◌≡◌, ℕ, Bool, true, false, Option, None, Ok, Err, List, [], ◌∷◌, ◌++◌, refl, sym, ◌∙◌, subst}
+use Rattle.std.proofs.Common.{◌≡◌, ℕ, Bool, true, false, Option, None, Ok, Err, List, [], ◌∷◌, ◌++◌, refl, sym, ◌∙◌, subst, length, arith}
 use Rattle.std.proofs.KnownBytes.{Appends-nil, Appends-trans}
 use Rattle.std.specs.Io.KnownBytes.{Appends}
 use Rattle.std.specs.List.{list_any}
 use Rattle.py_imports.specs.BindingValue.{BindingValue}
 use Rattle.isort_find.specs.Found.{IsFound}
-use Rattle.isort_find.specs.Pieces.{PieceFinderState, GivesBinding, GivesNone, GivesReady, EndsFeeding}
+use Rattle.isort_find.specs.Pieces.{PieceFinderState, due_by, due_in, has_ready, GivesBinding, GivesNone, GivesReady, EndsFeeding}
+use Rattle.isort_find.specs.Position.{are_left, ready_in}
 use Rattle.isort_find.specs.declared.options.FindOptions.{FindOptions}
 use Rattle.isort_find.specs.declared.error.FindError.{FindError}
 use Rattle.isort_find.specs.declared.error.FindError.TheVariants as find
+use Rattle.isort_find.specs.declared.walker.Position.{Position}
+use Rattle.isort_find.specs.declared.walker.Position.TheVariants as position
 use Rattle.isort_sort.specs.Metered.{IsGivenUp}
 use Rattle.isort_sort.specs.Written.{AppendsPrefix}
 use Rattle.isort_sort.specs.declared.metered.Last.{Last}
 use Rattle.isort_sort.specs.declared.metered.Last.TheVariants as last
 use Rattle.isort_cmd.specs.Printed.{line_text}
 use Rattle.isort_cmd.specs.RunError.{run_error_of}
-use Rattle.isort_cmd.specs.Private.Stages.{ListingState, KeepsListed, ListsOne, ListsAll, ListsNext, StopsReady, EndsListing, StopsAtEnd, TellsWritten}
+use Rattle.isort_cmd.specs.Private.Stages.{ListingState, KeepsListed, EmptiesReady, ListsOne, ListsAll, ListsNext, StopsReady, EndsListing, StopsAtEnd, TellsWritten}
 use Rattle.isort_cmd.specs.Private.Steps.{GivenAreListed, IsOutputError, LeavesReady}
 use Rattle.isort_cmd.specs.Written.{ListsFound}
 use Rattle.isort_cmd.specs.declared.error.RunError.{RunError}
@@ -158,6 +161,10 @@ goes_further old mid new first second = record {
   listed = λ text options start h. goes_at old.path mid new first.goes_on.same_path second text options start (first.listed text options start h);
 }
 
+-- the last of those that were ready was listed
+pub empties_last : (old mid new : ListingState) → KeepsListed old mid → ListsAll mid new → EmptiesReady old new
+empties_last old mid new first all = record { keeps = goes_further old mid new first all.keeps; none_ready = all.none_ready }
+
 -- all were listed
 pub lists_all : (old mid new : ListingState) → KeepsListed old mid → ListsAll mid new → ListsAll old new
 lists_all old mid new first all = record {
@@ -165,6 +172,26 @@ lists_all old mid new first all = record {
   none_ready = all.none_ready;
   whole = λ text options start h no_fault over. subst (λ (p : List ℕ). ListsFound p text options None start new.written) first.goes_on.same_path (all.whole text options start (subst (λ (p : List ℕ). GivenAreListed p text options mid.finder start mid.written) (sym first.goes_on.same_path) (first.listed text options start h)) (first.unfed.no_fault no_fault) over);
 }
+
+-- where nothing is ready, nothing is due
+nothing_due : (f : PieceFinderState) → has_ready f ≡ false → due_by f ≡ 0
+nothing_due f none = by f.position none
+  where
+    by : (s : Position) → ready_in s ≡ false → due_in s ≡ 0
+    by (position.Unread start skip) none = absurd cc
+    by (position.Within pending) none = left pending.left none
+      where
+        left : (bs : List BindingValue) → are_left bs ≡ false → length bs ≡ 0
+        left [] none = refl
+        left (b ∷ bs) none = absurd cc
+    by (position.Between skip) none = refl
+    by (position.End passed) none = refl
+    by (position.Fault fault) none = refl
+
+-- nothing was ready, and the next was asked for
+pub lists_at_rest : (old mid new : ListingState) (some : Bool) → EmptiesReady old mid → ListsNext mid (Ok some) new → ListsAll old new
+lists_at_rest old mid new false first all = lists_all old mid new first.keeps all
+lists_at_rest old mid new true first one = absurd (omega (arith, one.falls, nothing_due mid.finder first.none_ready))
 
 -- one could not be
 pub stops_after : (old mid new : ListingState) (e : RunError) → KeepsListed old mid → StopsReady mid e new → StopsReady old e new

@@ -40,8 +40,6 @@ fn look_at_held(finder: &mut PieceFinder) -> Result<(), RunError>
 /// A listing of the imports of one text.
 #[derive(Drop)]
 struct Listing<'a> {
-    /// Where its memory comes from.
-    alloc: Global,
     /// What the text is fed to.
     finder: PieceFinder,
     /// What each line begins with.
@@ -64,7 +62,7 @@ impl Listing<'_> {
             return Ok(false);
         };
         self.line.clear();
-        let made = push_line(self.alloc, &binding, self.path, &mut self.line);
+        let made = push_line(&binding, self.path, &mut self.line);
         drop(binding);
         made?;
         write_whole(writer, self.line.as_bytes())?;
@@ -80,7 +78,7 @@ impl Listing<'_> {
             (W.contents (inner_of writer.old)) (W.contents (inner_of writer.new))) }
     {
         let mut some = false;
-        'imports: while self.list_next(writer)? {
+        'imports: while self.finder.has_ready() && self.list_next(writer)? {
             some = true;
         }
         Ok(some)
@@ -161,6 +159,8 @@ impl Listing<'_> {
         given_begin_the_found();
         self.finder.finish()?;
         self.list_ready(writer)?;
+        // Only the answer that nothing is ready says that all was listed.
+        self.list_next(writer)?;
         Ok(())
     }
 
@@ -240,7 +240,6 @@ pub fn identify<R: Read, W: Write>(
 {
     one_found();
     let mut listing = Listing {
-        alloc,
         finder: PieceFinder::new(alloc, options)?,
         path,
         line: String::new(alloc),

@@ -54,12 +54,17 @@ pub record ListsOne (old new : ListingState) : Type 0 where
   pub keeps : KeepsListed old new
   pub falls : due_by new.finder < due_by old.finder
 
--- all that was ready was listed, which is all that is found once the text is over
+-- nothing more is ready, and what was listed is all that is found once the text is over
 pub record ListsAll (old new : ListingState) : Type 0 where
   pub keeps : KeepsListed old new
   pub none_ready : has_ready new.finder ≡ false
   pub whole : WhereGivenListed old (λ text options start.
       HasNoFault old.finder → IsOver new.finder → ListsFound old.path text options None start new.written)
+
+-- all that was ready was listed
+pub record EmptiesReady (old new : ListingState) : Type 0 where
+  pub keeps : KeepsListed old new
+  pub none_ready : has_ready new.finder ≡ false
 
 -- listing what was ready failed
 pub record StopsReady (old : ListingState) (e : RunError) (new : ListingState) : Type 0 where
@@ -80,7 +85,7 @@ ListsNext old (Err e) new = StopsReady old e new
 
 -- what one that lists all that are ready answers
 abbrev pub ListsReady : ListingState → Result Bool RunError → ListingState → Type 0
-ListsReady old (Ok some) new = ListsAll old new
+ListsReady old (Ok some) new = EmptiesReady old new
 ListsReady old (Err e) new = StopsReady old e new
 
 -- a finder was fed a chunk whole, and nothing is ready

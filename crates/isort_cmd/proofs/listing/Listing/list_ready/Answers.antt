@@ -1,6 +1,7 @@
 -- Each import that was ready was listed.
+use Rattle.std.proofs.Common.{sym, ◌∙◌}
 use Rattle.std.proofs.lemmas.Result.{err_from_is_err_and}
-use Rattle.isort_cmd.proofs.StageLemmas.{goes_nowhere, goes_further, lists_all, next_is_one, next_is_none, stops_after}
+use Rattle.isort_cmd.proofs.StageLemmas.{goes_nowhere, goes_further, empties_last, next_is_one, next_is_none, stops_after}
 use Rattle.isort_cmd.proofs.StageLemmas.{tells_as, tells_more, tells_no_more, tells_none}
 use Rattle.isort_cmd.proofs.listing.Listing.list_ready.Goals as goal
 
@@ -21,8 +22,14 @@ imports-preserved g c = record {
 pub imports-smaller : goal.imports-smaller
 imports-smaller g c = (next_is_one _ _ c.in_ok-list_next.field-0 c.if-branch.true c.in_ok-list_next.ensures.lists).falls
 
-pub returns : goal.returns
-returns g c = record {
-  lists = lists_all _ _ _ c.imports.invariant.keeps (next_is_none _ _ c.in_ok-list_next.field-0 c.if-branch.false c.in_ok-list_next.ensures.lists);
+pub returns-else-branch : goal.returns-else-branch
+returns-else-branch g c = record {
+  lists = empties_last _ _ _ c.imports.invariant.keeps (next_is_none _ _ c.in_ok-list_next.field-0 c.if-branch.false c.in_ok-list_next.ensures.lists);
   some = tells_no_more c.imports.some _ _ _ c.imports.invariant.told (tells_as _ _ _ _ c.if-branch.false c.in_ok-list_next.ensures.some);
+}
+
+pub returns-after-imports : goal.returns-after-imports
+returns-after-imports g c = record {
+  lists = record { keeps = c.imports.invariant.keeps; none_ready = sym c.has_ready.ensures ∙ c.imports-test.false };
+  some = c.imports.invariant.told;
 }
