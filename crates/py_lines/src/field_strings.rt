@@ -10,8 +10,8 @@ use crate::field_scan::{FieldProgress, FieldScan};
 use crate::host::StringWithFields;
 use crate::plain_strings::Passed;
 
-/// How many brackets may be open round a string that is passed over.
-pub const MAX_DEPTH: usize = 100;
+/// How many brackets may be open round a string that is taken or passed over at once.
+pub const MAX_DEPTH_AROUND_STRING: usize = 100;
 
 /// What is left of a string with fields, whose scan has come to this byte of it.
 fn rest_of_string(scan: &mut FieldScan, place: usize, bytes: &[u8]) -> Option<Passed>
@@ -22,11 +22,11 @@ fn rest_of_string(scan: &mut FieldScan, place: usize, bytes: &[u8]) -> Option<Pa
     let mut len = 0;
     let mut line_ends = 0;
     'characters: loop {
-        len += scan.hold(MAX_DEPTH, &bytes[len..]);
+        len += scan.hold(MAX_DEPTH_AROUND_STRING, &bytes[len..]);
         if len >= bytes.len() || bytes[len] >= 128 || bytes[len] == b'\r' {
             return None;
         }
-        match scan.push(bytes[len] as char, place + len, MAX_DEPTH) {
+        match scan.push(bytes[len] as char, place + len, MAX_DEPTH_AROUND_STRING) {
             FieldProgress::Going => {
                 line_ends += (bytes[len] == b'\n') as u64;
                 len += 1;
@@ -61,7 +61,7 @@ fn short_string(is_raw: bool, bytes: &[u8]) -> Option<Passed>
     scan.begin(host, 0);
     let place = 2 + is_raw as usize;
     if !matches!(
-        scan.push(bytes[1] as char, place, MAX_DEPTH),
+        scan.push(bytes[1] as char, place, MAX_DEPTH_AROUND_STRING),
         FieldProgress::Going
     ) {
         return None;

@@ -7,7 +7,7 @@ ghost use Rattle.py_lines.specs.Private.Outline.{BeginWithLines, BeginsLineEnd, 
 
 use crate::brackets::Brackets;
 use crate::class::Class;
-use crate::field_strings::{MAX_DEPTH, string_with_fields};
+use crate::field_strings::{MAX_DEPTH_AROUND_STRING, string_with_fields};
 use crate::marks::Marks;
 use crate::plain_strings::{Passed, line_end_len, plain_string};
 use crate::prefix::Prefix;
@@ -126,7 +126,7 @@ impl Outline {
         ensures further { IsTrue result → IsFurther bytes.now at self.new brackets.now }
         ensures lines { self.new.lines ≡ self.old.lines }
     {
-        if brackets.len() > MAX_DEPTH {
+        if brackets.len() > MAX_DEPTH_AROUND_STRING {
             return false;
         }
         let Some(piece) = piece(bytes, class, at) else {

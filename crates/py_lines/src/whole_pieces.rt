@@ -11,6 +11,7 @@ ghost use Rattle.py_lines.specs.Private.Run.{LeavesOff, is_ascii_word, follows, 
 
 use crate::character::is_line_feed;
 use crate::class::Class;
+use crate::field_strings::MAX_DEPTH_AROUND_STRING;
 use crate::run::{ByteRun, word_before_more};
 use crate::scan::Scan;
 use crate::token::{TokKind, Token};
@@ -171,7 +172,7 @@ impl Scan {
         ensures { FindsToken self.now bytes.now result }
     {
         let len = whole_string_with_fields(bytes)?;
-        if bytes.len() - len < 2 || self.brackets.len() > 100 {
+        if bytes.len() - len < 2 || self.brackets.len() > MAX_DEPTH_AROUND_STRING {
             return None;
         }
         Some((TokKind::Str, len))

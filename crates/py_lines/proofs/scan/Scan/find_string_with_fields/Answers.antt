@@ -8,4 +8,4 @@ returns c =
     let bytes = c.args.bytes.now in
     let len = c.in_ok-len.len in
     let short : len + 1 < length bytes = omega (arith, c.if-bytes-len-lt2.false, (string_size bytes len c.in_ok-len.ensures).1) in
-    λ place. fields_met c.args.self.now place bytes len c.in_ok-len.ensures short (omega (arith, c.len.ensures, c.if-len-gt100.false))
+    λ place. fields_met c.args.self.now place bytes len c.in_ok-len.ensures short (omega (arith, c.len.ensures, c.if-len-gt-MAX_DEPTH_AROUND_STRING.false))
