@@ -1,5 +1,6 @@
 -- A map of statements, as each statement finds in it what was seen of it.
 use Rattle.std.proofs.Common.{◌≡◌, Bool, true, false, cond, ◌&&◌, Option, None, Some, List, [], ◌∷◌, Ordering, Less, Equal, Greater, refl, sym, ap, ◌∙◌, subst, string_bytes}
+use Rattle.std.proofs.Math.Bool.{and-true, and_assoc}
 use Rattle.std.specs.Prelude.{bytes_eq}
 use Rattle.std.specs.Cmp.{ties}
 use Rattle.std.specs.BTreeMap.{insert_entry, is_at}
@@ -8,7 +9,7 @@ use Rattle.std.specs.Option.{option_map, unwrap_or}
 use Rattle.std.specs.Ordering.{is_eq, match_ordering}
 use Rattle.std.specs.String.{string_eq}
 use Rattle.isort_sort.specs.Private.Gathered.{Brought, Seen, nothing_seen, with_brought, seen_with, seen_value, found}
-use Rattle.isort_sort.specs.Statement.{Statement, same_statement, same_alias}
+use Rattle.isort_sort.specs.Statement.{Statement, same_statement}
 use Rattle.isort_sort.specs.Private.Values.{statement_value}
 use Rattle.isort_sort.specs.contracts.statement.StatementOrd.TheImpl as ordered
 use Rattle.isort_sort.specs.contracts.statement.StatementPartialEq.TheImpl as same
@@ -18,24 +19,12 @@ use Rattle.isort_sort.specs.declared.statement.Statement as code
 use Rattle.isort_sort.specs.declared.statement.Statement.TheVariants as form
 use Rattle.isort_sort.proofs.Orders.Equality.{aliases, is_same, itself, same_test}
 
-and_true : (a b : Bool) → a && b ≡ (a && true) && b
-and_true true b = refl
-and_true false b = refl
-
-and_trues : (a : Bool) → a ≡ (a && true) && true
-and_trues true = refl
-and_trues false = refl
-
-and_all : (a b c : Bool) → a && (b && c) ≡ (a && b) && c
-and_all true b c = refl
-and_all false b c = refl
-
 -- what `==` of statements says
 pub statement_eq : (a b : code.Statement) → same.eq-value.it a b ≡ same_statement (statement_value a) (statement_value b)
-statement_eq (form.Straight m x) (form.Straight n y) = ap (λ t. bytes_eq (string_bytes m) (string_bytes n) && t) (aliases x y) ∙ and_true (bytes_eq (string_bytes m) (string_bytes n)) _
-statement_eq (form.Star m) (form.Star n) = and_trues (string_eq m n)
-statement_eq (form.Names m) (form.Names n) = and_trues (string_eq m n)
-statement_eq (form.Single m i) (form.Single n j) = ap (λ t. string_eq m n && (string_eq i.name j.name && t)) (aliases i.alias j.alias) ∙ and_all (string_eq m n) (string_eq i.name j.name) (same_alias (option_map string_bytes i.alias) (option_map string_bytes j.alias))
+statement_eq (form.Straight m x) (form.Straight n y) = λ i. sym (and-true (bytes_eq (string_bytes m) (string_bytes n))) i && aliases x y i
+statement_eq (form.Star m) (form.Star n) = sym (and-true _ ∙ and-true (string_eq m n))
+statement_eq (form.Names m) (form.Names n) = sym (and-true _ ∙ and-true (string_eq m n))
+statement_eq (form.Single m i) (form.Single n j) = ap (λ t. string_eq m n && (string_eq i.name j.name && t)) (aliases i.alias j.alias) ∙ sym (and_assoc (string_eq m n) (string_eq i.name j.name) _)
 statement_eq _ _ = refl
 
 -- where `cmp` of statements says `Equal`

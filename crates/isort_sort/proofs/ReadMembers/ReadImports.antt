@@ -1,9 +1,10 @@
 -- What the logical lines of members import: something, under names that are words.
-use Rattle.std.proofs.Common.{◌≡◌, ℕ, ◌+◌, suc, zero, Bool, true, false, cond, not, ◌||◌, ◌==◌, ◌⊎◌, ⊎_elim, inl, inr, List, [], ◌∷◌, ◌++◌, map, take, refl, sym, ap, ◌∙◌, subst}
+use Rattle.std.proofs.Common.{◌≡◌, ℕ, ◌+◌, suc, zero, Bool, true, false, cond, not, ◌⊎◌, ⊎_elim, inl, inr, List, [], ◌∷◌, ◌++◌, map, take, refl, sym, ap, ◌∙◌, subst, arith}
 use Rattle.std.specs.Prelude.{filter, nat_lt, slice_range}
 use Rattle.std.specs.List.{list_any, list_all, prefix_len}
 use Rattle.std.specs.Str.{all_scalars}
-use Rattle.std.proofs.lemmas.Bool.{both_ways, cases_Bool, eqb-true}
+use Rattle.std.proofs.lemmas.Bool.{both_ways}
+use Rattle.std.proofs.lemmas.Bool.Decides.{nat_tests}
 use Rattle.std.proofs.lemmas.List.{map-append}
 use Rattle.py_lines.specs.Character.{is_mark, is_space}
 use Rattle.py_lines.specs.LogicalLine.{LogicalLine, indent_of, line_of}
@@ -155,23 +156,20 @@ spaces_of marked (p ∷ ps) fit h = by p.class p.text fit.0 h
     by join text is k = other join text k refl
     by line_end text is k = other line_end text k refl
 
--- a mark is one character
-mark_is : (c : ℕ) → is_mark c ≡ true → c ≡ 0xFEFF
-unfolding is_mark
-mark_is c h = eqb-true c 0xFEFF (⊎_elim (λ (e : (c == 0xFEFF) ≡ true). e) (λ (e : (c == 0xFEFF) ≡ false). absurd (both_ways _ (ap (λ b. b || false) e) h)) (cases_Bool (c == 0xFEFF)))
-
 is_mark_or_not : (class : Class) → (class ≡ mark) ⊎ (is_mark_class class ≡ false)
 is_mark_or_not mark = inl refl
 is_mark_or_not _ = inr refl
 
 pub indentation_spaces : (u : List Piece) → IsUnit u → list_all is_space (indentation_of (unit_line u)) ≡ true
+unfolding is_mark
 indentation_spaces [] is = absurd (let e = is.whole in cc)
 indentation_spaces (p ∷ ps) is =
     let fit = is.reading.reads.fit in
     ⊎_elim
     (λ (e : p.class ≡ mark).
     let first = subst (λ (c : Class). InClass c p.text) e fit.0 in
-    let text : p.text ≡ 0xFEFF ∷ [] = first.1 ∙ ap (λ (c : ℕ). c ∷ []) (mark_is first.0 first.2) in
+    let one = first.2 in
+    let text : p.text ≡ 0xFEFF ∷ [] = first.1 ∙ ap (λ (c : ℕ). c ∷ []) (grind (arith, nat_tests, one)) in
     subst (λ (q : Piece). list_all is_space (indentation_of (unit_line (q ∷ ps))) ≡ true) (λ i. record { class = sym e i; text = sym text i }) (spaces_of true ps fit.3 fit.2))
     (λ (e : is_mark_class p.class ≡ false). spaces_of false (p ∷ ps) fit e)
     (is_mark_or_not p.class)

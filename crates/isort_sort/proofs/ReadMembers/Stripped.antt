@@ -4,7 +4,7 @@ use Rattle.std.specs.Prelude.{codes, encode_utf8_all, if◌then◌else◌}
 use Rattle.std.specs.List.{list_any, list_all, starts_with}
 use Rattle.std.specs.Str.{all_scalars}
 use Rattle.std.proofs.Math.Utf8.{encode}
-use Rattle.std.proofs.lemmas.Bool.{and_parts, and_from, both_ways, cases_Bool, eqb-true, false_from_ne_true, or_cases, or_parts}
+use Rattle.std.proofs.lemmas.Bool.{and_parts, and_from, both_ways, cases_Bool, false_from_ne_true, or_cases, or_parts}
 use Rattle.std.proofs.lemmas.Bool.Decides.{Decides-eqb, nat_tests}
 use Rattle.std.proofs.lemmas.Slice.Eq.{starts_is}
 use Rattle.std.proofs.lemmas.Str.{encode_ascii}
@@ -92,13 +92,9 @@ stripped_text cs scalars unbroken =
     subst (λ (t : List ℕ). IsUnbrokenText (without_end t)) start.spell (end_text start.characters start.scalars start.unbroken)
 
 -- a comment without its `#`
-hash_is : (c : ℕ) → is_hash c ≡ true → c ≡ 35
-unfolding is_hash
-hash_is c h = eqb-true c 35 (⊎_elim (λ (e : (c == 35) ≡ true). e) (λ (e : (c == 35) ≡ false). absurd (both_ways _ (ap (λ b. b || false) e) h)) (cases_Bool (c == 35)))
-
 pub bare_comment : (hash : ℕ) (body : List ℕ) → is_hash hash ≡ true → without_hash (encode_utf8_all (hash ∷ body)) ≡ encode_utf8_all body
-unfolding encode
-bare_comment hash body h = ap (λ (c : ℕ). without_hash (encode_utf8_all (c ∷ body))) (hash_is hash h)
+unfolding encode is_hash
+bare_comment hash body h = let is : hash ≡ 35 = grind (arith, nat_tests) in ap (λ (c : ℕ). without_hash (encode_utf8_all (c ∷ body))) is
 
 -- a text says what is said in a part of it that no letter, digit or `_` follows
 phrase_more : (phrase text rest : List ℕ) → begins_with_word_byte rest ≡ false → begins_with_phrase phrase text ≡ true → begins_with_phrase phrase (text ++ rest) ≡ true
