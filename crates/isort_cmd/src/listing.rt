@@ -5,7 +5,8 @@ ghost use Rattle.isort_find.specs.Pieces.{fed_by, has_ready, options_for};
 ghost use Rattle.isort_sort.specs.Metered.{inner_of, last_of};
 ghost use Rattle.isort_cmd.specs.RunError.{IsUnread, EndsReading, EndsWriting};
 ghost use Rattle.isort_cmd.specs.Private.Steps.{HasListedSettled, LooksAtHeld};
-ghost use Rattle.isort_cmd.specs.Private.Stages.{listing_state, Identified, ListsNext, ListsReady, ListsChunk, ListsChunks, ListsEnd, TellsWritten};
+ghost use Rattle.isort_cmd.specs.Private.Stages.{listing_state, Identified, TellsWritten};
+ghost use Rattle.isort_cmd.specs.Private.Stages.{ListsNext, ListsReady, ListsChunk, ListsChunks, ListsEnd};
 ghost use Rattle.isort_cmd.specs.Written.{ListsInput, LeavesInput, ListsUnread, ListsFaulty};
 
 use crate::error::RunError;

@@ -1,6 +1,7 @@
 //! The logical lines of a text that comes in pieces.
 ghost use Rattle.std.specs.Prelude.{◌≡◌, ℕ, ◌+◌, ◌<◌, ◌≤◌, ◌^◌, false, None, Some, IsSome, List, [], length, IfOk, IfErr};
-ghost use Rattle.py_lines.specs.ScannerState.{ScannerState, IsScanning, ScansFrom, begun_at, fed_of, Feeds, Releases, PassesPieceLines, Finishes};
+ghost use Rattle.py_lines.specs.ScannerState.{ScannerState, IsScanning, ScansFrom, begun_at, fed_of};
+ghost use Rattle.py_lines.specs.ScannerState.{Feeds, Releases, PassesPieceLines, Finishes};
 ghost use Rattle.py_lines.specs.ScannerState.View.{scanning_of};
 ghost use Rattle.py_lines.specs.UnitLine.{line_in};
 ghost use Rattle.py_lines.specs.Private.Feed.{IsSoundFeed};
