@@ -12,7 +12,7 @@ use Rattle.py_lines.specs.Balance.{is_opening, depth_through}
 use Rattle.py_lines.specs.Character.{is_backslash, is_brace, is_break, is_f, is_line_feed, is_quote, is_r, is_return, is_t}
 use Rattle.py_lines.specs.FieldStrings.{is_field_prefix, Host, Place, literal, specification, names}
 use Rattle.py_lines.specs.LogicalLine.{byte_len}
-use Rattle.py_lines.specs.Piece.{string}
+use Rattle.py_lines.specs.Piece.{ends, string}
 use Rattle.py_lines.specs.declared.field_scan.FieldProgress.TheVariants as progress
 use Rattle.py_lines.specs.declared.field_scan.FieldScan.{FieldScan}
 use Rattle.py_lines.specs.declared.host.StringWithFields.{StringWithFields}
@@ -43,13 +43,13 @@ use Rattle.py_lines.proofs.FieldSoundness.WholeTexts.{no_limit, any_rooms}
 use Rattle.py_lines.proofs.FieldScans.Runs.{goes_low}
 use Rattle.py_lines.proofs.FieldScans.TextLengths.{later, rest_is}
 use Rattle.py_lines.proofs.LineScan.Increments.{EndsNoLine-push}
-use Rattle.py_lines.proofs.LineScan.LineCount.{byte_len-one}
+use Rattle.py_lines.proofs.LineScan.LineCount.{byte_len-one, ends-last}
 use Rattle.py_lines.proofs.LineScan.LineSteps.{steps_push}
-use Rattle.py_lines.proofs.LineScan.Runs.{quote_ascii, string_no_break, string_run}
+use Rattle.py_lines.proofs.LineScan.Runs.{break-return, ends-run, quote_ascii, string_no_break, string_run}
 use Rattle.py_lines.proofs.LineScan.ShortPieces.{is_low, is_low_from, low_encodes, low_is, quote-no_break}
 use Rattle.py_lines.proofs.LineScan.StringOpenings.{opened_as_body}
 use Rattle.py_lines.proofs.LineScan.StringSteps.{here_at, string_more}
-use Rattle.py_lines.proofs.SimpleLines.Code.{apart_tail, come_sound, holds_line_end, holds_more, holds_one, no_tail, quote-no-word, stands}
+use Rattle.py_lines.proofs.SimpleLines.Code.{apart_tail, come_sound, holds_line_end, holds_more, holds_one, no_tail, one_unreturned, quote-no-word, stands}
 use Rattle.py_lines.proofs.SimpleLines.FieldStrings.{word_open}
 use Rattle.py_lines.proofs.SimpleLines.Strings as strings
 use Rattle.py_lines.proofs.SimpleLines.FirstBytes.{taken_one, taken_two}
@@ -191,8 +191,8 @@ module _ (scan : FieldScan) (place : ℕ) (read : List ℕ) (n : ℕ) (st : List
   moves_so c w other move = ap (moved open_state c) (ap (λ o. fielded_move depth o c) on.steps ∙ lower depth 100 on.state c w shallow other move)
 
   -- it goes on over a character
-  over_one : (new : FieldScan) (c k : ℕ) → c < 128 → HoldsLineEnds (read ++ c ∷ []) k → PushesField scan c place 100 progress.Going new → IsInFields new (place + 1) (read ++ c ∷ []) k st
-  over_one new c k low holds pushes =
+  over_one : (new : FieldScan) (c k : ℕ) → c < 128 → is_return c ≡ false → HoldsLineEnds (read ++ c ∷ []) k → PushesField scan c place 100 progress.Going new → IsInFields new (place + 1) (read ++ c ∷ []) k st
+  over_one new c k low other holds pushes =
       let (next, goes, move, within, follows) = pushes 0 on.state on.follows inside stands_here in
       record {
         few = on.few;
@@ -208,12 +208,17 @@ module _ (scan : FieldScan) (place : ℕ) (read : List ℕ) (n : ℕ) (st : List
         steps = string_more on.held c on.state on.steps ∙ goes;
         follows = follows;
         at = omega (arith, on.at, byte_len-append on.held (c ∷ []), byte_len-one c, len_utf8_ascii c low);
+        unreturned = ends-last is_return read c ∙ other;
       }
 
   -- over a run of them
   run_holds : (run : List ℕ) (u : FieldScanned) → GoesThrough depth on.state run u → HoldsLineEnds (read ++ run) n
   run_holds [] u goes = subst (λ (t : List ℕ). HoldsLineEnds t n) (sym (append-nil read)) on.come.holds
-  run_holds (c ∷ cs) u goes = holds_more read (c ∷ cs) n on.come.holds tt (low_encodes is_low (c ∷ cs) low_is (goes_low depth on.state (c ∷ cs) u goes)).1 (string_no_break depth on.state (c ∷ cs) u goes)
+  run_holds (c ∷ cs) u goes = holds_more read (c ∷ cs) n on.come.holds (low_encodes is_low (c ∷ cs) low_is (goes_low depth on.state (c ∷ cs) u goes)).1 (string_no_break depth on.state (c ∷ cs) u goes)
+
+  run_unreturned : (run : List ℕ) (u : FieldScanned) → GoesThrough depth on.state run u → ends is_return (read ++ run) ≡ false
+  run_unreturned [] u goes = ap (ends is_return) (append-nil read) ∙ on.unreturned
+  run_unreturned (c ∷ cs) u goes = ends-run read (c ∷ cs) tt (string_no_break depth on.state (c ∷ cs) u goes)
 
   over_run : (run : List ℕ) (len : ℕ) → byte_len run ≡ len → (u : FieldScanned) → GoesThrough 100 on.state run u → Follows scan 0 u → IsInFields scan (place + len) (read ++ run) n st
   over_run run len size u through follows =
@@ -233,6 +238,7 @@ module _ (scan : FieldScan) (place : ℕ) (read : List ℕ) (n : ℕ) (st : List
         steps = ran.1;
         follows = follows;
         at = omega (arith, on.at, size, byte_len-append on.held run);
+        unreturned = run_unreturned run u goes;
       }
 
   -- it is closed
@@ -250,6 +256,7 @@ module _ (scan : FieldScan) (place : ℕ) (read : List ℕ) (n : ℕ) (st : List
           holds = holds_one read c n on.come.holds (quote_ascii c quote) (quote-no_break c quote);
         };
         tail = apart_tail (tail_of (read ++ c ∷ [])) modes.Free refl (no_tail read c (quote-no-word c quote));
+        unreturned = one_unreturned read c (quote-no_break c quote);
       }
 
 -- one character of ASCII
@@ -260,14 +267,17 @@ other_break : (c : ℕ) → c == 10 ≡ false → is_return c ≡ false → is_b
 unfolding is_break is_line_feed is_return
 other_break c feed return = grind (arith)
 
-one_held : (read : List ℕ) (n c : ℕ) → HoldsLineEnds read n → c < 128 → (c ≡ 13 → ⊥) → HoldsLineEnds (read ++ c ∷ []) (n + bool_byte (c == 10))
-one_held read n c holds low other = by (c == 10) refl
+no_return : (c : ℕ) → (c ≡ 13 → ⊥) → is_return c ≡ false
+no_return c other = false_from_ne_true (is_return c) (λ h. other (return_is c h))
+
+one_held : (read : List ℕ) (n c : ℕ) → HoldsLineEnds read n → ends is_return read ≡ false → c < 128 → (c ≡ 13 → ⊥) → HoldsLineEnds (read ++ c ∷ []) (n + bool_byte (c == 10))
+one_held read n c holds unreturned low other = by (c == 10) refl
   where
     by : (b : Bool) → c == 10 ≡ b → HoldsLineEnds (read ++ c ∷ []) (n + bool_byte b)
-    by true is = subst (λ (d : ℕ). HoldsLineEnds (read ++ d ∷ []) (n + 1)) (sym (eqb-true c 10 is)) (holds_line_end false read n holds)
+    by true is = subst (λ (d : ℕ). HoldsLineEnds (read ++ d ∷ []) (n + 1)) (sym (eqb-true c 10 is)) (holds_line_end false read n holds (λ feeds. unreturned))
     by false is =
         let none : n ≡ n + 0 = omega arith in
-        subst (λ (k : ℕ). HoldsLineEnds (read ++ c ∷ []) k) none (holds_one read c n holds low (other_break c is (false_from_ne_true (is_return c) (λ h. other (return_is c h)))))
+        subst (λ (k : ℕ). HoldsLineEnds (read ++ c ∷ []) k) none (holds_one read c n holds low (other_break c is (no_return c other)))
 
 -- as far as the code has come in one
 module _ (first scan : FieldScan) (place : ℕ) (bytes : List ℕ) (len feeds : ℕ) (read : PassesPart bytes len feeds (IsInFields first place) (IsInFields scan (place + len))) where
@@ -296,7 +306,7 @@ module _ (first scan : FieldScan) (place : ℕ) (bytes : List ℕ) (len feeds : 
       after bytes len feeds 1 more (feeds + more) refl read
       (low_part (drop len bytes) (c ∷ []) 1 more (omega (arith, within, length-drop len bytes)) (one_low c low) (one_is within) (λ r n st on.
       subst (λ (j : ℕ). IsInFields new j (r ++ c ∷ []) (n + more) st) further
-      (over_one scan (place + len) r n st on new c (n + more) low (one_held r n c on.come.holds low other) pushes)))
+      (over_one scan (place + len) r n st on new c (n + more) low (no_return c other) (one_held r n c on.come.holds on.unreturned low other) pushes)))
 
   pub closed_on : (new : FieldScan) → len < length bytes → slice_index bytes len < 128 → feeds ≤ len → PushesField scan (slice_index bytes len) (place + len) 100 progress.Closed new → Passes bytes (record { len = len + 1; line_ends = feeds }) (IsInFields first place) GoesOnAfter
   closed_on new within low few pushes =
@@ -422,6 +432,9 @@ module _ (raw : Bool) (q : ℕ) (quote : is_quote q ≡ true) where
   abbrev triple : StringWithFields
   triple = record { quote = q; is_long = true; is_raw = raw }
 
+  quote-not-return : is_return q ≡ false
+  quote-not-return = break-return q (quote-no_break q quote)
+
   quote_held : (read : List ℕ) (n : ℕ) → HoldsLineEnds read n → HoldsLineEnds (read ++ q ∷ []) n
   quote_held read n holds = holds_one read q n holds (quote_ascii q quote) (quote-no_break q quote)
 
@@ -452,13 +465,14 @@ module _ (raw : Bool) (q : ℕ) (quote : is_quote q ≡ true) where
         steps = string_more on.held c _ steps ∙ opened_as_body (host_in own) on.held c other ∙ goes;
         follows = on_it;
         at = omega (arith, place, byte_len-append on.held (c ∷ []), byte_len-one c, len_utf8_ascii c low);
+        unreturned = one_unreturned (read ++ q ∷ []) c whole;
       })
 
   -- two quotes
   over_second : (read : List ℕ) (n : ℕ) (st : List Bracket) → FieldsBegin q raw read n st → IsInPiece (modes.FieldEmpty own) (read ++ q ∷ q ∷ []) n st
   over_second read n st (few, on) =
       subst (λ (t : List ℕ). IsInPiece (modes.FieldEmpty own) t n st) (append_assoc read (q ∷ []) (q ∷ []))
-      (strings.grows (modes.FieldOpened own) (modes.FieldEmpty own) q n (read ++ q ∷ []) n st (λ done held. ap (moved (scanned done (modes.FieldOpened own) held) q) (opened_quote own)) (quote_held (read ++ q ∷ []) n on.come.holds) on)
+      (strings.grows (modes.FieldOpened own) (modes.FieldEmpty own) q n (read ++ q ∷ []) n st (λ done held. ap (moved (scanned done (modes.FieldOpened own) held) q) (opened_quote own)) quote-not-return (quote_held (read ++ q ∷ []) n on.come.holds) on)
 
   -- three
   over_third : (scan : FieldScan) (read : List ℕ) (n : ℕ) (st : List Bracket) → FollowsBody scan triple 0 → FieldsBegin q raw read n st → IsInFields scan (4 + bool_byte raw) (read ++ q ∷ q ∷ q ∷ []) n st
@@ -482,6 +496,7 @@ module _ (raw : Bool) (q : ℕ) (quote : is_quote q ≡ true) where
         steps = string_more on.held q _ steps ∙ third_opens (host_in own) on.held;
         follows = follows (on.held ++ q ∷ []);
         at = omega (arith, size, byte_len-append (q ∷ []) (q ∷ []), byte_len-append on.held (q ∷ []), quote_size q quote);
+        unreturned = one_unreturned (read ++ q ∷ q ∷ []) q (quote-no_break q quote);
       })
 
   -- an empty string, before what follows
@@ -492,7 +507,8 @@ module _ (raw : Bool) (q : ℕ) (quote : is_quote q ≡ true) where
         state = scanned on.done (modes.FieldEmpty own) on.held;
         come = on.come;
         breaks = empty_other own c other;
-        other = λ e. cc;
+        parted = λ feeds. on.unreturned;
+        inside = λ returns. absurd (cc);
         tail = λ is. ap tail_of (sym (append_assoc read (q ∷ []) (q ∷ []))) ∙ no_tail (read ++ q ∷ []) q (quote-no-word q quote);
       })
 
@@ -562,7 +578,7 @@ field_string_at raw bytes at s (Some p) within quote tail field raw_is has =
           leads = λ read n st on.
               let before : StandsBefore (q ∷ drop (at + 1) bytes) read n st = subst (λ (t : List ℕ). StandsBefore t read n st) (drop_more bytes at 0 within) on.2 in
               let word = word_open (drop (at + 1) bytes) read n st q s (on.0 ∙ tail) quote before in
-              let opened : IsInPiece (modes.FieldOpened (first_host q raw)) (read ++ q ∷ []) n st = strings.grows (modes.Word s) (modes.FieldOpened (first_host q raw)) q n read n st (λ done held. ap (moved (scanned done (modes.Word s) held) q) (quote_opens s raw q field raw_is quote)) (quote_held raw q quote read n word.come.holds) word in
+              let opened : IsInPiece (modes.FieldOpened (first_host q raw)) (read ++ q ∷ []) n st = strings.grows (modes.Word s) (modes.FieldOpened (first_host q raw)) q n read n st (λ done held. ap (moved (scanned done (modes.Word s) held) q) (quote_opens s raw q field raw_is quote)) (quote-not-return raw q quote) (quote_held raw q quote read n word.come.holds) word in
               let begins : FieldsBegin (slice_index rest 0) raw read n st = subst (λ (c : ℕ). FieldsBegin c raw read n st) (sym first) (on.1, opened) in
               subst (λ (t : List ℕ). StandsBefore t (read ++ is.part.run) (n + p.line_ends) st) (drop-drop p.len at bytes) (is.part.leads read n st begins);
         };

@@ -1,12 +1,16 @@
 //! The scanner inside a `Scanner`: the text that it holds, and the scan of the line that this text begins with.
 
-ghost use Rattle.std.specs.Prelude.{◌≡◌, ℕ, ◌+◌, ◌-◌, ◌<◌, ◌≤◌, ◌^◌, ◌++◌, drop, take, length, OnOk, OnErr};
+ghost use Rattle.std.specs.Prelude.{◌≡◌, ℕ, ◌+◌, ◌-◌, ◌<◌, ◌≤◌, ◌^◌, ◌++◌, false, drop, take, length, OnOk, OnErr};
 ghost use Rattle.std.specs.Str.{StartsWithNoChar};
+ghost use Rattle.py_lines.specs.Character.{is_return};
+ghost use Rattle.py_lines.specs.Piece.{ends};
 ghost use Rattle.py_lines.specs.Private.Feed.{TellsHopeless};
+ghost use Rattle.py_lines.specs.Private.Outline.{BeginWithLines};
 
 use crate::fault::{Fault, FaultKind, LexError};
 use crate::line_state::LineState;
 use crate::outline::simple_lines;
+use crate::plain_strings::Passed;
 use crate::scan::Stop;
 use crate::unit::Unit;
 use std::alloc::{AllocError, Global};
@@ -63,6 +67,21 @@ fn drop_first(held: &mut Vec<u8>, len: usize)
         return;
     }
     held.drain(..len);
+}
+
+/// Lines with which these bytes begin; none where CR alone ends the last one, which only a byte after it shows.
+fn settled_lines(bytes: &[u8], lines: Passed) -> Passed
+    requires { BeginWithLines bytes.now lines }
+    ensures lines { BeginWithLines bytes.now result }
+    ensures settled { ends is_return (take result.len bytes.now) ≡ false }
+{
+    if lines.len > 0 && bytes[lines.len - 1] != b'\r' {
+        return lines;
+    }
+    Passed {
+        len: 0,
+        line_ends: 0,
+    }
 }
 
 /// The text since the line that was released last, and how far it was scanned.
@@ -409,7 +428,8 @@ impl Feed {
             return 0;
         }
         let bytes = &piece[..before.min(piece.len())];
-        let lines = simple_lines(&mut self.state.scan.brackets, bytes);
+        let passed = simple_lines(&mut self.state.scan.brackets, bytes);
+        let lines = settled_lines(bytes, passed);
         let line = self.state.line + lines.line_ends;
         self.state.pass(lines.len, line);
         self.state.restart();

@@ -3,7 +3,7 @@
 ghost use Rattle.std.specs.Prelude.{◌≡◌, ◌+◌, ◌<◌, true, IsTrue, drop, length, slice_index};
 ghost use Rattle.py_lines.specs.Character.{is_backslash, is_hash, is_quote};
 ghost use Rattle.py_lines.specs.Private.Marks.{is_of_class};
-ghost use Rattle.py_lines.specs.Private.Outline.{BeginWithLines, BeginsLineEnd, IsAt, IsFurther, IsPast, PassesFirst, PassesPiece};
+ghost use Rattle.py_lines.specs.Private.Outline.{BeginWithLines, BeginsOuterEnd, HasOuterEnd, IsAt, IsFurther, IsPast, PassesFirst, PassesPiece};
 
 use crate::brackets::Brackets;
 use crate::class::Class;
@@ -27,13 +27,23 @@ fn comment(bytes: &[u8]) -> Option<Passed>
     })
 }
 
+/// How many bytes the line end has that the bytes begin with (Python Language Reference, 2.1.2). At their end CR is none yet: LF may follow.
+fn outer_end_len(bytes: &[u8]) -> Option<usize>
+    ensures { HasOuterEnd bytes.now result }
+{
+    if bytes.len() > 1 && bytes[0] == b'\r' && bytes[1] != b'\n' {
+        return Some(1);
+    }
+    line_end_len(bytes)
+}
+
 /// Passes the join of two lines that the bytes begin with: a backslash and a line end (Python Language Reference, 2.1.5).
 fn join(bytes: &[u8]) -> Option<Passed>
     requires some { 0 < length bytes.now }
     requires backslash { is_backslash (slice_index bytes.now 0) ≡ true }
     ensures { PassesFirst bytes.now result }
 {
-    let line_end = line_end_len(&bytes[1..])?;
+    let line_end = outer_end_len(&bytes[1..])?;
     Some(Passed {
         len: 1 + line_end,
         line_ends: 1,
@@ -88,7 +98,7 @@ impl Outline {
     fn pass_line_end(&mut self, brackets: &Brackets, bytes: &[u8], at: usize, len: usize)
         requires within { at < length bytes.now }
         requires stands { IsAt bytes.now at self.old brackets.now }
-        requires ends { BeginsLineEnd (drop at bytes.now) len }
+        requires ends { BeginsOuterEnd (drop at bytes.now) len }
         ensures past { IsPast bytes.now (at + len) self.new brackets.now }
         ensures marks { self.new.marks ≡ self.old.marks }
     {
@@ -101,14 +111,14 @@ impl Outline {
         }
     }
 
-    /// Passes the CR at this byte, and the LF after it. The result is whether LF follows, so that they were passed.
+    /// Passes the CR at this byte, and LF after it. The result is whether a byte follows, so that they were passed.
     fn pass_return(&mut self, brackets: &Brackets, bytes: &[u8], at: usize) -> bool
         requires within { at < length bytes.now }
         requires stands { IsAt bytes.now at self.old brackets.now }
         ensures further { IsTrue result → IsFurther bytes.now at self.new brackets.now }
         ensures lines { BeginWithLines bytes.now self.new.lines }
     {
-        let Some(len) = line_end_len(&bytes[at..]) else {
+        let Some(len) = outer_end_len(&bytes[at..]) else {
             return false;
         };
         self.pass_line_end(brackets, bytes, at, len);
@@ -158,8 +168,8 @@ impl Outline {
     }
 }
 
-/// The logical lines that the bytes begin with, as long as they are simple: words of ASCII, operators, comments, joins and strings, and
-/// LF or CR LF. No line is open before the bytes. The brackets are those of the line after them, as far as it was passed.
+/// The logical lines that the bytes begin with, as long as they are simple: words of ASCII, operators, comments, joins, strings and
+/// line ends. No line is open before the bytes. The brackets are those of the line after them, as far as it was passed.
 pub fn simple_lines(brackets: &mut Brackets, bytes: &[u8]) -> Passed
     ensures { BeginWithLines bytes.now result }
 {

@@ -96,8 +96,8 @@ impl Scanner {
     /// no memory, and is quicker than [`Scanner::feed`].
     ///
     /// A line is passed over where it ends at byte `before` of the piece or before it, and is simple: it is ASCII except in comments and
-    /// in strings without fields, and its line ends are LF or CR LF. Which lines are simple is not promised. None is passed over at the
-    /// text's start, where bytes are held, or once the text has ended or its fault is known.
+    /// in strings without fields, where CR stands before LF alone. Which lines are simple is not promised. None is passed over at the
+    /// text's start, where bytes are held, or once the text has ended or its fault is known; nor where CR alone ends the last of them.
     pub fn pass_lines(&mut self, piece: &[u8], before: usize) -> usize
         requires fits { fed_of self.old + length piece.now ≤ 2 ^ 62 }
         ensures passes { PassesPieceLines self.old piece.now before result self.new }

@@ -101,17 +101,21 @@ static INNER_ENDS: &[Passing] = &[
     Passing("a\n'b\\\r\nc'\r\n", 11, 9, (11, 4)),
     Passing("a\n\"\"\"\\\r\n\"\"\"\n", 12, 10, (12, 4)),
     // A line that ends at CR, and one whose CR LF goes past the byte.
-    Passing("a\nb\nc\rd\n", 8, 2, (4, 3)),
+    Passing("a\nb\nc\rd\n", 8, 6, (8, 5)),
     Passing("a\nb\r\nc\r\n", 4, 0, (2, 2)),
 ];
 
-/// CR alone, which is left to the scan.
+/// CR alone.
 static RETURNS: &[Passing] = &[
-    // After code, before CR LF, after a comment, in a join, in a string of three quotes, and after a backslash.
-    Passing("a\nb = c\rd\n", 10, 0, (2, 2)),
-    Passing("a\nb\r\r\n", 6, 0, (2, 2)),
-    Passing("a\n# b\rc\n", 8, 0, (2, 2)),
-    Passing("a\nb = \\\r c\n", 11, 0, (2, 2)),
+    // After code, before CR LF, after a comment, in brackets, and in a join.
+    Passing("a\nb = c\rd\n", 10, 8, (10, 4)),
+    Passing("a\nb\r\r\n", 6, 4, (6, 4)),
+    Passing("a\n# b\rc\n", 8, 6, (8, 4)),
+    Passing("a\n(b\r\r)\r'c'\r", 12, 6, (8, 5)),
+    Passing("a\nb = \\\r c\n", 11, 9, (11, 4)),
+    // At the byte LF may follow.
+    Passing("a\nb\nc\rd", 6, 2, (4, 3)),
+    // What is left to the scan: in a string of three quotes, and after a backslash.
     Passing("a\n'''b\rc'''\n", 12, 0, (2, 2)),
     Passing("a\n'b\\\rc'\n", 9, 0, (2, 2)),
 ];
@@ -178,8 +182,9 @@ static PIECES: &[PassingPiece] = &[
     PassingPiece(b"b  # \xc3\xa4\n", 8),
     PassingPiece(b"# \xf0\x9f\x98\x80\r\n", 8),
     PassingPiece(b"'''\xe4\xbd\xa0\n'''\n", 11),
-    // CR where the piece ends.
+    // CR where the piece ends, and CR alone before other lines.
     PassingPiece(b"b\r\nc\r", 3),
+    PassingPiece(b"b\rc\n", 4),
     // Bytes that are no character: a first byte alone, one that begins none, a character cut short, one in two, and a surrogate.
     PassingPiece(b"b  # \xc3\n", 0),
     PassingPiece(b"b\n# \xff\n", 2),

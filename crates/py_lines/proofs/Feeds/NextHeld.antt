@@ -1,8 +1,6 @@
 -- The line that has ended in what is held, after the lines given.
-use Rattle.std.proofs.Common.{◌≡◌, ℕ, ◌<◌, true, false, List, [], ◌∷◌, ◌++◌, length, refl, sym, ap, ◌∙◌, inl, inr, arith}
+use Rattle.std.proofs.Common.{◌≡◌, ℕ, ◌<◌, true, false, List, [], ◌∷◌, ◌++◌, length, refl, arith}
 use Rattle.std.specs.Prelude.{encode_utf8_all}
-use Rattle.std.proofs.lemmas.Bool.{both_ways, false_from_ne_true}
-use Rattle.std.proofs.lemmas.Str.{encode_ascii}
 use Rattle.py_lines.specs.Character.{is_line_feed, is_return}
 use Rattle.py_lines.specs.Piece.{Piece, begins, ends}
 use Rattle.py_lines.specs.LogicalLine.{LogicalLine, line_of}
@@ -10,28 +8,15 @@ use Rattle.py_lines.specs.ScannerState.View.{line_of_feed}
 use Rattle.py_lines.specs.declared.feed.Feed.{Feed}
 use Rattle.py_lines.specs.Private.Scan.{EndsWhole}
 use Rattle.py_lines.specs.Private.Feed.{IsEnded}
-use Rattle.py_lines.proofs.Text.CharacterTests.{feed_is}
+use Rattle.py_lines.proofs.LineScan.LineSteps.{follows_whole}
 use Rattle.py_lines.proofs.Feeds.Known.{IsKnown}
 use Rattle.py_lines.proofs.Feeds.SettledSoFar.{IsNextLine}
 use Rattle.py_lines.proofs.Feeds.ReadyLines.{line_of_ended}
 
--- characters whose first byte is no LF begin with no LF
-no_feed_first : (cs tail rest : List ℕ) (b : ℕ) → encode_utf8_all cs ++ tail ≡ b ∷ rest → (b ≡ 10 → ⊥) → begins is_line_feed cs ≡ false
-no_feed_first [] tail rest b spell other = refl
-no_feed_first (c ∷ cs) tail rest b spell other =
-    false_from_ne_true _ (λ feeds.
-    let is = feed_is c feeds in
-    let bytes : 10 ∷ (encode_utf8_all cs ++ tail) ≡ b ∷ rest = ap (λ t. (t ++ encode_utf8_all cs) ++ tail) (sym (encode_ascii 10 (omega arith))) ∙ ap (λ (n : ℕ). encode_utf8_all (n ∷ cs) ++ tail) (sym is) ∙ spell in
-    other (let h = bytes in cc))
-
 module _ (text : List ℕ) (f : Feed) (lines : List LogicalLine) (end_len : ℕ) (read rest : List ℕ) (e : IsEnded f end_len read rest) (whole : EndsWhole read rest) (k : IsKnown text f.state.place f.state.line lines read rest) where
   -- after CR comes no LF
   pub no_feed_next : ends is_return read ≡ true → begins is_line_feed k.more ≡ false
-  no_feed_next returned = go whole
-    where
-      go : EndsWhole read rest → begins is_line_feed k.more ≡ false
-      go (inl feed) = absurd (both_ways _ feed returned)
-      go (inr (b, after, is, other)) = no_feed_first k.more k.tail (after ++ k.beyond) b (k.follow ∙ ap (λ t. t ++ k.beyond) is) other
+  no_feed_next = follows_whole read rest k.more k.tail k.beyond whole k.follow
 
   abbrev pub next_pieces : List Piece
   next_pieces = (e.at k.more no_feed_next).body ++ (e.at k.more no_feed_next).last ∷ []

@@ -1,15 +1,16 @@
 -- Lines that a scanner passed over are the next ones of each text that goes on with them.
-use Rattle.std.proofs.Common.{◌≡◌, ℕ, ◌+◌, ◌<◌, ◌≤◌, ◌^◌, Option, None, Some, List, [], ◌∷◌, ◌++◌, length, take, drop, refl, sym, ap, ◌∙◌, subst, append_assoc, append-nil, arith, length-append}
+use Rattle.std.proofs.Common.{take-suc, ◌≡◌, ℕ, suc, ◌+◌, ◌-◌, ◌<◌, ◌≤◌, ◌^◌, ⊎_elim, inl, inr, Bool, true, false, Option, None, Some, List, [], ◌∷◌, ◌++◌, length, take, drop, slice_index, refl, sym, ap, ◌∙◌, subst, append_assoc, append-nil, arith, length-append}
 use Rattle.std.specs.Prelude.{encode_utf8_all, flat_map, min}
+use Rattle.std.proofs.lemmas.Bool.{both_ways, false_from_ne_true}
 use Rattle.std.proofs.lemmas.List.{length-take-le, length-take}
 use Rattle.std.proofs.lemmas.Str.{encodes-append, length-le-encodes}
 use Rattle.std.proofs.Math.Seq.{take-append_seam}
 use Rattle.py_lines.specs.Character.{is_return}
 use Rattle.py_lines.specs.Piece.{Piece, ends, spelled}
-use Rattle.py_lines.specs.LogicalLine.{LogicalLine, byte_len, line_of}
+use Rattle.py_lines.specs.LogicalLine.{LogicalLine, byte_len, first_or_zero, line_of}
 use Rattle.py_lines.specs.Settled.{IsSettled}
 use Rattle.py_lines.specs.Given.{AreFirstLines}
-use Rattle.py_lines.specs.ScannerState.{GoesOnWith, HasSettled, HoldsReady, IsScanning, PassesPieceLines, StandsBetweenLines, fed_of}
+use Rattle.py_lines.specs.ScannerState.{EndsExactly, GoesOnWith, HasSettled, HoldsReady, IsScanning, PassesPieceLines, StandsBetweenLines, fed_of}
 use Rattle.py_lines.specs.ScannerState.View.{ready_of, scanning_of}
 use Rattle.py_lines.specs.declared.feed.Feed.{Feed}
 use Rattle.py_lines.specs.declared.line_state.LineState.{LineState}
@@ -18,50 +19,79 @@ use Rattle.py_lines.specs.declared.plain_strings.Passed.{Passed}
 use Rattle.py_lines.specs.declared.scan.Scan.{Scan}
 use Rattle.py_lines.specs.Private.Feed.{IsSoundFeed, StandsSo}
 use Rattle.py_lines.specs.Private.LineState.{BeginsAnew, first_mode}
-use Rattle.py_lines.specs.Private.Scan.{line_start}
+use Rattle.py_lines.specs.Private.Scan.{EndsWhole, line_start}
 use Rattle.py_lines.specs.Private.Outline.{AreWholeLines, BeginWithLines, IsWholeLine}
 use Rattle.py_lines.proofs.SimpleLines.Lines.{lines_few}
+use Rattle.py_lines.proofs.Lexings.SettledFits.{ends-append}
+use Rattle.py_lines.proofs.LineScan.LineCount.{ends-last}
+use Rattle.py_lines.proofs.LineScan.LineSteps.{follows_whole}
+use Rattle.py_lines.proofs.Text.CharacterTests.{return_is}
 use Rattle.py_lines.proofs.Readers.LineAnswers.{IsReadLine}
-use Rattle.py_lines.proofs.Readers.PassedLines.{first_free, take_slice, whole_read, whole_sound}
+use Rattle.py_lines.proofs.Readers.PassedLines.{first_free, passed_line, take_slice, whole_read}
 use Rattle.py_lines.proofs.Feeds.Known.{IsKnown, is_known}
+use Rattle.py_lines.proofs.Feeds.LastBytes.{ends-encoded}
 use Rattle.py_lines.proofs.Feeds.SettledSoFar.{Follow, IsNextLine, settled_ready}
 use Rattle.py_lines.proofs.Feeds.Released.{released}
 use Rattle.py_lines.proofs.Feeds.ReleasedHeld.{goes_after}
 use Rattle.py_lines.proofs.Feeds.Loops.{restarts_open}
 
 -- the logical lines of the lines that were found, from this byte and line of a text on
-abbrev lines_at : (texts : List (List ℕ)) (place line : ℕ) (read : List ℕ) (n : ℕ) → AreWholeLines texts read n → List LogicalLine
-lines_at [] place line read n are = []
-lines_at (t ∷ texts) place line read n are = line_of place line (are.whole.body ++ are.whole.last ∷ []) ∷ lines_at texts (place + byte_len t) (line + are.own) are.later are.more are.lines
+abbrev lines_at : (texts : List (List ℕ)) (place line : ℕ) (read : List ℕ) (n : ℕ) (after : List ℕ) → AreWholeLines texts read n after → List LogicalLine
+lines_at [] place line read n after are = []
+lines_at (t ∷ texts) place line read n after are = line_of place line (are.whole.body ++ are.whole.last ∷ []) ∷ lines_at texts (place + byte_len t) (line + are.own) are.later are.more after are.lines
 
 -- what they spell
-line_spells : (read : List ℕ) (n : ℕ) (whole : IsWholeLine read n) → 0 < length read → encode_utf8_all (spelled (whole.body ++ whole.last ∷ [])) ≡ encode_utf8_all read
-line_spells read n whole some = ap encode_utf8_all (whole_read read n some whole).spell
-
-lines_spell : (texts : List (List ℕ)) (place line : ℕ) (read : List ℕ) (n : ℕ) (are : AreWholeLines texts read n) → flat_map (λ (l : LogicalLine). l.text) (lines_at texts place line read n are) ≡ encode_utf8_all read
-lines_spell [] place line read n are = ap encode_utf8_all (sym are.0)
-lines_spell (t ∷ texts) place line read n are =
-    ap (λ u. u ++ flat_map (λ (l : LogicalLine). l.text) (lines_at texts (place + byte_len t) (line + are.own) are.later are.more are.lines)) (line_spells t are.own are.whole are.some)
-    ∙ ap (λ u. encode_utf8_all t ++ u) (lines_spell texts (place + byte_len t) (line + are.own) are.later are.more are.lines)
+lines_spell : (texts : List (List ℕ)) (place line : ℕ) (read : List ℕ) (n : ℕ) (after : List ℕ) (are : AreWholeLines texts read n after) → flat_map (λ (l : LogicalLine). l.text) (lines_at texts place line read n after are) ≡ encode_utf8_all read
+lines_spell [] place line read n after are = ap encode_utf8_all (sym are.0)
+lines_spell (t ∷ texts) place line read n after are =
+    let others = flat_map (λ (l : LogicalLine). l.text) (lines_at texts (place + byte_len t) (line + are.own) are.later are.more after are.lines) in
+    ap (λ u. u ++ others) (ap encode_utf8_all (passed_line t are.own (encode_utf8_all are.later ++ after) are.whole).spell)
+    ∙ ap (λ u. encode_utf8_all t ++ u) (lines_spell texts (place + byte_len t) (line + are.own) are.later are.more after are.lines)
     ∙ sym (ap encode_utf8_all are.spell ∙ encodes-append t are.later)
 
--- the bytes of a text up to a place settle these lines, and they are its first
-abbrev AreSettledAt : List ℕ → ℕ → ℕ → List LogicalLine → Type 0
-AreSettledAt text place line lines = AreFirstLines text place line lines × IsSettled (take place text) lines
+-- after a line these bytes are known, which show that it has ended, and then come these
+record IsShown (line following : List ℕ) : Type 0 where
+  more : List ℕ
+  unseen : List ℕ
+  exact : EndsExactly line more
+  spell : following ≡ more ++ unseen
 
--- a line that the text goes on with
-module _ (text : List ℕ) (place line : ℕ) (given : List LogicalLine) (later : place ≡ 0 → ⊥) (first : AreFirstLines text place line given) (read : List ℕ) (n : ℕ) (some : 0 < length read) (goes : GoesOnWith text place (encode_utf8_all read)) (whole : IsWholeLine read n) where
+shown : (line following : List ℕ) → EndsWhole line following → IsShown line following
+shown line following whole = by (ends is_return line) refl whole
+  where
+    by : (b : Bool) → ends is_return line ≡ b → EndsWhole line following → IsShown line following
+    by false other ended = record { more = []; unseen = following; exact = inl (other, refl); spell = refl }
+    by true is (inl feed) = absurd (both_ways _ feed is)
+    by true is (inr (b, others, spell, other)) = record { more = b ∷ []; unseen = others; exact = inr (is, (b, refl, other)); spell = spell }
+
+-- which bytes come after the first of those that follow is no matter
+same_first : (line xs others more : List ℕ) → 0 < length xs → EndsWhole line (xs ++ others) → EndsWhole line (xs ++ more)
+same_first line [] others more some whole = absurd (omega (arith, some))
+same_first line (x ∷ xs) others more some (inl feed) = inl feed
+same_first line (x ∷ xs) others more some (inr (b, rest, is, other)) = inr (x, xs ++ more, refl, λ feeds. other (ap first_or_zero (sym is) ∙ feeds))
+
+exactly_whole : (line more : List ℕ) → EndsExactly line more → EndsWhole line more
+exactly_whole line more (inl (feed, none)) = inl feed
+exactly_whole line more (inr (is, (b, one, other))) = inr (b, [], one, other)
+
+follow_of : (u : List Piece) (line more : List ℕ) → spelled u ≡ line → EndsExactly line more → Follow u more
+follow_of u line more spell (inl (feed, none)) = Follow.by_feed none (ap (ends is_return) spell ∙ feed)
+follow_of u line more spell (inr (is, (b, one, other))) = Follow.by_byte b one other
+
+-- the bytes of a text up to a place, and so many more, settle these lines, and they are its first
+abbrev AreSettledAt : List ℕ → ℕ → ℕ → ℕ → List LogicalLine → Type 0
+AreSettledAt text place line known lines = AreFirstLines text place line lines × IsSettled (take (place + known) text) lines
+
+-- a line that the text goes on with, and what is known after it
+module _ (text : List ℕ) (place line : ℕ) (given : List LogicalLine) (later : place ≡ 0 → ⊥) (first : AreFirstLines text place line given) (read more : List ℕ) (n : ℕ) (some : 0 < length read) (goes : GoesOnWith text place (encode_utf8_all read ++ more)) (exact : EndsExactly read more) (after : List ℕ) (whole : IsWholeLine read n after) where
   abbrev pieces : List Piece
   pieces = whole.body ++ whole.last ∷ []
 
-  bytes : encode_utf8_all read ++ [] ≡ encode_utf8_all read
-  bytes = append-nil (encode_utf8_all read)
-
-  known : IsKnown text place line given read []
-  known = is_known text place line given read [] first whole.holds.scalars (subst (GoesOnWith text place) (sym bytes) goes) (omega (arith, some, length-le-encodes read, ap length bytes))
+  known : IsKnown text place line given read more
+  known = is_known text place line given read more first whole.holds.scalars goes (omega (arith, some, length-le-encodes read, length-append (encode_utf8_all read) more))
 
   as_line : IsReadLine (line_start (first_mode place)) read pieces
-  as_line = subst (λ (m : Mode). IsReadLine (line_start m) read pieces) (sym (first_free place later)) (whole_read read n some whole)
+  as_line = subst (λ (m : Mode). IsReadLine (line_start m) read pieces) (sym (first_free place later)) (whole_read read n after some whole)
 
   next : IsNextLine place read known.more pieces
   next = record {
@@ -71,7 +101,7 @@ module _ (text : List ℕ) (place line : ℕ) (given : List LogicalLine) (later 
     class = whole.are.class;
     level = whole.are.level;
     spell = as_line.spell;
-    fit = (whole_sound read n whole).fit known.more;
+    fit = (passed_line read n after whole).fit known.more (follows_whole read more known.more known.tail known.beyond (exactly_whole read more exact) known.follow);
     whole = as_line.whole;
     stacked = as_line.stacked;
     strings = as_line.strings;
@@ -79,15 +109,16 @@ module _ (text : List ℕ) (place line : ℕ) (given : List LogicalLine) (later 
     steps = as_line.steps;
   }
 
-  settled : IsSettled (take (place + length (encode_utf8_all read ++ [])) text) (given ++ line_of place line pieces ∷ [])
-  settled = settled_ready text place line given read [] known pieces next (Follow.by_feed refl (ap (ends is_return) as_line.spell ∙ whole.holds.unreturned))
+  settled : IsSettled (take (place + length (encode_utf8_all read ++ more)) text) (given ++ line_of place line pieces ∷ [])
+  settled = settled_ready text place line given read more known pieces next (follow_of pieces read more as_line.spell exact)
 
-  line_settled : AreSettledAt text (place + byte_len read) (line + n) (given ++ line_of place line pieces ∷ [])
-  line_settled = (
-    subst (λ (m : ℕ). AreFirstLines text (place + byte_len read) (line + m) (given ++ line_of place line pieces ∷ [])) whole.holds.count
-        (released text place line given read [] known (line_of place line pieces) (ap encode_utf8_all as_line.spell) settled),
-    subst (λ t. IsSettled (take (place + length t) text) (given ++ line_of place line pieces ∷ [])) bytes settled,
-  )
+  line_settled : AreSettledAt text (place + byte_len read) (line + n) (length more) (given ++ line_of place line pieces ∷ [])
+  line_settled =
+      let sizes : place + length (encode_utf8_all read ++ more) ≡ place + byte_len read + length more = omega (arith, length-append (encode_utf8_all read) more) in (
+        subst (λ (m : ℕ). AreFirstLines text (place + byte_len read) (line + m) (given ++ line_of place line pieces ∷ [])) whole.holds.count
+            (released text place line given read more known (line_of place line pieces) (ap encode_utf8_all as_line.spell) settled),
+        subst (λ (m : ℕ). IsSettled (take m text) (given ++ line_of place line pieces ∷ [])) sizes settled,
+      )
 
 -- the first of the bytes that the text goes on with
 goes_first : (text : List ℕ) (place : ℕ) (first later : List ℕ) → GoesOnWith text place (first ++ later) → GoesOnWith text place first
@@ -96,45 +127,69 @@ goes_first text place first later goes =
     ∙ ap (take (length first)) goes
     ∙ take-append_seam first later
 
+-- what is known after the last of some lines is known after all of them
+last_exact : (read line later more : List ℕ) → read ≡ line ++ later → 0 < length later → EndsExactly read more → EndsExactly later more
+last_exact read line [] more is some exact = absurd (omega (arith, some))
+last_exact read line (c ∷ cs) more is some exact =
+    let same : ends is_return read ≡ ends is_return (c ∷ cs) = ap (ends is_return) is ∙ ends-append is_return line c cs in
+    ⊎_elim (λ feed. inl (sym same ∙ feed.0, feed.1)) (λ one. inr (sym same ∙ one.0, one.1)) exact
+
 -- so lines, of which there is one at least
-lines_settled : (t : List ℕ) (texts : List (List ℕ)) (text : List ℕ) (place line : ℕ) (given : List LogicalLine) (read : List ℕ) (n : ℕ) (are : AreWholeLines (t ∷ texts) read n) → (place ≡ 0 → ⊥) → AreFirstLines text place line given → GoesOnWith text place (encode_utf8_all read)
-    → AreSettledAt text (place + byte_len read) (line + n) (given ++ lines_at (t ∷ texts) place line read n are)
-lines_settled t [] text place line given read n are later first goes =
+lines_settled : (t : List ℕ) (texts : List (List ℕ)) (text : List ℕ) (place line : ℕ) (given : List LogicalLine) (read more : List ℕ) (n : ℕ) (after : List ℕ) (are : AreWholeLines (t ∷ texts) read n after) → (place ≡ 0 → ⊥) → AreFirstLines text place line given → GoesOnWith text place (encode_utf8_all read ++ more) → EndsExactly read more
+    → AreSettledAt text (place + byte_len read) (line + n) (length more) (given ++ lines_at (t ∷ texts) place line read n after are)
+lines_settled t [] text place line given read more n after are later first goes exact =
     let all : read ≡ t = are.spell ∙ ap (λ u. t ++ u) are.lines.0 ∙ append-nil t in
     let own : n ≡ are.own = omega (arith, are.count, are.lines.1) in
-    subst (λ (m : ℕ). AreSettledAt text (place + byte_len read) (line + m) (given ++ lines_at (t ∷ []) place line read n are)) (sym own)
-    (subst (λ u. AreSettledAt text (place + byte_len u) (line + are.own) (given ++ lines_at (t ∷ []) place line read n are)) (sym all)
-    (line_settled text place line given later first t are.own are.some (subst (λ u. GoesOnWith text place (encode_utf8_all u)) all goes) are.whole))
-lines_settled t (u ∷ texts) text place line given read n are later first goes =
-    let spell : encode_utf8_all read ≡ encode_utf8_all t ++ encode_utf8_all are.later = ap encode_utf8_all are.spell ∙ encodes-append t are.later in
-    let split = subst (GoesOnWith text place) spell goes in
-    let own : GoesOnWith text place (encode_utf8_all t) = goes_first text place (encode_utf8_all t) (encode_utf8_all are.later) split in
-    let one = line_settled text place line given later first t are.own are.some own are.whole in
+    subst (λ (m : ℕ). AreSettledAt text (place + byte_len read) (line + m) (length more) (given ++ lines_at (t ∷ []) place line read n after are)) (sym own)
+    (subst (λ u. AreSettledAt text (place + byte_len u) (line + are.own) (length more) (given ++ lines_at (t ∷ []) place line read n after are)) (sym all)
+    (line_settled text place line given later first t more are.own are.some (subst (λ u. GoesOnWith text place (encode_utf8_all u ++ more)) all goes) (subst (λ u. EndsExactly u more) all exact) (encode_utf8_all are.later ++ after) are.whole))
+lines_settled t (u ∷ texts) text place line given read more n after are later first goes exact =
+    let own_bytes = encode_utf8_all t in
+    let later_bytes = encode_utf8_all are.later in
+    let spell : encode_utf8_all read ≡ own_bytes ++ later_bytes = ap encode_utf8_all are.spell ∙ encodes-append t are.later in
+    let split : GoesOnWith text place (own_bytes ++ (later_bytes ++ more)) = subst (GoesOnWith text place) (ap (λ b. b ++ more) spell ∙ append_assoc own_bytes later_bytes more) goes in
+    let some : 0 < length are.later = omega (arith, ap length are.lines.spell, length-append u are.lines.later, are.lines.some) in
+    let own = shown t (later_bytes ++ more) (same_first t later_bytes after more (omega (arith, some, length-le-encodes are.later)) are.whole.whole) in
+    let near : GoesOnWith text place (own_bytes ++ own.more) = goes_first text place (own_bytes ++ own.more) own.unseen (subst (GoesOnWith text place) (ap (λ b. own_bytes ++ b) own.spell ∙ sym (append_assoc own_bytes own.more own.unseen)) split) in
+    let one = line_settled text place line given later first t own.more are.own are.some near own.exact (later_bytes ++ after) are.whole in
     let here = line_of place line (are.whole.body ++ are.whole.last ∷ []) in
-    let others = lines_settled u texts text (place + byte_len t) (line + are.own) (given ++ here ∷ []) are.later are.more are.lines (λ (none : place + byte_len t ≡ 0). omega (arith, none, are.some, length-le-encodes t)) one.0 (goes_after text place (encode_utf8_all t) (encode_utf8_all are.later) split) in
-    let place_is : place + byte_len t + byte_len are.later ≡ place + byte_len read = omega (arith, ap length spell, length-append (encode_utf8_all t) (encode_utf8_all are.later)) in
+    let others = lines_settled u texts text (place + byte_len t) (line + are.own) (given ++ here ∷ []) are.later more are.more after are.lines (λ (none : place + byte_len t ≡ 0). omega (arith, none, are.some, length-le-encodes t)) one.0 (goes_after text place own_bytes (later_bytes ++ more) split) (last_exact read t are.later more are.spell some exact) in
+    let place_is : place + byte_len t + byte_len are.later ≡ place + byte_len read = omega (arith, ap length spell, length-append own_bytes later_bytes) in
     let line_is : line + are.own + are.more ≡ line + n = omega (arith, are.count) in
-    let after = lines_at (u ∷ texts) (place + byte_len t) (line + are.own) are.later are.more are.lines in
-    subst (λ l. AreSettledAt text (place + byte_len read) (line + n) l) (append_assoc given (here ∷ []) after)
-    (subst (λ (m : ℕ). AreSettledAt text m (line + n) ((given ++ here ∷ []) ++ after)) place_is
-    (subst (λ (m : ℕ). AreSettledAt text (place + byte_len t + byte_len are.later) m ((given ++ here ∷ []) ++ after)) line_is others))
+    let rest = lines_at (u ∷ texts) (place + byte_len t) (line + are.own) are.later are.more after are.lines in
+    subst (λ l. AreSettledAt text (place + byte_len read) (line + n) (length more) l) (append_assoc given (here ∷ []) rest)
+    (subst (λ (m : ℕ). AreSettledAt text m (line + n) (length more) ((given ++ here ∷ []) ++ rest)) place_is
+    (subst (λ (m : ℕ). AreSettledAt text (place + byte_len t + byte_len are.later) m (length more) ((given ++ here ∷ []) ++ rest)) line_is others))
 
-all_settled : (texts : List (List ℕ)) (text : List ℕ) (place line : ℕ) (given : List LogicalLine) (read : List ℕ) (n : ℕ) (are : AreWholeLines texts read n) → 0 < byte_len read → (place ≡ 0 → ⊥) → AreFirstLines text place line given → GoesOnWith text place (encode_utf8_all read)
-    → AreSettledAt text (place + byte_len read) (line + n) (given ++ lines_at texts place line read n are)
-all_settled [] text place line given read n are some later first goes = absurd (omega (arith, some, ap byte_len are.0))
-all_settled (t ∷ texts) text place line given read n are some later first goes = lines_settled t texts text place line given read n are later first goes
+all_settled : (texts : List (List ℕ)) (text : List ℕ) (place line : ℕ) (given : List LogicalLine) (read more : List ℕ) (n : ℕ) (after : List ℕ) (are : AreWholeLines texts read n after) → 0 < byte_len read → (place ≡ 0 → ⊥) → AreFirstLines text place line given → GoesOnWith text place (encode_utf8_all read ++ more) → EndsExactly read more
+    → AreSettledAt text (place + byte_len read) (line + n) (length more) (given ++ lines_at texts place line read n after are)
+all_settled [] text place line given read more n after are some later first goes exact = absurd (omega (arith, some, ap byte_len are.0))
+all_settled (t ∷ texts) text place line given read more n after are some later first goes exact = lines_settled t texts text place line given read more n after are later first goes exact
+
+-- lines that CR doesn't end, of a piece as far as it was looked at
+pub settled_of : (piece : List ℕ) (stop : ℕ) (p : Passed) → BeginWithLines (take stop piece) p → ends is_return (take p.len (take stop piece)) ≡ false → ends is_return (take p.len piece) ≡ false
+settled_of piece stop p found settled = ap (ends is_return) (sym (take_slice piece p.len stop found.within)) ∙ settled
+
+pub last_byte_settled : (bytes : List ℕ) (len : ℕ) → 0 < len → len ≤ length bytes → (slice_index bytes (len - 1) ≡ 13 → ⊥) → ends is_return (take len bytes) ≡ false
+last_byte_settled bytes len some within other =
+    let next : len ≡ suc (len - 1) = omega (arith, some) in
+    ap (λ (k : ℕ). ends is_return (take k bytes)) next ∙ ap (ends is_return) (take-suc bytes (len - 1) 0 (omega (arith, some, within))) ∙ ends-last is_return (take (len - 1) bytes) (slice_index bytes (len - 1))
+    ∙ false_from_ne_true _ (λ returns. other (return_is (slice_index bytes (len - 1)) returns))
 
 none_ready : (f : Feed) (ready : Option ℕ) → ready_of f ready ≡ None → ready ≡ None
 none_ready f None seen = refl
 none_ready f (Some n) seen = absurd (cc)
 
 -- the lines that the code has found in the first bytes of a piece, after which the scan of the next line begins
-module _ (f : Feed) (state : LineState) (piece : List ℕ) (before stop : ℕ) (p : Passed) (between : StandsBetweenLines (scanning_of f)) (stop_is : stop ≡ min before (length piece)) (found : BeginWithLines (take stop piece) p) where
+module _ (f : Feed) (state : LineState) (piece : List ℕ) (before stop : ℕ) (p : Passed) (between : StandsBetweenLines (scanning_of f)) (stop_is : stop ≡ min before (length piece)) (found : BeginWithLines (take stop piece) p) (for_good : ends is_return (take p.len piece) ≡ false) where
   read : List ℕ
   read = found.read
 
-  are : AreWholeLines found.texts read p.line_ends
-  unfolding read
+  beyond : List ℕ
+  beyond = drop p.len (take stop piece)
+
+  are : AreWholeLines found.texts read p.line_ends beyond
+  unfolding read beyond
   are = found.whole
 
   read_is : encode_utf8_all read ≡ take p.len piece
@@ -151,13 +206,13 @@ module _ (f : Feed) (state : LineState) (piece : List ℕ) (before stop : ℕ) (
   read_size = ap length read_is ∙ length-take-le p.len piece within
 
   few : p.line_ends ≤ p.len
-  few = omega (arith, lines_few found.texts read p.line_ends are, read_size)
+  few = omega (arith, lines_few found.texts read p.line_ends beyond are, read_size)
 
   pub line_fits : f.state.place + length f.held.items + length piece ≤ 2 ^ 62 → IsSoundFeed f → f.state.line + p.line_ends < 2 ^ 64
   line_fits fits sound = omega (arith, fits, sound.room.few_lines, few, within)
 
   lines : List LogicalLine
-  lines = lines_at found.texts f.state.place f.state.line read p.line_ends are
+  lines = lines_at found.texts f.state.place f.state.line read p.line_ends beyond are
 
   not_ready : f.ready ≡ None
   not_ready = none_ready f f.ready between.ready
@@ -178,18 +233,22 @@ module _ (f : Feed) (state : LineState) (piece : List ℕ) (before stop : ℕ) (
     ready : ready_of after f.ready ≡ None
     ready = ap (ready_of after) not_ready
 
-    first : 0 < p.len → (text : List ℕ) (given : List LogicalLine) → IsScanning (scanning_of f) text given → GoesOnWith text f.state.place (encode_utf8_all read) → AreSettledAt text state.place state.line (given ++ lines)
+    exact : EndsExactly read []
+    exact = inl (sym (ends-encoded read) ∙ ap (ends is_return) read_is ∙ for_good, refl)
+
+    first : 0 < p.len → (text : List ℕ) (given : List LogicalLine) → IsScanning (scanning_of f) text given → GoesOnWith text f.state.place (encode_utf8_all read) → AreSettledAt text state.place state.line 0 (given ++ lines)
     unfolding lines
     first some text given scanning goes =
         let there : f.state.place + byte_len read ≡ state.place = omega (arith, place, read_size) in
-        let at = all_settled found.texts text f.state.place f.state.line given read p.line_ends are (omega (arith, some, read_size)) (λ (none : f.state.place ≡ 0). omega (arith, none, between.later)) scanning.first goes in
-        subst (λ (m : ℕ). AreSettledAt text m state.line (given ++ lines)) there
-        (subst (λ (m : ℕ). AreSettledAt text (f.state.place + byte_len read) m (given ++ lines)) (sym line) at)
+        let bytes = append-nil (encode_utf8_all read) in
+        let at = all_settled found.texts text f.state.place f.state.line given read [] p.line_ends beyond are (omega (arith, some, read_size)) (λ (none : f.state.place ≡ 0). omega (arith, none, between.later)) scanning.first (subst (GoesOnWith text f.state.place) (sym bytes) goes) exact in
+        subst (λ (m : ℕ). AreSettledAt text m state.line 0 (given ++ lines)) there
+        (subst (λ (m : ℕ). AreSettledAt text (f.state.place + byte_len read) m 0 (given ++ lines)) (sym line) at)
 
     scans : 0 < p.len → (text : List ℕ) (given : List LogicalLine) → IsScanning (scanning_of f) text given → GoesOnWith text (fed_of (scanning_of f)) (take p.len piece) → HasSettled (scanning_of after) text (given ++ lines)
     scans some text given scanning goes =
         let here : fed_of (scanning_of f) ≡ f.state.place = omega (arith, ap length between.held) in
-        let fed : state.place ≡ fed_of (scanning_of after) = omega (arith, ap length between.held) in
+        let fed : state.place + 0 ≡ fed_of (scanning_of after) = omega (arith, ap length between.held) in
         let next : GoesOnWith text f.state.place (encode_utf8_all read) = subst (GoesOnWith text f.state.place) (sym read_is) (subst (λ (m : ℕ). GoesOnWith text m (take p.len piece)) here goes) in
         let at = first some text given scanning next in (
           record {
@@ -216,7 +275,7 @@ module _ (f : Feed) (state : LineState) (piece : List ℕ) (before stop : ℕ) (
 
     texts : flat_map (λ (l : LogicalLine). l.text) lines ≡ take p.len piece
     unfolding lines
-    texts = lines_spell found.texts f.state.place f.state.line read p.line_ends are ∙ read_is
+    texts = lines_spell found.texts f.state.place f.state.line read p.line_ends beyond are ∙ read_is
 
     pub passes_lines : PassesPieceLines (scanning_of f) piece before p.len (scanning_of after)
     passes_lines = record {

@@ -1,11 +1,12 @@
 -- The scan of a line's characters, one after another.
-use Rattle.std.proofs.Common.{◌≡◌, ℕ, ◌+◌, ◌≤◌, true, false, not, ◌&&◌, Option, None, Some, Ok, List, [], ◌∷◌, ◌++◌, refl, sym, ap, ◌∙◌, subst, append-nil, arith}
+use Rattle.std.proofs.Common.{◌≡◌, ℕ, ◌+◌, ◌≤◌, inl, inr, true, false, not, ◌&&◌, Option, None, Some, Ok, List, [], ◌∷◌, ◌++◌, refl, sym, ap, ◌∙◌, subst, append-nil, arith}
 use Rattle.std.specs.Prelude.{encode_utf8, encode_utf8_all}
 use Rattle.std.specs.Char.{IsScalar}
-use Rattle.std.proofs.lemmas.Bool.{both_ways, and_right}
-use Rattle.std.proofs.lemmas.Str.{encodes_same}
+use Rattle.std.proofs.lemmas.Bool.{both_ways, and_right, false_from_ne_true}
+use Rattle.std.proofs.lemmas.Str.{encode_ascii, encodes_same}
 use Rattle.py_lines.specs.Character.{is_line_feed, is_return}
 use Rattle.py_lines.specs.Piece.{line_end, Piece, ends, begins, spelled}
+use Rattle.py_lines.specs.Fields.{AreReadBefore}
 use Rattle.py_lines.specs.PieceGrammar.{return}
 use Rattle.py_lines.specs.LogicalLine.{byte_len, line_ends}
 use Rattle.py_lines.specs.declared.mode.Mode.{Mode}
@@ -15,9 +16,9 @@ use Rattle.py_lines.specs.declared.scan.Scan.{Scan}
 use Rattle.py_lines.specs.declared.scan.Stop.TheVariants as stops
 use Rattle.py_lines.specs.Private.Machine.{Scanned, fresh}
 use Rattle.py_lines.specs.Private.ScanMachine.{IsScanSound, scan_step, scan_steps, move_at}
-use Rattle.py_lines.specs.Private.Scan.{Tallies, IsStacked, Takes, Closes, line_start, stack_of, none_open, is_returned, is_return_mode, EndsNoLine, IsUnderWay, IsAtLineEnd, StopsIn}
+use Rattle.py_lines.specs.Private.Scan.{Tallies, IsStacked, Takes, Closes, line_start, stack_of, none_open, is_returned, is_return_mode, EndsNoLine, EndsWhole, IsUnderWay, IsAtLineEnd, StopsIn}
 use Rattle.py_lines.proofs.Pieces.PieceLists.{piece, spelled-push, AreReadBefore-push, follows_any}
-use Rattle.py_lines.proofs.Text.CharacterTests.{return_is}
+use Rattle.py_lines.proofs.Text.CharacterTests.{feed_is, return_is}
 use Rattle.py_lines.proofs.Machine.PieceSteps.{scanned, steps_by-append}
 use Rattle.py_lines.proofs.ScanMachine.Soundness.{SoundIf, run_sound}
 use Rattle.py_lines.proofs.LineScan.PieceEnd.{closes_shut}
@@ -74,6 +75,10 @@ refused m old new read c after rest way not_yet takes scalar is =
 no_feed : (text rest : List ℕ) → begins is_line_feed rest ≡ false → ends is_return text && begins is_line_feed rest ≡ false
 no_feed text rest none = and_right _ _ none
 
+-- what may follow a line that CR ends, which the machine holds yet
+pub returned_fit : (done : List Piece) (held read more : List ℕ) → IsScanSound (scanned done modes.Return held) read → held ≡ 13 ∷ [] → begins is_line_feed more ≡ false → AreReadBefore (done ++ piece line_end held ∷ []) more
+returned_fit done held read more sound text none = AreReadBefore-push done line_end held more (sound.fit more) (return text) (no_feed held more none) (follows_any done line_end held refl)
+
 returned_as : (m : Mode) (old new : Scan) (read rest : List ℕ) (s : Scanned) → scan_steps (Some (line_start m)) read ≡ Some s → IsScanSound s read → Tallies old s → IsStacked old s → EndsNoLine 0 s.done → (n : Mode) → n ≡ s.mode → is_return_mode n ≡ true → none_open (stack_of old.brackets) ≡ true → Closes old new → ((after : List ℕ) → encode_utf8_all after ≡ rest → begins is_line_feed after ≡ false) → IsAtLineEnd m new read rest 1
 returned_as m old new read rest s steps sound tallies stacked none modes.Return is returns empty closes follows = go s.mode is s.done s.held sound tallies stacked none
   where
@@ -88,7 +93,7 @@ returned_as m old new read rest s steps sound tallies stacked none modes.Return 
           to = s;
           steps = steps;
           spell = spelled-push done line_end held ∙ sound'.spell;
-          fit = λ after is_rest. AreReadBefore-push done line_end held after (sound'.fit after) (return text) (no_feed held after (follows after is_rest)) (follows_any done line_end held refl);
+          fit = λ after is_rest. returned_fit done held read after sound' text (follows after is_rest);
           strings = line_string done (piece line_end held) refl sound'.strings;
           tallies = closes_shut old new done modes.Return held read closes sound' tallies';
         }
@@ -102,6 +107,20 @@ returned m old new read rest way start returns empty closes follows =
 -- what follows begins with another character, or is nothing
 pub follows_nothing : (rest after : List ℕ) → rest ≡ [] → encode_utf8_all after ≡ rest → begins is_line_feed after ≡ false
 follows_nothing rest after none spells = ap (begins is_line_feed) (encodes_same after [] (spells ∙ none))
+
+-- characters whose first byte is no LF begin with no LF
+no_feed_first : (cs tail rest : List ℕ) (b : ℕ) → encode_utf8_all cs ++ tail ≡ b ∷ rest → (b ≡ 10 → ⊥) → begins is_line_feed cs ≡ false
+no_feed_first [] tail rest b spell other = refl
+no_feed_first (c ∷ cs) tail rest b spell other =
+    false_from_ne_true _ (λ feeds.
+    let is = feed_is c feeds in
+    let bytes : 10 ∷ (encode_utf8_all cs ++ tail) ≡ b ∷ rest = ap (λ t. (t ++ encode_utf8_all cs) ++ tail) (sym (encode_ascii 10 (omega arith))) ∙ ap (λ (n : ℕ). encode_utf8_all (n ∷ cs) ++ tail) (sym is) ∙ spell in
+    other (let h = bytes in cc))
+
+-- nor do those after a line that has ended whole with CR
+pub follows_whole : (read after more tail beyond : List ℕ) → EndsWhole read after → encode_utf8_all more ++ tail ≡ after ++ beyond → ends is_return read ≡ true → begins is_line_feed more ≡ false
+follows_whole read after more tail beyond (inl feed) spell is_one = absurd (both_ways _ feed is_one)
+follows_whole read after more tail beyond (inr (b, others, is, other)) spell is_one = no_feed_first more tail (others ++ beyond) b (spell ∙ ap (λ t. t ++ beyond) is) other
 
 -- where the scan of a line under way stands
 pub way_order : (scan : Scan) (s : Scanned) → Tallies scan s → scan.piece.start ≤ scan.stop

@@ -15,12 +15,12 @@ use Rattle.py_lines.specs.declared.mode.Mode.TheVariants as modes
 use Rattle.py_lines.specs.declared.mode.Move.TheVariants as moves
 use Rattle.py_lines.specs.declared.mode.Start.{Start}
 use Rattle.py_lines.specs.declared.mode.Start.TheVariants as starts
-use Rattle.py_lines.specs.Private.Machine.{Scanned, fresh, moved, started, start_of, first_spelling, spelling_with, IsFull, Bracket, brackets_after, brackets_of, move_of}
+use Rattle.py_lines.specs.Private.Machine.{Scanned, fresh, moved, started, start_of, first_spelling, spelling_with, Bracket, brackets_after, brackets_of, move_of}
 use Rattle.py_lines.specs.Private.ScanMachine.{IsScanSound, meet_of, scan_step, scan_steps}
-use Rattle.py_lines.specs.Private.Scan.{EndsNoLine, counts_after, line_start}
+use Rattle.py_lines.specs.Private.Scan.{AreLine, EndsNoLine, counts_after, line_start}
 use Rattle.py_lines.specs.Private.Run.{is_ascii_word}
 use Rattle.py_lines.specs.Private.FieldText.{is_apart_mode, is_code_mode}
-use Rattle.py_lines.specs.Private.Outline.{HoldsLineEnds, HasCome, GoesOnAfter, EndsBefore, StandsBefore, IsAfterLineEnd, IsTail, line_end_of, tail_of, tail_on, tail_with}
+use Rattle.py_lines.specs.Private.Outline.{BeginOther, HoldsLineEnds, HasCome, GoesOnAfter, EndsBefore, StandsBefore, IsAfterLineEnd, IsOuterEnd, IsTail, line_end_of, tail_of, tail_on, tail_with}
 use Rattle.py_lines.proofs.Pieces.PieceLists.{piece}
 use Rattle.py_lines.proofs.Machine.Starts.{start-word, start-space, start-operator, start-feed, start-return}
 use Rattle.py_lines.proofs.Machine.PieceSteps.{scanned, pieces_at}
@@ -35,7 +35,7 @@ use Rattle.py_lines.proofs.LineScan.PieceEnd.{closed_text}
 use Rattle.py_lines.proofs.LineScan.Runs.{break_low, ends-run, line_ends-run, space_low, word_byte_continues, word_byte_low}
 use Rattle.py_lines.proofs.LineScan.ShortPieces.{ascii_scalar, free_breaks, operator-no_break, operator-not-quote, word_starts, word_whole, space-not-quote, space_whole}
 use Rattle.py_lines.proofs.LineScan.TextSteps.{begun_sound}
-use Rattle.py_lines.proofs.Text.CharacterTests.{break-not-quote, excluded, feed_from, none_of, operator_ascii}
+use Rattle.py_lines.proofs.Text.CharacterTests.{break-not-quote, excluded, feed_from, feed_is, none_of, operator_ascii}
 use Rattle.py_lines.proofs.Text.Utf8Prefixes.{all_scalars-append}
 use Rattle.py_lines.proofs.Text.Utf8Shapes.{one, two, three, four}
 
@@ -67,25 +67,31 @@ feed-no-word : is_ascii_word 10 ≡ false
 unfolding is_ascii_word
 feed-no-word = refl
 
+return-no-word : is_ascii_word 13 ≡ false
+unfolding is_ascii_word
+return-no-word = refl
+
 -- more characters, which end no line
-pub holds_more : (read run : List ℕ) (n : ℕ) → HoldsLineEnds read n → IsFull run → all_scalars run ≡ true → list_all (λ d. not (is_break d)) run ≡ true → HoldsLineEnds (read ++ run) n
-holds_more read run n holds full scalars whole = record {
+pub holds_more : (read run : List ℕ) (n : ℕ) → HoldsLineEnds read n → all_scalars run ≡ true → list_all (λ d. not (is_break d)) run ≡ true → HoldsLineEnds (read ++ run) n
+holds_more read run n holds scalars whole = record {
   scalars = all_scalars-append read run holds.scalars scalars;
   count = line_ends-run read run whole ∙ holds.count;
-  unreturned = ends-run read run full whole;
 }
 
 pub holds_one : (read : List ℕ) (c n : ℕ) → HoldsLineEnds read n → c < 128 → is_break c ≡ false → HoldsLineEnds (read ++ c ∷ []) n
-holds_one read c n holds low none = holds_more read (c ∷ []) n holds tt (and_from _ _ (ascii_scalar c low) refl) (and_from _ _ (ap not none) refl)
+holds_one read c n holds low none = holds_more read (c ∷ []) n holds (and_from _ _ (ascii_scalar c low) refl) (and_from _ _ (ap not none) refl)
 
--- a line end counts as one more, with CR or without
+pub one_unreturned : (read : List ℕ) (c : ℕ) → is_break c ≡ false → ends is_return (read ++ c ∷ []) ≡ false
+one_unreturned read c none = ends-run read (c ∷ []) tt (and_from _ _ (ap not none) refl)
+
+-- a line end counts as one more, with CR or without, and so does CR alone
 feed_counts : counts_after false 10 ≡ 1
 unfolding counts_after is_return is_line_feed
 feed_counts = refl
 
-return_counts : counts_after false 13 ≡ 1
+return_counts : (after : Bool) → counts_after after 13 ≡ 1
 unfolding counts_after is_return
-return_counts = refl
+return_counts after = refl
 
 returned_feed_counts : counts_after true 10 ≡ 0
 unfolding counts_after is_return is_line_feed
@@ -95,29 +101,41 @@ pub feed_unreturned : is_return 10 ≡ false
 unfolding is_return
 feed_unreturned = refl
 
-return_returns : is_return 13 ≡ true
+pub return_returns : is_return 13 ≡ true
 unfolding is_return
 return_returns = refl
 
-pub holds_line_end : (returned : Bool) (read : List ℕ) (n : ℕ) → HoldsLineEnds read n → HoldsLineEnds (read ++ line_end_of returned) (n + 1)
-holds_line_end false read n holds =
-    let one : counts_after (ends is_return read) 10 ≡ 1 = ap (λ (b : Bool). counts_after b 10) holds.unreturned ∙ feed_counts in
+pub holds_return : (read : List ℕ) (n : ℕ) → HoldsLineEnds read n → HoldsLineEnds (read ++ 13 ∷ []) (n + 1)
+holds_return read n holds = record {
+  scalars = all_scalars-append read (13 ∷ []) holds.scalars (and_from _ _ (ascii_scalar 13 (lit< tt)) refl);
+  count = omega (arith, line_ends-step read 13, return_counts (ends is_return read), holds.count);
+}
+
+-- the byte that it begins with
+abbrev pub line_end_first : Bool → ℕ
+line_end_first true = 13
+line_end_first false = 10
+
+pub holds_line_end : (returned : Bool) (read : List ℕ) (n : ℕ) → HoldsLineEnds read n → (line_end_first returned ≡ 10 → ends is_return read ≡ false) → HoldsLineEnds (read ++ line_end_of returned) (n + 1)
+holds_line_end false read n holds parted =
+    let one : counts_after (ends is_return read) 10 ≡ 1 = ap (λ (b : Bool). counts_after b 10) (parted refl) ∙ feed_counts in
     record {
       scalars = all_scalars-append read (10 ∷ []) holds.scalars (and_from _ _ (ascii_scalar 10 (lit< tt)) refl);
       count = omega (arith, line_ends-step read 10, one, holds.count);
-      unreturned = ends-last is_return read 10 ∙ feed_unreturned;
     }
-holds_line_end true read n holds =
+holds_line_end true read n holds parted =
     let mid : List ℕ = read ++ 13 ∷ [] in
-    let one : counts_after (ends is_return read) 13 ≡ 1 = ap (λ (b : Bool). counts_after b 13) holds.unreturned ∙ return_counts in
+    let first = holds_return read n holds in
     let none : counts_after (ends is_return mid) 10 ≡ 0 = ap (λ (b : Bool). counts_after b 10) (ends-last is_return read 13 ∙ return_returns) ∙ returned_feed_counts in
-    let fine : all_scalars mid ≡ true = all_scalars-append read (13 ∷ []) holds.scalars (and_from _ _ (ascii_scalar 13 (lit< tt)) refl) in
     subst (λ (t : List ℕ). HoldsLineEnds t (n + 1)) (append_assoc read (13 ∷ []) (10 ∷ []))
     (record {
-      scalars = all_scalars-append mid (10 ∷ []) fine (and_from _ _ (ascii_scalar 10 (lit< tt)) refl);
-      count = omega (arith, line_ends-step mid 10, none, line_ends-step read 13, one, holds.count);
-      unreturned = ends-last is_return mid 10 ∙ feed_unreturned;
+      scalars = all_scalars-append mid (10 ∷ []) first.scalars (and_from _ _ (ascii_scalar 10 (lit< tt)) refl);
+      count = omega (arith, line_ends-step mid 10, none, first.count);
     })
+
+pub line_end_unreturned : (returned : Bool) (read : List ℕ) → ends is_return (read ++ line_end_of returned) ≡ false
+line_end_unreturned false read = ends-last is_return read 10 ∙ feed_unreturned
+line_end_unreturned true read = ap (ends is_return) (sym (append_assoc read (13 ∷ []) (10 ∷ []))) ∙ ends-last is_return (read ++ 13 ∷ []) 10 ∙ feed_unreturned
 
 -- where the machine has come, it is sound
 pub come_sound : (read : List ℕ) (n : ℕ) (st : List Bracket) (s : Scanned) → HasCome read n st s → IsScanSound s read
@@ -190,7 +208,7 @@ module _ (read : List ℕ) (n : ℕ) (st : List Bracket) (c : ℕ) (on : EndsBef
   closed_stack = stack_closed on.state.mode on.state.done on.state.held st on.come.stacked
 
   pub closed_line : EndsNoLine 0 pieces
-  closed_line = closed_one_line on.state.mode on.state.done on.state.held st on.come.stacked on.come.one_line (λ is. absurd (on.other is))
+  closed_line = closed_one_line on.state.mode on.state.done on.state.held st on.come.stacked on.come.one_line on.inside
 
   begins_as : (start : Start) → start_of c ≡ start → scan_steps (Some (line_start modes.Free)) (read ++ c ∷ []) ≡ started pieces c start
   begins_as start is = steps_push (line_start modes.Free) read on.state c on.come.steps ∙ begin on.state c start on.breaks is
@@ -210,7 +228,13 @@ module _ (read : List ℕ) (n : ℕ) (st : List Bracket) (c : ℕ) (on : EndsBef
       holds = holds_one read c n on.come.holds (operator_ascii c is) (operator-no_break c is);
     };
     tail = apart_tail (tail_of (read ++ c ∷ [])) modes.Free refl (no_tail read c (operator-no-word c is));
+    unreturned = one_unreturned read c (operator-no_break c is);
   }
+
+-- a line that goes on, before whatever follows
+pub stands : (rest read : List ℕ) (n : ℕ) (st : List Bracket) → GoesOnAfter read n st → StandsBefore rest read n st
+stands [] read n st on = on
+stands (c ∷ rest) read n st on = inl on
 
 -- a line end
 feed_is_feed : is_line_feed 10 ≡ true
@@ -220,10 +244,8 @@ return_closes : meet_of modes.Return 10 ≡ moves.Closes
 unfolding meet_of move_of
 return_closes = rw feed_is_feed refl
 
--- the byte that it begins with
-abbrev line_end_first : Bool → ℕ
-line_end_first true = 13
-line_end_first false = 10
+return_opens : (read : List ℕ) (n : ℕ) (st : List Bracket) (on : EndsBefore 13 read n st) → scan_steps (Some (line_start modes.Free)) (read ++ 13 ∷ []) ≡ Some (scanned (pieces read n st 13 on) modes.Return (13 ∷ []))
+return_opens read n st on = begins_as read n st 13 on (starts.Open modes.Return) (start-return 13 return_returns)
 
 line_end_steps : (returned : Bool) (read : List ℕ) (n : ℕ) (st : List Bracket) (on : EndsBefore (line_end_first returned) read n st)
     → scan_steps (Some (line_start modes.Free)) (read ++ line_end_of returned) ≡ Some (fresh (pieces read n st (line_end_first returned) on ++ piece line_end (line_end_of returned) ∷ []))
@@ -231,45 +253,92 @@ line_end_steps false read n st on = begins_as read n st 10 on starts.LineEnd (st
 line_end_steps true read n st on =
     let open_return : Scanned = scanned (pieces read n st 13 on) modes.Return (13 ∷ []) in
     ap (scan_steps (Some (line_start modes.Free))) (sym (append_assoc read (13 ∷ []) (10 ∷ [])))
-    ∙ steps_push (line_start modes.Free) (read ++ 13 ∷ []) open_return 10 (begins_as read n st 13 on (starts.Open modes.Return) (start-return 13 return_returns))
+    ∙ steps_push (line_start modes.Free) (read ++ 13 ∷ []) open_return 10 (return_opens read n st on)
     ∙ ap (moved open_return 10) return_closes
+
+line_is : (read : List ℕ) (n c : ℕ) (on : EndsBefore c read n []) (text : List ℕ) → AreLine (pieces read n [] c on) (piece line_end text) (byte_len text)
+line_is read n c on text =
+    let stack = closed_stack read n [] c on in
+    record {
+      one_line = closed_line read n [] c on;
+      class = refl;
+      level = none_level (pieces read n [] c on) [] stack refl;
+      paired = stack;
+      size = refl;
+    }
 
 pub no_tail_line_end : (returned : Bool) (read : List ℕ) → tail_of (read ++ line_end_of returned) ≡ None
 no_tail_line_end false read = no_tail read 10 feed-no-word
 no_tail_line_end true read = ap tail_of (sym (append_assoc read (13 ∷ []) (10 ∷ []))) ∙ no_tail (read ++ 13 ∷ []) 10 feed-no-word
 
-line_end_passed : (returned : Bool) (read : List ℕ) (n : ℕ) (st : List Bracket) → EndsBefore (line_end_first returned) read n st → IsAfterLineEnd st (read ++ line_end_of returned) (n + 1)
-line_end_passed returned read n [] on =
+line_end_passed : (returned : Bool) (after read : List ℕ) (n : ℕ) (st : List Bracket) → EndsBefore (line_end_first returned) read n st → IsAfterLineEnd st (read ++ line_end_of returned) (n + 1) after
+line_end_passed returned after read n [] on =
     let done = pieces read n [] (line_end_first returned) on in
-    let stack = closed_stack read n [] (line_end_first returned) on in
     record {
       body = done;
       last = piece line_end (line_end_of returned);
       len = byte_len (line_end_of returned);
-      are = record {
-        one_line = closed_line read n [] (line_end_first returned) on;
-        class = refl;
-        level = none_level done [] stack refl;
-        paired = stack;
-        size = refl;
-      };
+      are = line_is read n (line_end_first returned) on (line_end_of returned);
+      state = fresh (done ++ piece line_end (line_end_of returned) ∷ []);
       steps = line_end_steps returned read n [] on;
-      holds = holds_line_end returned read n on.come.holds;
+      ended = inl refl;
+      whole = inl (line_end_unreturned returned read);
+      holds = holds_line_end returned read n on.come.holds on.parted;
       tail = no_tail_line_end returned read;
     }
-line_end_passed returned read n (b ∷ bs) on =
+line_end_passed returned after read n (b ∷ bs) on =
     let stack = closed_stack read n (b ∷ bs) (line_end_first returned) on in
     let done = pieces read n (b ∷ bs) (line_end_first returned) on in
-    record {
+    stands after (read ++ line_end_of returned) (n + 1) (b ∷ bs)
+    (record {
       state = fresh (done ++ piece line_end (line_end_of returned) ∷ []);
       come = record {
         steps = line_end_steps returned read n (b ∷ bs) on;
         stacked = keeps done (piece line_end (line_end_of returned)) (b ∷ bs) refl refl stack;
         one_line = EndsNoLine-push 0 done (piece line_end (line_end_of returned)) (closed_line read n (b ∷ bs) (line_end_first returned) on) (depth_none done (b ∷ bs) stack);
-        holds = holds_line_end returned read n on.come.holds;
+        holds = holds_line_end returned read n on.come.holds on.parted;
       };
       tail = apart_tail (tail_of (read ++ line_end_of returned)) modes.Free refl (no_tail_line_end returned read);
+      unreturned = line_end_unreturned returned read;
+    })
+
+-- CR alone, before another byte: the machine holds it yet
+return_waits : (c : ℕ) → (c ≡ 10 → ⊥) → meet_of modes.Return c ≡ moves.Breaks
+unfolding meet_of move_of
+return_waits c other = rw (false_from_ne_true (is_line_feed c) (λ feeds. other (feed_is c feeds))) refl
+
+pub no_tail_return : (read : List ℕ) → tail_of (read ++ 13 ∷ []) ≡ None
+no_tail_return read = no_tail read 13 return-no-word
+
+return_passed : (after read : List ℕ) (n : ℕ) (st : List Bracket) → BeginOther after → EndsBefore 13 read n st → IsAfterLineEnd st (read ++ 13 ∷ []) (n + 1) after
+return_passed [] read n st other on = absurd other
+return_passed (c ∷ cs) read n [] other on =
+    let done = pieces read n [] 13 on in
+    record {
+      body = done;
+      last = piece line_end (13 ∷ []);
+      len = byte_len (13 ∷ []);
+      are = line_is read n 13 on (13 ∷ []);
+      state = scanned done modes.Return (13 ∷ []);
+      steps = return_opens read n [] on;
+      ended = inr (refl, refl);
+      whole = inr (c, cs, refl, other);
+      holds = holds_return read n on.come.holds;
+      tail = no_tail_return read;
     }
+return_passed (c ∷ cs) read n (b ∷ bs) other on = inr (record {
+  state = scanned (pieces read n (b ∷ bs) 13 on) modes.Return (13 ∷ []);
+  come = record {
+    steps = return_opens read n (b ∷ bs) on;
+    stacked = closed_stack read n (b ∷ bs) 13 on;
+    one_line = closed_line read n (b ∷ bs) 13 on;
+    holds = holds_return read n on.come.holds;
+  };
+  breaks = return_waits c other;
+  parted = λ feeds. absurd (other feeds);
+  inside = λ is. refl;
+  tail = λ begins. no_tail_return read;
+})
 
 -- a byte that begins neither a word nor a string
 pub neither : (a b : Bool) → a ≡ false → b ≡ false → a || b ≡ false
@@ -284,7 +353,8 @@ code_ends read n st c on word quote space none =
       state = on.state;
       come = on.come;
       breaks = code_breaks on.state.mode c code word quote space;
-      other = code_other on.state.mode code;
+      parted = λ feeds. on.unreturned;
+      inside = λ is. absurd (code_other on.state.mode code is);
       tail = λ is. absurd (both_ways _ (neither _ _ none quote) is);
     }
 
@@ -329,8 +399,11 @@ no_break_from c h = go (is_break c) h
     go false e = refl
     go true e = sym e
 
+word-not-break : (c : ℕ) → is_ascii_word c ≡ true → is_break c ≡ false
+word-not-break c is = no_break_from c (word_whole c is)
+
 word_holds : (read : List ℕ) (n c : ℕ) → HoldsLineEnds read n → is_ascii_word c ≡ true → HoldsLineEnds (read ++ c ∷ []) n
-word_holds read n c holds is = holds_one read c n holds (word_byte_low c is) (no_break_from c (word_whole c is))
+word_holds read n c holds is = holds_one read c n holds (word_byte_low c is) (word-not-break c is)
 
 one_tail : (read : List ℕ) (c : ℕ) → tail_of read ≡ None → is_ascii_word c ≡ true → tail_of (read ++ c ∷ []) ≡ Some (first_spelling c)
 one_tail read c none is = tail_push read c ∙ ap (λ t. tail_with t c) none ∙ rw is refl
@@ -343,6 +416,7 @@ word_opens read n st c is none on = record {
   state = scanned (pieces read n st c on) (modes.Word (first_spelling c)) (c ∷ []);
   come = opens read n st c on (modes.Word (first_spelling c)) (start-word c (word_starts c is)) (word_holds read n c on.come.holds is);
   tail = subst (λ t. IsTail t (modes.Word (first_spelling c))) (sym (one_tail read c none is)) refl;
+  unreturned = one_unreturned read c (word-not-break c is);
 }
 
 word_goes_on : (read : List ℕ) (n : ℕ) (st : List Bracket) (done : List Piece) (s : Spelling) (held : List ℕ) → tail_of read ≡ Some s → HasCome read n st (scanned done (modes.Word s) held) → (c : ℕ) → is_ascii_word c ≡ true → GoesOnAfter (read ++ c ∷ []) n st
@@ -355,17 +429,19 @@ word_goes_on read n st done s held some come c is = record {
     holds = word_holds read n c come.holds is;
   };
   tail = subst (λ t. IsTail t (modes.Word (spelling_with s c))) (sym (more_tail read s c some is)) refl;
+  unreturned = one_unreturned read c (word-not-break c is);
 }
 
-word_passed : (read : List ℕ) (n : ℕ) (st : List Bracket) (t : Option Spelling) (s : Scanned) → tail_of read ≡ t → HasCome read n st s → IsTail t s.mode → (c : ℕ) → is_ascii_word c ≡ true → GoesOnAfter (read ++ c ∷ []) n st
-word_passed read n st None s none come apart c is = word_opens read n st c is none (record {
+word_passed : (read : List ℕ) (n : ℕ) (st : List Bracket) (t : Option Spelling) (s : Scanned) → tail_of read ≡ t → HasCome read n st s → IsTail t s.mode → ends is_return read ≡ false → (c : ℕ) → is_ascii_word c ≡ true → GoesOnAfter (read ++ c ∷ []) n st
+word_passed read n st None s none come apart unreturned c is = word_opens read n st c is none (record {
   state = s;
   come = come;
   breaks = apart_breaks s.mode c apart (word-not-space c is);
-  other = code_other s.mode (apart_code s.mode apart);
+  parted = λ feeds. unreturned;
+  inside = λ returns. absurd (code_other s.mode (apart_code s.mode apart) returns);
   tail = λ _. none;
 })
-word_passed read n st (Some w) s some come tail c is =
+word_passed read n st (Some w) s some come tail unreturned c is =
     word_goes_on read n st s.done w s.held some (subst (λ (m : Mode). HasCome read n st (scanned s.done m s.held)) tail come) c is
 
 -- a space
@@ -376,31 +452,36 @@ space_grows c is = rw is refl
 space-not-word : (c : ℕ) → is_space c ≡ true → is_word_character c ≡ false
 space-not-word c is = word_byte_continues c (space_low c is) ∙ space-no-word c is
 
+space-not-break : (c : ℕ) → is_space c ≡ true → is_break c ≡ false
+space-not-break c is = no_break_from c (space_whole c is)
+
 space_holds : (read : List ℕ) (n c : ℕ) → HoldsLineEnds read n → is_space c ≡ true → HoldsLineEnds (read ++ c ∷ []) n
-space_holds read n c holds is = holds_one read c n holds (space_low c is) (no_break_from c (space_whole c is))
+space_holds read n c holds is = holds_one read c n holds (space_low c is) (space-not-break c is)
 
 space_opens : (read : List ℕ) (n : ℕ) (st : List Bracket) (c : ℕ) → is_space c ≡ true → EndsBefore c read n st → GoesOnAfter (read ++ c ∷ []) n st
 space_opens read n st c is on = record {
   state = scanned (pieces read n st c on) modes.Space (c ∷ []);
   come = opens read n st c on modes.Space (start-space c is) (space_holds read n c on.come.holds is);
   tail = apart_tail (tail_of (read ++ c ∷ [])) modes.Space refl (no_tail read c (space-no-word c is));
+  unreturned = one_unreturned read c (space-not-break c is);
 }
 
 word_ends : (s : Spelling) (c : ℕ) → is_word_character c ≡ false → is_quote c ≡ false → meet_of (modes.Word s) c ≡ moves.Breaks
 unfolding meet_of
 word_ends s c word quote = rw (word, quote) refl
 
-space_begins : (read : List ℕ) (n : ℕ) (st : List Bracket) (done : List Piece) (m : Mode) (held : List ℕ) → HasCome read n st (scanned done m held) → is_code_mode m ≡ true → (c : ℕ) → is_space c ≡ true → meet_of m c ≡ moves.Breaks → GoesOnAfter (read ++ c ∷ []) n st
-space_begins read n st done m held come code c is breaks = space_opens read n st c is (record {
+space_begins : (read : List ℕ) (n : ℕ) (st : List Bracket) (done : List Piece) (m : Mode) (held : List ℕ) → HasCome read n st (scanned done m held) → is_code_mode m ≡ true → ends is_return read ≡ false → (c : ℕ) → is_space c ≡ true → meet_of m c ≡ moves.Breaks → GoesOnAfter (read ++ c ∷ []) n st
+space_begins read n st done m held come code unreturned c is breaks = space_opens read n st c is (record {
   state = scanned done m held;
   come = come;
   breaks = breaks;
-  other = code_other m code;
+  parted = λ feeds. unreturned;
+  inside = λ returns. absurd (code_other m code returns);
   tail = λ begins. absurd (both_ways _ (neither _ _ (space-no-word c is) (space-not-quote c is)) begins);
 })
 
-space_passed : (read : List ℕ) (n : ℕ) (st : List Bracket) (done : List Piece) (m : Mode) (held : List ℕ) → HasCome read n st (scanned done m held) → is_code_mode m ≡ true → (c : ℕ) → is_space c ≡ true → GoesOnAfter (read ++ c ∷ []) n st
-space_passed read n st done modes.Space held come code c is = record {
+space_passed : (read : List ℕ) (n : ℕ) (st : List Bracket) (done : List Piece) (m : Mode) (held : List ℕ) → HasCome read n st (scanned done m held) → is_code_mode m ≡ true → ends is_return read ≡ false → (c : ℕ) → is_space c ≡ true → GoesOnAfter (read ++ c ∷ []) n st
+space_passed read n st done modes.Space held come code unreturned c is = record {
   state = scanned done modes.Space (held ++ c ∷ []);
   come = record {
     steps = steps_push (line_start modes.Free) read (scanned done modes.Space held) c come.steps ∙ ap (moved (scanned done modes.Space held) c) (space_grows c is);
@@ -409,18 +490,19 @@ space_passed read n st done modes.Space held come code c is = record {
     holds = space_holds read n c come.holds is;
   };
   tail = apart_tail (tail_of (read ++ c ∷ [])) modes.Space refl (no_tail read c (space-no-word c is));
+  unreturned = one_unreturned read c (space-not-break c is);
 }
-space_passed read n st done modes.Free held come code c is = space_begins read n st done modes.Free held come refl c is (free_breaks modes.Free c refl)
-space_passed read n st done (modes.Word s) held come code c is = space_begins read n st done (modes.Word s) held come refl c is (word_ends s c (space-not-word c is) (space-not-quote c is))
-space_passed read n st done m held come code c is = absurd (both_ways _ refl code)
+space_passed read n st done modes.Free held come code unreturned c is = space_begins read n st done modes.Free held come refl unreturned c is (free_breaks modes.Free c refl)
+space_passed read n st done (modes.Word s) held come code unreturned c is = space_begins read n st done (modes.Word s) held come refl unreturned c is (word_ends s c (space-not-word c is) (space-not-quote c is))
+space_passed read n st done m held come code unreturned c is = absurd (both_ways _ refl code)
 
 -- a byte of words, a space, or an operator that is no bracket
 abbrev pub IsCodeByte : ℕ → Type 0
 IsCodeByte c = (is_ascii_word c ≡ true) ⊎ ((is_space c ≡ true) ⊎ ((is_operator c ≡ true) × (is_opening c ≡ false) × (is_closing c ≡ false)))
 
 code_passed : (read : List ℕ) (n : ℕ) (st : List Bracket) (c : ℕ) → IsCodeByte c → GoesOnAfter read n st → GoesOnAfter (read ++ c ∷ []) n st
-code_passed read n st c (inl word) on = word_passed read n st (tail_of read) on.state refl on.come on.tail c word
-code_passed read n st c (inr (inl space)) on = space_passed read n st on.state.done on.state.mode on.state.held on.come (tail_code (tail_of read) on.state.mode on.tail) c space
+code_passed read n st c (inl word) on = word_passed read n st (tail_of read) on.state refl on.come on.tail on.unreturned c word
+code_passed read n st c (inr (inl space)) on = space_passed read n st on.state.done on.state.mode on.state.held on.come (tail_code (tail_of read) on.state.mode on.tail) on.unreturned c space
 code_passed read n st c (inr (inr (stands, opens, closes))) on = operator_passed read n st c (operator_ends read n st c stands on) st stands (keeps_at st (byte_len read) c opens closes)
 
 code_begins : (read : List ℕ) (n : ℕ) (st : List Bracket) (c : ℕ) → IsCodeByte c → EndsBefore c read n st → GoesOnAfter (read ++ c ∷ []) n st
@@ -435,11 +517,6 @@ run_passed passes read (c ∷ cs) n st each all on =
     let parts = and_parts (passes c) (list_all passes cs) all in
     subst (λ (t : List ℕ). GoesOnAfter t n st) (append_assoc read (c ∷ []) cs) (run_passed passes (read ++ c ∷ []) cs n st each parts.1 (code_passed read n st c (each c parts.0) on))
 
--- a line that goes on, before whatever follows
-pub stands : (rest read : List ℕ) (n : ℕ) (st : List Bracket) → GoesOnAfter read n st → StandsBefore rest read n st
-stands [] read n st on = on
-stands (c ∷ rest) read n st on = inl on
-
 pub code_run : (passes : ℕ → Bool) (read run rest : List ℕ) (n : ℕ) (st : List Bracket) → ((c : ℕ) → passes c ≡ true → IsCodeByte c) → list_all passes run ≡ true → StandsBefore (run ++ rest) read n st → StandsBefore rest (read ++ run) n st
 code_run passes read [] rest n st each all on = subst (λ (t : List ℕ). StandsBefore rest t n st) (sym (append-nil read)) on
 code_run passes read (c ∷ cs) rest n st each all (inl on) = stands rest (read ++ c ∷ cs) n st (run_passed passes read (c ∷ cs) n st each all on)
@@ -453,12 +530,20 @@ ends_so read rest n st c ends (inl on) = ends on
 ends_so read rest n st c ends (inr on) = on
 
 -- over a line end, before which code ends, or a piece that ends there
-line_end_next : (returned : Bool) (rest read : List ℕ) (n : ℕ) (st : List Bracket) → StandsBefore (line_end_of returned ++ rest) read n st → EndsBefore (line_end_first returned) read n st
-line_end_next true rest read n st on = ends_so read (10 ∷ rest) n st 13 (break_ends read n st 13 (first-break true)) on
-line_end_next false rest read n st on = ends_so read rest n st 10 (break_ends read n st 10 (first-break false)) on
+break_next : (rest read : List ℕ) (n : ℕ) (st : List Bracket) (c : ℕ) → is_break c ≡ true → StandsBefore (c ∷ rest) read n st → EndsBefore c read n st
+break_next rest read n st c is on = ends_so read rest n st c (break_ends read n st c is) on
 
-pub line_end_on : (returned : Bool) (rest read : List ℕ) (n : ℕ) (st : List Bracket) → StandsBefore (line_end_of returned ++ rest) read n st → IsAfterLineEnd st (read ++ line_end_of returned) (n + 1)
-line_end_on returned rest read n st on = line_end_passed returned read n st (line_end_next returned rest read n st on)
+line_end_next : (returned : Bool) (rest read : List ℕ) (n : ℕ) (st : List Bracket) → StandsBefore (line_end_of returned ++ rest) read n st → EndsBefore (line_end_first returned) read n st
+line_end_next true rest read n st on = break_next (10 ∷ rest) read n st 13 (first-break true) on
+line_end_next false rest read n st on = break_next rest read n st 10 (first-break false) on
+
+pub line_end_on : (text after read : List ℕ) (n : ℕ) (st : List Bracket) → IsOuterEnd text after → StandsBefore (text ++ after) read n st → IsAfterLineEnd st (read ++ text) (n + 1) after
+line_end_on text after read n st (inl (returned, is)) on =
+    subst (λ (t : List ℕ). IsAfterLineEnd st (read ++ t) (n + 1) after) (sym is)
+    (line_end_passed returned after read n st (line_end_next returned after read n st (subst (λ (t : List ℕ). StandsBefore (t ++ after) read n st) is on)))
+line_end_on text after read n st (inr (is, other)) on =
+    subst (λ (t : List ℕ). IsAfterLineEnd st (read ++ t) (n + 1) after) (sym is)
+    (return_passed after read n st other (break_next after read n st 13 (first-break true) (subst (λ (t : List ℕ). StandsBefore (t ++ after) read n st) is on)))
 
 -- bytes of code are ASCII
 pub code_low : (c : ℕ) → IsCodeByte c → c < 128
@@ -493,6 +578,7 @@ tail-encoded t (c ∷ cs) =
 pub begun : GoesOnAfter [] 0 []
 begun = record {
   state = line_start modes.Free;
-  come = record { steps = refl; stacked = refl; one_line = tt; holds = record { scalars = refl; count = refl; unreturned = refl } };
+  come = record { steps = refl; stacked = refl; one_line = tt; holds = record { scalars = refl; count = refl } };
   tail = refl;
+  unreturned = refl;
 }

@@ -15,7 +15,7 @@ use Rattle.py_lines.specs.Private.Outline.{EndsBefore, GoesOnAfter, IsInPiece, P
 use Rattle.py_lines.proofs.Machine.Starts.{start-hash}
 use Rattle.py_lines.proofs.Text.CharacterTests.{the_one}
 use Rattle.py_lines.proofs.LineScan.Runs.{word_byte_continues}
-use Rattle.py_lines.proofs.SimpleLines.Code.{break-begins_none, code_ends, ends_so, holds_one, opens, pieces}
+use Rattle.py_lines.proofs.SimpleLines.Code.{break-begins_none, code_ends, ends_so, holds_one, one_unreturned, opens, pieces}
 use Rattle.py_lines.proofs.SimpleLines.Runs.{goes_on, stay_spelled}
 
 hash_is : (c : ℕ) → is_hash c ≡ true → c ≡ 35
@@ -54,6 +54,7 @@ comment_opens read n st on = record {
   done = pieces read n st 35 on;
   held = 35 ∷ [];
   come = opens read n st 35 on modes.Comment (start-hash 35 hash_hash) (holds_one read 35 n on.come.holds (omega arith) hash-not-break);
+  unreturned = one_unreturned read 35 hash-not-break;
 }
 
 -- it ends before CR and LF
@@ -66,7 +67,8 @@ comment_ends read n st c is on = record {
   state = record { done = on.done; mode = modes.Comment; held = on.held };
   come = on.come;
   breaks = comment_breaks c is;
-  other = λ returns. cc;
+  parted = λ feeds. on.unreturned;
+  inside = λ returns. absurd (cc);
   tail = λ begins. absurd (both_ways _ (break-begins_none c is) begins);
 }
 

@@ -5,9 +5,9 @@ use Rattle.std.proofs.lemmas.Bool.{and_from}
 use Rattle.std.proofs.lemmas.List.Folds.{list_all-append}
 use Rattle.std.proofs.Math.Seq.{take-append_seam}
 use Rattle.py_lines.specs.Balance.{depth_through}
-use Rattle.py_lines.specs.Character.{is_break, is_quote}
+use Rattle.py_lines.specs.Character.{is_break, is_quote, is_return}
 use Rattle.py_lines.specs.FieldStrings.{is_field_prefix, literal}
-use Rattle.py_lines.specs.Piece.{string, Piece}
+use Rattle.py_lines.specs.Piece.{ends, string, Piece}
 use Rattle.py_lines.specs.declared.host.StringWithFields.{StringWithFields}
 use Rattle.py_lines.specs.declared.mode.Mode.{Mode}
 use Rattle.py_lines.specs.declared.mode.Mode.TheVariants as modes
@@ -28,13 +28,13 @@ use Rattle.py_lines.proofs.LineScan.Increments.{EndsNoLine-push}
 use Rattle.py_lines.proofs.LineScan.Runs.{quote_ascii, string_no_break}
 use Rattle.py_lines.proofs.LineScan.ShortPieces.{is_low, is_low_from, low_encodes, low_is, quote-no_break}
 use Rattle.py_lines.proofs.LineScan.WholeStrings.{at_body, quoted_steps}
-use Rattle.py_lines.proofs.SimpleLines.Code.{apart_tail, come_sound, holds_more, no_tail, quote-no-word, stands}
+use Rattle.py_lines.proofs.SimpleLines.Code.{apart_tail, come_sound, holds_more, no_tail, one_unreturned, quote-no-word, stands}
 
 -- the word that is open is its prefix
 pub word_open : (rest read : List ℕ) (n : ℕ) (st : List Bracket) (q : ℕ) (s : Spelling) → tail_of read ≡ Some s → is_quote q ≡ true → StandsBefore (q ∷ rest) read n st → IsInPiece (modes.Word s) read n st
 word_open rest read n st q s tail quote (inl on) =
     let is : on.state.mode ≡ modes.Word s = subst (λ t. IsTail t on.state.mode) tail on.tail in
-    subst (λ (m : Mode). IsInPiece m read n st) is (record { done = on.state.done; held = on.state.held; come = on.come })
+    subst (λ (m : Mode). IsInPiece m read n st) is (record { done = on.state.done; held = on.state.held; come = on.come; unreturned = on.unreturned })
 word_open rest read n st q s tail quote (inr on) = absurd (let none = sym tail ∙ on.tail (rw (quote-no-word q quote, quote) refl) in cc)
 
 -- the machine goes through the string
@@ -70,11 +70,12 @@ module _ (s : Spelling) (field : is_field_spelling s ≡ true) (q : ℕ) (quote 
               ∙ ap (λ (t : Spelling). scan_steps (Some (scanned done (modes.Word t) (c ∷ cs))) run) is ∙ quoted_steps done shallow c cs begun q quote d ds u through end;
           stacked = keeps done text st refl refl come.stacked;
           one_line = EndsNoLine-push 0 done text come.one_line refl;
-          holds = holds_more read run n come.holds tt
+          holds = holds_more read run n come.holds
               (low_encodes is_low run low_is (and_from _ _ quote_low (list_all-append is_low (d ∷ ds) (q ∷ []) ∙ and_from _ _ low (and_from _ _ quote_low refl)))).1
               (and_from _ _ quote_whole (list_all-append (λ e. not (is_break e)) (d ∷ ds) (q ∷ []) ∙ and_from _ _ whole (and_from _ _ quote_whole refl)));
         };
         tail = apart_tail (tail_of (read ++ run)) modes.Free refl no_word;
+        unreturned = ap (ends is_return) (sym (append_assoc read (q ∷ d ∷ ds) (q ∷ []))) ∙ one_unreturned (read ++ q ∷ d ∷ ds) q (quote-no_break q quote);
       }
 
   from_held : (done : List Piece) (held : List ℕ) → HasCome read n st (scanned done (modes.Word s) held) → HoldsOpen (modes.Word s) done held → GoesOnAfter (read ++ run) n st

@@ -1,8 +1,8 @@
 -- The bytes that a slice begins with: one, two or three of them, or a line end.
-use Rattle.std.proofs.Common.{◌≡◌, ℕ, ◌+◌, ◌<◌, Bool, true, false, Some, List, [], ◌∷◌, ◌++◌, length, take, drop, slice_index, refl, ap, ◌∙◌, arith}
+use Rattle.std.proofs.Common.{◌≡◌, ℕ, ◌+◌, ◌<◌, inl, inr, Bool, true, false, Option, None, Some, List, [], ◌∷◌, ◌++◌, length, take, drop, slice_index, refl, ap, ◌∙◌, arith}
 use Rattle.std.specs.List.{list_all}
 use Rattle.std.proofs.Math.Seq.{take-add}
-use Rattle.py_lines.specs.Private.Outline.{BeginsLong, HasLineEnd, line_end_of}
+use Rattle.py_lines.specs.Private.Outline.{BeginsLong, HasLineEnd, HasOuterEnd, IsOuterEnd, line_end_of}
 use Rattle.py_lines.proofs.LineScan.ShortPieces.{is_low}
 
 pub taken_one : (bytes : List ℕ) → 0 < length bytes → take 1 bytes ≡ slice_index bytes 0 ∷ []
@@ -47,3 +47,21 @@ returned_found bytes within first second = record {
 pub line_end_low : (returned : Bool) → list_all is_low (line_end_of returned) ≡ true
 line_end_low true = refl
 line_end_low false = refl
+
+-- so one outside strings, which has one byte at least
+pub outer_end_low : (text after : List ℕ) → IsOuterEnd text after → list_all is_low text ≡ true
+outer_end_low text after (inl (returned, is)) = ap (list_all is_low) is ∙ line_end_low returned
+outer_end_low text after (inr (is, other)) = ap (list_all is_low) is
+
+pub outer_found : (bytes : List ℕ) (found : Option ℕ) → HasLineEnd bytes found → HasOuterEnd bytes found
+outer_found bytes None has = tt
+outer_found bytes (Some len) has = record { some = has.some; within = has.within; is = inl (has.returned, has.spell) }
+
+pub return_found : (bytes : List ℕ) → 1 < length bytes → slice_index bytes 0 ≡ 13 → (slice_index bytes 1 ≡ 10 → ⊥) → HasOuterEnd bytes (Some 1)
+return_found [] within first other = absurd (omega (arith, within))
+return_found (b ∷ []) within first other = absurd (omega (arith, within))
+return_found (b ∷ c ∷ cs) within first other = record {
+  some = omega arith;
+  within = omega arith;
+  is = inr (ap (λ (d : ℕ). d ∷ []) first, other);
+}

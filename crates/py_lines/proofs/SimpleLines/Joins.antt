@@ -1,8 +1,8 @@
 -- A join of two lines is passed over: the machine goes through the backslash and the line end.
-use Rattle.std.proofs.Common.{◌≡◌, ℕ, suc, ◌+◌, ◌-◌, ◌<◌, Bool, true, false, Some, List, [], ◌∷◌, ◌++◌, length, take, drop, slice_index, refl, sym, ap, ◌∙◌, subst, append_assoc, arith, take_all}
-use Rattle.std.specs.List.{list_all}
+use Rattle.std.proofs.Common.{◌≡◌, ℕ, suc, ◌+◌, ◌-◌, ◌<◌, inl, inr, Bool, true, false, Some, List, [], ◌∷◌, ◌++◌, length, take, drop, slice_index, refl, sym, ap, ◌∙◌, subst, append_assoc, arith, take_all}
+use Rattle.std.proofs.lemmas.Bool.{false_from_ne_true}
 use Rattle.py_lines.specs.Character.{is_backslash, is_break, is_line_feed, is_quote, is_return, is_space, is_word_character}
-use Rattle.py_lines.specs.Piece.{join}
+use Rattle.py_lines.specs.Piece.{Piece, join}
 use Rattle.py_lines.proofs.Pieces.PieceLists.{piece}
 use Rattle.py_lines.specs.declared.mode.Mode.TheVariants as modes
 use Rattle.py_lines.specs.declared.mode.Move.TheVariants as moves
@@ -10,7 +10,7 @@ use Rattle.py_lines.specs.Private.Machine.{Bracket, fresh, move_of, moved}
 use Rattle.py_lines.specs.Private.ScanMachine.{meet_of, scan_steps}
 use Rattle.py_lines.specs.Private.Scan.{line_start}
 use Rattle.py_lines.specs.Private.Run.{is_ascii_word}
-use Rattle.py_lines.specs.Private.Outline.{BeginsLineEnd, EndsBefore, GoesOnAfter, HasCome, HasLineEnd, Passes, StandsBefore, line_end_of}
+use Rattle.py_lines.specs.Private.Outline.{BeginsOuterEnd, EndsBefore, GoesOnAfter, HasCome, HasOuterEnd, IsOuterEnd, Passes, StandsBefore, line_end_of}
 use Rattle.py_lines.proofs.Machine.LiveTexts.{keeps}
 use Rattle.py_lines.proofs.Machine.PieceSteps.{scanned}
 use Rattle.py_lines.proofs.Machine.Starts.{start-slash}
@@ -18,8 +18,9 @@ use Rattle.py_lines.proofs.LineScan.Increments.{EndsNoLine-push}
 use Rattle.py_lines.proofs.LineScan.LineSteps.{steps_push}
 use Rattle.py_lines.proofs.LineScan.Runs.{word_byte_continues}
 use Rattle.py_lines.proofs.LineScan.ShortPieces.{is_low, low_encodes, low_is}
-use Rattle.py_lines.proofs.Text.CharacterTests.{the_one}
-use Rattle.py_lines.proofs.SimpleLines.Code.{apart_tail, closed_line, code_ends, ends_so, holds_line_end, holds_one, no_tail_line_end, opens, pieces, stands}
+use Rattle.py_lines.proofs.Text.CharacterTests.{feed_is, the_one}
+use Rattle.py_lines.proofs.SimpleLines.Code.{apart_tail, closed_line, code_ends, ends_so, holds_line_end, holds_one, holds_return, line_end_unreturned, no_tail_line_end, no_tail_return, one_unreturned, opens, pieces, stands}
+use Rattle.py_lines.proofs.SimpleLines.FirstBytes.{outer_end_low}
 
 slash_is : (c : ℕ) → is_backslash c ≡ true → c ≡ 92
 unfolding is_backslash
@@ -63,44 +64,65 @@ returned_closes : meet_of modes.JoinReturn 10 ≡ moves.Closes
 unfolding meet_of move_of is_line_feed
 returned_closes = refl
 
--- what it spells
-abbrev join_of : Bool → List ℕ
-join_of returned = 92 ∷ line_end_of returned
+returned_waits : (c : ℕ) → (c ≡ 10 → ⊥) → meet_of modes.JoinReturn c ≡ moves.Breaks
+unfolding meet_of move_of
+returned_waits c other = rw (false_from_ne_true (is_line_feed c) (λ feeds. other (feed_is c feeds))) refl
 
 module _ (read : List ℕ) (n : ℕ) (st : List Bracket) (on : EndsBefore 92 read n st) where
-  opened : HasCome (read ++ 92 ∷ []) n st (scanned (pieces read n st 92 on) modes.Backslash (92 ∷ []))
+  abbrev done : List Piece
+  done = pieces read n st 92 on
+
+  opened : HasCome (read ++ 92 ∷ []) n st (scanned done modes.Backslash (92 ∷ []))
   opened = opens read n st 92 on modes.Backslash (start-slash 92 slash_slash) (holds_one read 92 n on.come.holds (omega arith) slash-not-break)
 
-  join_steps : (returned : Bool) → scan_steps (Some (line_start modes.Free)) ((read ++ 92 ∷ []) ++ line_end_of returned) ≡ Some (fresh (pieces read n st 92 on ++ piece join (join_of returned) ∷ []))
-  join_steps false = steps_push (line_start modes.Free) (read ++ 92 ∷ []) (scanned (pieces read n st 92 on) modes.Backslash (92 ∷ [])) 10 opened.steps ∙ ap (moved (scanned (pieces read n st 92 on) modes.Backslash (92 ∷ [])) 10) join_closes
+  return_steps : scan_steps (Some (line_start modes.Free)) ((read ++ 92 ∷ []) ++ 13 ∷ []) ≡ Some (scanned done modes.JoinReturn (92 ∷ 13 ∷ []))
+  return_steps = steps_push (line_start modes.Free) (read ++ 92 ∷ []) (scanned done modes.Backslash (92 ∷ [])) 13 opened.steps ∙ ap (moved (scanned done modes.Backslash (92 ∷ [])) 13) join_return
+
+  join_steps : (returned : Bool) → scan_steps (Some (line_start modes.Free)) ((read ++ 92 ∷ []) ++ line_end_of returned) ≡ Some (fresh (done ++ piece join (92 ∷ line_end_of returned) ∷ []))
+  join_steps false = steps_push (line_start modes.Free) (read ++ 92 ∷ []) (scanned done modes.Backslash (92 ∷ [])) 10 opened.steps ∙ ap (moved (scanned done modes.Backslash (92 ∷ [])) 10) join_closes
   join_steps true =
-      let done = pieces read n st 92 on in
       ap (scan_steps (Some (line_start modes.Free))) (sym (append_assoc (read ++ 92 ∷ []) (13 ∷ []) (10 ∷ [])))
-      ∙ steps_push (line_start modes.Free) ((read ++ 92 ∷ []) ++ 13 ∷ []) (scanned done modes.JoinReturn (92 ∷ 13 ∷ [])) 10
-      (steps_push (line_start modes.Free) (read ++ 92 ∷ []) (scanned done modes.Backslash (92 ∷ [])) 13 opened.steps ∙ ap (moved (scanned done modes.Backslash (92 ∷ [])) 13) join_return)
+      ∙ steps_push (line_start modes.Free) ((read ++ 92 ∷ []) ++ 13 ∷ []) (scanned done modes.JoinReturn (92 ∷ 13 ∷ [])) 10 return_steps
       ∙ ap (moved (scanned done modes.JoinReturn (92 ∷ 13 ∷ [])) 10) returned_closes
 
-  join_leads : (returned : Bool) → GoesOnAfter (read ++ join_of returned) (n + 1) st
+  join_leads : (returned : Bool) → GoesOnAfter ((read ++ 92 ∷ []) ++ line_end_of returned) (n + 1) st
   join_leads returned =
-      let done = pieces read n st 92 on in
-      let whole = piece join (join_of returned) in
-      subst (λ (t : List ℕ). GoesOnAfter t (n + 1) st) (append_assoc read (92 ∷ []) (line_end_of returned))
-      (record {
+      let whole = piece join (92 ∷ line_end_of returned) in
+      record {
         state = fresh (done ++ whole ∷ []);
         come = record {
           steps = join_steps returned;
           stacked = keeps done whole st refl refl opened.stacked;
           one_line = EndsNoLine-push 0 done whole (closed_line read n st 92 on) refl;
-          holds = holds_line_end returned (read ++ 92 ∷ []) n opened.holds;
+          holds = holds_line_end returned (read ++ 92 ∷ []) n opened.holds (λ feeds. one_unreturned read 92 slash-not-break);
         };
         tail = apart_tail _ modes.Free refl (no_tail_line_end returned (read ++ 92 ∷ []));
-      })
+        unreturned = line_end_unreturned returned (read ++ 92 ∷ []);
+      }
 
-join_low : (returned : Bool) → list_all is_low (join_of returned) ≡ true
-join_low true = refl
-join_low false = refl
+  -- CR alone, before another byte
+  return_leads : (c : ℕ) → (c ≡ 10 → ⊥) → EndsBefore c ((read ++ 92 ∷ []) ++ 13 ∷ []) (n + 1) st
+  return_leads c other = record {
+    state = scanned done modes.JoinReturn (92 ∷ 13 ∷ []);
+    come = record {
+      steps = return_steps;
+      stacked = opened.stacked;
+      one_line = opened.one_line;
+      holds = holds_return (read ++ 92 ∷ []) n opened.holds;
+    };
+    breaks = returned_waits c other;
+    parted = λ feeds. absurd (other feeds);
+    inside = λ is. absurd (cc);
+    tail = λ begins. no_tail_return (read ++ 92 ∷ []);
+  }
 
-pub join_passed : (bytes : List ℕ) (len : ℕ) → 0 < length bytes → is_backslash (slice_index bytes 0) ≡ true → HasLineEnd (take (length bytes - 1) (drop 1 bytes)) (Some len)
+  joined : (text after : List ℕ) → IsOuterEnd text after → StandsBefore after ((read ++ 92 ∷ []) ++ text) (n + 1) st
+  joined text after (inl (returned, is)) =
+      subst (λ (t : List ℕ). StandsBefore after ((read ++ 92 ∷ []) ++ t) (n + 1) st) (sym is) (stands after ((read ++ 92 ∷ []) ++ line_end_of returned) (n + 1) st (join_leads returned))
+  joined text [] (inr (is, other)) = absurd other
+  joined text (c ∷ cs) (inr (is, other)) = subst (λ (t : List ℕ). StandsBefore (c ∷ cs) ((read ++ 92 ∷ []) ++ t) (n + 1) st) (sym is) (inr (return_leads c other))
+
+pub join_passed : (bytes : List ℕ) (len : ℕ) → 0 < length bytes → is_backslash (slice_index bytes 0) ≡ true → HasOuterEnd (take (length bytes - 1) (drop 1 bytes)) (Some len)
     → Passes bytes (record { len = 1 + len; line_ends = 1 }) (StandsBefore bytes) (StandsBefore (drop (1 + len) bytes))
 join_passed [] len some slash found = absurd (omega (arith, some))
 join_passed (b ∷ cs) len some slash found =
@@ -110,8 +132,8 @@ join_passed (b ∷ cs) len some slash found =
     one_more : 1 + len ≡ suc len
     one_more = omega arith
 
-    ends : BeginsLineEnd cs len
-    ends = subst (λ (l : List ℕ). BeginsLineEnd l len) (take_all (length (b ∷ cs) - 1) cs (omega arith)) found
+    ends : BeginsOuterEnd cs len
+    ends = subst (λ (l : List ℕ). BeginsOuterEnd l len) (take_all (length (b ∷ cs) - 1) cs (omega arith)) found
 
     passes : Passes (92 ∷ cs) (record { len = suc len; line_ends = 1 }) (StandsBefore (92 ∷ cs)) (StandsBefore (drop len cs))
     passes = record {
@@ -119,8 +141,10 @@ join_passed (b ∷ cs) len some slash found =
       few = omega arith;
       part = record {
         within = omega (arith, ends.within);
-        run = join_of ends.returned;
-        spell = (low_encodes is_low (join_of ends.returned) low_is (join_low ends.returned)).0 ∙ ap (λ t. 92 ∷ t) (sym ends.spell);
-        leads = λ read n st on. stands (drop len cs) (read ++ join_of ends.returned) (n + 1) st (join_leads read n st (ends_so read cs n st 92 (slash_ends read n st) on) ends.returned);
+        run = 92 ∷ take len cs;
+        spell = (low_encodes is_low (92 ∷ take len cs) low_is (outer_end_low (take len cs) (drop len cs) ends.is)).0;
+        leads = λ read n st on.
+            subst (λ (t : List ℕ). StandsBefore (drop len cs) t (n + 1) st) (append_assoc read (92 ∷ []) (take len cs))
+            (joined read n st (ends_so read cs n st 92 (slash_ends read n st) on) (take len cs) (drop len cs) ends.is);
       };
     }

@@ -20,7 +20,7 @@ use Rattle.py_lines.specs.Private.Machine.{Bracket, brackets_after}
 use Rattle.py_lines.specs.Private.Marks.{FindsNext, HasMarks, is_plain}
 use Rattle.py_lines.specs.Private.Run.{is_ascii_word}
 use Rattle.py_lines.specs.Private.Scan.{Meets, depth_of, none_open, stack_of}
-use Rattle.py_lines.specs.Private.Outline.{AreWholeLines, BeginsLineEnd, HasComeTo, IsAfter, IsAfterLineEnd, IsAt, IsFurther, IsPast, IsWholeLine, PassesPiece, StandsBefore, line_end_of, line_up_to, tail_of, tail_on}
+use Rattle.py_lines.specs.Private.Outline.{AreWholeLines, BeginWithLines, BeginsOuterEnd, HasComeTo, IsAfter, IsAfterLineEnd, IsAt, IsFurther, IsOuterEnd, IsPast, IsWholeLine, PassesPiece, StandsBefore, line_up_to, tail_of, tail_on}
 use Rattle.py_lines.proofs.Pieces.PieceLists.{piece}
 use Rattle.py_lines.proofs.Machine.LiveTexts.{closing-operator}
 use Rattle.py_lines.proofs.FieldMachine.PieceRuns.{opening_operator}
@@ -31,7 +31,7 @@ use Rattle.py_lines.proofs.LogicalLines.Cuts.{byte_len-append}
 use Rattle.py_lines.proofs.Text.CharacterTests.{operator_ascii}
 use Rattle.py_lines.proofs.Text.Utf8Prefixes.{all_scalars-append}
 use Rattle.py_lines.proofs.SimpleLines.Code.{IsCodeByte, begun, code_low, code_run, ends_so, line_end_on, operator_ends, operator_passed, stands, tail-encoded, tail_on-append}
-use Rattle.py_lines.proofs.SimpleLines.FirstBytes.{feed_found, line_end_low}
+use Rattle.py_lines.proofs.SimpleLines.FirstBytes.{feed_found, outer_end_low, outer_found}
 
 -- a plain byte is one of code
 plain_code : (c : ℕ) → is_plain c ≡ true → IsCodeByte c
@@ -60,14 +60,9 @@ plain_code c h = by (or_cases (is_ascii_word c) (is_space c || (is_operator c &&
     by (inl word) = inl word
     by (inr rest) = by_rest (or_cases (is_space c) (is_operator c && not (is_opening c || is_closing c)) rest)
 
--- a line end is something
-line_end_some : (returned : Bool) → 0 < length (line_end_of returned)
-line_end_some true = omega arith
-line_end_some false = omega arith
-
 -- one more line after others
-line_push : (texts : List (List ℕ)) (read line : List ℕ) (n k : ℕ) → AreWholeLines texts read n → 0 < length line → IsWholeLine line k → AreWholeLines (texts ++ line ∷ []) (read ++ line) (n + k)
-line_push [] read line n k are some whole = record {
+line_push : (texts : List (List ℕ)) (read line : List ℕ) (n k : ℕ) (after : List ℕ) → AreWholeLines texts read n (encode_utf8_all line ++ after) → 0 < length line → IsWholeLine line k after → AreWholeLines (texts ++ line ∷ []) (read ++ line) (n + k) after
+line_push [] read line n k after are some whole = record {
   later = [];
   own = k;
   more = 0;
@@ -77,44 +72,50 @@ line_push [] read line n k are some whole = record {
   whole = whole;
   lines = (refl, refl);
 }
-line_push (t ∷ texts) read line n k are some whole = record {
+line_push (t ∷ texts) read line n k after are some whole = record {
   later = are.later ++ line;
   own = are.own;
   more = are.more + k;
   some = are.some;
   spell = ap (λ u. u ++ line) are.spell ∙ append_assoc t are.later line;
   count = omega (arith, are.count);
-  whole = are.whole;
-  lines = line_push texts are.later line are.more k are.lines some whole;
+  whole =
+      subst (IsWholeLine t are.own) (sym (append_assoc (encode_utf8_all are.later) (encode_utf8_all line) after) ∙ ap (λ u. u ++ after) (sym (encodes-append are.later line)))
+      are.whole;
+  lines = line_push texts are.later line are.more k after are.lines some whole;
 }
 
 -- lines end with no word, and have no more line ends than bytes
-lines_tail : (texts : List (List ℕ)) (read : List ℕ) (n : ℕ) → AreWholeLines texts read n → tail_of read ≡ None
-lines_tail [] read n are = ap tail_of are.0
-lines_tail (t ∷ texts) read n are =
-    ap tail_of are.spell ∙ tail_on-append None t are.later ∙ ap (λ (o : Option Spelling). tail_on o are.later) are.whole.tail ∙ lines_tail texts are.later are.more are.lines
+lines_tail : (texts : List (List ℕ)) (read : List ℕ) (n : ℕ) (after : List ℕ) → AreWholeLines texts read n after → tail_of read ≡ None
+lines_tail [] read n after are = ap tail_of are.0
+lines_tail (t ∷ texts) read n after are =
+    ap tail_of are.spell ∙ tail_on-append None t are.later ∙ ap (λ (o : Option Spelling). tail_on o are.later) are.whole.tail ∙ lines_tail texts are.later are.more after are.lines
 
-pub lines_scalars : (texts : List (List ℕ)) (read : List ℕ) (n : ℕ) → AreWholeLines texts read n → all_scalars read ≡ true
-lines_scalars [] read n are = ap all_scalars are.0
-lines_scalars (t ∷ texts) read n are =
-    ap all_scalars are.spell ∙ all_scalars-append t are.later are.whole.holds.scalars (lines_scalars texts are.later are.more are.lines)
+pub lines_scalars : (texts : List (List ℕ)) (read : List ℕ) (n : ℕ) (after : List ℕ) → AreWholeLines texts read n after → all_scalars read ≡ true
+lines_scalars [] read n after are = ap all_scalars are.0
+lines_scalars (t ∷ texts) read n after are =
+    ap all_scalars are.spell ∙ all_scalars-append t are.later are.whole.holds.scalars (lines_scalars texts are.later are.more after are.lines)
 
-pub lines_few : (texts : List (List ℕ)) (read : List ℕ) (n : ℕ) → AreWholeLines texts read n → n ≤ byte_len read
-lines_few [] read n are = omega (arith, are.1)
-lines_few (t ∷ texts) read n are =
-    omega (arith, are.count, lines_few texts are.later are.more are.lines, are.whole.holds.count, line_ends-bytes t, ap byte_len are.spell, byte_len-append t are.later)
+pub lines_few : (texts : List (List ℕ)) (read : List ℕ) (n : ℕ) (after : List ℕ) → AreWholeLines texts read n after → n ≤ byte_len read
+lines_few [] read n after are = omega (arith, are.1)
+lines_few (t ∷ texts) read n after are =
+    omega (arith, are.count, lines_few texts are.later are.more after are.lines, are.whole.holds.count, line_ends-bytes t, ap byte_len are.spell, byte_len-append t are.later)
 
 -- the line end that the bytes have at a byte
-pub rest_ends : (bytes : List ℕ) (at len : ℕ) → BeginsLineEnd (take (length bytes - at) (drop at bytes)) len → BeginsLineEnd (drop at bytes) len
-rest_ends bytes at len found = subst (λ (t : List ℕ). BeginsLineEnd t len) (rest_is bytes at) found
+pub rest_ends : (bytes : List ℕ) (at len : ℕ) → BeginsOuterEnd (take (length bytes - at) (drop at bytes)) len → BeginsOuterEnd (drop at bytes) len
+rest_ends bytes at len found = subst (λ (t : List ℕ). BeginsOuterEnd t len) (rest_is bytes at) found
 
-pub end_within : (bytes : List ℕ) (at len : ℕ) → at < length bytes → BeginsLineEnd (drop at bytes) len → at + len ≤ length bytes
+pub end_within : (bytes : List ℕ) (at len : ℕ) → at < length bytes → BeginsOuterEnd (drop at bytes) len → at + len ≤ length bytes
 end_within bytes at len within ends = let fits = ends.within in omega (arith, fits, within, length-drop at bytes)
 
-pub feed_ends : (bytes : List ℕ) (at : ℕ) → at < length bytes → slice_index bytes at ≡ 10 → BeginsLineEnd (drop at bytes) 1
+pub feed_ends : (bytes : List ℕ) (at : ℕ) → at < length bytes → slice_index bytes at ≡ 10 → BeginsOuterEnd (drop at bytes) 1
 feed_ends bytes at within is =
     let here : at + 0 ≡ at = omega arith in
-    feed_found (drop at bytes) (omega (arith, within, length-drop at bytes)) (later bytes at 0 ∙ ap (λ (k : ℕ). slice_index bytes k) here ∙ is)
+    outer_found (drop at bytes) (Some 1) (feed_found (drop at bytes) (omega (arith, within, length-drop at bytes)) (later bytes at 0 ∙ ap (λ (k : ℕ). slice_index bytes k) here ∙ is))
+
+-- no line was passed
+pub none_passed : (bytes : List ℕ) → BeginWithLines bytes (record { len = 0; line_ends = 0 })
+none_passed bytes = record { within = omega arith; read = []; spell = refl; texts = []; whole = (refl, refl) }
 
 module _ (bytes : List ℕ) where
   -- no line has begun
@@ -122,7 +123,7 @@ module _ (bytes : List ℕ) where
   first_come = record {
     within = omega arith;
     ordered = omega arith;
-    lines_are = record { within = omega arith; read = []; spell = refl; texts = []; whole = (refl, refl) };
+    lines_are = none_passed bytes;
     more = 0;
     count = omega arith;
     read = [];
@@ -151,7 +152,7 @@ module _ (bytes : List ℕ) where
   same_tail lines at n st come =
       let past = come.lines_are in
       let all : lines.len + (at - lines.len) ≡ at = omega (arith, come.ordered) in
-      let none : tail_of (take lines.len bytes) ≡ None = ap tail_of (sym past.spell) ∙ tail-encoded None past.read ∙ lines_tail past.texts past.read lines.line_ends past.whole in
+      let none : tail_of (take lines.len bytes) ≡ None = ap tail_of (sym past.spell) ∙ tail-encoded None past.read ∙ lines_tail past.texts past.read lines.line_ends (drop lines.len bytes) past.whole in
       sym (ap (λ (k : ℕ). tail_of (take k bytes)) (sym all)
       ∙ ap tail_of (take-add lines.len (at - lines.len) bytes)
       ∙ tail_on-append None (take lines.len bytes) (line_up_to bytes lines at)
@@ -217,35 +218,36 @@ module _ (bytes : List ℕ) where
   piece_on lines at n st p few come (room, passes) = step lines at n p.len p.line_ends st st come room passes.part.run passes.part.spell (passes.part.leads come.read come.more st (same_tail lines at n st come, few, come.stands))
 
   -- over a line end: the line goes on where a bracket is open, and ends where none is
-  module _ (lines : Passed) (at n len : ℕ) (st : List Bracket) (come : HasComeTo bytes lines at n st) (within : at < length bytes) (ends : BeginsLineEnd (drop at bytes) len) where
+  module _ (lines : Passed) (at n len : ℕ) (st : List Bracket) (come : HasComeTo bytes lines at n st) (within : at < length bytes) (ends : BeginsOuterEnd (drop at bytes) len) where
     abbrev text : List ℕ
-    text = line_end_of ends.returned
+    text = take len (drop at bytes)
 
     room : at + len ≤ length bytes
     room = end_within bytes at len within ends
 
     spells : encode_utf8_all text ≡ take len (drop at bytes)
-    spells = (low_encodes is_low text low_is (line_end_low ends.returned)).0 ∙ sym ends.spell
+    spells = (low_encodes is_low text low_is (outer_end_low text (drop len (drop at bytes)) ends.is)).0
 
-    on_line_end : IsAfterLineEnd st (come.read ++ text) (come.more + 1)
+    on_line_end : IsAfterLineEnd st (come.read ++ text) (come.more + 1) (drop (at + len) bytes)
     on_line_end =
-        let split : drop at bytes ≡ text ++ drop (at + len) bytes = sym (take-append-drop len (drop at bytes)) ∙ ap (λ t. t ++ drop len (drop at bytes)) ends.spell ∙ ap (λ t. text ++ t) (drop-drop len at bytes) in
-        line_end_on ends.returned (drop (at + len) bytes) come.read come.more st (subst (λ (t : List ℕ). StandsBefore t come.read come.more st) split come.stands)
+        let split : drop at bytes ≡ text ++ drop (at + len) bytes = sym (take-append-drop len (drop at bytes)) ∙ ap (λ t. text ++ t) (drop-drop len at bytes) in
+        line_end_on text (drop (at + len) bytes) come.read come.more st (subst (IsOuterEnd text) (drop-drop len at bytes) ends.is) (subst (λ (t : List ℕ). StandsBefore t come.read come.more st) split come.stands)
 
-  pub line_end_in_brackets : (lines : Passed) (at n len : ℕ) (st : List Bracket) → HasComeTo bytes lines at n st → at < length bytes → BeginsLineEnd (drop at bytes) len → none_open st ≡ false → HasComeTo bytes lines (at + len) (n + 1) st
+  pub line_end_in_brackets : (lines : Passed) (at n len : ℕ) (st : List Bracket) → HasComeTo bytes lines at n st → at < length bytes → BeginsOuterEnd (drop at bytes) len → none_open st ≡ false → HasComeTo bytes lines (at + len) (n + 1) st
   line_end_in_brackets lines at n len [] come within ends some = absurd (both_ways _ some refl)
   line_end_in_brackets lines at n len (b ∷ bs) come within ends some =
-      let text = line_end_of ends.returned in
+      let text = take len (drop at bytes) in
       step lines at n len 1 (b ∷ bs) (b ∷ bs) come (room lines at n len (b ∷ bs) come within ends) text (spells lines at n len (b ∷ bs) come within ends)
-      (stands (drop (at + len) bytes) (come.read ++ text) (come.more + 1) (b ∷ bs) (on_line_end lines at n len (b ∷ bs) come within ends))
+      (on_line_end lines at n len (b ∷ bs) come within ends)
 
-  pub line_end_ends_line : (lines : Passed) (at n len : ℕ) (st : List Bracket) → HasComeTo bytes lines at n st → at < length bytes → BeginsLineEnd (drop at bytes) len → none_open st ≡ true → HasComeTo bytes (record { len = at + len; line_ends = n + 1 }) (at + len) (n + 1) st
+  pub line_end_ends_line : (lines : Passed) (at n len : ℕ) (st : List Bracket) → HasComeTo bytes lines at n st → at < length bytes → BeginsOuterEnd (drop at bytes) len → none_open st ≡ true → HasComeTo bytes (record { len = at + len; line_ends = n + 1 }) (at + len) (n + 1) st
   line_end_ends_line lines at n len (b ∷ bs) come within ends none = absurd (both_ways _ refl none)
   line_end_ends_line lines at n len [] come within ends none =
       let past = come.lines_are in
-      let text = line_end_of ends.returned in
+      let text = take len (drop at bytes) in
       let line = come.read ++ text in
-      let whole : IsWholeLine line (come.more + 1) = on_line_end lines at n len [] come within ends in
+      let after = drop (at + len) bytes in
+      let whole : IsWholeLine line (come.more + 1) after = on_line_end lines at n len [] come within ends in
       let fits = room lines at n len [] come within ends in
       let own : encode_utf8_all line ≡ line_up_to bytes lines (at + len) = further_spells lines at len come.ordered come.read text come.spell (spells lines at n len [] come within ends) in
       let there : lines.len + (at + len - lines.len) ≡ at + len = omega (arith, come.ordered) in
@@ -253,8 +255,12 @@ module _ (bytes : List ℕ) where
       encodes-append past.read line ∙ ap (λ t. t ++ encode_utf8_all line) past.spell ∙ ap (λ t. take lines.len bytes ++ t) own
       ∙ sym (take-add lines.len (at + len - lines.len) bytes) ∙ ap (λ (k : ℕ). take k bytes) there in
       let count : lines.line_ends + (come.more + 1) ≡ n + 1 = omega (arith, come.count) in
-      let some : 0 < length line = omega (arith, length-append come.read text, line_end_some ends.returned) in
-      let pushed = line_push past.texts past.read line lines.line_ends (come.more + 1) past.whole some whole in
+      let end_some = ends.some in
+      let some : 0 < length line = omega (arith, length-append come.read text, length-take-le len (drop at bytes) ends.within, end_some) in
+      let split : drop lines.len bytes ≡ encode_utf8_all line ++ after =
+      sym (take-append-drop (at + len - lines.len) (drop lines.len bytes)) ∙ ap (λ t. t ++ drop (at + len - lines.len) (drop lines.len bytes)) (sym own)
+      ∙ ap (λ t. encode_utf8_all line ++ t) (drop-drop (at + len - lines.len) lines.len bytes ∙ ap (λ (k : ℕ). drop k bytes) there) in
+      let pushed = line_push past.texts past.read line lines.line_ends (come.more + 1) after (subst (AreWholeLines past.texts past.read lines.line_ends) split past.whole) some whole in
       record {
         within = fits;
         ordered = omega arith;
@@ -263,7 +269,7 @@ module _ (bytes : List ℕ) where
           read = past.read ++ line;
           spell = all;
           texts = past.texts ++ line ∷ [];
-          whole = subst (λ (k : ℕ). AreWholeLines (past.texts ++ line ∷ []) (past.read ++ line) k) count pushed;
+          whole = subst (λ (k : ℕ). AreWholeLines (past.texts ++ line ∷ []) (past.read ++ line) k after) count pushed;
         };
         more = 0;
         count = omega arith;
@@ -282,7 +288,7 @@ module _ (bytes : List ℕ) where
   pub few_ends : (lines : Passed) (at n : ℕ) (st : List Bracket) → HasComeTo bytes lines at n st → n ≤ at
   few_ends lines at n st come =
       let past = come.lines_are in
-      let before = lines_few past.texts past.read lines.line_ends past.whole in
+      let before = lines_few past.texts past.read lines.line_ends (drop lines.len bytes) past.whole in
       omega (arith, come.count, before, ap length past.spell, length-take-le lines.len bytes past.within, own come.stands, ap length come.spell, line_size lines at come.ordered come.within, come.ordered)
     where
       by_holds : (read : List ℕ) (k : ℕ) → line_ends read ≡ k → k ≤ byte_len read
@@ -314,11 +320,11 @@ begins_at bytes at new b none lines ends next = record {
 
 -- the outline comes further
 module _ (bytes : List ℕ) (at : ℕ) (o : Outline) (b : Brackets) (on : IsAt bytes at o b) (within : at < length bytes) where
-  pub line_ended : (len : ℕ) (new : Outline) → BeginsLineEnd (drop at bytes) len → new ≡ record o { lines = record { len = at + len; line_ends = o.line_ends + 1 }; line_ends = o.line_ends + 1 } → none_open (stack_of b) ≡ true → IsPast bytes (at + len) new b
+  pub line_ended : (len : ℕ) (new : Outline) → BeginsOuterEnd (drop at bytes) len → new ≡ record o { lines = record { len = at + len; line_ends = o.line_ends + 1 }; line_ends = o.line_ends + 1 } → none_open (stack_of b) ≡ true → IsPast bytes (at + len) new b
   line_ended len new ends same none =
       subst (λ (x : Outline). IsPast bytes (at + len) x b) (sym same) (line_end_ends_line bytes o.lines at o.line_ends len (stack_of b) on.come within ends none)
 
-  pub line_goes_on : (len : ℕ) (new : Outline) → BeginsLineEnd (drop at bytes) len → new ≡ record o { line_ends = o.line_ends + 1 } → none_open (stack_of b) ≡ false → IsPast bytes (at + len) new b
+  pub line_goes_on : (len : ℕ) (new : Outline) → BeginsOuterEnd (drop at bytes) len → new ≡ record o { line_ends = o.line_ends + 1 } → none_open (stack_of b) ≡ false → IsPast bytes (at + len) new b
   line_goes_on len new ends same some =
       subst (λ (x : Outline). IsPast bytes (at + len) x b) (sym same) (line_end_in_brackets bytes o.lines at o.line_ends len (stack_of b) on.come within ends some)
 
@@ -330,8 +336,8 @@ module _ (bytes : List ℕ) (at : ℕ) (o : Outline) (b : Brackets) (on : IsAt b
     on = record { come = past; marked = subst (λ (m : Marks). HasMarks bytes (at + 1) m) (sym same) (on.marked within) };
   }
 
-  -- and what follows CR LF, once that is passed
-  pub return_passed : (len : ℕ) (mid : Outline) (marks : Marks) → BeginsLineEnd (drop at bytes) len → IsPast bytes (at + len) mid b → mid.marks ≡ o.marks
+  -- and what follows CR, or CR LF, once that is passed
+  pub return_passed : (len : ℕ) (mid : Outline) (marks : Marks) → BeginsOuterEnd (drop at bytes) len → IsPast bytes (at + len) mid b → mid.marks ≡ o.marks
       → ((from : ℕ) → HasMarks bytes from mid.marks → from ≤ at + len → HasMarks bytes (at + len) marks) → IsFurther bytes at (record mid { marks = marks }) b
   return_passed len mid marks ends past same pass =
       let some = ends.some in
@@ -342,7 +348,7 @@ module _ (bytes : List ℕ) (at : ℕ) (o : Outline) (b : Brackets) (on : IsAt b
       }
 
   -- what `pass` of the marks requires there
-  pub base_before_end : (len : ℕ) (mid : Outline) → BeginsLineEnd (drop at bytes) len → mid.marks ≡ o.marks → mid.marks.base ≤ at + len
+  pub base_before_end : (len : ℕ) (mid : Outline) → BeginsOuterEnd (drop at bytes) len → mid.marks ≡ o.marks → mid.marks.base ≤ at + len
   base_before_end len mid ends same =
       let some = ends.some in
       let base = (on.marked within).base in

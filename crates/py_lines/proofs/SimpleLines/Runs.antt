@@ -12,7 +12,7 @@ use Rattle.py_lines.specs.Private.Scan.{line_start}
 use Rattle.py_lines.specs.Private.Run.{HasAsciiQuote, stays}
 use Rattle.py_lines.specs.Private.Outline.{IsInPiece}
 use Rattle.py_lines.proofs.Machine.PieceSteps.{steps_by-append}
-use Rattle.py_lines.proofs.LineScan.Runs.{all_no_break, characters_stay, held_run}
+use Rattle.py_lines.proofs.LineScan.Runs.{all_no_break, characters_stay, ends-run, held_run}
 use Rattle.py_lines.proofs.SimpleLines.Code.{holds_more}
 
 -- the open piece goes on
@@ -25,8 +25,9 @@ goes_on m read (c ∷ cs) n st scalars all on = record {
     steps = steps_by-append move_at (Some (line_start modes.Free)) read (c ∷ cs) ∙ ap (λ o. scan_steps o (c ∷ cs)) on.come.steps ∙ held_run on.done m on.held (c ∷ cs) all;
     stacked = on.come.stacked;
     one_line = on.come.one_line;
-    holds = holds_more read (c ∷ cs) n on.come.holds tt scalars (all_no_break m (c ∷ cs) all);
+    holds = holds_more read (c ∷ cs) n on.come.holds scalars (all_no_break m (c ∷ cs) all);
   };
+  unreturned = ends-run read (c ∷ cs) tt (all_no_break m (c ∷ cs) all);
 }
 
 -- the characters of bytes that stay

@@ -9,7 +9,7 @@ use Rattle.std.proofs.lemmas.Str.{encode_ascii, encodes-append, length-le-encode
 use Rattle.std.proofs.Math.Seq.{take-add}
 use Rattle.py_lines.specs.Character.{is_quote, is_backslash, is_break, is_return, is_line_feed}
 use Rattle.py_lines.specs.LogicalLine.{byte_len}
-use Rattle.py_lines.specs.Piece.{Piece, string}
+use Rattle.py_lines.specs.Piece.{Piece, ends, string}
 use Rattle.py_lines.specs.declared.mode.Mode.{Mode}
 use Rattle.py_lines.specs.declared.mode.Mode.TheVariants as modes
 use Rattle.py_lines.specs.declared.mode.Move.{Move}
@@ -27,11 +27,12 @@ use Rattle.py_lines.proofs.Machine.PieceSteps.{scanned}
 use Rattle.py_lines.proofs.Machine.LiveTexts.{keeps}
 use Rattle.py_lines.proofs.FieldScans.TextLengths.{later, rest_is}
 use Rattle.py_lines.proofs.LineScan.Increments.{EndsNoLine-push}
+use Rattle.py_lines.proofs.LineScan.LineCount.{ends-last}
 use Rattle.py_lines.proofs.LineScan.LineSteps.{steps_push}
 use Rattle.py_lines.proofs.LineScan.Runs.{body_parts, break-return, quote_ascii, stays-no_break}
 use Rattle.py_lines.proofs.LineScan.ShortPieces.{inside_closes, is_low, is_low_from, low_encodes, low_is, quote-no_break}
 use Rattle.py_lines.proofs.Text.CharacterTests.{quote-not-word}
-use Rattle.py_lines.proofs.SimpleLines.Code.{apart_breaks, apart_tail, code_other, feed_unreturned, holds_line_end, holds_more, holds_one, no_tail, opens, quote-no-word, quote-not-space, stands, tail_code}
+use Rattle.py_lines.proofs.SimpleLines.Code.{apart_breaks, apart_tail, code_other, feed_unreturned, holds_line_end, holds_more, holds_one, line_end_unreturned, no_tail, one_unreturned, opens, quote-no-word, quote-not-space, stands, tail_code}
 use Rattle.py_lines.proofs.SimpleLines.Joins.{slash-not-break, slash_slash}
 use Rattle.py_lines.proofs.SimpleLines.FirstBytes.{first_then, line_end_low, taken_one, taken_two}
 use Rattle.py_lines.proofs.SimpleLines.Runs.{goes_on, stay_spelled}
@@ -40,8 +41,8 @@ use Rattle.py_lines.proofs.SimpleLines.Runs.{goes_on, stay_spelled}
 abbrev pub Steps : Mode → ℕ → Mode → Type 0
 Steps m c next = (done : List Piece) (held : List ℕ) → scan_step (scanned done m held) c ≡ Some (scanned done next (held ++ c ∷ []))
 
-pub grows : (m next : Mode) (c k : ℕ) (read : List ℕ) (n : ℕ) (st : List Bracket) → Steps m c next → HoldsLineEnds (read ++ c ∷ []) k → IsInPiece m read n st → IsInPiece next (read ++ c ∷ []) k st
-grows m next c k read n st step holds s = record {
+pub grows : (m next : Mode) (c k : ℕ) (read : List ℕ) (n : ℕ) (st : List Bracket) → Steps m c next → is_return c ≡ false → HoldsLineEnds (read ++ c ∷ []) k → IsInPiece m read n st → IsInPiece next (read ++ c ∷ []) k st
+grows m next c k read n st step other holds s = record {
   done = s.done;
   held = s.held ++ c ∷ [];
   come = record {
@@ -50,11 +51,13 @@ grows m next c k read n st step holds s = record {
     one_line = s.come.one_line;
     holds = holds;
   };
+  unreturned = ends-last is_return read c ∙ other;
 }
 
 -- so does a line end, by way of this mode where CR stands before LF
 line_end_grows : (m mid next : Mode) (returned : Bool) (read : List ℕ) (n : ℕ) (st : List Bracket) → Steps m 10 next → Steps m 13 mid → Steps mid 10 next → IsInPiece m read n st → IsInPiece next (read ++ line_end_of returned) (n + 1) st
-line_end_grows m mid next false read n st feed return after_return s = grows m next 10 (n + 1) read n st feed (holds_line_end false read n s.come.holds) s
+line_end_grows m mid next false read n st feed return after_return s =
+    grows m next 10 (n + 1) read n st feed feed_unreturned (holds_line_end false read n s.come.holds (λ feeds. s.unreturned)) s
 line_end_grows m mid next true read n st feed return after_return s = record {
   done = s.done;
   held = (s.held ++ 13 ∷ []) ++ 10 ∷ [];
@@ -64,8 +67,9 @@ line_end_grows m mid next true read n st feed return after_return s = record {
         ∙ after_return s.done (s.held ++ 13 ∷ []);
     stacked = s.come.stacked;
     one_line = s.come.one_line;
-    holds = holds_line_end true read n s.come.holds;
+    holds = holds_line_end true read n s.come.holds (λ feeds. s.unreturned);
   };
+  unreturned = line_end_unreturned true read;
 }
 
 -- what a quote does
@@ -151,6 +155,9 @@ escape_return q = refl
 returned_feed : (q : ℕ) → meet_of (modes.EscapeReturn q) 10 ≡ moves.Grows (modes.Inside q)
 unfolding meet_of move_of is_line_feed
 returned_feed q = refl
+
+slash-not-return : is_return 92 ≡ false
+slash-not-return = break-return 92 slash-not-break
 
 -- what a line end is not
 feed-not-quote : (q : ℕ) → is_quote q ≡ true → 10 == q ≡ false
@@ -252,6 +259,9 @@ module _ (q : ℕ) (quote : is_quote q ≡ true) where
   pub quotes_low : list_all is_low (q ∷ q ∷ q ∷ []) ≡ true
   quotes_low = let one = is_low_from q (quote_ascii q quote) in and_from _ _ one (and_from _ _ one (and_from _ _ one refl))
 
+  quote-not-return : is_return q ≡ false
+  quote-not-return = break-return q (quote-no_break q quote)
+
   quote_held : (read : List ℕ) (n : ℕ) → HoldsLineEnds read n → HoldsLineEnds (read ++ q ∷ []) n
   quote_held read n holds = holds_one read q n holds (quote_ascii q quote) (quote-no_break q quote)
 
@@ -261,6 +271,7 @@ module _ (q : ℕ) (quote : is_quote q ≡ true) where
     done = _;
     held = _;
     come = opens read n st q on (modes.Opened q) (start-quote q quote) (quote_held read n on.come.holds);
+    unreturned = one_unreturned read q (quote-no_break q quote);
   }
 
   after_tail : (read : List ℕ) (n : ℕ) (st : List Bracket) (t : Option Spelling) → tail_of read ≡ t → (on : GoesOnAfter read n st) → IsTail t on.state.mode → is_plain_prefix t ≡ true → StringBegins q read n st
@@ -269,12 +280,13 @@ module _ (q : ℕ) (quote : is_quote q ≡ true) where
         state = on.state;
         come = on.come;
         breaks = apart_breaks on.state.mode q apart (quote-not-space q quote);
-        other = code_other on.state.mode (tail_code None on.state.mode apart);
+        parted = λ feeds. on.unreturned;
+        inside = λ returns. absurd (code_other on.state.mode (tail_code None on.state.mode apart) returns);
         tail = λ _. none;
       })
   after_tail read n st (Some s) some on is plain =
-      let in_word : IsInPiece (modes.Word s) read n st = subst (λ (m : Mode). IsInPiece m read n st) is (record { done = on.state.done; held = on.state.held; come = on.come }) in
-      grows (modes.Word s) (modes.Opened q) q n read n st (λ done held. ap (moved (scanned done (modes.Word s) held) q) (prefix_quote s q quote plain)) (quote_held read n on.come.holds) in_word
+      let in_word : IsInPiece (modes.Word s) read n st = subst (λ (m : Mode). IsInPiece m read n st) is (record { done = on.state.done; held = on.state.held; come = on.come; unreturned = on.unreturned }) in
+      grows (modes.Word s) (modes.Opened q) q n read n st (λ done held. ap (moved (scanned done (modes.Word s) held) q) (prefix_quote s q quote plain)) quote-not-return (quote_held read n on.come.holds) in_word
 
   pub string_begins : (rest read : List ℕ) (n : ℕ) (st : List Bracket) → is_plain_prefix (tail_of read) ≡ true → StandsBefore (q ∷ rest) read n st → StringBegins q read n st
   string_begins rest read n st plain (inl on) = after_tail read n st (tail_of read) refl on on.tail plain
@@ -293,24 +305,29 @@ module _ (q : ℕ) (quote : is_quote q ≡ true) where
           holds = quote_held read n s.come.holds;
         };
         tail = apart_tail (tail_of (read ++ q ∷ [])) modes.Free refl (no_tail read q (quote-no-word q quote));
+        unreturned = one_unreturned read q (quote-no_break q quote);
       }
 
   -- an empty string, before what follows
   pub empty : (read rest : List ℕ) (c n : ℕ) (st : List Bracket) → (c ≡ q → ⊥) → StringBegins q read n st → StandsBefore (c ∷ rest) (read ++ q ∷ q ∷ []) n st
   empty read rest c n st unlike on =
-      let two = grows (modes.Opened q) (modes.Empty q) q n (read ++ q ∷ []) n st (λ done held. ap (moved (scanned done (modes.Opened q) held) q) (opened_quote q)) (quote_held (read ++ q ∷ []) n on.come.holds) on in
+      let two = grows (modes.Opened q) (modes.Empty q) q n (read ++ q ∷ []) n st (λ done held. ap (moved (scanned done (modes.Opened q) held) q) (opened_quote q)) quote-not-return (quote_held (read ++ q ∷ []) n on.come.holds) on in
       let spell = append_assoc read (q ∷ []) (q ∷ []) in
       inr (subst (λ (t : List ℕ). EndsBefore c t n st) spell (record {
         state = scanned two.done (modes.Empty q) two.held;
         come = two.come;
         breaks = empty_breaks q c (false_from_ne_true (c == q) (λ h. unlike (eqb-true c q h)));
-        other = empty_other q;
+        parted = λ feeds. two.unreturned;
+        inside = λ returns. absurd (empty_other q returns);
         tail = λ is. no_tail (read ++ q ∷ []) q (quote-no-word q quote);
       }))
 
   -- a character of a string's text
+  text-not-return : (c : ℕ) → is_body_byte q c ≡ true → is_return c ≡ false
+  text-not-return c is = break-return c (body_parts q c is).2
+
   text_held : (read : List ℕ) (n c : ℕ) → all_scalars (c ∷ []) ≡ true → is_body_byte q c ≡ true → HoldsLineEnds read n → HoldsLineEnds (read ++ c ∷ []) n
-  text_held read n c scalar is holds = holds_more read (c ∷ []) n holds tt scalar (and_from _ _ (ap not (stays-no_break (modes.Long q) c is)) refl)
+  text_held read n c scalar is holds = holds_more read (c ∷ []) n holds scalar (and_from _ _ (ap not (stays-no_break (modes.Long q) c is)) refl)
 
   -- the characters of its text
   spans_size : (bytes : List ℕ) (k : ℕ) (is : Spans (is_body_byte q) bytes k) → byte_len is.utf8.0 ≡ k
@@ -334,7 +351,7 @@ module _ (q : ℕ) (quote : is_quote q ≡ true) where
       (subst (λ (t : List ℕ). IsInPiece next (read ++ t) (n + 1) st) (sym is) (line_end_grows mid after_return next returned read n st (other 10 feed_unreturned) return feed on))
   escaped_leads mid after_return next other return feed read text n feeds st (inr (c, is, low, none, zero)) on =
       none_more next (read ++ text) n feeds st zero
-      (subst (λ (t : List ℕ). IsInPiece next (read ++ t) n st) (sym is) (grows mid next c n read n st (other c (break-return c none)) (holds_one read c n on.come.holds low none) on))
+      (subst (λ (t : List ℕ). IsInPiece next (read ++ t) n st) (sym is) (grows mid next c n read n st (other c (break-return c none)) (break-return c none) (holds_one read c n on.come.holds low none) on))
 
   -- the modes of a short string
   abbrev short_is : Bool → Mode
@@ -344,7 +361,8 @@ module _ (q : ℕ) (quote : is_quote q ≡ true) where
   short_later len more = ap short_is (false_from_ne_true (len == 1) (λ h. omega (arith, more, eqb-true len 1 h)))
 
   short_character : (b : Bool) (c : ℕ) → all_scalars (c ∷ []) ≡ true → is_body_byte q c ≡ true → (read : List ℕ) (n : ℕ) (st : List Bracket) → IsInPiece (short_is b) read n st → IsInPiece (modes.Inside q) (read ++ c ∷ []) n st
-  short_character b c scalar is read n st on = grows (short_is b) (modes.Inside q) c n read n st (by b) (text_held read n c scalar is on.come.holds) on
+  short_character b c scalar is read n st on =
+      grows (short_is b) (modes.Inside q) c n read n st (by b) (text-not-return c is) (text_held read n c scalar is on.come.holds) on
     where
       by : (b : Bool) → Steps (short_is b) c (modes.Inside q)
       by true done held =
@@ -361,7 +379,7 @@ module _ (q : ℕ) (quote : is_quote q ≡ true) where
       (λ c other done held. ap (moved (scanned done (modes.Escape q) held) c) (escape_other q c other))
       (λ done held. ap (moved (scanned done (modes.Escape q) held) 13) (escape_return q))
       (λ done held. ap (moved (scanned done (modes.EscapeReturn q) held) 10) (returned_feed q))
-      (read ++ 92 ∷ []) text n feeds st escaped (grows (short_is b) (modes.Escape q) 92 n read n st (by b) (holds_one read 92 n on.come.holds (lit< tt) slash-not-break) on))
+      (read ++ 92 ∷ []) text n feeds st escaped (grows (short_is b) (modes.Escape q) 92 n read n st (by b) slash-not-return (holds_one read 92 n on.come.holds (lit< tt) slash-not-break) on))
     where
       by : (b : Bool) → Steps (short_is b) 92 (modes.Escape q)
       by true done held = ap (moved (scanned done (modes.Opened q) held) 92) (opened_slash q quote)
@@ -402,19 +420,19 @@ module _ (q : ℕ) (quote : is_quote q ≡ true) where
   -- a string of three quotes begins
   begun_long : (read : List ℕ) (n : ℕ) (st : List Bracket) → StringBegins q read n st → IsInLong q (read ++ q ∷ q ∷ q ∷ []) n st
   begun_long read n st one =
-      let two = grows (modes.Opened q) (modes.Empty q) q n (read ++ q ∷ []) n st (λ done held. ap (moved (scanned done (modes.Opened q) held) q) (opened_quote q)) (quote_held (read ++ q ∷ []) n one.come.holds) one in
-      let three = grows (modes.Empty q) (modes.Long q) q n ((read ++ q ∷ []) ++ q ∷ []) n st (λ done held. ap (moved (scanned done (modes.Empty q) held) q) (empty_quote q)) (quote_held ((read ++ q ∷ []) ++ q ∷ []) n two.come.holds) two in
+      let two = grows (modes.Opened q) (modes.Empty q) q n (read ++ q ∷ []) n st (λ done held. ap (moved (scanned done (modes.Opened q) held) q) (opened_quote q)) quote-not-return (quote_held (read ++ q ∷ []) n one.come.holds) one in
+      let three = grows (modes.Empty q) (modes.Long q) q n ((read ++ q ∷ []) ++ q ∷ []) n st (λ done held. ap (moved (scanned done (modes.Empty q) held) q) (empty_quote q)) quote-not-return (quote_held ((read ++ q ∷ []) ++ q ∷ []) n two.come.holds) two in
       subst (λ (t : List ℕ). IsInLong q t n st) (append_assoc (read ++ q ∷ []) (q ∷ []) (q ∷ []) ∙ append_assoc read (q ∷ []) (q ∷ q ∷ [])) three
 
   -- a quote of its text
   lone : (read : List ℕ) (n : ℕ) (st : List Bracket) → IsInLong q read n st → IsInPiece (modes.LongOne q) (read ++ q ∷ []) n st
-  lone read n st on = grows (modes.Long q) (modes.LongOne q) q n read n st (λ done held. ap (moved (scanned done (modes.Long q) held) q) (long_quote q)) (quote_held read n on.come.holds) on
+  lone read n st on = grows (modes.Long q) (modes.LongOne q) q n read n st (λ done held. ap (moved (scanned done (modes.Long q) held) q) (long_quote q)) quote-not-return (quote_held read n on.come.holds) on
 
   -- its last quotes
   closed_long : (read : List ℕ) (n : ℕ) (st : List Bracket) → IsInLong q read n st → GoesOnAfter (read ++ q ∷ q ∷ q ∷ []) n st
   closed_long read n st on =
       let one = lone read n st on in
-      let two = grows (modes.LongOne q) (modes.LongTwo q) q n (read ++ q ∷ []) n st (λ done held. ap (moved (scanned done (modes.LongOne q) held) q) (one_quote q)) (quote_held (read ++ q ∷ []) n one.come.holds) one in
+      let two = grows (modes.LongOne q) (modes.LongTwo q) q n (read ++ q ∷ []) n st (λ done held. ap (moved (scanned done (modes.LongOne q) held) q) (one_quote q)) quote-not-return (quote_held (read ++ q ∷ []) n one.come.holds) one in
       subst (λ (t : List ℕ). GoesOnAfter t n st) (append_assoc (read ++ q ∷ []) (q ∷ []) (q ∷ []) ∙ append_assoc read (q ∷ []) (q ∷ q ∷ []))
       (closes (modes.LongTwo q) ((read ++ q ∷ []) ++ q ∷ []) n st (λ s. ap (moved (scanned s.done (modes.LongTwo q) s.held) q) (two_closes q)) two)
 
@@ -442,7 +460,7 @@ module _ (q : ℕ) (quote : is_quote q ≡ true) where
       let each = and_parts _ (all_scalars cs) scalars in
       let unlike = body_parts q c parts.0 in
       let one = lone read n st on in
-      let first = grows (modes.LongOne q) (modes.Long q) c n (read ++ q ∷ []) n st (λ done held. ap (moved (scanned done (modes.LongOne q) held) c) (one_other q c unlike.0 unlike.1)) (text_held (read ++ q ∷ []) n c (and_from _ _ each.0 refl) parts.0 one.come.holds) one in
+      let first = grows (modes.LongOne q) (modes.Long q) c n (read ++ q ∷ []) n st (λ done held. ap (moved (scanned done (modes.LongOne q) held) c) (one_other q c unlike.0 unlike.1)) (text-not-return c parts.0) (text_held (read ++ q ∷ []) n c (and_from _ _ each.0 refl) parts.0 one.come.holds) one in
       subst (λ (t : List ℕ). IsInLong q t n st) (append_assoc (read ++ q ∷ []) (c ∷ []) cs ∙ append_assoc read (q ∷ []) (c ∷ cs))
       (goes_on (modes.Long q) ((read ++ q ∷ []) ++ c ∷ []) cs n st each.1 parts.1 first)
 
@@ -495,7 +513,7 @@ module _ (q : ℕ) (quote : is_quote q ≡ true) where
       (escaped_leads (modes.LongEscape q) (modes.Long q) (modes.Long q)
       (λ c other done held. ap (moved (scanned done (modes.LongEscape q) held) c) (long_escape q c))
       (λ done held. ap (moved (scanned done (modes.LongEscape q) held) 13) (long_escape q 13)) feed_in_long
-      (read ++ 92 ∷ []) text n feeds st escaped (grows (modes.Long q) (modes.LongEscape q) 92 n read n st (λ done held. ap (moved (scanned done (modes.Long q) held) 92) (long_slash q quote)) (holds_one read 92 n on.come.holds (lit< tt) slash-not-break) on))
+      (read ++ 92 ∷ []) text n feeds st escaped (grows (modes.Long q) (modes.LongEscape q) 92 n read n st (λ done held. ap (moved (scanned done (modes.Long q) held) 92) (long_slash q quote)) slash-not-return (holds_one read 92 n on.come.holds (lit< tt) slash-not-break) on))
 
   long_escape_part : (bytes : List ℕ) (p : Passed) → HasEscape bytes (Some p) → PassesPart bytes p.len p.line_ends (IsInLong q) (IsInLong q)
   long_escape_part bytes p has =

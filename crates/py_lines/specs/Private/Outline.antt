@@ -2,11 +2,11 @@
 use Rattle.std.specs.Prelude.{◌≡◌, ℕ, ◌+◌, ◌-◌, ◌<◌, ◌≤◌, ◌⊎◌, ◌==◌, ◌||◌, Bool, true, false, if◌then◌else◌, Option, None, Some, List, [], ◌∷◌, ◌++◌, length, take, drop, slice_index, encode_utf8_all}
 use Rattle.std.specs.Str.{all_scalars}
 use Rattle.py_lines.specs.Character.{is_break, is_quote, is_return}
-use Rattle.py_lines.specs.Piece.{Piece, ends}
+use Rattle.py_lines.specs.Piece.{Piece, ends, line_end}
 use Rattle.py_lines.specs.LogicalLine.{line_ends}
 use Rattle.py_lines.specs.Private.Machine.{Scanned, fresh, Bracket, brackets_of, first_spelling, spelling_with}
 use Rattle.py_lines.specs.Private.ScanMachine.{begins_string, is_field_spelling, is_raw_spelling, meet_of, scan_steps}
-use Rattle.py_lines.specs.Private.Scan.{AreLine, EndsNoLine, line_start, stack_of}
+use Rattle.py_lines.specs.Private.Scan.{AreLine, EndsNoLine, EndsWhole, line_start, none_open, stack_of}
 use Rattle.py_lines.specs.Private.Run.{is_ascii_word}
 use Rattle.py_lines.specs.Private.FieldText.{is_apart_mode}
 use Rattle.py_lines.specs.declared.brackets.Brackets.{Brackets}
@@ -36,11 +36,29 @@ abbrev pub HasLineEnd : List ℕ → Option ℕ → Type 0
 HasLineEnd bytes None = Unit {0}
 HasLineEnd bytes (Some len) = BeginsLineEnd bytes len
 
--- the characters hold so many line ends, and CR doesn't end them
+-- bytes that begin with another one than LF
+abbrev pub BeginOther : List ℕ → Type 0
+BeginOther [] = ⊥
+BeginOther (c ∷ cs) = c ≡ 10 → ⊥
+
+-- a line end outside strings, before these bytes: CR LF, LF alone, or CR alone, before another byte
+abbrev pub IsOuterEnd : List ℕ → List ℕ → Type 0
+IsOuterEnd text after = ((returned : Bool) × (text ≡ line_end_of returned)) ⊎ ((text ≡ 13 ∷ []) × BeginOther after)
+
+-- the bytes begin with such a line end of so many of them
+pub record BeginsOuterEnd (bytes : List ℕ) (len : ℕ) : Type 0 where
+  pub some : 0 < len
+  pub within : len ≤ length bytes
+  pub is : IsOuterEnd (take len bytes) (drop len bytes)
+
+abbrev pub HasOuterEnd : List ℕ → Option ℕ → Type 0
+HasOuterEnd bytes None = Unit {0}
+HasOuterEnd bytes (Some len) = BeginsOuterEnd bytes len
+
+-- the characters hold so many line ends
 pub record HoldsLineEnds (read : List ℕ) (n : ℕ) : Type 0 where
   pub scalars : all_scalars read ≡ true
   pub count : line_ends read ≡ n
-  pub unreturned : ends is_return read ≡ false
 
 -- the machine has gone through such characters of a line, and stands so, where these brackets are open
 pub record HasCome (read : List ℕ) (n : ℕ) (st : List Bracket) (s : Scanned) : Type 0 where
@@ -77,18 +95,20 @@ abbrev pub IsTail : Option Spelling → Mode → Type 0
 IsTail None m = is_apart_mode m ≡ true
 IsTail (Some s) m = m ≡ modes.Word s
 
--- the line goes on after these characters, and the word is open that they end with
+-- the line goes on after these characters, which CR doesn't end, and the word is open that they end with
 pub record GoesOnAfter (read : List ℕ) (n : ℕ) (st : List Bracket) : Type 0 where
   pub state : Scanned
   pub come : HasCome read n st state
   pub tail : IsTail (tail_of read) state.mode
+  pub unreturned : ends is_return read ≡ false
 
--- the piece that is open after these characters ends before this byte
+-- the piece that is open after these characters ends before this byte, which isn't LF after CR; it is a line end in brackets alone
 pub record EndsBefore (c : ℕ) (read : List ℕ) (n : ℕ) (st : List Bracket) : Type 0 where
   pub state : Scanned
   pub come : HasCome read n st state
   pub breaks : meet_of state.mode c ≡ moves.Breaks
-  pub other : state.mode ≡ modes.Return → ⊥
+  pub parted : c ≡ 10 → ends is_return read ≡ false
+  pub inside : state.mode ≡ modes.Return → none_open st ≡ false
   pub tail : is_ascii_word c || is_quote c ≡ true → tail_of read ≡ None
 
 -- so before the bytes that follow: one of both
@@ -96,11 +116,12 @@ abbrev pub StandsBefore : List ℕ → List ℕ → ℕ → List Bracket → Typ
 StandsBefore [] read n st = GoesOnAfter read n st
 StandsBefore (c ∷ rest) read n st = GoesOnAfter read n st ⊎ EndsBefore c read n st
 
--- after these characters of a line such a piece is open
+-- after these characters of a line, which CR doesn't end, such a piece is open
 pub record IsInPiece (m : Mode) (read : List ℕ) (n : ℕ) (st : List Bracket) : Type 0 where
   pub done : List Piece
   pub held : List ℕ
   pub come : HasCome read n st (record { done = done; mode = m; held = held })
+  pub unreturned : ends is_return read ≡ false
 
 -- with this quote after them a string without fields is open, which holds nothing yet
 abbrev pub StringBegins : ℕ → List ℕ → ℕ → List Bracket → Type 0
@@ -179,36 +200,45 @@ abbrev pub HasString : List ℕ → Option Passed → Type 0
 HasString bytes None = Unit {0}
 HasString bytes (Some p) = Passes bytes p (StringBegins (slice_index bytes 0)) (StandsBefore (drop p.len bytes))
 
--- the characters are a line, which its line end has ended
-pub record IsWholeLine (read : List ℕ) (n : ℕ) : Type 0 where
+-- the machine has closed these pieces, of which the last is a line end, or holds that yet, which is CR
+abbrev pub IsEndedBy : Scanned → List Piece → Piece → Type 0
+IsEndedBy s body last =
+    (s ≡ fresh (body ++ last ∷ []))
+    ⊎ ((s ≡ record { done = body; mode = modes.Return; held = 13 ∷ [] }) × (last ≡ record { class = line_end; text = 13 ∷ [] }))
+
+-- the characters before these bytes are a line, which its line end has ended
+pub record IsWholeLine (read : List ℕ) (n : ℕ) (after : List ℕ) : Type 0 where
   pub body : List Piece
   pub last : Piece
   pub len : ℕ
   pub are : AreLine body last len
-  pub steps : scan_steps (Some (line_start modes.Free)) read ≡ Some (fresh (body ++ last ∷ []))
+  pub state : Scanned
+  pub steps : scan_steps (Some (line_start modes.Free)) read ≡ Some state
+  pub ended : IsEndedBy state body last
+  pub whole : EndsWhole read after
   pub holds : HoldsLineEnds read n
   pub tail : tail_of read ≡ None
 
 -- the characters up to a line end, and with it, are a line where no bracket is open; else the line goes on
-abbrev pub IsAfterLineEnd : List Bracket → List ℕ → ℕ → Type 0
-IsAfterLineEnd [] read n = IsWholeLine read n
-IsAfterLineEnd (b ∷ bs) read n = GoesOnAfter read n (b ∷ bs)
+abbrev pub IsAfterLineEnd : List Bracket → List ℕ → ℕ → List ℕ → Type 0
+IsAfterLineEnd [] read n after = IsWholeLine read n after
+IsAfterLineEnd (b ∷ bs) read n after = StandsBefore after read n (b ∷ bs)
 
 -- characters that are a line come before others that are lines, and so are these together
-pub record BeginsWithLine (rest : List ℕ → ℕ → Type 0) (line read : List ℕ) (n : ℕ) : Type 0 where
+pub record BeginsWithLine (rest : List ℕ → ℕ → Type 0) (line read : List ℕ) (n : ℕ) (after : List ℕ) : Type 0 where
   pub later : List ℕ
   pub own : ℕ
   pub more : ℕ
   pub some : 0 < length line
   pub spell : read ≡ line ++ later
   pub count : n ≡ own + more
-  pub whole : IsWholeLine line own
+  pub whole : IsWholeLine line own (encode_utf8_all later ++ after)
   pub lines : rest later more
 
--- the characters are these lines, one after another
-abbrev pub AreWholeLines : List (List ℕ) → List ℕ → ℕ → Type 0
-AreWholeLines [] read n = (read ≡ []) × (n ≡ 0)
-AreWholeLines (line ∷ lines) read n = BeginsWithLine (AreWholeLines lines) line read n
+-- the characters before these bytes are these lines, one after another
+abbrev pub AreWholeLines : List (List ℕ) → List ℕ → ℕ → List ℕ → Type 0
+AreWholeLines [] read n after = (read ≡ []) × (n ≡ 0)
+AreWholeLines (line ∷ lines) read n after = BeginsWithLine (λ later more. AreWholeLines lines later more after) line read n after
 
 -- the bytes begin with such lines
 pub record BeginWithLines (bytes : List ℕ) (lines : Passed) : Type 0 where
@@ -216,7 +246,7 @@ pub record BeginWithLines (bytes : List ℕ) (lines : Passed) : Type 0 where
   pub read : List ℕ
   pub spell : encode_utf8_all read ≡ take lines.len bytes
   pub texts : List (List ℕ)
-  pub whole : AreWholeLines texts read lines.line_ends
+  pub whole : AreWholeLines texts read lines.line_ends (drop lines.len bytes)
 
 -- the bytes of the line that begins after these lines, up to this byte
 abbrev pub line_up_to : List ℕ → Passed → ℕ → List ℕ

@@ -2,7 +2,8 @@
 -- in them. It serves the contracts of private functions.
 use Rattle.std.specs.Prelude.{◌≡◌, ℕ, ◌≤◌, Bool, false, Option, None, Some, List, [], ◌∷◌, ◌++◌, length, drop, slice_index}
 use Rattle.py_lines.specs.LogicalLine.{byte_len}
-use Rattle.py_lines.specs.Piece.{Piece}
+use Rattle.py_lines.specs.Character.{is_return}
+use Rattle.py_lines.specs.Piece.{Piece, ends}
 use Rattle.py_lines.specs.Private.Machine.{Bracket}
 use Rattle.py_lines.specs.Private.FieldMachine.{FieldScanned}
 use Rattle.py_lines.specs.Private.FieldScan.{Follows}
@@ -21,7 +22,7 @@ first_host q raw = record { quote = q; is_long = false; is_raw = raw }
 abbrev pub FieldsBegin : ℕ → Bool → List ℕ → ℕ → List Bracket → Type 0
 FieldsBegin q raw read n st = (length st ≤ 100) × IsInPiece (modes.FieldOpened (first_host q raw)) (read ++ q ∷ []) n st
 
--- after these bytes of a line a string with fields is open, in few brackets; its scan has come to this byte of it
+-- after these bytes of a line, which CR doesn't end, a string with fields is open, in few brackets; its scan has come to this byte of it
 pub record IsInFields (scan : FieldScan) (place : ℕ) (read : List ℕ) (n : ℕ) (st : List Bracket) : Type 0 where
   pub few : length st ≤ 100
   pub done : List Piece
@@ -31,6 +32,7 @@ pub record IsInFields (scan : FieldScan) (place : ℕ) (read : List ℕ) (n : �
   pub steps : string_state held ≡ Some state
   pub follows : Follows scan 0 state
   pub at : place ≡ byte_len held
+  pub unreturned : ends is_return read ≡ false
 
 -- the string with fields that the bytes begin with by its first quote was passed, or nothing
 abbrev pub HasFieldString : Bool → List ℕ → Option Passed → Type 0
