@@ -122,15 +122,21 @@ impl PieceFinder {
         if !self.walker.may_pass_lines() || !pauses.are_over() {
             return 0;
         }
-        let before = words.clear_up_to(start) - start;
+        let held = self.scanner.held().len();
+        // What is held may be the end of another piece.
+        if held > start {
+            return 0;
+        }
+        let first = start - held;
+        let before = words.clear_up_to(first) - first;
         // Most lines with an import follow another one.
         if before == 0 {
             return 0;
         }
-        let passed = self.scanner.pass_lines(&piece[start..], before);
+        let passed = self.scanner.pass_lines(&piece[first..], before);
         // The piece may begin in mid-line.
         pauses.note(passed > 0 || start == 0);
-        passed
+        passed + self.scanner.held().len() - held
     }
 
     /// Takes bytes up to the end of a logical line, and reads that line: how many.

@@ -156,25 +156,33 @@ pub record Releases (old new : ScannerState) : Type 0 where
   pub ended : new.ended ≡ old.ended
   pub fault : new.fault ≡ old.fault
 
--- the scanner stands after a line that was released: it holds nothing, and the text goes on
-pub record StandsBetweenLines (s : ScannerState) : Type 0 where
+-- the scanner stands after a line that was released: it holds at most the one byte that has shown that CR ends it, and the text goes on
+pub record StandsAfterLine (s : ScannerState) : Type 0 where
   pub later : 0 < s.place
-  pub held : s.held ≡ []
+  pub held : length s.held ≤ 1
   pub ready : s.ready ≡ None
   pub open_yet : s.ended ≡ false
   pub no_fault : s.fault ≡ None
 
--- Lines were passed over: so many bytes of a piece, which are these logical lines, one after another, and end at this byte of it or
--- before it. Or none were, and nothing changed.
-pub record PassesPieceLines (old : ScannerState) (piece : List ℕ) (before len : ℕ) (new : ScannerState) : Type 0 where
+-- so many of these bytes are whole lines, and what is held after them are the next: one after CR, and else none
+pub record HoldsAfterLines (bytes : List ℕ) (len : ℕ) (held : List ℕ) : Type 0 where
+  pub exact : EndsExactly (take len bytes) held
+  pub within : len + length held ≤ length bytes
+  pub next : take (len + length held) bytes ≡ take len bytes ++ held
+
+-- Lines were passed over: so many bytes of the text from the place of the scanner on, where it has released a line; the first of them
+-- may be held. They are these logical lines, one after another, and end at this byte of them or before it. Or none were, and nothing
+-- changed.
+pub record PassesPieceLines (old : ScannerState) (bytes : List ℕ) (before len : ℕ) (new : ScannerState) : Type 0 where
   pub lines : List LogicalLine
-  pub texts : flat_map (λ line. line.text) lines ≡ take len piece
-  pub within : len ≤ length piece
+  pub texts : flat_map (λ line. line.text) lines ≡ take len bytes
   pub ends : len ≤ before
-  pub between : 0 < len → StandsBetweenLines old
-  pub scans : 0 < len → WhereFed old (take len piece) (λ text given. HasSettled new text (given ++ lines))
+  pub stands : 0 < len → StandsAfterLine old
+  pub began : 0 < len → take (length old.held) bytes ≡ old.held
+  pub held : 0 < len → HoldsAfterLines bytes len new.held
+  pub scans : 0 < len → WhereScans old (λ text given. GoesOnWith text old.place (take len bytes ++ new.held) → HasSettled new text (given ++ lines))
   pub place : new.place ≡ old.place + len
-  pub others : new ≡ record old { place = new.place; line = new.line }
+  pub others : new ≡ record old { place = new.place; line = new.line; held = new.held }
   pub same : len ≡ 0 → new ≡ old
 
 -- the text ends here: what is left is its last line, if anything is left

@@ -1,11 +1,10 @@
 //! The scanner inside a `Scanner`: the text that it holds, and the scan of the line that this text begins with.
 
-ghost use Rattle.std.specs.Prelude.{◌≡◌, ℕ, ◌+◌, ◌-◌, ◌<◌, ◌≤◌, ◌^◌, ◌++◌, false, drop, take, length, OnOk, OnErr};
+ghost use Rattle.std.specs.Prelude.{◌≡◌, ℕ, ◌+◌, ◌-◌, ◌<◌, ◌≤◌, ◌^◌, ◌++◌, IsTrue, false, drop, take, length, OnOk, OnErr};
 ghost use Rattle.std.specs.Str.{StartsWithNoChar};
-ghost use Rattle.py_lines.specs.Character.{is_return};
-ghost use Rattle.py_lines.specs.Piece.{ends};
 ghost use Rattle.py_lines.specs.Private.Feed.{TellsHopeless};
 ghost use Rattle.py_lines.specs.Private.Outline.{BeginWithLines};
+ghost use Rattle.py_lines.specs.ScannerState.{HoldsAfterLines};
 
 use crate::fault::{Fault, FaultKind, LexError};
 use crate::line_state::LineState;
@@ -69,19 +68,26 @@ fn drop_first(held: &mut Vec<u8>, len: usize)
     held.drain(..len);
 }
 
-/// Lines with which these bytes begin; none where CR alone ends the last one, which only a byte after it shows.
-fn settled_lines(bytes: &[u8], lines: Passed) -> Passed
+/// Holds the byte after these lines where CR alone ends the last one, and else none. The result is whether there are lines, and memory
+/// for the byte.
+fn hold_after_lines(held: &mut Vec<u8>, bytes: &[u8], lines: Passed) -> bool
     requires { BeginWithLines bytes.now lines }
-    ensures lines { BeginWithLines bytes.now result }
-    ensures settled { ends is_return (take result.len bytes.now) ≡ false }
+    ensures some { IsTrue result → 0 < lines.len }
+    ensures held { IsTrue result → HoldsAfterLines bytes.now lines.len held.new.items }
+    ensures kept { result ≡ false → held.new.items ≡ held.old.items }
 {
-    if lines.len > 0 && bytes[lines.len - 1] != b'\r' {
-        return lines;
+    if lines.len == 0 {
+        return false;
     }
-    Passed {
-        len: 0,
-        line_ends: 0,
+    if bytes[lines.len - 1] != b'\r' {
+        held.clear();
+        return true;
     }
+    if held.push(bytes[lines.len]).is_err() {
+        return false;
+    }
+    keep_last(held);
+    true
 }
 
 /// The text since the line that was released last, and how far it was scanned.
@@ -99,7 +105,7 @@ pub struct Feed {
 
 impl Feed {
     ghost use Rattle.std.specs.Prelude.{◌&&◌, not, IsTrue, true, false, None, Some, Ok, Err, List, [], IsUtf8};
-    ghost use Rattle.py_lines.specs.ScannerState.{begun_at, Finishes, PassesPieceLines, StandsBetweenLines};
+    ghost use Rattle.py_lines.specs.ScannerState.{begun_at, Finishes, PassesPieceLines, StandsAfterLine};
     ghost use Rattle.py_lines.specs.ScannerState.View.{ready_of, scanning_of};
     ghost use Rattle.py_lines.specs.UnitLine.{line_in};
     ghost use Rattle.py_lines.specs.Private.Scan.{is_returned};
@@ -403,33 +409,42 @@ impl Feed {
         self.state.restart();
     }
 
-    /// Whether the last line was released, nothing is held since, and the text goes on.
-    fn stands_between_lines(&self) -> bool
-        ensures { IsTrue result → StandsBetweenLines (scanning_of self.now) }
+    /// Whether the last line was released, and the text goes on with these bytes, of which one at most is held.
+    fn stands_after_line(&self, bytes: &[u8]) -> bool
+        ensures stands { IsTrue result → StandsAfterLine (scanning_of self.now) }
+        ensures begins { IsTrue result
+            → take (length self.now.held.items) bytes.now ≡ self.now.held.items }
     {
-        self.state.place > 0
-            && self.held.is_empty()
+        let begins = match self.held.as_slice() {
+            [] => true,
+            [byte] => !bytes.is_empty() && bytes[0] == *byte,
+            _ => false,
+        };
+        begins
+            && self.state.place > 0
             && self.ready.is_none()
             && !self.ended
             && self.state.fault.is_none()
     }
 
-    /// Passes over the logical lines that a piece begins with, as long as they are simple and end at this byte of it or before it: how
-    /// many bytes they have. The text's first line is not passed over, and none is where bytes are held.
-    pub fn pass_lines(&mut self, piece: &[u8], before: usize) -> usize
+    /// Passes over the logical lines that these bytes begin with, as long as they are simple and end at this byte of them or before it: how
+    /// many bytes they have. The bytes begin with what is held. The text's first line is not passed over.
+    pub fn pass_lines(&mut self, bytes: &[u8], before: usize) -> usize
         requires sound { IsSoundFeed self.old }
-        requires fits { self.old.state.place + length self.old.held.items + length piece.now
-            ≤ 2 ^ 62 }
-        ensures passes { PassesPieceLines (scanning_of self.old) piece.now before result
+        requires fits { self.old.state.place + length bytes.now ≤ 2 ^ 62 }
+        ensures passes { PassesPieceLines (scanning_of self.old) bytes.now before result
             (scanning_of self.new) }
         ensures sound { IsSoundFeed self.new }
     {
-        if !self.stands_between_lines() {
+        if !self.stands_after_line(bytes) {
             return 0;
         }
-        let bytes = &piece[..before.min(piece.len())];
-        let passed = simple_lines(&mut self.state.scan.brackets, bytes);
-        let lines = settled_lines(bytes, passed);
+        let clear = &bytes[..before.min(bytes.len())];
+        let lines = simple_lines(&mut self.state.scan.brackets, clear);
+        if !hold_after_lines(&mut self.held, clear, lines) {
+            self.state.restart();
+            return 0;
+        }
         let line = self.state.line + lines.line_ends;
         self.state.pass(lines.len, line);
         self.state.restart();

@@ -91,18 +91,19 @@ impl Scanner {
         self.feed.release();
     }
 
-    /// Passes over the logical lines (2.1.1) that a piece begins with, without their tokens, one after another, and answers how many
-    /// bytes they have. These are fed and released then. It answers 0 where no line is passed over, and then nothing changed. It takes
-    /// no memory, and is quicker than [`Scanner::feed`].
+    /// Passes over the next logical lines (2.1.1) without their tokens, one after another, and answers how many bytes they have. `bytes`
+    /// is the text from [`Scanner::offset`] on: the byte that is held, if one is, and the piece after it. The lines are fed and released
+    /// then. Where CR alone ends the last one, the byte after it is fed, too, and held. The answer is 0 where no line is passed over, and
+    /// then nothing changed. It takes no memory but for that byte, and is quicker than [`Scanner::feed`].
     ///
-    /// A line is passed over where it ends at byte `before` of the piece or before it, and is simple: it is ASCII except in comments and
-    /// in strings without fields, where CR stands before LF alone. Which lines are simple is not promised. None is passed over at the
-    /// text's start, where bytes are held, or once the text has ended or its fault is known; nor where CR alone ends the last of them.
-    pub fn pass_lines(&mut self, piece: &[u8], before: usize) -> usize
-        requires fits { fed_of self.old + length piece.now ≤ 2 ^ 62 }
-        ensures passes { PassesPieceLines self.old piece.now before result self.new }
+    /// A line is passed over where it ends at byte `before` of `bytes` or before it, and is simple: it is ASCII except in comments and in
+    /// strings without fields, where CR stands before LF alone. Which lines are simple is not promised. None is passed over at the text's
+    /// start, where more is held than the byte after CR, or once the text has ended or its fault is known.
+    pub fn pass_lines(&mut self, bytes: &[u8], before: usize) -> usize
+        requires fits { self.old.place + length bytes.now ≤ 2 ^ 62 }
+        ensures passes { PassesPieceLines self.old bytes.now before result self.new }
     {
-        self.feed.pass_lines(piece, before)
+        self.feed.pass_lines(bytes, before)
     }
 
     /// Ends the text: what is left of it is its last line, if anything is left. No line is ready, and `finish` hasn't

@@ -163,34 +163,46 @@ static OPEN_FIELDS: &[Passing] = &[
     Passing("a\nf'{b'\n", 8, 0, (2, 2)),
 ];
 
-/// A piece of a text that follows its first line, and how many bytes of its lines a scanner passes over.
-struct PassingPiece(&'static [u8], usize);
+/// Bytes of a text after its first line, the byte of them before which lines have to end, how many bytes a scanner then passes over, and
+/// how many after that, as far as lines end in the bytes.
+struct PassingPiece(&'static [u8], usize, usize, usize);
+
+/// Whether the scanner passes over so many bytes.
+fn passes_over(scanner: &mut Scanner, bytes: &[u8], before: usize, len: usize) -> bool {
+    scanner.fed() < 100 && bytes.len() < 100 && scanner.pass_lines(bytes, before) == len
+}
 
 impl Case for PassingPiece {
     fn holds(&self, alloc: Global) -> bool {
-        let Ok(mut scanner) = Scanner::at(alloc, 2, 2) else {
+        let (Ok(mut scanner), Some(rest)) = (Scanner::at(alloc, 2, 2), self.0.get(self.2..)) else {
             return false;
         };
-        if scanner.fed() > 100 || self.0.len() > 100 {
-            return false;
-        }
-        scanner.pass_lines(self.0, self.0.len()) == self.1
+        passes_over(&mut scanner, self.0, self.1, self.2)
+            && passes_over(&mut scanner, rest, rest.len(), self.3)
     }
 }
 
 static PIECES: &[PassingPiece] = &[
-    PassingPiece(b"b  # \xc3\xa4\n", 8),
-    PassingPiece(b"# \xf0\x9f\x98\x80\r\n", 8),
-    PassingPiece(b"'''\xe4\xbd\xa0\n'''\n", 11),
-    // CR where the piece ends, and CR alone before other lines.
-    PassingPiece(b"b\r\nc\r", 3),
-    PassingPiece(b"b\rc\n", 4),
+    PassingPiece(b"b  # \xc3\xa4\n", 8, 8, 0),
+    PassingPiece(b"# \xf0\x9f\x98\x80\r\n", 8, 8, 0),
+    PassingPiece(b"'''\xe4\xbd\xa0\n'''\n", 11, 11, 0),
     // Bytes that are no character: a first byte alone, one that begins none, a character cut short, one in two, and a surrogate.
-    PassingPiece(b"b  # \xc3\n", 0),
-    PassingPiece(b"b\n# \xff\n", 2),
-    PassingPiece(b"'\xe4\xbd'\n", 0),
-    PassingPiece(b"'''\xe4\n\xbd\xa0'''\n", 0),
-    PassingPiece(b"# \xed\xa0\x80\n", 0),
+    PassingPiece(b"b  # \xc3\n", 7, 0, 0),
+    PassingPiece(b"b\n# \xff\n", 6, 2, 0),
+    PassingPiece(b"'\xe4\xbd'\n", 5, 0, 0),
+    PassingPiece(b"'''\xe4\n\xbd\xa0'''\n", 11, 0, 0),
+    PassingPiece(b"# \xed\xa0\x80\n", 6, 0, 0),
+];
+
+/// CR where the bytes end, and alone, before other lines and last.
+static PIECES_WITH_RETURNS: &[PassingPiece] = &[
+    PassingPiece(b"b\r\nc\r", 5, 3, 0),
+    PassingPiece(b"b\rc\n", 4, 4, 0),
+    PassingPiece(b"b\rc\rd", 5, 4, 0),
+    // After it the next byte is held, and begins the next line.
+    PassingPiece(b"b\rc\rd\n", 3, 2, 4),
+    PassingPiece(b"b\r\r\n\rc", 2, 0, 5),
+    PassingPiece(b"b\r\r\n\rc", 4, 4, 1),
 ];
 
 #[test]
@@ -212,5 +224,11 @@ fn simple_lines_are_passed_over(rt: HostRuntime) -> Result<(), Fail> {
             ("OPEN_FIELDS", OPEN_FIELDS),
         ],
     )?;
-    each_holds_again(alloc, &[("PIECES", PIECES)])
+    each_holds_again(
+        alloc,
+        &[
+            ("PIECES", PIECES),
+            ("PIECES_WITH_RETURNS", PIECES_WITH_RETURNS),
+        ],
+    )
 }

@@ -66,18 +66,31 @@ fn ready_is_next(scanner: &mut Scanner, lines: &mut Lines<'_>) -> bool
     is_next
 }
 
-/// How many bytes of a piece the scanner passes over, as far as the lines end in so many bytes. The answer is none where the reader doesn't
-/// come to the same place.
-fn passed(scanner: &mut Scanner, lines: &mut Lines<'_>, piece: &[u8], ahead: usize) -> Option<usize>
+/// The byte of a piece up to which the scanner is fed by passing over lines, as far as they end in so many bytes, where it was fed up to
+/// this byte. The answer is none where the reader doesn't come to the same place.
+fn passed(
+    scanner: &mut Scanner,
+    lines: &mut Lines<'_>,
+    piece: &[u8],
+    fed: usize,
+    ahead: usize,
+) -> Option<usize>
+    requires within { fed ≤ length piece.now }
     ensures within { IfSome result (λ n. n ≤ length piece.now) }
     ensures ended { scanner.new.ended ≡ scanner.old.ended }
 {
     if scanner.fed() > LONGEST as u64 || piece.len() > LONGEST {
         return None;
     }
-    let len = scanner.pass_lines(piece, ahead);
+    let held = scanner.held().len();
+    // What is held may be the end of another piece.
+    if held > fed {
+        return Some(fed);
+    }
+    let start = fed - held;
+    let stop = start.saturating_add(scanner.pass_lines(&piece[start..], ahead));
     if comes_to(lines, scanner.offset(), scanner.line()) {
-        Some(len)
+        Some(stop.saturating_add(scanner.held().len()).min(piece.len()))
     } else {
         None
     }
@@ -95,20 +108,20 @@ fn piece_is_alike(
     requires { scanner.old.ended ≡ false }
     ensures { scanner.new.ended ≡ false }
 {
-    let mut rest = piece;
+    let mut fed = 0;
     for _ in 0..piece.len() {
-        match passed(scanner, lines, rest, ahead) {
-            Some(len) => rest = &rest[len..],
+        match passed(scanner, lines, piece, fed, ahead) {
+            Some(stop) => fed = stop,
             None => return Some(false),
         }
-        match feed(alloc, scanner, rest) {
-            Ok(taken) => rest = &rest[taken..],
+        match feed(alloc, scanner, &piece[fed..]) {
+            Ok(taken) => fed += taken,
             Err(error) => return Some(fails(lines, error)),
         }
         if !ready_is_next(scanner, lines) {
             return Some(false);
         }
-        if rest.is_empty() {
+        if fed == piece.len() {
             break;
         }
     }

@@ -1,8 +1,9 @@
 -- Lines that a scanner passed over are the next ones of each text that goes on with them.
 use Rattle.std.proofs.Common.{take-suc, ◌≡◌, ℕ, suc, ◌+◌, ◌-◌, ◌<◌, ◌≤◌, ◌^◌, ⊎_elim, inl, inr, Bool, true, false, Option, None, Some, List, [], ◌∷◌, ◌++◌, length, take, drop, slice_index, refl, sym, ap, ◌∙◌, subst, append_assoc, append-nil, arith, length-append}
 use Rattle.std.specs.Prelude.{encode_utf8_all, flat_map, min}
+use Rattle.std.specs.Global.{Vec}
 use Rattle.std.proofs.lemmas.Bool.{both_ways, false_from_ne_true}
-use Rattle.std.proofs.lemmas.List.{length-take-le, length-take}
+use Rattle.std.proofs.lemmas.List.{drop_more, length-drop, length-take-le, length-take}
 use Rattle.std.proofs.lemmas.Str.{encodes-append, length-le-encodes}
 use Rattle.std.proofs.Math.Seq.{take-append_seam}
 use Rattle.py_lines.specs.Character.{is_return}
@@ -10,7 +11,7 @@ use Rattle.py_lines.specs.Piece.{Piece, ends, spelled}
 use Rattle.py_lines.specs.LogicalLine.{LogicalLine, byte_len, first_or_zero, line_of}
 use Rattle.py_lines.specs.Settled.{IsSettled}
 use Rattle.py_lines.specs.Given.{AreFirstLines}
-use Rattle.py_lines.specs.ScannerState.{EndsExactly, GoesOnWith, HasSettled, HoldsReady, IsScanning, PassesPieceLines, StandsBetweenLines, fed_of}
+use Rattle.py_lines.specs.ScannerState.{EndsExactly, GoesOnWith, HasSettled, HoldsAfterLines, HoldsReady, IsScanning, PassesPieceLines, ScannerState, StandsAfterLine, ready_lines}
 use Rattle.py_lines.specs.ScannerState.View.{ready_of, scanning_of}
 use Rattle.py_lines.specs.declared.feed.Feed.{Feed}
 use Rattle.py_lines.specs.declared.line_state.LineState.{LineState}
@@ -21,6 +22,7 @@ use Rattle.py_lines.specs.Private.Feed.{IsSoundFeed, StandsSo}
 use Rattle.py_lines.specs.Private.LineState.{BeginsAnew, first_mode}
 use Rattle.py_lines.specs.Private.Scan.{EndsWhole, line_start}
 use Rattle.py_lines.specs.Private.Outline.{AreWholeLines, BeginWithLines, IsWholeLine}
+use Rattle.py_lines.proofs.SimpleLines.Code.{return_returns}
 use Rattle.py_lines.proofs.SimpleLines.Lines.{lines_few}
 use Rattle.py_lines.proofs.Lexings.SettledFits.{ends-append}
 use Rattle.py_lines.proofs.LineScan.LineCount.{ends-last}
@@ -166,135 +168,246 @@ all_settled : (texts : List (List ℕ)) (text : List ℕ) (place line : ℕ) (gi
 all_settled [] text place line given read more n after are some later first goes exact = absurd (omega (arith, some, ap byte_len are.0))
 all_settled (t ∷ texts) text place line given read more n after are some later first goes exact = lines_settled t texts text place line given read more n after are later first goes exact
 
--- lines that CR doesn't end, of a piece as far as it was looked at
-pub settled_of : (piece : List ℕ) (stop : ℕ) (p : Passed) → BeginWithLines (take stop piece) p → ends is_return (take p.len (take stop piece)) ≡ false → ends is_return (take p.len piece) ≡ false
-settled_of piece stop p found settled = ap (ends is_return) (sym (take_slice piece p.len stop found.within)) ∙ settled
-
-pub last_byte_settled : (bytes : List ℕ) (len : ℕ) → 0 < len → len ≤ length bytes → (slice_index bytes (len - 1) ≡ 13 → ⊥) → ends is_return (take len bytes) ≡ false
-last_byte_settled bytes len some within other =
+-- the last byte of the first so many
+last_of : (bytes : List ℕ) (len : ℕ) → 0 < len → len ≤ length bytes → ends is_return (take len bytes) ≡ is_return (slice_index bytes (len - 1))
+last_of bytes len some within =
     let next : len ≡ suc (len - 1) = omega (arith, some) in
     ap (λ (k : ℕ). ends is_return (take k bytes)) next ∙ ap (ends is_return) (take-suc bytes (len - 1) 0 (omega (arith, some, within))) ∙ ends-last is_return (take (len - 1) bytes) (slice_index bytes (len - 1))
-    ∙ false_from_ne_true _ (λ returns. other (return_is (slice_index bytes (len - 1)) returns))
+
+-- what follows lines shows that the last one has ended
+lines_whole : (t : List ℕ) (texts : List (List ℕ)) (read : List ℕ) (n : ℕ) (after : List ℕ) → AreWholeLines (t ∷ texts) read n after → EndsWhole read after
+lines_whole t [] read n after are =
+    let all : t ≡ read = sym (are.spell ∙ ap (λ u. t ++ u) are.lines.0 ∙ append-nil t) in
+    subst (λ u. EndsWhole u after) all (subst (λ u. EndsWhole t (encode_utf8_all u ++ after)) are.lines.0 are.whole.whole)
+lines_whole t (u ∷ texts) read n after are =
+    by are.later are.spell (omega (arith, ap length are.lines.spell, length-append u are.lines.later, are.lines.some)) (lines_whole u texts are.later are.more after are.lines)
+  where
+    by : (later : List ℕ) → read ≡ t ++ later → 0 < length later → EndsWhole later after → EndsWhole read after
+    by [] is some whole = absurd (omega (arith, some))
+    by (c ∷ cs) is some whole =
+        let same : ends is_return read ≡ ends is_return (c ∷ cs) = ap (ends is_return) is ∙ ends-append is_return t c cs in
+        ⊎_elim (λ feed. inl (same ∙ feed)) (λ one. inr one) whole
+
+bytes_whole : (bytes : List ℕ) (p : Passed) → 0 < p.len → BeginWithLines bytes p → EndsWhole (take p.len bytes) (drop p.len bytes)
+bytes_whole bytes p some found = by found.texts found.whole
+  where
+    by : (texts : List (List ℕ)) → AreWholeLines texts found.read p.line_ends (drop p.len bytes) → EndsWhole (take p.len bytes) (drop p.len bytes)
+    by [] are = absurd (omega (arith, some, ap length found.spell, ap byte_len are.0, length-take-le p.len bytes found.within))
+    by (t ∷ texts) are =
+        let same : ends is_return (take p.len bytes) ≡ ends is_return found.read = ap (ends is_return) (sym found.spell) ∙ ends-encoded found.read in
+        ⊎_elim (λ feed. inl (same ∙ feed)) (λ one. inr one) (lines_whole t texts found.read p.line_ends (drop p.len bytes) are)
+
+-- after lines that CR alone doesn't end nothing is held
+pub nothing_after : (bytes : List ℕ) (p : Passed) → 0 < p.len → BeginWithLines bytes p → (slice_index bytes (p.len - 1) ≡ 13 → ⊥) → HoldsAfterLines bytes p.len []
+nothing_after bytes p some found other =
+    let none : p.len + 0 ≡ p.len = omega arith in
+    record {
+      exact = inl (last_of bytes p.len some found.within ∙ false_from_ne_true _ (λ returns. other (return_is (slice_index bytes (p.len - 1)) returns)), refl);
+      within = omega (arith, found.within);
+      next = ap (λ (k : ℕ). take k bytes) none ∙ sym (append-nil (take p.len bytes));
+    }
+
+-- after others there is a byte, which is no LF
+module _ (bytes : List ℕ) (p : Passed) (some : 0 < p.len) (found : BeginWithLines bytes p) (is : slice_index bytes (p.len - 1) ≡ 13) where
+  returned : ends is_return (take p.len bytes) ≡ true
+  returned = last_of bytes p.len some found.within ∙ ap is_return is ∙ return_returns
+
+  pub byte_follows : p.len < length bytes
+  byte_follows = by (bytes_whole bytes p some found)
+    where
+      by : EndsWhole (take p.len bytes) (drop p.len bytes) → p.len < length bytes
+      by (inl feed) = absurd (both_ways _ feed returned)
+      by (inr (b, more, spell, other)) = omega (arith, ap length spell, length-drop p.len bytes)
+
+  byte_other : slice_index bytes p.len ≡ 10 → ⊥
+  byte_other feeds = by (bytes_whole bytes p some found)
+    where
+      by : EndsWhole (take p.len bytes) (drop p.len bytes) → ⊥
+      by (inl feed) = both_ways _ feed returned
+      by (inr (b, more, spell, other)) = other (ap first_or_zero (sym spell ∙ drop_more bytes p.len 0 byte_follows) ∙ feeds)
+
+  pub byte_after : HoldsAfterLines bytes p.len (slice_index bytes p.len ∷ [])
+  byte_after =
+      let next : p.len + 1 ≡ suc p.len = omega arith in
+      record {
+        exact = inr (returned, (slice_index bytes p.len, refl, byte_other));
+        within = omega (arith, byte_follows);
+        next = ap (λ (k : ℕ). take k bytes) next ∙ take-suc bytes p.len 0 byte_follows;
+      }
 
 none_ready : (f : Feed) (ready : Option ℕ) → ready_of f ready ≡ None → ready ≡ None
 none_ready f None seen = refl
 none_ready f (Some n) seen = absurd (cc)
 
--- the lines that the code has found in the first bytes of a piece, after which the scan of the next line begins
-module _ (f : Feed) (state : LineState) (piece : List ℕ) (before stop : ℕ) (p : Passed) (between : StandsBetweenLines (scanning_of f)) (stop_is : stop ≡ min before (length piece)) (found : BeginWithLines (take stop piece) p) (for_good : ends is_return (take p.len piece) ≡ false) where
+-- nothing was passed over
+pub passes_none : (old new : ScannerState) (bytes : List ℕ) (before : ℕ) → new ≡ old → PassesPieceLines old bytes before 0 new
+passes_none old new bytes before same = record {
+  lines = [];
+  texts = refl;
+  ends = omega arith;
+  stands = λ more. absurd (omega (arith, more));
+  began = λ more. absurd (omega (arith, more));
+  held = λ more. absurd (omega (arith, more));
+  scans = λ more. absurd (omega (arith, more));
+  place = ap (λ (s : ScannerState). s.place) same ∙ omega arith;
+  others = same ∙ (λ i. record old { place = ap (λ (s : ScannerState). s.place) (sym same) i; line = ap (λ (s : ScannerState). s.line) (sym same) i; held = ap (λ (s : ScannerState). s.held) (sym same) i });
+  same = λ none. same;
+}
+
+-- where no line is passed over the scan of the next one begins anew
+module _ (f : Feed) (held : Vec ℕ) (state : LineState) (scan : Scan) (stands : StandsAfterLine (scanning_of f)) (kept : held.items ≡ f.held.items) (anew : BeginsAnew (record f.state { scan = scan }) state) where
+  abbrev begun : Feed
+  begun = record f { state = state; held = held }
+
+  none_ready_yet : f.ready ≡ None
+  none_ready_yet = none_ready f f.ready stands.ready
+
+  same_view : scanning_of begun ≡ scanning_of f
+  same_view =
+      let ready : ready_of begun f.ready ≡ ready_of f f.ready = ap (ready_of begun) none_ready_yet ∙ sym stands.ready in
+      let same = anew.same in
+      λ i. record { place = (same i).place; line = (same i).line; held = kept i; ready = ready i; ended = f.ended; fault = (same i).fault }
+
+  pub begun_none : (bytes : List ℕ) (before : ℕ) → PassesPieceLines (scanning_of f) bytes before 0 (scanning_of begun)
+  begun_none bytes before = passes_none (scanning_of f) (scanning_of begun) bytes before same_view
+
+  pub begun_sound_feed : IsSoundFeed f → IsSoundFeed begun
+  begun_sound_feed sound =
+      let place = ap (λ (s : LineState). s.place) anew.same in
+      let line = ap (λ (s : LineState). s.line) anew.same in
+      record {
+        room = record {
+          fits = omega (arith, place, ap length kept, sound.room.fits);
+          few_lines = omega (arith, place, line, sound.room.few_lines);
+        };
+        state = subst (λ x. StandsSo x begun) (sym none_ready_yet) (λ no_fault. ([], held.items, restarts_open (record f { state = record f.state { scan = scan }; held = held }) begun (record { same = refl; begins = anew })));
+      }
+
+-- the lines that the code has found in the first of these bytes, after which the scan of the next line begins
+module _ (f : Feed) (bytes : List ℕ) (before stop : ℕ) (p : Passed) (stands : StandsAfterLine (scanning_of f)) (began : take (length f.held.items) bytes ≡ f.held.items) (stop_is : stop ≡ min before (length bytes)) (found : BeginWithLines (take stop bytes) p) (some : 0 < p.len) where
   read : List ℕ
   read = found.read
 
   beyond : List ℕ
-  beyond = drop p.len (take stop piece)
+  beyond = drop p.len (take stop bytes)
 
   are : AreWholeLines found.texts read p.line_ends beyond
   unfolding read beyond
   are = found.whole
 
-  read_is : encode_utf8_all read ≡ take p.len piece
+  read_is : encode_utf8_all read ≡ take p.len bytes
   unfolding read
-  read_is = found.spell ∙ take_slice piece p.len stop found.within
+  read_is = found.spell ∙ take_slice bytes p.len stop found.within
 
-  within : p.len ≤ length piece
-  within = omega (arith, found.within, stop_is, length-take stop piece)
+  within : p.len ≤ length bytes
+  within = omega (arith, found.within, stop_is, length-take stop bytes)
 
   up_to : p.len ≤ before
-  up_to = omega (arith, found.within, stop_is, length-take stop piece)
+  up_to = omega (arith, found.within, stop_is, length-take stop bytes)
 
   read_size : byte_len read ≡ p.len
-  read_size = ap length read_is ∙ length-take-le p.len piece within
+  read_size = ap length read_is ∙ length-take-le p.len bytes within
 
   few : p.line_ends ≤ p.len
   few = omega (arith, lines_few found.texts read p.line_ends beyond are, read_size)
 
-  pub line_fits : f.state.place + length f.held.items + length piece ≤ 2 ^ 62 → IsSoundFeed f → f.state.line + p.line_ends < 2 ^ 64
+  pub line_fits : f.state.place + length bytes ≤ 2 ^ 62 → IsSoundFeed f → f.state.line + p.line_ends < 2 ^ 64
   line_fits fits sound = omega (arith, fits, sound.room.few_lines, few, within)
 
   lines : List LogicalLine
   lines = lines_at found.texts f.state.place f.state.line read p.line_ends beyond are
 
   not_ready : f.ready ≡ None
-  not_ready = none_ready f f.ready between.ready
+  not_ready = none_ready f f.ready stands.ready
 
-  module _ (scan : Scan) (anew : BeginsAnew (record f.state { place = f.state.place + p.len; line = f.state.line + p.line_ends; scan = scan }) state) where
-    abbrev after : Feed
-    after = record f { state = state }
+  -- what is held then
+  module _ (held : Vec ℕ) (holds : HoldsAfterLines (take stop bytes) p.len held.items) where
+    pub holds_here : HoldsAfterLines bytes p.len held.items
+    holds_here =
+        let room = holds.within in
+        record {
+          exact = subst (λ t. EndsExactly t held.items) (take_slice bytes p.len stop found.within) holds.exact;
+          within = omega (arith, room, stop_is, length-take stop bytes);
+          next = sym (take_slice bytes (p.len + length held.items) stop holds.within) ∙ holds.next ∙ ap (λ t. t ++ held.items) (take_slice bytes p.len stop found.within);
+        }
 
-    place : state.place ≡ f.state.place + p.len
-    place = ap (λ (s : LineState). s.place) anew.same
+    exact : EndsExactly read held.items
+    exact = ⊎_elim (λ feed. inl (same ∙ feed.0, feed.1)) (λ one. inr (same ∙ one.0, one.1)) holds_here.exact
+      where
+        same : ends is_return read ≡ ends is_return (take p.len bytes)
+        same = sym (ends-encoded read) ∙ ap (ends is_return) read_is
 
-    line : state.line ≡ f.state.line + p.line_ends
-    line = ap (λ (s : LineState). s.line) anew.same
+    module _ (state : LineState) (scan : Scan) (anew : BeginsAnew (record f.state { place = f.state.place + p.len; line = f.state.line + p.line_ends; scan = scan }) state) where
+      abbrev after : Feed
+      after = record f { state = state; held = held }
 
-    fault : state.fault ≡ f.state.fault
-    fault = ap (λ (s : LineState). s.fault) anew.same
+      place : state.place ≡ f.state.place + p.len
+      place = ap (λ (s : LineState). s.place) anew.same
 
-    ready : ready_of after f.ready ≡ None
-    ready = ap (ready_of after) not_ready
+      line : state.line ≡ f.state.line + p.line_ends
+      line = ap (λ (s : LineState). s.line) anew.same
 
-    exact : EndsExactly read []
-    exact = inl (sym (ends-encoded read) ∙ ap (ends is_return) read_is ∙ for_good, refl)
+      fault : state.fault ≡ f.state.fault
+      fault = ap (λ (s : LineState). s.fault) anew.same
 
-    first : 0 < p.len → (text : List ℕ) (given : List LogicalLine) → IsScanning (scanning_of f) text given → GoesOnWith text f.state.place (encode_utf8_all read) → AreSettledAt text state.place state.line 0 (given ++ lines)
-    unfolding lines
-    first some text given scanning goes =
-        let there : f.state.place + byte_len read ≡ state.place = omega (arith, place, read_size) in
-        let bytes = append-nil (encode_utf8_all read) in
-        let at = all_settled found.texts text f.state.place f.state.line given read [] p.line_ends beyond are (omega (arith, some, read_size)) (λ (none : f.state.place ≡ 0). omega (arith, none, between.later)) scanning.first (subst (GoesOnWith text f.state.place) (sym bytes) goes) exact in
-        subst (λ (m : ℕ). AreSettledAt text m state.line 0 (given ++ lines)) there
-        (subst (λ (m : ℕ). AreSettledAt text (f.state.place + byte_len read) m 0 (given ++ lines)) (sym line) at)
+      ready : ready_of after f.ready ≡ None
+      ready = ap (ready_of after) not_ready
 
-    scans : 0 < p.len → (text : List ℕ) (given : List LogicalLine) → IsScanning (scanning_of f) text given → GoesOnWith text (fed_of (scanning_of f)) (take p.len piece) → HasSettled (scanning_of after) text (given ++ lines)
-    scans some text given scanning goes =
-        let here : fed_of (scanning_of f) ≡ f.state.place = omega (arith, ap length between.held) in
-        let fed : state.place + 0 ≡ fed_of (scanning_of after) = omega (arith, ap length between.held) in
-        let next : GoesOnWith text f.state.place (encode_utf8_all read) = subst (GoesOnWith text f.state.place) (sym read_is) (subst (λ (m : ℕ). GoesOnWith text m (take p.len piece)) here goes) in
-        let at = first some text given scanning next in (
+      first : (text : List ℕ) (given : List LogicalLine) → IsScanning (scanning_of f) text given → GoesOnWith text f.state.place (encode_utf8_all read ++ held.items) → AreSettledAt text state.place state.line (length held.items) (given ++ lines)
+      unfolding lines
+      first text given scanning goes =
+          let there : f.state.place + byte_len read ≡ state.place = omega (arith, place, read_size) in
+          let at = all_settled found.texts text f.state.place f.state.line given read held.items p.line_ends beyond are (omega (arith, some, read_size)) (λ (none : f.state.place ≡ 0). omega (arith, none, stands.later)) scanning.first goes exact in
+          subst (λ (m : ℕ). AreSettledAt text m state.line (length held.items) (given ++ lines)) there
+          (subst (λ (m : ℕ). AreSettledAt text (f.state.place + byte_len read) m (length held.items) (given ++ lines)) (sym line) at)
+
+      scans : (text : List ℕ) (given : List LogicalLine) → IsScanning (scanning_of f) text given → GoesOnWith text f.state.place (take p.len bytes ++ held.items) → HasSettled (scanning_of after) text (given ++ lines)
+      scans text given scanning goes =
+          let next : GoesOnWith text f.state.place (encode_utf8_all read ++ held.items) = subst (λ t. GoesOnWith text f.state.place (t ++ held.items)) (sym read_is) goes in
+          let at = first text given scanning next in
+          let there : f.state.place + length (encode_utf8_all read) ≡ state.place = omega (arith, place, read_size) in
+          let none : (given ++ lines) ++ ready_lines (ready_of after f.ready) ≡ given ++ lines = ap (λ (r : Option LogicalLine). (given ++ lines) ++ ready_lines r) ready ∙ append-nil (given ++ lines) in (
+            record {
+              first = at.0;
+              held = subst (λ (m : ℕ). GoesOnWith text m held.items) there (goes_after text f.state.place (encode_utf8_all read) held.items next);
+              settled = λ (more : 0 < length held.items). subst (IsSettled (take (state.place + length held.items) text)) (sym none) at.1;
+              whole = subst (HoldsReady held.items) (sym ready) tt;
+              open_yet = stands.open_yet;
+              no_fault = fault ∙ stands.no_fault;
+            },
+            at.1,
+          )
+
+      others : scanning_of after ≡ record (scanning_of f) { place = state.place; line = state.line; held = held.items }
+      others =
+          let same : ready_of after f.ready ≡ ready_of f f.ready = ready ∙ sym stands.ready in
+          λ i. record { place = state.place; line = state.line; held = held.items; ready = same i; ended = f.ended; fault = fault i }
+
+      texts : flat_map (λ (l : LogicalLine). l.text) lines ≡ take p.len bytes
+      unfolding lines
+      texts = lines_spell found.texts f.state.place f.state.line read p.line_ends beyond are ∙ read_is
+
+      pub passes_lines : PassesPieceLines (scanning_of f) bytes before p.len (scanning_of after)
+      passes_lines = record {
+        lines = lines;
+        texts = texts;
+        ends = up_to;
+        stands = λ more. stands;
+        began = λ more. began;
+        held = λ more. holds_here;
+        scans = λ more. scans;
+        place = place;
+        others = others;
+        same = λ none. absurd (omega (arith, none, some));
+      }
+
+      pub passed_sound : f.state.place + length bytes ≤ 2 ^ 62 → IsSoundFeed f → IsSoundFeed after
+      passed_sound fits sound =
+          let room = holds_here.within in
           record {
-            first = at.0;
-            held = subst (GoesOnWith text state.place) (sym between.held) refl;
-            settled = λ (more : 0 < length f.held.items). absurd (omega (arith, more, ap length between.held));
-            whole = subst (HoldsReady f.held.items) (sym ready) tt;
-            open_yet = between.open_yet;
-            no_fault = fault ∙ between.no_fault;
-          },
-          subst (λ (m : ℕ). IsSettled (take m text) (given ++ lines)) fed at.1,
-        )
-
-    others : scanning_of after ≡ record (scanning_of f) { place = state.place; line = state.line }
-    others =
-        let same : ready_of after f.ready ≡ ready_of f f.ready = ready ∙ sym between.ready in
-        λ i. record { place = state.place; line = state.line; held = f.held.items; ready = same i; ended = f.ended; fault = fault i }
-
-    nothing : p.len ≡ 0 → scanning_of after ≡ scanning_of f
-    nothing none =
-        let at : state.place ≡ f.state.place = omega (arith, place, none) in
-        let row : state.line ≡ f.state.line = omega (arith, line, none, few) in
-        others ∙ (λ i. record (scanning_of f) { place = at i; line = row i })
-
-    texts : flat_map (λ (l : LogicalLine). l.text) lines ≡ take p.len piece
-    unfolding lines
-    texts = lines_spell found.texts f.state.place f.state.line read p.line_ends beyond are ∙ read_is
-
-    pub passes_lines : PassesPieceLines (scanning_of f) piece before p.len (scanning_of after)
-    passes_lines = record {
-      lines = lines;
-      texts = texts;
-      within = within;
-      ends = up_to;
-      between = λ more. between;
-      scans = scans;
-      place = place;
-      others = others;
-      same = nothing;
-    }
-
-    pub passed_sound : f.state.place + length f.held.items + length piece ≤ 2 ^ 62 → IsSoundFeed f → IsSoundFeed after
-    passed_sound fits sound = record {
-      room = record {
-        fits = omega (arith, place, within, fits);
-        few_lines = omega (arith, place, line, few, sound.room.few_lines);
-      };
-      state = subst (λ x. StandsSo x after) (sym not_ready) (λ no_fault. ([], f.held.items, restarts_open (record f { state = record f.state { place = f.state.place + p.len; line = f.state.line + p.line_ends; scan = scan } }) after (record { same = refl; begins = anew })));
-    }
+            room = record {
+              fits = omega (arith, place, room, fits);
+              few_lines = omega (arith, place, line, few, sound.room.few_lines);
+            };
+            state = subst (λ x. StandsSo x after) (sym not_ready) (λ no_fault. ([], held.items, restarts_open (record f { state = record f.state { place = f.state.place + p.len; line = f.state.line + p.line_ends; scan = scan }; held = held }) after (record { same = refl; begins = anew })));
+          }

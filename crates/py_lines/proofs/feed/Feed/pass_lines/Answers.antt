@@ -1,26 +1,38 @@
 use Rattle.std.proofs.Common.{rules, subst}
 use Rattle.py_lines.specs.Private.LineState.{BeginsAnew}
 use Rattle.py_lines.specs.declared.line_state.LineState.{LineState}
-use Rattle.py_lines.proofs.Feeds.PassedLines.{line_fits, passed_sound, passes_lines, settled_of}
+use Rattle.py_lines.proofs.Feeds.PassedLines.{begun_none, begun_sound_feed, line_fits, passed_sound, passes_lines}
 use Rattle.py_lines.proofs.feed.Feed.pass_lines.Goals as goal
+
+pub returns-then-not-hold_after_lines-clause-passes : goal.returns-then-not-hold_after_lines-clause-passes
+returns-then-not-hold_after_lines-clause-passes c =
+    let stands = c.stands_after_line.ensures.stands c.if-not-stands_after_line.false in
+    begun_none c.args.self.now c.hold_after_lines.new.held c.restart.new.self _ stands (c.hold_after_lines.ensures.kept c.if-not-hold_after_lines.true) c.restart.ensures c.args.bytes.now c.args.before
+
+pub returns-then-not-hold_after_lines-clause-sound : goal.returns-then-not-hold_after_lines-clause-sound
+returns-then-not-hold_after_lines-clause-sound c =
+    let stands = c.stands_after_line.ensures.stands c.if-not-stands_after_line.false in
+    begun_sound_feed c.args.self.now c.hold_after_lines.new.held c.restart.new.self _ stands (c.hold_after_lines.ensures.kept c.if-not-hold_after_lines.true) c.restart.ensures c.requires.sound
 
 pub overflow_add-line : goal.overflow_add-line
 overflow_add-line c =
-    let between = c.stands_between_lines.ensures c.if-not-stands_between_lines.false in
-    let settled = settled_of c.args.piece.now c.min.result c.settled_lines-lines.result c.settled_lines-lines.ensures.lines c.settled_lines-lines.ensures.settled in
-    let fits = line_fits c.args.self.now c.args.self.now.state c.args.piece.now c.args.before c.min.result c.settled_lines-lines.result between c.min.ensures c.settled_lines-lines.ensures.lines settled c.requires.fits c.requires.sound in
+    let stands = c.stands_after_line.ensures in
+    let some = c.hold_after_lines.ensures.some c.if-not-hold_after_lines.false in
+    let fits = line_fits c.args.self.now c.args.bytes.now c.args.before c.min.result c.simple_lines-lines.result (stands.stands c.if-not-stands_after_line.false) (stands.begins c.if-not-stands_after_line.false) c.min.ensures c.simple_lines-lines.ensures some c.requires.fits c.requires.sound in
     search (rules, fits)
 
 pub returns-clause-passes : goal.returns-clause-passes
 returns-clause-passes c =
-    let between = c.stands_between_lines.ensures c.if-not-stands_between_lines.false in
-    let settled = settled_of c.args.piece.now c.min.result c.settled_lines-lines.result c.settled_lines-lines.ensures.lines c.settled_lines-lines.ensures.settled in
-    let anew = subst (λ (s : LineState). BeginsAnew s c.restart.new.self) c.pass.ensures c.restart.ensures in
-    passes_lines c.args.self.now c.restart.new.self c.args.piece.now c.args.before c.min.result c.settled_lines-lines.result between c.min.ensures c.settled_lines-lines.ensures.lines settled _ anew
+    let stands = c.stands_after_line.ensures in
+    let holds = c.hold_after_lines.ensures in
+    let anew = subst (λ (s : LineState). BeginsAnew s c.restart-2.new.self) c.pass.ensures c.restart-2.ensures in
+    passes_lines c.args.self.now c.args.bytes.now c.args.before c.min.result c.simple_lines-lines.result (stands.stands c.if-not-stands_after_line.false) (stands.begins c.if-not-stands_after_line.false) c.min.ensures c.simple_lines-lines.ensures (holds.some c.if-not-hold_after_lines.false)
+    c.hold_after_lines.new.held (holds.held c.if-not-hold_after_lines.false) c.restart-2.new.self _ anew
 
 pub returns-clause-sound : goal.returns-clause-sound
 returns-clause-sound c =
-    let between = c.stands_between_lines.ensures c.if-not-stands_between_lines.false in
-    let settled = settled_of c.args.piece.now c.min.result c.settled_lines-lines.result c.settled_lines-lines.ensures.lines c.settled_lines-lines.ensures.settled in
-    let anew = subst (λ (s : LineState). BeginsAnew s c.restart.new.self) c.pass.ensures c.restart.ensures in
-    passed_sound c.args.self.now c.restart.new.self c.args.piece.now c.args.before c.min.result c.settled_lines-lines.result between c.min.ensures c.settled_lines-lines.ensures.lines settled _ anew c.requires.fits c.requires.sound
+    let stands = c.stands_after_line.ensures in
+    let holds = c.hold_after_lines.ensures in
+    let anew = subst (λ (s : LineState). BeginsAnew s c.restart-2.new.self) c.pass.ensures c.restart-2.ensures in
+    passed_sound c.args.self.now c.args.bytes.now c.args.before c.min.result c.simple_lines-lines.result (stands.stands c.if-not-stands_after_line.false) (stands.begins c.if-not-stands_after_line.false) c.min.ensures c.simple_lines-lines.ensures (holds.some c.if-not-hold_after_lines.false)
+    c.hold_after_lines.new.held (holds.held c.if-not-hold_after_lines.false) c.restart-2.new.self _ anew c.requires.fits c.requires.sound
