@@ -180,7 +180,8 @@ pub record PassesPieceLines (old : ScannerState) (bytes : List ℕ) (before len 
   pub stands : 0 < len → StandsAfterLine old
   pub began : 0 < len → take (length old.held) bytes ≡ old.held
   pub held : 0 < len → HoldsAfterLines bytes len new.held
-  pub scans : 0 < len → WhereScans old (λ text given. GoesOnWith text old.place (take len bytes ++ new.held) → HasSettled new text (given ++ lines))
+  pub scans : 0 < len → WhereScans old (λ text given.
+      GoesOnWith text old.place (take len bytes ++ new.held) → HasSettled new text (given ++ lines))
   pub place : new.place ≡ old.place + len
   pub others : new ≡ record old { place = new.place; line = new.line; held = new.held }
   pub same : len ≡ 0 → new ≡ old

@@ -3,7 +3,8 @@
 ghost use Rattle.std.specs.Prelude.{◌≡◌, ◌+◌, ◌<◌, true, IsTrue, drop, length, slice_index};
 ghost use Rattle.py_lines.specs.Character.{is_backslash, is_hash, is_quote};
 ghost use Rattle.py_lines.specs.Private.Marks.{is_of_class};
-ghost use Rattle.py_lines.specs.Private.Outline.{BeginWithLines, BeginsOuterEnd, HasOuterEnd, IsAt, IsFurther, IsPast, PassesFirst, PassesPiece};
+ghost use Rattle.py_lines.specs.Private.Outline.{BeginWithLines, BeginsOuterEnd, HasOuterEnd, IsAt, IsFurther, IsPast};
+ghost use Rattle.py_lines.specs.Private.Outline.{PassesFirst, PassesPiece};
 
 use crate::brackets::Brackets;
 use crate::class::Class;
@@ -27,7 +28,7 @@ fn comment(bytes: &[u8]) -> Option<Passed>
     })
 }
 
-/// How many bytes the line end has that the bytes begin with (Python Language Reference, 2.1.2). At their end CR is none yet: LF may follow.
+/// How many bytes the line end has that the bytes begin with (Python Language Reference, 2.1.2). CR at their end is none: LF may follow.
 fn outer_end_len(bytes: &[u8]) -> Option<usize>
     ensures { HasOuterEnd bytes.now result }
 {
