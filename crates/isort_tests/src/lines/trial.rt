@@ -75,7 +75,6 @@ fn passed(
     fed: usize,
     ahead: usize,
 ) -> Option<usize>
-    requires within { fed ≤ length piece.now }
     ensures within { IfSome result (λ n. n ≤ length piece.now) }
     ensures ended { scanner.new.ended ≡ scanner.old.ended }
 {
@@ -84,8 +83,8 @@ fn passed(
     }
     let held = scanner.held().len();
     // What is held may be the end of another piece.
-    if held > fed {
-        return Some(fed);
+    if held > fed || fed > piece.len() {
+        return Some(fed.min(piece.len()));
     }
     let start = fed - held;
     let stop = start.saturating_add(scanner.pass_lines(&piece[start..], ahead));
