@@ -52,8 +52,12 @@ fn import_may_begin(text: &[u8], start: usize, place: usize) -> bool
     ensures yes { IsTrue result → ImportMayBegin text.now start place }
     ensures no { result ≡ false → ¬ (ImportMayBegin text.now start place) }
 {
+    // Most of the first letters stand in the middle of other words, which the byte before them shows at once.
+    if !may_begin(text, start, place) {
+        return false;
+    }
     let rest = &text[place..];
-    (rest.starts_with(b"import") || rest.starts_with(b"from")) && may_begin(text, start, place)
+    rest.starts_with(b"import") || rest.starts_with(b"from")
 }
 
 /// At which of the first 64 bytes stand the first two letters of `import` or `from`, a bit for each. More bits may be set.
