@@ -9,6 +9,7 @@ pub mod Loops
 pub mod Begun
 pub mod Characters
 pub mod ReadyLines
+pub mod MadeReady
 pub mod LastBytes
 pub mod NextHeld
 pub mod Chunks

@@ -39,12 +39,16 @@
 -- machine goes on to the text's end or to its fault, so the lines of the whole text begin with them. A reader at the
 -- start has given none, so every text has some lexing. Settled pieces begin all pieces that read more, so their lines are final.
 --
--- The scan (proofs/LineScan): the code follows the machine through one logical line, and its counts are the line's
--- fields. Words, spaces, operators, short strings, comments and line ends are taken whole, by runs of bytes, in one
--- loop; in other pieces the characters that leave the open piece as it is are held in one step. A piece taken whole is
--- closed early, where the next byte shows its end: the scan is then that of the machine with its open piece closed,
--- until the next piece begins (`ReachedShut`). After a line end the machine goes on as it does alone, so the next line
--- is scanned from its own start.
+-- The scan (proofs/LineScan): the code follows the machine through one logical line, and knows where it ends and what is
+-- open in it. Where no piece is open it passes over whole pieces as over simple lines (SimpleLines), in whatever mode the line
+-- began, and stands again where all of them are closed: after an operator, a line end, a string or a join (WholePieces). In other
+-- pieces the characters that leave the open piece as it is are held in one step. After a line end the machine goes on as it does
+-- alone, so the next line is scanned from its own start.
+--
+-- The tokens of a whole line (proofs/LineTokens): they are read from its text alone, piece by piece, and so for all pieces
+-- that the text spells. Each class of pieces begins with other bytes. A word, a space or a comment is the run of bytes that
+-- the text begins with, since what follows it can't go on with it. A string is what the scan closes first: by one reading no
+-- other piece stands there. So what was read is always the first part of the line's pieces, and at the end all of them.
 --
 -- The scan of a string with fields (proofs/FieldScans): what it keeps is the mode, the place and the frames of that machine's
 -- state (`Follows`, specs/Private/FieldScan), and each character keeps it so. Simple text, with whole fields, leads the machine from
@@ -93,6 +97,7 @@ pub mod LogicalLines
 pub mod Lexings
 pub mod Elsewhere
 pub mod LineScan
+pub mod LineTokens
 pub mod SpecialBytes
 pub mod SimpleLines
 pub mod WholeFields

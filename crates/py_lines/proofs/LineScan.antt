@@ -10,10 +10,8 @@ pub mod LineCount
 pub mod Increments
 pub mod Runs
 pub mod Spans
-pub mod ShortPieces
+pub mod AsciiRuns
+pub mod PlainStrings
 pub mod WholeStrings
-pub mod EarlyEnds
-pub mod FirstBytes
-pub mod TokenRuns
-pub mod NextPieces
 pub mod LineStops
+pub mod WholePieces

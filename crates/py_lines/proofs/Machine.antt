@@ -1,7 +1,6 @@
 -- The machine on the pieces of a text.
 pub mod Starts
 pub mod Spellings
-pub mod WordTokens
 pub mod PieceSteps
 pub mod StringSteps
 pub mod ReadingSteps

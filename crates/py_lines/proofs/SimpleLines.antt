@@ -1,5 +1,6 @@
 -- Simple lines are passed over: the machine goes through them.
 pub mod FirstBytes
+pub mod Tails
 pub mod Code
 pub mod Runs
 pub mod Prefixes
@@ -8,3 +9,4 @@ pub mod FieldStrings
 pub mod Comments
 pub mod Joins
 pub mod Lines
+pub mod UnderWay

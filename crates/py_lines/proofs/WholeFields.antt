@@ -16,19 +16,20 @@ use Rattle.py_lines.specs.Piece.{ends, string}
 use Rattle.py_lines.specs.declared.field_scan.FieldProgress.TheVariants as progress
 use Rattle.py_lines.specs.declared.field_scan.FieldScan.{FieldScan}
 use Rattle.py_lines.specs.declared.host.StringWithFields.{StringWithFields}
+use Rattle.py_lines.specs.declared.mode.Mode.{Mode}
 use Rattle.py_lines.specs.declared.mode.Mode.TheVariants as modes
 use Rattle.py_lines.specs.declared.mode.Move.{Move}
 use Rattle.py_lines.specs.declared.mode.Move.TheVariants as moves
 use Rattle.py_lines.specs.declared.mode.Spelling.{Spelling}
 use Rattle.py_lines.specs.declared.plain_strings.Passed.{Passed}
-use Rattle.py_lines.specs.Private.Machine.{Bracket, Scanned, fresh, moved}
+use Rattle.py_lines.specs.Private.Machine.{Bracket, Scanned, moved}
 use Rattle.py_lines.specs.Private.FieldMachine as spots
 use Rattle.py_lines.specs.Private.FieldMachine.{At, between, after_one, after_two, after_slash, after_return, after_name, after_brace, body, grows, closes, breaks, begins_code, opens_field, refused, FieldMove, FieldScanned, Level, field_state, field_text_start, field_move, field_moved, field_step, frames, has_room_at, between_move, escape_move, body_move, opening_move, ending_move, is_barred_escape, long_host}
 use Rattle.py_lines.specs.Private.FieldScan.{Follows, FollowsBody, GoesThrough, HoldsField, PushesField}
 use Rattle.py_lines.specs.Private.FieldFaults.{here}
 use Rattle.py_lines.specs.Private.Scan.{line_start}
 use Rattle.py_lines.specs.Private.ScanMachine.{IsInString, fielded_move, has_room_in, host_in, is_field_spelling, is_raw_spelling, meet_of, opened_move, quote_move, scan_step, scan_steps, move_at, string_move, string_state}
-use Rattle.py_lines.specs.Private.Outline.{BeginsLong, GoesOnAfter, HoldsLineEnds, IsInPiece, Passes, PassesPart, PassesPiece, StandsBefore, tail_of}
+use Rattle.py_lines.specs.Private.Outline.{BeginsLong, HoldsLineEnds, IsFreeAfter, IsInPiece, Passes, PassesPart, PassesPiece, StandsBefore, StandsClosed, tail_of}
 use Rattle.py_lines.specs.Private.WholeFields.{FieldsBegin, HasFieldString, IsInFields, first_host}
 use Rattle.py_lines.proofs.Pieces.OpenBrackets as brackets
 use Rattle.py_lines.proofs.Pieces.PieceLists.{piece}
@@ -46,14 +47,15 @@ use Rattle.py_lines.proofs.LineScan.Increments.{EndsNoLine-push}
 use Rattle.py_lines.proofs.LineScan.LineCount.{byte_len-one, ends-last}
 use Rattle.py_lines.proofs.LineScan.LineSteps.{steps_push}
 use Rattle.py_lines.proofs.LineScan.Runs.{break-return, ends-run, quote_ascii, string_no_break, string_run}
-use Rattle.py_lines.proofs.LineScan.ShortPieces.{is_low, is_low_from, low_encodes, low_is, quote-no_break}
+use Rattle.py_lines.proofs.LineScan.AsciiRuns.{is_low, is_low_from, low_encodes, low_is, quote-no_break}
 use Rattle.py_lines.proofs.LineScan.StringOpenings.{opened_as_body}
 use Rattle.py_lines.proofs.LineScan.StringSteps.{here_at, string_more}
-use Rattle.py_lines.proofs.SimpleLines.Code.{apart_tail, come_sound, holds_line_end, holds_more, holds_one, no_tail, one_unreturned, quote-no-word, stands}
+use Rattle.py_lines.proofs.SimpleLines.Code.{holds_line_end, holds_more, holds_one, one_unreturned}
+use Rattle.py_lines.proofs.SimpleLines.Tails.{come_sound, no_tail, quote-no-word}
 use Rattle.py_lines.proofs.SimpleLines.FieldStrings.{word_open}
 use Rattle.py_lines.proofs.SimpleLines.Strings as strings
 use Rattle.py_lines.proofs.SimpleLines.FirstBytes.{taken_one, taken_two}
-use Rattle.py_lines.proofs.SimpleLines.Strings.{after, low_part, low_still, still}
+use Rattle.py_lines.proofs.SimpleLines.Strings.{after, low_part, low_still, still, string_closes}
 
 -- where few brackets are open round a string, there is room where there is where more are
 room_lower : (n m c : ℕ) (v : FieldMove) → n ≤ m → has_room_at m c v ≡ true → has_room_at n c v ≡ true
@@ -169,7 +171,7 @@ closing_quote depth held t c steps inside shut =
 some_is : (a b : FieldScanned) → Some a ≡ Some b → a ≡ b
 some_is a b e = cc
 
-module _ (scan : FieldScan) (place : ℕ) (read : List ℕ) (n : ℕ) (st : List Bracket) (on : IsInFields scan place read n st) where
+module _ (scan : FieldScan) (place : ℕ) (initial : Mode) (read : List ℕ) (n : ℕ) (st : List Bracket) (on : IsInFields scan place initial read n st) where
   abbrev depth : ℕ
   depth = depth_through 0 on.done
 
@@ -178,7 +180,7 @@ module _ (scan : FieldScan) (place : ℕ) (read : List ℕ) (n : ℕ) (st : List
 
   inside : IsInString on.state
   inside =
-      let sound = come_sound read n st open_state on.come in
+      let sound = come_sound initial read n st open_state on.come in
       subst IsInString (some_is sound.holds.state on.state (sym sound.holds.steps ∙ on.steps)) sound.holds.inside
 
   shallow : depth ≤ 100
@@ -191,7 +193,7 @@ module _ (scan : FieldScan) (place : ℕ) (read : List ℕ) (n : ℕ) (st : List
   moves_so c w other move = ap (moved open_state c) (ap (λ o. fielded_move depth o c) on.steps ∙ lower depth 100 on.state c w shallow other move)
 
   -- it goes on over a character
-  over_one : (new : FieldScan) (c k : ℕ) → c < 128 → is_return c ≡ false → HoldsLineEnds (read ++ c ∷ []) k → PushesField scan c place 100 progress.Going new → IsInFields new (place + 1) (read ++ c ∷ []) k st
+  over_one : (new : FieldScan) (c k : ℕ) → c < 128 → is_return c ≡ false → HoldsLineEnds (read ++ c ∷ []) k → PushesField scan c place 100 progress.Going new → IsInFields new (place + 1) initial (read ++ c ∷ []) k st
   over_one new c k low other holds pushes =
       let (next, goes, move, within, follows) = pushes 0 on.state on.follows inside stands_here in
       record {
@@ -199,7 +201,8 @@ module _ (scan : FieldScan) (place : ℕ) (read : List ℕ) (n : ℕ) (st : List
         done = on.done;
         held = on.held ++ c ∷ [];
         come = record {
-          steps = steps_push (line_start modes.Free) read open_state c on.come.steps ∙ moves_so c (moves.Grows modes.Fielded) (λ e. cc) move;
+          start = on.come.start;
+          steps = steps_push (line_start initial) read open_state c on.come.steps ∙ moves_so c (moves.Grows modes.Fielded) (λ e. cc) move;
           stacked = on.come.stacked;
           one_line = on.come.one_line;
           holds = holds;
@@ -220,7 +223,7 @@ module _ (scan : FieldScan) (place : ℕ) (read : List ℕ) (n : ℕ) (st : List
   run_unreturned [] u goes = ap (ends is_return) (append-nil read) ∙ on.unreturned
   run_unreturned (c ∷ cs) u goes = ends-run read (c ∷ cs) tt (string_no_break depth on.state (c ∷ cs) u goes)
 
-  over_run : (run : List ℕ) (len : ℕ) → byte_len run ≡ len → (u : FieldScanned) → GoesThrough 100 on.state run u → Follows scan 0 u → IsInFields scan (place + len) (read ++ run) n st
+  over_run : (run : List ℕ) (len : ℕ) → byte_len run ≡ len → (u : FieldScanned) → GoesThrough 100 on.state run u → Follows scan 0 u → IsInFields scan (place + len) initial (read ++ run) n st
   over_run run len size u through follows =
       let goes = goes_lower depth 100 on.state run u shallow through in
       let ran = string_run on.done on.held run on.state u on.steps goes in
@@ -229,7 +232,8 @@ module _ (scan : FieldScan) (place : ℕ) (read : List ℕ) (n : ℕ) (st : List
         done = on.done;
         held = on.held ++ run;
         come = record {
-          steps = steps_by-append move_at (Some (line_start modes.Free)) read run ∙ ap (λ o. scan_steps o run) on.come.steps ∙ ran.0;
+          start = on.come.start;
+          steps = steps_by-append move_at (Some (line_start initial)) read run ∙ ap (λ o. scan_steps o run) on.come.steps ∙ ran.0;
           stacked = on.come.stacked;
           one_line = on.come.one_line;
           holds = run_holds run u goes;
@@ -242,21 +246,20 @@ module _ (scan : FieldScan) (place : ℕ) (read : List ℕ) (n : ℕ) (st : List
       }
 
   -- it is closed
-  over_last : (new : FieldScan) (c : ℕ) → PushesField scan c place 100 progress.Closed new → GoesOnAfter (read ++ c ∷ []) n st
+  over_last : (new : FieldScan) (c : ℕ) → PushesField scan c place 100 progress.Closed new → IsFreeAfter initial (read ++ c ∷ []) n st
   over_last new c pushes =
       let shut : fielded_move 100 (Some on.state) c ≡ moves.Closes = pushes 0 on.state on.follows inside stands_here in
       let quote : is_quote c ≡ true = closing_quote 100 on.held on.state c on.steps inside shut in
       let text = piece string (on.held ++ c ∷ []) in
       record {
-        state = fresh (on.done ++ text ∷ []);
+        done = on.done ++ text ∷ [];
         come = record {
-          steps = steps_push (line_start modes.Free) read open_state c on.come.steps ∙ moves_so c moves.Closes (λ e. cc) shut;
+          start = on.come.start;
+          steps = steps_push (line_start initial) read open_state c on.come.steps ∙ moves_so c moves.Closes (λ e. cc) shut;
           stacked = keeps on.done text st refl refl on.come.stacked;
           one_line = EndsNoLine-push 0 on.done text on.come.one_line refl;
           holds = holds_one read c n on.come.holds (quote_ascii c quote) (quote-no_break c quote);
         };
-        tail = apart_tail (tail_of (read ++ c ∷ [])) modes.Free refl (no_tail read c (quote-no-word c quote));
-        unreturned = one_unreturned read c (quote-no_break c quote);
       }
 
 -- one character of ASCII
@@ -294,9 +297,9 @@ module _ (first scan : FieldScan) (place : ℕ) (bytes : List ℕ) (len feeds : 
       let room : k ≤ length (drop len bytes) = omega (arith, is.size, ap length is.spell, length-append run (drop k (drop len bytes))) in
       let further : (place + len) + k ≡ place + (len + k) = omega arith in
       after bytes len feeds k 0 feeds (omega arith) read
-      (still (drop len bytes) is.run k room (sym spell) (λ r n st on.
-      let (u, goes, follows) = is.stay 0 on.state on.follows (inside scan (place + len) r n st on) in
-      subst (λ (j : ℕ). IsInFields scan j (r ++ is.run) n st) further (over_run scan (place + len) r n st on is.run k is.size u goes follows)))
+      (still (drop len bytes) is.run k room (sym spell) (λ initial r n st on.
+      let (u, goes, follows) = is.stay 0 on.state on.follows (inside scan (place + len) initial r n st on) in
+      subst (λ (j : ℕ). IsInFields scan j initial (r ++ is.run) n st) further (over_run scan (place + len) initial r n st on is.run k is.size u goes follows)))
 
   pub pushed_on : (new : FieldScan) → len < length bytes → slice_index bytes len < 128 → (slice_index bytes len ≡ 13 → ⊥) → PushesField scan (slice_index bytes len) (place + len) 100 progress.Going new → PassesPart bytes (len + 1) (feeds + bool_byte (slice_index bytes len == 10)) (IsInFields first place) (IsInFields new (place + (len + 1)))
   pushed_on new within low other pushes =
@@ -304,18 +307,18 @@ module _ (first scan : FieldScan) (place : ℕ) (bytes : List ℕ) (len feeds : 
       let more : ℕ = bool_byte (c == 10) in
       let further : (place + len) + 1 ≡ place + (len + 1) = omega arith in
       after bytes len feeds 1 more (feeds + more) refl read
-      (low_part (drop len bytes) (c ∷ []) 1 more (omega (arith, within, length-drop len bytes)) (one_low c low) (one_is within) (λ r n st on.
-      subst (λ (j : ℕ). IsInFields new j (r ++ c ∷ []) (n + more) st) further
-      (over_one scan (place + len) r n st on new c (n + more) low (no_return c other) (one_held r n c on.come.holds on.unreturned low other) pushes)))
+      (low_part (drop len bytes) (c ∷ []) 1 more (omega (arith, within, length-drop len bytes)) (one_low c low) (one_is within) (λ initial r n st on.
+      subst (λ (j : ℕ). IsInFields new j initial (r ++ c ∷ []) (n + more) st) further
+      (over_one scan (place + len) initial r n st on new c (n + more) low (no_return c other) (one_held r n c on.come.holds on.unreturned low other) pushes)))
 
-  pub closed_on : (new : FieldScan) → len < length bytes → slice_index bytes len < 128 → feeds ≤ len → PushesField scan (slice_index bytes len) (place + len) 100 progress.Closed new → Passes bytes (record { len = len + 1; line_ends = feeds }) (IsInFields first place) GoesOnAfter
+  pub closed_on : (new : FieldScan) → len < length bytes → slice_index bytes len < 128 → feeds ≤ len → PushesField scan (slice_index bytes len) (place + len) 100 progress.Closed new → Passes bytes (record { len = len + 1; line_ends = feeds }) (IsInFields first place) IsFreeAfter
   closed_on new within low few pushes =
       let c : ℕ = slice_index bytes len in
       record {
         some = omega arith;
         few = omega (arith, few);
         part = after bytes len feeds 1 0 feeds (omega arith) read
-            (low_still (drop len bytes) (c ∷ []) 1 (omega (arith, within, length-drop len bytes)) (one_low c low) (one_is within) (λ r n st on. over_last scan (place + len) r n st on new c pushes));
+            (low_still (drop len bytes) (c ∷ []) 1 (omega (arith, within, length-drop len bytes)) (one_low c low) (one_is within) (λ initial r n st on. over_last scan (place + len) initial r n st on new c pushes));
       }
 
 pub few_more : (b : Bool) → bool_byte b ≤ 1
@@ -325,7 +328,7 @@ few_more false = omega arith
 pub rest_begun : (scan : FieldScan) (place : ℕ) (bytes : List ℕ) → PassesPart bytes 0 0 (IsInFields scan place) (IsInFields scan (place + 0))
 rest_begun scan place bytes =
     let same : place ≡ place + 0 = omega arith in
-    still bytes [] 0 (omega arith) refl (λ read n st on. subst (λ (t : List ℕ). IsInFields scan (place + 0) t n st) (sym (append-nil read)) (subst (λ (k : ℕ). IsInFields scan k read n st) same on))
+    still bytes [] 0 (omega arith) refl (λ initial read n st on. subst (λ (t : List ℕ). IsInFields scan (place + 0) initial t n st) (sym (append-nil read)) (subst (λ (k : ℕ). IsInFields scan k initial read n st) same on))
 
 -- the letters of a prefix
 letter_low : (c : ℕ) → IsLetter c → is_low c ≡ true
@@ -442,21 +445,22 @@ module _ (raw : Bool) (q : ℕ) (quote : is_quote q ≡ true) where
   sound_in held t steps = (sound_at no_limit held t (any_rooms (Some field_text_start) held) steps).mode
 
   -- the first character of a short string
-  over_first : (scan new : FieldScan) (read : List ℕ) (n : ℕ) (st : List Bracket) (c : ℕ) → FollowsBody scan own 0 → c == q ≡ false → c < 128 → PushesField scan c (2 + bool_byte raw) 100 progress.Going new → FieldsBegin q raw read n st → IsInFields new (2 + bool_byte raw + 1) (read ++ q ∷ c ∷ []) n st
-  over_first scan new read n st c follows other low pushes (few, on) =
+  over_first : (scan new : FieldScan) (initial : Mode) (read : List ℕ) (n : ℕ) (st : List Bracket) (c : ℕ) → FollowsBody scan own 0 → c == q ≡ false → c < 128 → PushesField scan c (2 + bool_byte raw) 100 progress.Going new → FieldsBegin q raw initial read n st → IsInFields new (2 + bool_byte raw + 1) initial (read ++ q ∷ c ∷ []) n st
+  over_first scan new initial read n st c follows other low pushes (few, on) =
       let first : Scanned = scanned on.done (modes.FieldOpened own) on.held in
-      let steps : string_state on.held ≡ Some (field_state [] [] [] (spots.opened (host_in own)) on.held) = (come_sound (read ++ q ∷ []) n st first on.come).holds in
+      let steps : string_state on.held ≡ Some (field_state [] [] [] (spots.opened (host_in own)) on.held) = (come_sound initial (read ++ q ∷ []) n st first on.come).holds in
       let size : byte_len on.held ≡ 1 + bool_byte raw + byte_len (q ∷ []) = opened_size (host_in own) (q ∷ []) on.held (sound_in on.held _ steps).0 in
       let place : 2 + bool_byte raw ≡ 0 + byte_len on.held = omega (arith, size, quote_size q quote) in
       let (next, goes, move, within, on_it) = pushes 0 (field_state [] [] [] (body (host_in own) literal false between) on.held) (follows on.held) (λ none. (host_in own, literal, false, between, refl)) place in
       let whole : is_break c ≡ false = first_whole 100 (host_in own) on.held c refl other move in
-      subst (λ (t : List ℕ). IsInFields new (2 + bool_byte raw + 1) t n st) (append_assoc read (q ∷ []) (c ∷ []))
+      subst (λ (t : List ℕ). IsInFields new (2 + bool_byte raw + 1) initial t n st) (append_assoc read (q ∷ []) (c ∷ []))
       (record {
         few = few;
         done = on.done;
         held = on.held ++ c ∷ [];
         come = record {
-          steps = steps_push (line_start modes.Free) (read ++ q ∷ []) first c on.come.steps ∙ ap (moved first c) (opened_other own c other whole);
+          start = on.come.start;
+          steps = steps_push (line_start initial) (read ++ q ∷ []) first c on.come.steps ∙ ap (moved first c) (opened_other own c other whole);
           stacked = on.come.stacked;
           one_line = on.come.one_line;
           holds = holds_one (read ++ q ∷ []) c n on.come.holds low whole;
@@ -469,25 +473,26 @@ module _ (raw : Bool) (q : ℕ) (quote : is_quote q ≡ true) where
       })
 
   -- two quotes
-  over_second : (read : List ℕ) (n : ℕ) (st : List Bracket) → FieldsBegin q raw read n st → IsInPiece (modes.FieldEmpty own) (read ++ q ∷ q ∷ []) n st
-  over_second read n st (few, on) =
-      subst (λ (t : List ℕ). IsInPiece (modes.FieldEmpty own) t n st) (append_assoc read (q ∷ []) (q ∷ []))
-      (strings.grows (modes.FieldOpened own) (modes.FieldEmpty own) q n (read ++ q ∷ []) n st (λ done held. ap (moved (scanned done (modes.FieldOpened own) held) q) (opened_quote own)) quote-not-return (quote_held (read ++ q ∷ []) n on.come.holds) on)
+  over_second : (initial : Mode) (read : List ℕ) (n : ℕ) (st : List Bracket) → FieldsBegin q raw initial read n st → IsInPiece (modes.FieldEmpty own) initial (read ++ q ∷ q ∷ []) n st
+  over_second initial read n st (few, on) =
+      subst (λ (t : List ℕ). IsInPiece (modes.FieldEmpty own) initial t n st) (append_assoc read (q ∷ []) (q ∷ []))
+      (strings.grows (modes.FieldOpened own) (modes.FieldEmpty own) q n initial (read ++ q ∷ []) n st (λ done held. ap (moved (scanned done (modes.FieldOpened own) held) q) (opened_quote own)) quote-not-return (quote_held (read ++ q ∷ []) n on.come.holds) on)
 
   -- three
-  over_third : (scan : FieldScan) (read : List ℕ) (n : ℕ) (st : List Bracket) → FollowsBody scan triple 0 → FieldsBegin q raw read n st → IsInFields scan (4 + bool_byte raw) (read ++ q ∷ q ∷ q ∷ []) n st
-  over_third scan read n st follows begin =
-      let on = over_second read n st begin in
+  over_third : (scan : FieldScan) (initial : Mode) (read : List ℕ) (n : ℕ) (st : List Bracket) → FollowsBody scan triple 0 → FieldsBegin q raw initial read n st → IsInFields scan (4 + bool_byte raw) initial (read ++ q ∷ q ∷ q ∷ []) n st
+  over_third scan initial read n st follows begin =
+      let on = over_second initial read n st begin in
       let second : Scanned = scanned on.done (modes.FieldEmpty own) on.held in
-      let steps : string_state on.held ≡ Some (field_state [] [] [] (spots.empty (host_in own)) on.held) = (come_sound (read ++ q ∷ q ∷ []) n st second on.come).holds in
+      let steps : string_state on.held ≡ Some (field_state [] [] [] (spots.empty (host_in own)) on.held) = (come_sound initial (read ++ q ∷ q ∷ []) n st second on.come).holds in
       let size : byte_len on.held ≡ 1 + bool_byte raw + byte_len (q ∷ q ∷ []) = opened_size (host_in own) (q ∷ q ∷ []) on.held (sound_in on.held _ steps).0 in
-      subst (λ (t : List ℕ). IsInFields scan (4 + bool_byte raw) t n st) (append_assoc read (q ∷ q ∷ []) (q ∷ []))
+      subst (λ (t : List ℕ). IsInFields scan (4 + bool_byte raw) initial t n st) (append_assoc read (q ∷ q ∷ []) (q ∷ []))
       (record {
         few = begin.0;
         done = on.done;
         held = on.held ++ q ∷ [];
         come = record {
-          steps = steps_push (line_start modes.Free) (read ++ q ∷ q ∷ []) second q on.come.steps ∙ ap (moved second q) (empty_quote own);
+          start = on.come.start;
+          steps = steps_push (line_start initial) (read ++ q ∷ q ∷ []) second q on.come.steps ∙ ap (moved second q) (empty_quote own);
           stacked = on.come.stacked;
           one_line = on.come.one_line;
           holds = quote_held (read ++ q ∷ q ∷ []) n on.come.holds;
@@ -500,9 +505,9 @@ module _ (raw : Bool) (q : ℕ) (quote : is_quote q ≡ true) where
       })
 
   -- an empty string, before what follows
-  over_empty : (read rest : List ℕ) (n : ℕ) (st : List Bracket) (c : ℕ) → c == q ≡ false → FieldsBegin q raw read n st → StandsBefore (c ∷ rest) (read ++ q ∷ q ∷ []) n st
-  over_empty read rest n st c other begin =
-      let on = over_second read n st begin in
+  over_empty : (initial : Mode) (read rest : List ℕ) (n : ℕ) (st : List Bracket) (c : ℕ) → c == q ≡ false → FieldsBegin q raw initial read n st → StandsBefore (c ∷ rest) initial (read ++ q ∷ q ∷ []) n st
+  over_empty initial read rest n st c other begin =
+      let on = over_second initial read n st begin in
       inr (record {
         state = scanned on.done (modes.FieldEmpty own) on.held;
         come = on.come;
@@ -520,37 +525,32 @@ module _ (raw : Bool) (bytes : List ℕ) (quote : is_quote (slice_index bytes 0)
   apart : (c : ℕ) → (c ≡ first → ⊥) → c == first ≡ false
   apart c unlike = false_from_ne_true (c == first) (λ h. unlike (eqb-true c first h))
 
-  with_rest : (len : ℕ) (p : Passed) (Begun : List ℕ → ℕ → List Bracket → Type 0) → 0 < len → PassesPart bytes len 0 (FieldsBegin first raw) Begun → Passes (take (length bytes - len) (drop len bytes)) p Begun GoesOnAfter → HasFieldString raw bytes (Some (record { len = len + p.len; line_ends = p.line_ends }))
+  with_rest : (len : ℕ) (p : Passed) (Begun : Mode → List ℕ → ℕ → List Bracket → Type 0) → 1 < len → PassesPart bytes len 0 (FieldsBegin first raw) Begun → Passes (take (length bytes - len) (drop len bytes)) p Begun IsFreeAfter → HasFieldString raw bytes (Some (record { len = len + p.len; line_ends = p.line_ends }))
   with_rest len p Begun some begun found =
-      let is : Passes (drop len bytes) p Begun GoesOnAfter = subst (λ (t : List ℕ). Passes t p Begun GoesOnAfter) (rest_is bytes len) found in
-      let whole = after bytes len 0 p.len p.line_ends p.line_ends (omega arith) begun is.part in
-      record {
+      let is : Passes (drop len bytes) p Begun IsFreeAfter = subst (λ (t : List ℕ). Passes t p Begun IsFreeAfter) (rest_is bytes len) found in
+      subst (λ (b : Bool). Passes bytes (record { len = len + p.len; line_ends = p.line_ends }) (FieldsBegin first raw) (StandsClosed b (drop (len + p.len) bytes))) (sym (lt-ltb 2 (len + p.len) (omega (arith, some, is.some))))
+      (record {
         some = omega (arith, some);
         few = omega (arith, is.few);
-        part = record {
-          within = whole.within;
-          run = whole.run;
-          spell = whole.spell;
-          leads = λ read n st on. stands (drop (len + p.len) bytes) (read ++ whole.run) (n + p.line_ends) st (whole.leads read n st on);
-        };
-      }
+        part = after bytes len 0 p.len p.line_ends p.line_ends (omega arith) begun is.part;
+      })
 
-  pub short_is : (scan new : FieldScan) (p : Passed) → 1 < length bytes → (slice_index bytes 1 ≡ first → ⊥) → slice_index bytes 1 < 128 → FollowsBody scan (first_host first raw) 0 → PushesField scan (slice_index bytes 1) (2 + bool_byte raw) 100 progress.Going new → Passes (take (length bytes - 2) (drop 2 bytes)) p (IsInFields new (2 + bool_byte raw + 1)) GoesOnAfter → HasFieldString raw bytes (Some (record { len = 2 + p.len; line_ends = p.line_ends }))
+  pub short_is : (scan new : FieldScan) (p : Passed) → 1 < length bytes → (slice_index bytes 1 ≡ first → ⊥) → slice_index bytes 1 < 128 → FollowsBody scan (first_host first raw) 0 → PushesField scan (slice_index bytes 1) (2 + bool_byte raw) 100 progress.Going new → Passes (take (length bytes - 2) (drop 2 bytes)) p (IsInFields new (2 + bool_byte raw + 1)) IsFreeAfter → HasFieldString raw bytes (Some (record { len = 2 + p.len; line_ends = p.line_ends }))
   short_is scan new p within unlike low follows pushes found =
       with_rest 2 p (IsInFields new (2 + bool_byte raw + 1)) (omega arith)
-      (low_still bytes (first ∷ slice_index bytes 1 ∷ []) 2 within (and_from _ _ (is_low_from first (quote_ascii first quote)) (one_low (slice_index bytes 1) low)) (taken_two bytes within) (λ read n st on. over_first raw first quote scan new read n st (slice_index bytes 1) follows (apart (slice_index bytes 1) unlike) low pushes on)) found
+      (low_still bytes (first ∷ slice_index bytes 1 ∷ []) 2 within (and_from _ _ (is_low_from first (quote_ascii first quote)) (one_low (slice_index bytes 1) low)) (taken_two bytes within) (λ initial read n st on. over_first raw first quote scan new initial read n st (slice_index bytes 1) follows (apart (slice_index bytes 1) unlike) low pushes on)) found
 
-  pub long_is : (scan : FieldScan) (p : Passed) → BeginsLong first bytes → FollowsBody scan (record { quote = first; is_long = true; is_raw = raw }) 0 → Passes (take (length bytes - 3) (drop 3 bytes)) p (IsInFields scan (4 + bool_byte raw)) GoesOnAfter → HasFieldString raw bytes (Some (record { len = 3 + p.len; line_ends = p.line_ends }))
+  pub long_is : (scan : FieldScan) (p : Passed) → BeginsLong first bytes → FollowsBody scan (record { quote = first; is_long = true; is_raw = raw }) 0 → Passes (take (length bytes - 3) (drop 3 bytes)) p (IsInFields scan (4 + bool_byte raw)) IsFreeAfter → HasFieldString raw bytes (Some (record { len = 3 + p.len; line_ends = p.line_ends }))
   long_is scan p long follows found =
       with_rest 3 p (IsInFields scan (4 + bool_byte raw)) (omega arith)
-      (low_still bytes (first ∷ first ∷ first ∷ []) 3 long.within (strings.quotes_low first quote) long.spell (λ read n st on. over_third raw first quote scan read n st follows on)) found
+      (low_still bytes (first ∷ first ∷ first ∷ []) 3 long.within (strings.quotes_low first quote) long.spell (λ initial read n st on. over_third raw first quote scan initial read n st follows on)) found
 
   pub empty_is : 2 < length bytes → slice_index bytes 1 ≡ first → (slice_index bytes 2 ≡ first → ⊥) → HasFieldString raw bytes (Some (record { len = 2; line_ends = 0 }))
   empty_is within second third = record {
     some = omega arith;
     few = omega arith;
-    part = low_still bytes (first ∷ first ∷ []) 2 (omega (arith, within)) (strings.quotes_two first quote) (taken_two bytes (omega (arith, within)) ∙ ap (λ (c : ℕ). first ∷ c ∷ []) second) (λ read n st on.
-        subst (λ (t : List ℕ). StandsBefore t (read ++ first ∷ first ∷ []) n st) (sym (drop_more bytes 2 0 within)) (over_empty raw first quote read (drop 3 bytes) n st (slice_index bytes 2) (apart (slice_index bytes 2) third) on));
+    part = low_still bytes (first ∷ first ∷ []) 2 (omega (arith, within)) (strings.quotes_two first quote) (taken_two bytes (omega (arith, within)) ∙ ap (λ (c : ℕ). first ∷ c ∷ []) second) (λ initial read n st on.
+        subst (λ (t : List ℕ). StandsBefore t initial (read ++ first ∷ first ∷ []) n st) (sym (drop_more bytes 2 0 within)) (over_empty raw first quote initial read (drop 3 bytes) n st (slice_index bytes 2) (apart (slice_index bytes 2) third) on));
   }
 
 -- a string at a byte of a line
@@ -575,12 +575,13 @@ field_string_at raw bytes at s (Some p) within quote tail field raw_is has =
           within = room;
           run = is.part.run;
           spell = is.part.spell;
-          leads = λ read n st on.
-              let before : StandsBefore (q ∷ drop (at + 1) bytes) read n st = subst (λ (t : List ℕ). StandsBefore t read n st) (drop_more bytes at 0 within) on.2 in
-              let word = word_open (drop (at + 1) bytes) read n st q s (on.0 ∙ tail) quote before in
-              let opened : IsInPiece (modes.FieldOpened (first_host q raw)) (read ++ q ∷ []) n st = strings.grows (modes.Word s) (modes.FieldOpened (first_host q raw)) q n read n st (λ done held. ap (moved (scanned done (modes.Word s) held) q) (quote_opens s raw q field raw_is quote)) (quote-not-return raw q quote) (quote_held raw q quote read n word.come.holds) word in
-              let begins : FieldsBegin (slice_index rest 0) raw read n st = subst (λ (c : ℕ). FieldsBegin c raw read n st) (sym first) (on.1, opened) in
-              subst (λ (t : List ℕ). StandsBefore t (read ++ is.part.run) (n + p.line_ends) st) (drop-drop p.len at bytes) (is.part.leads read n st begins);
+          leads = λ initial read n st on.
+              let before : StandsBefore (q ∷ drop (at + 1) bytes) initial read n st = subst (λ (t : List ℕ). StandsBefore t initial read n st) (drop_more bytes at 0 within) on.2 in
+              let word = word_open (drop (at + 1) bytes) initial read n st q s (on.0 ∙ tail) quote before in
+              let opened : IsInPiece (modes.FieldOpened (first_host q raw)) initial (read ++ q ∷ []) n st = strings.grows (modes.Word s) (modes.FieldOpened (first_host q raw)) q n initial read n st (λ done held. ap (moved (scanned done (modes.Word s) held) q) (quote_opens s raw q field raw_is quote)) (quote-not-return raw q quote) (quote_held raw q quote read n word.come.holds) word in
+              let begins : FieldsBegin (slice_index rest 0) raw initial read n st = subst (λ (c : ℕ). FieldsBegin c raw initial read n st) (sym first) (on.1, opened) in
+              subst (λ (b : Bool). StandsClosed b (drop (at + p.len) bytes) initial (read ++ is.part.run) (n + p.line_ends) st) (sym (string_closes rest p.len (ap is_quote first ∙ quote)))
+              (subst (λ (t : List ℕ). StandsClosed (nat_lt 2 p.len) t initial (read ++ is.part.run) (n + p.line_ends) st) (drop-drop p.len at bytes) (is.part.leads initial read n st begins));
         };
       },
     )

@@ -9,9 +9,11 @@ pub mod FieldScan
 pub mod FieldText
 pub mod Scan
 pub mod LineState
+pub mod LineTokens
 pub mod Source
 pub mod Run
 pub mod Marks
 pub mod Outline
+pub mod WholePieces
 pub mod WholeFields
 pub mod Feed

@@ -38,7 +38,6 @@ pub struct Brackets {
 }
 
 impl Brackets {
-    ghost use Rattle.py_lines.specs.Private.Run.{operator_may_stand};
     ghost use Rattle.py_lines.specs.Private.Scan.{stack_of, depth_of, none_open, IsInnermost, Meets};
 
     /// No bracket is open.
@@ -88,22 +87,6 @@ impl Brackets {
             return None;
         }
         Some(self.brackets[self.depth as usize - 1])
-    }
-
-    /// Whether an operator may stand next.
-    pub fn allows(&self, c: char) -> bool
-        ensures { result ≡ operator_may_stand (stack_of self.now) c }
-    {
-        if is_opening(c) {
-            self.len() < MAX_DEPTH
-        } else if is_closing(c) {
-            match self.innermost() {
-                Some(bracket) => c == closing_of(bracket.opener),
-                None => false,
-            }
-        } else {
-            true
-        }
     }
 
     /// Opens a bracket at this byte, if there is room for it.

@@ -4,6 +4,7 @@ ghost use Rattle.std.specs.Prelude.{◌≡◌, ℕ, ◌+◌, ◌-◌, ◌<◌, �
 ghost use Rattle.std.specs.Prelude.{drop, take, length, OnOk, OnErr};
 ghost use Rattle.std.specs.Str.{StartsWithNoChar};
 ghost use Rattle.py_lines.specs.Private.Feed.{TellsHopeless};
+ghost use Rattle.py_lines.specs.Private.LineTokens.{IsLineText};
 ghost use Rattle.py_lines.specs.Private.Outline.{BeginWithLines};
 ghost use Rattle.py_lines.specs.ScannerState.{HoldsAfterLines};
 
@@ -110,7 +111,7 @@ impl Feed {
     ghost use Rattle.py_lines.specs.ScannerState.View.{ready_of, scanning_of};
     ghost use Rattle.py_lines.specs.UnitLine.{line_in};
     ghost use Rattle.py_lines.specs.Private.Scan.{is_returned};
-    ghost use Rattle.py_lines.specs.Private.Feed.{HasRoom, IsOpen, FailsAt, ClosesLine, ScansCharacters, ScansHeld};
+    ghost use Rattle.py_lines.specs.Private.Feed.{HasRoom, IsOpen, FailsAt, GetsReady, ScansCharacters, ScansHeld};
     ghost use Rattle.py_lines.specs.Private.Feed.{StopsHeld, whole_end, GivesBack, TakesChunk, HasScannedNext};
     ghost use Rattle.py_lines.specs.Private.Feed.{IsScanned, IsReady, IsSoundFeed, FeedsSo, EndsHeld, EndsText, LetsGo};
 
@@ -139,39 +140,32 @@ impl Feed {
         self.state.fail(kind, prefix)
     }
 
-    /// Closes the open piece, and with it the line, which ends in so many bytes of line end.
-    fn close(&mut self, end_len: usize) -> Result<(), LexError>
-        requires { self.old.state.scan.piece.start ≤ self.old.state.scan.stop }
-        ensures { ClosesLine self.old end_len result self.new }
+    /// Reads the tokens of the line that has ended where the scan stopped, with so many bytes of line end: it is ready then. If there
+    /// is no memory for them, the scan is begun anew.
+    fn get_ready(&mut self, end_len: usize) -> Result<(), LexError>
+        requires within { self.old.state.scan.stop ≤ length self.old.held.items }
+        requires text { IsLineText (take self.old.state.scan.stop self.old.held.items) }
+        requires room { HasRoom self.old 0 }
+        ensures { GetsReady self.old end_len result self.new }
     {
-        match self.state.scan.close() {
-            Ok(()) => {
-                self.ready = Some(end_len);
-                Ok(())
-            }
-            Err(error) => {
-                self.state.restart();
-                Err(error.into())
-            }
+        let stop = self.state.scan.stop;
+        if let Err(error) = self.state.read_tokens(&self.held[..stop]) {
+            self.state.restart();
+            return Err(error.into());
         }
+        self.ready = Some(end_len);
+        Ok(())
     }
 
-    /// Scans the characters that are held next, up to a line's end or one that is refused. If there is no memory for
-    /// it, the scan is begun anew.
+    /// Scans the characters that are held next, up to a line's end or one that is refused.
     #[inline(always)]
-    fn scan_characters(&mut self) -> Result<Stop, LexError>
+    fn scan_characters(&mut self) -> Stop
         requires opens { (read : List ℕ) × (rest : List ℕ) × IsOpen self.old read rest }
         requires room { HasRoom self.old 0 }
         ensures { ScansCharacters self.old result self.new }
     {
         let stop = self.state.scan.stop;
-        match self.state.scan.extend(&self.held[stop..]) {
-            Ok(stop) => Ok(stop),
-            Err(error) => {
-                self.state.restart();
-                Err(error.into())
-            }
-        }
+        self.state.scan.extend(&self.held[stop..])
     }
 
     /// Judges what is left after the characters: a part of a character, or nothing. After CR it shows that the line has
@@ -187,7 +181,8 @@ impl Feed {
             return Ok(());
         }
         if self.state.scan.is_returned() {
-            return self.close(1);
+            self.state.scan.free();
+            return self.get_ready(1);
         }
         if is_hopeless(&self.held[self.state.scan.stop..]) {
             let offset = self.state.scan.stop;
@@ -205,10 +200,7 @@ impl Feed {
         ensures { ScansHeld self.old result self.new }
     {
         match stop {
-            Stop::LineEnd(len) => {
-                self.ready = Some(len);
-                Ok(())
-            }
+            Stop::LineEnd(len) => self.get_ready(len),
             Stop::TextEnd => self.scan_part(),
             Stop::Refused(c) => {
                 let line_fault = self.state.scan.refusal(c);
@@ -224,7 +216,7 @@ impl Feed {
         requires room { HasRoom self.old 0 }
         ensures { ScansHeld self.old result self.new }
     {
-        let stop = self.scan_characters()?;
+        let stop = self.scan_characters();
         self.meet(stop)
     }
 
@@ -275,7 +267,7 @@ impl Feed {
     fn take_line(&mut self, chunk: &[u8], end_len: usize) -> Result<usize, LexError>
         requires scanned { HasScannedNext self.old chunk.now (Stop.LineEnd end_len) }
         requires not_ready { self.old.ready ≡ None }
-        requires fits { length chunk.now ≤ 2 ^ 62 }
+        requires room { HasRoom self.old (length chunk.now) }
         ensures { TakesChunk self.old chunk.now result self.new }
     {
         let len = self.whole_end();
@@ -283,7 +275,10 @@ impl Feed {
             self.state.restart();
             return Err(error.into());
         }
-        self.ready = Some(end_len);
+        if let Err(error) = self.get_ready(end_len) {
+            self.held.clear();
+            return Err(error);
+        }
         Ok(len)
     }
 
@@ -327,13 +322,8 @@ impl Feed {
         requires room { HasRoom self.old (length chunk.now) }
         ensures { TakesChunk self.old chunk.now result self.new }
     {
-        match self.state.scan.extend(chunk) {
-            Ok(stop) => self.take_scanned(chunk, stop),
-            Err(error) => {
-                self.state.restart();
-                Err(error.into())
-            }
-        }
+        let stop = self.state.scan.extend(chunk);
+        self.take_scanned(chunk, stop)
     }
 
     /// Takes bytes of these, up to a line's end: how many. If there is no memory for them, none is taken.
@@ -461,13 +451,13 @@ impl Feed {
         ensures { EndsHeld self.old result self.new }
     {
         if self.state.scan.is_returned() {
-            return self.close(1);
+            return self.get_ready(1);
         }
         let rest = self.held.len() - self.state.scan.stop;
         if let Some(line_fault) = self.state.end_fault(rest) {
             return Err(self.fail(line_fault.kind, line_fault.place));
         }
-        self.close(0)
+        self.get_ready(0)
     }
 
     /// The text's last line, which is ready then, if anything is held; or the fault that stands there.

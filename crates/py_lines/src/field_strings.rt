@@ -2,7 +2,7 @@
 
 ghost use Rattle.std.specs.Prelude.{◌≡◌, ◌+◌, ◌<◌, ◌^◌, true, length, slice_index};
 ghost use Rattle.py_lines.specs.Character.{is_quote};
-ghost use Rattle.py_lines.specs.Private.Outline.{BeginsLong, GoesOnAfter, PassesOrNot};
+ghost use Rattle.py_lines.specs.Private.Outline.{BeginsLong, IsFreeAfter, PassesOrNot};
 ghost use Rattle.py_lines.specs.Private.FieldScan.{IsInPlace};
 ghost use Rattle.py_lines.specs.Private.WholeFields.{HasFieldString, IsInFields};
 
@@ -17,7 +17,7 @@ pub const MAX_DEPTH_AROUND_STRING: usize = 100;
 fn rest_of_string(scan: &mut FieldScan, place: usize, bytes: &[u8]) -> Option<Passed>
     requires bytes { place + length bytes.now < 2 ^ 64 }
     requires placed { IsInPlace scan.old }
-    ensures { PassesOrNot bytes.now result (IsInFields scan.old place) GoesOnAfter }
+    ensures { PassesOrNot bytes.now result (IsInFields scan.old place) IsFreeAfter }
 {
     let mut len = 0;
     let mut line_ends = 0;

@@ -14,6 +14,7 @@ mod frames;
 mod host;
 pub mod laws;
 mod line_state;
+mod line_tokens;
 mod lines;
 mod marks;
 mod mode;

@@ -1,14 +1,15 @@
 //! Where a reader of logical lines stands. `Lines` and `Scanner` have it in common.
 
 ghost use Rattle.py_lines.specs.Private.LineState.{first_mode};
-ghost use Rattle.std.specs.Prelude.{◌≡◌, ℕ, ◌+◌, ◌<◌, ◌^◌, length};
+ghost use Rattle.std.specs.Prelude.{◌≡◌, ℕ, ◌+◌, ◌<◌, ◌^◌, length, OnOk};
 
 use crate::count::line_after;
 use crate::fault::{Fault, FaultKind, LexError};
+use crate::line_tokens::LineTokens;
 use crate::mode::Mode;
 use crate::scan::{LineFault, Scan};
 use crate::unit::Unit;
-use std::alloc::Global;
+use std::alloc::{AllocError, Global};
 
 /// What is open where a line begins at this byte: a mark may stand at the text's start.
 fn first_mode(place: u64) -> Mode
@@ -28,12 +29,15 @@ pub struct LineState {
     pub fault: Option<Fault>,
     /// The scan of the next line, or of the one that was read last.
     pub scan: Scan,
+    /// The tokens of the line that was read last.
+    pub tokens: LineTokens,
 }
 
 impl LineState {
     ghost use Rattle.py_lines.specs.Token.{EachLiesIn};
     ghost use Rattle.py_lines.specs.UnitLine.{line_in};
-    ghost use Rattle.py_lines.specs.Private.LineState.{BeginsAnew, IsEndLineFault, KeepsFault, BeginsAt, first_mode, passed, scanned_line};
+    ghost use Rattle.py_lines.specs.Private.LineState.{BeginsAnew, IsEndLineFault, KeepsFault, BeginsAt, first_mode, passed, read_line, with_tokens};
+    ghost use Rattle.py_lines.specs.Private.LineTokens.{HoldsTokens, IsLineText};
 
     /// At this byte of a text, which is on this line. Nothing of the next line is read.
     pub fn at(alloc: Global, place: u64, line: u64) -> LineState
@@ -43,7 +47,8 @@ impl LineState {
             place,
             line,
             fault: None,
-            scan: Scan::new(alloc, first_mode(place), line),
+            scan: Scan::new(first_mode(place), line),
+            tokens: LineTokens::new(alloc),
         }
     }
 
@@ -71,6 +76,23 @@ impl LineState {
         ensures { BeginsAnew self.old self.new }
     {
         self.scan.restart(first_mode(self.place), self.line);
+    }
+
+    /// Reads the tokens of the next line, which is this text. The scan is lent for its strings: where it stopped is as it was.
+    pub fn read_tokens(&mut self, text: &[u8]) -> Result<(), AllocError>
+        requires text { IsLineText text.now }
+        requires lines { self.old.line + length text.now < 2 ^ 64 }
+        ensures same { self.new ≡ with_tokens self.old self.new }
+        ensures tokens { OnOk result (HoldsTokens text.now self.old.line self.new.tokens) }
+    {
+        let (piece, stop) = (self.scan.piece, self.scan.stop);
+        let (line, count) = (self.scan.line, self.scan.count);
+        let read = self.tokens.read(&mut self.scan, text, self.line);
+        self.scan.piece = piece;
+        self.scan.stop = stop;
+        self.scan.line = line;
+        self.scan.count = count;
+        read
     }
 
     /// The text has this fault, from now on. It stands after these characters, with which the next line begins.
@@ -102,21 +124,21 @@ impl LineState {
         self.scan.unfinished()
     }
 
-    /// The line that the scan has closed: this text at this byte, with so many bytes of line end.
+    /// The line whose tokens were read: this text at this byte, with so many bytes of line end.
     #[inline(always)]
     pub fn unit<'s>(&'s self, text: &'s str, offset: u64, end_len: usize) -> Unit<'s>
-        requires tokens { EachLiesIn text.now self.now.scan.tokens.items }
+        requires tokens { EachLiesIn text.now self.now.tokens.tokens.items }
         requires fits { offset + length text.now < 2 ^ 64 }
-        ensures line { line_in result ≡ scanned_line self.now.scan text.now offset end_len }
+        ensures line { line_in result ≡ read_line self.now text.now offset end_len }
         ensures text { result.text.now ≡ text.now }
     {
         Unit {
-            kind: self.scan.kind,
+            kind: self.tokens.kind,
             text,
-            tokens: self.scan.tokens.as_slice(),
+            tokens: self.tokens.tokens.as_slice(),
             offset,
             line: self.scan.line,
-            indent: self.scan.indent,
+            indent: self.tokens.indent,
             end_len,
         }
     }

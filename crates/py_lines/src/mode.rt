@@ -1,18 +1,17 @@
 //! The machine that reads a text one character at a time.
 
 ghost use Rattle.std.specs.Prelude.{◌≡◌, ◌<◌, ◌==◌, ◌||◌, ◌&&◌, if◌then◌else◌, length};
-ghost use Rattle.py_lines.specs.Private.Machine.{first_spelling, spelling_with, token_of, short_move, long_move};
+ghost use Rattle.py_lines.specs.Private.Machine.{first_spelling, spelling_with, short_move, long_move};
 ghost use Rattle.py_lines.specs.Private.Machine.{start_of, in_short, in_long, is_after_backslash};
 ghost use Rattle.py_lines.specs.Private.ScanMachine.{is_field_spelling, is_raw_spelling, begins_string, quote_move, opened_move, meet_of};
 ghost use Rattle.py_lines.specs.Private.Run.{word_spelling, is_free};
-ghost use Rattle.py_lines.specs.Private.Scan.{is_join_mode, is_return_mode, holds_nothing};
+ghost use Rattle.py_lines.specs.Private.Scan.{is_return_mode};
 
 use crate::character::{
     is_backslash, is_break, is_hash, is_line_feed, is_mark, is_operator, is_quote, is_return,
     is_space, is_word_character, is_word_start,
 };
 use crate::host::StringWithFields;
-use crate::token::TokKind;
 
 /// Whether a word may be the prefix of a string, as far as it goes.
 #[derive(Clone, Copy)]
@@ -231,50 +230,11 @@ fn long_move(quote: char, c: char, at_quote: Move) -> Move
 }
 
 impl Mode {
-    /// The token that the open piece is, if it is one.
-    pub fn token(self) -> Option<TokKind>
-        ensures { result ≡ token_of self }
-    {
-        match self {
-            Mode::Start | Mode::Free | Mode::Space => None,
-            Mode::Backslash | Mode::JoinReturn | Mode::Return => None,
-            Mode::Word(Spelling::Number) => Some(TokKind::Number),
-            Mode::Word(_) => Some(TokKind::Name),
-            Mode::Comment => Some(TokKind::Remark),
-            Mode::Opened(_)
-            | Mode::Inside(_)
-            | Mode::Escape(_)
-            | Mode::EscapeReturn(_)
-            | Mode::Empty(_)
-            | Mode::Long(_)
-            | Mode::LongOne(_)
-            | Mode::LongTwo(_)
-            | Mode::LongEscape(_)
-            | Mode::FieldOpened(_)
-            | Mode::FieldEmpty(_)
-            | Mode::Fielded => Some(TokKind::Str),
-        }
-    }
-
-    /// Whether the open piece is a backslash, with or without its line end.
-    pub fn is_join(self) -> bool
-        ensures { result ≡ is_join_mode self }
-    {
-        matches!(self, Mode::Backslash | Mode::JoinReturn)
-    }
-
     /// Whether the open piece is the CR of a line end.
     pub fn is_return(self) -> bool
         ensures { result ≡ is_return_mode self }
     {
         matches!(self, Mode::Return)
-    }
-
-    /// Whether no piece is open, or a mark.
-    pub fn holds_nothing(self) -> bool
-        ensures { result ≡ holds_nothing self }
-    {
-        matches!(self, Mode::Start | Mode::Free)
     }
 
     /// Whether no piece is open, after the text's start.

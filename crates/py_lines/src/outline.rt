@@ -69,7 +69,8 @@ fn string(bytes: &[u8], at: usize) -> Option<Passed>
 }
 
 /// Passes the comment, the join or the string that begins at this byte.
-fn piece(bytes: &[u8], class: Class, at: usize) -> Option<Passed>
+#[inline(always)]
+pub fn piece(bytes: &[u8], class: Class, at: usize) -> Option<Passed>
     requires within { at < length bytes.now }
     requires class { is_of_class class (slice_index bytes.now at) ≡ true }
     ensures { PassesPiece bytes.now at result }

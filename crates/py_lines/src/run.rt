@@ -4,9 +4,9 @@ ghost use Rattle.std.specs.Prelude.{◌≡◌, ◌<◌, ◌≤◌, ◌==◌, tru
 ghost use Rattle.py_lines.specs.Character.{is_space};
 ghost use Rattle.py_lines.specs.declared.mode.Mode.TheVariants.{Word};
 ghost use Rattle.py_lines.specs.Private.Run.{CountsSet, HasAsciiQuote, IsRunOf, IsWholeComment};
-ghost use Rattle.py_lines.specs.Private.Run.{IsWordBeforeMore, Marks, Spans, is_between, is_in_run, is_ascii_word};
+ghost use Rattle.py_lines.specs.Private.Run.{Marks, Spans, is_between, is_in_run, is_ascii_word};
 ghost use Rattle.py_lines.specs.Private.Run.{is_comment_byte, is_body_byte, is_text_byte, is_literal_byte};
-ghost use Rattle.py_lines.specs.Private.Run.{is_code_byte, is_code_sign, is_remark_byte, stays};
+ghost use Rattle.py_lines.specs.Private.Run.{is_code_byte, is_code_sign, is_remark_byte, is_wide_word, stays};
 
 use crate::character::is_break;
 use crate::mode::{Mode, Spelling};
@@ -109,6 +109,17 @@ fn remark(lanes: u8x16) -> u8x16
     equal(equal(lanes, b'\n') | equal(lanes, b'\r'), 0) & ascii
 }
 
+/// The lanes that hold bytes of words, and of characters that aren't ASCII.
+#[inline(always)]
+fn wide_words(lanes: u8x16) -> u8x16
+    ensures { Marks is_wide_word lanes result }
+{
+    let wide = lanes
+        .simd_ge(u8x16::splat(128))
+        .select(u8x16::splat(255), u8x16::splat(0));
+    words(lanes) | wide
+}
+
 /// How many lanes are set before the first that isn't.
 #[inline(always)]
 fn set_first(mask: u8x16) -> usize
@@ -127,6 +138,8 @@ fn set_first(mask: u8x16) -> usize
 pub enum ByteRun {
     /// ASCII letters, digits and underscores.
     Word,
+    /// The same, and the bytes of characters that aren't ASCII.
+    WideWord,
     /// Spaces, tabs and form feeds.
     Space,
     /// The body of a string of this quote, up to what escapes or ends a line.
@@ -149,6 +162,7 @@ impl ByteRun {
     {
         match self {
             ByteRun::Word => words(lanes),
+            ByteRun::WideWord => wide_words(lanes),
             ByteRun::Space => spaces(lanes),
             ByteRun::Body(quote) => body(quote, lanes),
             ByteRun::Text(quote) => text(quote, lanes),
@@ -183,24 +197,6 @@ impl ByteRun {
         let mut block = [b'\n'; 16];
         block[..bytes.len()].copy_from_slice(bytes);
         set_first(self.mark(u8x16::from_array(block)))
-    }
-}
-
-/// How many bytes the word has that a text begins with, if more than one byte follows. Most have fewer than sixteen.
-#[inline(always)]
-pub fn word_before_more(bytes: &[u8]) -> Option<usize>
-    requires { 17 < length bytes.now }
-    ensures { IsWordBeforeMore bytes.now result }
-{
-    let len = set_first(words(u8x16::from_slice(bytes)));
-    if len < 16 {
-        return Some(len);
-    }
-    let long = word_run(bytes);
-    if long < bytes.len() - 1 {
-        Some(long)
-    } else {
-        None
     }
 }
 

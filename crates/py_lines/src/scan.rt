@@ -1,22 +1,23 @@
-//! The scan of one logical line: the machine, and what it has found.
+//! The scan of one logical line: where it ends, and what is open in it.
 
-ghost use Rattle.std.specs.Prelude.{◌≡◌, ℕ, ◌+◌, ◌<◌, ◌≤◌, ◌^◌, ◌&&◌, not, true, false, Some, None, List, [], length, OnOk, IfOk};
+ghost use Rattle.std.specs.Prelude.{◌≡◌, ℕ, ◌+◌, ◌<◌, ◌^◌, ◌&&◌, not, true, false, Some, None, List, [], length};
 ghost use Rattle.std.specs.Char.{len_utf8};
 ghost use Rattle.py_lines.specs.Character.{is_line_feed};
-ghost use Rattle.py_lines.specs.Piece.{begins};
+ghost use Rattle.py_lines.specs.LogicalLine.{byte_len, line_ends};
+ghost use Rattle.py_lines.specs.Piece.{Piece, string, begins};
+ghost use Rattle.py_lines.specs.Private.LineTokens.{BeginWithPiece, BeginWithString};
 ghost use Rattle.py_lines.specs.Private.Machine.{start_of, character_kind};
 ghost use Rattle.py_lines.specs.Private.FieldMachine.{FieldScanned};
 ghost use Rattle.py_lines.specs.Private.FieldScan.{IsInPlace};
 ghost use Rattle.py_lines.specs.Private.ScanMachine.{IsScanSound, meet_of};
-ghost use Rattle.py_lines.specs.Private.Scan.{TakesNext, AddsTo, Emits, Closes, with_character, Begins, Tallies};
+ghost use Rattle.py_lines.specs.Private.Scan.{TakesNext, with_character, Begins, Tallies, line_end_progress, freed};
 ghost use Rattle.py_lines.specs.Private.Scan.{IsStacked, Scans, ScansIn, line_start, is_returned, none_open, stack_of};
-ghost use Rattle.py_lines.specs.Private.Scan.{line_end_progress, ClosesAndAdds, freed, refused_place, IsRefusal};
+ghost use Rattle.py_lines.specs.Private.Scan.{refused_place, IsRefusal};
 ghost use Rattle.py_lines.specs.Private.Scan.{IsUnfinished, IsPlainUnfinished, StandsInString, TakesInString, in_mode};
 ghost use Rattle.py_lines.specs.Private.Run.{WhereverReached, is_free, HoldsRun, HeldIn, HasAsciiQuote, ReachedInSomeLine};
-ghost use Rattle.py_lines.specs.declared.token.TokKind.TheVariants.{Op};
 ghost use Rattle.py_lines.specs.declared.mode.Mode.{Mode};
-ghost use Rattle.py_lines.specs.declared.mode.Mode.TheVariants.{Fielded};
-ghost use Rattle.py_lines.specs.declared.mode.Move.TheVariants.{Grows};
+ghost use Rattle.py_lines.specs.declared.mode.Mode.TheVariants.{Fielded, Free};
+ghost use Rattle.py_lines.specs.declared.mode.Move.TheVariants.{Breaks, Grows};
 
 use crate::brackets::Brackets;
 use crate::character::{is_closing, is_line_feed, is_opening};
@@ -26,11 +27,8 @@ use crate::field_scan::{FieldProgress, FieldScan};
 use crate::host::StringWithFields;
 use crate::mode::{Mode, Move, Start};
 use crate::run::characters_in;
-use crate::token::{TokKind, Token};
-use crate::unit::UnitKind;
 use crate::utf8::first_character;
 use crate::whole_pieces::Left;
-use std::alloc::{AllocError, Global};
 
 /// What a character came to.
 #[derive(Clone, Copy)]
@@ -70,8 +68,6 @@ pub struct OpenPiece {
     pub mode: Mode,
     /// The byte from the line's start at which it begins.
     pub start: usize,
-    /// The line on which it begins.
-    pub line: u64,
 }
 
 /// What is known of the line so far. Places are bytes from the line's start.
@@ -85,14 +81,6 @@ pub struct Scan {
     pub line: u64,
     /// The line that it has reached.
     pub count: Count,
-    /// Whether no piece was closed, or a mark alone.
-    pub margin: bool,
-    /// How many bytes of space the line begins with, after a mark.
-    pub indent: usize,
-    /// What the line is by the pieces that were closed.
-    pub kind: UnitKind,
-    /// The tokens that were closed.
-    pub tokens: Vec<Token>,
     /// The brackets that are open.
     pub brackets: Brackets,
     /// How far the string with fields has come, if one is open that holds something.
@@ -101,49 +89,33 @@ pub struct Scan {
 
 impl Scan {
     /// At the start of a line.
-    pub fn new(alloc: Global, mode: Mode, line: u64) -> Scan
+    pub fn new(mode: Mode, line: u64) -> Scan
         requires { mode ≡ Fielded → ⊥ }
         ensures start { Tallies result (line_start mode) }
         ensures stacked { IsStacked result (line_start mode) }
         ensures line { result.line ≡ line }
     {
         Scan {
-            piece: OpenPiece {
-                mode,
-                start: 0,
-                line,
-            },
+            piece: OpenPiece { mode, start: 0 },
             stop: 0,
             line,
             count: Count::from(line),
-            margin: true,
-            indent: 0,
-            kind: UnitKind::Blank,
-            tokens: Vec::new(alloc),
             brackets: Brackets::new(),
             fields: FieldScan::new(),
         }
     }
 
-    /// Begins a line anew; the memory is kept.
+    /// Begins a line anew.
     pub fn restart(&mut self, mode: Mode, line: u64)
         requires { mode ≡ Fielded → ⊥ }
         ensures start { Tallies self.new (line_start mode) }
         ensures stacked { IsStacked self.new (line_start mode) }
         ensures line { self.new.line ≡ line }
     {
-        self.piece = OpenPiece {
-            mode,
-            start: 0,
-            line,
-        };
+        self.piece = OpenPiece { mode, start: 0 };
         self.stop = 0;
         self.line = line;
         self.count = Count::from(line);
-        self.margin = true;
-        self.indent = 0;
-        self.kind = UnitKind::Blank;
-        self.tokens.clear();
         self.brackets.clear();
     }
 
@@ -157,33 +129,7 @@ impl Scan {
         self.count.push(c);
     }
 
-    /// One more token of the line, which is code then, or a comment if it has no other token.
-    #[inline(always)]
-    pub fn push_token(&mut self, token: Token) -> Result<(), AllocError>
-        ensures { OnOk result (AddsTo self.old token self.new) }
-    {
-        self.tokens.push(token)?;
-        if !token.kind.is_comment() {
-            self.kind = UnitKind::Code;
-        } else if matches!(self.kind, UnitKind::Blank) {
-            self.kind = UnitKind::Comment;
-        }
-        Ok(())
-    }
-
-    /// The open piece becomes a token.
-    fn emit(&mut self, kind: TokKind) -> Result<(), AllocError>
-        ensures { OnOk result (Emits self.old kind self.new) }
-    {
-        self.push_token(Token {
-            kind,
-            start: self.piece.start,
-            stop: self.stop,
-            line: self.piece.line,
-        })
-    }
-
-    /// No piece is open any longer. The next one begins where the scan has come to.
+    /// No piece is open any longer: the next one begins where the scan has come to.
     #[inline(always)]
     pub fn free(&mut self)
         ensures { self.new ≡ freed self.old }
@@ -191,35 +137,7 @@ impl Scan {
         self.piece = OpenPiece {
             mode: Mode::Free,
             start: self.stop,
-            line: self.count.line,
         };
-    }
-
-    /// The same, where none was open.
-    #[inline(always)]
-    pub fn stay_free(&mut self)
-        requires { is_free self.old.piece.mode ≡ true }
-        ensures { self.new ≡ freed self.old }
-    {
-        self.piece.start = self.stop;
-        self.piece.line = self.count.line;
-    }
-
-    /// Ends the open piece where it stops.
-    pub fn close(&mut self) -> Result<(), AllocError>
-        requires { self.old.piece.start ≤ self.old.stop }
-        ensures { OnOk result (Closes self.old self.new) }
-    {
-        if let Some(kind) = self.piece.mode.token() {
-            self.emit(kind)?;
-        } else if self.piece.mode.is_join() {
-            self.kind = UnitKind::Code;
-        } else if matches!(self.piece.mode, Mode::Space) && self.margin {
-            self.indent = self.stop - self.piece.start;
-        }
-        self.margin = self.margin && self.piece.mode.holds_nothing();
-        self.free();
-        Ok(())
     }
 
     /// Whether a line end ends the line here: no bracket is open.
@@ -240,61 +158,32 @@ impl Scan {
         }
     }
 
-    /// Takes an operator, which its brackets have met, after the open piece.
-    fn take_operator(&mut self, c: char) -> Result<(), AllocError>
-        requires order { self.old.piece.start ≤ self.old.stop }
-        requires bytes { self.old.stop + len_utf8 c < 2 ^ 64 }
-        requires lines { self.old.count.line + 1 < 2 ^ 64 }
-        requires ascii { c < 128 }
-        ensures { OnOk result (ClosesAndAdds self.old c (Some (Op c)) self.new) }
-    {
-        self.close()?;
-        self.read(c);
-        self.emit(TokKind::Op(c as u8))?;
-        self.margin = false;
-        self.free();
-        Ok(())
-    }
-
-    /// Takes a line feed after the open piece.
-    fn take_line_feed(&mut self, c: char) -> Result<(), AllocError>
-        requires order { self.old.piece.start ≤ self.old.stop }
-        requires bytes { self.old.stop + len_utf8 c < 2 ^ 64 }
-        requires lines { self.old.count.line + 1 < 2 ^ 64 }
-        ensures { OnOk result (ClosesAndAdds self.old c None self.new) }
-    {
-        self.close()?;
-        self.read(c);
-        self.margin = false;
-        self.free();
-        Ok(())
-    }
-
     /// Takes a character that begins a piece after the open one.
-    fn begin(&mut self, c: char) -> Result<Progress, AllocError>
-        requires order { self.old.piece.start ≤ self.old.stop }
+    fn begin(&mut self, c: char) -> Progress
         requires bytes { self.old.stop + len_utf8 c < 2 ^ 64 }
         requires lines { self.old.count.line + 1 < 2 ^ 64 }
-        ensures { OnOk result (Begins self.old c (start_of c) result self.new) }
+        ensures { Begins self.old c (start_of c) result self.new }
     {
         match Start::of(c) {
             Start::Open(mode) => {
-                self.close()?;
+                self.free();
                 self.grow(mode, c);
-                Ok(Progress::Going)
+                Progress::Going
             }
             Start::Operator => {
                 if !self.brackets.meet(c, self.stop) {
-                    return Ok(Progress::Refused);
+                    return Progress::Refused;
                 }
-                self.take_operator(c)?;
-                Ok(Progress::Going)
+                self.read(c);
+                self.free();
+                Progress::Going
             }
             Start::LineEnd => {
-                self.take_line_feed(c)?;
-                Ok(self.line_end(1))
+                self.read(c);
+                self.free();
+                self.line_end(1)
             }
-            Start::Nothing => Ok(Progress::Refused),
+            Start::Nothing => Progress::Refused,
         }
     }
 
@@ -309,8 +198,7 @@ impl Scan {
     }
 
     /// Takes the next character in a string with fields.
-    fn push_in_string(&mut self, c: char) -> Result<Progress, AllocError>
-        requires order { self.old.piece.start ≤ self.old.stop }
+    fn push_in_string(&mut self, c: char) -> Progress
         requires bytes { self.old.stop + len_utf8 c < 2 ^ 64 }
         requires lines { self.old.count.line + 1 < 2 ^ 64 }
         requires placed { IsInPlace self.old.fields }
@@ -320,20 +208,19 @@ impl Scan {
         match self.fields.push(c, self.stop, self.brackets.len()) {
             FieldProgress::Going => {
                 self.grow(Mode::Fielded, c);
-                Ok(Progress::Going)
+                Progress::Going
             }
             FieldProgress::Closed => {
                 self.read(c);
-                self.close()?;
-                Ok(Progress::Going)
+                self.free();
+                Progress::Going
             }
-            FieldProgress::Refused => Ok(Progress::Refused),
+            FieldProgress::Refused => Progress::Refused,
         }
     }
 
     /// Takes the character with which a string with fields holds something, or has its three quotes.
-    fn enter_string(&mut self, c: char) -> Result<Progress, AllocError>
-        requires order { self.old.piece.start ≤ self.old.stop }
+    fn enter_string(&mut self, c: char) -> Progress
         requires bytes { self.old.stop + len_utf8 c < 2 ^ 64 }
         requires lines { self.old.count.line + 1 < 2 ^ 64 }
         requires enters { meet_of self.old.piece.mode c ≡ Grows Fielded }
@@ -352,15 +239,14 @@ impl Scan {
                 };
                 self.fields.begin(long, self.piece.start);
                 self.grow(Mode::Fielded, c);
-                Ok(Progress::Going)
+                Progress::Going
             }
             _ => unreachable!(),
         }
     }
 
     /// Takes the next character of the line.
-    pub fn push(&mut self, c: char) -> Result<Progress, AllocError>
-        requires order { self.old.piece.start ≤ self.old.stop }
+    pub fn push(&mut self, c: char) -> Progress
         requires bytes { self.old.stop + len_utf8 c < 2 ^ 64 }
         requires lines { self.old.count.line + 1 < 2 ^ 64 }
         requires placed { self.old.piece.mode ≡ Fielded → IsInPlace self.old.fields }
@@ -375,31 +261,30 @@ impl Scan {
                     return self.enter_string(c);
                 }
                 self.grow(mode, c);
-                Ok(Progress::Going)
+                Progress::Going
             }
             Move::Closes => {
                 let returned = self.piece.mode.is_return();
                 self.read(c);
-                self.close()?;
+                self.free();
                 if returned {
-                    Ok(self.line_end(2))
+                    self.line_end(2)
                 } else {
-                    Ok(Progress::Going)
+                    Progress::Going
                 }
             }
             Move::Breaks => self.begin(c),
-            Move::Refused => Ok(Progress::Refused),
+            Move::Refused => Progress::Refused,
         }
     }
 
     /// Takes the next character of the line, after closed pieces or in the open one.
-    fn take(&mut self, c: char) -> Result<Progress, AllocError>
-        requires order { self.old.piece.start ≤ self.old.stop }
+    fn take(&mut self, c: char) -> Progress
         requires bytes { self.old.stop + len_utf8 c < 2 ^ 64 }
         requires lines { self.old.count.line + 1 < 2 ^ 64 }
         requires placed { self.old.piece.mode ≡ Fielded → IsInPlace self.old.fields }
         ensures begins { is_free self.old.piece.mode ≡ true
-            → OnOk result (Begins self.old c (start_of c) result self.new) }
+            → Begins self.old c (start_of c) result self.new }
         ensures takes { is_free self.old.piece.mode ≡ false → TakesNext self.old c result self.new }
     {
         if self.piece.mode.is_free() {
@@ -514,49 +399,86 @@ impl Scan {
 
     /// Takes characters that go on in the line, up to its end, bytes that begin no character, or a character that is
     /// refused. A CR at the end of the bytes stays open.
-    pub fn extend(&mut self, bytes: &[u8]) -> Result<Stop, AllocError>
+    pub fn extend(&mut self, bytes: &[u8]) -> Stop
         requires way { ReachedInSomeLine self.old bytes.now }
         requires bytes { self.old.stop + length bytes.now < 2 ^ 64 }
         requires lines { self.old.line + self.old.stop + length bytes.now + 1 < 2 ^ 64 }
         ensures stops { WhereverReached self.old bytes.now
-            (λ m line whole. IfOk result (ScansIn m line whole self.new)) }
+            (λ m line whole. ScansIn m line whole self.new result) }
     {
         let mut rest = bytes;
         'characters: loop {
-            let left = match self.take_pieces(rest)? {
+            let left = match self.take_pieces(rest) {
                 Left::Bytes(left) => left,
-                Left::LineEnd(len) => return Ok(Stop::LineEnd(len)),
+                Left::LineEnd(len) => return Stop::LineEnd(len),
             };
             let Some(c) = first_character(left) else {
-                return Ok(Stop::TextEnd);
+                return Stop::TextEnd;
             };
             if self.ends_before(c) {
-                self.close()?;
-                return Ok(Stop::LineEnd(1));
+                self.free();
+                return Stop::LineEnd(1);
             }
             let len = c.len_utf8();
-            match self.take(c)? {
+            match self.take(c) {
                 Progress::Going => rest = self.hold(&left[len..]),
-                Progress::LineEnded(len) => return Ok(Stop::LineEnd(len)),
-                Progress::Refused => return Ok(Stop::Refused(c)),
+                Progress::LineEnded(len) => return Stop::LineEnd(len),
+                Progress::Refused => return Stop::Refused(c),
             }
         }
     }
 
+    /// Whether the open piece, if there is one, ends before `c`.
+    fn ends_piece_before(&self, c: char) -> bool
+        ensures ends { result ≡ true
+            → (is_free self.now.piece.mode ≡ false) × (meet_of self.now.piece.mode c ≡ Breaks) }
+        ensures goes { result ≡ false
+            → is_free self.now.piece.mode ≡ false → ¬ (meet_of self.now.piece.mode c ≡ Breaks) }
+    {
+        !self.piece.mode.is_free() && matches!(self.piece.mode.meet(c), Move::Breaks)
+    }
+
+    /// Takes the string that the bytes begin with, at the start of a line.
+    pub fn take_first(&mut self, bytes: &[u8])
+        requires start { Tallies self.old (line_start Free) }
+        requires stacked { IsStacked self.old (line_start Free) }
+        requires string { BeginWithString bytes.now }
+        requires bytes { length bytes.now < 2 ^ 63 }
+        requires line { self.old.line ≡ 1 }
+        ensures { (p : Piece) → p.class ≡ string → BeginWithPiece bytes.now p
+            → (self.new.stop ≡ byte_len p.text) × (self.new.count.line ≡ 1 + line_ends p.text) }
+    {
+        let mut rest = bytes;
+        'characters: loop {
+            let Some(c) = first_character(rest) else {
+                return;
+            };
+            if self.ends_piece_before(c) {
+                return;
+            }
+            // No character of a string is refused, and after the last one no piece is open.
+            self.take(c);
+            if self.piece.mode.is_free() {
+                return;
+            }
+            rest = self.hold(&rest[c.len_utf8()..]);
+        }
+    }
+
     /// Scans a text that begins a line, up to the line's end, the text's end, or a character that is refused.
-    pub fn scan_text(&mut self, text: &str) -> Result<Stop, AllocError>
+    pub fn scan_text(&mut self, text: &str) -> Stop
         requires start { Tallies self.old (line_start self.old.piece.mode) }
         requires stacked { IsStacked self.old (line_start self.old.piece.mode) }
         requires sound { IsScanSound (line_start self.old.piece.mode) [] }
         requires lines { self.old.line + length text.now + 1 < 2 ^ 64 }
-        ensures stops { IfOk result (Scans self.old.piece.mode text.now self.new) }
-        ensures line { OnOk result (self.new.line ≡ self.old.line) }
+        ensures stops { Scans self.old.piece.mode text.now self.new result }
+        ensures line { self.new.line ≡ self.old.line }
     {
-        let stop = self.extend(text.as_bytes())?;
+        let stop = self.extend(text.as_bytes());
         if matches!(stop, Stop::TextEnd) && self.is_returned() {
-            self.close()?;
-            return Ok(Stop::LineEnd(1));
+            self.free();
+            return Stop::LineEnd(1);
         }
-        Ok(stop)
+        stop
     }
 }

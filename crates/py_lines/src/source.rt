@@ -9,7 +9,7 @@ use crate::outline::simple_lines;
 use crate::scan::Stop;
 use crate::unit::Unit;
 use crate::utf8::utf8_prefix;
-use std::alloc::Global;
+use std::alloc::{AllocError, Global};
 
 /// A text and how far it has been read. The tokens of the line read last are kept until the next one.
 #[derive(Drop)]
@@ -36,7 +36,8 @@ pub struct Source<'t> {
 
 impl<'t> Source<'t> {
     ghost use Rattle.py_lines.specs.Reader.View.{reader_of};
-    ghost use Rattle.py_lines.specs.Private.Source.{line_of_source, GivesLine, FailsAfter, HasScanned, Advances};
+    ghost use Rattle.py_lines.specs.Private.Source.{line_of_source, scanned_text, GivesLine, FailsAfter, HasScanned, Advances};
+    ghost use Rattle.py_lines.specs.Private.LineTokens.{IsLineText};
     ghost use Rattle.py_lines.specs.Reader.{GoesOnAt, at_start};
     ghost use Rattle.py_lines.specs.Token.{EachLiesIn};
     ghost use Rattle.py_lines.specs.UnitLine.{line_in};
@@ -83,21 +84,26 @@ impl<'t> Source<'t> {
         }
     }
 
-    /// The line that was read last reaches to where the scan stopped, with `end_len` bytes of line end.
-    fn give(&mut self, end_len: usize)
+    /// Reads the tokens of the line that reaches to where the scan stopped, with `end_len` bytes of line end. It is read then.
+    fn give(&mut self, end_len: usize) -> Result<(), AllocError>
         requires within { self.old.state.place + self.old.state.scan.stop
             ≤ length self.old.characters.now }
         requires boundary { IsCharBoundary self.old.characters.now
             (self.old.state.place + self.old.state.scan.stop) }
         requires lines { self.old.state.scan.count.line
             ≤ self.old.state.place + self.old.state.scan.stop + 1 }
-        ensures { GivesLine self.old end_len self.new }
+        requires text { IsLineText (scanned_text self.old) }
+        ensures { GivesLine self.old end_len result self.new }
     {
+        let start = self.state.place as usize;
         let len = self.state.scan.stop;
+        let text = &self.characters.as_bytes()[start..start + len];
+        self.state.read_tokens(text)?;
         let line = self.state.scan.count.line;
-        self.start = self.state.place as usize;
         self.state.pass(len, line);
+        self.start = start;
         self.end_len = end_len;
+        Ok(())
     }
 
     /// The text has this fault, from now on. It stands so many bytes after the lines that were read.
@@ -121,11 +127,12 @@ impl<'t> Source<'t> {
     }
 
     /// The line that its line end closed.
-    fn end_line(&mut self, len: usize)
+    fn end_line(&mut self, len: usize) -> Result<bool, LexError>
         requires { HasScanned self.old (Stop.LineEnd len) }
-        ensures { Advances self.old (Ok true) self.new }
+        ensures { Advances self.old result self.new }
     {
-        self.give(len);
+        self.give(len)?;
+        Ok(true)
     }
 
     /// The last line of the text, or the fault that stands at its end.
@@ -137,8 +144,7 @@ impl<'t> Source<'t> {
         if let Some(line_fault) = self.state.end_fault(rest) {
             return Err(self.fail(line_fault.kind, line_fault.place));
         }
-        self.state.scan.close()?;
-        self.give(0);
+        self.give(0)?;
         Ok(true)
     }
 
@@ -156,12 +162,9 @@ impl<'t> Source<'t> {
         match self
             .state
             .scan
-            .scan_text(&self.characters[self.state.place as usize..])?
+            .scan_text(&self.characters[self.state.place as usize..])
         {
-            Stop::LineEnd(len) => {
-                self.end_line(len);
-                Ok(true)
-            }
+            Stop::LineEnd(len) => self.end_line(len),
             Stop::TextEnd => self.end_text(),
             Stop::Refused(c) => Err(self.refuse(c)),
         }
@@ -189,7 +192,7 @@ impl<'t> Source<'t> {
 
     /// The line that was read last.
     pub fn unit(&self) -> Unit<'_>
-        requires { EachLiesIn (line_of_source self.now).text self.now.state.scan.tokens.items }
+        requires { EachLiesIn (line_of_source self.now).text self.now.state.tokens.tokens.items }
         ensures { line_in result ≡ line_of_source self.now }
     {
         let text = &self.characters[self.start..self.state.place as usize];

@@ -7,12 +7,11 @@ ghost use Rattle.py_lines.specs.Character.{is_quote};
 ghost use Rattle.py_lines.specs.Piece.{begins};
 ghost use Rattle.py_lines.specs.Private.Run.{BeginsPlainString, HasWholePlainString};
 ghost use Rattle.py_lines.specs.Private.FieldText.{HasSimpleCode, HasBracketed, HasCode, HasField, HasPart};
-ghost use Rattle.py_lines.specs.Private.FieldText.{HasPrefixOrNot, HasQuotedText, HasSpecification, HasText, HasWholeStringWithFields};
+ghost use Rattle.py_lines.specs.Private.FieldText.{HasQuotedText, HasSpecification, HasText};
 ghost use Rattle.py_lines.specs.Private.FieldText.{is_code_bracket, is_escaped};
 
 use crate::brackets::closing_of;
 use crate::character::{is_brace, is_break, is_quote};
-use crate::mode::Spelling;
 use crate::run::{ByteRun, is_ascii_word};
 
 /// How many bytes the string has that the bytes begin with, where it has no prefix, is short, holds something, and is ASCII with no
@@ -177,34 +176,4 @@ pub fn quoted_text_len(bytes: &[u8]) -> Option<usize>
         return None;
     }
     Some(len + 2)
-}
-
-/// How many bytes the prefix has that a string with fields begins with.
-#[inline(always)]
-fn prefix_len(bytes: &[u8]) -> Option<usize>
-    ensures { HasPrefixOrNot bytes.now result }
-{
-    if bytes.len() < 4 {
-        return None;
-    }
-    let len = if is_quote(bytes[1] as char) {
-        1
-    } else if is_quote(bytes[2] as char) {
-        2
-    } else {
-        return None;
-    };
-    if !Spelling::of_word(&bytes[..len]).has_fields() {
-        return None;
-    }
-    Some(len)
-}
-
-/// How many bytes a string with fields has that the bytes begin with, where it is short, holds something, and its text is simple.
-pub fn whole_string_with_fields(bytes: &[u8]) -> Option<usize>
-    ensures { HasWholeStringWithFields bytes.now result }
-{
-    let prefix = prefix_len(bytes)?;
-    let len = quoted_text_len(&bytes[prefix..])?;
-    Some(prefix + len)
 }

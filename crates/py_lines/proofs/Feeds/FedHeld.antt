@@ -3,7 +3,7 @@ use Rattle.std.proofs.Common.{◌≡◌, ℕ, ◌+◌, ◌<◌, ◌⊎◌, true,
 use Rattle.std.specs.Prelude.{encode_utf8_all}
 use Rattle.std.proofs.lemmas.Bool.{cases_lt}
 use Rattle.std.proofs.lemmas.List.{drop-drop, take_all}
-use Rattle.std.proofs.Math.Seq.{take-add, take-append_seam}
+use Rattle.std.proofs.Math.Seq.{take-add}
 use Rattle.py_lines.specs.Character.{is_return}
 use Rattle.py_lines.specs.Piece.{ends, spelled}
 use Rattle.py_lines.specs.LogicalLine.{LogicalLine}
@@ -31,7 +31,7 @@ use Rattle.py_lines.proofs.LineScan.TextSteps.{way_goes}
 use Rattle.py_lines.proofs.Feeds.Known.{IsKnown, known_after, is_known}
 use Rattle.py_lines.proofs.Feeds.SettledSoFar.{MayGetFeed, Follow, settled_open, settled_ready, ended_before}
 use Rattle.py_lines.proofs.Feeds.DecidedSoFar.{undecided}
-use Rattle.py_lines.proofs.Feeds.ReadyLines.{line_of_ended}
+use Rattle.py_lines.proofs.Feeds.ReadyLines.{stopped_text, ended_scan}
 use Rattle.py_lines.proofs.Feeds.LastBytes.{exactly_encoded}
 use Rattle.py_lines.proofs.Feeds.NextHeld.{next_pieces, next_line, next_is, next_some}
 
@@ -71,7 +71,7 @@ pub never_before : (text : List ℕ) (new mid : Feed) (lines : List LogicalLine)
 never_before text new mid lines n all after r e spell whole first goes settled =
     let f : Feed = record new { held = mid.held } in
     let ended : IsEnded f n all r = record { scalars = e.scalars; spell = spell; at = e.at; number = e.number } in
-    let some : 0 < length (encode_utf8_all all) = (line_of_ended f n all r ended [] (λ returned. refl)).0.line.some in
+    let some : 0 < length (encode_utf8_all all) = (ended_scan f n all r ended [] (λ returned. refl)).line.some in
     let size = length-append (encode_utf8_all all) r in
     let k = is_known text new.state.place new.state.line lines all r first e.scalars (subst (GoesOnWith text new.state.place) (sym spell) goes) (omega (arith, some, size)) in
     let next = next_line text f lines n all r ended whole k in
@@ -85,7 +85,7 @@ never_before text new mid lines n all after r e spell whole first goes settled =
 -- the line that has ended with the bytes taken last is settled, and what is held is it, with one byte more after CR alone
 module _ (text : List ℕ) (new mid : Feed) (lines : List LogicalLine) (n : ℕ) (e : EndsLineHeld n new) (last : EndsExactly e.all e.after ⊎ HadEnded mid.held.items e.all) (first : AreFirstLines text new.state.place new.state.line lines) (goes : GoesOnWith text new.state.place new.held.items) (before : GoesOnWith text new.state.place mid.held.items) (settled : 0 < length mid.held.items → IsSettled (take (new.state.place + length mid.held.items) text) lines) where
   fed_some : 0 < length (encode_utf8_all e.all)
-  fed_some = (line_of_ended new n e.all e.after e.ended [] (λ returned. refl)).0.line.some
+  fed_some = (ended_scan new n e.all e.after e.ended [] (λ returned. refl)).line.some
 
   fed_known : IsKnown text new.state.place new.state.line lines e.all e.after
   fed_known = is_known text new.state.place new.state.line lines e.all e.after first e.ended.scalars (subst (GoesOnWith text new.state.place) (sym e.ended.spell) goes) (omega (arith, fed_some, length-append (encode_utf8_all e.all) e.after))
@@ -99,13 +99,12 @@ module _ (text : List ℕ) (new mid : Feed) (lines : List LogicalLine) (n : ℕ)
       let next = next_line text new lines n e.all e.after e.ended e.whole fed_known in
       let follow : Follow u e.after = ⊎_elim (λ done. Follow.by_feed done.1 (ap (ends is_return) next.spell ∙ done.0)) (λ one. Follow.by_byte one.1.0 one.1.1 one.1.2) follows in
       subst (λ l. IsSettled (take (new.state.place + length l) text) (lines ++ line_of_feed new n ∷ [])) e.ended.spell
-      (subst (λ x. IsSettled (take (new.state.place + length (encode_utf8_all e.all ++ e.after)) text) (lines ++ x ∷ [])) (sym (next_is text new lines n e.all e.after e.ended e.whole fed_known))
+      (subst (λ x. IsSettled (take (new.state.place + length (encode_utf8_all e.all ++ e.after)) text) (lines ++ x ∷ [])) (sym (next_is text new lines n e.all e.after e.ended e.whole fed_known e.tokens))
       (settled_ready text new.state.place new.state.line lines e.all e.after fed_known u next follow))
 
   pub whole_fed : HoldsReady new.held.items (Some (line_of_feed new n))
   whole_fed =
-      let stop = (line_of_ended new n e.all e.after e.ended [] (λ returned. refl)).0.stop in
-      let text_is : take new.state.scan.stop new.held.items ≡ encode_utf8_all e.all = ap (λ (m : ℕ). take m new.held.items) stop ∙ ap (take (length (encode_utf8_all e.all))) (sym e.ended.spell) ∙ take-append_seam (encode_utf8_all e.all) e.after in
+      let text_is : take new.state.scan.stop new.held.items ≡ encode_utf8_all e.all = stopped_text new.state.scan.stop new.held.items e.all e.after e.ended.spell (ended_scan new n e.all e.after e.ended [] (λ returned. refl)).stop in
       (e.after, sym e.ended.spell ∙ ap (λ t. t ++ e.after) (sym text_is), subst (λ t. EndsExactly t e.after) (sym text_is) (exactly_encoded e.all e.after follows))
 
 -- nothing is decided where the lines given end

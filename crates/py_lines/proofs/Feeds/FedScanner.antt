@@ -237,7 +237,7 @@ feeds_so old new piece (Err lex.Memory) (fault, ready, u) = runs_short old new f
 -- the state stays sound
 stands_taking : (old new : Feed) (piece : List ℕ) (n : ℕ) (r : Option ℕ) → StopsTaking old piece n r new → StandsSo r new
 stands_taking old new piece n None (mid, same, scanned, opens) = λ no_fault. opens
-stands_taking old new piece n (Some len) (e, last) = ended_ready new len e.all e.after e.ended
+stands_taking old new piece n (Some len) (e, last) = ended_ready new len e
 
 sound_more : (old new : Feed) (bytes : List ℕ) → IsSoundFeed old → old.state.place + length old.held.items + length bytes ≤ 2 ^ 62 → HoldsMore old bytes new → StandsSo new.ready new → IsSoundFeed new
 sound_more old new bytes s fits more stands = record {

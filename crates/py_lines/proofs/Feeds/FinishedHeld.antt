@@ -52,7 +52,7 @@ none_ended : (old mid : Feed) (end_len : ℕ) (text : List ℕ) (lines : List Lo
 none_ended old mid end_len text lines keeps not_ready scanning e =
     let bytes = encode_utf8_all e.all ++ e.after in
     let held : bytes ≡ old.held.items = e.ended.spell ∙ items_kept old mid keeps in
-    let some : 0 < length bytes = omega (arith, ready_size mid end_len (ended_ready mid end_len e.all e.after e.ended), ap length e.ended.spell) in
+    let some : 0 < length bytes = omega (arith, ready_size mid end_len (ended_ready mid end_len e), ap length e.ended.spell) in
     let first_mid : AreFirstLines text mid.state.place mid.state.line lines = first_kept old mid text lines keeps scanning.first in
     let goes : GoesOnWith text mid.state.place bytes = subst (λ (n : ℕ). GoesOnWith text n bytes) (sym keeps.place) (subst (GoesOnWith text old.state.place) (sym held) scanning.held) in
     let k = is_known text mid.state.place mid.state.line lines e.all e.after first_mid e.ended.scalars goes some in

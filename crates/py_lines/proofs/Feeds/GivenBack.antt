@@ -1,5 +1,5 @@
 -- What stays held where a line is ready.
-use Rattle.std.proofs.Common.{◌≡◌, ℕ, zero, suc, ◌+◌, ◌-◌, ◌<◌, ◌≤◌, ◌⊎◌, true, false, Option, None, Some, List, [], ◌∷◌, ◌++◌, length, take, refl, sym, ap, ◌∙◌, subst, ⊎_elim, inl, inr, append-nil, arith, length-append}
+use Rattle.std.proofs.Common.{◌≡◌, ℕ, zero, suc, ◌+◌, ◌-◌, ◌<◌, ◌≤◌, ◌⊎◌, true, false, Option, None, Some, Err, List, [], ◌∷◌, ◌++◌, length, take, refl, sym, ap, ◌∙◌, subst, ⊎_elim, inl, inr, append-nil, arith, length-append}
 use Rattle.std.specs.Prelude.{encode_utf8_all, is_some, max}
 use Rattle.std.specs.Global.{Vec}
 use Rattle.std.proofs.lemmas.Bool.{both_ways, false_from_ne_true, cond_both, cases_lt}
@@ -9,6 +9,8 @@ use Rattle.std.proofs.Math.Seq.{take-append-add, take-append_seam}
 use Rattle.py_lines.specs.Character.{is_return}
 use Rattle.py_lines.specs.Piece.{ends, spelled}
 use Rattle.py_lines.specs.LogicalLine.{byte_len}
+use Rattle.py_lines.specs.declared.fault.LexError.{LexError}
+use Rattle.py_lines.specs.declared.fault.LexError.TheVariants as lex
 use Rattle.py_lines.specs.declared.feed.Feed.{Feed}
 use Rattle.py_lines.specs.declared.mode.Mode.{Mode}
 use Rattle.py_lines.specs.declared.scan.Scan.{Scan}
@@ -16,9 +18,10 @@ use Rattle.py_lines.specs.Private.LineState.{first_mode}
 use Rattle.py_lines.specs.Private.Scan.{EndsWhole, IsLineBefore, line_start}
 use Rattle.py_lines.specs.declared.scan.Stop.TheVariants as stops
 use Rattle.py_lines.specs.ScannerState.{EndsExactly}
-use Rattle.py_lines.specs.Private.Feed.{HasScannedNext, IsHeldSo, IsScanned, IsUnchanged, EndsLineHeld, HadEnded, EndsAfter, Restarts, whole_end, GivesBack, TakesOf}
+use Rattle.py_lines.specs.Private.Feed.{GetsReady, HasScannedNext, IsEnded, IsHeldSo, IsMadeReady, IsScanned, IsUnchanged, EndsLineHeld, HadEnded, EndsAfter, Restarts, whole_end, GivesBack, TakesOf, TakesChunk}
 use Rattle.py_lines.proofs.Feeds.Chunks.{none_is}
 use Rattle.py_lines.proofs.Feeds.Loops.{restarts_fault, restarts_keep, restarts_open, restarts_ready}
+use Rattle.py_lines.proofs.Feeds.MadeReady.{made_keeps, made_ended}
 use Rattle.py_lines.proofs.Readers.LineAnswers.{IsScannedLine, line_at_end}
 
 -- a line's end stays whole where one byte after CR stays
@@ -85,6 +88,7 @@ module _ (f : Feed) (end_len : ℕ) (e : EndsLineHeld end_len f) (v : Vec ℕ) (
     after = take (kept - byte_len e.all) e.after;
     ended = record { scalars = e.ended.scalars; spell = taken_spell (first_mode f.state.place) f.state.scan f.held.items e.all e.after end_len e.ended.spell e.ended.at e.whole kept within ∙ sym held; at = e.ended.at; number = e.ended.number };
     whole = taken_whole (first_mode f.state.place) f.state.scan f.held.items e.all e.after end_len e.ended.spell e.ended.at e.whole kept within;
+    tokens = e.tokens;
   }
 
   had_ended : whole_end f.state.scan ≤ before → HadEnded (take before f.held.items) e.all
@@ -163,30 +167,40 @@ takes_of old mid new chunk held n is mid_held place line ended fault size g =
       stops = subst (λ l. EndsAfter l new.ready new) before g.stops;
     }
 
--- the line that has ended in these bytes was taken, where nothing was held
-pub line_taken : (old new : Feed) (chunk : List ℕ) (end_len n : ℕ) → HasScannedNext old chunk (stops.LineEnd end_len) → n ≡ whole_end old.state.scan → new.held.items ≡ old.held.items ++ take n chunk → new.state.place ≡ old.state.place → new.state.line ≡ old.state.line → new.ended ≡ old.ended → new.state.fault ≡ old.state.fault → new.ready ≡ Some end_len → new.state.scan ≡ old.state.scan → TakesOf old chunk n new
-line_taken old new chunk end_len n s is held place line ended fault ready scan =
-    let t = s.stops in
-    let mode = first_mode old.state.place in
-    let spell = taken_spell mode old.state.scan chunk t.read t.rest end_len t.spell t.stops.0 t.stops.1 n (omega (arith, is)) in
-    let ends : EndsLineHeld end_len new = record {
-      all = t.read;
-      after = take (n - byte_len t.read) t.rest;
-      ended = record {
+-- the line that has ended in these bytes is held, where nothing was
+module _ (old : Feed) (chunk : List ℕ) (end_len n : ℕ) (s : HasScannedNext old chunk (stops.LineEnd end_len)) (v : Vec ℕ) (is : n ≡ whole_end old.state.scan) (held : v.items ≡ old.held.items ++ take n chunk) where
+  abbrev mode : Mode
+  mode = first_mode old.state.place
+
+  abbrev pub line_after : List ℕ
+  line_after = take (n - byte_len s.stops.read) s.stops.rest
+
+  line_whole : EndsWhole s.stops.read line_after
+  line_whole = taken_whole mode old.state.scan chunk s.stops.read s.stops.rest end_len s.stops.spell s.stops.stops.0 s.stops.stops.1 n (omega (arith, is))
+
+  pub line_held : IsEnded (record old { held = v }) end_len s.stops.read line_after
+  line_held =
+      let t = s.stops in
+      record {
         scalars = t.scalars;
-        spell = spell ∙ ap (λ l. l ++ take n chunk) (sym s.none_held) ∙ sym held;
-        at = subst (λ (k : ℕ). IsLineBefore (first_mode k) new.state.scan t.read end_len) (sym place) (subst (λ (c : Scan). IsLineBefore mode c t.read end_len) (sym scan) t.stops.0);
-        number = ap (λ (c : Scan). c.line) scan ∙ t.number ∙ sym line;
-      };
-      whole = taken_whole mode old.state.scan chunk t.read t.rest end_len t.spell t.stops.0 t.stops.1 n (omega (arith, is));
-    } in
-    record {
-      some = omega (arith, is, end_some mode old.state.scan chunk t.read t.rest end_len t.spell t.stops.0 t.stops.1);
-      within = omega (arith, is, end_within mode old.state.scan chunk t.read t.rest end_len t.spell t.stops.0 t.stops.1);
-      more = record { held = held; place = place; line = line; ended = ended };
-      fault = fault;
-      stops = subst (λ o. EndsAfter old.held.items o new) (sym ready) (ends, inl (taken_exactly mode old.state.scan chunk t.read t.rest end_len t.spell t.stops.0 t.stops.1 n is));
-    }
+        spell = taken_spell mode old.state.scan chunk t.read t.rest end_len t.spell t.stops.0 t.stops.1 n (omega (arith, is)) ∙ ap (λ l. l ++ take n chunk) (sym s.none_held) ∙ sym held;
+        at = t.stops.0;
+        number = t.number;
+      }
+
+  -- it was taken, once its tokens are read
+  pub line_taken : (new : Feed) → IsMadeReady (record old { held = v }) end_len new → TakesOf old chunk n new
+  line_taken new made =
+      let t = s.stops in
+      let keeps = made_keeps (record old { held = v }) end_len t.read line_after line_held new made in
+      let ends = made_ended (record old { held = v }) end_len t.read line_after line_held new made line_whole in
+      record {
+        some = omega (arith, is, end_some mode old.state.scan chunk t.read t.rest end_len t.spell t.stops.0 t.stops.1);
+        within = omega (arith, is, end_within mode old.state.scan chunk t.read t.rest end_len t.spell t.stops.0 t.stops.1);
+        more = record { held = ap (λ (w : Vec ℕ). w.items) keeps.held ∙ held; place = keeps.place; line = keeps.line; ended = keeps.ended };
+        fault = ap (λ (f : Feed). f.state.fault) made.same;
+        stops = subst (λ o. EndsAfter old.held.items o new) (sym (ap (λ (f : Feed). f.ready) made.same)) (ends, inl (taken_exactly mode old.state.scan chunk t.read t.rest end_len t.spell t.stops.0 t.stops.1 n is));
+      }
 
 -- the memory for a scan was refused: what was held before is held again, and its scan begins anew
 pub refused_unchanged : (f : Feed) (longer shorter : Vec ℕ) (new : Feed) → f.ready ≡ None → shorter.items ≡ f.held.items → Restarts (record f { held = longer }) new → IsUnchanged f (record new { held = shorter })
@@ -201,3 +215,8 @@ refused_unchanged f longer shorter new not_ready items restarts =
       fault = restarts_fault mid new restarts;
       state = subst (λ (r : Option ℕ). IsHeldSo r (record new { held = shorter })) (sym (ready ∙ not_ready)) ([], shorter.items, record { scalars = refl; spell = refl; way = open_anew.way; number = open_anew.number });
     }
+
+-- the same for the tokens of a line, where nothing was held
+pub refused_line : (f : Feed) (longer shorter : Vec ℕ) (new : Feed) (chunk : List ℕ) (end_len : ℕ) (error : LexError) → f.ready ≡ None → shorter.items ≡ f.held.items → GetsReady (record f { held = longer }) end_len (Err error) new → TakesChunk f chunk (Err error) (record new { held = shorter })
+refused_line f longer shorter new chunk end_len (lex.Fault x) not_ready items gets = absurd gets
+refused_line f longer shorter new chunk end_len lex.Memory not_ready items restarts = refused_unchanged f longer shorter new not_ready items restarts

@@ -1,5 +1,5 @@
 -- What a scan of what is held comes to.
-use Rattle.std.proofs.Common.{◌≡◌, ℕ, ◌<◌, false, true, None, Ok, Err, List, [], length, refl, sym, ap, ◌∙◌, subst, arith}
+use Rattle.std.proofs.Common.{◌≡◌, ℕ, false, None, Ok, Err, List, [], length, refl, sym, ap, ◌∙◌, subst, arith}
 use Rattle.std.specs.Str.{StartsWithNoChar}
 use Rattle.std.proofs.lemmas.Bool.{both_ways}
 use Rattle.std.proofs.lemmas.List.{nil_from_length}
@@ -14,16 +14,20 @@ use Rattle.py_lines.specs.declared.scan.Stop.TheVariants as stops
 use Rattle.py_lines.specs.declared.scan.LineFault.{LineFault}
 use Rattle.py_lines.specs.Private.Scan.{Tallies, IsStacked, IsUnderWay, line_start, is_returned, IsRefusal}
 use Rattle.py_lines.specs.Private.LineState.{first_mode}
-use Rattle.py_lines.specs.Private.Feed.{KeepsText, Restarts, IsOpen, IsPartOfCharacter, FailsAt, FailsNext, StopsHeld, ClosesLine, IsScanned, ScansHeld}
+use Rattle.py_lines.specs.Private.Feed.{KeepsText, Restarts, IsOpen, IsPartOfCharacter, FailsAt, FailsNext, StopsHeld, IsScanned, ScansHeld}
 use Rattle.py_lines.proofs.Text.Utf8Prefixes.{nothing_bad}
 use Rattle.py_lines.proofs.Text.Incomplete.{part_none}
-use Rattle.py_lines.proofs.Feeds.Steps.{open_stop, open_size, ends_returned}
+use Rattle.py_lines.proofs.Feeds.Steps.{open_stop, open_size}
 
 pub keeps_on : (old mid new : Feed) → KeepsText old mid → KeepsText mid new → KeepsText old new
 keeps_on old mid new a b = record { held = b.held ∙ a.held; place = b.place ∙ a.place; line = b.line ∙ a.line; ended = b.ended ∙ a.ended }
 
 pub keeps_self : (f : Feed) → KeepsText f f
 keeps_self f = record { held = refl; place = refl; line = refl; ended = refl }
+
+-- a scan of the characters keeps all that is held
+pub scanned_keeps : (old new : Feed) → new ≡ record old { state = record old.state { scan = new.state.scan } } → KeepsText old new
+scanned_keeps old new same = record { held = ap (λ (f : Feed). f.held) same; place = ap (λ (f : Feed). f.state.place) same; line = ap (λ (f : Feed). f.state.line) same; ended = ap (λ (f : Feed). f.ended) same }
 
 -- a fault keeps all that is held
 pub fails_keep : (old new : Feed) (kind : FaultKind) (offset : ℕ) (error : LexError) → FailsAt old kind offset error new → KeepsText old new
@@ -70,7 +74,7 @@ restarts_on old mid new keeps ready fault r =
     record {
       same = r.same ∙ (λ i. record { held = held i; state = new.state; ready = ready i; ended = ended i });
       begins = record {
-        same = r.begins.same ∙ (λ i. record { place = place i; line = line i; fault = fault i; scan = new.state.scan });
+        same = r.begins.same ∙ (λ i. record { place = place i; line = line i; fault = fault i; scan = new.state.scan; tokens = new.state.tokens });
         tallies = subst (λ (n : ℕ). Tallies new.state.scan (line_start (first_mode n))) place r.begins.tallies;
         stacked = subst (λ (n : ℕ). IsStacked new.state.scan (line_start (first_mode n))) place r.begins.stacked;
         number = r.begins.number ∙ line;
@@ -87,12 +91,6 @@ part_all f read rest o ready done =
 -- all except a part of a character
 pub part_left : (f : Feed) (read rest : List ℕ) → IsOpen f read rest → f.ready ≡ None → StartsWithNoChar rest → ¬ (IsHopeless rest) → is_returned f.state.scan ≡ false → IsScanned f.ready f
 part_left f read rest o ready none more open_yet = subst (λ r. IsScanned r f) (sym ready) (read, rest, o, record { none = none; more = more; last = λ returned. absurd (both_ways _ open_yet returned) })
-
--- what is left shows that the line has ended in CR
-pub closes_held : (old new : Feed) (r : _) (read rest : List ℕ) → IsOpen old read rest → 0 < length rest → StartsWithNoChar rest → is_returned old.state.scan ≡ true → ClosesLine old 1 r new → ScansHeld old r new
-closes_held old new (Ok done) read rest o some none is closes = (closes.0, closes.2, subst (λ r. IsScanned r new) (sym closes.1) (ends_returned old new read rest o some none is closes.0 closes.3))
-closes_held old new (Err (lex.Fault f)) read rest o some none is closes = absurd closes
-closes_held old new (Err lex.Memory) read rest o some none is restarts = restarts
 
 -- the scan of what is held meets a fault, where a line is open
 fails_held : (old mid new : Feed) (read rest : List ℕ) (kind : FaultKind) (offset : ℕ) (error : LexError) → KeepsText old mid → mid.ready ≡ None → IsOpen mid read rest → FailsAt mid kind offset error new → ((e : LexError) → FailsAt mid kind offset e new → FailsNext mid read rest e new) → ScansHeld old (Err error) new

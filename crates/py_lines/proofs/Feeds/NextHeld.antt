@@ -7,11 +7,12 @@ use Rattle.py_lines.specs.LogicalLine.{LogicalLine, line_of}
 use Rattle.py_lines.specs.ScannerState.View.{line_of_feed}
 use Rattle.py_lines.specs.declared.feed.Feed.{Feed}
 use Rattle.py_lines.specs.Private.Scan.{EndsWhole}
+use Rattle.py_lines.specs.Private.LineTokens.{HoldsTokens}
 use Rattle.py_lines.specs.Private.Feed.{IsEnded}
 use Rattle.py_lines.proofs.LineScan.LineSteps.{follows_whole}
 use Rattle.py_lines.proofs.Feeds.Known.{IsKnown}
 use Rattle.py_lines.proofs.Feeds.SettledSoFar.{IsNextLine}
-use Rattle.py_lines.proofs.Feeds.ReadyLines.{line_of_ended}
+use Rattle.py_lines.proofs.Feeds.ReadyLines.{ended_scan, line_of_ended}
 
 module _ (text : List ℕ) (f : Feed) (lines : List LogicalLine) (end_len : ℕ) (read rest : List ℕ) (e : IsEnded f end_len read rest) (whole : EndsWhole read rest) (k : IsKnown text f.state.place f.state.line lines read rest) where
   -- after CR comes no LF
@@ -24,7 +25,7 @@ module _ (text : List ℕ) (f : Feed) (lines : List LogicalLine) (end_len : ℕ)
   pub next_line : IsNextLine f.state.place read k.more next_pieces
   next_line =
       let at = e.at k.more no_feed_next in
-      let line = (line_of_ended f end_len read rest e k.more no_feed_next).0.line in
+      let line = (ended_scan f end_len read rest e k.more no_feed_next).line in
       record {
         body = at.body;
         last = at.last;
@@ -40,11 +41,11 @@ module _ (text : List ℕ) (f : Feed) (lines : List LogicalLine) (end_len : ℕ)
         steps = line.steps;
       }
 
-  pub next_is : line_of_feed f end_len ≡ line_of f.state.place f.state.line next_pieces
-  next_is = (line_of_ended f end_len read rest e k.more no_feed_next).1
+  pub next_is : HoldsTokens (encode_utf8_all read) f.state.line f.state.tokens → line_of_feed f end_len ≡ line_of f.state.place f.state.line next_pieces
+  next_is holds = line_of_ended f end_len read rest e holds k.more no_feed_next
 
   pub next_some : 0 < length read
-  next_some = go read (line_of_ended f end_len read rest e k.more no_feed_next).0.line.some
+  next_some = go read (ended_scan f end_len read rest e k.more no_feed_next).line.some
     where
       go : (cs : List ℕ) → 0 < length (encode_utf8_all cs) → 0 < length cs
       go [] some = some

@@ -22,7 +22,7 @@ use Rattle.py_lines.specs.Private.Feed.{IsSoundFeed, StandsSo}
 use Rattle.py_lines.specs.Private.LineState.{BeginsAnew, first_mode}
 use Rattle.py_lines.specs.Private.Scan.{EndsWhole, line_start}
 use Rattle.py_lines.specs.Private.Outline.{AreWholeLines, BeginWithLines, IsWholeLine}
-use Rattle.py_lines.proofs.SimpleLines.Code.{return_returns}
+use Rattle.py_lines.proofs.SimpleLines.Tails.{return_returns}
 use Rattle.py_lines.proofs.SimpleLines.Lines.{lines_few}
 use Rattle.py_lines.proofs.Lexings.SettledFits.{ends-append}
 use Rattle.py_lines.proofs.LineScan.LineCount.{ends-last}

@@ -1,5 +1,5 @@
 -- One character more of what a scanner holds.
-use Rattle.std.proofs.Common.{◌≡◌, ℕ, ◌+◌, ◌<◌, ◌≤◌, true, List, [], ◌∷◌, ◌++◌, length, take, drop, inr, refl, sym, ap, ◌∙◌, subst, append_assoc, arith, length-append, length-drop, ◌-◌}
+use Rattle.std.proofs.Common.{◌≡◌, ℕ, ◌+◌, ◌<◌, ◌≤◌, true, List, [], ◌∷◌, ◌++◌, length, take, drop, inr, refl, sym, ap, ◌∙◌, append_assoc, arith, length-append, length-drop, ◌-◌}
 use Rattle.std.specs.Prelude.{encode_utf8_all, IsUtf8}
 use Rattle.std.specs.Str.{all_scalars, StartsWithNoChar}
 use Rattle.std.proofs.lemmas.Bool.{and_parts}
@@ -9,16 +9,14 @@ use Rattle.std.proofs.Math.Seq.{take-append_seam, drop-append_seam}
 use Rattle.py_lines.specs.Character.{is_line_feed}
 use Rattle.py_lines.specs.Piece.{begins}
 use Rattle.py_lines.specs.LogicalLine.{byte_len}
-use Rattle.py_lines.specs.declared.scan.Scan.{Scan}
 use Rattle.py_lines.specs.declared.feed.Feed.{Feed}
 use Rattle.py_lines.specs.Private.ScanMachine.{IsScanSound}
-use Rattle.std.specs.Global.{Vec}
-use Rattle.py_lines.specs.Private.Scan.{Closes, is_return_mode, IsAtLineEnd, is_returned}
+use Rattle.py_lines.specs.Private.Scan.{is_return_mode, is_returned, freed, EndsWhole}
 use Rattle.py_lines.specs.Private.LineState.{first_mode}
-use Rattle.py_lines.specs.Private.Feed.{KeepsText, IsOpen, EndsLineHeld}
+use Rattle.py_lines.specs.Private.Feed.{IsOpen, IsEnded}
 use Rattle.py_lines.proofs.Text.Utf8Prefixes.{all_scalars-parts}
 use Rattle.py_lines.proofs.LogicalLines.Cuts.{byte_len-append}
-use Rattle.py_lines.proofs.LineScan.LineSteps.{sound_steps, returned, way_order, way_stop}
+use Rattle.py_lines.proofs.LineScan.LineSteps.{sound_steps, returned, way_stop}
 use Rattle.py_lines.proofs.LineScan.LineStops.{return_ends}
 use Rattle.py_lines.proofs.LineScan.TextSteps.{begun_sound}
 use Rattle.py_lines.proofs.Readers.LineAnswers.{Within}
@@ -26,9 +24,6 @@ use Rattle.py_lines.proofs.Readers.LineAnswers.{Within}
 module _ (f : Feed) (read rest : List ℕ) (o : IsOpen f read rest) where
   pub open_sound : IsScanSound o.way.state read
   open_sound = sound_steps (first_mode f.state.place) read o.way.state (begun_sound f.state.place) o.way.steps
-
-  pub open_order : f.state.scan.piece.start ≤ f.state.scan.stop
-  open_order = way_order f.state.scan o.way.state o.way.tallies
 
   pub open_stop : f.state.scan.stop ≡ byte_len read
   open_stop = way_stop (first_mode f.state.place) f.state.scan read o.way (begun_sound f.state.place)
@@ -62,18 +57,20 @@ no_feed : (b : ℕ) (more : List ℕ) → StartsWithNoChar (b ∷ more) → b �
 no_feed b more none ten = none 10 more refl (ap (λ (n : ℕ). n ∷ more) ten ∙ ap (λ t. t ++ more) (sym (encode_ascii 10 (omega arith))))
 
 -- a line that such bytes show to have ended in CR
-pub ends_returned : (old new : Feed) (read rest : List ℕ) (o : IsOpen old read rest) → 0 < length rest → StartsWithNoChar rest → is_returned old.state.scan ≡ true → KeepsText old new → Closes old.state.scan new.state.scan → EndsLineHeld 1 new
-ends_returned old new read [] o some none is keeps closes = absurd (omega arith)
-ends_returned old new read (b ∷ more) o some none is keeps closes =
+pub returned_whole : (read rest : List ℕ) → 0 < length rest → StartsWithNoChar rest → EndsWhole read rest
+returned_whole read [] some none = absurd (omega arith)
+returned_whole read (b ∷ more) some none = inr (b, more, refl, no_feed b more none)
+
+-- the scan once no piece is open any longer
+abbrev pub scan_freed : Feed → Feed
+scan_freed f = record f { state = record f.state { scan = freed f.state.scan } }
+
+pub ends_returned : (f : Feed) (read rest : List ℕ) → IsOpen f read rest → is_returned f.state.scan ≡ true → IsEnded (scan_freed f) 1 read rest
+ends_returned f read rest o is =
     let parts = and_parts _ _ is in
     record {
-      all = read;
-      after = b ∷ more;
-      ended = record {
-        scalars = o.scalars;
-        spell = o.spell ∙ ap (λ (v : Vec ℕ). v.items) (sym keeps.held);
-        at = λ after h. subst (λ (n : ℕ). IsAtLineEnd (first_mode n) new.state.scan read (encode_utf8_all after) 1) (sym keeps.place) (returned (first_mode old.state.place) old.state.scan new.state.scan read (encode_utf8_all after) o.way (begun_sound old.state.place) parts.0 parts.1 closes (λ a spells. ap (begins is_line_feed) (encodes_same a after spells) ∙ h (return_ends o.way.state read (open_sound old read (b ∷ more) o) (ap is_return_mode (sym o.way.tallies.counts.mode) ∙ parts.0))));
-        number = ap (λ (s : Scan). s.line) closes.same ∙ o.number ∙ sym keeps.line;
-      };
-      whole = inr (b, more, refl, no_feed b more none);
+      scalars = o.scalars;
+      spell = o.spell;
+      at = λ after h. returned (first_mode f.state.place) f.state.scan read (encode_utf8_all after) o.way (begun_sound f.state.place) parts.0 parts.1 (λ a spells. ap (begins is_line_feed) (encodes_same a after spells) ∙ h (return_ends o.way.state read (open_sound f read rest o) (ap is_return_mode (sym o.way.tallies.counts.mode) ∙ parts.0)));
+      number = o.number;
     }

@@ -1,14 +1,13 @@
 -- What is wrong where a string with fields refuses a character, and where a text ends in one, is what its scan says.
-use Rattle.std.proofs.Common.{◌≡◌, ℕ, Bool, ◌+◌, ◌-◌, ◌≤◌, true, false, ◌==◌, ◌&&◌, Option, Some, List, [], ◌∷◌, ◌++◌, length, refl, sym, ap, ◌∙◌, subst, arith, length-append}
+use Rattle.std.proofs.Common.{◌≡◌, ℕ, Bool, ◌+◌, ◌-◌, ◌≤◌, true, false, ◌==◌, ◌&&◌, Some, List, [], ◌∷◌, ◌++◌, length, refl, sym, ap, ◌∙◌, subst, arith, length-append}
 use Rattle.std.specs.Prelude.{nat_lt, encode_utf8, encode_utf8_all, if◌then◌else◌}
-use Rattle.std.proofs.lemmas.Bool.{both_ways}
 use Rattle.std.proofs.lemmas.Bool.Decides.{nat_tests}
 use Rattle.std.proofs.lemmas.Str.{length-encode, len_utf8_bounds}
 use Rattle.py_lines.specs.Character.{is_break}
 use Rattle.py_lines.specs.Balance.{is_opening, is_closing}
 use Rattle.py_lines.specs.Piece.{Piece, spelled}
 use Rattle.py_lines.specs.LogicalLine.{byte_len}
-use Rattle.py_lines.specs.Faults.{Cause, brace_too_deep, breaks_string, closes_wrong, opens_too_deep, ends_specification, begins_nothing, kind_of_cause, Unfinished, open_brace, open_short, open_long, open_join, open_bracket, open_inside}
+use Rattle.py_lines.specs.Faults.{Cause, brace_too_deep, breaks_string, closes_wrong, opens_too_deep, ends_specification, begins_nothing, kind_of_cause, open_brace, open_short, open_long, open_join, open_bracket, open_inside}
 use Rattle.py_lines.specs.FieldStrings.{Host, Place, literal}
 use Rattle.py_lines.specs.declared.fault.FaultKind.{FaultKind}
 use Rattle.py_lines.specs.declared.fault.FaultKind.TheVariants as fault_kind
@@ -136,13 +135,26 @@ code_inside m t is inside outside =
     let (host, place, named, at, mode) = inside outside in
     code_never m host place named at (is ∙ mode)
 
-code_alone : (short long slash : Bool) (code : Option Unfinished) → short ≡ false → long ≡ false → slash ≡ false → (if short then Some open_short else (if long then Some open_long else (if slash then Some open_join else code))) ≡ code
-code_alone short long slash code no_short no_long no_slash = rw (no_short, no_long, no_slash)
+code_what : (m : Mode) (depth : ℕ) (outer : List Level) (openers : List ℕ)
+    → unfinished_with depth outer openers (code_mode m)
+    ≡ (if in_short m then Some open_short else (if in_long m then Some open_long else (if is_after_backslash m then Some open_join else unfinished_code outer openers)))
+code_what (modes.FieldOpened h) depth outer openers = refl
+code_what (modes.FieldEmpty h) depth outer openers = refl
+code_what m depth outer openers = refl
 
-code_ends : (m : Mode) (depth : ℕ) (outer : List Level) (openers : List ℕ) → in_short m ≡ false → in_long m ≡ false → is_after_backslash m ≡ false → unfinished_with depth outer openers (code_mode m) ≡ unfinished_code outer openers
-code_ends (modes.FieldOpened h) depth outer openers short long slash = absurd (both_ways _ short refl)
-code_ends (modes.FieldEmpty h) depth outer openers short long slash = refl
-code_ends m depth outer openers short long slash = code_alone (in_short m) (in_long m) (is_after_backslash m) (unfinished_code outer openers) short long slash
+-- in a string without fields, or after a backslash
+module _ (m : Mode) (depth : ℕ) (t : FieldScanned) (is : code_mode m ≡ t.mode) where
+  what_round : unfinished_round depth t ≡ unfinished_with depth t.outer t.openers (code_mode m)
+  what_round = ap (λ (x : FieldMode). unfinished_with depth t.outer t.openers x) (sym is)
+
+  pub short_round : in_short m ≡ true → unfinished_round depth t ≡ Some open_short
+  short_round short = what_round ∙ code_what m depth t.outer t.openers ∙ rw short
+
+  pub long_round : in_short m ≡ false → in_long m ≡ true → unfinished_round depth t ≡ Some open_long
+  long_round no_short long = what_round ∙ code_what m depth t.outer t.openers ∙ rw (no_short, long)
+
+  pub join_round : in_short m ≡ false → in_long m ≡ false → is_after_backslash m ≡ true → unfinished_round depth t ≡ Some open_join
+  join_round no_short no_long slash = what_round ∙ code_what m depth t.outer t.openers ∙ rw (no_short, no_long, slash)
 
 bracket_ends : (outer : List Level) (openers : List ℕ) (o : ℕ) (os : List ℕ) → openers ≡ o ∷ os → unfinished_code outer openers ≡ Some open_bracket
 bracket_ends [] openers o os is = ap (λ (l : List ℕ). unfinished_code [] l) is
@@ -159,7 +171,7 @@ code_waits m = refl
 
 -- in code outside strings
 pub code_round : (m : Mode) (depth : ℕ) (t : FieldScanned) → code_mode m ≡ t.mode → in_short m ≡ false → in_long m ≡ false → is_after_backslash m ≡ false → unfinished_round depth t ≡ unfinished_code t.outer t.openers
-code_round m depth t is short long slash = ap (λ (x : FieldMode). unfinished_with depth t.outer t.openers x) (sym is) ∙ code_ends m depth t.outer t.openers short long slash
+code_round m depth t is short long slash = what_round m depth t is ∙ code_what m depth t.outer t.openers ∙ rw (short, long, slash)
 
 pub bracket_end : (scan : FieldScan) (base depth : ℕ) (t : FieldScanned) (m : Mode) (opener at : ℕ) → Follows scan base t → code_mode m ≡ t.mode → in_short m ≡ false → in_long m ≡ false → is_after_backslash m ≡ false → IsInnermostFrame (Some (frame.Bracket opener at)) scan.frames → (unfinished_round depth t ≡ Some open_bracket) × IsUnfinishedAt base t open_bracket at
 bracket_end scan base depth t m opener at f is short long slash top =

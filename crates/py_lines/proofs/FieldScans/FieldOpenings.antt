@@ -1,7 +1,7 @@
 -- A field of a string opens: after its `{` in the literal part, by the character after it, or at its `{` in a specification.
 use Rattle.std.proofs.Common.{◌≡◌, ℕ, ◌+◌, ◌-◌, ◌<◌, Bool, true, false, ◌==◌, Option, None, Some, List, [], ◌∷◌, ◌++◌, length, refl, sym, ap, ◌∙◌, subst, arith, append-nil}
 use Rattle.std.specs.Str.{byte}
-use Rattle.std.proofs.lemmas.Bool.{lt-ltb, ltb-true, false_from_ne_true, eqb-true}
+use Rattle.std.proofs.lemmas.Bool.{both_ways, lt-ltb, ltb-true, false_from_ne_true, eqb-true}
 use Rattle.std.proofs.lemmas.Str.{len_utf8_bounds, len_utf8_ascii}
 use Rattle.py_lines.specs.Piece.{operator, line_end, Piece, spelled}
 use Rattle.py_lines.specs.LogicalLine.{byte_len}
@@ -28,7 +28,7 @@ use Rattle.py_lines.proofs.LogicalLines.Cuts.{byte_len-append}
 use Rattle.py_lines.proofs.LineScan.LineCount.{byte_len-one}
 use Rattle.py_lines.proofs.FieldScans.Frames.{InList, list_of, innermost_field, bracket_opened, operator_alike, field_opened, frames_alike}
 use Rattle.py_lines.proofs.FieldScans.Moves.{opens_specification, ends_specification, starts_so}
-use Rattle.py_lines.proofs.FieldScans.Steps.{follows_free, going, no_room, no_step}
+use Rattle.py_lines.proofs.FieldScans.Steps.{follows_free, going, keeps_open, no_room, no_step, some_level}
 use Rattle.py_lines.proofs.FieldScans.Taking.{piece_after, neutral_alike}
 use Rattle.py_lines.proofs.FieldScans.Operators.{open_frames, opened_is, ended_is, specified_is, wrong_in_field, other_in_field, resumed}
 
@@ -75,19 +75,19 @@ module _ (old : FieldScan) (base depth : ℕ) (outer : List Level) (done : List 
   code_at = stands ∙ ap (λ x. base + byte_len x) (sym (append-nil (before literal (L ∷ outer))))
 
   takes : (new : FieldScan) (next : FieldScanned) → has_room_at (depth + frames T) c (begins_code (host_in host)) ≡ true → field_started (L ∷ outer) [] [] c (start_of c) ≡ Some next → IsInString next → Follows new base next → ComesTo base depth T c old progress.Going new
-  takes new next room comes inside follows = going base depth T c (begins_code (host_in host)) is old new next room comes (λ none other. absurd (cc)) inside follows
+  takes new next room comes inside follows = going base depth T c (begins_code (host_in host)) is old new next room comes (λ none other. keeps_open _ refl other) inside follows
 
   -- the code begins with another piece
   pub begins_piece : (mid : FieldScan) (m : Mode) → has_room_at (depth + frames T) c (begins_code (host_in host)) ≡ true → mid.frames ≡ Fields → start_of c ≡ starts.Open m → ComesTo base depth T c old progress.Going (record mid { mode = field_modes.Code m; start = place })
   begins_piece mid m room pushed starts_with =
       let s = starts_so c m starts_with in
-      takes (record mid { mode = field_modes.Code m; start = place }) (field_state (L ∷ outer) [] [] (plain m) (c ∷ [])) room (ap (field_started (L ∷ outer) [] [] c) starts_with) (λ none. absurd (cc))
-      (record { mode = s.1; holds = s.0; no_list = tt; waits = tt; full = λ w. absurd (cc); start = code_at; frames = subst (FramesFollow base (L ∷ outer) [] []) (sym pushed) opened })
+      takes (record mid { mode = field_modes.Code m; start = place }) (field_state (L ∷ outer) [] [] (plain m) (c ∷ [])) room (ap (field_started (L ∷ outer) [] [] c) starts_with) (λ none. absurd (some_level L outer none))
+      (record { mode = s.1; holds = s.0; no_list = tt; waits = tt; full = λ w. absurd (both_ways _ refl w); start = code_at; frames = subst (FramesFollow base (L ∷ outer) [] []) (sym pushed) opened })
 
   -- with a line end
   pub begins_line : (mid : FieldScan) → has_room_at (depth + frames T) c (begins_code (host_in host)) ≡ true → mid.frames ≡ Fields → start_of c ≡ starts.LineEnd → 1 ≡ byte_len (c ∷ []) → ComesTo base depth T c old progress.Going (freed_at mid (place + 1))
   begins_line mid room pushed starts_with one =
-      takes (freed_at mid (place + 1)) (field_fresh (L ∷ outer) (piece line_end (c ∷ []) ∷ []) []) room (ap (field_started (L ∷ outer) [] [] c) starts_with) (λ none. absurd (cc))
+      takes (freed_at mid (place + 1)) (field_fresh (L ∷ outer) (piece line_end (c ∷ []) ∷ []) []) room (ap (field_started (L ∷ outer) [] [] c) starts_with) (λ none. absurd (some_level L outer none))
       (follows_free mid base (L ∷ outer) (piece line_end (c ∷ []) ∷ []) [] (place + 1)
       (record {
         follow = frames_alike base (L ∷ outer) [] (piece line_end (c ∷ []) ∷ []) [] mid.frames (neutral_alike [] line_end (c ∷ []) refl refl) (subst (FramesFollow base (L ∷ outer) [] []) (sym pushed) opened);
@@ -101,17 +101,17 @@ module _ (old : FieldScan) (base depth : ℕ) (outer : List Level) (done : List 
   pub ends_empty : has_room_at (depth + frames T) c (begins_code (host_in host)) ≡ true → start_of c ≡ starts.Operator → c == byte "}" ≡ true → IsInString T → ComesTo base depth T c old progress.Going (ended_in old (waiting_field old host place))
   ends_empty room starts_with ends inside =
       takes (ended_in old (waiting_field old host place)) (field_ended L outer (held ++ (c ∷ []))) room (operator_comes _ starts_with (ended_is L outer [] c ends)) (λ none. (host_in host, literal, false, between, refl))
-      (record { mode = refl; holds = tt; no_list = tt; waits = tt; full = λ w. absurd (cc); start = follow.start; frames = follow.frames })
+      (record { mode = refl; holds = tt; no_list = tt; waits = tt; full = λ w. absurd (both_ways _ refl w); start = follow.start; frames = follow.frames })
 
   pub specifies : (mid : FieldScan) → has_room_at (depth + frames T) c (begins_code (host_in host)) ≡ true → mid.frames ≡ Fields → start_of c ≡ starts.Operator → c == byte "}" ≡ false → c == byte ":" ≡ true → mid.start ≡ old.start → ComesTo base depth T c old progress.Going (record mid { mode = field_modes.Body host regions.Specification false ats.Between })
   specifies mid room pushed starts_with ends specified kept =
-      takes (record mid { mode = field_modes.Body host regions.Specification false ats.Between }) (field_state (L ∷ outer) [] [] (body (host_in host) specification false between) (held ++ (c ∷ []))) room (operator_comes _ starts_with (specified_is L outer [] c ends specified)) (λ none. absurd (cc))
+      takes (record mid { mode = field_modes.Body host regions.Specification false ats.Between }) (field_state (L ∷ outer) [] [] (body (host_in host) specification false between) (held ++ (c ∷ []))) room (operator_comes _ starts_with (specified_is L outer [] c ends specified)) (λ none. absurd (some_level L outer none))
       (record {
         mode = refl;
         holds = tt;
         no_list = (refl, refl);
         waits = refl;
-        full = λ w. absurd (cc);
+        full = λ w. absurd (both_ways _ refl w);
         start = kept ∙ follow.start ∙ ap (λ x. base + byte_len x) (sym (append-nil (before literal outer ++ spelled done)));
         frames = subst (FramesFollow base (L ∷ outer) [] []) (sym pushed) opened;
       })
@@ -121,7 +121,7 @@ module _ (old : FieldScan) (base depth : ℕ) (outer : List Level) (done : List 
 
   pub begins_bracket : (mid : FieldScan) → has_room_at (depth + frames T) c (begins_code (host_in host)) ≡ true → mid.frames ≡ frame.Bracket c place ∷ Fields → start_of c ≡ starts.Operator → is_opening c ≡ true → 1 ≡ byte_len (c ∷ []) → ComesTo base depth T c old progress.Going (freed_at mid (place + 1))
   begins_bracket mid room pushed starts_with opens one =
-      takes (freed_at mid (place + 1)) (field_fresh (L ∷ outer) (piece operator (c ∷ []) ∷ []) (c ∷ [])) room (operator_comes _ starts_with (opened_is L outer [] [] c opens)) (λ none. absurd (cc))
+      takes (freed_at mid (place + 1)) (field_fresh (L ∷ outer) (piece operator (c ∷ []) ∷ []) (c ∷ [])) room (operator_comes _ starts_with (opened_is L outer [] [] c opens)) (λ none. absurd (some_level L outer none))
       (follows_free mid base (L ∷ outer) (piece operator (c ∷ []) ∷ []) (c ∷ []) (place + 1)
       (record {
         follow = subst (FramesFollow base (L ∷ outer) (piece operator (c ∷ []) ∷ []) (c ∷ [])) (sym pushed) (bracket_opened base L outer [] [] Fields c place opened opens (omega (arith)) code_at);
@@ -130,7 +130,7 @@ module _ (old : FieldScan) (base depth : ℕ) (outer : List Level) (done : List 
 
   pub begins_operator : (mid : FieldScan) → has_room_at (depth + frames T) c (begins_code (host_in host)) ≡ true → mid.frames ≡ Fields → start_of c ≡ starts.Operator → c == byte "}" ≡ false → c == byte ":" ≡ false → is_opening c ≡ false → is_closing c ≡ false → 1 ≡ byte_len (c ∷ []) → ComesTo base depth T c old progress.Going (freed_at mid (place + 1))
   begins_operator mid room pushed starts_with ends specified opens closes one =
-      takes (freed_at mid (place + 1)) (field_fresh (L ∷ outer) (piece operator (c ∷ []) ∷ []) []) room (operator_comes _ starts_with (other_in_field L outer [] c ends specified opens closes)) (λ none. absurd (cc))
+      takes (freed_at mid (place + 1)) (field_fresh (L ∷ outer) (piece operator (c ∷ []) ∷ []) []) room (operator_comes _ starts_with (other_in_field L outer [] c ends specified opens closes)) (λ none. absurd (some_level L outer none))
       (follows_free mid base (L ∷ outer) (piece operator (c ∷ []) ∷ []) [] (place + 1)
       (record {
         follow = frames_alike base (L ∷ outer) [] (piece operator (c ∷ []) ∷ []) [] mid.frames (operator_alike [] c opens closes) (subst (FramesFollow base (L ∷ outer) [] []) (sym pushed) opened);
@@ -167,7 +167,7 @@ module _ (old : FieldScan) (base depth : ℕ) (outer : List Level) (done : List 
   pub opens_in_specification : (mid : FieldScan) → depth + length old.frames < 200 → mid.frames ≡ frame.Field (inner_field old host place) ∷ old.frames → ComesTo base depth S c old progress.Going (freed_at mid (place + 1))
   opens_in_specification mid room pushed =
       going base depth S c (opens_field (host_in host)) is old (freed_at mid (place + 1)) (field_fresh (K ∷ outer) [] [])
-      (specified_room (depth + frames S) c (host_in host) (omega (arith, room, open_frames old base S follow))) refl (λ none other. absurd (cc)) (λ none. absurd (cc))
+      (specified_room (depth + frames S) c (host_in host) (omega (arith, room, open_frames old base S follow))) refl (λ none other. keeps_open _ refl other) (λ none. absurd (some_level K outer none))
       (follows_free mid base (K ∷ outer) [] [] (place + 1)
       (record {
         follow = subst (FramesFollow base (K ∷ outer) [] []) (sym pushed) (field_opened base K outer old.frames (inner_field old host place) follow.frames (omega (arith, brace_at)) refl refl follow.start follow.no_list);
@@ -192,5 +192,5 @@ module _ (old : FieldScan) (base depth : ℕ) (l : Level) (ls : List Level) (don
   pub ends_specified : ComesTo base depth (field_state (l ∷ ls) done openers m held) c old progress.Going (ended_in mid field)
   ends_specified =
       going base depth (field_state (l ∷ ls) done openers m held) c ends_field is old (ended_in mid field) (field_ended l ls (held ++ c ∷ []))
-      (ending_room (depth + frames (field_state (l ∷ ls) done openers m held))) refl (λ none other. absurd (cc)) (λ none. (l.host, l.place, false, between, refl))
+      (ending_room (depth + frames (field_state (l ∷ ls) done openers m held))) refl (λ none other. some_level l ls none) (λ none. (l.host, l.place, false, between, refl))
       (resumed old mid base l ls field (held ++ c ∷ []) done within (innermost_field base l ls done [] old.frames field within (mid.frames, popped)).1 popped bare)

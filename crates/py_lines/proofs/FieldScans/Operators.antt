@@ -2,7 +2,7 @@
 use Rattle.std.proofs.Common.{◌≡◌, ℕ, ◌+◌, ◌<◌, Bool, true, false, not, ◌||◌, ◌==◌, Option, None, Some, List, [], ◌∷◌, ◌++◌, length, nat_lt, refl, sym, ap, ◌∙◌, subst, arith, append-nil}
 use Rattle.std.specs.Prelude.{if◌then◌else◌}
 use Rattle.std.specs.Str.{byte}
-use Rattle.std.proofs.lemmas.Bool.{lt-ltb, ltb-true, false_from_ne_true}
+use Rattle.std.proofs.lemmas.Bool.{both_ways, lt-ltb, ltb-true, false_from_ne_true}
 use Rattle.py_lines.specs.Piece.{operator, Piece, spelled}
 use Rattle.py_lines.specs.LogicalLine.{byte_len}
 use Rattle.py_lines.specs.Balance.{is_opening, is_closing, closing_of}
@@ -25,7 +25,7 @@ use Rattle.py_lines.proofs.Text.CharacterTests.{each_of}
 use Rattle.py_lines.proofs.Pieces.PieceLists.{piece}
 use Rattle.py_lines.proofs.Pieces.OpenBrackets.{closing-not-opening}
 use Rattle.py_lines.proofs.FieldScans.Frames.{frames-length, frames_alike, InList, list_of, innermost_field, bracket_opened, bracket_closed, operator_alike}
-use Rattle.py_lines.proofs.FieldScans.Steps.{follows_free, going, no_room, no_step}
+use Rattle.py_lines.proofs.FieldScans.Steps.{follows_free, going, no_room, no_step, some_level}
 use Rattle.py_lines.proofs.FieldScans.Taking.{Broken, broken, piece_after, no_opening}
 
 -- what an operator does in the machine
@@ -129,7 +129,7 @@ module _ (old : FieldScan) (base depth : ℕ) (l : Level) (ls : List Level) (don
   opens_bracket mid one pushed opens room =
       let low : depth + frames T < 200 = omega (arith, room, open_frames old base T follow) in
       let few : length openers < 200 = omega (arith, low) in
-      takes (freed_at mid (place + 1)) (field_fresh (l ∷ ls) (Closed ++ piece operator (c ∷ []) ∷ []) (c ∷ openers)) (opened_is l ls Closed openers c opens) (opening_room (depth + frames T) c low) (λ none. absurd (cc))
+      takes (freed_at mid (place + 1)) (field_fresh (l ∷ ls) (Closed ++ piece operator (c ∷ []) ∷ []) (c ∷ openers)) (opened_is l ls Closed openers c opens) (opening_room (depth + frames T) c low) (λ none. absurd (some_level l ls none))
       (follows_free mid base (l ∷ ls) (Closed ++ piece operator (c ∷ []) ∷ []) (c ∷ openers) (place + 1)
       (record {
         follow = subst (FramesFollow base (l ∷ ls) (Closed ++ piece operator (c ∷ []) ∷ []) (c ∷ openers)) (sym pushed) (bracket_opened base l ls Closed openers old.frames c place b.ready.follow opens few b.ready.at);
@@ -159,7 +159,7 @@ module _ (old : FieldScan) (base depth : ℕ) (l : Level) (ls : List Level) (don
   pub closes_bracket : (mid : FieldScan) (spot : ℕ) → 1 ≡ byte_len (c ∷ []) → old.frames ≡ frame.Bracket o spot ∷ mid.frames → is_closing c ≡ true → c == closing_of o ≡ true → ComesTo base depth B c old progress.Going (freed_at mid (place + 1))
   closes_bracket mid spot one popped closing fits =
       let broke = broken old base depth B c place follow inside at is in
-      takes old base depth l ls done (o ∷ os) m held c place follow inside at is starts_with (freed_at mid (place + 1)) (field_fresh (l ∷ ls) (Before ++ piece operator (c ∷ []) ∷ []) os) (closed_is l ls Before o os c closing fits) (no_opening (depth + frames B) c (closing-not-opening c closing)) (λ none. absurd (cc))
+      takes old base depth l ls done (o ∷ os) m held c place follow inside at is starts_with (freed_at mid (place + 1)) (field_fresh (l ∷ ls) (Before ++ piece operator (c ∷ []) ∷ []) os) (closed_is l ls Before o os c closing fits) (no_opening (depth + frames B) c (closing-not-opening c closing)) (λ none. absurd (some_level l ls none))
       (follows_free mid base (l ∷ ls) (Before ++ piece operator (c ∷ []) ∷ []) os (place + 1)
       (record {
         follow = bracket_closed base l ls Before (o ∷ os) os old.frames mid.frames o spot c broke.ready.follow popped refl closing fits;
@@ -171,7 +171,7 @@ module _ (old : FieldScan) (base depth : ℕ) (l : Level) (ls : List Level) (don
 
   pub passes_in_bracket : 1 ≡ byte_len (c ∷ []) → is_opening c ≡ false → is_closing c ≡ false → ComesTo base depth B c old progress.Going (freed_at old (place + 1))
   passes_in_bracket one opens closes =
-      takes old base depth l ls done (o ∷ os) m held c place follow inside at is starts_with (freed_at old (place + 1)) (field_fresh (l ∷ ls) (Before ++ piece operator (c ∷ []) ∷ []) (o ∷ os)) (other_is l ls Before o os c opens closes) (no_opening (depth + frames B) c opens) (λ none. absurd (cc))
+      takes old base depth l ls done (o ∷ os) m held c place follow inside at is starts_with (freed_at old (place + 1)) (field_fresh (l ∷ ls) (Before ++ piece operator (c ∷ []) ∷ []) (o ∷ os)) (other_is l ls Before o os c opens closes) (no_opening (depth + frames B) c opens) (λ none. absurd (some_level l ls none))
       (passes old base depth l ls done (o ∷ os) m held c place follow inside at is starts_with old one refl opens closes)
 
 -- outside brackets, in a field that is known
@@ -201,13 +201,13 @@ module _ (old : FieldScan) (base depth : ℕ) (l : Level) (ls : List Level) (don
 
   pub begins_specification : c == byte "}" ≡ false → c == byte ":" ≡ true → is_opening c ≡ false → ComesTo base depth F c old progress.Going (record old { mode = field_modes.Body field.host regions.Specification false ats.Between; start = field.start })
   begins_specification ends specifies opens =
-      takes old base depth l ls done [] m held c place follow inside at is starts_with (record old { mode = field_modes.Body field.host regions.Specification false ats.Between; start = field.start }) (field_state (l ∷ ls) [] [] (body l.host specification false between) (l.front ++ (spelled Code ++ c ∷ []))) (specified_is l ls Code c ends specifies) (no_opening (depth + frames F) c opens) (λ none. absurd (cc))
+      takes old base depth l ls done [] m held c place follow inside at is starts_with (record old { mode = field_modes.Body field.host regions.Specification false ats.Between; start = field.start }) (field_state (l ∷ ls) [] [] (body l.host specification false between) (l.front ++ (spelled Code ++ c ∷ []))) (specified_is l ls Code c ends specifies) (no_opening (depth + frames F) c opens) (λ none. absurd (some_level l ls none))
       (record {
         mode = ap (λ h. body h specification false between) (ap (λ (f : OpenField). host_in f.host) same ∙ i.host);
         holds = tt;
         no_list = (refl, refl);
         waits = refl;
-        full = λ w. absurd (cc);
+        full = λ w. absurd (both_ways _ refl w);
         start = ap (λ (f : OpenField). f.start) same ∙ i.start ∙ ap (λ x. base + byte_len x) (sym (append-nil (before l.place ls ++ spelled l.done)));
         frames = frames_alike base (l ∷ ls) Code [] [] old.frames (λ st stacked. sym bare_code ∙ stacked) broke.ready.follow;
       })
@@ -217,5 +217,5 @@ module _ (old : FieldScan) (base depth : ℕ) (l : Level) (ls : List Level) (don
 
   pub passes_in_field : 1 ≡ byte_len (c ∷ []) → c == byte "}" ≡ false → c == byte ":" ≡ false → is_opening c ≡ false → is_closing c ≡ false → ComesTo base depth F c old progress.Going (freed_at old (place + 1))
   passes_in_field one ends specifies opens closes =
-      takes old base depth l ls done [] m held c place follow inside at is starts_with (freed_at old (place + 1)) (field_fresh (l ∷ ls) (Code ++ piece operator (c ∷ []) ∷ []) []) (other_in_field l ls Code c ends specifies opens closes) (no_opening (depth + frames F) c opens) (λ none. absurd (cc))
+      takes old base depth l ls done [] m held c place follow inside at is starts_with (freed_at old (place + 1)) (field_fresh (l ∷ ls) (Code ++ piece operator (c ∷ []) ∷ []) []) (other_in_field l ls Code c ends specifies opens closes) (no_opening (depth + frames F) c opens) (λ none. absurd (some_level l ls none))
       (passes old base depth l ls done [] m held c place follow inside at is starts_with old one refl opens closes)

@@ -1,5 +1,6 @@
 -- What one more character comes to in a string with fields, by what it does in the machine.
 use Rattle.std.proofs.Common.{◌≡◌, ℕ, ◌+◌, Bool, true, false, None, Some, List, [], ◌∷◌, ◌++◌, refl, ap, ◌∙◌}
+use Rattle.std.proofs.lemmas.Bool.{both_ways}
 use Rattle.std.specs.Prelude.{if◌then◌else◌}
 use Rattle.py_lines.specs.Piece.{Piece, spelled}
 use Rattle.py_lines.specs.LogicalLine.{byte_len}
@@ -13,6 +14,18 @@ use Rattle.py_lines.specs.declared.field_scan.FieldProgress.TheVariants as progr
 use Rattle.py_lines.specs.Private.FieldMachine.{FieldMove, grows, closes, breaks, begins_code, opens_field, ends_field, refused, Level, FieldScanned, field_fresh, field_move, field_moved, before, frames, has_room_at}
 use Rattle.py_lines.specs.Private.ScanMachine.{string_move, fielded_move, IsInString}
 use Rattle.py_lines.specs.Private.FieldScan.{Follows, FramesFollow, freed_at, ComesTo}
+
+-- a contradiction, which `cc` finds faster here than where much is known
+pub some_level : (l : Level) (ls : List Level) → l ∷ ls ≡ [] → ⊥
+some_level l ls none = cc
+
+-- whether this closes the string
+abbrev pub is_closing_move : FieldMove → Bool
+is_closing_move closes = true
+is_closing_move _ = false
+
+pub keeps_open : (v : FieldMove) → is_closing_move v ≡ false → v ≡ closes → ⊥
+keeps_open v other is = both_ways _ other (ap is_closing_move is)
 
 -- where a string goes on, or ends
 string_goes : (outer : List Level) (v : FieldMove) (next : FieldScanned) → (outer ≡ [] → v ≡ closes → ⊥) → string_move outer v (Some next) ≡ moves.Grows modes.Fielded

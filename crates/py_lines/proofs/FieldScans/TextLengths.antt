@@ -2,19 +2,17 @@
 use Rattle.std.proofs.Common.{◌≡◌, ℕ, zero, suc, ◌+◌, ◌-◌, ◌<◌, ◌≤◌, ◌⊎◌, inl, inr, ⊎_elim, append_assoc, length-append, Bool, true, false, ◌==◌, List, [], ◌∷◌, ◌++◌, length, take, drop, slice_index, refl, sym, ap, ◌∙◌, subst, arith, take_all, length-drop}
 use Rattle.std.specs.List.{list_all}
 use Rattle.std.proofs.lemmas.Bool.{both_ways, eqb-true, or_cases}
-use Rattle.std.proofs.lemmas.List.{length-take-le, get_or-drop, take-append-drop}
+use Rattle.std.proofs.lemmas.List.{length-take-le, get_or-drop}
 use Rattle.std.proofs.Math.Seq.{take-add, take-append_seam}
 use Rattle.py_lines.specs.Piece.{begins}
 use Rattle.py_lines.specs.Balance.{closing_of}
 use Rattle.py_lines.specs.Character.{is_quote}
-use Rattle.py_lines.specs.FieldStrings.{begins_open, is_field_prefix}
-use Rattle.py_lines.specs.Private.Machine.{IsFull}
-use Rattle.py_lines.specs.Private.ScanMachine.{is_field_spelling}
-use Rattle.py_lines.proofs.ScanMachine.Spellings.{word_tells}
+use Rattle.py_lines.specs.FieldStrings.{begins_open}
 use Rattle.py_lines.specs.Private.FieldMachine.{Level, FieldScanned}
-use Rattle.py_lines.specs.Private.FieldText.{AtBrace, AtCode, HasSimpleCode, InCode, AtSpecification, InText, IsQuotedText, IsWholeStringWithFields, HasPrefix, HasText, Leads, LeadsAlways, LeadsBy, is_code_bracket, is_escaped}
-use Rattle.py_lines.specs.Private.Run.{BeginsPlainString, IsRunOf, IsWholePlainString, is_ascii_word, is_code_byte, is_code_sign, is_literal_byte, word_spelling}
-use Rattle.py_lines.proofs.LineScan.ShortPieces.{all_pass, full_take, split_at, text_size}
+use Rattle.py_lines.specs.Private.FieldText.{AtBrace, AtCode, HasSimpleCode, InCode, AtSpecification, InText, IsQuotedText, HasText, Leads, LeadsAlways, LeadsBy, is_code_bracket, is_escaped}
+use Rattle.py_lines.specs.Private.Run.{BeginsPlainString, IsRunOf, IsWholePlainString, is_ascii_word, is_code_byte, is_code_sign, is_literal_byte}
+use Rattle.py_lines.proofs.LineScan.AsciiRuns.{all_pass, full_take}
+use Rattle.py_lines.proofs.LineScan.PlainStrings.{split_at, text_size}
 use Rattle.py_lines.proofs.FieldScans.Texts.{escape_leads, leads_from_code, sign_leads, string_leads, brace_leads, closing_leads, code_after, codes_lead, field_ends, leads-append, leads-none, open_leads, opening_leads, specification_begins, specification_ends, specifications_lead, texts_lead, two_lead}
 
 -- the bytes after the first ones, as a slice has them
@@ -275,18 +273,6 @@ pub text_on : (quote : ℕ) (bytes : List ℕ) (n m k : ℕ) → HasText quote b
 text_on quote bytes n m k text part run =
     by_append quote InText InText InText bytes (n + m) k (by_append quote InText InText InText bytes n m text part) (text_begun quote (drop (n + m) bytes) k run)
 
--- the prefix of a string with fields
-prefix_told : (word : List ℕ) → IsFull word → is_field_prefix word ≡ is_field_spelling (word_spelling word)
-prefix_told [] full = absurd full
-prefix_told (c ∷ cs) full = (word_tells c cs).0
-
-pub prefix_of : (bytes : List ℕ) (n : ℕ) → 0 < n → n + 1 < length bytes → is_field_spelling (word_spelling (take n bytes)) ≡ true → is_quote (slice_index bytes n) ≡ true → HasPrefix bytes n
-prefix_of bytes n some within spells quotes = record {
-  within = within;
-  begun = prefix_told (take n bytes) (full_take bytes n some (omega (arith, within))) ∙ spells;
-  quote = quotes;
-}
-
 -- a whole string from its first quote on
 pub quoted_text : (bytes : List ℕ) (n : ℕ) → is_quote (slice_index bytes 0) ≡ true → HasText (slice_index bytes 0) (drop 1 bytes) n → 0 < n → 1 + n < length bytes → slice_index bytes (1 + n) ≡ slice_index bytes 0 → IsQuotedText bytes (n + 2)
 quoted_text [] n quotes text some within closes = absurd (omega (arith, within))
@@ -303,18 +289,3 @@ quoted_text (q ∷ body) n quotes text some within closes =
       full = full_take body n some inner;
       text = text.1;
     }
-
--- and with its prefix
-pub whole_fields : (bytes : List ℕ) (prefix len : ℕ) → HasPrefix bytes prefix → IsQuotedText (drop prefix bytes) len → IsWholeStringWithFields bytes (prefix + len)
-whole_fields bytes prefix len is quoted = record {
-  prefix = take prefix bytes;
-  q = quoted.q;
-  run = quoted.run;
-  after = quoted.after;
-  spell = ap (λ t. take prefix bytes ++ t) quoted.spell ∙ take-append-drop prefix bytes;
-  size = omega (arith, length-take-le prefix bytes (omega (arith, is.within)), quoted.size);
-  begun = is.begun;
-  quote = quoted.quote;
-  full = quoted.full;
-  text = quoted.text;
-}

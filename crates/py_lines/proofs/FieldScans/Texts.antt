@@ -28,8 +28,8 @@ use Rattle.py_lines.proofs.FieldMachine.StringParts.{open_moves, other_escaped, 
 use Rattle.py_lines.proofs.FieldMachine.FieldRuns.{brace_ends, code_moves, colon_opens, end_moves, end_no_quote}
 use Rattle.py_lines.proofs.ScanMachine.Follows.{room_closes, room_grows}
 use Rattle.py_lines.proofs.FieldScans.Runs.{no_longer, text_stays, two_false}
-use Rattle.py_lines.proofs.FieldScans.Steps.{goes_through}
-use Rattle.py_lines.proofs.LineScan.ShortPieces.{low_is, quote-no_break, space-not-quote}
+use Rattle.py_lines.proofs.FieldScans.Steps.{goes_through, keeps_open, some_level}
+use Rattle.py_lines.proofs.LineScan.AsciiRuns.{low_is, quote-no_break, space-not-quote}
 use Rattle.py_lines.proofs.LineScan.Runs.{break-return, body_parts, quote_ascii, space_low, word_byte_continues, word_byte_low, word_byte_starts}
 
 -- one character
@@ -103,7 +103,7 @@ module _ (quote : ℕ) (outer : List Level) (l : Level) (depth : ℕ) (same : l.
   grown_by : (c : ℕ) (held : List ℕ) → c < 128 → is_break c ≡ false → field_move (body l.host literal false between) held c ≡ grows (body l.host literal false between) → (u : FieldScanned) × GoesThrough depth (S held) (c ∷ []) u × InText outer l u
   grown_by c held low none move = (
     S (held ++ c ∷ []),
-    one_step depth (S held) (S (held ++ c ∷ [])) c (grows (body l.host literal false between)) low none move (λ o e. cc) (room_grows (depth + frames (S held)) c (body l.host literal false between)) refl,
+    one_step depth (S held) (S (held ++ c ∷ [])) c (grows (body l.host literal false between)) low none move (λ o e. keeps_open _ refl e) (room_grows (depth + frames (S held)) c (body l.host literal false between)) refl,
     (held ++ c ∷ [], refl),
   )
 
@@ -127,7 +127,7 @@ pub open_leads : (quote : ℕ) → Leads quote InText (123 ∷ []) AtBrace
 open_leads quote =
     from_text quote (123 ∷ []) AtBrace (λ outer l depth held same quotes room. (
       field_state outer l.done l.openers (body l.host literal false after_brace) (held ++ 123 ∷ []),
-      one_step depth (field_state outer l.done l.openers (body l.host literal false between) held) (field_state outer l.done l.openers (body l.host literal false after_brace) (held ++ 123 ∷ [])) 123 (grows (body l.host literal false after_brace)) (omega arith) open_no_break (brace_opens l.host held (ap is_quote same ∙ quotes)) (λ o e. cc) (room_grows _ 123 (body l.host literal false after_brace)) refl,
+      one_step depth (field_state outer l.done l.openers (body l.host literal false between) held) (field_state outer l.done l.openers (body l.host literal false after_brace) (held ++ 123 ∷ [])) 123 (grows (body l.host literal false after_brace)) (omega arith) open_no_break (brace_opens l.host held (ap is_quote same ∙ quotes)) (λ o e. keeps_open _ refl e) (room_grows _ 123 (body l.host literal false after_brace)) refl,
       (held ++ 123 ∷ [], refl),
     ))
 
@@ -153,8 +153,8 @@ escape_leads quote c h =
     let unnamed : names l.host c ≡ false = ap (λ b. b && not l.host.is_raw) others.1 in (
       ended,
       goes_on-append depth S slashed ended (92 ∷ []) (c ∷ [])
-          (one_step depth S slashed 92 (grows (body l.host literal false after_slash)) (omega arith) slash_no_break (slash_opens l.host held (ap is_quote same ∙ quotes)) (λ o e. cc) (room_grows _ 92 (body l.host literal false after_slash)) refl)
-          (one_step depth slashed ended c (grows (body l.host literal false between)) (low_is c low.0) unbroken (other_escaped l.host literal false (held ++ 92 ∷ []) c others.0 refl (break-return c unbroken) unnamed) (λ o e. cc) (room_grows _ c (body l.host literal false between)) refl),
+          (one_step depth S slashed 92 (grows (body l.host literal false after_slash)) (omega arith) slash_no_break (slash_opens l.host held (ap is_quote same ∙ quotes)) (λ o e. keeps_open _ refl e) (room_grows _ 92 (body l.host literal false after_slash)) refl)
+          (one_step depth slashed ended c (grows (body l.host literal false between)) (low_is c low.0) unbroken (other_escaped l.host literal false (held ++ 92 ∷ []) c others.0 refl (break-return c unbroken) unnamed) (λ o e. keeps_open _ refl e) (room_grows _ c (body l.host literal false between)) refl),
       ((held ++ 92 ∷ []) ++ c ∷ [], refl),
     ))
 
@@ -162,7 +162,7 @@ second_leads : (quote : ℕ) → Leads quote AtBrace (123 ∷ []) InText
 second_leads quote outer l depth t same quotes room (held, is) =
     subst (λ x. (u : FieldScanned) × GoesThrough depth x (123 ∷ []) u × InText outer l u) (sym is) (
       field_state outer l.done l.openers (body l.host literal false between) (held ++ 123 ∷ []),
-      one_step depth (field_state outer l.done l.openers (body l.host literal false after_brace) held) (field_state outer l.done l.openers (body l.host literal false between) (held ++ 123 ∷ [])) 123 (grows (body l.host literal false between)) (omega arith) open_no_break (second_brace l.host literal false held) (λ o e. cc) (room_grows _ 123 (body l.host literal false between)) refl,
+      one_step depth (field_state outer l.done l.openers (body l.host literal false after_brace) held) (field_state outer l.done l.openers (body l.host literal false between) (held ++ 123 ∷ [])) 123 (grows (body l.host literal false between)) (omega arith) open_no_break (second_brace l.host literal false held) (λ o e. keeps_open _ refl e) (room_grows _ 123 (body l.host literal false between)) refl,
       (held ++ 123 ∷ [], refl),
     )
 
@@ -190,7 +190,7 @@ code_after quote Q c cs other leads outer l depth t same quotes room (held, is) 
     go (u, (low, none, move, next, step, others), to) =
         let begins : field_move (body l.host literal false after_brace) held c ≡ begins_code l.host = code_moves l.host false held c other in
         let comes : field_moved T c (begins_code l.host) ≡ Some next = sym (ap (field_moved F c) (stops-fresh (c ∷ []))) ∙ step in
-        (u, (low, none, goes_through 0 depth T c (begins_code l.host) begins next free comes (λ o e. cc), next, ap (field_moved T c) begins ∙ comes, others), to)
+        (u, (low, none, goes_through 0 depth T c (begins_code l.host) begins next free comes (λ o e. keeps_open _ refl e), next, ap (field_moved T c) begins ∙ comes, others), to)
 
 -- what a character does to a word, to space, and where no piece is open
 module _ (quote : ℕ) (outer : List Level) (l : Level) (depth : ℕ) (front : List ℕ) (done : List Piece) (os : List ℕ) (held : List ℕ) where
@@ -203,13 +203,13 @@ module _ (quote : ℕ) (outer : List Level) (l : Level) (depth : ℕ) (front : L
   code_grows : (passes : Mode → Bool) (m n : Mode) (c : ℕ) → c < 128 → is_break c ≡ false → field_move (plain m) held c ≡ grows (plain n) → passes n ≡ true → (u : FieldScanned) × GoesThrough depth (C m) (c ∷ []) u × StandsInCode passes os outer l u
   code_grows passes m n c low none move simple = (
     field_state (L ∷ outer) done os (plain n) (held ++ c ∷ []),
-    one_step depth (C m) (field_state (L ∷ outer) done os (plain n) (held ++ c ∷ [])) c (grows (plain n)) low none move (λ o. absurd (cc)) (room_grows _ c (plain n)) refl,
+    one_step depth (C m) (field_state (L ∷ outer) done os (plain n) (held ++ c ∷ [])) c (grows (plain n)) low none move (λ o e. keeps_open _ refl e) (room_grows _ c (plain n)) refl,
     record { front = front; done = done; mode = n; held = held ++ c ∷ []; is = refl; simple = simple },
   )
 
   -- a character that begins a piece
   code_breaks : (m : Mode) (c : ℕ) (next : FieldScanned) → c < 128 → is_break c ≡ false → field_move (plain m) held c ≡ breaks → has_room_at (depth + frames (C m)) c breaks ≡ true → field_started (L ∷ outer) (field_pieces (C m)) os c (start_of c) ≡ Some next → GoesThrough depth (C m) (c ∷ []) next
-  code_breaks m c next low none move room starts_so = one_step depth (C m) next c breaks low none move (λ o. absurd (cc)) room starts_so
+  code_breaks m c next low none move room starts_so = one_step depth (C m) next c breaks low none move (λ o e. keeps_open _ refl e) room starts_so
 
   code_opens : (passes : Mode → Bool) (m n : Mode) (c : ℕ) → c < 128 → is_break c ≡ false → field_move (plain m) held c ≡ breaks → has_room_at (depth + frames (C m)) c breaks ≡ true → start_of c ≡ starts.Open n → passes n ≡ true → (u : FieldScanned) × GoesThrough depth (C m) (c ∷ []) u × StandsInCode passes os outer l u
   code_opens passes m n c low none move room opens simple =
@@ -429,7 +429,7 @@ module _ (quote : ℕ) (outer : List Level) (l : Level) (depth : ℕ) (front : L
   text_on : (ps : List Piece) (m : Mode) (held : List ℕ) (c : ℕ) → begins_host m held c ≡ false → move_of m c ≡ moves.Grows (modes.Inside q) → is_text_byte q c ≡ true → GoesThrough depth (open_in ps m held) (c ∷ []) (open_in ps (modes.Inside q) (held ++ c ∷ []))
   text_on ps m held c none move passes =
       let parts = and_parts (is_body_byte q c) (nat_lt c 128) passes in
-      one_step depth (open_in ps m held) (open_in ps (modes.Inside q) (held ++ c ∷ [])) c (grows (plain (modes.Inside q))) (low_is c parts.1) (body_parts q c parts.0).2 (plain_moves m held c none ∙ ap plain_move move) (λ o. absurd (cc)) (room_grows _ c (plain (modes.Inside q))) refl
+      one_step depth (open_in ps m held) (open_in ps (modes.Inside q) (held ++ c ∷ [])) c (grows (plain (modes.Inside q))) (low_is c parts.1) (body_parts q c parts.0).2 (plain_moves m held c none ∙ ap plain_move move) (λ o e. keeps_open _ refl e) (room_grows _ c (plain (modes.Inside q))) refl
 
   inside_grows : (c : ℕ) → is_text_byte q c ≡ true → move_of (modes.Inside q) c ≡ moves.Grows (modes.Inside q)
   unfolding move_of short_move
@@ -457,7 +457,7 @@ module _ (quote : ℕ) (outer : List Level) (l : Level) (depth : ℕ) (front : L
 
   text_ends : (ps : List Piece) (held : List ℕ) → GoesThrough depth (open_in ps (modes.Inside q) held) (q ∷ []) (closed_in ps held)
   unfolding closed_in
-  text_ends ps held = one_step depth (open_in ps (modes.Inside q) held) (closed_in ps held) q closes (quote_ascii q quotes) (quote-no_break q quotes) (inside_closes held) (λ o. absurd (cc)) (room_closes _ q) refl
+  text_ends ps held = one_step depth (open_in ps (modes.Inside q) held) (closed_in ps held) q closes (quote_ascii q quotes) (quote-no_break q quotes) (inside_closes held) (λ o. absurd (some_level (level_after l front) outer o)) (room_closes _ q) refl
 
   -- from its first quote to its last
   text_goes : (ps : List Piece) (d : ℕ) (ds : List ℕ) → list_all (is_text_byte q) (d ∷ ds) ≡ true → GoesThrough depth (open_in ps (modes.Opened q) (q ∷ [])) ((d ∷ ds) ++ q ∷ []) (closed_in ps ((q ∷ d ∷ []) ++ ds))
@@ -491,7 +491,7 @@ string_leads os quote q (d ∷ ds) quotes full all =
     let ended : FieldScanned = closed_in quote outer l depth front os q quotes ps ((q ∷ d ∷ []) ++ ds) in (
       ended,
       goes_on-append depth C opened ended (q ∷ []) ((d ∷ ds) ++ q ∷ [])
-          (one_step depth C opened q breaks (quote_ascii q quotes) (quote-no_break q quotes) (quote_breaks m held q apart quotes) (λ o. absurd (cc)) (free_room _ q (quote_opens_none q quotes)) (ap (field_started (level_after l front ∷ outer) ps os q) (start-quote q quotes)))
+          (one_step depth C opened q breaks (quote_ascii q quotes) (quote-no_break q quotes) (quote_breaks m held q apart quotes) (λ o e. keeps_open _ refl e) (free_room _ q (quote_opens_none q quotes)) (ap (field_started (level_after l front ∷ outer) ps os q) (start-quote q quotes)))
           (text_goes quote outer l depth front os q quotes ps d ds all),
       record { front = front; done = ps ++ piece string (((q ∷ d ∷ []) ++ ds) ++ q ∷ []) ∷ []; mode = modes.Free; held = []; is = refl; simple = refl },
     ))
@@ -524,7 +524,7 @@ end_leads quote c Q to h opens ends there =
     let C : FieldScanned = field_state (level ∷ outer) done [] (plain m) held in
     let ps = field_pieces C in (
       to level outer ps,
-      one_step depth C (to level outer ps) c breaks (operator_ascii c h) (operator_others c h).2 (operator_breaks m held c simple h) (λ o. absurd (cc)) (free_room _ c opens)
+      one_step depth C (to level outer ps) c breaks (operator_ascii c h) (operator_others c h).2 (operator_breaks m held c simple h) (λ o e. keeps_open _ refl e) (free_room _ c opens)
           (ap (field_started (level ∷ outer) ps [] c) (start-operator c h) ∙ ends level outer ps),
       there outer l front ps,
     ))
@@ -550,7 +550,7 @@ specified_leads quote c h outer l depth t same quotes room (front, held, is) =
     let S : List ℕ → FieldScanned = λ x. field_state (level_after l front ∷ outer) [] [] (body l.host specification false between) x in
     subst (λ x. (u : FieldScanned) × GoesThrough depth x (c ∷ []) u × AtSpecification outer l u) (sym is) (
       S (held ++ c ∷ []),
-      one_step depth (S held) (S (held ++ c ∷ [])) c (grows (body l.host specification false between)) own.low own.none (text_grows l.host quote c same own held specification) (λ o. absurd (cc)) (room_grows _ c (body l.host specification false between)) refl,
+      one_step depth (S held) (S (held ++ c ∷ [])) c (grows (body l.host specification false between)) own.low own.none (text_grows l.host quote c same own held specification) (λ o e. keeps_open _ refl e) (room_grows _ c (body l.host specification false between)) refl,
       (front, held ++ c ∷ [], refl),
     )
 
@@ -571,6 +571,6 @@ specification_ends quote outer l depth t same quotes room (front, held, is) =
     let ended : FieldScanned = field_state outer l.done l.openers (body l.host literal false between) (held ++ 125 ∷ []) in
     subst (λ x. (u : FieldScanned) × GoesThrough depth x (125 ∷ []) u × InText outer l u) (sym is) (
       ended,
-      one_step depth S ended 125 ends_field (omega arith) end_no_break (specification_moves l.host held (ap is_quote same ∙ quotes)) (λ o. absurd (cc)) (ends_room _ 125) refl,
+      one_step depth S ended 125 ends_field (omega arith) end_no_break (specification_moves l.host held (ap is_quote same ∙ quotes)) (λ o e. keeps_open _ refl e) (ends_room _ 125) refl,
       (held ++ 125 ∷ [], refl),
     )

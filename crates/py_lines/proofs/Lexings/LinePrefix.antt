@@ -1,10 +1,11 @@
 -- The prefix of a text that isn't read: the pieces up to the last line end outside brackets that the machine has found.
-use Rattle.std.proofs.Common.{◌≡◌, ℕ, ◌+◌, ◌≤◌, Option, None, Some, List, [], ◌∷◌, ◌++◌, length, refl, sym, ap, ◌∙◌, subst, inl, inr, append_assoc, append-nil, length-append, arith}
+use Rattle.std.proofs.Common.{false, ◌≡◌, ℕ, ◌+◌, ◌≤◌, Option, None, Some, List, [], ◌∷◌, ◌++◌, length, refl, sym, ap, ◌∙◌, subst, inl, inr, append_assoc, append-nil, length-append, arith}
 use Rattle.std.proofs.lemmas.List.{same_from_push}
-use Rattle.std.proofs.lemmas.Bool.{cond_both, and_right}
+use Rattle.std.proofs.lemmas.Bool.{and_right, both_ways, cond_both}
 use Rattle.std.specs.Prelude.{codes}
 use Rattle.py_lines.specs.Character.{is_line_feed}
-use Rattle.py_lines.specs.Piece.{line_end, Piece, spelled}
+use Rattle.py_lines.specs.Piece.{Class, line_end, Piece, spelled}
+use Rattle.py_lines.specs.LogicalLine.{is_line_end_class}
 use Rattle.py_lines.specs.PieceGrammar.{return}
 use Rattle.py_lines.specs.Balance.{depth_through}
 use Rattle.py_lines.specs.Fields.{AreReadBefore}
@@ -92,15 +93,21 @@ stays_return body last done held (c ∷ cs) s class is steps =
     stays_done body last all cs (started all c (start_of c)) s class is (started_on all c (start_of c)) open_runs)
     steps
 
+-- the open piece is no line end, in a mode of another class
+no_line_end : (c : Class) → is_line_end_class c ≡ false → c ≡ line_end → ⊥
+no_line_end c other is = both_ways _ other (ap is_line_end_class is)
+
+held_ends : (done body : List Piece) (p last : Piece) → done ++ p ∷ [] ≡ body ++ last ∷ [] → last.class ≡ line_end → is_line_end_class p.class ≡ false → ⊥
+held_ends done body p last is class other =
+    no_line_end p.class other (ap (λ (x : Piece). x.class) (same_from_push done body p last is).1 ∙ class)
+
 -- a line end at the end of the pieces that a state has found
 pub line_stays : (m : Mode) (done : List Piece) (held x : List ℕ) (s : Scanned) (body : List Piece) (last : Piece) → scan_steps (Some (record { done = done; mode = m; held = held })) x ≡ Some s → closed m done held ≡ body ++ last ∷ [] → last.class ≡ line_end → Stays body last (pieces_at s)
 line_stays modes.Start done held x s body last steps is class = stays_done body last done x (Some (record { done = done; mode = modes.Start; held = held })) s class is ([], sym (append-nil done)) steps
 line_stays modes.Free done held x s body last steps is class = stays_done body last done x (Some (record { done = done; mode = modes.Free; held = held })) s class is ([], sym (append-nil done)) steps
 line_stays modes.Return done held x s body last steps is class = stays_return body last done held x s class is steps
 line_stays m done held x s body last steps is class =
-    let parts = same_from_push done body (piece (class_of m) held) last is in
-    let same : class_of m ≡ line_end = ap (λ (p : Piece). p.class) parts.1 ∙ class in
-    absurd (cc)
+    absurd (held_ends done body (piece (class_of m) held) last is class refl)
 
 nil_left : (k others : List Piece) → [] ≡ k ++ others → k ≡ []
 nil_left [] others h = refl
@@ -130,7 +137,7 @@ prefix_read modes.Return done held before prefix others body last sound spell is
     let fit = AreReadBefore-push done line_end held [] (sound.fit []) (return text) (and_right _ _ refl) (follows_any done line_end held refl) in
     read_part prefix others body last [] is class (subst (λ l. AreReadBefore l []) spell fit)
 prefix_read m done held before prefix others body last sound spell is class =
-    part_before prefix others body last done (piece (class_of m) held) (held ++ []) is class (sym spell) (λ (same : class_of m ≡ line_end). cc) (sound.fit [])
+    part_before prefix others body last done (piece (class_of m) held) (held ++ []) is class (sym spell) (no_line_end (class_of m) refl) (sound.fit [])
 
 pub prefix_fits : (before : List ℕ) (s : Scanned) (prefix others : List Piece) → scan_steps (Some text_start) before ≡ Some s → pieces_at s ≡ prefix ++ others → EndsLine prefix → AreReadBefore prefix []
 prefix_fits before s prefix others steps pieces (inl none) = subst (λ l. AreReadBefore l []) (sym none) tt

@@ -1,12 +1,11 @@
 -- The stack of open brackets that the code keeps is the machine's.
-use Rattle.std.proofs.Common.{◌≡◌, ℕ, zero, suc, Bool, ◌+◌, ◌-◌, ◌<◌, ◌≤◌, true, false, eqb, ◌==◌, None, Some, List, [], ◌∷◌, ◌++◌, length, take, refl, sym, ap, ◌∙◌, arith, length-append}
-use Rattle.std.specs.Prelude.{set, get_or, nat_lt, is_some, if◌then◌else◌}
+use Rattle.std.proofs.Common.{◌≡◌, ℕ, zero, suc, ◌+◌, ◌-◌, ◌<◌, ◌≤◌, true, false, eqb, ◌==◌, None, Some, List, [], ◌∷◌, ◌++◌, length, take, refl, sym, ap, ◌∙◌, arith, length-append}
+use Rattle.std.specs.Prelude.{set, get_or, nat_lt}
 use Rattle.std.proofs.lemmas.List.{length-take-le, take_more, take_more_set}
 use Rattle.std.proofs.lemmas.Bool.{false_from_ne_true, ltb-true, eqb-true, eq-eqb}
 use Rattle.py_lines.specs.Piece.{operator}
 use Rattle.py_lines.specs.Balance.{is_opening, is_closing, closing_of}
-use Rattle.py_lines.specs.Private.Machine.{Bracket, brackets_after, opened_by, closed_by}
-use Rattle.py_lines.specs.Private.Run.{operator_may_stand}
+use Rattle.py_lines.specs.Private.Machine.{Bracket, brackets_after}
 use Rattle.py_lines.specs.Private.Scan.{stack, depth_of, none_open}
 use Rattle.py_lines.specs.declared.brackets.Brackets.{Brackets}
 use Rattle.py_lines.specs.declared.brackets.OpenBracket.{OpenBracket}
@@ -76,40 +75,3 @@ closes_top st place c b others top other closes like = ap (λ s. brackets_after 
 
 pub keeps_at : (st : List Bracket) (place c : ℕ) → is_opening c ≡ false → is_closing c ≡ false → brackets_after st place (record { class = operator; text = c ∷ [] }) ≡ Some st
 keeps_at st place c opens closes = other_keeps st place (piece operator (c ∷ [])) opens closes
-
--- whether an operator may stand next
-pub opens_so : (st : List Bracket) (c : ℕ) → is_opening c ≡ true → nat_lt (length st) 200 ≡ operator_may_stand st c
-unfolding brackets_after
-opens_so st c opens = rw opens (go (nat_lt (length st) 200))
-  where
-    go : (b : Bool) → b ≡ is_some (if b then Some (record { opener = c; place = 0 } ∷ st) else None)
-    go true = refl
-    go false = refl
-
-pub closes_so : (st : List Bracket) (c : ℕ) (b : Bracket) (others : List Bracket) → st ≡ b ∷ others → is_opening c ≡ false → is_closing c ≡ true → c == closing_of b.opener ≡ operator_may_stand st c
-unfolding brackets_after
-closes_so st c b others top other closes = rw (top, other, closes) (go (c == closing_of b.opener))
-  where
-    go : (k : Bool) → k ≡ is_some (if k then Some others else None)
-    go true = refl
-    go false = refl
-
-pub closes_nothing : (st : List Bracket) (c : ℕ) → st ≡ [] → is_opening c ≡ false → is_closing c ≡ true → false ≡ operator_may_stand st c
-closes_nothing st c none other closes = ap is_some (sym (closes_none st 0 c none other closes))
-
-pub stands_anywhere : (st : List Bracket) (c : ℕ) → is_opening c ≡ false → is_closing c ≡ false → true ≡ operator_may_stand st c
-stands_anywhere st c opens closes = ap is_some (sym (keeps_at st 0 c opens closes))
-
--- an operator that may not stand at a byte may not stand next
-pub refused_anywhere : (st : List Bracket) (place c : ℕ) → brackets_after st place (record { class = operator; text = c ∷ [] }) ≡ None → operator_may_stand st c ≡ false
-unfolding brackets_after
-refused_anywhere st place c none = go (is_opening c) (is_closing c) none
-  where
-    go : (o k : Bool) → (if o then opened_by c place st else (if k then closed_by c st else Some st)) ≡ None → is_some (if o then opened_by c 0 st else (if k then closed_by c st else Some st)) ≡ false
-    go true k e = opened (nat_lt (length st) 200) e
-      where
-        opened : (b : Bool) → (if b then Some (record { opener = c; place = place } ∷ st) else None) ≡ None → is_some (if b then Some (record { opener = c; place = 0 } ∷ st) else None) ≡ false
-        opened true f = absurd (cc)
-        opened false f = refl
-    go false true e = ap is_some e
-    go false false e = absurd (cc)

@@ -1,5 +1,5 @@
 -- The scan of a line's characters, one after another.
-use Rattle.std.proofs.Common.{◌≡◌, ℕ, ◌+◌, ◌≤◌, inl, inr, true, false, not, ◌&&◌, Option, None, Some, Ok, List, [], ◌∷◌, ◌++◌, refl, sym, ap, ◌∙◌, subst, append-nil, arith}
+use Rattle.std.proofs.Common.{◌≡◌, ℕ, ◌+◌, inl, inr, true, false, not, ◌&&◌, Option, None, Some, List, [], ◌∷◌, ◌++◌, refl, sym, ap, ◌∙◌, subst, append-nil, arith}
 use Rattle.std.specs.Prelude.{encode_utf8, encode_utf8_all}
 use Rattle.std.specs.Char.{IsScalar}
 use Rattle.std.proofs.lemmas.Bool.{both_ways, and_right, false_from_ne_true}
@@ -16,14 +16,13 @@ use Rattle.py_lines.specs.declared.scan.Scan.{Scan}
 use Rattle.py_lines.specs.declared.scan.Stop.TheVariants as stops
 use Rattle.py_lines.specs.Private.Machine.{Scanned, fresh}
 use Rattle.py_lines.specs.Private.ScanMachine.{IsScanSound, scan_step, scan_steps, move_at}
-use Rattle.py_lines.specs.Private.Scan.{Tallies, IsStacked, Takes, Closes, line_start, stack_of, none_open, is_returned, is_return_mode, EndsNoLine, EndsWhole, IsUnderWay, IsAtLineEnd, StopsIn}
+use Rattle.py_lines.specs.Private.Scan.{Tallies, IsStacked, Takes, freed, line_start, stack_of, none_open, is_returned, is_return_mode, EndsNoLine, EndsWhole, IsUnderWay, IsAtLineEnd, StopsIn}
 use Rattle.py_lines.proofs.Pieces.PieceLists.{piece, spelled-push, AreReadBefore-push, follows_any}
 use Rattle.py_lines.proofs.Text.CharacterTests.{feed_is, return_is}
 use Rattle.py_lines.proofs.Machine.PieceSteps.{scanned, steps_by-append}
 use Rattle.py_lines.proofs.ScanMachine.Soundness.{SoundIf, run_sound}
 use Rattle.py_lines.proofs.LineScan.PieceEnd.{closes_shut}
 use Rattle.py_lines.proofs.LineScan.NextCharacter.{one_return, none_level, none_stack}
-use Rattle.py_lines.proofs.LogicalLines.Cuts.{byte_len-append}
 use Rattle.py_lines.proofs.Lexings.LineEnds.{line_string}
 
 -- where the machine has come, it is sound
@@ -39,7 +38,7 @@ steps_push from read s c steps = steps_by-append move_at (Some from) read (c ∷
     whole (Some t) = refl
 
 -- a character that was taken, and ended no line
-pub under_way : (m : Mode) (old new : Scan) (read : List ℕ) (c : ℕ) (way : IsUnderWay m old read) → Takes old way.state c (Ok progress.Going) new → IsUnderWay m new (read ++ c ∷ [])
+pub under_way : (m : Mode) (old new : Scan) (read : List ℕ) (c : ℕ) (way : IsUnderWay m old read) → Takes old way.state c progress.Going new → IsUnderWay m new (read ++ c ∷ [])
 under_way m old new read c way takes = record {
   state = takes.0.next;
   steps = steps_push (line_start m) read way.state c way.steps ∙ takes.0.goes;
@@ -49,7 +48,7 @@ under_way m old new read c way takes = record {
 }
 
 -- a character that ended the line
-pub at_line_end : (m : Mode) (old new : Scan) (read rest : List ℕ) (c len : ℕ) (way : IsUnderWay m old read) → IsScanSound (line_start m) [] → Takes old way.state c (Ok (progress.LineEnded len)) new → IsAtLineEnd m new (read ++ c ∷ []) rest len
+pub at_line_end : (m : Mode) (old new : Scan) (read rest : List ℕ) (c len : ℕ) (way : IsUnderWay m old read) → IsScanSound (line_start m) [] → Takes old way.state c (progress.LineEnded len) new → IsAtLineEnd m new (read ++ c ∷ []) rest len
 at_line_end m old new read rest c len way start takes =
     let ended = takes.0 in
     let sound = sound_steps m (read ++ c ∷ []) (fresh (ended.body ++ ended.last ∷ [])) start (steps_push (line_start m) read way.state c way.steps ∙ ended.goes) in
@@ -66,7 +65,7 @@ at_line_end m old new read rest c len way start takes =
     }
 
 -- a character that was refused
-pub refused : (m : Mode) (old new : Scan) (read : List ℕ) (c : ℕ) (after rest : List ℕ) (way : IsUnderWay m old read) → is_returned old && not (is_line_feed c) ≡ false → Takes old way.state c (Ok progress.Refused) new → IsScalar c → rest ≡ encode_utf8 c ++ after → StopsIn m new (stops.Refused c) read rest
+pub refused : (m : Mode) (old new : Scan) (read : List ℕ) (c : ℕ) (after rest : List ℕ) (way : IsUnderWay m old read) → is_returned old && not (is_line_feed c) ≡ false → Takes old way.state c progress.Refused new → IsScalar c → rest ≡ encode_utf8 c ++ after → StopsIn m new (stops.Refused c) read rest
 refused m old new read c after rest way not_yet takes scalar is =
     let kept : IsUnderWay m new read = record { state = way.state; steps = way.steps; tallies = subst (λ (s : Scan). Tallies s way.state) (sym takes.1) way.tallies; stacked = subst (λ (s : Scan). IsStacked s way.state) (sym takes.1) way.stacked; one_line = way.one_line } in
     (kept, after, scalar, is, takes.0, subst (λ (s : Scan). is_returned s && not (is_line_feed c) ≡ false) (sym takes.1) not_yet)
@@ -79,10 +78,10 @@ no_feed text rest none = and_right _ _ none
 pub returned_fit : (done : List Piece) (held read more : List ℕ) → IsScanSound (scanned done modes.Return held) read → held ≡ 13 ∷ [] → begins is_line_feed more ≡ false → AreReadBefore (done ++ piece line_end held ∷ []) more
 returned_fit done held read more sound text none = AreReadBefore-push done line_end held more (sound.fit more) (return text) (no_feed held more none) (follows_any done line_end held refl)
 
-returned_as : (m : Mode) (old new : Scan) (read rest : List ℕ) (s : Scanned) → scan_steps (Some (line_start m)) read ≡ Some s → IsScanSound s read → Tallies old s → IsStacked old s → EndsNoLine 0 s.done → (n : Mode) → n ≡ s.mode → is_return_mode n ≡ true → none_open (stack_of old.brackets) ≡ true → Closes old new → ((after : List ℕ) → encode_utf8_all after ≡ rest → begins is_line_feed after ≡ false) → IsAtLineEnd m new read rest 1
-returned_as m old new read rest s steps sound tallies stacked none modes.Return is returns empty closes follows = go s.mode is s.done s.held sound tallies stacked none
+returned_as : (m : Mode) (old : Scan) (read rest : List ℕ) (s : Scanned) → scan_steps (Some (line_start m)) read ≡ Some s → IsScanSound s read → Tallies old s → IsStacked old s → EndsNoLine 0 s.done → (n : Mode) → n ≡ s.mode → is_return_mode n ≡ true → none_open (stack_of old.brackets) ≡ true → ((after : List ℕ) → encode_utf8_all after ≡ rest → begins is_line_feed after ≡ false) → IsAtLineEnd m (freed old) read rest 1
+returned_as m old read rest s steps sound tallies stacked none modes.Return is returns empty follows = go s.mode is s.done s.held sound tallies stacked none
   where
-    go : (k : Mode) → modes.Return ≡ k → (done : List Piece) (held : List ℕ) → IsScanSound (scanned done k held) read → Tallies old (scanned done k held) → IsStacked old (scanned done k held) → EndsNoLine 0 done → IsAtLineEnd m new read rest 1
+    go : (k : Mode) → modes.Return ≡ k → (done : List Piece) (held : List ℕ) → IsScanSound (scanned done k held) read → Tallies old (scanned done k held) → IsStacked old (scanned done k held) → EndsNoLine 0 done → IsAtLineEnd m (freed old) read rest 1
     go modes.Return same done held sound' tallies' stacked' none' =
         let r = sound'.holds.0 in
         let text : held ≡ 13 ∷ [] = sound'.holds.1 ∙ ap (λ d. d ∷ []) (return_is r sound'.holds.2) in
@@ -95,14 +94,14 @@ returned_as m old new read rest s steps sound tallies stacked none modes.Return 
           spell = spelled-push done line_end held ∙ sound'.spell;
           fit = λ after is_rest. returned_fit done held read after sound' text (follows after is_rest);
           strings = line_string done (piece line_end held) refl sound'.strings;
-          tallies = closes_shut old new done modes.Return held read closes sound' tallies';
+          tallies = closes_shut old done modes.Return held sound'.holds tallies';
         }
     go k same done held sound' tallies' stacked' none' = absurd (cc)
-returned_as m old new read rest s steps sound tallies stacked none n is returns empty closes follows = absurd (both_ways _ refl returns)
+returned_as m old read rest s steps sound tallies stacked none n is returns empty follows = absurd (both_ways _ refl returns)
 
-pub returned : (m : Mode) (old new : Scan) (read rest : List ℕ) (way : IsUnderWay m old read) → IsScanSound (line_start m) [] → is_return_mode old.piece.mode ≡ true → none_open (stack_of old.brackets) ≡ true → Closes old new → ((after : List ℕ) → encode_utf8_all after ≡ rest → begins is_line_feed after ≡ false) → IsAtLineEnd m new read rest 1
-returned m old new read rest way start returns empty closes follows =
-    returned_as m old new read rest way.state way.steps (sound_steps m read way.state start way.steps) way.tallies way.stacked way.one_line old.piece.mode way.tallies.counts.mode returns empty closes follows
+pub returned : (m : Mode) (old : Scan) (read rest : List ℕ) (way : IsUnderWay m old read) → IsScanSound (line_start m) [] → is_return_mode old.piece.mode ≡ true → none_open (stack_of old.brackets) ≡ true → ((after : List ℕ) → encode_utf8_all after ≡ rest → begins is_line_feed after ≡ false) → IsAtLineEnd m (freed old) read rest 1
+returned m old read rest way start returns empty follows =
+    returned_as m old read rest way.state way.steps (sound_steps m read way.state start way.steps) way.tallies way.stacked way.one_line old.piece.mode way.tallies.counts.mode returns empty follows
 
 -- what follows begins with another character, or is nothing
 pub follows_nothing : (rest after : List ℕ) → rest ≡ [] → encode_utf8_all after ≡ rest → begins is_line_feed after ≡ false
@@ -123,9 +122,6 @@ follows_whole read after more tail beyond (inl feed) spell is_one = absurd (both
 follows_whole read after more tail beyond (inr (b, others, is, other)) spell is_one = no_feed_first more tail (others ++ beyond) b (spell ∙ ap (λ t. t ++ beyond) is) other
 
 -- where the scan of a line under way stands
-pub way_order : (scan : Scan) (s : Scanned) → Tallies scan s → scan.piece.start ≤ scan.stop
-way_order scan s tallies = omega (arith, tallies.counts.start, tallies.counts.stop, byte_len-append (spelled s.done) s.held)
-
 pub way_stop : (m : Mode) (scan : Scan) (read : List ℕ) (way : IsUnderWay m scan read) → IsScanSound (line_start m) [] → scan.stop ≡ byte_len read
 way_stop m scan read way start = way.tallies.counts.stop ∙ ap byte_len (sound_steps m read way.state start way.steps).spell
 

@@ -1,5 +1,5 @@
 -- Characters that leave the open piece as it is are held in one step.
-use Rattle.std.proofs.Common.{◌≡◌, ℕ, ◌+◌, ◌<◌, ◌≤◌, ◌⊎◌, inl, inr, Bool, true, false, leb, not, ◌||◌, ◌&&◌, ◌==◌, Some, List, [], ◌∷◌, ◌++◌, length, take, drop, slice_index, refl, sym, ap, ◌∙◌, subst, append_assoc, append-nil, arith, ⊎_elim, take-append-drop, length-append, lit<, Ok}
+use Rattle.std.proofs.Common.{◌≡◌, ℕ, ◌+◌, ◌<◌, ◌≤◌, ◌⊎◌, inl, inr, Bool, true, false, leb, not, ◌||◌, ◌&&◌, ◌==◌, Some, List, [], ◌∷◌, ◌++◌, length, take, drop, slice_index, refl, sym, ap, ◌∙◌, subst, append_assoc, append-nil, arith, ⊎_elim, take-append-drop, length-append, lit<}
 use Rattle.std.specs.Prelude.{encode_utf8_all, encode_utf8, codes, nat_le, if◌then◌else◌}
 use Rattle.std.specs.Str.{IsUtf8}
 use Rattle.std.specs.Char.{IsScalar}
@@ -238,20 +238,15 @@ all_no_break m (c ∷ cs) all =
     and_from (not (is_break c)) (list_all (λ d. not (is_break d)) cs) (ap not (stays-no_break m c parts.0)) (all_no_break m cs parts.1)
 
 -- the scan keeps count over a run
-pub counts_run : (old : Scan) (s : Scanned) (run : List ℕ) → list_all (λ d. not (is_break d)) run ≡ true → IsFull run → Tallies old s → Counts (with_bytes old (byte_len run)) (scanned s.done s.mode (s.held ++ run))
-counts_run old s run all full tallies =
+pub counts_run : (old : Scan) (s : Scanned) (run : List ℕ) → list_all (λ d. not (is_break d)) run ≡ true → IsFull run → Counts old s → Counts (with_bytes old (byte_len run)) (scanned s.done s.mode (s.held ++ run))
+counts_run old s run all full counts =
     let longer : (spelled s.done ++ s.held) ++ run ≡ spelled s.done ++ (s.held ++ run) = append_assoc (spelled s.done) s.held run in
     record {
-      mode = tallies.counts.mode;
-      start = tallies.counts.start;
-      stop = ap (λ (n : ℕ). n + byte_len run) tallies.counts.stop ∙ sym (byte_len-append (spelled s.done ++ s.held) run) ∙ ap byte_len longer;
-      piece_line = tallies.counts.piece_line;
-      here = tallies.counts.here ∙ ap (λ (n : ℕ). old.line + n) (sym (line_ends-run (spelled s.done ++ s.held) run all) ∙ ap line_ends longer);
+      mode = counts.mode;
+      start = counts.start;
+      stop = ap (λ (n : ℕ). n + byte_len run) counts.stop ∙ sym (byte_len-append (spelled s.done ++ s.held) run) ∙ ap byte_len longer;
+      here = counts.here ∙ ap (λ (n : ℕ). old.line + n) (sym (line_ends-run (spelled s.done ++ s.held) run all) ∙ ap line_ends longer);
       after = sym (ends-run (spelled s.done ++ s.held) run full all) ∙ ap (ends is_return) longer;
-      margin = tallies.counts.margin;
-      indent = tallies.counts.indent;
-      kind = tallies.counts.kind;
-      tokens = tallies.counts.tokens;
     }
 
 -- a string with fields that goes on over a run
@@ -300,7 +295,7 @@ way_held m old new read text rest way start holds =
     record {
       state = scanned s.done s.mode (s.held ++ holds.run);
       steps = steps_by-append move_at (Some (line_start m)) read holds.run ∙ ap (λ o. scan_steps o holds.run) way.steps ∙ on.steps;
-      tallies = subst (λ (n : Scan). Tallies n (scanned s.done s.mode (s.held ++ holds.run))) (sym some.1) (record { counts = counts_run old s holds.run on.none some.0 way.tallies; fields = on.fields });
+      tallies = subst (λ (n : Scan). Tallies n (scanned s.done s.mode (s.held ++ holds.run))) (sym some.1) (record { counts = counts_run old s holds.run on.none some.0 way.tallies.counts; fields = on.fields });
       stacked = way.stacked ∙ ap (λ (n : Scan). Some (stack_of n.brackets)) (sym some.1);
       one_line = way.one_line;
     }) holds.reads
@@ -320,7 +315,7 @@ pub way_quote : (m : Mode) (scan : Scan) (read : List ℕ) (way : IsUnderWay m s
 way_quote m scan read way start = subst HasAsciiQuote (sym way.tallies.counts.mode) (sound_quote way.state.mode way.state.done way.state.held (sound_steps m read way.state start way.steps).holds)
 
 -- and over a character
-pub reached_character : (m : Mode) (at : ℕ) (text : List ℕ) (old new : Scan) (before rest : List ℕ) (c : ℕ) (r : Reached m at text old before) → IsScalar c → before ≡ encode_utf8 c ++ rest → Takes old r.way.state c (Ok progress.Going) new → Reached m at text new rest
+pub reached_character : (m : Mode) (at : ℕ) (text : List ℕ) (old new : Scan) (before rest : List ℕ) (c : ℕ) (r : Reached m at text old before) → IsScalar c → before ≡ encode_utf8 c ++ rest → Takes old r.way.state c progress.Going new → Reached m at text new rest
 reached_character m at text old new before rest c r scalar is takes = record {
   read = r.read ++ c ∷ [];
   way = under_way m old new r.read c r.way takes;

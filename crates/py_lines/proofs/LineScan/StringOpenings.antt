@@ -1,8 +1,7 @@
 -- A string with fields holds something, after one quote or two: its scan begins.
-use Rattle.std.proofs.Common.{◌≡◌, ℕ, ◌+◌, ◌==◌, true, false, ◌&&◌, Result, Ok, Err, Some, List, [], ◌∷◌, ◌++◌, refl, sym, ap, ◌∙◌, subst, ⊎_elim}
+use Rattle.std.proofs.Common.{◌≡◌, ℕ, ◌+◌, ◌==◌, true, false, ◌&&◌, Some, List, [], ◌∷◌, ◌++◌, refl, sym, ap, ◌∙◌, subst, ⊎_elim}
 use Rattle.std.specs.Prelude.{if◌then◌else◌}
 use Rattle.std.specs.Str.{byte}
-use Rattle.std.specs.declared.alloc.AllocError.{AllocError}
 use Rattle.std.proofs.lemmas.Bool.{cond_both}
 use Rattle.py_lines.specs.Character.{is_mark, is_space, is_word_character, is_quote, is_line_feed, is_return, is_break, is_backslash}
 use Rattle.py_lines.specs.Piece.{Piece, spelled}
@@ -111,28 +110,27 @@ module _ (old new : Scan) (f : FieldScan) (done : List Piece) (held read : List 
         let grown = body_grows (host_in h) c parts.0 parts.1 in
         string_grows (depth_of old.brackets) (field_state [] [] [] (body (host_in h) literal false between) held) grown.0 c grown.1
 
-    opened_goes : GoesOnInString (with_field_scan old f) (field_state [] [] [] (body (host_in h) literal false between) held) c new → Takes old (scanned done (modes.FieldOpened h) held) c (Ok progress.Going) new
+    opened_goes : GoesOnInString (with_field_scan old f) (field_state [] [] [] (body (host_in h) literal false between) held) c new → Takes old (scanned done (modes.FieldOpened h) held) c progress.Going new
     opened_goes goes =
         let s : Scanned = scanned done (modes.FieldOpened h) held in
-        subst (Takes old s c (Ok progress.Going)) (sym goes.same) (
+        subst (Takes old s c progress.Going) (sym goes.same) (
           record {
             next = scanned done modes.Fielded (held ++ c ∷ []);
             goes = ap (moved s c) move;
-            tallies = record { counts = counts_read old new.fields s c modes.Fielded tallies; fields = (goes.next, string_more held c _ sound.holds ∙ opened_as_body (host_in h) held c (first_of_body h c move).0 ∙ goes.goes, goes.follows) };
+            tallies = record { counts = counts_read old new.fields s c modes.Fielded tallies.counts; fields = (goes.next, string_more held c _ sound.holds ∙ opened_as_body (host_in h) held c (first_of_body h c move).0 ∙ goes.goes, goes.follows) };
             stacked = stacked;
             one_line = none;
           },
           refl,
         )
 
-    pub takes_first : (r : Result Progress AllocError) → ((t : FieldScanned) → StandsInString (with_field_scan old f) t → TakesInString (with_field_scan old f) t c r new) → Takes old (scanned done (modes.FieldOpened h) held) c r new
-    takes_first (Ok progress.Going) takes =
+    pub takes_first : (r : Progress) → ((t : FieldScanned) → StandsInString (with_field_scan old f) t → TakesInString (with_field_scan old f) t c r new) → Takes old (scanned done (modes.FieldOpened h) held) c r new
+    takes_first progress.Going takes =
         ⊎_elim opened_goes (λ shut. absurd (let clash = sym goes_so ∙ shut.move in cc)) (takes (field_state [] [] [] (body (host_in h) literal false between) held) stands)
-    takes_first (Ok (progress.LineEnded len)) takes = absurd (takes (field_state [] [] [] (body (host_in h) literal false between) held) stands)
-    takes_first (Ok progress.Refused) takes =
+    takes_first (progress.LineEnded len) takes = absurd (takes (field_state [] [] [] (body (host_in h) literal false between) held) stands)
+    takes_first progress.Refused takes =
         let stuck = takes (field_state [] [] [] (body (host_in h) literal false between) held) stands in
         absurd (let clash = sym goes_so ∙ stuck.0 in cc)
-    takes_first (Err e) takes = tt
 
   -- after two quotes
   module _ (h : StringWithFields) (sound : IsScanSound (scanned done (modes.FieldEmpty h) held) read) (tallies : Tallies old (scanned done (modes.FieldEmpty h) held)) (stacked : IsStacked old (scanned done (modes.FieldEmpty h) held)) (move : meet_of (modes.FieldEmpty h) c ≡ moves.Grows modes.Fielded) (follows : FollowsBody f (record { quote = h.quote; is_long = true; is_raw = h.is_raw }) old.piece.start) where
@@ -143,14 +141,14 @@ module _ (old new : Scan) (f : FieldScan) (done : List Piece) (held read : List 
         let third : c == h.quote ≡ true = cond_both (c == h.quote) (moves.Grows modes.Fielded) moves.Breaks P (λ is e. is) (λ _ e. absurd (cc)) move in
         ap (λ b. field_moved (field_state [] [] [] (empty (host_in h)) held) c (if b then grows (body (long_host (host_in h)) literal false between) else breaks)) third
 
-    pub takes_third : new ≡ in_mode (with_character (with_field_scan old f) c) modes.Fielded → Takes old (scanned done (modes.FieldEmpty h) held) c (Ok progress.Going) new
+    pub takes_third : new ≡ in_mode (with_character (with_field_scan old f) c) modes.Fielded → Takes old (scanned done (modes.FieldEmpty h) held) c progress.Going new
     takes_third is =
         let s : Scanned = scanned done (modes.FieldEmpty h) held in
-        subst (Takes old s c (Ok progress.Going)) (sym is) (
+        subst (Takes old s c progress.Going) (sym is) (
           record {
             next = scanned done modes.Fielded (held ++ c ∷ []);
             goes = ap (moved s c) move;
-            tallies = record { counts = counts_read old f s c modes.Fielded tallies; fields = (_, string_more held c _ sound.holds ∙ third_quote, follows (held ++ c ∷ [])) };
+            tallies = record { counts = counts_read old f s c modes.Fielded tallies.counts; fields = (_, string_more held c _ sound.holds ∙ third_quote, follows (held ++ c ∷ [])) };
             stacked = stacked;
             one_line = none;
           },
@@ -158,13 +156,13 @@ module _ (old new : Scan) (f : FieldScan) (done : List Piece) (held read : List 
         )
 
 -- so wherever the machine stands
-pub takes_opened : (old new : Scan) (f : FieldScan) (done : List Piece) (m : Mode) (held read : List ℕ) (c : ℕ) (h : StringWithFields) (r : Result Progress AllocError) → m ≡ modes.FieldOpened h → meet_of m c ≡ moves.Grows modes.Fielded → FollowsBody f h old.piece.start → ((t : FieldScanned) → StandsInString (with_field_scan old f) t → TakesInString (with_field_scan old f) t c r new) → IsScanSound (scanned done m held) read → EndsNoLine 0 done → Tallies old (scanned done m held) → IsStacked old (scanned done m held) → Takes old (scanned done m held) c r new
+pub takes_opened : (old new : Scan) (f : FieldScan) (done : List Piece) (m : Mode) (held read : List ℕ) (c : ℕ) (h : StringWithFields) (r : Progress) → m ≡ modes.FieldOpened h → meet_of m c ≡ moves.Grows modes.Fielded → FollowsBody f h old.piece.start → ((t : FieldScanned) → StandsInString (with_field_scan old f) t → TakesInString (with_field_scan old f) t c r new) → IsScanSound (scanned done m held) read → EndsNoLine 0 done → Tallies old (scanned done m held) → IsStacked old (scanned done m held) → Takes old (scanned done m held) c r new
 takes_opened old new f done (modes.FieldOpened k) held read c h r is move follows takes sound none tallies stacked =
     let same : h ≡ k = cc in
     takes_first old new f done held read c none k sound tallies stacked move (subst (λ (x : StringWithFields). FollowsBody f x old.piece.start) same follows) r takes
 takes_opened old new f done m held read c h r is move follows takes sound none tallies stacked = absurd (cc)
 
-pub takes_emptied : (old new : Scan) (f : FieldScan) (done : List Piece) (m : Mode) (held read : List ℕ) (c : ℕ) (h : StringWithFields) → m ≡ modes.FieldEmpty h → meet_of m c ≡ moves.Grows modes.Fielded → FollowsBody f (record { quote = h.quote; is_long = true; is_raw = h.is_raw }) old.piece.start → new ≡ in_mode (with_character (with_field_scan old f) c) modes.Fielded → IsScanSound (scanned done m held) read → EndsNoLine 0 done → Tallies old (scanned done m held) → IsStacked old (scanned done m held) → Takes old (scanned done m held) c (Ok progress.Going) new
+pub takes_emptied : (old new : Scan) (f : FieldScan) (done : List Piece) (m : Mode) (held read : List ℕ) (c : ℕ) (h : StringWithFields) → m ≡ modes.FieldEmpty h → meet_of m c ≡ moves.Grows modes.Fielded → FollowsBody f (record { quote = h.quote; is_long = true; is_raw = h.is_raw }) old.piece.start → new ≡ in_mode (with_character (with_field_scan old f) c) modes.Fielded → IsScanSound (scanned done m held) read → EndsNoLine 0 done → Tallies old (scanned done m held) → IsStacked old (scanned done m held) → Takes old (scanned done m held) c progress.Going new
 takes_emptied old new f done (modes.FieldEmpty k) held read c h is move follows grown sound none tallies stacked =
     let same : h ≡ k = cc in
     takes_third old new f done held read c none k sound tallies stacked move (subst (λ (x : StringWithFields). FollowsBody f (record { quote = x.quote; is_long = true; is_raw = x.is_raw }) old.piece.start) same follows) grown

@@ -19,7 +19,7 @@ use Rattle.py_lines.specs.Private.FieldMachine.{FieldMode, Level, FieldScanned, 
 use Rattle.py_lines.specs.Private.FieldFaults.{here}
 use Rattle.py_lines.specs.Private.ScanMachine.{string_state, string_move, fielded_move, move_at, IsInString, IsScanSound}
 use Rattle.py_lines.specs.Private.LineState.{first_mode}
-use Rattle.py_lines.specs.Private.Scan.{refused_place, IsRefusal, IsRefusalIn, IsUnfinished, IsUnfinishedIn, IsPlainUnfinished, FieldsFollow, StandsInString, GoesOnInString, ClosesString, Closes, in_mode, with_character, with_field_scan, Tallies, IsStacked, stack_of, depth_of}
+use Rattle.py_lines.specs.Private.Scan.{refused_place, IsRefusal, IsRefusalIn, IsUnfinished, IsUnfinishedIn, IsPlainUnfinished, FieldsFollow, StandsInString, GoesOnInString, ClosesString, freed, in_mode, with_character, with_field_scan, Tallies, IsStacked, stack_of, depth_of}
 use Rattle.py_lines.proofs.FieldSoundness.HostSteps.{sound_at}
 use Rattle.py_lines.proofs.FieldSoundness.WholeTexts.{no_limit, any_rooms}
 use Rattle.py_lines.proofs.FieldScans.Places.{scan_placed}
@@ -32,10 +32,6 @@ use Rattle.py_lines.proofs.Pieces.OpenBrackets.{stands}
 pub no_fields : (scan : Scan) (m : Mode) (held : List ℕ) → (m ≡ modes.Fielded → ⊥) → FieldsFollow scan m held
 no_fields scan modes.Fielded held other = absurd (other refl)
 no_fields scan m held other = tt
-
-pub fields_same : (a b : Scan) (m : Mode) (held : List ℕ) → a.fields ≡ b.fields → a.piece.start ≡ b.piece.start → FieldsFollow a m held → FieldsFollow b m held
-fields_same a b modes.Fielded held same at (t, steps, follows) = (t, steps, subst (λ n. Follows b.fields n t) at (subst (λ f. Follows f a.piece.start t) same follows))
-fields_same a b m held same at fields = tt
 
 -- no character opens one where no piece is open
 pub opens_plain : (c : ℕ) (m : Mode) → start_of c ≡ starts.Open m → m ≡ modes.Fielded → ⊥
@@ -123,8 +119,8 @@ module _ (old : Scan) (f : FieldScan) (c depth : ℕ) (p : FieldProgress) (same 
         same = is ∙ ap (λ (g : FieldScan). in_mode (with_character (with_field_scan old g) c) modes.Fielded) (sym scans);
       }
 
-  pub closes_it : (new : Scan) → p ≡ progress.Closed → Closes (with_character (with_field_scan old f) c) new → ClosesString old t c new
-  closes_it new closed closes = record { fields = f; move = came_to progress.Closed closed; closes = closes }
+  pub closes_it : (new : Scan) → p ≡ progress.Closed → new ≡ freed (with_character (with_field_scan old f) c) → ClosesString old t c new
+  closes_it new closed is = record { fields = f; move = came_to progress.Closed closed; same = is }
 
   pub refuses_it : p ≡ progress.Refused → (fielded_move (depth_of old.brackets) (Some t) c ≡ moves.Refused) × (with_field_scan old f ≡ old)
   refuses_it refused =

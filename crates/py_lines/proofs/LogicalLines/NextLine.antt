@@ -47,7 +47,7 @@ cut_bytes d (p ∷ ps) =
     (λ h. ap (λ t. byte_len t + parts_bytes (cut d ps)) (append-nil p.text) ∙ ap (λ (n : ℕ). byte_len p.text + n) (cut_bytes d ps) ∙ sym (byte_len-append p.text (spelled ps)))
     (λ h. put_bytes p (cut (depth_after d p) ps) ∙ ap (λ (n : ℕ). byte_len p.text + n) (cut_bytes (depth_after d p) ps) ∙ sym (byte_len-append p.text (spelled ps)))
 
-begins-prefix : (p : ℕ → Bool) (xs ys : List ℕ) → begins p (xs ++ ys) ≡ false → begins p xs ≡ false
+pub begins-prefix : (p : ℕ → Bool) (xs ys : List ℕ) → begins p (xs ++ ys) ≡ false → begins p xs ≡ false
 begins-prefix p [] ys h = refl
 begins-prefix p (x ∷ xs) ys h = h
 

@@ -24,12 +24,12 @@ use Rattle.py_lines.specs.declared.scan.Stop.{Stop}
 use Rattle.py_lines.specs.declared.scan.Stop.TheVariants as stops
 use Rattle.py_lines.specs.declared.source.Source.{Source}
 use Rattle.py_lines.specs.declared.scan.LineFault.{LineFault}
-use Rattle.py_lines.specs.Private.Machine.{Scanned, closed, fresh, is_final, Bracket, brackets_of}
+use Rattle.py_lines.specs.Private.Machine.{Scanned, closed, is_final, Bracket, brackets_of}
 use Rattle.py_lines.specs.Private.ScanMachine.{IsScanSound}
-use Rattle.py_lines.specs.Private.Scan.{IsUnderWay, line_start, EndsNoLine, Tallies, Closes, none_open, is_return_mode, stack_of, IsUnfinished}
+use Rattle.py_lines.specs.Private.Scan.{IsUnderWay, line_start, EndsNoLine, none_open, is_return_mode, stack_of, IsUnfinished}
 use Rattle.py_lines.specs.Reader.View.{reader_of}
 use Rattle.py_lines.specs.Private.LineState.{first_mode}
-use Rattle.py_lines.specs.Private.Source.{line_of_source, HasScanned, GivesLine, FailsAfter}
+use Rattle.py_lines.specs.Private.Source.{line_of_source, HasScanned, GivesTokens, FailsAfter}
 use Rattle.py_lines.proofs.Pieces.PieceLists.{piece, AreReadBefore-second}
 use Rattle.py_lines.proofs.Machine.PieceSteps.{scanned, pieces_at}
 use Rattle.py_lines.proofs.Pieces.OpenBrackets.{stands}
@@ -40,7 +40,6 @@ use Rattle.py_lines.proofs.Lexings.LinePrefix.{closed_spells}
 use Rattle.py_lines.proofs.Lexings.Answers.{refused_at_end, refused_at_bytes}
 use Rattle.py_lines.proofs.LogicalLines.Cuts.{byte_len-append, one_line, last_part, line_depth}
 use Rattle.py_lines.proofs.LineScan.LineCount.{line_ends-bytes}
-use Rattle.py_lines.proofs.LineScan.PieceEnd.{closes_shut}
 use Rattle.py_lines.proofs.LineScan.NextCharacter.{closed_one_line, one_return}
 use Rattle.py_lines.proofs.LineScan.LineSteps.{sound_steps, way_stop}
 use Rattle.py_lines.proofs.Lexings.GivenLines.{IsEnded}
@@ -75,53 +74,51 @@ pub end_fault_as : (fault : Fault) (kind : FaultKind) (offset : ℕ) (characters
 end_fault_as fault kind offset characters others same at spell is =
     subst (λ t. IsEndFault fault.kind t [] fault.offset) spell (subst (λ k. IsEndFault k characters [] fault.offset) (sym same) (subst (λ o. IsEndFault kind characters [] o) at is))
 
--- the text's last line: the open piece is closed, and the pieces are one line
-pub line_at_close : (m : Mode) (old mid : Scan) (read : List ℕ) (way : IsUnderWay m old read) → IsScanSound way.state read → is_final way.state.mode ≡ true → Tallies mid (fresh (pieces_at way.state)) → stack_of old.brackets ≡ [] → 0 < byte_len read → (end_len : ℕ) → cut 0 (pieces_at way.state) ≡ pieces_at way.state ∷ [] → end_len ≡ end_len_of (pieces_at way.state) → IsScannedLine (line_start m) mid read end_len (pieces_at way.state)
-line_at_close m old mid read way sound final t empty some end_len whole ends =
+-- the text's last line: its pieces, with the open one, are one line
+line_at_close : (m : Mode) (scan : Scan) (read : List ℕ) (way : IsUnderWay m scan read) → IsScanSound way.state read → is_final way.state.mode ≡ true → stack_of scan.brackets ≡ [] → 0 < byte_len read → (end_len : ℕ) → cut 0 (pieces_at way.state) ≡ pieces_at way.state ∷ [] → end_len ≡ end_len_of (pieces_at way.state) → IsScannedLine (line_start m) scan read end_len (pieces_at way.state)
+line_at_close m scan read way sound final empty some end_len whole ends =
     let s = way.state in
-    let spell : spelled (pieces_at s) ≡ read = closed_spells s.mode s.done s.held sound.holds ∙ sound.spell in
-    let plain = append-nil (spelled (pieces_at s)) ∙ spell in
+    let ended = end_sound s.done s.mode s.held read sound final in
     record {
       line = record {
         to = s;
         steps = way.steps;
-        spell = spell;
+        spell = closed_spells s.mode s.done s.held sound.holds ∙ sound.spell;
         whole = whole;
-        stacked = stack_closed s.mode s.done s.held (stack_of old.brackets) way.stacked ∙ ap (λ l. Some l) empty;
-        strings = (end_sound s.done s.mode s.held read sound final).strings;
+        stacked = stack_closed s.mode s.done s.held (stack_of scan.brackets) way.stacked ∙ ap (λ l. Some l) empty;
+        strings = ended.strings;
         some = some;
       };
-      stop = t.counts.stop ∙ ap byte_len plain;
-      here = t.counts.here ∙ ap (λ l. mid.line + line_ends l) plain;
-      tokens = t.counts.tokens;
-      kind = t.counts.kind;
-      indent = t.counts.indent;
+      stop = way.tallies.counts.stop ∙ ap byte_len sound.spell;
+      here = way.tallies.counts.here ∙ ap (λ l. scan.line + line_ends l) sound.spell;
       ends = ends;
+      after = [];
+      fit = ended.fit;
     }
 
 -- no line end closes it
-pub line_at_text_end : (m : Mode) (old mid : Scan) (read : List ℕ) (way : IsUnderWay m old read) → IsScanSound way.state read → is_final way.state.mode ≡ true → (way.state.mode ≡ modes.Return → none_open (stack_of old.brackets) ≡ false) → Tallies mid (fresh (pieces_at way.state)) → stack_of old.brackets ≡ [] → 0 < byte_len read → IsScannedLine (line_start m) mid read 0 (pieces_at way.state)
-line_at_text_end m old mid read way sound final open_yet t empty some =
+pub line_at_text_end : (m : Mode) (scan : Scan) (read : List ℕ) (way : IsUnderWay m scan read) → IsScanSound way.state read → is_final way.state.mode ≡ true → (way.state.mode ≡ modes.Return → none_open (stack_of scan.brackets) ≡ false) → stack_of scan.brackets ≡ [] → 0 < byte_len read → IsScannedLine (line_start m) scan read 0 (pieces_at way.state)
+line_at_text_end m scan read way sound final open_yet empty some =
     let s = way.state in
     let spell : spelled (pieces_at s) ≡ read = closed_spells s.mode s.done s.held sound.holds ∙ sound.spell in
-    let none = closed_one_line s.mode s.done s.held (stack_of old.brackets) way.stacked way.one_line open_yet in
-    let stacked : brackets_of (pieces_at s) ≡ Some [] = stack_closed s.mode s.done s.held (stack_of old.brackets) way.stacked ∙ ap (λ l. Some l) empty in
-    line_at_close m old mid read way sound final t empty some 0 (one_or (pieces_at s) none (λ e. omega (arith, some, ap byte_len (sym spell ∙ ap spelled e)))) (sym (end_len-none 0 (pieces_at s) none (stands (pieces_at s) [] stacked).depth))
+    let none = closed_one_line s.mode s.done s.held (stack_of scan.brackets) way.stacked way.one_line open_yet in
+    let stacked : brackets_of (pieces_at s) ≡ Some [] = stack_closed s.mode s.done s.held (stack_of scan.brackets) way.stacked ∙ ap (λ l. Some l) empty in
+    line_at_close m scan read way sound final empty some 0 (one_or (pieces_at s) none (λ e. omega (arith, some, ap byte_len (sym spell ∙ ap spelled e)))) (sym (end_len-none 0 (pieces_at s) none (stands (pieces_at s) [] stacked).depth))
 
 -- CR closes it
 return_pieces : (mode : Mode) (done : List Piece) (held read : List ℕ) → IsScanSound (scanned done mode held) read → is_return_mode mode ≡ true → EndsNoLine 0 done → depth_through 0 done ≡ 0 → (cut 0 (closed mode done held) ≡ closed mode done held ∷ []) × (1 ≡ end_len_of (closed mode done held))
 return_pieces modes.Return done held read sound is none deep = (one_line 0 done (piece line_end held) none refl deep, one_return sound.holds.0 sound.holds.2 ∙ ap byte_len (sym sound.holds.1) ∙ sym (end_len-push done (piece line_end held) refl))
 return_pieces mode done held read sound is none deep = absurd (both_ways _ refl is)
 
-returned_final : (m : Mode) → is_return_mode m ≡ true → is_final m ≡ true
+pub returned_final : (m : Mode) → is_return_mode m ≡ true → is_final m ≡ true
 returned_final modes.Return returned = refl
 returned_final m returned = absurd (both_ways _ refl returned)
 
-pub line_at_return : (m : Mode) (old mid : Scan) (read : List ℕ) (way : IsUnderWay m old read) → IsScanSound way.state read → is_return_mode old.piece.mode ≡ true → Tallies mid (fresh (pieces_at way.state)) → stack_of old.brackets ≡ [] → 0 < byte_len read → IsScannedLine (line_start m) mid read 1 (pieces_at way.state)
-line_at_return m old mid read way sound returned t empty some =
+pub line_at_return : (m : Mode) (scan : Scan) (read : List ℕ) (way : IsUnderWay m scan read) → IsScanSound way.state read → is_return_mode scan.piece.mode ≡ true → stack_of scan.brackets ≡ [] → 0 < byte_len read → IsScannedLine (line_start m) scan read 1 (pieces_at way.state)
+line_at_return m scan read way sound returned empty some =
     let s = way.state in
     let both = return_pieces s.mode s.done s.held read sound (ap is_return_mode (sym way.tallies.counts.mode) ∙ returned) way.one_line (stands s.done [] (way.stacked ∙ ap (λ l. Some l) empty)).depth in
-    line_at_close m old mid read way sound (returned_final s.mode (ap is_return_mode (sym way.tallies.counts.mode) ∙ returned)) t empty some 1 both.0 both.1
+    line_at_close m scan read way sound (returned_final s.mode (ap is_return_mode (sym way.tallies.counts.mode) ∙ returned)) empty some 1 both.0 both.1
 
 module _ (old : Source) (has : HasScanned old stops.TextEnd) where
   stop : Stop
@@ -190,28 +187,23 @@ module _ (old : Source) (has : HasScanned old stops.TextEnd) where
       (line_of_fault old stops.TextEnd has lines given line_fault.kind line_fault.place at.keeps.fault at.keeps.at (end_within full line_fault is_line_fault))))
 
   -- the last line
-  last_line : (mid : Scan) → is_final has.scans.stops.0.state.mode ≡ true → Tallies mid (fresh (pieces_at has.scans.stops.0.state)) → stack_of old.state.scan.brackets ≡ [] → 0 < byte_len has.scans.read → IsScannedLine (line_start (first_mode old.state.place)) mid has.scans.read 0 (pieces_at has.scans.stops.0.state)
-  last_line mid final t empty some =
-      let way = has.scans.stops.0 in
-      line_at_text_end (first_mode old.state.place) old.state.scan mid has.scans.read way (sound_steps (first_mode old.state.place) has.scans.read way.state (start_sound old stops.TextEnd has) way.steps) final open_yet t empty some
+  way_sound : IsScanSound has.scans.stops.0.state has.scans.read
+  way_sound = sound_steps (first_mode old.state.place) has.scans.read has.scans.stops.0.state (start_sound old stops.TextEnd has) has.scans.stops.0.steps
 
-  pub continues_text : (mid new : Source) → is_final has.scans.stops.0.state.mode ≡ true → stack_of old.state.scan.brackets ≡ [] → Closes old.state.scan mid.state.scan → mid.bytes ≡ old.bytes → mid.state.place ≡ old.state.place → mid.state.fault ≡ old.state.fault → mid.characters ≡ old.characters → length old.bytes.now ≤ length old.characters.now → GivesLine mid 0 new → Continues (reader_of old) (line_of_source new) (reader_of new) × EachLiesIn (line_of_source new).text new.state.scan.tokens.items
-  continues_text mid new final empty closes bytes place fault characters full gives =
+  pub last_line : is_final has.scans.stops.0.state.mode ≡ true → stack_of old.state.scan.brackets ≡ [] → length old.bytes.now ≤ length old.characters.now → IsScannedLine (line_start (first_mode old.state.place)) old.state.scan has.scans.read 0 (pieces_at has.scans.stops.0.state)
+  last_line final empty full = line_at_text_end (first_mode old.state.place) old.state.scan has.scans.read has.scans.stops.0 way_sound final open_yet empty (some_text full)
+
+  pub continues_text : (new : Source) → is_final has.scans.stops.0.state.mode ≡ true → stack_of old.state.scan.brackets ≡ [] → length old.bytes.now ≤ length old.characters.now → GivesTokens old 0 new → Continues (reader_of old) (line_of_source new) (reader_of new) × EachLiesIn (line_of_source new).text new.state.tokens.tokens.items
+  continues_text new final empty full gives =
       let way = has.scans.stops.0 in
       let s = way.state in
-      let some = some_text full in
-      let sound = sound_steps (first_mode old.state.place) has.scans.read s (start_sound old stops.TextEnd has) way.steps in
-      let tallies = closes_shut old.state.scan mid.state.scan s.done s.mode s.held has.scans.read closes sound way.tallies in
-      continues old mid new stops.TextEnd has 0 (pieces_at s) (last_line mid.state.scan final tallies empty some) bytes place fault characters (ap (λ (s : Scan). s.line) closes.same) gives
+      continues old new stops.TextEnd has 0 (pieces_at s) (last_line final empty full) gives
       (λ lines sit.
       let j = joins old stops.TextEnd has lines sit.given way in
-      let ended = ends_sound (spelled (here old stops.TextEnd has lines sit.given).given.first.pieces ++ has.scans.read) j.state j.steps.run (ap (λ (t : Scanned). is_final t.mode) (j.same some).0 ∙ final) in
+      let ended = ends_sound (spelled (here old stops.TextEnd has lines sit.given).given.first.pieces ++ has.scans.read) j.state j.steps.run (ap (λ (t : Scanned). is_final t.mode) (j.same (some_text full)).0 ∙ final) in
       let fit = AreReadBefore-second (here old stops.TextEnd has lines sit.given).given.first.pieces (pieces_at s) [] (subst (λ l. AreReadBefore l []) j.pieces ended.fit) in
       subst (AreReadBefore (pieces_at s)) (sym (all_taken sit.after has.scans.rest sit.follow has.scans.stops.1)) fit)
       (λ lines sit. IsEnded.by_text (λ i. all_taken sit.after has.scans.rest sit.follow has.scans.stops.1 i ++ (sit.tail_is ∙ drop_all (length old.characters.now) old.bytes.now full) i))
 
-  pub few_lines_text : (mid : Scan) → Closes old.state.scan mid → mid.count.line ≤ old.state.place + mid.stop + 1
-  few_lines_text mid closes =
-      let way = has.scans.stops.0 in
-      let sound = sound_steps (first_mode old.state.place) has.scans.read way.state (start_sound old stops.TextEnd has) way.steps in
-      omega (arith, ap (λ (s : Scan). s.count.line) closes.same, ap (λ (s : Scan). s.stop) closes.same, stop_size, way.tallies.counts.here, ap line_ends sound.spell, line_ends-bytes has.scans.read, has.line, old.few_lines)
+  pub few_lines_text : old.state.scan.count.line ≤ old.state.place + old.state.scan.stop + 1
+  few_lines_text = omega (arith, stop_size, has.scans.stops.0.tallies.counts.here, ap line_ends way_sound.spell, line_ends-bytes has.scans.read, has.line, old.few_lines)

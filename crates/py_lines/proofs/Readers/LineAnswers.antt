@@ -9,7 +9,7 @@ use Rattle.std.proofs.Math.Seq.{take-append_seam}
 use Rattle.py_lines.specs.Piece.{Class, line_end, Piece, spelled}
 use Rattle.py_lines.specs.Fields.{InClass, AreReadBefore}
 use Rattle.py_lines.specs.Reading.{Decodes}
-use Rattle.py_lines.specs.LogicalLine.{LogicalLine, cut, byte_len, line_ends, line_of, tokens_from, kind_of, indent_of, end_len_of}
+use Rattle.py_lines.specs.LogicalLine.{LogicalLine, cut, byte_len, line_ends, line_of, end_len_of}
 use Rattle.py_lines.specs.Reader.{Reader, HasGiven, Continues, standing_at}
 use Rattle.py_lines.specs.Private.Machine.{Scanned, brackets_of}
 use Rattle.py_lines.specs.Private.ScanMachine.{scan_steps, StringsFit}
@@ -21,8 +21,9 @@ use Rattle.py_lines.specs.declared.scan.Stop.TheVariants as stops
 use Rattle.py_lines.specs.declared.source.Source.{Source}
 use Rattle.py_lines.specs.Private.Scan.{IsAtLineEnd, line_start}
 use Rattle.py_lines.specs.Reader.View.{reader_of}
-use Rattle.py_lines.specs.Private.LineState.{first_mode}
-use Rattle.py_lines.specs.Private.Source.{line_of_source, GivesLine, HasScanned}
+use Rattle.py_lines.specs.Private.LineState.{first_mode, lent}
+use Rattle.py_lines.specs.Private.LineTokens.{AreLineText}
+use Rattle.py_lines.specs.Private.Source.{line_of_source, scanned_text, GivesTokens, HasScanned}
 use Rattle.py_lines.specs.Token.{EachLiesIn}
 use Rattle.py_lines.proofs.Lexings.Existence.{first_at}
 use Rattle.py_lines.proofs.Text.Utf8Prefixes.{prefix_chars, all_scalars-parts, one_decoding}
@@ -52,10 +53,23 @@ pub record IsScannedLine (m : Scanned) (scan : Scan) (read : List ℕ) (end_len 
   pub line : IsReadLine m read u
   pub stop : scan.stop ≡ byte_len read
   pub here : scan.count.line ≡ scan.line + line_ends read
-  pub tokens : scan.tokens.items ≡ tokens_from 0 scan.line u
-  pub kind : scan.kind ≡ kind_of u
-  pub indent : scan.indent ≡ indent_of u
   pub ends : end_len ≡ end_len_of u
+  pub after : List ℕ
+  pub fit : AreReadBefore u after
+
+-- the same, where the scan was lent
+pub lent_line : (m : Scanned) (scan by : Scan) (read : List ℕ) (end_len : ℕ) (u : List Piece) → IsScannedLine m scan read end_len u → IsScannedLine m (lent scan by) read end_len u
+lent_line m scan by read end_len u line = record { line = line.line; stop = line.stop; here = line.here; ends = line.ends; after = line.after; fit = line.fit }
+
+-- its text alone says what its pieces are
+pub line_text : (m : Scanned) (scan : Scan) (read : List ℕ) (end_len : ℕ) (u : List Piece) → all_scalars read ≡ true → IsScannedLine m scan read end_len u → AreLineText (encode_utf8_all read) u
+line_text m scan read end_len u scalars line = record {
+  scalars = ap all_scalars line.line.spell ∙ scalars;
+  spell = ap encode_utf8_all line.line.spell;
+  after = line.after;
+  fit = line.fit;
+  strings = line.line.strings;
+}
 
 -- where the scan stopped, given the lines so far
 pub situation : (s : Source) (stop : Stop) (lines : List LogicalLine) (has : HasScanned s stop) → HasGiven (reader_of s) lines → Situation (reader_of s) s.characters.now lines has.scans.read has.scans.rest
@@ -81,23 +95,31 @@ place_room s stop has offset w = omega (arith, w.size, ap length (prefix_spells 
 pub all_within : (read : List ℕ) (n : ℕ) → n ≡ byte_len read → Within read n
 all_within read n size = record { prefix = read; later = []; split = append-nil read; size = size }
 
+-- the text that was scanned
+pub scanned_is : (s : Source) (stop : Stop) (has : HasScanned s stop) → s.state.scan.stop ≡ byte_len has.scans.read → scanned_text s ≡ encode_utf8_all has.scans.read
+scanned_is s stop has size = ap (λ (n : ℕ). take n (drop s.state.place s.characters.now)) size ∙ ap (take (byte_len has.scans.read)) (sym has.scans.spell) ∙ take-append_seam (encode_utf8_all has.scans.read) has.scans.rest
+
+pub is_line_text : (s : Source) (stop : Stop) (has : HasScanned s stop) (end_len : ℕ) (u : List Piece) → IsScannedLine (line_start (first_mode s.state.place)) s.state.scan has.scans.read end_len u → AreLineText (scanned_text s) u
+is_line_text s stop has end_len u line = subst (λ t. AreLineText t u) (sym (scanned_is s stop has line.stop)) (line_text (line_start (first_mode s.state.place)) s.state.scan has.scans.read end_len u has.scans.scalars line)
+
 -- the logical line that was scanned
-given_line : (old mid new : Source) (stop : Stop) (has : HasScanned old stop) (end_len : ℕ) (u : List Piece) → IsScannedLine (line_start (first_mode old.state.place)) mid.state.scan has.scans.read end_len u → mid.state.place ≡ old.state.place → mid.characters ≡ old.characters → mid.state.scan.line ≡ old.state.scan.line → GivesLine mid end_len new → line_of_source new ≡ line_of old.state.place old.state.line u
-given_line old mid new stop has end_len u line place characters same gives =
-    let start : new.start ≡ old.state.place = gives.start ∙ place in
-    let number : new.state.scan.line ≡ old.state.line = ap (λ (s : LineState). s.scan.line) gives.state ∙ same ∙ has.line in
-    let size : new.state.place - new.start ≡ byte_len has.scans.read = omega (arith, ap (λ (s : LineState). s.place) gives.state, gives.start, line.stop, place) in
+given_line : (old new : Source) (stop : Stop) (has : HasScanned old stop) (end_len : ℕ) (u : List Piece) → IsScannedLine (line_start (first_mode old.state.place)) old.state.scan has.scans.read end_len u → GivesTokens old end_len new → line_of_source new ≡ line_of old.state.place old.state.line u
+given_line old new stop has end_len u line gives =
+    let start = gives.start in
+    let number : new.state.scan.line ≡ old.state.line = ap (λ (s : LineState). s.scan.line) gives.state ∙ has.line in
+    let size : new.state.place - new.start ≡ old.state.scan.stop = omega (arith, ap (λ (s : LineState). s.place) gives.state, start) in
     let text : take (new.state.place - new.start) (drop new.start new.characters.now) ≡ encode_utf8_all (spelled u)
-    = ap (λ (n : ℕ). take n (drop new.start new.characters.now)) size ∙ ap (λ (n : ℕ). take (byte_len has.scans.read) (drop n new.characters.now)) start ∙ ap (λ (b : Bor (List ℕ)). take (byte_len has.scans.read) (drop old.state.place b.now)) (gives.characters ∙ characters)
-    ∙ ap (take (byte_len has.scans.read)) (sym has.scans.spell) ∙ take-append_seam (encode_utf8_all has.scans.read) has.scans.rest ∙ ap encode_utf8_all (sym line.line.spell) in
-    let kind = ap (λ (s : LineState). s.scan.kind) gives.state ∙ line.kind in
-    let tokens = ap (λ (s : LineState). s.scan.tokens.items) gives.state ∙ line.tokens ∙ ap (λ (n : ℕ). tokens_from 0 n u) (same ∙ has.line) in
-    let indent = ap (λ (s : LineState). s.scan.indent) gives.state ∙ line.indent in
+    = ap (λ (n : ℕ). take n (drop new.start new.characters.now)) size ∙ ap (λ (n : ℕ). take old.state.scan.stop (drop n new.characters.now)) start ∙ ap (λ (b : Bor (List ℕ)). take old.state.scan.stop (drop old.state.place b.now)) gives.characters
+    ∙ scanned_is old stop has line.stop ∙ ap encode_utf8_all (sym line.line.spell) in
+    let are = gives.tokens u (is_line_text old stop has end_len u line) in
+    let kind = are.kind in
+    let tokens = are.tokens in
+    let indent = are.indent in
     let ends = gives.ends ∙ line.ends in
     λ i. record { kind = kind i; text = text i; tokens = tokens i; offset = start i; line = number i; indent = indent i; end_len = ends i }
 
 -- its tokens lie in it
-lie_in_line : (new : Source) (offset number : ℕ) (u : List Piece) → line_of_source new ≡ line_of offset number u → all_scalars (spelled u) ≡ true → EachLiesIn (line_of_source new).text new.state.scan.tokens.items
+lie_in_line : (new : Source) (offset number : ℕ) (u : List Piece) → line_of_source new ≡ line_of offset number u → all_scalars (spelled u) ≡ true → EachLiesIn (line_of_source new).text new.state.tokens.tokens.items
 lie_in_line new offset number u is scalars = subst (λ (l : LogicalLine). EachLiesIn l.text l.tokens) (sym is) (tokens_lie number u scalars)
 
 -- what a line that was read whole continues
@@ -127,16 +149,16 @@ module _ (old : Source) (new : Reader) (read rest : List ℕ) (u : List Piece) (
       }
 
 -- one more line was given
-pub continues : (old mid new : Source) (stop : Stop) (has : HasScanned old stop) (end_len : ℕ) (u : List Piece) → IsScannedLine (line_start (first_mode old.state.place)) mid.state.scan has.scans.read end_len u → mid.bytes ≡ old.bytes → mid.state.place ≡ old.state.place → mid.state.fault ≡ old.state.fault → mid.characters ≡ old.characters → mid.state.scan.line ≡ old.state.scan.line → GivesLine mid end_len new
+pub continues : (old new : Source) (stop : Stop) (has : HasScanned old stop) (end_len : ℕ) (u : List Piece) → IsScannedLine (line_start (first_mode old.state.place)) old.state.scan has.scans.read end_len u → GivesTokens old end_len new
     → ((lines : List LogicalLine) (s : Situation (reader_of old) old.characters.now lines has.scans.read has.scans.rest) → AreReadBefore u s.after)
     → ((lines : List LogicalLine) (s : Situation (reader_of old) old.characters.now lines has.scans.read has.scans.rest) → IsEnded u (s.after ++ s.given.first.tail ≡ []))
-    → Continues (reader_of old) (line_of_source new) (reader_of new) × EachLiesIn (line_of_source new).text new.state.scan.tokens.items
-continues old mid new stop has end_len u line bytes place fault characters same gives fit ended =
-    let is = given_line old mid new stop has end_len u line place characters same gives in
-    let text : new.bytes.now ≡ old.bytes.now = ap (λ (b : Bor (List ℕ)). b.now) (gives.bytes ∙ bytes) in
-    let here : new.state.place ≡ old.state.place + byte_len has.scans.read = ap (λ (s : LineState). s.place) gives.state ∙ ap (λ (n : ℕ). n + mid.state.scan.stop) place ∙ ap (λ (n : ℕ). old.state.place + n) line.stop in
-    let no_fault : new.state.fault ≡ None = ap (λ (s : LineState). s.fault) gives.state ∙ fault ∙ has.no_fault in
-    let reached : new.state.line ≡ old.state.line + line_ends has.scans.read = ap (λ (s : LineState). s.line) gives.state ∙ line.here ∙ ap (λ (n : ℕ). n + line_ends has.scans.read) (same ∙ has.line) in
+    → Continues (reader_of old) (line_of_source new) (reader_of new) × EachLiesIn (line_of_source new).text new.state.tokens.tokens.items
+continues old new stop has end_len u line gives fit ended =
+    let is = given_line old new stop has end_len u line gives in
+    let text : new.bytes.now ≡ old.bytes.now = ap (λ (b : Bor (List ℕ)). b.now) gives.bytes in
+    let here : new.state.place ≡ old.state.place + byte_len has.scans.read = ap (λ (s : LineState). s.place) gives.state ∙ ap (λ (n : ℕ). old.state.place + n) line.stop in
+    let no_fault : new.state.fault ≡ None = ap (λ (s : LineState). s.fault) gives.state ∙ has.no_fault in
+    let reached : new.state.line ≡ old.state.line + line_ends has.scans.read = ap (λ (s : LineState). s.line) gives.state ∙ line.here ∙ ap (λ (n : ℕ). n + line_ends has.scans.read) has.line in
     let within : new.state.place ≤ length new.bytes.now = omega (arith, new.within, ap length new.prefix, length-take (length new.characters.now) new.bytes.now) in (
       subst (λ (l : LogicalLine). Continues (reader_of old) l (reader_of new)) (sym is) (continues_as old (reader_of new) has.scans.read has.scans.rest u has.scans.scalars has.scans.spell has.more has.no_fault line.line text here within reached no_fault fit ended),
       lie_in_line new old.state.place old.state.line u is (ap all_scalars line.line.spell ∙ has.scans.scalars),
@@ -183,20 +205,19 @@ line_at_end m scan read rest len at after is =
       };
       stop = t.counts.stop ∙ ap byte_len spell;
       here = t.counts.here ∙ ap (λ l. scan.line + line_ends l) spell;
-      tokens = t.counts.tokens;
-      kind = t.counts.kind;
-      indent = t.counts.indent;
       ends = at.are.size ∙ sym (end_len-push at.body at.last at.are.class);
+      after = after;
+      fit = at.fit after is;
     }
 
 pub line_ended : (old : Source) (len : ℕ) (has : HasScanned old (stops.LineEnd len)) → IsScannedLine (line_start (first_mode old.state.place)) old.state.scan has.scans.read len (has.scans.stops.body ++ has.scans.stops.last ∷ [])
 line_ended old len has = line_at_end (first_mode old.state.place) old.state.scan has.scans.read has.scans.rest len has.scans.stops (has_after old len has) (after_is old len has)
 
 -- a line that its line end closed
-pub continues_line : (old new : Source) (len : ℕ) (has : HasScanned old (stops.LineEnd len)) → GivesLine old len new → Continues (reader_of old) (line_of_source new) (reader_of new) × EachLiesIn (line_of_source new).text new.state.scan.tokens.items
+pub continues_line : (old new : Source) (len : ℕ) (has : HasScanned old (stops.LineEnd len)) → GivesTokens old len new → Continues (reader_of old) (line_of_source new) (reader_of new) × EachLiesIn (line_of_source new).text new.state.tokens.tokens.items
 continues_line old new len has gives =
     let at = has.scans.stops in
-    continues old old new (stops.LineEnd len) has len (at.body ++ at.last ∷ []) (line_ended old len has) refl refl refl refl refl gives (λ lines s. at.fit s.after s.follow) (λ lines s. IsEnded.by_line at.body at.last refl at.are.class at.are.level)
+    continues old new (stops.LineEnd len) has len (at.body ++ at.last ∷ []) (line_ended old len has) gives (λ lines s. at.fit s.after s.follow) (λ lines s. IsEnded.by_line at.body at.last refl at.are.class at.are.level)
 
 pub few_lines_line : (old : Source) (len : ℕ) (has : HasScanned old (stops.LineEnd len)) → old.state.scan.count.line ≤ old.state.place + old.state.scan.stop + 1
 few_lines_line old len has =

@@ -29,7 +29,7 @@ use Rattle.py_lines.proofs.LineScan.LineSteps.{follows_whole, returned_fit, soun
 use Rattle.py_lines.proofs.LineScan.PieceEnd.{no_class_bracket}
 use Rattle.py_lines.proofs.LineScan.TextSteps.{begun_sound}
 use Rattle.py_lines.proofs.LogicalLines.Cuts.{one_line}
-use Rattle.py_lines.proofs.SimpleLines.Code.{return_returns}
+use Rattle.py_lines.proofs.SimpleLines.Tails.{return_returns}
 use Rattle.py_lines.proofs.SimpleLines.Lines.{lines_few, lines_scalars}
 use Rattle.py_lines.proofs.Readers.LineAnswers.{IsReadLine, continues_as}
 

@@ -50,7 +50,7 @@ within_less (suc n) d e small host text is =
           (λ ps passes. pieces_less (ShallowWithin n) (within_less n) (d + 1) (e + 1) ps more passes) host text is.1,
     )
 
-fields_less : (d e : ℕ) → d ≤ e → Within (ShallowFields e) (ShallowFields d)
+pub fields_less : (d e : ℕ) → d ≤ e → Within (ShallowFields e) (ShallowFields d)
 fields_less d e small host text is = (is.0, within_less is.0 d e small host text is.1)
 
 -- the depth from further in is no more than that much greater

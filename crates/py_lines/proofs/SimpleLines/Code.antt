@@ -16,11 +16,11 @@ use Rattle.py_lines.specs.declared.mode.Move.TheVariants as moves
 use Rattle.py_lines.specs.declared.mode.Start.{Start}
 use Rattle.py_lines.specs.declared.mode.Start.TheVariants as starts
 use Rattle.py_lines.specs.Private.Machine.{Scanned, fresh, moved, started, start_of, first_spelling, spelling_with, Bracket, brackets_after, brackets_of, move_of}
-use Rattle.py_lines.specs.Private.ScanMachine.{IsScanSound, meet_of, scan_step, scan_steps}
-use Rattle.py_lines.specs.Private.Scan.{AreLine, EndsNoLine, counts_after, line_start}
+use Rattle.py_lines.specs.Private.ScanMachine.{meet_of, scan_step, scan_steps}
+use Rattle.py_lines.specs.Private.Scan.{AreLine, EndsNoLine, counts_after, line_start, none_open}
 use Rattle.py_lines.specs.Private.Run.{is_ascii_word}
 use Rattle.py_lines.specs.Private.FieldText.{is_apart_mode, is_code_mode}
-use Rattle.py_lines.specs.Private.Outline.{BeginOther, HoldsLineEnds, HasCome, GoesOnAfter, EndsBefore, StandsBefore, IsAfterLineEnd, IsOuterEnd, IsTail, line_end_of, tail_of, tail_on, tail_with}
+use Rattle.py_lines.specs.Private.Outline.{BeginOther, HoldsLineEnds, HasCome, GoesOnAfter, IsFreeAfter, EndsBefore, StandsBefore, IsAfterLineEnd, IsOuterEnd, IsTail, line_end_of, tail_of, tail_on, tail_with}
 use Rattle.py_lines.proofs.Pieces.PieceLists.{piece}
 use Rattle.py_lines.proofs.Machine.Starts.{start-word, start-space, start-operator, start-feed, start-return}
 use Rattle.py_lines.proofs.Machine.PieceSteps.{scanned, pieces_at}
@@ -29,12 +29,13 @@ use Rattle.py_lines.proofs.ScanMachine.Steps.{breaks_in}
 use Rattle.py_lines.proofs.LineScan.BracketStack.{keeps_at}
 use Rattle.py_lines.proofs.LineScan.Increments.{EndsNoLine-push, line_ends-step, stack_push}
 use Rattle.py_lines.proofs.LineScan.LineCount.{ends-last}
-use Rattle.py_lines.proofs.LineScan.LineSteps.{sound_steps, steps_push}
+use Rattle.py_lines.proofs.LineScan.LineSteps.{steps_push}
 use Rattle.py_lines.proofs.LineScan.NextCharacter.{closed_one_line, depth_none, none_level}
 use Rattle.py_lines.proofs.LineScan.PieceEnd.{closed_text}
 use Rattle.py_lines.proofs.LineScan.Runs.{break_low, ends-run, line_ends-run, space_low, word_byte_continues, word_byte_low}
-use Rattle.py_lines.proofs.LineScan.ShortPieces.{ascii_scalar, free_breaks, operator-no_break, operator-not-quote, word_starts, word_whole, space-not-quote, space_whole}
+use Rattle.py_lines.proofs.LineScan.AsciiRuns.{ascii_scalar, free_breaks, operator-no_break, operator-not-quote, word_starts, word_whole, space-not-quote, space_whole}
 use Rattle.py_lines.proofs.LineScan.TextSteps.{begun_sound}
+use Rattle.py_lines.proofs.SimpleLines.Tails.{apart_tail, come_sound, feed-no-word, feed_unreturned, free_goes_on, free_stands, no_tail, no_tail_with, operator-no-word, return_returns, stands, tail_on-append, tail_push}
 use Rattle.py_lines.proofs.Text.CharacterTests.{break-not-quote, excluded, feed_from, feed_is, none_of, operator_ascii}
 use Rattle.py_lines.proofs.Text.Utf8Prefixes.{all_scalars-append}
 use Rattle.py_lines.proofs.Text.Utf8Shapes.{one, two, three, four}
@@ -52,20 +53,8 @@ pub quote-not-space : (c : ℕ) → is_quote c ≡ true → is_space c ≡ false
 unfolding is_quote is_space
 quote-not-space c h = none_of is_space (codes "'\"") c refl h
 
-pub quote-no-word : (c : ℕ) → is_quote c ≡ true → is_ascii_word c ≡ false
-unfolding is_quote is_ascii_word
-quote-no-word c h = none_of is_ascii_word (codes "'\"") c refl h
-
 space-no-word : (c : ℕ) → is_space c ≡ true → is_ascii_word c ≡ false
 space-no-word c is = excluded is_space is_ascii_word c (word-not-space c) is
-
-operator-no-word : (c : ℕ) → is_operator c ≡ true → is_ascii_word c ≡ false
-unfolding is_operator is_ascii_word
-operator-no-word c is = none_of is_ascii_word (codes "+-*/%@&|^~<>=!()[]{},:.;") c refl is
-
-feed-no-word : is_ascii_word 10 ≡ false
-unfolding is_ascii_word
-feed-no-word = refl
 
 return-no-word : is_ascii_word 13 ≡ false
 unfolding is_ascii_word
@@ -96,14 +85,6 @@ return_counts after = refl
 returned_feed_counts : counts_after true 10 ≡ 0
 unfolding counts_after is_return is_line_feed
 returned_feed_counts = refl
-
-pub feed_unreturned : is_return 10 ≡ false
-unfolding is_return
-feed_unreturned = refl
-
-pub return_returns : is_return 13 ≡ true
-unfolding is_return
-return_returns = refl
 
 pub holds_return : (read : List ℕ) (n : ℕ) → HoldsLineEnds read n → HoldsLineEnds (read ++ 13 ∷ []) (n + 1)
 holds_return read n holds = record {
@@ -137,37 +118,14 @@ pub line_end_unreturned : (returned : Bool) (read : List ℕ) → ends is_return
 line_end_unreturned false read = ends-last is_return read 10 ∙ feed_unreturned
 line_end_unreturned true read = ap (ends is_return) (sym (append_assoc read (13 ∷ []) (10 ∷ []))) ∙ ends-last is_return (read ++ 13 ∷ []) 10 ∙ feed_unreturned
 
--- where the machine has come, it is sound
-pub come_sound : (read : List ℕ) (n : ℕ) (st : List Bracket) (s : Scanned) → HasCome read n st s → IsScanSound s read
-come_sound read n st s come = sound_steps modes.Free read s (begun_sound 1) come.steps
-
 -- the pieces where the open one is closed
-closed_spells : (read : List ℕ) (n : ℕ) (st : List Bracket) (s : Scanned) → HasCome read n st s → spelled (pieces_at s) ≡ read
-closed_spells read n st s come =
-    let sound = come_sound read n st s come in
+closed_spells : (initial : Mode) (read : List ℕ) (n : ℕ) (st : List Bracket) (s : Scanned) → HasCome initial read n st s → spelled (pieces_at s) ≡ read
+closed_spells initial read n st s come =
+    let sound = come_sound initial read n st s come in
     closed_text s.mode s.done s.held sound.holds ∙ sound.spell
 
-closed_place : (read : List ℕ) (n : ℕ) (st : List Bracket) (s : Scanned) → HasCome read n st s → byte_len (spelled (pieces_at s)) ≡ byte_len read
-closed_place read n st s come = ap byte_len (closed_spells read n st s come)
-
--- the word that a text ends with
-pub tail_on-append : (t : Option Spelling) (xs ys : List ℕ) → tail_on t (xs ++ ys) ≡ tail_on (tail_on t xs) ys
-tail_on-append t [] ys = refl
-tail_on-append t (x ∷ xs) ys = tail_on-append (tail_with t x) xs ys
-
-pub tail_push : (read : List ℕ) (c : ℕ) → tail_of (read ++ c ∷ []) ≡ tail_with (tail_of read) c
-tail_push read c = tail_on-append None read (c ∷ [])
-
-pub no_tail_with : (t : Option Spelling) (c : ℕ) → is_ascii_word c ≡ false → tail_with t c ≡ None
-no_tail_with None c none = rw none refl
-no_tail_with (Some s) c none = rw none refl
-
-pub no_tail : (read : List ℕ) (c : ℕ) → is_ascii_word c ≡ false → tail_of (read ++ c ∷ []) ≡ None
-no_tail read c none = tail_push read c ∙ no_tail_with (tail_of read) c none
-
--- whether it is open
-pub apart_tail : (t : Option Spelling) (m : Mode) → is_apart_mode m ≡ true → t ≡ None → IsTail t m
-apart_tail t m apart none = subst (λ (u : Option Spelling). IsTail u m) (sym none) apart
+closed_place : (initial : Mode) (read : List ℕ) (n : ℕ) (st : List Bracket) (s : Scanned) → HasCome initial read n st s → byte_len (spelled (pieces_at s)) ≡ byte_len read
+closed_place initial read n st s come = ap byte_len (closed_spells initial read n st s come)
 
 apart_code : (m : Mode) → is_apart_mode m ≡ true → is_code_mode m ≡ true
 apart_code modes.Free h = refl
@@ -200,7 +158,7 @@ begin : (s : Scanned) (c : ℕ) (start : Start) → meet_of s.mode c ≡ moves.B
 begin s c start breaks is = ap (moved s c) (breaks_in s.mode (depth_through 0 s.done) s.held c breaks) ∙ ap (started (pieces_at s) c) is
 
 -- a character begins a piece, after one that ends before it
-module _ (read : List ℕ) (n : ℕ) (st : List Bracket) (c : ℕ) (on : EndsBefore c read n st) where
+module _ (initial : Mode) (read : List ℕ) (n : ℕ) (st : List Bracket) (c : ℕ) (on : EndsBefore c initial read n st) where
   abbrev pub pieces : List Piece
   pieces = pieces_at on.state
 
@@ -210,31 +168,28 @@ module _ (read : List ℕ) (n : ℕ) (st : List Bracket) (c : ℕ) (on : EndsBef
   pub closed_line : EndsNoLine 0 pieces
   closed_line = closed_one_line on.state.mode on.state.done on.state.held st on.come.stacked on.come.one_line on.inside
 
-  begins_as : (start : Start) → start_of c ≡ start → scan_steps (Some (line_start modes.Free)) (read ++ c ∷ []) ≡ started pieces c start
-  begins_as start is = steps_push (line_start modes.Free) read on.state c on.come.steps ∙ begin on.state c start on.breaks is
+  begins_as : (start : Start) → start_of c ≡ start → scan_steps (Some (line_start initial)) (read ++ c ∷ []) ≡ started pieces c start
+  begins_as start is = steps_push (line_start initial) read on.state c on.come.steps ∙ begin on.state c start on.breaks is
 
   -- it stays open
-  pub opens : (m : Mode) → start_of c ≡ starts.Open m → HoldsLineEnds (read ++ c ∷ []) n → HasCome (read ++ c ∷ []) n st (scanned pieces m (c ∷ []))
-  opens m is holds = record { steps = begins_as (starts.Open m) is; stacked = closed_stack; one_line = closed_line; holds = holds }
+  pub opens : (m : Mode) → start_of c ≡ starts.Open m → HoldsLineEnds (read ++ c ∷ []) n → HasCome initial (read ++ c ∷ []) n st (scanned pieces m (c ∷ []))
+  opens m is holds = record { start = on.come.start; steps = begins_as (starts.Open m) is; stacked = closed_stack; one_line = closed_line; holds = holds }
 
-  -- it is an operator, which the brackets allow
-  pub operator_passed : (after : List Bracket) → is_operator c ≡ true → brackets_after st (byte_len read) (piece operator (c ∷ [])) ≡ Some after → GoesOnAfter (read ++ c ∷ []) n after
-  operator_passed after is stands = record {
-    state = fresh (pieces ++ piece operator (c ∷ []) ∷ []);
+  -- it is an operator, which the brackets allow: no piece is open then
+  pub operator_closes : (after : List Bracket) → is_operator c ≡ true → brackets_after st (byte_len read) (piece operator (c ∷ [])) ≡ Some after → IsFreeAfter initial (read ++ c ∷ []) n after
+  operator_closes after is may = record {
+    done = pieces ++ piece operator (c ∷ []) ∷ [];
     come = record {
+      start = on.come.start;
       steps = begins_as starts.Operator (start-operator c is);
-      stacked = stack_push pieces (piece operator (c ∷ [])) st closed_stack ∙ ap (λ (k : ℕ). brackets_after st k (piece operator (c ∷ []))) (closed_place read n st on.state on.come) ∙ stands;
+      stacked = stack_push pieces (piece operator (c ∷ [])) st closed_stack ∙ ap (λ (k : ℕ). brackets_after st k (piece operator (c ∷ []))) (closed_place initial read n st on.state on.come) ∙ may;
       one_line = EndsNoLine-push 0 pieces (piece operator (c ∷ [])) closed_line refl;
       holds = holds_one read c n on.come.holds (operator_ascii c is) (operator-no_break c is);
     };
-    tail = apart_tail (tail_of (read ++ c ∷ [])) modes.Free refl (no_tail read c (operator-no-word c is));
-    unreturned = one_unreturned read c (operator-no_break c is);
   }
 
--- a line that goes on, before whatever follows
-pub stands : (rest read : List ℕ) (n : ℕ) (st : List Bracket) → GoesOnAfter read n st → StandsBefore rest read n st
-stands [] read n st on = on
-stands (c ∷ rest) read n st on = inl on
+  pub operator_passed : (after : List Bracket) → is_operator c ≡ true → brackets_after st (byte_len read) (piece operator (c ∷ [])) ≡ Some after → GoesOnAfter initial (read ++ c ∷ []) n after
+  operator_passed after is may = free_goes_on initial (read ++ c ∷ []) n after (operator_closes after is may)
 
 -- a line end
 feed_is_feed : is_line_feed 10 ≡ true
@@ -244,25 +199,25 @@ return_closes : meet_of modes.Return 10 ≡ moves.Closes
 unfolding meet_of move_of
 return_closes = rw feed_is_feed refl
 
-return_opens : (read : List ℕ) (n : ℕ) (st : List Bracket) (on : EndsBefore 13 read n st) → scan_steps (Some (line_start modes.Free)) (read ++ 13 ∷ []) ≡ Some (scanned (pieces read n st 13 on) modes.Return (13 ∷ []))
-return_opens read n st on = begins_as read n st 13 on (starts.Open modes.Return) (start-return 13 return_returns)
+return_opens : (initial : Mode) (read : List ℕ) (n : ℕ) (st : List Bracket) (on : EndsBefore 13 initial read n st) → scan_steps (Some (line_start initial)) (read ++ 13 ∷ []) ≡ Some (scanned (pieces initial read n st 13 on) modes.Return (13 ∷ []))
+return_opens initial read n st on = begins_as initial read n st 13 on (starts.Open modes.Return) (start-return 13 return_returns)
 
-line_end_steps : (returned : Bool) (read : List ℕ) (n : ℕ) (st : List Bracket) (on : EndsBefore (line_end_first returned) read n st)
-    → scan_steps (Some (line_start modes.Free)) (read ++ line_end_of returned) ≡ Some (fresh (pieces read n st (line_end_first returned) on ++ piece line_end (line_end_of returned) ∷ []))
-line_end_steps false read n st on = begins_as read n st 10 on starts.LineEnd (start-feed 10 feed_is_feed)
-line_end_steps true read n st on =
-    let open_return : Scanned = scanned (pieces read n st 13 on) modes.Return (13 ∷ []) in
-    ap (scan_steps (Some (line_start modes.Free))) (sym (append_assoc read (13 ∷ []) (10 ∷ [])))
-    ∙ steps_push (line_start modes.Free) (read ++ 13 ∷ []) open_return 10 (return_opens read n st on)
+pub line_end_steps : (returned : Bool) (initial : Mode) (read : List ℕ) (n : ℕ) (st : List Bracket) (on : EndsBefore (line_end_first returned) initial read n st)
+    → scan_steps (Some (line_start initial)) (read ++ line_end_of returned) ≡ Some (fresh (pieces initial read n st (line_end_first returned) on ++ piece line_end (line_end_of returned) ∷ []))
+line_end_steps false initial read n st on = begins_as initial read n st 10 on starts.LineEnd (start-feed 10 feed_is_feed)
+line_end_steps true initial read n st on =
+    let open_return : Scanned = scanned (pieces initial read n st 13 on) modes.Return (13 ∷ []) in
+    ap (scan_steps (Some (line_start initial))) (sym (append_assoc read (13 ∷ []) (10 ∷ [])))
+    ∙ steps_push (line_start initial) (read ++ 13 ∷ []) open_return 10 (return_opens initial read n st on)
     ∙ ap (moved open_return 10) return_closes
 
-line_is : (read : List ℕ) (n c : ℕ) (on : EndsBefore c read n []) (text : List ℕ) → AreLine (pieces read n [] c on) (piece line_end text) (byte_len text)
-line_is read n c on text =
-    let stack = closed_stack read n [] c on in
+pub line_is : (initial : Mode) (read : List ℕ) (n c : ℕ) (on : EndsBefore c initial read n []) (text : List ℕ) → AreLine (pieces initial read n [] c on) (piece line_end text) (byte_len text)
+line_is initial read n c on text =
+    let stack = closed_stack initial read n [] c on in
     record {
-      one_line = closed_line read n [] c on;
+      one_line = closed_line initial read n [] c on;
       class = refl;
-      level = none_level (pieces read n [] c on) [] stack refl;
+      level = none_level (pieces initial read n [] c on) [] stack refl;
       paired = stack;
       size = refl;
     }
@@ -271,36 +226,38 @@ pub no_tail_line_end : (returned : Bool) (read : List ℕ) → tail_of (read ++ 
 no_tail_line_end false read = no_tail read 10 feed-no-word
 no_tail_line_end true read = ap tail_of (sym (append_assoc read (13 ∷ []) (10 ∷ []))) ∙ no_tail (read ++ 13 ∷ []) 10 feed-no-word
 
-line_end_passed : (returned : Bool) (after read : List ℕ) (n : ℕ) (st : List Bracket) → EndsBefore (line_end_first returned) read n st → IsAfterLineEnd st (read ++ line_end_of returned) (n + 1) after
+pub line_end_inside : (returned : Bool) (initial : Mode) (read : List ℕ) (n : ℕ) (st : List Bracket) → EndsBefore (line_end_first returned) initial read n st → none_open st ≡ false → IsFreeAfter initial (read ++ line_end_of returned) (n + 1) st
+line_end_inside returned initial read n [] on some = absurd (both_ways _ some refl)
+line_end_inside returned initial read n (b ∷ bs) on some =
+    let stack = closed_stack initial read n (b ∷ bs) (line_end_first returned) on in
+    let done = pieces initial read n (b ∷ bs) (line_end_first returned) on in
+    record {
+      done = done ++ piece line_end (line_end_of returned) ∷ [];
+      come = record {
+        start = on.come.start;
+        steps = line_end_steps returned initial read n (b ∷ bs) on;
+        stacked = keeps done (piece line_end (line_end_of returned)) (b ∷ bs) refl refl stack;
+        one_line = EndsNoLine-push 0 done (piece line_end (line_end_of returned)) (closed_line initial read n (b ∷ bs) (line_end_first returned) on) (depth_none done (b ∷ bs) stack);
+        holds = holds_line_end returned read n on.come.holds on.parted;
+      };
+    }
+
+line_end_passed : (returned : Bool) (after : List ℕ) (read : List ℕ) (n : ℕ) (st : List Bracket) → EndsBefore (line_end_first returned) modes.Free read n st → IsAfterLineEnd st (read ++ line_end_of returned) (n + 1) after
 line_end_passed returned after read n [] on =
-    let done = pieces read n [] (line_end_first returned) on in
+    let done = pieces modes.Free read n [] (line_end_first returned) on in
     record {
       body = done;
       last = piece line_end (line_end_of returned);
       len = byte_len (line_end_of returned);
-      are = line_is read n (line_end_first returned) on (line_end_of returned);
+      are = line_is modes.Free read n (line_end_first returned) on (line_end_of returned);
       state = fresh (done ++ piece line_end (line_end_of returned) ∷ []);
-      steps = line_end_steps returned read n [] on;
+      steps = line_end_steps returned modes.Free read n [] on;
       ended = inl refl;
       whole = inl (line_end_unreturned returned read);
       holds = holds_line_end returned read n on.come.holds on.parted;
       tail = no_tail_line_end returned read;
     }
-line_end_passed returned after read n (b ∷ bs) on =
-    let stack = closed_stack read n (b ∷ bs) (line_end_first returned) on in
-    let done = pieces read n (b ∷ bs) (line_end_first returned) on in
-    stands after (read ++ line_end_of returned) (n + 1) (b ∷ bs)
-    (record {
-      state = fresh (done ++ piece line_end (line_end_of returned) ∷ []);
-      come = record {
-        steps = line_end_steps returned read n (b ∷ bs) on;
-        stacked = keeps done (piece line_end (line_end_of returned)) (b ∷ bs) refl refl stack;
-        one_line = EndsNoLine-push 0 done (piece line_end (line_end_of returned)) (closed_line read n (b ∷ bs) (line_end_first returned) on) (depth_none done (b ∷ bs) stack);
-        holds = holds_line_end returned read n on.come.holds on.parted;
-      };
-      tail = apart_tail (tail_of (read ++ line_end_of returned)) modes.Free refl (no_tail_line_end returned read);
-      unreturned = line_end_unreturned returned read;
-    })
+line_end_passed returned after read n (b ∷ bs) on = free_stands after modes.Free (read ++ line_end_of returned) (n + 1) (b ∷ bs) (line_end_inside returned modes.Free read n (b ∷ bs) on refl)
 
 -- CR alone, before another byte: the machine holds it yet
 return_waits : (c : ℕ) → (c ≡ 10 → ⊥) → meet_of modes.Return c ≡ moves.Breaks
@@ -310,28 +267,29 @@ return_waits c other = rw (false_from_ne_true (is_line_feed c) (λ feeds. other 
 pub no_tail_return : (read : List ℕ) → tail_of (read ++ 13 ∷ []) ≡ None
 no_tail_return read = no_tail read 13 return-no-word
 
-return_passed : (after read : List ℕ) (n : ℕ) (st : List Bracket) → BeginOther after → EndsBefore 13 read n st → IsAfterLineEnd st (read ++ 13 ∷ []) (n + 1) after
+return_passed : (after : List ℕ) (read : List ℕ) (n : ℕ) (st : List Bracket) → BeginOther after → EndsBefore 13 modes.Free read n st → IsAfterLineEnd st (read ++ 13 ∷ []) (n + 1) after
 return_passed [] read n st other on = absurd other
 return_passed (c ∷ cs) read n [] other on =
-    let done = pieces read n [] 13 on in
+    let done = pieces modes.Free read n [] 13 on in
     record {
       body = done;
       last = piece line_end (13 ∷ []);
       len = byte_len (13 ∷ []);
-      are = line_is read n 13 on (13 ∷ []);
+      are = line_is modes.Free read n 13 on (13 ∷ []);
       state = scanned done modes.Return (13 ∷ []);
-      steps = return_opens read n [] on;
+      steps = return_opens modes.Free read n [] on;
       ended = inr (refl, refl);
       whole = inr (c, cs, refl, other);
       holds = holds_return read n on.come.holds;
       tail = no_tail_return read;
     }
 return_passed (c ∷ cs) read n (b ∷ bs) other on = inr (record {
-  state = scanned (pieces read n (b ∷ bs) 13 on) modes.Return (13 ∷ []);
+  state = scanned (pieces modes.Free read n (b ∷ bs) 13 on) modes.Return (13 ∷ []);
   come = record {
-    steps = return_opens read n (b ∷ bs) on;
-    stacked = closed_stack read n (b ∷ bs) 13 on;
-    one_line = closed_line read n (b ∷ bs) 13 on;
+    start = on.come.start;
+    steps = return_opens modes.Free read n (b ∷ bs) on;
+    stacked = closed_stack modes.Free read n (b ∷ bs) 13 on;
+    one_line = closed_line modes.Free read n (b ∷ bs) 13 on;
     holds = holds_return read n on.come.holds;
   };
   breaks = return_waits c other;
@@ -346,8 +304,8 @@ neither true b none other = absurd (both_ways _ none refl)
 neither false b none other = other
 
 -- what code ends before
-pub code_ends : (read : List ℕ) (n : ℕ) (st : List Bracket) (c : ℕ) → GoesOnAfter read n st → is_word_character c ≡ false → is_quote c ≡ false → is_space c ≡ false → is_ascii_word c ≡ false → EndsBefore c read n st
-code_ends read n st c on word quote space none =
+pub code_ends : (initial : Mode) (read : List ℕ) (n : ℕ) (st : List Bracket) (c : ℕ) → GoesOnAfter initial read n st → is_word_character c ≡ false → is_quote c ≡ false → is_space c ≡ false → is_ascii_word c ≡ false → EndsBefore c initial read n st
+code_ends initial read n st c on word quote space none =
     let code = tail_code (tail_of read) on.state.mode on.tail in
     record {
       state = on.state;
@@ -378,14 +336,14 @@ unfolding is_break
 first-break true = refl
 first-break false = refl
 
-break_ends : (read : List ℕ) (n : ℕ) (st : List Bracket) (c : ℕ) → is_break c ≡ true → GoesOnAfter read n st → EndsBefore c read n st
-break_ends read n st c is on = code_ends read n st c on (break-not-word c is) (break-not-quote c is) (break-not-space c is) (break-no_word c is)
+break_ends : (initial : Mode) (read : List ℕ) (n : ℕ) (st : List Bracket) (c : ℕ) → is_break c ≡ true → GoesOnAfter initial read n st → EndsBefore c initial read n st
+break_ends initial read n st c is on = code_ends initial read n st c on (break-not-word c is) (break-not-quote c is) (break-not-space c is) (break-no_word c is)
 
 operator-not-word : (c : ℕ) → is_operator c ≡ true → is_word_character c ≡ false
 operator-not-word c is = word_byte_continues c (operator_ascii c is) ∙ operator-no-word c is
 
-pub operator_ends : (read : List ℕ) (n : ℕ) (st : List Bracket) (c : ℕ) → is_operator c ≡ true → GoesOnAfter read n st → EndsBefore c read n st
-operator_ends read n st c is on = code_ends read n st c on (operator-not-word c is) (operator-not-quote c is) (operator-not-space c is) (operator-no-word c is)
+pub operator_ends : (initial : Mode) (read : List ℕ) (n : ℕ) (st : List Bracket) (c : ℕ) → is_operator c ≡ true → GoesOnAfter initial read n st → EndsBefore c initial read n st
+operator_ends initial read n st c is on = code_ends initial read n st c on (operator-not-word c is) (operator-not-quote c is) (operator-not-space c is) (operator-no-word c is)
 
 -- a letter, digit or underscore
 word_grows : (s : Spelling) (c : ℕ) → is_ascii_word c ≡ true → meet_of (modes.Word s) c ≡ moves.Grows (modes.Word (spelling_with s c))
@@ -411,19 +369,20 @@ one_tail read c none is = tail_push read c ∙ ap (λ t. tail_with t c) none ∙
 more_tail : (read : List ℕ) (s : Spelling) (c : ℕ) → tail_of read ≡ Some s → is_ascii_word c ≡ true → tail_of (read ++ c ∷ []) ≡ Some (spelling_with s c)
 more_tail read s c some is = tail_push read c ∙ ap (λ t. tail_with t c) some ∙ rw is refl
 
-word_opens : (read : List ℕ) (n : ℕ) (st : List Bracket) (c : ℕ) → is_ascii_word c ≡ true → tail_of read ≡ None → EndsBefore c read n st → GoesOnAfter (read ++ c ∷ []) n st
-word_opens read n st c is none on = record {
-  state = scanned (pieces read n st c on) (modes.Word (first_spelling c)) (c ∷ []);
-  come = opens read n st c on (modes.Word (first_spelling c)) (start-word c (word_starts c is)) (word_holds read n c on.come.holds is);
+word_opens : (initial : Mode) (read : List ℕ) (n : ℕ) (st : List Bracket) (c : ℕ) → is_ascii_word c ≡ true → tail_of read ≡ None → EndsBefore c initial read n st → GoesOnAfter initial (read ++ c ∷ []) n st
+word_opens initial read n st c is none on = record {
+  state = scanned (pieces initial read n st c on) (modes.Word (first_spelling c)) (c ∷ []);
+  come = opens initial read n st c on (modes.Word (first_spelling c)) (start-word c (word_starts c is)) (word_holds read n c on.come.holds is);
   tail = subst (λ t. IsTail t (modes.Word (first_spelling c))) (sym (one_tail read c none is)) refl;
   unreturned = one_unreturned read c (word-not-break c is);
 }
 
-word_goes_on : (read : List ℕ) (n : ℕ) (st : List Bracket) (done : List Piece) (s : Spelling) (held : List ℕ) → tail_of read ≡ Some s → HasCome read n st (scanned done (modes.Word s) held) → (c : ℕ) → is_ascii_word c ≡ true → GoesOnAfter (read ++ c ∷ []) n st
-word_goes_on read n st done s held some come c is = record {
+word_goes_on : (initial : Mode) (read : List ℕ) (n : ℕ) (st : List Bracket) (done : List Piece) (s : Spelling) (held : List ℕ) → tail_of read ≡ Some s → HasCome initial read n st (scanned done (modes.Word s) held) → (c : ℕ) → is_ascii_word c ≡ true → GoesOnAfter initial (read ++ c ∷ []) n st
+word_goes_on initial read n st done s held some come c is = record {
   state = scanned done (modes.Word (spelling_with s c)) (held ++ c ∷ []);
   come = record {
-    steps = steps_push (line_start modes.Free) read (scanned done (modes.Word s) held) c come.steps ∙ ap (moved (scanned done (modes.Word s) held) c) (word_grows s c is);
+    start = come.start;
+    steps = steps_push (line_start initial) read (scanned done (modes.Word s) held) c come.steps ∙ ap (moved (scanned done (modes.Word s) held) c) (word_grows s c is);
     stacked = come.stacked;
     one_line = come.one_line;
     holds = word_holds read n c come.holds is;
@@ -432,8 +391,8 @@ word_goes_on read n st done s held some come c is = record {
   unreturned = one_unreturned read c (word-not-break c is);
 }
 
-word_passed : (read : List ℕ) (n : ℕ) (st : List Bracket) (t : Option Spelling) (s : Scanned) → tail_of read ≡ t → HasCome read n st s → IsTail t s.mode → ends is_return read ≡ false → (c : ℕ) → is_ascii_word c ≡ true → GoesOnAfter (read ++ c ∷ []) n st
-word_passed read n st None s none come apart unreturned c is = word_opens read n st c is none (record {
+word_passed : (initial : Mode) (read : List ℕ) (n : ℕ) (st : List Bracket) (t : Option Spelling) (s : Scanned) → tail_of read ≡ t → HasCome initial read n st s → IsTail t s.mode → ends is_return read ≡ false → (c : ℕ) → is_ascii_word c ≡ true → GoesOnAfter initial (read ++ c ∷ []) n st
+word_passed initial read n st None s none come apart unreturned c is = word_opens initial read n st c is none (record {
   state = s;
   come = come;
   breaks = apart_breaks s.mode c apart (word-not-space c is);
@@ -441,8 +400,8 @@ word_passed read n st None s none come apart unreturned c is = word_opens read n
   inside = λ returns. absurd (code_other s.mode (apart_code s.mode apart) returns);
   tail = λ _. none;
 })
-word_passed read n st (Some w) s some come tail unreturned c is =
-    word_goes_on read n st s.done w s.held some (subst (λ (m : Mode). HasCome read n st (scanned s.done m s.held)) tail come) c is
+word_passed initial read n st (Some w) s some come tail unreturned c is =
+    word_goes_on initial read n st s.done w s.held some (subst (λ (m : Mode). HasCome initial read n st (scanned s.done m s.held)) tail come) c is
 
 -- a space
 space_grows : (c : ℕ) → is_space c ≡ true → meet_of modes.Space c ≡ moves.Grows modes.Space
@@ -458,10 +417,10 @@ space-not-break c is = no_break_from c (space_whole c is)
 space_holds : (read : List ℕ) (n c : ℕ) → HoldsLineEnds read n → is_space c ≡ true → HoldsLineEnds (read ++ c ∷ []) n
 space_holds read n c holds is = holds_one read c n holds (space_low c is) (space-not-break c is)
 
-space_opens : (read : List ℕ) (n : ℕ) (st : List Bracket) (c : ℕ) → is_space c ≡ true → EndsBefore c read n st → GoesOnAfter (read ++ c ∷ []) n st
-space_opens read n st c is on = record {
-  state = scanned (pieces read n st c on) modes.Space (c ∷ []);
-  come = opens read n st c on modes.Space (start-space c is) (space_holds read n c on.come.holds is);
+space_opens : (initial : Mode) (read : List ℕ) (n : ℕ) (st : List Bracket) (c : ℕ) → is_space c ≡ true → EndsBefore c initial read n st → GoesOnAfter initial (read ++ c ∷ []) n st
+space_opens initial read n st c is on = record {
+  state = scanned (pieces initial read n st c on) modes.Space (c ∷ []);
+  come = opens initial read n st c on modes.Space (start-space c is) (space_holds read n c on.come.holds is);
   tail = apart_tail (tail_of (read ++ c ∷ [])) modes.Space refl (no_tail read c (space-no-word c is));
   unreturned = one_unreturned read c (space-not-break c is);
 }
@@ -470,8 +429,8 @@ word_ends : (s : Spelling) (c : ℕ) → is_word_character c ≡ false → is_qu
 unfolding meet_of
 word_ends s c word quote = rw (word, quote) refl
 
-space_begins : (read : List ℕ) (n : ℕ) (st : List Bracket) (done : List Piece) (m : Mode) (held : List ℕ) → HasCome read n st (scanned done m held) → is_code_mode m ≡ true → ends is_return read ≡ false → (c : ℕ) → is_space c ≡ true → meet_of m c ≡ moves.Breaks → GoesOnAfter (read ++ c ∷ []) n st
-space_begins read n st done m held come code unreturned c is breaks = space_opens read n st c is (record {
+space_begins : (initial : Mode) (read : List ℕ) (n : ℕ) (st : List Bracket) (done : List Piece) (m : Mode) (held : List ℕ) → HasCome initial read n st (scanned done m held) → is_code_mode m ≡ true → ends is_return read ≡ false → (c : ℕ) → is_space c ≡ true → meet_of m c ≡ moves.Breaks → GoesOnAfter initial (read ++ c ∷ []) n st
+space_begins initial read n st done m held come code unreturned c is breaks = space_opens initial read n st c is (record {
   state = scanned done m held;
   come = come;
   breaks = breaks;
@@ -480,11 +439,12 @@ space_begins read n st done m held come code unreturned c is breaks = space_open
   tail = λ begins. absurd (both_ways _ (neither _ _ (space-no-word c is) (space-not-quote c is)) begins);
 })
 
-space_passed : (read : List ℕ) (n : ℕ) (st : List Bracket) (done : List Piece) (m : Mode) (held : List ℕ) → HasCome read n st (scanned done m held) → is_code_mode m ≡ true → ends is_return read ≡ false → (c : ℕ) → is_space c ≡ true → GoesOnAfter (read ++ c ∷ []) n st
-space_passed read n st done modes.Space held come code unreturned c is = record {
+space_passed : (initial : Mode) (read : List ℕ) (n : ℕ) (st : List Bracket) (done : List Piece) (m : Mode) (held : List ℕ) → HasCome initial read n st (scanned done m held) → is_code_mode m ≡ true → ends is_return read ≡ false → (c : ℕ) → is_space c ≡ true → GoesOnAfter initial (read ++ c ∷ []) n st
+space_passed initial read n st done modes.Space held come code unreturned c is = record {
   state = scanned done modes.Space (held ++ c ∷ []);
   come = record {
-    steps = steps_push (line_start modes.Free) read (scanned done modes.Space held) c come.steps ∙ ap (moved (scanned done modes.Space held) c) (space_grows c is);
+    start = come.start;
+    steps = steps_push (line_start initial) read (scanned done modes.Space held) c come.steps ∙ ap (moved (scanned done modes.Space held) c) (space_grows c is);
     stacked = come.stacked;
     one_line = come.one_line;
     holds = space_holds read n c come.holds is;
@@ -492,58 +452,58 @@ space_passed read n st done modes.Space held come code unreturned c is = record 
   tail = apart_tail (tail_of (read ++ c ∷ [])) modes.Space refl (no_tail read c (space-no-word c is));
   unreturned = one_unreturned read c (space-not-break c is);
 }
-space_passed read n st done modes.Free held come code unreturned c is = space_begins read n st done modes.Free held come refl unreturned c is (free_breaks modes.Free c refl)
-space_passed read n st done (modes.Word s) held come code unreturned c is = space_begins read n st done (modes.Word s) held come refl unreturned c is (word_ends s c (space-not-word c is) (space-not-quote c is))
-space_passed read n st done m held come code unreturned c is = absurd (both_ways _ refl code)
+space_passed initial read n st done modes.Free held come code unreturned c is = space_begins initial read n st done modes.Free held come refl unreturned c is (free_breaks modes.Free c refl)
+space_passed initial read n st done (modes.Word s) held come code unreturned c is = space_begins initial read n st done (modes.Word s) held come refl unreturned c is (word_ends s c (space-not-word c is) (space-not-quote c is))
+space_passed initial read n st done m held come code unreturned c is = absurd (both_ways _ refl code)
 
 -- a byte of words, a space, or an operator that is no bracket
 abbrev pub IsCodeByte : ℕ → Type 0
 IsCodeByte c = (is_ascii_word c ≡ true) ⊎ ((is_space c ≡ true) ⊎ ((is_operator c ≡ true) × (is_opening c ≡ false) × (is_closing c ≡ false)))
 
-code_passed : (read : List ℕ) (n : ℕ) (st : List Bracket) (c : ℕ) → IsCodeByte c → GoesOnAfter read n st → GoesOnAfter (read ++ c ∷ []) n st
-code_passed read n st c (inl word) on = word_passed read n st (tail_of read) on.state refl on.come on.tail on.unreturned c word
-code_passed read n st c (inr (inl space)) on = space_passed read n st on.state.done on.state.mode on.state.held on.come (tail_code (tail_of read) on.state.mode on.tail) on.unreturned c space
-code_passed read n st c (inr (inr (stands, opens, closes))) on = operator_passed read n st c (operator_ends read n st c stands on) st stands (keeps_at st (byte_len read) c opens closes)
+code_passed : (initial : Mode) (read : List ℕ) (n : ℕ) (st : List Bracket) (c : ℕ) → IsCodeByte c → GoesOnAfter initial read n st → GoesOnAfter initial (read ++ c ∷ []) n st
+code_passed initial read n st c (inl word) on = word_passed initial read n st (tail_of read) on.state refl on.come on.tail on.unreturned c word
+code_passed initial read n st c (inr (inl space)) on = space_passed initial read n st on.state.done on.state.mode on.state.held on.come (tail_code (tail_of read) on.state.mode on.tail) on.unreturned c space
+code_passed initial read n st c (inr (inr (stands, opens, closes))) on = operator_passed initial read n st c (operator_ends initial read n st c stands on) st stands (keeps_at st (byte_len read) c opens closes)
 
-code_begins : (read : List ℕ) (n : ℕ) (st : List Bracket) (c : ℕ) → IsCodeByte c → EndsBefore c read n st → GoesOnAfter (read ++ c ∷ []) n st
-code_begins read n st c (inl word) on = word_opens read n st c word (on.tail (rw word refl)) on
-code_begins read n st c (inr (inl space)) on = space_opens read n st c space on
-code_begins read n st c (inr (inr (stands, opens, closes))) on = operator_passed read n st c on st stands (keeps_at st (byte_len read) c opens closes)
+code_begins : (initial : Mode) (read : List ℕ) (n : ℕ) (st : List Bracket) (c : ℕ) → IsCodeByte c → EndsBefore c initial read n st → GoesOnAfter initial (read ++ c ∷ []) n st
+code_begins initial read n st c (inl word) on = word_opens initial read n st c word (on.tail (rw word refl)) on
+code_begins initial read n st c (inr (inl space)) on = space_opens initial read n st c space on
+code_begins initial read n st c (inr (inr (stands, opens, closes))) on = operator_passed initial read n st c on st stands (keeps_at st (byte_len read) c opens closes)
 
 -- a run of them
-run_passed : (passes : ℕ → Bool) (read run : List ℕ) (n : ℕ) (st : List Bracket) → ((c : ℕ) → passes c ≡ true → IsCodeByte c) → list_all passes run ≡ true → GoesOnAfter read n st → GoesOnAfter (read ++ run) n st
-run_passed passes read [] n st each all on = subst (λ (t : List ℕ). GoesOnAfter t n st) (sym (append-nil read)) on
-run_passed passes read (c ∷ cs) n st each all on =
+run_passed : (passes : ℕ → Bool) (initial : Mode) (read run : List ℕ) (n : ℕ) (st : List Bracket) → ((c : ℕ) → passes c ≡ true → IsCodeByte c) → list_all passes run ≡ true → GoesOnAfter initial read n st → GoesOnAfter initial (read ++ run) n st
+run_passed passes initial read [] n st each all on = subst (λ (t : List ℕ). GoesOnAfter initial t n st) (sym (append-nil read)) on
+run_passed passes initial read (c ∷ cs) n st each all on =
     let parts = and_parts (passes c) (list_all passes cs) all in
-    subst (λ (t : List ℕ). GoesOnAfter t n st) (append_assoc read (c ∷ []) cs) (run_passed passes (read ++ c ∷ []) cs n st each parts.1 (code_passed read n st c (each c parts.0) on))
+    subst (λ (t : List ℕ). GoesOnAfter initial t n st) (append_assoc read (c ∷ []) cs) (run_passed passes initial (read ++ c ∷ []) cs n st each parts.1 (code_passed initial read n st c (each c parts.0) on))
 
-pub code_run : (passes : ℕ → Bool) (read run rest : List ℕ) (n : ℕ) (st : List Bracket) → ((c : ℕ) → passes c ≡ true → IsCodeByte c) → list_all passes run ≡ true → StandsBefore (run ++ rest) read n st → StandsBefore rest (read ++ run) n st
-code_run passes read [] rest n st each all on = subst (λ (t : List ℕ). StandsBefore rest t n st) (sym (append-nil read)) on
-code_run passes read (c ∷ cs) rest n st each all (inl on) = stands rest (read ++ c ∷ cs) n st (run_passed passes read (c ∷ cs) n st each all on)
-code_run passes read (c ∷ cs) rest n st each all (inr on) =
+pub code_run : (passes : ℕ → Bool) (initial : Mode) (read run rest : List ℕ) (n : ℕ) (st : List Bracket) → ((c : ℕ) → passes c ≡ true → IsCodeByte c) → list_all passes run ≡ true → StandsBefore (run ++ rest) initial read n st → StandsBefore rest initial (read ++ run) n st
+code_run passes initial read [] rest n st each all on = subst (λ (t : List ℕ). StandsBefore rest initial t n st) (sym (append-nil read)) on
+code_run passes initial read (c ∷ cs) rest n st each all (inl on) = stands rest initial (read ++ c ∷ cs) n st (run_passed passes initial read (c ∷ cs) n st each all on)
+code_run passes initial read (c ∷ cs) rest n st each all (inr on) =
     let parts = and_parts (passes c) (list_all passes cs) all in
-    stands rest (read ++ c ∷ cs) n st (subst (λ (t : List ℕ). GoesOnAfter t n st) (append_assoc read (c ∷ []) cs) (run_passed passes (read ++ c ∷ []) cs n st each parts.1 (code_begins read n st c (each c parts.0) on)))
+    stands rest initial (read ++ c ∷ cs) n st (subst (λ (t : List ℕ). GoesOnAfter initial t n st) (append_assoc read (c ∷ []) cs) (run_passed passes initial (read ++ c ∷ []) cs n st each parts.1 (code_begins initial read n st c (each c parts.0) on)))
 
 -- before a character that code ends before
-pub ends_so : (read rest : List ℕ) (n : ℕ) (st : List Bracket) (c : ℕ) → (GoesOnAfter read n st → EndsBefore c read n st) → StandsBefore (c ∷ rest) read n st → EndsBefore c read n st
-ends_so read rest n st c ends (inl on) = ends on
-ends_so read rest n st c ends (inr on) = on
+pub ends_so : (initial : Mode) (read rest : List ℕ) (n : ℕ) (st : List Bracket) (c : ℕ) → (GoesOnAfter initial read n st → EndsBefore c initial read n st) → StandsBefore (c ∷ rest) initial read n st → EndsBefore c initial read n st
+ends_so initial read rest n st c ends (inl on) = ends on
+ends_so initial read rest n st c ends (inr on) = on
 
 -- over a line end, before which code ends, or a piece that ends there
-break_next : (rest read : List ℕ) (n : ℕ) (st : List Bracket) (c : ℕ) → is_break c ≡ true → StandsBefore (c ∷ rest) read n st → EndsBefore c read n st
-break_next rest read n st c is on = ends_so read rest n st c (break_ends read n st c is) on
+break_next : (rest : List ℕ) (initial : Mode) (read : List ℕ) (n : ℕ) (st : List Bracket) (c : ℕ) → is_break c ≡ true → StandsBefore (c ∷ rest) initial read n st → EndsBefore c initial read n st
+break_next rest initial read n st c is on = ends_so initial read rest n st c (break_ends initial read n st c is) on
 
-line_end_next : (returned : Bool) (rest read : List ℕ) (n : ℕ) (st : List Bracket) → StandsBefore (line_end_of returned ++ rest) read n st → EndsBefore (line_end_first returned) read n st
-line_end_next true rest read n st on = break_next (10 ∷ rest) read n st 13 (first-break true) on
-line_end_next false rest read n st on = break_next rest read n st 10 (first-break false) on
+pub line_end_next : (returned : Bool) (rest : List ℕ) (initial : Mode) (read : List ℕ) (n : ℕ) (st : List Bracket) → StandsBefore (line_end_of returned ++ rest) initial read n st → EndsBefore (line_end_first returned) initial read n st
+line_end_next true rest initial read n st on = break_next (10 ∷ rest) initial read n st 13 (first-break true) on
+line_end_next false rest initial read n st on = break_next rest initial read n st 10 (first-break false) on
 
-pub line_end_on : (text after read : List ℕ) (n : ℕ) (st : List Bracket) → IsOuterEnd text after → StandsBefore (text ++ after) read n st → IsAfterLineEnd st (read ++ text) (n + 1) after
+pub line_end_on : (text after : List ℕ) (read : List ℕ) (n : ℕ) (st : List Bracket) → IsOuterEnd text after → StandsBefore (text ++ after) modes.Free read n st → IsAfterLineEnd st (read ++ text) (n + 1) after
 line_end_on text after read n st (inl (returned, is)) on =
     subst (λ (t : List ℕ). IsAfterLineEnd st (read ++ t) (n + 1) after) (sym is)
-    (line_end_passed returned after read n st (line_end_next returned after read n st (subst (λ (t : List ℕ). StandsBefore (t ++ after) read n st) is on)))
+    (line_end_passed returned after read n st (line_end_next returned after modes.Free read n st (subst (λ (t : List ℕ). StandsBefore (t ++ after) modes.Free read n st) is on)))
 line_end_on text after read n st (inr (is, other)) on =
     subst (λ (t : List ℕ). IsAfterLineEnd st (read ++ t) (n + 1) after) (sym is)
-    (return_passed after read n st other (break_next after read n st 13 (first-break true) (subst (λ (t : List ℕ). StandsBefore (t ++ after) read n st) is on)))
+    (return_passed after read n st other (break_next after modes.Free read n st 13 (first-break true) (subst (λ (t : List ℕ). StandsBefore (t ++ after) modes.Free read n st) is on)))
 
 -- bytes of code are ASCII
 pub code_low : (c : ℕ) → IsCodeByte c → c < 128
@@ -575,10 +535,10 @@ tail-encoded t (c ∷ cs) =
     ∙ tail-encoded (tail_with t c) cs
 
 -- a line has begun
-pub begun : GoesOnAfter [] 0 []
+pub begun : GoesOnAfter modes.Free [] 0 []
 begun = record {
   state = line_start modes.Free;
-  come = record { steps = refl; stacked = refl; one_line = tt; holds = record { scalars = refl; count = refl } };
+  come = record { start = begun_sound 1; steps = refl; stacked = refl; one_line = tt; holds = record { scalars = refl; count = refl } };
   tail = refl;
   unreturned = refl;
 }

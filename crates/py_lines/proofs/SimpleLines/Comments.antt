@@ -5,13 +5,14 @@ use Rattle.std.specs.Str.{all_scalars}
 use Rattle.std.specs.List.{list_all}
 use Rattle.std.proofs.lemmas.Bool.{both_ways}
 use Rattle.std.proofs.lemmas.Str.{encode_ascii}
-use Rattle.py_lines.specs.Character.{is_break, is_hash, is_quote, is_space, is_word_character}
+use Rattle.py_lines.specs.Character.{is_backslash, is_break, is_hash, is_quote, is_space, is_word_character}
+use Rattle.py_lines.specs.declared.mode.Mode.{Mode}
 use Rattle.py_lines.specs.declared.mode.Mode.TheVariants as modes
 use Rattle.py_lines.specs.declared.mode.Move.TheVariants as moves
 use Rattle.py_lines.specs.Private.Machine.{Bracket, move_of}
 use Rattle.py_lines.specs.Private.ScanMachine.{meet_of}
 use Rattle.py_lines.specs.Private.Run.{IsRunOf, IsWholeComment, is_ascii_word, is_comment_byte, stays}
-use Rattle.py_lines.specs.Private.Outline.{EndsBefore, GoesOnAfter, IsInPiece, Passes, StandsBefore}
+use Rattle.py_lines.specs.Private.Outline.{EndsBefore, GoesOnAfter, IsInPiece, Passes, PassesFirst, StandsBefore, StandsClosed, closes_itself}
 use Rattle.py_lines.proofs.Machine.Starts.{start-hash}
 use Rattle.py_lines.proofs.Text.CharacterTests.{the_one}
 use Rattle.py_lines.proofs.LineScan.Runs.{word_byte_continues}
@@ -45,15 +46,15 @@ hash_hash = refl
 hash-not-word : is_word_character 35 ≡ false
 hash-not-word = word_byte_continues 35 (omega arith) ∙ hash-no-word
 
-hash_ends : (read : List ℕ) (n : ℕ) (st : List Bracket) → GoesOnAfter read n st → EndsBefore 35 read n st
-hash_ends read n st on = code_ends read n st 35 on hash-not-word hash-not-quote hash-not-space hash-no-word
+hash_ends : (initial : Mode) (read : List ℕ) (n : ℕ) (st : List Bracket) → GoesOnAfter initial read n st → EndsBefore 35 initial read n st
+hash_ends initial read n st on = code_ends initial read n st 35 on hash-not-word hash-not-quote hash-not-space hash-no-word
 
 -- `#` opens a comment
-comment_opens : (read : List ℕ) (n : ℕ) (st : List Bracket) → EndsBefore 35 read n st → IsInPiece modes.Comment (read ++ 35 ∷ []) n st
-comment_opens read n st on = record {
-  done = pieces read n st 35 on;
+comment_opens : (initial : Mode) (read : List ℕ) (n : ℕ) (st : List Bracket) → EndsBefore 35 initial read n st → IsInPiece modes.Comment initial (read ++ 35 ∷ []) n st
+comment_opens initial read n st on = record {
+  done = pieces initial read n st 35 on;
   held = 35 ∷ [];
-  come = opens read n st 35 on modes.Comment (start-hash 35 hash_hash) (holds_one read 35 n on.come.holds (omega arith) hash-not-break);
+  come = opens initial read n st 35 on modes.Comment (start-hash 35 hash_hash) (holds_one read 35 n on.come.holds (omega arith) hash-not-break);
   unreturned = one_unreturned read 35 hash-not-break;
 }
 
@@ -62,8 +63,8 @@ comment_breaks : (c : ℕ) → is_break c ≡ true → meet_of modes.Comment c �
 unfolding meet_of move_of
 comment_breaks c is = rw is refl
 
-comment_ends : (read : List ℕ) (n : ℕ) (st : List Bracket) (c : ℕ) → is_break c ≡ true → IsInPiece modes.Comment read n st → EndsBefore c read n st
-comment_ends read n st c is on = record {
+comment_ends : (initial : Mode) (read : List ℕ) (n : ℕ) (st : List Bracket) (c : ℕ) → is_break c ≡ true → IsInPiece modes.Comment initial read n st → EndsBefore c initial read n st
+comment_ends initial read n st c is on = record {
   state = record { done = on.done; mode = modes.Comment; held = on.held };
   come = on.come;
   breaks = comment_breaks c is;
@@ -79,21 +80,26 @@ break_of c h = go (is_break c) h
     go true e = refl
     go false e = absurd (both_ways _ e refl)
 
-comment_leads : (cs : List ℕ) (k : ℕ) (run read : List ℕ) (n : ℕ) (st : List Bracket) → all_scalars run ≡ true → list_all (stays modes.Comment) run ≡ true → k < length cs → is_break (slice_index cs k) ≡ true
-    → StandsBefore (35 ∷ cs) read n st → StandsBefore (drop k cs) (read ++ 35 ∷ run) (n + 0) st
-comment_leads cs k run read n st scalars all within breaks on =
-    let opened = comment_opens read n st (ends_so read cs n st 35 (hash_ends read n st) on) in
-    let come = subst (λ (t : List ℕ). IsInPiece modes.Comment t n st) (append_assoc read (35 ∷ []) run) (goes_on modes.Comment (read ++ 35 ∷ []) run n st scalars all opened) in
+comment_leads : (cs : List ℕ) (k : ℕ) (run : List ℕ) (initial : Mode) (read : List ℕ) (n : ℕ) (st : List Bracket) → all_scalars run ≡ true → list_all (stays modes.Comment) run ≡ true → k < length cs → is_break (slice_index cs k) ≡ true
+    → StandsBefore (35 ∷ cs) initial read n st → StandsBefore (drop k cs) initial (read ++ 35 ∷ run) (n + 0) st
+comment_leads cs k run initial read n st scalars all within breaks on =
+    let opened = comment_opens initial read n st (ends_so initial read cs n st 35 (hash_ends initial read n st) on) in
+    let come = subst (λ (t : List ℕ). IsInPiece modes.Comment initial t n st) (append_assoc read (35 ∷ []) run) (goes_on modes.Comment initial (read ++ 35 ∷ []) run n st scalars all opened) in
     let same : n ≡ n + 0 = omega arith in
-    subst (λ (m : ℕ). StandsBefore (drop k cs) (read ++ 35 ∷ run) m st) same
-    (subst (λ (rest : List ℕ). StandsBefore rest (read ++ 35 ∷ run) n st) (sym (drop-cons cs k 0 within)) (inr (comment_ends (read ++ 35 ∷ run) n st (slice_index cs k) breaks come)))
+    subst (λ (m : ℕ). StandsBefore (drop k cs) initial (read ++ 35 ∷ run) m st) same
+    (subst (λ (rest : List ℕ). StandsBefore rest initial (read ++ 35 ∷ run) n st) (sym (drop-cons cs k 0 within)) (inr (comment_ends initial (read ++ 35 ∷ run) n st (slice_index cs k) breaks come)))
+
+-- it never closes itself
+never_closes : (cs : List ℕ) (len : ℕ) → closes_itself (35 ∷ cs) len ≡ false
+unfolding is_quote is_backslash
+never_closes cs len = refl
 
 pub comment_passed : (bytes : List ℕ) (k : ℕ) → 0 < length bytes → is_hash (slice_index bytes 0) ≡ true → IsWholeComment (take (length bytes - 1) (drop 1 bytes)) (Some k)
-    → Passes bytes (record { len = 1 + k; line_ends = 0 }) (StandsBefore bytes) (StandsBefore (drop (1 + k) bytes))
+    → PassesFirst bytes (Some (record { len = 1 + k; line_ends = 0 }))
 comment_passed [] k some hash found = absurd (omega (arith, some))
 comment_passed (b ∷ cs) k some hash found =
-    subst (λ (j : ℕ). Passes (b ∷ cs) (record { len = j; line_ends = 0 }) (StandsBefore (b ∷ cs)) (StandsBefore (drop j (b ∷ cs)))) (sym one_more)
-    (subst (λ (c : ℕ). Passes (c ∷ cs) (record { len = suc k; line_ends = 0 }) (StandsBefore (c ∷ cs)) (StandsBefore (drop k cs))) (sym (hash_is b hash)) passes)
+    subst (λ (j : ℕ). PassesFirst (b ∷ cs) (Some (record { len = j; line_ends = 0 }))) (sym one_more)
+    (subst (λ (c : ℕ). PassesFirst (c ∷ cs) (Some (record { len = suc k; line_ends = 0 }))) (sym (hash_is b hash)) passes)
   where
     one_more : 1 + k ≡ suc k
     one_more = omega arith
@@ -107,14 +113,14 @@ comment_passed (b ∷ cs) k some hash found =
     spell : encode_utf8_all (35 ∷ whole.1.0) ≡ 35 ∷ take k cs
     spell = ap (λ t. t ++ encode_utf8_all whole.1.0) (encode_ascii 35 (omega arith)) ∙ ap (λ t. 35 ∷ t) whole.1.1.1
 
-    passes : Passes (35 ∷ cs) (record { len = suc k; line_ends = 0 }) (StandsBefore (35 ∷ cs)) (StandsBefore (drop k cs))
-    passes = record {
+    passes : PassesFirst (35 ∷ cs) (Some (record { len = suc k; line_ends = 0 }))
+    passes = subst (λ (b : Bool). Passes (35 ∷ cs) (record { len = suc k; line_ends = 0 }) (StandsBefore (35 ∷ cs)) (StandsClosed b (drop k cs))) (sym (never_closes cs (suc k))) (record {
       some = omega arith;
       few = omega arith;
       part = record {
         within = omega (arith, whole.2);
         run = 35 ∷ whole.1.0;
         spell = spell;
-        leads = λ read n st on. comment_leads cs k whole.1.0 read n st whole.1.1.0 (stay_spelled modes.Comment cs k tt text.within text.each whole.1.0 whole.1.1.1) whole.2 (break_of (slice_index cs k) (text.ends whole.2)) on;
+        leads = λ initial read n st on. comment_leads cs k whole.1.0 initial read n st whole.1.1.0 (stay_spelled modes.Comment cs k tt text.within text.each whole.1.0 whole.1.1.1) whole.2 (break_of (slice_index cs k) (text.ends whole.2)) on;
       };
-    }
+    })

@@ -1,22 +1,22 @@
 -- Strings with fields are passed over, where they are short and their text is simple.
-use Rattle.std.proofs.Common.{◌≡◌, ℕ, ◌+◌, ◌-◌, ◌<◌, ◌≤◌, true, false, not, Some, None, List, [], ◌∷◌, ◌++◌, length, take, drop, inl, inr, refl, sym, ap, ◌∙◌, subst, append_assoc, arith, length-append, length-drop}
+use Rattle.std.proofs.Common.{◌≡◌, ℕ, ◌+◌, ◌-◌, ◌<◌, ◌≤◌, Bool, true, false, not, Some, List, [], ◌∷◌, ◌++◌, length, take, drop, slice_index, inl, inr, refl, sym, ap, ◌∙◌, subst, append_assoc, arith, length-append, length-drop}
 use Rattle.std.specs.List.{list_all}
-use Rattle.std.proofs.lemmas.Bool.{and_from}
+use Rattle.std.proofs.lemmas.Bool.{and_from, lt-ltb}
 use Rattle.std.proofs.lemmas.List.Folds.{list_all-append}
 use Rattle.std.proofs.Math.Seq.{take-append_seam}
 use Rattle.py_lines.specs.Balance.{depth_through}
-use Rattle.py_lines.specs.Character.{is_break, is_quote, is_return}
+use Rattle.py_lines.specs.Character.{is_break, is_quote}
 use Rattle.py_lines.specs.FieldStrings.{is_field_prefix, literal}
-use Rattle.py_lines.specs.Piece.{ends, string, Piece}
+use Rattle.py_lines.specs.Piece.{string, Piece}
 use Rattle.py_lines.specs.declared.host.StringWithFields.{StringWithFields}
 use Rattle.py_lines.specs.declared.mode.Mode.{Mode}
 use Rattle.py_lines.specs.declared.mode.Mode.TheVariants as modes
 use Rattle.py_lines.specs.declared.mode.Spelling.{Spelling}
-use Rattle.py_lines.specs.Private.Machine.{Bracket, IsFull, first_spelling, fresh, spelling_on}
+use Rattle.py_lines.specs.Private.Machine.{Bracket, IsFull, first_spelling, spelling_on}
 use Rattle.py_lines.specs.Private.FieldText.{InText, IsQuotedText, Leads}
 use Rattle.py_lines.specs.Private.Scan.{line_start}
 use Rattle.py_lines.specs.Private.ScanMachine.{HoldsOpen, host_in, is_field_spelling, is_raw_spelling, scan_steps, move_at}
-use Rattle.py_lines.specs.Private.Outline.{GoesOnAfter, HasCome, IsInPiece, IsTail, PassesPiece, StandsBefore, tail_of}
+use Rattle.py_lines.specs.Private.Outline.{HasCome, IsFreeAfter, IsInPiece, IsTail, PassesPiece, StandsBefore, StandsClosed, closes_itself, tail_of}
 use Rattle.py_lines.proofs.Pieces.OpenBrackets as brackets
 use Rattle.py_lines.proofs.Pieces.PieceLists.{piece}
 use Rattle.py_lines.proofs.Machine.LiveTexts.{keeps}
@@ -26,19 +26,21 @@ use Rattle.py_lines.proofs.FieldScans.Runs.{goes_low}
 use Rattle.py_lines.proofs.FieldScans.TextLengths.{rest_is}
 use Rattle.py_lines.proofs.LineScan.Increments.{EndsNoLine-push}
 use Rattle.py_lines.proofs.LineScan.Runs.{quote_ascii, string_no_break}
-use Rattle.py_lines.proofs.LineScan.ShortPieces.{is_low, is_low_from, low_encodes, low_is, quote-no_break}
+use Rattle.py_lines.proofs.LineScan.AsciiRuns.{is_low, is_low_from, low_encodes, low_is, quote-no_break}
 use Rattle.py_lines.proofs.LineScan.WholeStrings.{at_body, quoted_steps}
-use Rattle.py_lines.proofs.SimpleLines.Code.{apart_tail, come_sound, holds_more, no_tail, one_unreturned, quote-no-word, stands}
+use Rattle.py_lines.proofs.SimpleLines.Code.{holds_more}
+use Rattle.py_lines.proofs.SimpleLines.Tails.{come_sound, quote-no-word}
+use Rattle.py_lines.proofs.SimpleLines.Strings.{string_closes}
 
 -- the word that is open is its prefix
-pub word_open : (rest read : List ℕ) (n : ℕ) (st : List Bracket) (q : ℕ) (s : Spelling) → tail_of read ≡ Some s → is_quote q ≡ true → StandsBefore (q ∷ rest) read n st → IsInPiece (modes.Word s) read n st
-word_open rest read n st q s tail quote (inl on) =
+pub word_open : (rest : List ℕ) (initial : Mode) (read : List ℕ) (n : ℕ) (st : List Bracket) (q : ℕ) (s : Spelling) → tail_of read ≡ Some s → is_quote q ≡ true → StandsBefore (q ∷ rest) initial read n st → IsInPiece (modes.Word s) initial read n st
+word_open rest initial read n st q s tail quote (inl on) =
     let is : on.state.mode ≡ modes.Word s = subst (λ t. IsTail t on.state.mode) tail on.tail in
-    subst (λ (m : Mode). IsInPiece m read n st) is (record { done = on.state.done; held = on.state.held; come = on.come; unreturned = on.unreturned })
-word_open rest read n st q s tail quote (inr on) = absurd (let none = sym tail ∙ on.tail (rw (quote-no-word q quote, quote) refl) in cc)
+    subst (λ (m : Mode). IsInPiece m initial read n st) is (record { done = on.state.done; held = on.state.held; come = on.come; unreturned = on.unreturned })
+word_open rest initial read n st q s tail quote (inr on) = absurd (let none = sym tail ∙ on.tail (rw (quote-no-word q quote, quote) refl) in cc)
 
 -- the machine goes through the string
-module _ (s : Spelling) (field : is_field_spelling s ≡ true) (q : ℕ) (quote : is_quote q ≡ true) (d : ℕ) (ds : List ℕ) (leads : Leads q InText (d ∷ ds) InText) (read : List ℕ) (n : ℕ) (st : List Bracket) (few : length st ≤ 100) where
+module _ (s : Spelling) (field : is_field_spelling s ≡ true) (q : ℕ) (quote : is_quote q ≡ true) (d : ℕ) (ds : List ℕ) (leads : Leads q InText (d ∷ ds) InText) (initial : Mode) (read : List ℕ) (n : ℕ) (st : List Bracket) (few : length st ≤ 100) where
   abbrev run : List ℕ
   run = q ∷ ((d ∷ ds) ++ q ∷ [])
 
@@ -48,10 +50,7 @@ module _ (s : Spelling) (field : is_field_spelling s ≡ true) (q : ℕ) (quote 
   quote_whole : not (is_break q) ≡ true
   quote_whole = ap not (quote-no_break q quote)
 
-  no_word : tail_of (read ++ run) ≡ None
-  no_word = ap tail_of (sym (append_assoc read (q ∷ d ∷ ds) (q ∷ []))) ∙ no_tail (read ++ q ∷ d ∷ ds) q (quote-no-word q quote)
-
-  from_word : (done : List Piece) (c : ℕ) (cs : List ℕ) → HasCome read n st (scanned done (modes.Word s) (c ∷ cs)) → s ≡ spelling_on (first_spelling c) cs → GoesOnAfter (read ++ run) n st
+  from_word : (done : List Piece) (c : ℕ) (cs : List ℕ) → HasCome initial read n st (scanned done (modes.Word s) (c ∷ cs)) → s ≡ spelling_on (first_spelling c) cs → IsFreeAfter initial (read ++ run) n st
   from_word done c cs come is =
       let w : Spelling = spelling_on (first_spelling c) cs in
       let begun : is_field_prefix (c ∷ cs) ≡ true = (word_tells c cs).0 ∙ ap is_field_spelling (sym is) ∙ field in
@@ -64,9 +63,10 @@ module _ (s : Spelling) (field : is_field_spelling s ≡ true) (q : ℕ) (quote 
       let low = goes_low (depth_through 0 done) T (d ∷ ds) u through in
       let whole = string_no_break (depth_through 0 done) T (d ∷ ds) u through in
       record {
-        state = fresh (done ++ text ∷ []);
+        done = done ++ text ∷ [];
         come = record {
-          steps = steps_by-append move_at (Some (line_start modes.Free)) read run ∙ ap (λ o. scan_steps o run) come.steps
+          start = come.start;
+          steps = steps_by-append move_at (Some (line_start initial)) read run ∙ ap (λ o. scan_steps o run) come.steps
               ∙ ap (λ (t : Spelling). scan_steps (Some (scanned done (modes.Word t) (c ∷ cs))) run) is ∙ quoted_steps done shallow c cs begun q quote d ds u through end;
           stacked = keeps done text st refl refl come.stacked;
           one_line = EndsNoLine-push 0 done text come.one_line refl;
@@ -74,19 +74,17 @@ module _ (s : Spelling) (field : is_field_spelling s ≡ true) (q : ℕ) (quote 
               (low_encodes is_low run low_is (and_from _ _ quote_low (list_all-append is_low (d ∷ ds) (q ∷ []) ∙ and_from _ _ low (and_from _ _ quote_low refl)))).1
               (and_from _ _ quote_whole (list_all-append (λ e. not (is_break e)) (d ∷ ds) (q ∷ []) ∙ and_from _ _ whole (and_from _ _ quote_whole refl)));
         };
-        tail = apart_tail (tail_of (read ++ run)) modes.Free refl no_word;
-        unreturned = ap (ends is_return) (sym (append_assoc read (q ∷ d ∷ ds) (q ∷ []))) ∙ one_unreturned (read ++ q ∷ d ∷ ds) q (quote-no_break q quote);
       }
 
-  from_held : (done : List Piece) (held : List ℕ) → HasCome read n st (scanned done (modes.Word s) held) → HoldsOpen (modes.Word s) done held → GoesOnAfter (read ++ run) n st
-  from_held done held come (c, cs, is, starts, letters, spells) = from_word done c cs (subst (λ (t : List ℕ). HasCome read n st (scanned done (modes.Word s) t)) is come) spells
+  from_held : (done : List Piece) (held : List ℕ) → HasCome initial read n st (scanned done (modes.Word s) held) → HoldsOpen (modes.Word s) done held → IsFreeAfter initial (read ++ run) n st
+  from_held done held come (c, cs, is, starts, letters, spells) = from_word done c cs (subst (λ (t : List ℕ). HasCome initial read n st (scanned done (modes.Word s) t)) is come) spells
 
-  string_passed : IsInPiece (modes.Word s) read n st → GoesOnAfter (read ++ run) n st
-  string_passed on = from_held on.done on.held on.come (come_sound read n st (scanned on.done (modes.Word s) on.held) on.come).holds
+  string_passed : IsInPiece (modes.Word s) initial read n st → IsFreeAfter initial (read ++ run) n st
+  string_passed on = from_held on.done on.held on.come (come_sound initial read n st (scanned on.done (modes.Word s) on.held) on.come).holds
 
-over_text : (s : Spelling) (q : ℕ) (text read : List ℕ) (n : ℕ) (st : List Bracket) → is_field_spelling s ≡ true → is_quote q ≡ true → IsFull text → Leads q InText text InText → length st ≤ 100 → IsInPiece (modes.Word s) read n st → GoesOnAfter (read ++ q ∷ (text ++ q ∷ [])) n st
-over_text s q [] read n st field quote full leads few on = absurd full
-over_text s q (d ∷ ds) read n st field quote full leads few on = string_passed s field q quote d ds leads read n st few on
+over_text : (s : Spelling) (q : ℕ) (text : List ℕ) (initial : Mode) (read : List ℕ) (n : ℕ) (st : List Bracket) → is_field_spelling s ≡ true → is_quote q ≡ true → IsFull text → Leads q InText text InText → length st ≤ 100 → IsInPiece (modes.Word s) initial read n st → IsFreeAfter initial (read ++ q ∷ (text ++ q ∷ [])) n st
+over_text s q [] initial read n st field quote full leads few on = absurd full
+over_text s q (d ∷ ds) initial read n st field quote full leads few on = string_passed s field q quote d ds leads initial read n st few on
 
 -- it is ASCII: the machine goes through its text from the start of a string
 quoted_low : (q : ℕ) (text : List ℕ) → is_quote q ≡ true → Leads q InText text InText → list_all is_low (q ∷ (text ++ q ∷ [])) ≡ true
@@ -97,6 +95,10 @@ quoted_low q text quote leads =
     let one = is_low_from q (quote_ascii q quote) in
     and_from _ _ one (list_all-append is_low text (q ∷ []) ∙ and_from _ _ (goes_low 0 T text u through) (and_from _ _ one refl))
 
+full_some : (text : List ℕ) → IsFull text → 0 < length text
+full_some [] full = absurd full
+full_some (c ∷ cs) full = omega arith
+
 -- a string at a byte of a line
 pub fields_at : (bytes : List ℕ) (at len : ℕ) (s : Spelling) → at < length bytes → tail_of (take at bytes) ≡ Some s → is_field_spelling s ≡ true → IsQuotedText (take (length bytes - at) (drop at bytes)) len → PassesPiece bytes at (Some (record { len = len; line_ends = 0 }))
 fields_at bytes at len s within tail field found =
@@ -105,7 +107,8 @@ fields_at bytes at len s within tail field found =
     let size : length whole ≡ len = omega (arith, is.size, length-append is.run (is.q ∷ [])) in
     let spell : whole ++ is.after ≡ drop at bytes = ap (λ t. is.q ∷ t) (append_assoc is.run (is.q ∷ []) is.after) ∙ is.spell in
     let first : take len (drop at bytes) ≡ whole = ap (take len) (sym spell) ∙ ap (λ (k : ℕ). take k (whole ++ is.after)) (sym size) ∙ take-append_seam whole is.after in
-    let room : len ≤ length (drop at bytes) = omega (arith, size, ap length spell, length-append whole is.after) in (
+    let room : len ≤ length (drop at bytes) = omega (arith, size, ap length spell, length-append whole is.after) in
+    let closes : closes_itself (drop at bytes) len ≡ true = string_closes (drop at bytes) len (ap (λ t. is_quote (slice_index t 0)) (sym is.spell) ∙ is.quote) ∙ lt-ltb 2 len (omega (arith, is.size, full_some is.run is.full)) in (
       omega (arith, room, within, length-drop at bytes),
       record {
         some = omega (arith, is.size);
@@ -114,11 +117,11 @@ fields_at bytes at len s within tail field found =
           within = room;
           run = whole;
           spell = (low_encodes is_low whole low_is (quoted_low is.q is.run is.quote is.text)).0 ∙ sym first;
-          leads = λ read n st on.
-              let in_word = word_open (is.run ++ is.q ∷ is.after) read n st is.q s (on.0 ∙ tail) is.quote (subst (λ (t : List ℕ). StandsBefore t read n st) (sym is.spell) on.2) in
+          leads = λ initial read n st on.
+              let in_word = word_open (is.run ++ is.q ∷ is.after) initial read n st is.q s (on.0 ∙ tail) is.quote (subst (λ (t : List ℕ). StandsBefore t initial read n st) (sym is.spell) on.2) in
               let none : n ≡ n + 0 = omega arith in
-              subst (λ (k : ℕ). StandsBefore (drop (at + len) bytes) (read ++ whole) k st) none
-              (stands (drop (at + len) bytes) (read ++ whole) n st (over_text s is.q is.run read n st field is.quote is.full is.text on.1 in_word));
+              subst (λ (b : Bool). StandsClosed b (drop (at + len) bytes) initial (read ++ whole) (n + 0) st) (sym closes)
+              (subst (λ (k : ℕ). IsFreeAfter initial (read ++ whole) k st) none (over_text s is.q is.run initial read n st field is.quote is.full is.text on.1 in_word));
         };
       },
     )

@@ -3,7 +3,7 @@ use Rattle.std.proofs.Common.{◌≡◌, ℕ, ◌+◌, ◌<◌, inl, inr, Bool, 
 use Rattle.std.specs.List.{list_all}
 use Rattle.std.proofs.Math.Seq.{take-add}
 use Rattle.py_lines.specs.Private.Outline.{BeginsLong, HasLineEnd, HasOuterEnd, IsOuterEnd, line_end_of}
-use Rattle.py_lines.proofs.LineScan.ShortPieces.{is_low}
+use Rattle.py_lines.proofs.LineScan.AsciiRuns.{is_low}
 
 pub taken_one : (bytes : List ℕ) → 0 < length bytes → take 1 bytes ≡ slice_index bytes 0 ∷ []
 taken_one [] within = absurd (omega (arith, within))

@@ -1,25 +1,29 @@
 -- A join of two lines is passed over: the machine goes through the backslash and the line end.
-use Rattle.std.proofs.Common.{◌≡◌, ℕ, suc, ◌+◌, ◌-◌, ◌<◌, inl, inr, Bool, true, false, Some, List, [], ◌∷◌, ◌++◌, length, take, drop, slice_index, refl, sym, ap, ◌∙◌, subst, append_assoc, arith, take_all}
-use Rattle.std.proofs.lemmas.Bool.{false_from_ne_true}
+use Rattle.std.proofs.Common.{◌≡◌, ℕ, suc, ◌+◌, ◌-◌, ◌<◌, ◌≤◌, inl, inr, Bool, true, false, Some, List, [], ◌∷◌, ◌++◌, length, take, drop, slice_index, refl, sym, ap, ◌∙◌, subst, append_assoc, arith, take_all}
+use Rattle.std.specs.Prelude.{◌==◌}
+use Rattle.std.proofs.lemmas.Bool.{and_parts, eqb-true, false_from_ne_true}
+use Rattle.std.proofs.lemmas.List.{get_or-take, length-take-le}
 use Rattle.py_lines.specs.Character.{is_backslash, is_break, is_line_feed, is_quote, is_return, is_space, is_word_character}
 use Rattle.py_lines.specs.Piece.{Piece, join}
 use Rattle.py_lines.proofs.Pieces.PieceLists.{piece}
+use Rattle.py_lines.specs.declared.mode.Mode.{Mode}
 use Rattle.py_lines.specs.declared.mode.Mode.TheVariants as modes
 use Rattle.py_lines.specs.declared.mode.Move.TheVariants as moves
 use Rattle.py_lines.specs.Private.Machine.{Bracket, fresh, move_of, moved}
 use Rattle.py_lines.specs.Private.ScanMachine.{meet_of, scan_steps}
 use Rattle.py_lines.specs.Private.Scan.{line_start}
 use Rattle.py_lines.specs.Private.Run.{is_ascii_word}
-use Rattle.py_lines.specs.Private.Outline.{BeginsOuterEnd, EndsBefore, GoesOnAfter, HasCome, HasOuterEnd, IsOuterEnd, Passes, StandsBefore, line_end_of}
+use Rattle.py_lines.specs.Private.Outline.{BeginsOuterEnd, EndsBefore, GoesOnAfter, HasCome, HasOuterEnd, IsFreeAfter, IsOuterEnd, PassesFirst, StandsBefore, StandsClosed, closes_itself, line_end_of}
 use Rattle.py_lines.proofs.Machine.LiveTexts.{keeps}
 use Rattle.py_lines.proofs.Machine.PieceSteps.{scanned}
 use Rattle.py_lines.proofs.Machine.Starts.{start-slash}
 use Rattle.py_lines.proofs.LineScan.Increments.{EndsNoLine-push}
 use Rattle.py_lines.proofs.LineScan.LineSteps.{steps_push}
 use Rattle.py_lines.proofs.LineScan.Runs.{word_byte_continues}
-use Rattle.py_lines.proofs.LineScan.ShortPieces.{is_low, low_encodes, low_is}
+use Rattle.py_lines.proofs.LineScan.AsciiRuns.{is_low, low_encodes, low_is}
 use Rattle.py_lines.proofs.Text.CharacterTests.{feed_is, the_one}
-use Rattle.py_lines.proofs.SimpleLines.Code.{apart_tail, closed_line, code_ends, ends_so, holds_line_end, holds_one, holds_return, line_end_unreturned, no_tail_line_end, no_tail_return, one_unreturned, opens, pieces, stands}
+use Rattle.py_lines.proofs.SimpleLines.Code.{closed_line, code_ends, ends_so, holds_line_end, holds_one, holds_return, no_tail_return, one_unreturned, opens, pieces}
+use Rattle.py_lines.proofs.SimpleLines.Tails.{free_stands}
 use Rattle.py_lines.proofs.SimpleLines.FirstBytes.{outer_end_low}
 
 slash_is : (c : ℕ) → is_backslash c ≡ true → c ≡ 92
@@ -49,8 +53,8 @@ slash_slash = refl
 slash-not-word : is_word_character 92 ≡ false
 slash-not-word = word_byte_continues 92 (omega arith) ∙ slash-no-word
 
-slash_ends : (read : List ℕ) (n : ℕ) (st : List Bracket) → GoesOnAfter read n st → EndsBefore 92 read n st
-slash_ends read n st on = code_ends read n st 92 on slash-not-word slash-not-quote slash-not-space slash-no-word
+slash_ends : (initial : Mode) (read : List ℕ) (n : ℕ) (st : List Bracket) → GoesOnAfter initial read n st → EndsBefore 92 initial read n st
+slash_ends initial read n st on = code_ends initial read n st 92 on slash-not-word slash-not-quote slash-not-space slash-no-word
 
 join_closes : meet_of modes.Backslash 10 ≡ moves.Closes
 unfolding meet_of move_of is_line_feed
@@ -68,43 +72,43 @@ returned_waits : (c : ℕ) → (c ≡ 10 → ⊥) → meet_of modes.JoinReturn c
 unfolding meet_of move_of
 returned_waits c other = rw (false_from_ne_true (is_line_feed c) (λ feeds. other (feed_is c feeds))) refl
 
-module _ (read : List ℕ) (n : ℕ) (st : List Bracket) (on : EndsBefore 92 read n st) where
+module _ (initial : Mode) (read : List ℕ) (n : ℕ) (st : List Bracket) (on : EndsBefore 92 initial read n st) where
   abbrev done : List Piece
-  done = pieces read n st 92 on
+  done = pieces initial read n st 92 on
 
-  opened : HasCome (read ++ 92 ∷ []) n st (scanned done modes.Backslash (92 ∷ []))
-  opened = opens read n st 92 on modes.Backslash (start-slash 92 slash_slash) (holds_one read 92 n on.come.holds (omega arith) slash-not-break)
+  opened : HasCome initial (read ++ 92 ∷ []) n st (scanned done modes.Backslash (92 ∷ []))
+  opened = opens initial read n st 92 on modes.Backslash (start-slash 92 slash_slash) (holds_one read 92 n on.come.holds (omega arith) slash-not-break)
 
-  return_steps : scan_steps (Some (line_start modes.Free)) ((read ++ 92 ∷ []) ++ 13 ∷ []) ≡ Some (scanned done modes.JoinReturn (92 ∷ 13 ∷ []))
-  return_steps = steps_push (line_start modes.Free) (read ++ 92 ∷ []) (scanned done modes.Backslash (92 ∷ [])) 13 opened.steps ∙ ap (moved (scanned done modes.Backslash (92 ∷ [])) 13) join_return
+  return_steps : scan_steps (Some (line_start initial)) ((read ++ 92 ∷ []) ++ 13 ∷ []) ≡ Some (scanned done modes.JoinReturn (92 ∷ 13 ∷ []))
+  return_steps = steps_push (line_start initial) (read ++ 92 ∷ []) (scanned done modes.Backslash (92 ∷ [])) 13 opened.steps ∙ ap (moved (scanned done modes.Backslash (92 ∷ [])) 13) join_return
 
-  join_steps : (returned : Bool) → scan_steps (Some (line_start modes.Free)) ((read ++ 92 ∷ []) ++ line_end_of returned) ≡ Some (fresh (done ++ piece join (92 ∷ line_end_of returned) ∷ []))
-  join_steps false = steps_push (line_start modes.Free) (read ++ 92 ∷ []) (scanned done modes.Backslash (92 ∷ [])) 10 opened.steps ∙ ap (moved (scanned done modes.Backslash (92 ∷ [])) 10) join_closes
+  join_steps : (returned : Bool) → scan_steps (Some (line_start initial)) ((read ++ 92 ∷ []) ++ line_end_of returned) ≡ Some (fresh (done ++ piece join (92 ∷ line_end_of returned) ∷ []))
+  join_steps false = steps_push (line_start initial) (read ++ 92 ∷ []) (scanned done modes.Backslash (92 ∷ [])) 10 opened.steps ∙ ap (moved (scanned done modes.Backslash (92 ∷ [])) 10) join_closes
   join_steps true =
-      ap (scan_steps (Some (line_start modes.Free))) (sym (append_assoc (read ++ 92 ∷ []) (13 ∷ []) (10 ∷ [])))
-      ∙ steps_push (line_start modes.Free) ((read ++ 92 ∷ []) ++ 13 ∷ []) (scanned done modes.JoinReturn (92 ∷ 13 ∷ [])) 10 return_steps
+      ap (scan_steps (Some (line_start initial))) (sym (append_assoc (read ++ 92 ∷ []) (13 ∷ []) (10 ∷ [])))
+      ∙ steps_push (line_start initial) ((read ++ 92 ∷ []) ++ 13 ∷ []) (scanned done modes.JoinReturn (92 ∷ 13 ∷ [])) 10 return_steps
       ∙ ap (moved (scanned done modes.JoinReturn (92 ∷ 13 ∷ [])) 10) returned_closes
 
-  join_leads : (returned : Bool) → GoesOnAfter ((read ++ 92 ∷ []) ++ line_end_of returned) (n + 1) st
+  join_leads : (returned : Bool) → IsFreeAfter initial ((read ++ 92 ∷ []) ++ line_end_of returned) (n + 1) st
   join_leads returned =
       let whole = piece join (92 ∷ line_end_of returned) in
       record {
-        state = fresh (done ++ whole ∷ []);
+        done = done ++ whole ∷ [];
         come = record {
+          start = on.come.start;
           steps = join_steps returned;
           stacked = keeps done whole st refl refl opened.stacked;
-          one_line = EndsNoLine-push 0 done whole (closed_line read n st 92 on) refl;
+          one_line = EndsNoLine-push 0 done whole (closed_line initial read n st 92 on) refl;
           holds = holds_line_end returned (read ++ 92 ∷ []) n opened.holds (λ feeds. one_unreturned read 92 slash-not-break);
         };
-        tail = apart_tail _ modes.Free refl (no_tail_line_end returned (read ++ 92 ∷ []));
-        unreturned = line_end_unreturned returned (read ++ 92 ∷ []);
       }
 
   -- CR alone, before another byte
-  return_leads : (c : ℕ) → (c ≡ 10 → ⊥) → EndsBefore c ((read ++ 92 ∷ []) ++ 13 ∷ []) (n + 1) st
+  return_leads : (c : ℕ) → (c ≡ 10 → ⊥) → EndsBefore c initial ((read ++ 92 ∷ []) ++ 13 ∷ []) (n + 1) st
   return_leads c other = record {
     state = scanned done modes.JoinReturn (92 ∷ 13 ∷ []);
     come = record {
+      start = on.come.start;
       steps = return_steps;
       stacked = opened.stacked;
       one_line = opened.one_line;
@@ -116,18 +120,31 @@ module _ (read : List ℕ) (n : ℕ) (st : List Bracket) (on : EndsBefore 92 rea
     tail = λ begins. no_tail_return (read ++ 92 ∷ []);
   }
 
-  joined : (text after : List ℕ) → IsOuterEnd text after → StandsBefore after ((read ++ 92 ∷ []) ++ text) (n + 1) st
-  joined text after (inl (returned, is)) =
-      subst (λ (t : List ℕ). StandsBefore after ((read ++ 92 ∷ []) ++ t) (n + 1) st) (sym is) (stands after ((read ++ 92 ∷ []) ++ line_end_of returned) (n + 1) st (join_leads returned))
-  joined text [] (inr (is, other)) = absurd other
-  joined text (c ∷ cs) (inr (is, other)) = subst (λ (t : List ℕ). StandsBefore (c ∷ cs) ((read ++ 92 ∷ []) ++ t) (n + 1) st) (sym is) (inr (return_leads c other))
+  -- all pieces are closed after it, unless CR alone ends it
+  joined : (closes : Bool) (text after : List ℕ) → IsOuterEnd text after → (closes ≡ true → text ≡ 13 ∷ [] → ⊥) → StandsClosed closes after initial ((read ++ 92 ∷ []) ++ text) (n + 1) st
+  joined true text after (inl (returned, is)) feeds = subst (λ (t : List ℕ). IsFreeAfter initial ((read ++ 92 ∷ []) ++ t) (n + 1) st) (sym is) (join_leads returned)
+  joined true text after (inr (is, other)) feeds = absurd (feeds refl is)
+  joined false text after (inl (returned, is)) feeds =
+      subst (λ (t : List ℕ). StandsBefore after initial ((read ++ 92 ∷ []) ++ t) (n + 1) st) (sym is) (free_stands after initial ((read ++ 92 ∷ []) ++ line_end_of returned) (n + 1) st (join_leads returned))
+  joined false text [] (inr (is, other)) feeds = absurd other
+  joined false text (c ∷ cs) (inr (is, other)) feeds = subst (λ (t : List ℕ). StandsBefore (c ∷ cs) initial ((read ++ 92 ∷ []) ++ t) (n + 1) st) (sym is) (inr (return_leads c other))
+
+-- a join that closes itself ends with LF
+ends_with_feed : (cs : List ℕ) (len : ℕ) → len ≤ length cs → closes_itself (92 ∷ cs) (suc len) ≡ true → take len cs ≡ 13 ∷ [] → ⊥
+ends_with_feed cs len within closes alone =
+    let one : len ≡ 1 = sym (length-take-le len cs within) ∙ ap length alone in
+    let last : slice_index (92 ∷ cs) (suc len - 1) == 10 ≡ true = (and_parts (is_backslash 92) (slice_index (92 ∷ cs) (suc len - 1) == 10) (sym (rw slash-not-quote refl) ∙ closes)).1 in
+    let first : slice_index cs 0 ≡ 13 = sym (get_or-take len cs 0 0 (omega (arith, one))) ∙ ap (λ t. slice_index t 0) alone in
+    let there : suc len - 1 ≡ 1 = omega (arith, one) in
+    let clash : 13 ≡ 10 = sym first ∙ ap (slice_index (92 ∷ cs)) (sym there) ∙ eqb-true _ 10 last in
+    omega (arith, clash)
 
 pub join_passed : (bytes : List ℕ) (len : ℕ) → 0 < length bytes → is_backslash (slice_index bytes 0) ≡ true → HasOuterEnd (take (length bytes - 1) (drop 1 bytes)) (Some len)
-    → Passes bytes (record { len = 1 + len; line_ends = 1 }) (StandsBefore bytes) (StandsBefore (drop (1 + len) bytes))
+    → PassesFirst bytes (Some (record { len = 1 + len; line_ends = 1 }))
 join_passed [] len some slash found = absurd (omega (arith, some))
 join_passed (b ∷ cs) len some slash found =
-    subst (λ (j : ℕ). Passes (b ∷ cs) (record { len = j; line_ends = 1 }) (StandsBefore (b ∷ cs)) (StandsBefore (drop j (b ∷ cs)))) (sym one_more)
-    (subst (λ (c : ℕ). Passes (c ∷ cs) (record { len = suc len; line_ends = 1 }) (StandsBefore (c ∷ cs)) (StandsBefore (drop len cs))) (sym (slash_is b slash)) passes)
+    subst (λ (j : ℕ). PassesFirst (b ∷ cs) (Some (record { len = j; line_ends = 1 }))) (sym one_more)
+    (subst (λ (c : ℕ). PassesFirst (c ∷ cs) (Some (record { len = suc len; line_ends = 1 }))) (sym (slash_is b slash)) passes)
   where
     one_more : 1 + len ≡ suc len
     one_more = omega arith
@@ -135,7 +152,7 @@ join_passed (b ∷ cs) len some slash found =
     ends : BeginsOuterEnd cs len
     ends = subst (λ (l : List ℕ). BeginsOuterEnd l len) (take_all (length (b ∷ cs) - 1) cs (omega arith)) found
 
-    passes : Passes (92 ∷ cs) (record { len = suc len; line_ends = 1 }) (StandsBefore (92 ∷ cs)) (StandsBefore (drop len cs))
+    passes : PassesFirst (92 ∷ cs) (Some (record { len = suc len; line_ends = 1 }))
     passes = record {
       some = omega arith;
       few = omega arith;
@@ -143,8 +160,9 @@ join_passed (b ∷ cs) len some slash found =
         within = omega (arith, ends.within);
         run = 92 ∷ take len cs;
         spell = (low_encodes is_low (92 ∷ take len cs) low_is (outer_end_low (take len cs) (drop len cs) ends.is)).0;
-        leads = λ read n st on.
-            subst (λ (t : List ℕ). StandsBefore (drop len cs) t (n + 1) st) (append_assoc read (92 ∷ []) (take len cs))
-            (joined read n st (ends_so read cs n st 92 (slash_ends read n st) on) (take len cs) (drop len cs) ends.is);
+        leads = λ initial read n st on.
+            let closes = closes_itself (92 ∷ cs) (suc len) in
+            subst (λ (t : List ℕ). StandsClosed closes (drop len cs) initial t (n + 1) st) (append_assoc read (92 ∷ []) (take len cs))
+            (joined initial read n st (ends_so initial read cs n st 92 (slash_ends initial read n st) on) closes (take len cs) (drop len cs) ends.is (ends_with_feed cs len ends.within));
       };
     }

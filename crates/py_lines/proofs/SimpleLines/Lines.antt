@@ -13,6 +13,7 @@ use Rattle.py_lines.specs.LogicalLine.{byte_len, line_ends}
 use Rattle.py_lines.specs.Piece.{operator}
 use Rattle.py_lines.specs.declared.brackets.Brackets.{Brackets}
 use Rattle.py_lines.specs.declared.marks.Marks.{Marks}
+use Rattle.py_lines.specs.declared.mode.Mode.TheVariants as modes
 use Rattle.py_lines.specs.declared.mode.Spelling.{Spelling}
 use Rattle.py_lines.specs.declared.outline.Outline.{Outline}
 use Rattle.py_lines.specs.declared.plain_strings.Passed.{Passed}
@@ -20,21 +21,22 @@ use Rattle.py_lines.specs.Private.Machine.{Bracket, brackets_after}
 use Rattle.py_lines.specs.Private.Marks.{FindsNext, HasMarks, is_plain}
 use Rattle.py_lines.specs.Private.Run.{is_ascii_word}
 use Rattle.py_lines.specs.Private.Scan.{Meets, depth_of, none_open, stack_of}
-use Rattle.py_lines.specs.Private.Outline.{AreWholeLines, BeginWithLines, BeginsOuterEnd, HasComeTo, IsAfter, IsAfterLineEnd, IsAt, IsFurther, IsOuterEnd, IsPast, IsWholeLine, PassesPiece, StandsBefore, line_up_to, tail_of, tail_on}
+use Rattle.py_lines.specs.Private.Outline.{AreWholeLines, BeginWithLines, BeginsOuterEnd, HasComeTo, IsAfter, IsAfterLineEnd, IsAt, IsFurther, IsOuterEnd, IsPast, IsWholeLine, PassesPiece, StandsBefore, closes_itself, line_up_to, tail_of, tail_on}
 use Rattle.py_lines.proofs.Pieces.PieceLists.{piece}
 use Rattle.py_lines.proofs.Machine.LiveTexts.{closing-operator}
 use Rattle.py_lines.proofs.FieldMachine.PieceRuns.{opening_operator}
 use Rattle.py_lines.proofs.FieldScans.TextLengths.{later, rest_is}
 use Rattle.py_lines.proofs.LineScan.LineCount.{line_ends-bytes}
-use Rattle.py_lines.proofs.LineScan.ShortPieces.{all_pass, is_low, low_encodes, low_is}
+use Rattle.py_lines.proofs.LineScan.AsciiRuns.{all_pass, is_low, low_encodes, low_is}
 use Rattle.py_lines.proofs.LogicalLines.Cuts.{byte_len-append}
 use Rattle.py_lines.proofs.Text.CharacterTests.{operator_ascii}
 use Rattle.py_lines.proofs.Text.Utf8Prefixes.{all_scalars-append}
-use Rattle.py_lines.proofs.SimpleLines.Code.{IsCodeByte, begun, code_low, code_run, ends_so, line_end_on, operator_ends, operator_passed, stands, tail-encoded, tail_on-append}
+use Rattle.py_lines.proofs.SimpleLines.Code.{IsCodeByte, begun, code_low, code_run, ends_so, line_end_on, operator_ends, operator_passed, tail-encoded}
+use Rattle.py_lines.proofs.SimpleLines.Tails.{closed_stands, stands, tail_on-append}
 use Rattle.py_lines.proofs.SimpleLines.FirstBytes.{feed_found, outer_end_low, outer_found}
 
 -- a plain byte is one of code
-plain_code : (c : ℕ) → is_plain c ≡ true → IsCodeByte c
+pub plain_code : (c : ℕ) → is_plain c ≡ true → IsCodeByte c
 unfolding is_plain
 plain_code c h = by (or_cases (is_ascii_word c) (is_space c || (is_operator c && not (is_opening c || is_closing c))) h)
   where
@@ -128,7 +130,7 @@ module _ (bytes : List ℕ) where
     count = omega arith;
     read = [];
     spell = refl;
-    stands = stands bytes [] 0 [] begun;
+    stands = stands bytes modes.Free [] 0 [] begun;
   }
 
   -- the line with so many more bytes
@@ -162,7 +164,7 @@ module _ (bytes : List ℕ) where
 
   -- it comes so many bytes further
   step : (lines : Passed) (at n len feeds : ℕ) (st after : List Bracket) → (come : HasComeTo bytes lines at n st) → at + len ≤ length bytes → (run : List ℕ) → encode_utf8_all run ≡ take len (drop at bytes)
-      → StandsBefore (drop (at + len) bytes) (come.read ++ run) (come.more + feeds) after
+      → StandsBefore (drop (at + len) bytes) modes.Free (come.read ++ run) (come.more + feeds) after
       → HasComeTo bytes lines (at + len) (n + feeds) after
   step lines at n len feeds st after come room run spell on = record {
     within = room;
@@ -190,8 +192,8 @@ module _ (bytes : List ℕ) where
       subst (λ (k : ℕ). HasComeTo bytes lines at k st) none
       (subst (λ (k : ℕ). HasComeTo bytes lines k (n + 0) st) there
       (step lines from n len 0 st st come (omega (arith, next.within, next.after)) run spell
-      (subst (λ (k : ℕ). StandsBefore (drop (from + len) bytes) (come.read ++ run) k st) same
-      (code_run is_plain come.read run (drop (from + len) bytes) come.more st plain_code all (subst (λ (t : List ℕ). StandsBefore t come.read come.more st) split come.stands)))))
+      (subst (λ (k : ℕ). StandsBefore (drop (from + len) bytes) modes.Free (come.read ++ run) k st) same
+      (code_run is_plain modes.Free come.read run (drop (from + len) bytes) come.more st plain_code all (subst (λ (t : List ℕ). StandsBefore t modes.Free come.read come.more st) split come.stands)))))
     where
       later_byte : (from i : ℕ) → slice_index (drop from bytes) i ≡ slice_index bytes (from + i)
       later_byte from i = get_or-drop from bytes i 0
@@ -203,19 +205,20 @@ module _ (bytes : List ℕ) where
   pub bracket_on : (lines : Passed) (at n : ℕ) (st after : List Bracket) → (come : HasComeTo bytes lines at n st) → at < length bytes → is_operator (slice_index bytes at) ≡ true → brackets_after st (byte_len come.read) (piece operator (slice_index bytes at ∷ [])) ≡ Some after → HasComeTo bytes lines (at + 1) n after
   bracket_on lines at n st after come within is stands_so =
       let c = slice_index bytes at in
-      let here : StandsBefore (c ∷ drop (at + 1) bytes) come.read come.more st = subst (λ (t : List ℕ). StandsBefore t come.read come.more st) (drop_more bytes at 0 within) come.stands in
+      let here : StandsBefore (c ∷ drop (at + 1) bytes) modes.Free come.read come.more st = subst (λ (t : List ℕ). StandsBefore t modes.Free come.read come.more st) (drop_more bytes at 0 within) come.stands in
       let none : n + 0 ≡ n = omega arith in
       let same : come.more ≡ come.more + 0 = omega arith in
       let spell = (low_encodes is_operator (c ∷ []) operator_ascii (and_from _ _ is refl)).0 in
       subst (λ (k : ℕ). HasComeTo bytes lines (at + 1) k after) none
       (step lines at n 1 0 st after come (omega (arith, within)) (c ∷ []) (spell ∙ sym (one_more at within))
-      (subst (λ (k : ℕ). StandsBefore (drop (at + 1) bytes) (come.read ++ c ∷ []) k after) same
-      (stands (drop (at + 1) bytes) (come.read ++ c ∷ []) come.more after
-      (operator_passed come.read come.more st c (ends_so come.read (drop (at + 1) bytes) come.more st c (operator_ends come.read come.more st c is) here) after is stands_so))))
+      (subst (λ (k : ℕ). StandsBefore (drop (at + 1) bytes) modes.Free (come.read ++ c ∷ []) k after) same
+      (stands (drop (at + 1) bytes) modes.Free (come.read ++ c ∷ []) come.more after
+      (operator_passed modes.Free come.read come.more st c (ends_so modes.Free come.read (drop (at + 1) bytes) come.more st c (operator_ends modes.Free come.read come.more st c is) here) after is stands_so))))
 
   -- over a piece
   pub piece_on : (lines : Passed) (at n : ℕ) (st : List Bracket) (p : Passed) → length st ≤ 100 → HasComeTo bytes lines at n st → PassesPiece bytes at (Some p) → HasComeTo bytes lines (at + p.len) (n + p.line_ends) st
-  piece_on lines at n st p few come (room, passes) = step lines at n p.len p.line_ends st st come room passes.part.run passes.part.spell (passes.part.leads come.read come.more st (same_tail lines at n st come, few, come.stands))
+  piece_on lines at n st p few come (room, passes) = step lines at n p.len p.line_ends st st come room passes.part.run passes.part.spell
+      (closed_stands (closes_itself (drop at bytes) p.len) (drop (at + p.len) bytes) modes.Free (come.read ++ passes.part.run) (come.more + p.line_ends) st (passes.part.leads modes.Free come.read come.more st (same_tail lines at n st come, few, come.stands)))
 
   -- over a line end: the line goes on where a bracket is open, and ends where none is
   module _ (lines : Passed) (at n len : ℕ) (st : List Bracket) (come : HasComeTo bytes lines at n st) (within : at < length bytes) (ends : BeginsOuterEnd (drop at bytes) len) where
@@ -231,7 +234,7 @@ module _ (bytes : List ℕ) where
     on_line_end : IsAfterLineEnd st (come.read ++ text) (come.more + 1) (drop (at + len) bytes)
     on_line_end =
         let split : drop at bytes ≡ text ++ drop (at + len) bytes = sym (take-append-drop len (drop at bytes)) ∙ ap (λ t. text ++ t) (drop-drop len at bytes) in
-        line_end_on text (drop (at + len) bytes) come.read come.more st (subst (IsOuterEnd text) (drop-drop len at bytes) ends.is) (subst (λ (t : List ℕ). StandsBefore t come.read come.more st) split come.stands)
+        line_end_on text (drop (at + len) bytes) come.read come.more st (subst (IsOuterEnd text) (drop-drop len at bytes) ends.is) (subst (λ (t : List ℕ). StandsBefore t modes.Free come.read come.more st) split come.stands)
 
   pub line_end_in_brackets : (lines : Passed) (at n len : ℕ) (st : List Bracket) → HasComeTo bytes lines at n st → at < length bytes → BeginsOuterEnd (drop at bytes) len → none_open st ≡ false → HasComeTo bytes lines (at + len) (n + 1) st
   line_end_in_brackets lines at n len [] come within ends some = absurd (both_ways _ some refl)
@@ -275,7 +278,7 @@ module _ (bytes : List ℕ) where
         count = omega arith;
         read = [];
         spell = sym nothing;
-        stands = stands (drop (at + len) bytes) [] 0 [] begun;
+        stands = stands (drop (at + len) bytes) modes.Free [] 0 [] begun;
       }
     where
       nothing : line_up_to bytes (record { len = at + len; line_ends = n + 1 }) (at + len) ≡ []
@@ -294,12 +297,12 @@ module _ (bytes : List ℕ) where
       by_holds : (read : List ℕ) (k : ℕ) → line_ends read ≡ k → k ≤ byte_len read
       by_holds read k is = omega (arith, is, line_ends-bytes read)
 
-      in_line : (rest read : List ℕ) (k : ℕ) → StandsBefore rest read k st → k ≤ byte_len read
+      in_line : (rest read : List ℕ) (k : ℕ) → StandsBefore rest modes.Free read k st → k ≤ byte_len read
       in_line [] read k on = by_holds read k on.come.holds.count
       in_line (c ∷ rest) read k (inl on) = by_holds read k on.come.holds.count
       in_line (c ∷ rest) read k (inr on) = by_holds read k on.come.holds.count
 
-      own : StandsBefore (drop at bytes) come.read come.more st → come.more ≤ byte_len come.read
+      own : StandsBefore (drop at bytes) modes.Free come.read come.more st → come.more ≤ byte_len come.read
       own on = in_line (drop at bytes) come.read come.more on
 
 pub next_is : (bytes : List ℕ) (from at : ℕ) (old new : Outline) (b : Brackets) → IsAfter bytes from old b → new ≡ record old { marks = new.marks } → FindsNext bytes from at new.marks → IsAt bytes at new b

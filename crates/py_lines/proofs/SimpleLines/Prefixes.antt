@@ -5,7 +5,7 @@ use Rattle.py_lines.specs.Private.Machine.{first_spelling, spelling_with}
 use Rattle.py_lines.specs.Private.Run.{is_ascii_word, word_spelling}
 use Rattle.py_lines.specs.Private.Outline.{tail_of, tail_with}
 use Rattle.py_lines.proofs.FieldScans.TextLengths.{later}
-use Rattle.py_lines.proofs.SimpleLines.Code.{no_tail_with, tail_push}
+use Rattle.py_lines.proofs.SimpleLines.Tails.{no_tail_with, tail_push}
 use Rattle.py_lines.proofs.SimpleLines.FirstBytes.{taken_one, taken_two}
 
 tail_after : (bytes : List ℕ) (at : ℕ) → 0 < at → at ≤ length bytes → tail_of (take at bytes) ≡ tail_with (tail_of (take (at - 1) bytes)) (slice_index bytes (at - 1))

@@ -5,7 +5,6 @@ use Rattle.std.specs.Str.{all_scalars}
 use Rattle.std.specs.List.{list_all}
 use Rattle.std.proofs.lemmas.List.{get_or-take, length-take-le}
 use Rattle.py_lines.specs.declared.mode.Mode.{Mode}
-use Rattle.py_lines.specs.declared.mode.Mode.TheVariants as modes
 use Rattle.py_lines.specs.Private.Machine.{Bracket}
 use Rattle.py_lines.specs.Private.ScanMachine.{move_at, scan_steps}
 use Rattle.py_lines.specs.Private.Scan.{line_start}
@@ -16,13 +15,14 @@ use Rattle.py_lines.proofs.LineScan.Runs.{all_no_break, characters_stay, ends-ru
 use Rattle.py_lines.proofs.SimpleLines.Code.{holds_more}
 
 -- the open piece goes on
-pub goes_on : (m : Mode) (read run : List ℕ) (n : ℕ) (st : List Bracket) → all_scalars run ≡ true → list_all (stays m) run ≡ true → IsInPiece m read n st → IsInPiece m (read ++ run) n st
-goes_on m read [] n st scalars all on = subst (λ (t : List ℕ). IsInPiece m t n st) (sym (append-nil read)) on
-goes_on m read (c ∷ cs) n st scalars all on = record {
+pub goes_on : (m initial : Mode) (read run : List ℕ) (n : ℕ) (st : List Bracket) → all_scalars run ≡ true → list_all (stays m) run ≡ true → IsInPiece m initial read n st → IsInPiece m initial (read ++ run) n st
+goes_on m initial read [] n st scalars all on = subst (λ (t : List ℕ). IsInPiece m initial t n st) (sym (append-nil read)) on
+goes_on m initial read (c ∷ cs) n st scalars all on = record {
   done = on.done;
   held = on.held ++ c ∷ cs;
   come = record {
-    steps = steps_by-append move_at (Some (line_start modes.Free)) read (c ∷ cs) ∙ ap (λ o. scan_steps o (c ∷ cs)) on.come.steps ∙ held_run on.done m on.held (c ∷ cs) all;
+    start = on.come.start;
+    steps = steps_by-append move_at (Some (line_start initial)) read (c ∷ cs) ∙ ap (λ o. scan_steps o (c ∷ cs)) on.come.steps ∙ held_run on.done m on.held (c ∷ cs) all;
     stacked = on.come.stacked;
     one_line = on.come.one_line;
     holds = holds_more read (c ∷ cs) n on.come.holds scalars (all_no_break m (c ∷ cs) all);

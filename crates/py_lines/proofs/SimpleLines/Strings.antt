@@ -3,7 +3,7 @@ use Rattle.std.proofs.Common.{◌≡◌, ℕ, ◌+◌, ◌-◌, ◌<◌, ◌≤�
 use Rattle.std.specs.Prelude.{encode_utf8_all, if◌then◌else◌, nat_lt}
 use Rattle.std.specs.Str.{all_scalars}
 use Rattle.std.specs.List.{list_all}
-use Rattle.std.proofs.lemmas.Bool.{and_from, and_parts, both_ways, eqb-true, false_from_ne_true, ltb-false, ltb-true}
+use Rattle.std.proofs.lemmas.Bool.{and_from, and_parts, both_ways, eqb-true, false_from_ne_true, lt-ltb, ltb-false, ltb-true}
 use Rattle.std.proofs.lemmas.List.{drop-drop, drop_more, length-take-le}
 use Rattle.std.proofs.lemmas.Str.{encode_ascii, encodes-append, length-le-encodes}
 use Rattle.std.proofs.Math.Seq.{take-add}
@@ -20,7 +20,7 @@ use Rattle.py_lines.specs.Private.Machine.{fresh, moved, Bracket, long_move, mov
 use Rattle.py_lines.specs.Private.ScanMachine.{begins_string, is_field_spelling, is_raw_spelling, meet_of, quote_move, scan_step, scan_steps}
 use Rattle.py_lines.specs.Private.Scan.{line_start}
 use Rattle.py_lines.specs.Private.Run.{Spans, is_body_byte}
-use Rattle.py_lines.specs.Private.Outline.{BeginsLineEnd, BeginsLong, EndsBefore, GoesOnAfter, HasEscape, HasLineEnd, HasString, HoldsLineEnds, IsEscaped, IsInLong, IsInPiece, IsInShort, IsTail, Passes, PassesPart, PassesPiece, PassesOrNot, StandsBefore, StringBegins, is_plain_prefix, line_end_of, short_mode, tail_of}
+use Rattle.py_lines.specs.Private.Outline.{BeginsLineEnd, BeginsLong, EndsBefore, GoesOnAfter, HasEscape, HasLineEnd, HasString, HoldsLineEnds, IsEscaped, IsInLong, IsInPiece, IsInShort, IsFreeAfter, IsTail, Passes, PassesPart, PassesPiece, PassesOrNot, StandsBefore, StandsClosed, StringBegins, closes_itself, is_plain_prefix, line_end_of, short_mode, tail_of}
 use Rattle.py_lines.proofs.Pieces.PieceLists.{piece}
 use Rattle.py_lines.proofs.Machine.Starts.{start-quote}
 use Rattle.py_lines.proofs.Machine.PieceSteps.{scanned}
@@ -30,9 +30,11 @@ use Rattle.py_lines.proofs.LineScan.Increments.{EndsNoLine-push}
 use Rattle.py_lines.proofs.LineScan.LineCount.{ends-last}
 use Rattle.py_lines.proofs.LineScan.LineSteps.{steps_push}
 use Rattle.py_lines.proofs.LineScan.Runs.{body_parts, break-return, quote_ascii, stays-no_break}
-use Rattle.py_lines.proofs.LineScan.ShortPieces.{inside_closes, is_low, is_low_from, low_encodes, low_is, quote-no_break}
+use Rattle.py_lines.proofs.LineScan.AsciiRuns.{is_low, is_low_from, low_encodes, low_is, quote-no_break}
+use Rattle.py_lines.proofs.LineScan.PlainStrings.{inside_closes}
 use Rattle.py_lines.proofs.Text.CharacterTests.{quote-not-word}
-use Rattle.py_lines.proofs.SimpleLines.Code.{apart_breaks, apart_tail, code_other, feed_unreturned, holds_line_end, holds_more, holds_one, line_end_unreturned, no_tail, one_unreturned, opens, quote-no-word, quote-not-space, stands, tail_code}
+use Rattle.py_lines.proofs.SimpleLines.Code.{apart_breaks, code_other, holds_line_end, holds_more, holds_one, line_end_unreturned, one_unreturned, opens, quote-not-space, tail_code}
+use Rattle.py_lines.proofs.SimpleLines.Tails.{feed_unreturned, no_tail, quote-no-word}
 use Rattle.py_lines.proofs.SimpleLines.Joins.{slash-not-break, slash_slash}
 use Rattle.py_lines.proofs.SimpleLines.FirstBytes.{first_then, line_end_low, taken_one, taken_two}
 use Rattle.py_lines.proofs.SimpleLines.Runs.{goes_on, stay_spelled}
@@ -41,12 +43,13 @@ use Rattle.py_lines.proofs.SimpleLines.Runs.{goes_on, stay_spelled}
 abbrev pub Steps : Mode → ℕ → Mode → Type 0
 Steps m c next = (done : List Piece) (held : List ℕ) → scan_step (scanned done m held) c ≡ Some (scanned done next (held ++ c ∷ []))
 
-pub grows : (m next : Mode) (c k : ℕ) (read : List ℕ) (n : ℕ) (st : List Bracket) → Steps m c next → is_return c ≡ false → HoldsLineEnds (read ++ c ∷ []) k → IsInPiece m read n st → IsInPiece next (read ++ c ∷ []) k st
-grows m next c k read n st step other holds s = record {
+pub grows : (m next : Mode) (c k : ℕ) (initial : Mode) (read : List ℕ) (n : ℕ) (st : List Bracket) → Steps m c next → is_return c ≡ false → HoldsLineEnds (read ++ c ∷ []) k → IsInPiece m initial read n st → IsInPiece next initial (read ++ c ∷ []) k st
+grows m next c k initial read n st step other holds s = record {
   done = s.done;
   held = s.held ++ c ∷ [];
   come = record {
-    steps = steps_push (line_start modes.Free) read (scanned s.done m s.held) c s.come.steps ∙ step s.done s.held;
+    start = s.come.start;
+    steps = steps_push (line_start initial) read (scanned s.done m s.held) c s.come.steps ∙ step s.done s.held;
     stacked = s.come.stacked;
     one_line = s.come.one_line;
     holds = holds;
@@ -55,15 +58,16 @@ grows m next c k read n st step other holds s = record {
 }
 
 -- so does a line end, by way of this mode where CR stands before LF
-line_end_grows : (m mid next : Mode) (returned : Bool) (read : List ℕ) (n : ℕ) (st : List Bracket) → Steps m 10 next → Steps m 13 mid → Steps mid 10 next → IsInPiece m read n st → IsInPiece next (read ++ line_end_of returned) (n + 1) st
-line_end_grows m mid next false read n st feed return after_return s =
-    grows m next 10 (n + 1) read n st feed feed_unreturned (holds_line_end false read n s.come.holds (λ feeds. s.unreturned)) s
-line_end_grows m mid next true read n st feed return after_return s = record {
+line_end_grows : (m mid next : Mode) (returned : Bool) (initial : Mode) (read : List ℕ) (n : ℕ) (st : List Bracket) → Steps m 10 next → Steps m 13 mid → Steps mid 10 next → IsInPiece m initial read n st → IsInPiece next initial (read ++ line_end_of returned) (n + 1) st
+line_end_grows m mid next false initial read n st feed return after_return s =
+    grows m next 10 (n + 1) initial read n st feed feed_unreturned (holds_line_end false read n s.come.holds (λ feeds. s.unreturned)) s
+line_end_grows m mid next true initial read n st feed return after_return s = record {
   done = s.done;
   held = (s.held ++ 13 ∷ []) ++ 10 ∷ [];
   come = record {
-    steps = ap (scan_steps (Some (line_start modes.Free))) (sym (append_assoc read (13 ∷ []) (10 ∷ [])))
-        ∙ steps_push (line_start modes.Free) (read ++ 13 ∷ []) (scanned s.done mid (s.held ++ 13 ∷ [])) 10 (steps_push (line_start modes.Free) read (scanned s.done m s.held) 13 s.come.steps ∙ return s.done s.held)
+    start = s.come.start;
+    steps = ap (scan_steps (Some (line_start initial))) (sym (append_assoc read (13 ∷ []) (10 ∷ [])))
+        ∙ steps_push (line_start initial) (read ++ 13 ∷ []) (scanned s.done mid (s.held ++ 13 ∷ [])) 10 (steps_push (line_start initial) read (scanned s.done m s.held) 13 s.come.steps ∙ return s.done s.held)
         ∙ after_return s.done (s.held ++ 13 ∷ []);
     stacked = s.come.stacked;
     one_line = s.come.one_line;
@@ -205,7 +209,7 @@ escaped_low text feeds (inl (returned, is, one)) = ap (list_all is_low) is ∙ l
 escaped_low text feeds (inr (c, is, low, none, zero)) = ap (list_all is_low) is ∙ and_from _ _ (is_low_from c low) refl
 
 -- a part, by its characters
-pub low_part : {stands comes : List ℕ → ℕ → List Bracket → Type 0} (bytes text : List ℕ) (len feeds : ℕ) → len ≤ length bytes → list_all is_low text ≡ true → take len bytes ≡ text → ((read : List ℕ) (n : ℕ) (st : List Bracket) → stands read n st → comes (read ++ text) (n + feeds) st) → PassesPart bytes len feeds stands comes
+pub low_part : {stands comes : Mode → List ℕ → ℕ → List Bracket → Type 0} (bytes text : List ℕ) (len feeds : ℕ) → len ≤ length bytes → list_all is_low text ≡ true → take len bytes ≡ text → ((initial : Mode) (read : List ℕ) (n : ℕ) (st : List Bracket) → stands initial read n st → comes initial (read ++ text) (n + feeds) st) → PassesPart bytes len feeds stands comes
 low_part {stands} {comes} bytes text len feeds within low spell leads = record {
   within = within;
   run = text;
@@ -214,19 +218,19 @@ low_part {stands} {comes} bytes text len feeds within low spell leads = record {
 }
 
 -- without a line end
-pub still : {stands comes : List ℕ → ℕ → List Bracket → Type 0} (bytes run : List ℕ) (len : ℕ) → len ≤ length bytes → encode_utf8_all run ≡ take len bytes → ((read : List ℕ) (n : ℕ) (st : List Bracket) → stands read n st → comes (read ++ run) n st) → PassesPart bytes len 0 stands comes
+pub still : {stands comes : Mode → List ℕ → ℕ → List Bracket → Type 0} (bytes run : List ℕ) (len : ℕ) → len ≤ length bytes → encode_utf8_all run ≡ take len bytes → ((initial : Mode) (read : List ℕ) (n : ℕ) (st : List Bracket) → stands initial read n st → comes initial (read ++ run) n st) → PassesPart bytes len 0 stands comes
 still {stands} {comes} bytes run len within spell leads = record {
   within = within;
   run = run;
   spell = spell;
-  leads = λ read n st on. subst (λ (k : ℕ). comes (read ++ run) k st) (omega arith) (leads read n st on);
+  leads = λ initial read n st on. subst (λ (k : ℕ). comes initial (read ++ run) k st) (omega arith) (leads initial read n st on);
 }
 
-pub low_still : {stands comes : List ℕ → ℕ → List Bracket → Type 0} (bytes text : List ℕ) (len : ℕ) → len ≤ length bytes → list_all is_low text ≡ true → take len bytes ≡ text → ((read : List ℕ) (n : ℕ) (st : List Bracket) → stands read n st → comes (read ++ text) n st) → PassesPart bytes len 0 stands comes
+pub low_still : {stands comes : Mode → List ℕ → ℕ → List Bracket → Type 0} (bytes text : List ℕ) (len : ℕ) → len ≤ length bytes → list_all is_low text ≡ true → take len bytes ≡ text → ((initial : Mode) (read : List ℕ) (n : ℕ) (st : List Bracket) → stands initial read n st → comes initial (read ++ text) n st) → PassesPart bytes len 0 stands comes
 low_still {stands} {comes} bytes text len within low spell leads = still bytes text len within ((low_encodes is_low text low_is low).0 ∙ sym spell) leads
 
 -- one part after another
-pub after : {stands comes goes : List ℕ → ℕ → List Bracket → Type 0} (bytes : List ℕ) (len feeds more further : ℕ) (all : ℕ) → feeds + further ≡ all → PassesPart bytes len feeds stands comes → PassesPart (drop len bytes) more further comes goes → PassesPart bytes (len + more) all stands goes
+pub after : {stands comes goes : Mode → List ℕ → ℕ → List Bracket → Type 0} (bytes : List ℕ) (len feeds more further : ℕ) (all : ℕ) → feeds + further ≡ all → PassesPart bytes len feeds stands comes → PassesPart (drop len bytes) more further comes goes → PassesPart bytes (len + more) all stands goes
 after {stands} {comes} {goes} bytes len feeds more further all same first second =
     let within = first.within in
     let room = second.within in
@@ -234,10 +238,10 @@ after {stands} {comes} {goes} bytes len feeds more further all same first second
       within = omega (arith, within, room, length-drop len bytes);
       run = first.run ++ second.run;
       spell = encodes-append first.run second.run ∙ ap (λ t. t ++ encode_utf8_all second.run) first.spell ∙ ap (λ t. take len bytes ++ t) second.spell ∙ sym (take-add len more bytes);
-      leads = λ read n st on.
-          subst (λ (k : ℕ). goes (read ++ (first.run ++ second.run)) k st) (omega (arith, same))
-          (subst (λ (t : List ℕ). goes t ((n + feeds) + further) st) (append_assoc read first.run second.run)
-          (second.leads (read ++ first.run) (n + feeds) st (first.leads read n st on)));
+      leads = λ initial read n st on.
+          subst (λ (k : ℕ). goes initial (read ++ (first.run ++ second.run)) k st) (omega (arith, same))
+          (subst (λ (t : List ℕ). goes initial t ((n + feeds) + further) st) (append_assoc read first.run second.run)
+          (second.leads initial (read ++ first.run) (n + feeds) st (first.leads initial read n st on)));
     }
 
 -- an empty string is no CR
@@ -266,17 +270,17 @@ module _ (q : ℕ) (quote : is_quote q ≡ true) where
   quote_held read n holds = holds_one read q n holds (quote_ascii q quote) (quote-no_break q quote)
 
   -- a string begins
-  opened : (read : List ℕ) (n : ℕ) (st : List Bracket) → EndsBefore q read n st → StringBegins q read n st
-  opened read n st on = record {
+  opened : (initial : Mode) (read : List ℕ) (n : ℕ) (st : List Bracket) → EndsBefore q initial read n st → StringBegins q initial read n st
+  opened initial read n st on = record {
     done = _;
     held = _;
-    come = opens read n st q on (modes.Opened q) (start-quote q quote) (quote_held read n on.come.holds);
+    come = opens initial read n st q on (modes.Opened q) (start-quote q quote) (quote_held read n on.come.holds);
     unreturned = one_unreturned read q (quote-no_break q quote);
   }
 
-  after_tail : (read : List ℕ) (n : ℕ) (st : List Bracket) (t : Option Spelling) → tail_of read ≡ t → (on : GoesOnAfter read n st) → IsTail t on.state.mode → is_plain_prefix t ≡ true → StringBegins q read n st
-  after_tail read n st None none on apart plain =
-      opened read n st (record {
+  after_tail : (initial : Mode) (read : List ℕ) (n : ℕ) (st : List Bracket) (t : Option Spelling) → tail_of read ≡ t → (on : GoesOnAfter initial read n st) → IsTail t on.state.mode → is_plain_prefix t ≡ true → StringBegins q initial read n st
+  after_tail initial read n st None none on apart plain =
+      opened initial read n st (record {
         state = on.state;
         come = on.come;
         breaks = apart_breaks on.state.mode q apart (quote-not-space q quote);
@@ -284,36 +288,35 @@ module _ (q : ℕ) (quote : is_quote q ≡ true) where
         inside = λ returns. absurd (code_other on.state.mode (tail_code None on.state.mode apart) returns);
         tail = λ _. none;
       })
-  after_tail read n st (Some s) some on is plain =
-      let in_word : IsInPiece (modes.Word s) read n st = subst (λ (m : Mode). IsInPiece m read n st) is (record { done = on.state.done; held = on.state.held; come = on.come; unreturned = on.unreturned }) in
-      grows (modes.Word s) (modes.Opened q) q n read n st (λ done held. ap (moved (scanned done (modes.Word s) held) q) (prefix_quote s q quote plain)) quote-not-return (quote_held read n on.come.holds) in_word
+  after_tail initial read n st (Some s) some on is plain =
+      let in_word : IsInPiece (modes.Word s) initial read n st = subst (λ (m : Mode). IsInPiece m initial read n st) is (record { done = on.state.done; held = on.state.held; come = on.come; unreturned = on.unreturned }) in
+      grows (modes.Word s) (modes.Opened q) q n initial read n st (λ done held. ap (moved (scanned done (modes.Word s) held) q) (prefix_quote s q quote plain)) quote-not-return (quote_held read n on.come.holds) in_word
 
-  pub string_begins : (rest read : List ℕ) (n : ℕ) (st : List Bracket) → is_plain_prefix (tail_of read) ≡ true → StandsBefore (q ∷ rest) read n st → StringBegins q read n st
-  string_begins rest read n st plain (inl on) = after_tail read n st (tail_of read) refl on on.tail plain
-  string_begins rest read n st plain (inr on) = opened read n st on
+  pub string_begins : (rest : List ℕ) (initial : Mode) (read : List ℕ) (n : ℕ) (st : List Bracket) → is_plain_prefix (tail_of read) ≡ true → StandsBefore (q ∷ rest) initial read n st → StringBegins q initial read n st
+  string_begins rest initial read n st plain (inl on) = after_tail initial read n st (tail_of read) refl on on.tail plain
+  string_begins rest initial read n st plain (inr on) = opened initial read n st on
 
   -- it is closed
-  closes : (m : Mode) (read : List ℕ) (n : ℕ) (st : List Bracket) → ((s : IsInPiece m read n st) → scan_step (scanned s.done m s.held) q ≡ Some (fresh (s.done ++ piece string (s.held ++ q ∷ []) ∷ []))) → IsInPiece m read n st → GoesOnAfter (read ++ q ∷ []) n st
-  closes m read n st step s =
+  closes : (m initial : Mode) (read : List ℕ) (n : ℕ) (st : List Bracket) → ((s : IsInPiece m initial read n st) → scan_step (scanned s.done m s.held) q ≡ Some (fresh (s.done ++ piece string (s.held ++ q ∷ []) ∷ []))) → IsInPiece m initial read n st → IsFreeAfter initial (read ++ q ∷ []) n st
+  closes m initial read n st step s =
       let text = piece string (s.held ++ q ∷ []) in
       record {
-        state = fresh (s.done ++ text ∷ []);
+        done = s.done ++ text ∷ [];
         come = record {
-          steps = steps_push (line_start modes.Free) read (scanned s.done m s.held) q s.come.steps ∙ step s;
+          start = s.come.start;
+          steps = steps_push (line_start initial) read (scanned s.done m s.held) q s.come.steps ∙ step s;
           stacked = keeps s.done text st refl refl s.come.stacked;
           one_line = EndsNoLine-push 0 s.done text s.come.one_line refl;
           holds = quote_held read n s.come.holds;
         };
-        tail = apart_tail (tail_of (read ++ q ∷ [])) modes.Free refl (no_tail read q (quote-no-word q quote));
-        unreturned = one_unreturned read q (quote-no_break q quote);
       }
 
   -- an empty string, before what follows
-  pub empty : (read rest : List ℕ) (c n : ℕ) (st : List Bracket) → (c ≡ q → ⊥) → StringBegins q read n st → StandsBefore (c ∷ rest) (read ++ q ∷ q ∷ []) n st
-  empty read rest c n st unlike on =
-      let two = grows (modes.Opened q) (modes.Empty q) q n (read ++ q ∷ []) n st (λ done held. ap (moved (scanned done (modes.Opened q) held) q) (opened_quote q)) quote-not-return (quote_held (read ++ q ∷ []) n on.come.holds) on in
+  pub empty : (initial : Mode) (read rest : List ℕ) (c n : ℕ) (st : List Bracket) → (c ≡ q → ⊥) → StringBegins q initial read n st → StandsBefore (c ∷ rest) initial (read ++ q ∷ q ∷ []) n st
+  empty initial read rest c n st unlike on =
+      let two = grows (modes.Opened q) (modes.Empty q) q n initial (read ++ q ∷ []) n st (λ done held. ap (moved (scanned done (modes.Opened q) held) q) (opened_quote q)) quote-not-return (quote_held (read ++ q ∷ []) n on.come.holds) on in
       let spell = append_assoc read (q ∷ []) (q ∷ []) in
-      inr (subst (λ (t : List ℕ). EndsBefore c t n st) spell (record {
+      inr (subst (λ (t : List ℕ). EndsBefore c initial t n st) spell (record {
         state = scanned two.done (modes.Empty q) two.held;
         come = two.come;
         breaks = empty_breaks q c (false_from_ne_true (c == q) (λ h. unlike (eqb-true c q h)));
@@ -337,21 +340,21 @@ module _ (q : ℕ) (quote : is_quote q ≡ true) where
   spans_stay bytes k is = stay_spelled (modes.Inside q) bytes k (quote_ascii q quote) is.run.within is.run.each is.utf8.0 is.utf8.1.1
 
   -- so many line ends are none
-  none_more : (m : Mode) (read : List ℕ) (n feeds : ℕ) (st : List Bracket) → feeds ≡ 0 → IsInPiece m read n st → IsInPiece m read (n + feeds) st
-  none_more m read n feeds st none on = subst (λ (k : ℕ). IsInPiece m read k st) (omega (arith, none)) on
+  none_more : (m initial : Mode) (read : List ℕ) (n feeds : ℕ) (st : List Bracket) → feeds ≡ 0 → IsInPiece m initial read n st → IsInPiece m initial read (n + feeds) st
+  none_more m initial read n feeds st none on = subst (λ (k : ℕ). IsInPiece m initial read k st) (omega (arith, none)) on
 
-  one_more : (m : Mode) (read : List ℕ) (n feeds : ℕ) (st : List Bracket) → feeds ≡ 1 → IsInPiece m read (n + 1) st → IsInPiece m read (n + feeds) st
-  one_more m read n feeds st one on = subst (λ (k : ℕ). IsInPiece m read k st) (omega (arith, one)) on
+  one_more : (m initial : Mode) (read : List ℕ) (n feeds : ℕ) (st : List Bracket) → feeds ≡ 1 → IsInPiece m initial read (n + 1) st → IsInPiece m initial read (n + feeds) st
+  one_more m initial read n feeds st one on = subst (λ (k : ℕ). IsInPiece m initial read k st) (omega (arith, one)) on
 
   -- what a backslash escapes, which leads from one mode to another
   escaped_leads : (mid after_return next : Mode) → ((c : ℕ) → is_return c ≡ false → Steps mid c next) → Steps mid 13 after_return → Steps after_return 10 next
-      → (read text : List ℕ) (n feeds : ℕ) (st : List Bracket) → IsEscaped text feeds → IsInPiece mid read n st → IsInPiece next (read ++ text) (n + feeds) st
-  escaped_leads mid after_return next other return feed read text n feeds st (inl (returned, is, one)) on =
-      one_more next (read ++ text) n feeds st one
-      (subst (λ (t : List ℕ). IsInPiece next (read ++ t) (n + 1) st) (sym is) (line_end_grows mid after_return next returned read n st (other 10 feed_unreturned) return feed on))
-  escaped_leads mid after_return next other return feed read text n feeds st (inr (c, is, low, none, zero)) on =
-      none_more next (read ++ text) n feeds st zero
-      (subst (λ (t : List ℕ). IsInPiece next (read ++ t) n st) (sym is) (grows mid next c n read n st (other c (break-return c none)) (break-return c none) (holds_one read c n on.come.holds low none) on))
+      → (initial : Mode) (read text : List ℕ) (n feeds : ℕ) (st : List Bracket) → IsEscaped text feeds → IsInPiece mid initial read n st → IsInPiece next initial (read ++ text) (n + feeds) st
+  escaped_leads mid after_return next other return feed initial read text n feeds st (inl (returned, is, one)) on =
+      one_more next initial (read ++ text) n feeds st one
+      (subst (λ (t : List ℕ). IsInPiece next initial (read ++ t) (n + 1) st) (sym is) (line_end_grows mid after_return next returned initial read n st (other 10 feed_unreturned) return feed on))
+  escaped_leads mid after_return next other return feed initial read text n feeds st (inr (c, is, low, none, zero)) on =
+      none_more next initial (read ++ text) n feeds st zero
+      (subst (λ (t : List ℕ). IsInPiece next initial (read ++ t) n st) (sym is) (grows mid next c n initial read n st (other c (break-return c none)) (break-return c none) (holds_one read c n on.come.holds low none) on))
 
   -- the modes of a short string
   abbrev short_is : Bool → Mode
@@ -360,9 +363,9 @@ module _ (q : ℕ) (quote : is_quote q ≡ true) where
   pub short_later : (len : ℕ) → 1 < len → short_mode q len ≡ modes.Inside q
   short_later len more = ap short_is (false_from_ne_true (len == 1) (λ h. omega (arith, more, eqb-true len 1 h)))
 
-  short_character : (b : Bool) (c : ℕ) → all_scalars (c ∷ []) ≡ true → is_body_byte q c ≡ true → (read : List ℕ) (n : ℕ) (st : List Bracket) → IsInPiece (short_is b) read n st → IsInPiece (modes.Inside q) (read ++ c ∷ []) n st
-  short_character b c scalar is read n st on =
-      grows (short_is b) (modes.Inside q) c n read n st (by b) (text-not-return c is) (text_held read n c scalar is on.come.holds) on
+  short_character : (b : Bool) (c : ℕ) → all_scalars (c ∷ []) ≡ true → is_body_byte q c ≡ true → (initial : Mode) (read : List ℕ) (n : ℕ) (st : List Bracket) → IsInPiece (short_is b) initial read n st → IsInPiece (modes.Inside q) initial (read ++ c ∷ []) n st
+  short_character b c scalar is initial read n st on =
+      grows (short_is b) (modes.Inside q) c n initial read n st (by b) (text-not-return c is) (text_held read n c scalar is on.come.holds) on
     where
       by : (b : Bool) → Steps (short_is b) c (modes.Inside q)
       by true done held =
@@ -372,14 +375,14 @@ module _ (q : ℕ) (quote : is_quote q ≡ true) where
           let parts = body_parts q c is in
           ap (moved (scanned done (modes.Inside q) held) c) (inside_other q c parts.0 parts.1 parts.2)
 
-  short_escaped : (b : Bool) (read text : List ℕ) (n feeds : ℕ) (st : List Bracket) → IsEscaped text feeds → IsInPiece (short_is b) read n st → IsInPiece (modes.Inside q) (read ++ 92 ∷ text) (n + feeds) st
-  short_escaped b read text n feeds st escaped on =
-      subst (λ (t : List ℕ). IsInPiece (modes.Inside q) t (n + feeds) st) (append_assoc read (92 ∷ []) text)
+  short_escaped : (b : Bool) (initial : Mode) (read text : List ℕ) (n feeds : ℕ) (st : List Bracket) → IsEscaped text feeds → IsInPiece (short_is b) initial read n st → IsInPiece (modes.Inside q) initial (read ++ 92 ∷ text) (n + feeds) st
+  short_escaped b initial read text n feeds st escaped on =
+      subst (λ (t : List ℕ). IsInPiece (modes.Inside q) initial t (n + feeds) st) (append_assoc read (92 ∷ []) text)
       (escaped_leads (modes.Escape q) (modes.EscapeReturn q) (modes.Inside q)
       (λ c other done held. ap (moved (scanned done (modes.Escape q) held) c) (escape_other q c other))
       (λ done held. ap (moved (scanned done (modes.Escape q) held) 13) (escape_return q))
       (λ done held. ap (moved (scanned done (modes.EscapeReturn q) held) 10) (returned_feed q))
-      (read ++ 92 ∷ []) text n feeds st escaped (grows (short_is b) (modes.Escape q) 92 n read n st (by b) slash-not-return (holds_one read 92 n on.come.holds (lit< tt) slash-not-break) on))
+      initial (read ++ 92 ∷ []) text n feeds st escaped (grows (short_is b) (modes.Escape q) 92 n initial read n st (by b) slash-not-return (holds_one read 92 n on.come.holds (lit< tt) slash-not-break) on))
     where
       by : (b : Bool) → Steps (short_is b) 92 (modes.Escape q)
       by true done held = ap (moved (scanned done (modes.Opened q) held) 92) (opened_slash q quote)
@@ -387,92 +390,91 @@ module _ (q : ℕ) (quote : is_quote q ≡ true) where
 
   -- the parts of one, as the code knows them
   pub short_first : (bytes : List ℕ) → 0 < length bytes → slice_index bytes 0 ≡ q → PassesPart bytes 1 0 (StringBegins q) (IsInShort q 1)
-  short_first bytes within is = low_still bytes (q ∷ []) 1 within quote_low (taken_one bytes within ∙ ap (λ (c : ℕ). c ∷ []) is) (λ read n st on. on)
+  short_first bytes within is = low_still bytes (q ∷ []) 1 within quote_low (taken_one bytes within ∙ ap (λ (c : ℕ). c ∷ []) is) (λ initial read n st on. on)
 
-  short_text : (len : ℕ) (text read : List ℕ) (n : ℕ) (st : List Bracket) → 1 ≤ len → all_scalars text ≡ true → list_all (is_body_byte q) text ≡ true → IsInShort q len read n st → IsInShort q (len + byte_len text) (read ++ text) n st
-  short_text len [] read n st some scalars all on =
-      subst (λ (k : ℕ). IsInShort q k (read ++ []) n st) (omega arith) (subst (λ (t : List ℕ). IsInShort q len t n st) (sym (append-nil read)) on)
-  short_text len (c ∷ cs) read n st some scalars all on =
+  short_text : (len : ℕ) (text : List ℕ) (initial : Mode) (read : List ℕ) (n : ℕ) (st : List Bracket) → 1 ≤ len → all_scalars text ≡ true → list_all (is_body_byte q) text ≡ true → IsInShort q len initial read n st → IsInShort q (len + byte_len text) initial (read ++ text) n st
+  short_text len [] initial read n st some scalars all on =
+      subst (λ (k : ℕ). IsInShort q k initial (read ++ []) n st) (omega arith) (subst (λ (t : List ℕ). IsInShort q len initial t n st) (sym (append-nil read)) on)
+  short_text len (c ∷ cs) initial read n st some scalars all on =
       let parts = and_parts (is_body_byte q c) (list_all (is_body_byte q) cs) all in
       let each = and_parts _ (all_scalars cs) scalars in
       let later : 1 < len + byte_len (c ∷ cs) = omega (arith, some, length-le-encodes (c ∷ cs)) in
-      let one = short_character (len == 1) c (and_from _ _ each.0 refl) parts.0 read n st on in
-      subst (λ (m : Mode). IsInPiece m (read ++ c ∷ cs) n st) (sym (short_later (len + byte_len (c ∷ cs)) later))
-      (subst (λ (t : List ℕ). IsInPiece (modes.Inside q) t n st) (append_assoc read (c ∷ []) cs) (goes_on (modes.Inside q) (read ++ c ∷ []) cs n st each.1 parts.1 one))
+      let one = short_character (len == 1) c (and_from _ _ each.0 refl) parts.0 initial read n st on in
+      subst (λ (m : Mode). IsInPiece m initial (read ++ c ∷ cs) n st) (sym (short_later (len + byte_len (c ∷ cs)) later))
+      (subst (λ (t : List ℕ). IsInPiece (modes.Inside q) initial t n st) (append_assoc read (c ∷ []) cs) (goes_on (modes.Inside q) initial (read ++ c ∷ []) cs n st each.1 parts.1 one))
 
   pub short_run : (bytes : List ℕ) (len k : ℕ) → 1 ≤ len → Spans (is_body_byte q) bytes k → PassesPart bytes k 0 (IsInShort q len) (IsInShort q (len + k))
-  short_run bytes len k some is = still bytes is.utf8.0 k is.run.within is.utf8.1.1 (λ read n st on.
-      subst (λ (j : ℕ). IsInShort q (len + j) (read ++ is.utf8.0) n st) (spans_size bytes k is)
-      (short_text len is.utf8.0 read n st some is.utf8.1.0 (spans_stay bytes k is) on))
+  short_run bytes len k some is = still bytes is.utf8.0 k is.run.within is.utf8.1.1 (λ initial read n st on.
+      subst (λ (j : ℕ). IsInShort q (len + j) initial (read ++ is.utf8.0) n st) (spans_size bytes k is)
+      (short_text len is.utf8.0 initial read n st some is.utf8.1.0 (spans_stay bytes k is) on))
 
   pub short_escape : (bytes : List ℕ) (len : ℕ) (p : Passed) → 1 ≤ len → HasEscape bytes (Some p) → PassesPart bytes p.len p.line_ends (IsInShort q len) (IsInShort q (len + p.len))
   short_escape bytes len p some has =
       let more = has.some in
-      low_part bytes (92 ∷ has.text) p.len p.line_ends has.within (escaped_low has.text p.line_ends has.escaped) has.spell (λ read n st on.
-      subst (λ (m : Mode). IsInPiece m (read ++ 92 ∷ has.text) (n + p.line_ends) st) (sym (short_later (len + p.len) (omega (arith, some, more))))
-      (short_escaped (len == 1) read has.text n p.line_ends st has.escaped on))
+      low_part bytes (92 ∷ has.text) p.len p.line_ends has.within (escaped_low has.text p.line_ends has.escaped) has.spell (λ initial read n st on.
+      subst (λ (m : Mode). IsInPiece m initial (read ++ 92 ∷ has.text) (n + p.line_ends) st) (sym (short_later (len + p.len) (omega (arith, some, more))))
+      (short_escaped (len == 1) initial read has.text n p.line_ends st has.escaped on))
 
-  pub short_last : (bytes rest : List ℕ) (len : ℕ) → 1 < len → 0 < length bytes → slice_index bytes 0 ≡ q → PassesPart bytes 1 0 (IsInShort q len) (StandsBefore rest)
-  short_last bytes rest len more within is = low_still bytes (q ∷ []) 1 within quote_low (taken_one bytes within ∙ ap (λ (c : ℕ). c ∷ []) is) (λ read n st on.
-      stands rest (read ++ q ∷ []) n st
-      (closes (modes.Inside q) read n st (λ s. ap (moved (scanned s.done (modes.Inside q) s.held) q) (inside_closes q)) (subst (λ (m : Mode). IsInPiece m read n st) (short_later len more) on)))
+  pub short_last : (bytes : List ℕ) (len : ℕ) → 1 < len → 0 < length bytes → slice_index bytes 0 ≡ q → PassesPart bytes 1 0 (IsInShort q len) IsFreeAfter
+  short_last bytes len more within is = low_still bytes (q ∷ []) 1 within quote_low (taken_one bytes within ∙ ap (λ (c : ℕ). c ∷ []) is) (λ initial read n st on.
+      closes (modes.Inside q) initial read n st (λ s. ap (moved (scanned s.done (modes.Inside q) s.held) q) (inside_closes q)) (subst (λ (m : Mode). IsInPiece m initial read n st) (short_later len more) on))
 
   -- a string of three quotes begins
-  begun_long : (read : List ℕ) (n : ℕ) (st : List Bracket) → StringBegins q read n st → IsInLong q (read ++ q ∷ q ∷ q ∷ []) n st
-  begun_long read n st one =
-      let two = grows (modes.Opened q) (modes.Empty q) q n (read ++ q ∷ []) n st (λ done held. ap (moved (scanned done (modes.Opened q) held) q) (opened_quote q)) quote-not-return (quote_held (read ++ q ∷ []) n one.come.holds) one in
-      let three = grows (modes.Empty q) (modes.Long q) q n ((read ++ q ∷ []) ++ q ∷ []) n st (λ done held. ap (moved (scanned done (modes.Empty q) held) q) (empty_quote q)) quote-not-return (quote_held ((read ++ q ∷ []) ++ q ∷ []) n two.come.holds) two in
-      subst (λ (t : List ℕ). IsInLong q t n st) (append_assoc (read ++ q ∷ []) (q ∷ []) (q ∷ []) ∙ append_assoc read (q ∷ []) (q ∷ q ∷ [])) three
+  begun_long : (initial : Mode) (read : List ℕ) (n : ℕ) (st : List Bracket) → StringBegins q initial read n st → IsInLong q initial (read ++ q ∷ q ∷ q ∷ []) n st
+  begun_long initial read n st one =
+      let two = grows (modes.Opened q) (modes.Empty q) q n initial (read ++ q ∷ []) n st (λ done held. ap (moved (scanned done (modes.Opened q) held) q) (opened_quote q)) quote-not-return (quote_held (read ++ q ∷ []) n one.come.holds) one in
+      let three = grows (modes.Empty q) (modes.Long q) q n initial ((read ++ q ∷ []) ++ q ∷ []) n st (λ done held. ap (moved (scanned done (modes.Empty q) held) q) (empty_quote q)) quote-not-return (quote_held ((read ++ q ∷ []) ++ q ∷ []) n two.come.holds) two in
+      subst (λ (t : List ℕ). IsInLong q initial t n st) (append_assoc (read ++ q ∷ []) (q ∷ []) (q ∷ []) ∙ append_assoc read (q ∷ []) (q ∷ q ∷ [])) three
 
   -- a quote of its text
-  lone : (read : List ℕ) (n : ℕ) (st : List Bracket) → IsInLong q read n st → IsInPiece (modes.LongOne q) (read ++ q ∷ []) n st
-  lone read n st on = grows (modes.Long q) (modes.LongOne q) q n read n st (λ done held. ap (moved (scanned done (modes.Long q) held) q) (long_quote q)) quote-not-return (quote_held read n on.come.holds) on
+  lone : (initial : Mode) (read : List ℕ) (n : ℕ) (st : List Bracket) → IsInLong q initial read n st → IsInPiece (modes.LongOne q) initial (read ++ q ∷ []) n st
+  lone initial read n st on = grows (modes.Long q) (modes.LongOne q) q n initial read n st (λ done held. ap (moved (scanned done (modes.Long q) held) q) (long_quote q)) quote-not-return (quote_held read n on.come.holds) on
 
   -- its last quotes
-  closed_long : (read : List ℕ) (n : ℕ) (st : List Bracket) → IsInLong q read n st → GoesOnAfter (read ++ q ∷ q ∷ q ∷ []) n st
-  closed_long read n st on =
-      let one = lone read n st on in
-      let two = grows (modes.LongOne q) (modes.LongTwo q) q n (read ++ q ∷ []) n st (λ done held. ap (moved (scanned done (modes.LongOne q) held) q) (one_quote q)) quote-not-return (quote_held (read ++ q ∷ []) n one.come.holds) one in
-      subst (λ (t : List ℕ). GoesOnAfter t n st) (append_assoc (read ++ q ∷ []) (q ∷ []) (q ∷ []) ∙ append_assoc read (q ∷ []) (q ∷ q ∷ []))
-      (closes (modes.LongTwo q) ((read ++ q ∷ []) ++ q ∷ []) n st (λ s. ap (moved (scanned s.done (modes.LongTwo q) s.held) q) (two_closes q)) two)
+  closed_long : (initial : Mode) (read : List ℕ) (n : ℕ) (st : List Bracket) → IsInLong q initial read n st → IsFreeAfter initial (read ++ q ∷ q ∷ q ∷ []) n st
+  closed_long initial read n st on =
+      let one = lone initial read n st on in
+      let two = grows (modes.LongOne q) (modes.LongTwo q) q n initial (read ++ q ∷ []) n st (λ done held. ap (moved (scanned done (modes.LongOne q) held) q) (one_quote q)) quote-not-return (quote_held (read ++ q ∷ []) n one.come.holds) one in
+      subst (λ (t : List ℕ). IsFreeAfter initial t n st) (append_assoc (read ++ q ∷ []) (q ∷ []) (q ∷ []) ∙ append_assoc read (q ∷ []) (q ∷ q ∷ []))
+      (closes (modes.LongTwo q) initial ((read ++ q ∷ []) ++ q ∷ []) n st (λ s. ap (moved (scanned s.done (modes.LongTwo q) s.held) q) (two_closes q)) two)
 
   -- a line end, and one after a quote of its text
   feed_in_long : Steps (modes.Long q) 10 (modes.Long q)
   feed_in_long done held = ap (moved (scanned done (modes.Long q) held) 10) (long_other q 10 (feed-not-quote q quote) feed-plain)
 
-  line_end_in_long : (returned : Bool) (read : List ℕ) (n : ℕ) (st : List Bracket) → IsInLong q read n st → IsInLong q (read ++ line_end_of returned) (n + 1) st
-  line_end_in_long returned read n st on =
-      line_end_grows (modes.Long q) (modes.Long q) (modes.Long q) returned read n st feed_in_long
+  line_end_in_long : (returned : Bool) (initial : Mode) (read : List ℕ) (n : ℕ) (st : List Bracket) → IsInLong q initial read n st → IsInLong q initial (read ++ line_end_of returned) (n + 1) st
+  line_end_in_long returned initial read n st on =
+      line_end_grows (modes.Long q) (modes.Long q) (modes.Long q) returned initial read n st feed_in_long
       (λ done held. ap (moved (scanned done (modes.Long q) held) 13) (long_other q 13 (return-not-quote q quote) return-plain)) feed_in_long on
 
-  lone_line_end : (returned : Bool) (read : List ℕ) (n : ℕ) (st : List Bracket) → IsInLong q read n st → IsInLong q (read ++ q ∷ line_end_of returned) (n + 1) st
-  lone_line_end returned read n st on =
-      subst (λ (t : List ℕ). IsInLong q t (n + 1) st) (append_assoc read (q ∷ []) (line_end_of returned))
-      (line_end_grows (modes.LongOne q) (modes.Long q) (modes.Long q) returned (read ++ q ∷ []) n st
+  lone_line_end : (returned : Bool) (initial : Mode) (read : List ℕ) (n : ℕ) (st : List Bracket) → IsInLong q initial read n st → IsInLong q initial (read ++ q ∷ line_end_of returned) (n + 1) st
+  lone_line_end returned initial read n st on =
+      subst (λ (t : List ℕ). IsInLong q initial t (n + 1) st) (append_assoc read (q ∷ []) (line_end_of returned))
+      (line_end_grows (modes.LongOne q) (modes.Long q) (modes.Long q) returned initial (read ++ q ∷ []) n st
       (λ done held. ap (moved (scanned done (modes.LongOne q) held) 10) (one_other q 10 (feed-not-quote q quote) feed-plain))
-      (λ done held. ap (moved (scanned done (modes.LongOne q) held) 13) (one_other q 13 (return-not-quote q quote) return-plain)) feed_in_long (lone read n st on))
+      (λ done held. ap (moved (scanned done (modes.LongOne q) held) 13) (one_other q 13 (return-not-quote q quote) return-plain)) feed_in_long (lone initial read n st on))
 
   -- text after such a quote
-  lone_text : (text read : List ℕ) (n : ℕ) (st : List Bracket) → 0 < byte_len text → all_scalars text ≡ true → list_all (is_body_byte q) text ≡ true → IsInLong q read n st → IsInLong q (read ++ q ∷ text) n st
-  lone_text [] read n st some scalars all on = absurd (omega (arith, some))
-  lone_text (c ∷ cs) read n st some scalars all on =
+  lone_text : (text : List ℕ) (initial : Mode) (read : List ℕ) (n : ℕ) (st : List Bracket) → 0 < byte_len text → all_scalars text ≡ true → list_all (is_body_byte q) text ≡ true → IsInLong q initial read n st → IsInLong q initial (read ++ q ∷ text) n st
+  lone_text [] initial read n st some scalars all on = absurd (omega (arith, some))
+  lone_text (c ∷ cs) initial read n st some scalars all on =
       let parts = and_parts (is_body_byte q c) (list_all (is_body_byte q) cs) all in
       let each = and_parts _ (all_scalars cs) scalars in
       let unlike = body_parts q c parts.0 in
-      let one = lone read n st on in
-      let first = grows (modes.LongOne q) (modes.Long q) c n (read ++ q ∷ []) n st (λ done held. ap (moved (scanned done (modes.LongOne q) held) c) (one_other q c unlike.0 unlike.1)) (text-not-return c parts.0) (text_held (read ++ q ∷ []) n c (and_from _ _ each.0 refl) parts.0 one.come.holds) one in
-      subst (λ (t : List ℕ). IsInLong q t n st) (append_assoc (read ++ q ∷ []) (c ∷ []) cs ∙ append_assoc read (q ∷ []) (c ∷ cs))
-      (goes_on (modes.Long q) ((read ++ q ∷ []) ++ c ∷ []) cs n st each.1 parts.1 first)
+      let one = lone initial read n st on in
+      let first = grows (modes.LongOne q) (modes.Long q) c n initial (read ++ q ∷ []) n st (λ done held. ap (moved (scanned done (modes.LongOne q) held) c) (one_other q c unlike.0 unlike.1)) (text-not-return c parts.0) (text_held (read ++ q ∷ []) n c (and_from _ _ each.0 refl) parts.0 one.come.holds) one in
+      subst (λ (t : List ℕ). IsInLong q initial t n st) (append_assoc (read ++ q ∷ []) (c ∷ []) cs ∙ append_assoc read (q ∷ []) (c ∷ cs))
+      (goes_on (modes.Long q) initial ((read ++ q ∷ []) ++ c ∷ []) cs n st each.1 parts.1 first)
 
   -- its parts, as the code knows them
   pub long_first : (bytes : List ℕ) → BeginsLong q bytes → PassesPart bytes 3 0 (StringBegins q) (IsInLong q)
   long_first bytes long = low_still bytes (q ∷ q ∷ q ∷ []) 3 long.within quotes_low long.spell begun_long
 
-  pub long_last : (bytes rest : List ℕ) → BeginsLong q bytes → PassesPart bytes 3 0 (IsInLong q) (StandsBefore rest)
-  long_last bytes rest long = low_still bytes (q ∷ q ∷ q ∷ []) 3 long.within quotes_low long.spell (λ read n st on. stands rest (read ++ q ∷ q ∷ q ∷ []) n st (closed_long read n st on))
+  pub long_last : (bytes : List ℕ) → BeginsLong q bytes → PassesPart bytes 3 0 (IsInLong q) IsFreeAfter
+  long_last bytes long = low_still bytes (q ∷ q ∷ q ∷ []) 3 long.within quotes_low long.spell closed_long
 
   pub long_run : (bytes : List ℕ) (k : ℕ) → Spans (is_body_byte q) bytes k → PassesPart bytes k 0 (IsInLong q) (IsInLong q)
-  long_run bytes k is = still bytes is.utf8.0 k is.run.within is.utf8.1.1 (λ read n st on. goes_on (modes.Long q) read is.utf8.0 n st is.utf8.1.0 (spans_stay bytes k is) on)
+  long_run bytes k is = still bytes is.utf8.0 k is.run.within is.utf8.1.1 (λ initial read n st on. goes_on (modes.Long q) initial read is.utf8.0 n st is.utf8.1.0 (spans_stay bytes k is) on)
 
   pub line_end_part : (bytes : List ℕ) (len : ℕ) → BeginsLineEnd bytes len → Passes bytes (record { len = len; line_ends = 1 }) (IsInLong q) (IsInLong q)
   line_end_part bytes len ends =
@@ -504,20 +506,20 @@ module _ (q : ℕ) (quote : is_quote q ≡ true) where
         few = omega arith;
         part = still bytes (q ∷ is.utf8.0) (1 + len) (omega (arith, room, some, length-drop 1 bytes))
             (ap (λ t. t ++ encode_utf8_all is.utf8.0) (encode_ascii q (quote_ascii q quote)) ∙ ap (λ t. q ∷ t) is.utf8.1.1 ∙ sym (first_then bytes q len some first))
-            (λ read n st on. lone_text is.utf8.0 read n st (omega (arith, more, size)) is.utf8.1.0 (spans_stay (drop 1 bytes) len is) on);
+            (λ initial read n st on. lone_text is.utf8.0 initial read n st (omega (arith, more, size)) is.utf8.1.0 (spans_stay (drop 1 bytes) len is) on);
       }
 
-  long_escaped : (read text : List ℕ) (n feeds : ℕ) (st : List Bracket) → IsEscaped text feeds → IsInLong q read n st → IsInLong q (read ++ 92 ∷ text) (n + feeds) st
-  long_escaped read text n feeds st escaped on =
-      subst (λ (t : List ℕ). IsInLong q t (n + feeds) st) (append_assoc read (92 ∷ []) text)
+  long_escaped : (initial : Mode) (read text : List ℕ) (n feeds : ℕ) (st : List Bracket) → IsEscaped text feeds → IsInLong q initial read n st → IsInLong q initial (read ++ 92 ∷ text) (n + feeds) st
+  long_escaped initial read text n feeds st escaped on =
+      subst (λ (t : List ℕ). IsInLong q initial t (n + feeds) st) (append_assoc read (92 ∷ []) text)
       (escaped_leads (modes.LongEscape q) (modes.Long q) (modes.Long q)
       (λ c other done held. ap (moved (scanned done (modes.LongEscape q) held) c) (long_escape q c))
       (λ done held. ap (moved (scanned done (modes.LongEscape q) held) 13) (long_escape q 13)) feed_in_long
-      (read ++ 92 ∷ []) text n feeds st escaped (grows (modes.Long q) (modes.LongEscape q) 92 n read n st (λ done held. ap (moved (scanned done (modes.Long q) held) 92) (long_slash q quote)) slash-not-return (holds_one read 92 n on.come.holds (lit< tt) slash-not-break) on))
+      initial (read ++ 92 ∷ []) text n feeds st escaped (grows (modes.Long q) (modes.LongEscape q) 92 n initial read n st (λ done held. ap (moved (scanned done (modes.Long q) held) 92) (long_slash q quote)) slash-not-return (holds_one read 92 n on.come.holds (lit< tt) slash-not-break) on))
 
   long_escape_part : (bytes : List ℕ) (p : Passed) → HasEscape bytes (Some p) → PassesPart bytes p.len p.line_ends (IsInLong q) (IsInLong q)
   long_escape_part bytes p has =
-      low_part bytes (92 ∷ has.text) p.len p.line_ends has.within (escaped_low has.text p.line_ends has.escaped) has.spell (λ read n st. long_escaped read has.text n p.line_ends st has.escaped)
+      low_part bytes (92 ∷ has.text) p.len p.line_ends has.within (escaped_low has.text p.line_ends has.escaped) has.spell (λ initial read n st. long_escaped initial read has.text n p.line_ends st has.escaped)
 
 pub escape_few : (bytes : List ℕ) (p : Passed) → HasEscape bytes (Some p) → p.line_ends ≤ p.len
 escape_few bytes p has =
@@ -528,6 +530,12 @@ escape_few bytes p has =
 pub part_of_escape : (q : ℕ) → is_quote q ≡ true → (bytes : List ℕ) (found : Option Passed) → HasEscape bytes found → PassesOrNot bytes found (IsInLong q) (IsInLong q)
 part_of_escape q quote bytes None has = tt
 part_of_escape q quote bytes (Some p) has = record { some = has.some; few = escape_few bytes p has; part = long_escape_part q quote bytes p has }
+
+-- a string that isn't empty is passed where its parts are
+whole_string : (bytes : List ℕ) (len n : ℕ) → 2 < len → n ≤ len → PassesPart bytes len n (StringBegins (slice_index bytes 0)) IsFreeAfter → HasString bytes (Some (record { len = len; line_ends = n }))
+whole_string bytes len n more few part =
+    subst (λ (b : Bool). Passes bytes (record { len = len; line_ends = n }) (StringBegins (slice_index bytes 0)) (StandsClosed b (drop len bytes))) (sym (lt-ltb 2 len more))
+    (record { some = omega (arith, more); few = few; part = part })
 
 -- a short string as far as the code has come in it
 module _ (bytes : List ℕ) (quote : is_quote (slice_index bytes 0) ≡ true) where
@@ -547,15 +555,12 @@ module _ (bytes : List ℕ) (quote : is_quote (slice_index bytes 0) ≡ true) wh
       by true more = ltb-true 1 len more
       by false none = absurd (holds (ap (slice_index bytes) (omega (arith, some, ltb-false 1 len none)) ∙ is))
 
-  pub short_ended : (len n : ℕ) → 1 ≤ len → (slice_index bytes 1 ≡ own → ⊥) → PassesPart bytes len n (StringBegins own) (IsInShort own len) → n ≤ len → len < length bytes → slice_index bytes len ≡ own → Passes bytes (record { len = len + 1; line_ends = n }) (StringBegins own) (StandsBefore (drop (len + 1) bytes))
+  pub short_ended : (len n : ℕ) → 1 ≤ len → (slice_index bytes 1 ≡ own → ⊥) → PassesPart bytes len n (StringBegins own) (IsInShort own len) → n ≤ len → len < length bytes → slice_index bytes len ≡ own → HasString bytes (Some (record { len = len + 1; line_ends = n }))
   short_ended len n some holds read few within is =
       let here : len + 0 ≡ len = omega arith in
       let first : slice_index (drop len bytes) 0 ≡ own = later bytes len 0 ∙ ap (λ (k : ℕ). slice_index bytes k) here ∙ is in
-      record {
-        some = omega arith;
-        few = omega (arith, few);
-        part = after bytes len n 1 0 n (omega arith) read (short_last own quote (drop len bytes) (drop (len + 1) bytes) len (not_first len some is holds) (omega (arith, within, length-drop len bytes)) first);
-      }
+      whole_string bytes (len + 1) n (omega (arith, not_first len some is holds)) (omega (arith, few))
+      (after bytes len n 1 0 n (omega arith) read (short_last own quote (drop len bytes) len (not_first len some is holds) (omega (arith, within, length-drop len bytes)) first))
 
   pub short_on : (len n : ℕ) (p : Passed) → 1 ≤ len → PassesPart bytes len n (StringBegins own) (IsInShort own len) → HasEscape (take (length bytes - len) (drop len bytes)) (Some p) → PassesPart bytes (len + p.len) (n + p.line_ends) (StringBegins own) (IsInShort own (len + p.len))
   short_on len n p some read has = after bytes len n p.len p.line_ends (n + p.line_ends) refl read (short_escape own quote (drop len bytes) len p some (subst (λ (t : List ℕ). HasEscape t (Some p)) (rest_is bytes len) has))
@@ -567,12 +572,10 @@ module _ (bytes : List ℕ) (quote : is_quote (slice_index bytes 0) ≡ true) wh
   pub long_more : (len n k : ℕ) → PassesPart bytes len n (StringBegins own) (IsInLong own) → Spans (is_body_byte own) (take (length bytes - len) (drop len bytes)) k → PassesPart bytes (len + k) n (StringBegins own) (IsInLong own)
   long_more len n k read run = after bytes len n k 0 n (omega arith) read (long_run own quote (drop len bytes) k (subst (λ (t : List ℕ). Spans (is_body_byte own) t k) (rest_is bytes len) run))
 
-  pub long_ended : (len n : ℕ) → PassesPart bytes len n (StringBegins own) (IsInLong own) → n ≤ len → BeginsLong own (take (length bytes - len) (drop len bytes)) → Passes bytes (record { len = len + 3; line_ends = n }) (StringBegins own) (StandsBefore (drop (len + 3) bytes))
-  long_ended len n read few long = record {
-    some = omega arith;
-    few = omega (arith, few);
-    part = after bytes len n 3 0 n (omega arith) read (long_last own quote (drop len bytes) (drop (len + 3) bytes) (subst (λ (t : List ℕ). BeginsLong own t) (rest_is bytes len) long));
-  }
+  pub long_ended : (len n : ℕ) → PassesPart bytes len n (StringBegins own) (IsInLong own) → n ≤ len → BeginsLong own (take (length bytes - len) (drop len bytes)) → HasString bytes (Some (record { len = len + 3; line_ends = n }))
+  long_ended len n read few long =
+      whole_string bytes (len + 3) n (omega arith) (omega (arith, few))
+      (after bytes len n 3 0 n (omega arith) read (long_last own quote (drop len bytes) (subst (λ (t : List ℕ). BeginsLong own t) (rest_is bytes len) long)))
 
   pub long_on : (len n : ℕ) (p : Passed) → PassesPart bytes len n (StringBegins own) (IsInLong own) → Passes (take (length bytes - len) (drop len bytes)) p (IsInLong own) (IsInLong own) → PassesPart bytes (len + p.len) (n + p.line_ends) (StringBegins own) (IsInLong own)
   long_on len n p read has = after bytes len n p.len p.line_ends (n + p.line_ends) refl read (subst (λ (t : List ℕ). PassesPart t p.len p.line_ends (IsInLong own) (IsInLong own)) (rest_is bytes len) has.part)
@@ -582,9 +585,13 @@ module _ (bytes : List ℕ) (quote : is_quote (slice_index bytes 0) ≡ true) wh
   empty_is within second third = record {
     some = omega arith;
     few = omega arith;
-    part = low_still bytes (own ∷ own ∷ []) 2 (omega (arith, within)) (quotes_two own quote) (taken_two bytes (omega (arith, within)) ∙ ap (λ (c : ℕ). own ∷ c ∷ []) second) (λ read n st on.
-        subst (λ (t : List ℕ). StandsBefore t (read ++ own ∷ own ∷ []) n st) (sym (drop_more bytes 2 0 within)) (empty own quote read (drop 3 bytes) (slice_index bytes 2) n st third on));
+    part = low_still bytes (own ∷ own ∷ []) 2 (omega (arith, within)) (quotes_two own quote) (taken_two bytes (omega (arith, within)) ∙ ap (λ (c : ℕ). own ∷ c ∷ []) second) (λ initial read n st on.
+        subst (λ (t : List ℕ). StandsBefore t initial (read ++ own ∷ own ∷ []) n st) (sym (drop_more bytes 2 0 within)) (empty own quote initial read (drop 3 bytes) (slice_index bytes 2) n st third on));
   }
+
+-- such a piece closes itself if it isn't empty
+pub string_closes : (bytes : List ℕ) (len : ℕ) → is_quote (slice_index bytes 0) ≡ true → closes_itself bytes len ≡ nat_lt 2 len
+string_closes bytes len quote = rw quote refl
 
 -- a string at a byte of a line
 pub string_at : (bytes : List ℕ) (at : ℕ) (found : Option Passed) → at < length bytes → is_quote (slice_index bytes at) ≡ true → is_plain_prefix (tail_of (take at bytes)) ≡ true → HasString (take (length bytes - at) (drop at bytes)) found → PassesPiece bytes at found
@@ -603,11 +610,12 @@ string_at bytes at (Some p) within quote plain has =
           within = room;
           run = is.part.run;
           spell = is.part.spell;
-          leads = λ read n st on.
+          leads = λ initial read n st on.
               let q = slice_index bytes at in
-              let before : StandsBefore (q ∷ drop (at + 1) bytes) read n st = subst (λ (t : List ℕ). StandsBefore t read n st) (drop_more bytes at 0 within) on.2 in
-              let begins : StringBegins (slice_index rest 0) read n st = subst (λ (c : ℕ). StringBegins c read n st) (sym first) (string_begins q quote (drop (at + 1) bytes) read n st (ap is_plain_prefix on.0 ∙ plain) before) in
-              subst (λ (t : List ℕ). StandsBefore t (read ++ is.part.run) (n + p.line_ends) st) (drop-drop p.len at bytes) (is.part.leads read n st begins);
+              let before : StandsBefore (q ∷ drop (at + 1) bytes) initial read n st = subst (λ (t : List ℕ). StandsBefore t initial read n st) (drop_more bytes at 0 within) on.2 in
+              let begins : StringBegins (slice_index rest 0) initial read n st = subst (λ (c : ℕ). StringBegins c initial read n st) (sym first) (string_begins q quote (drop (at + 1) bytes) initial read n st (ap is_plain_prefix on.0 ∙ plain) before) in
+              subst (λ (b : Bool). StandsClosed b (drop (at + p.len) bytes) initial (read ++ is.part.run) (n + p.line_ends) st) (sym (string_closes rest p.len (ap is_quote first ∙ quote)))
+              (subst (λ (t : List ℕ). StandsClosed (nat_lt 2 p.len) t initial (read ++ is.part.run) (n + p.line_ends) st) (drop-drop p.len at bytes) (is.part.leads initial read n st begins));
         };
       },
     )

@@ -10,8 +10,9 @@ use Rattle.py_lines.specs.Given.{AreFirstLines}
 use Rattle.py_lines.specs.ScannerState.{GoesOnWith, IsScanning, EndsExactly, HoldsLast, fed_of, ready_lines}
 use Rattle.py_lines.specs.ScannerState.View.{line_of_feed, ready_of, scanning_of}
 use Rattle.py_lines.specs.Private.ScanMachine.{scan_step}
-use Rattle.py_lines.specs.Private.Scan.{ScansIn, Closes, IsUnderWay, stack_if, is_returned, IsRefusal, EndsWhole, IsLineBefore, IsNotEnded}
-use Rattle.py_lines.specs.Private.LineState.{BeginsAnew, KeepsFault, first_mode}
+use Rattle.py_lines.specs.Private.Scan.{ScansIn, IsUnderWay, stack_if, is_returned, IsRefusal, EndsWhole, IsLineBefore, IsNotEnded}
+use Rattle.py_lines.specs.Private.LineState.{BeginsAnew, KeepsFault, first_mode, with_tokens}
+use Rattle.py_lines.specs.Private.LineTokens.{HoldsTokens}
 use Rattle.py_lines.specs.declared.fault.Fault.{Fault}
 use Rattle.py_lines.specs.declared.fault.FaultKind.{FaultKind}
 use Rattle.py_lines.specs.declared.fault.FaultKind.TheVariants.{BadUtf8}
@@ -65,12 +66,16 @@ pub record FailsAt (old : Feed) (kind : FaultKind) (offset : ℕ) (error : LexEr
   pub same : new ≡ record old { state = new.state }
   pub keeps : KeepsFault old.state kind offset (take offset old.held.items) error new.state
 
--- what closing the open piece, and with it the line, comes to
-abbrev pub ClosesLine : Feed → ℕ → Result (Unit {0}) LexError → Feed → Type 0
-ClosesLine old end_len (Ok done) new =
-    KeepsText old new × (new.ready ≡ Some end_len) × (new.state.fault ≡ old.state.fault) × Closes old.state.scan new.state.scan
-ClosesLine old end_len (Err (lex.Fault f)) new = ⊥
-ClosesLine old end_len (Err lex.Memory) new = Restarts old new
+-- the line that has ended where the scan stopped was read with its tokens, and is ready
+pub record IsMadeReady (old : Feed) (end_len : ℕ) (new : Feed) : Type 0 where
+  pub same : new ≡ record old { state = with_tokens old.state new.state; ready = Some end_len }
+  pub tokens : HoldsTokens (take old.state.scan.stop old.held.items) old.state.line new.state.tokens
+
+-- or there was no memory for them
+abbrev pub GetsReady : Feed → ℕ → Result (Unit {0}) LexError → Feed → Type 0
+GetsReady old end_len (Ok done) new = IsMadeReady old end_len new
+GetsReady old end_len (Err (lex.Fault f)) new = ⊥
+GetsReady old end_len (Err lex.Memory) new = Restarts old new
 
 -- the line that is open in what is held may not go on with this character
 pub record RefusesNext (old : Feed) (read : List ℕ) (c : ℕ) (error : LexError) (new : Feed) : Type 0 where
@@ -81,12 +86,13 @@ pub record RefusesNext (old : Feed) (read : List ℕ) (c : ℕ) (error : LexErro
   pub is_line_fault : IsRefusal old.state.scan c line_fault
   pub fails : FailsAt old line_fault.kind line_fault.place error new
 
--- a line has ended in what is held
+-- a line has ended in what is held, and its tokens are read
 pub record EndsLineHeld (end_len : ℕ) (new : Feed) : Type 0 where
   pub all : List ℕ
   pub after : List ℕ
   pub ended : IsEnded new end_len all after
   pub whole : EndsWhole all after
+  pub tokens : HoldsTokens (encode_utf8_all all) new.state.line new.state.tokens
 
 -- what is left is a part of a character, or nothing
 pub record IsPartOfCharacter (f : Feed) (rest : List ℕ) : Type 0 where
@@ -115,12 +121,10 @@ pub record HasScannedNext (f : Feed) (chunk : List ℕ) (stop : Stop) : Type 0 w
   pub stops : ScansIn (first_mode f.state.place) f.state.line chunk f.state.scan stop
 
 -- what a scan of the characters that are held answers and leaves
-abbrev pub ScansCharacters : Feed → Result Stop LexError → Feed → Type 0
-ScansCharacters old (Ok stop) new =
-    KeepsText old new × (new.ready ≡ old.ready) × (new.state.fault ≡ old.state.fault)
+abbrev pub ScansCharacters : Feed → Stop → Feed → Type 0
+ScansCharacters old stop new =
+    (new ≡ record old { state = record old.state { scan = new.state.scan } })
     × ((read : List ℕ) × (rest : List ℕ) × StopsHeld new stop read rest)
-ScansCharacters old (Err (lex.Fault f)) new = ⊥
-ScansCharacters old (Err lex.Memory) new = Restarts old new
 
 -- all that is held was scanned, except a part of a character, or up to a line's end
 abbrev pub IsScanned : Option ℕ → Feed → Type 0

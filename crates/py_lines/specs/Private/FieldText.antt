@@ -1,10 +1,10 @@
 -- The text of a string with fields that is simple enough to be taken at once: the machine with fields goes through it. It serves the
 -- contracts of private functions.
-use Rattle.std.specs.Prelude.{◌≡◌, ℕ, ◌+◌, ◌<◌, ◌≤◌, ◌==◌, ◌&&◌, not, nat_lt, Bool, true, false, Option, None, Some, List, [], ◌∷◌, ◌++◌, length, take, slice_index, codes}
+use Rattle.std.specs.Prelude.{◌≡◌, ℕ, ◌+◌, ◌<◌, ◌≤◌, ◌==◌, ◌&&◌, not, nat_lt, Bool, true, false, Option, None, Some, List, [], ◌∷◌, ◌++◌, length, take, codes}
 use Rattle.std.specs.Str.{byte}
 use Rattle.py_lines.specs.Character.{is_brace, is_break, is_one_of, is_quote}
 use Rattle.py_lines.specs.Piece.{Piece}
-use Rattle.py_lines.specs.FieldStrings.{is_field_prefix, literal, specification}
+use Rattle.py_lines.specs.FieldStrings.{literal, specification}
 use Rattle.py_lines.specs.declared.mode.Mode.{Mode}
 use Rattle.py_lines.specs.declared.mode.Mode.TheVariants as modes
 use Rattle.py_lines.specs.Private.Machine.{IsFull}
@@ -112,16 +112,6 @@ HasPart quote bytes (Some len) = (0 < len) × LeadsBy quote InText bytes len InT
 abbrev pub HasText : ℕ → List ℕ → ℕ → Type 0
 HasText quote bytes len = LeadsBy quote InText bytes len InText
 
--- the prefix of a string with fields, and the quote after it
-pub record HasPrefix (bytes : List ℕ) (len : ℕ) : Type 0 where
-  pub within : len + 1 < length bytes
-  pub begun : is_field_prefix (take len bytes) ≡ true
-  pub quote : is_quote (slice_index bytes len) ≡ true
-
-abbrev pub HasPrefixOrNot : List ℕ → Option ℕ → Type 0
-HasPrefixOrNot bytes None = Unit {0}
-HasPrefixOrNot bytes (Some len) = HasPrefix bytes len
-
 -- a short string with fields from its first quote on, where its text is simple, with so many bytes
 pub record IsQuotedText (bytes : List ℕ) (len : ℕ) : Type 0 where
   pub q : ℕ
@@ -136,20 +126,3 @@ pub record IsQuotedText (bytes : List ℕ) (len : ℕ) : Type 0 where
 abbrev pub HasQuotedText : List ℕ → Option ℕ → Type 0
 HasQuotedText bytes None = Unit {0}
 HasQuotedText bytes (Some len) = IsQuotedText bytes len
-
--- and with its prefix
-pub record IsWholeStringWithFields (bytes : List ℕ) (len : ℕ) : Type 0 where
-  pub prefix : List ℕ
-  pub q : ℕ
-  pub run : List ℕ
-  pub after : List ℕ
-  pub spell : prefix ++ q ∷ (run ++ q ∷ after) ≡ bytes
-  pub size : length prefix + (length run + 2) ≡ len
-  pub begun : is_field_prefix prefix ≡ true
-  pub quote : is_quote q ≡ true
-  pub full : IsFull run
-  pub text : Leads q InText run InText
-
-abbrev pub HasWholeStringWithFields : List ℕ → Option ℕ → Type 0
-HasWholeStringWithFields bytes None = Unit {0}
-HasWholeStringWithFields bytes (Some len) = IsWholeStringWithFields bytes len

@@ -23,21 +23,29 @@ first_mode (suc n) = modes.Free
 abbrev pub passed : LineState → ℕ → ℕ → LineState
 passed s len line = record s { place = s.place + len; line = line }
 
--- the logical line that a scan has closed: this text at this byte, with so many bytes of line end
-abbrev pub scanned_line : Scan → List ℕ → ℕ → ℕ → LogicalLine
-scanned_line scan text offset end_len = record {
-  kind = scan.kind;
+-- the scan after it was lent: where it stopped in its line is as it was
+abbrev pub lent : Scan → Scan → Scan
+lent old new = record old { brackets = new.brackets; fields = new.fields }
+
+-- with the tokens of another state, for which the scan was lent
+abbrev pub with_tokens : LineState → LineState → LineState
+with_tokens old new = record old { tokens = new.tokens; scan = lent old.scan new.scan }
+
+-- the logical line whose tokens were read: this text at this byte, with so many bytes of line end
+abbrev pub read_line : LineState → List ℕ → ℕ → ℕ → LogicalLine
+read_line s text offset end_len = record {
+  kind = s.tokens.kind;
   text = text;
-  tokens = scan.tokens.items;
+  tokens = s.tokens.tokens.items;
   offset = offset;
-  line = scan.line;
-  indent = scan.indent;
+  line = s.scan.line;
+  indent = s.tokens.indent;
   end_len = end_len;
 }
 
--- the scan of the next line is begun anew
+-- the scan of the next line is begun anew; the tokens may be those of no line
 pub record BeginsAnew (old new : LineState) : Type 0 where
-  pub same : new ≡ record old { scan = new.scan }
+  pub same : new ≡ record old { scan = new.scan; tokens = new.tokens }
   pub tallies : Tallies new.scan (line_start (first_mode old.place))
   pub stacked : IsStacked new.scan (line_start (first_mode old.place))
   pub number : new.scan.line ≡ old.line

@@ -10,8 +10,6 @@ use Rattle.py_lines.specs.Balance.{is_opening, is_closing, is_opener, is_closer,
 use Rattle.py_lines.specs.LogicalLine.{first_or_zero, byte_len}
 use Rattle.py_lines.specs.declared.fault.FaultKind.{FaultKind}
 use Rattle.py_lines.specs.declared.fault.FaultKind.TheVariants as faults
-use Rattle.py_lines.specs.declared.token.TokKind.{TokKind}
-use Rattle.py_lines.specs.declared.token.TokKind.TheVariants as kinds
 use Rattle.py_lines.specs.declared.mode.Spelling.{Spelling}
 use Rattle.py_lines.specs.declared.mode.Spelling.TheVariants as spellings
 use Rattle.py_lines.specs.declared.mode.Mode.{Mode}
@@ -137,19 +135,6 @@ class_of modes.Backslash = join
 class_of modes.JoinReturn = join
 class_of modes.Return = line_end
 class_of string_mode = string
-
--- the token that the open piece is, if it is one
-abbrev pub token_of : Mode → Option TokKind
-token_of modes.Start = None
-token_of modes.Free = None
-token_of modes.Space = None
-token_of (modes.Word spellings.Number) = Some kinds.Number
-token_of (modes.Word other) = Some kinds.Name
-token_of modes.Comment = Some kinds.Remark
-token_of modes.Backslash = None
-token_of modes.JoinReturn = None
-token_of modes.Return = None
-token_of string_mode = Some kinds.Str
 
 -- the pieces, the open one with them
 abbrev pub closed : Mode → List Piece → List ℕ → List Piece

@@ -1,11 +1,11 @@
--- Simple lines that bytes begin with, which are passed over: what the machine has come to in such a line, after the text's first.
-use Rattle.std.specs.Prelude.{◌≡◌, ℕ, ◌+◌, ◌-◌, ◌<◌, ◌≤◌, ◌⊎◌, ◌==◌, ◌||◌, Bool, true, false, if◌then◌else◌, Option, None, Some, List, [], ◌∷◌, ◌++◌, length, take, drop, slice_index, encode_utf8_all}
+-- Simple lines that bytes begin with, which are passed over: what the machine has come to in such a line, which begins in some mode.
+use Rattle.std.specs.Prelude.{◌≡◌, ℕ, ◌+◌, ◌-◌, ◌<◌, ◌≤◌, ◌⊎◌, ◌==◌, ◌||◌, ◌&&◌, Bool, true, false, if◌then◌else◌, Option, None, Some, List, [], ◌∷◌, ◌++◌, length, nat_lt, take, drop, slice_index, encode_utf8_all}
 use Rattle.std.specs.Str.{all_scalars}
-use Rattle.py_lines.specs.Character.{is_break, is_quote, is_return}
+use Rattle.py_lines.specs.Character.{is_backslash, is_break, is_quote, is_return}
 use Rattle.py_lines.specs.Piece.{Piece, ends, line_end}
 use Rattle.py_lines.specs.LogicalLine.{line_ends}
 use Rattle.py_lines.specs.Private.Machine.{Scanned, fresh, Bracket, brackets_of, first_spelling, spelling_with}
-use Rattle.py_lines.specs.Private.ScanMachine.{begins_string, is_field_spelling, is_raw_spelling, meet_of, scan_steps}
+use Rattle.py_lines.specs.Private.ScanMachine.{IsScanSound, begins_string, is_field_spelling, is_raw_spelling, meet_of, scan_steps}
 use Rattle.py_lines.specs.Private.Scan.{AreLine, EndsNoLine, EndsWhole, line_start, none_open, stack_of}
 use Rattle.py_lines.specs.Private.Run.{is_ascii_word}
 use Rattle.py_lines.specs.Private.FieldText.{is_apart_mode}
@@ -60,9 +60,10 @@ pub record HoldsLineEnds (read : List ℕ) (n : ℕ) : Type 0 where
   pub scalars : all_scalars read ≡ true
   pub count : line_ends read ≡ n
 
--- the machine has gone through such characters of a line, and stands so, where these brackets are open
-pub record HasCome (read : List ℕ) (n : ℕ) (st : List Bracket) (s : Scanned) : Type 0 where
-  pub steps : scan_steps (Some (line_start modes.Free)) read ≡ Some s
+-- the machine has gone through such characters of a line, which began soundly in this mode, and stands so, where these brackets are open
+pub record HasCome (m : Mode) (read : List ℕ) (n : ℕ) (st : List Bracket) (s : Scanned) : Type 0 where
+  pub start : IsScanSound (line_start m) []
+  pub steps : scan_steps (Some (line_start m)) read ≡ Some s
   pub stacked : brackets_of s.done ≡ Some st
   pub one_line : EndsNoLine 0 s.done
   pub holds : HoldsLineEnds read n
@@ -96,52 +97,62 @@ IsTail None m = is_apart_mode m ≡ true
 IsTail (Some s) m = m ≡ modes.Word s
 
 -- the line goes on after these characters, which CR doesn't end, and the word is open that they end with
-pub record GoesOnAfter (read : List ℕ) (n : ℕ) (st : List Bracket) : Type 0 where
+pub record GoesOnAfter (m : Mode) (read : List ℕ) (n : ℕ) (st : List Bracket) : Type 0 where
   pub state : Scanned
-  pub come : HasCome read n st state
+  pub come : HasCome m read n st state
   pub tail : IsTail (tail_of read) state.mode
   pub unreturned : ends is_return read ≡ false
 
 -- the piece that is open after these characters ends before this byte, which isn't LF after CR; it is a line end in brackets alone
-pub record EndsBefore (c : ℕ) (read : List ℕ) (n : ℕ) (st : List Bracket) : Type 0 where
+pub record EndsBefore (c : ℕ) (m : Mode) (read : List ℕ) (n : ℕ) (st : List Bracket) : Type 0 where
   pub state : Scanned
-  pub come : HasCome read n st state
+  pub come : HasCome m read n st state
   pub breaks : meet_of state.mode c ≡ moves.Breaks
   pub parted : c ≡ 10 → ends is_return read ≡ false
   pub inside : state.mode ≡ modes.Return → none_open st ≡ false
   pub tail : is_ascii_word c || is_quote c ≡ true → tail_of read ≡ None
 
 -- so before the bytes that follow: one of both
-abbrev pub StandsBefore : List ℕ → List ℕ → ℕ → List Bracket → Type 0
-StandsBefore [] read n st = GoesOnAfter read n st
-StandsBefore (c ∷ rest) read n st = GoesOnAfter read n st ⊎ EndsBefore c read n st
+abbrev pub StandsBefore : List ℕ → Mode → List ℕ → ℕ → List Bracket → Type 0
+StandsBefore [] m read n st = GoesOnAfter m read n st
+StandsBefore (c ∷ rest) m read n st = GoesOnAfter m read n st ⊎ EndsBefore c m read n st
+
+-- after these characters of a line no piece is open
+pub record IsFreeAfter (m : Mode) (read : List ℕ) (n : ℕ) (st : List Bracket) : Type 0 where
+  pub done : List Piece
+  pub come : HasCome m read n st (fresh done)
+
+-- no piece is open, where it is known that the last one has closed itself; else the line stands as above
+abbrev pub StandsClosed : Bool → List ℕ → Mode → List ℕ → ℕ → List Bracket → Type 0
+StandsClosed true bytes = IsFreeAfter
+StandsClosed false bytes = StandsBefore bytes
 
 -- after these characters of a line, which CR doesn't end, such a piece is open
-pub record IsInPiece (m : Mode) (read : List ℕ) (n : ℕ) (st : List Bracket) : Type 0 where
+pub record IsInPiece (piece_mode m : Mode) (read : List ℕ) (n : ℕ) (st : List Bracket) : Type 0 where
   pub done : List Piece
   pub held : List ℕ
-  pub come : HasCome read n st (record { done = done; mode = m; held = held })
+  pub come : HasCome m read n st (record { done = done; mode = piece_mode; held = held })
   pub unreturned : ends is_return read ≡ false
 
 -- with this quote after them a string without fields is open, which holds nothing yet
-abbrev pub StringBegins : ℕ → List ℕ → ℕ → List Bracket → Type 0
-StringBegins q read = IsInPiece (modes.Opened q) (read ++ q ∷ [])
+abbrev pub StringBegins : ℕ → Mode → List ℕ → ℕ → List Bracket → Type 0
+StringBegins q m read = IsInPiece (modes.Opened q) m (read ++ q ∷ [])
 
 -- wherever a line stands so, it comes to stand so after so many of the bytes, which spell characters with so many line ends
-pub record PassesPart (bytes : List ℕ) (len feeds : ℕ) (stands comes : List ℕ → ℕ → List Bracket → Type 0) : Type 0 where
+pub record PassesPart (bytes : List ℕ) (len feeds : ℕ) (stands comes : Mode → List ℕ → ℕ → List Bracket → Type 0) : Type 0 where
   pub within : len ≤ length bytes
   pub run : List ℕ
   pub spell : encode_utf8_all run ≡ take len bytes
-  pub leads : (read : List ℕ) (n : ℕ) (st : List Bracket) → stands read n st → comes (read ++ run) (n + feeds) st
+  pub leads : (m : Mode) (read : List ℕ) (n : ℕ) (st : List Bracket) → stands m read n st → comes m (read ++ run) (n + feeds) st
 
 -- a part that isn't empty
-pub record Passes (bytes : List ℕ) (p : Passed) (stands comes : List ℕ → ℕ → List Bracket → Type 0) : Type 0 where
+pub record Passes (bytes : List ℕ) (p : Passed) (stands comes : Mode → List ℕ → ℕ → List Bracket → Type 0) : Type 0 where
   pub some : 0 < p.len
   pub few : p.line_ends ≤ p.len
   pub part : PassesPart bytes p.len p.line_ends stands comes
 
 -- the part that was passed leads there, if one was passed
-abbrev pub PassesOrNot : List ℕ → Option Passed → (stands comes : List ℕ → ℕ → List Bracket → Type 0) → Type 0
+abbrev pub PassesOrNot : List ℕ → Option Passed → (stands comes : Mode → List ℕ → ℕ → List Bracket → Type 0) → Type 0
 PassesOrNot bytes None stands comes = Unit {0}
 PassesOrNot bytes (Some p) stands comes = Passes bytes p stands comes
 
@@ -149,11 +160,11 @@ PassesOrNot bytes (Some p) stands comes = Passes bytes p stands comes
 abbrev pub short_mode : ℕ → ℕ → Mode
 short_mode q len = if len == 1 then modes.Opened q else modes.Inside q
 
-abbrev pub IsInShort : ℕ → ℕ → List ℕ → ℕ → List Bracket → Type 0
+abbrev pub IsInShort : ℕ → ℕ → Mode → List ℕ → ℕ → List Bracket → Type 0
 IsInShort q len = IsInPiece (short_mode q len)
 
 -- a string of three such quotes is open, which ends with none of these bytes
-abbrev pub IsInLong : ℕ → List ℕ → ℕ → List Bracket → Type 0
+abbrev pub IsInLong : ℕ → Mode → List ℕ → ℕ → List Bracket → Type 0
 IsInLong q = IsInPiece (modes.Long q)
 
 -- the bytes begin with three such quotes
@@ -181,24 +192,30 @@ HasEscape bytes None = Unit {0}
 HasEscape bytes (Some p) = BeginsEscape bytes p
 
 -- the piece at a byte of a line, which stands there so; it is known how the bytes up to it end, and that few brackets are open
-abbrev pub StandsAt : List ℕ → ℕ → List ℕ → ℕ → List Bracket → Type 0
-StandsAt bytes at read n st =
-    (tail_of read ≡ tail_of (take at bytes)) × (length st ≤ 100) × StandsBefore (drop at bytes) read n st
+abbrev pub StandsAt : List ℕ → ℕ → Mode → List ℕ → ℕ → List Bracket → Type 0
+StandsAt bytes at m read n st =
+    (tail_of read ≡ tail_of (take at bytes)) × (length st ≤ 100) × StandsBefore (drop at bytes) m read n st
+
+-- whether such a piece has closed itself, with so many of the bytes: a string that isn't empty, or a join that LF ends
+abbrev pub closes_itself : List ℕ → ℕ → Bool
+closes_itself bytes len =
+    if is_quote (slice_index bytes 0) then nat_lt 2 len else is_backslash (slice_index bytes 0) && (slice_index bytes (len - 1) == 10)
 
 abbrev pub PassesPiece : List ℕ → ℕ → Option Passed → Type 0
 PassesPiece bytes at None = Unit {0}
 PassesPiece bytes at (Some p) =
-    (at + p.len ≤ length bytes) × Passes (drop at bytes) p (StandsAt bytes at) (StandsBefore (drop (at + p.len) bytes))
+    (at + p.len ≤ length bytes)
+    × Passes (drop at bytes) p (StandsAt bytes at) (StandsClosed (closes_itself (drop at bytes) p.len) (drop (at + p.len) bytes))
 
 -- the comment or the join that the bytes begin with was passed, or nothing
 abbrev pub PassesFirst : List ℕ → Option Passed → Type 0
 PassesFirst bytes None = Unit {0}
-PassesFirst bytes (Some p) = Passes bytes p (StandsBefore bytes) (StandsBefore (drop p.len bytes))
+PassesFirst bytes (Some p) = Passes bytes p (StandsBefore bytes) (StandsClosed (closes_itself bytes p.len) (drop p.len bytes))
 
 -- so the string, where it begins
 abbrev pub HasString : List ℕ → Option Passed → Type 0
 HasString bytes None = Unit {0}
-HasString bytes (Some p) = Passes bytes p (StringBegins (slice_index bytes 0)) (StandsBefore (drop p.len bytes))
+HasString bytes (Some p) = Passes bytes p (StringBegins (slice_index bytes 0)) (StandsClosed (nat_lt 2 p.len) (drop p.len bytes))
 
 -- the machine has closed these pieces, of which the last is a line end, or holds that yet, which is CR
 abbrev pub IsEndedBy : Scanned → List Piece → Piece → Type 0
@@ -206,7 +223,7 @@ IsEndedBy s body last =
     (s ≡ fresh (body ++ last ∷ []))
     ⊎ ((s ≡ record { done = body; mode = modes.Return; held = 13 ∷ [] }) × (last ≡ record { class = line_end; text = 13 ∷ [] }))
 
--- the characters before these bytes are a line, which its line end has ended
+-- the characters before these bytes are a line after the text's first, which its line end has ended
 pub record IsWholeLine (read : List ℕ) (n : ℕ) (after : List ℕ) : Type 0 where
   pub body : List Piece
   pub last : Piece
@@ -222,7 +239,7 @@ pub record IsWholeLine (read : List ℕ) (n : ℕ) (after : List ℕ) : Type 0 w
 -- the characters up to a line end, and with it, are a line where no bracket is open; else the line goes on
 abbrev pub IsAfterLineEnd : List Bracket → List ℕ → ℕ → List ℕ → Type 0
 IsAfterLineEnd [] read n after = IsWholeLine read n after
-IsAfterLineEnd (b ∷ bs) read n after = StandsBefore after read n (b ∷ bs)
+IsAfterLineEnd (b ∷ bs) read n after = StandsBefore after modes.Free read n (b ∷ bs)
 
 -- characters that are a line come before others that are lines, and so are these together
 pub record BeginsWithLine (rest : List ℕ → ℕ → Type 0) (line read : List ℕ) (n : ℕ) (after : List ℕ) : Type 0 where
@@ -261,7 +278,7 @@ pub record HasComeTo (bytes : List ℕ) (lines : Passed) (at n : ℕ) (st : List
   pub count : n ≡ lines.line_ends + more
   pub read : List ℕ
   pub spell : encode_utf8_all read ≡ line_up_to bytes lines at
-  pub stands : StandsBefore (drop at bytes) read more st
+  pub stands : StandsBefore (drop at bytes) modes.Free read more st
 
 -- the outline has come to this byte, with these brackets; its marks are left out of account
 abbrev pub IsPast : List ℕ → ℕ → Outline → Brackets → Type 0

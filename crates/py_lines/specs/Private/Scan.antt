@@ -1,29 +1,22 @@
 -- What the scan of one logical line holds, in the words of the machine. It serves the contracts of private functions.
-use Rattle.std.specs.Prelude.{◌≡◌, ℕ, ◌+◌, ◌-◌, ◌==◌, ◌&&◌, ◌||◌, not, Bool, true, false, Option, None, Some, Result, Ok, Err, List, [], ◌∷◌, ◌++◌, length, take, encode_utf8, encode_utf8_all, if◌then◌else◌, ◌⊎◌}
+use Rattle.std.specs.Prelude.{◌≡◌, ℕ, ◌+◌, ◌==◌, ◌&&◌, ◌||◌, not, Bool, true, false, Option, None, Some, List, [], ◌∷◌, ◌++◌, length, take, encode_utf8, encode_utf8_all, if◌then◌else◌, ◌⊎◌}
 use Rattle.std.specs.Str.{all_scalars, StartsWithNoChar}
 use Rattle.std.specs.Char.{len_utf8, IsScalar}
-use Rattle.std.specs.declared.alloc.AllocError.{AllocError}
-use Rattle.std.specs.Global.{Vec}
 use Rattle.py_lines.specs.Character.{is_return, is_line_feed}
-use Rattle.py_lines.specs.Piece.{operator, line_end, Piece, ends, is_mark_class, spelled, begins}
+use Rattle.py_lines.specs.Piece.{operator, line_end, Piece, ends, spelled, begins}
 use Rattle.py_lines.specs.Balance.{depth_after, depth_through}
 use Rattle.py_lines.specs.Fields.{AreReadBefore}
-use Rattle.py_lines.specs.LogicalLine.{byte_len, line_ends, token, tokens_from, indent_of, kind_of, is_line_end_class}
-use Rattle.py_lines.specs.Private.Machine.{Scanned, fresh, token_of, Bracket, brackets_after, brackets_of, in_short, is_after_backslash, is_final, character_kind, end_kind}
+use Rattle.py_lines.specs.LogicalLine.{byte_len, line_ends, is_line_end_class}
+use Rattle.py_lines.specs.Private.Machine.{Scanned, fresh, Bracket, brackets_after, brackets_of, in_short, is_after_backslash, is_final, character_kind, end_kind}
 use Rattle.py_lines.specs.Private.FieldMachine.{FieldScanned, field_step}
 use Rattle.py_lines.specs.Private.FieldFaults.{here}
 use Rattle.py_lines.specs.Private.ScanMachine.{string_state, fielded_move, scan_step, scan_steps, IsInString, StringsFit, IsScanSound}
 use Rattle.py_lines.specs.Private.FieldScan.{Follows, IsFieldFault, IsFieldEnd, IsInPlace}
-use Rattle.py_lines.specs.declared.token.Token.{Token}
 use Rattle.py_lines.specs.declared.mode.Mode.{Mode}
 use Rattle.py_lines.specs.declared.mode.Mode.TheVariants as modes
 use Rattle.py_lines.specs.declared.mode.Move.TheVariants as moves
 use Rattle.py_lines.specs.declared.mode.Start.{Start}
 use Rattle.py_lines.specs.declared.mode.Start.TheVariants as starts
-use Rattle.py_lines.specs.declared.token.TokKind.{TokKind}
-use Rattle.py_lines.specs.declared.token.TokKind.TheVariants as kind
-use Rattle.py_lines.specs.declared.unit.UnitKind.{UnitKind}
-use Rattle.py_lines.specs.declared.unit.UnitKind.TheVariants as unit_kind
 use Rattle.py_lines.specs.declared.count.Count.{Count}
 use Rattle.py_lines.specs.declared.brackets.OpenBracket.{OpenBracket}
 use Rattle.py_lines.specs.declared.brackets.Brackets.{Brackets}
@@ -67,69 +60,9 @@ abbrev pub Meets : Brackets → ℕ → ℕ → Bool → Brackets → Type 0
 Meets old c place true new = stack_with old place c ≡ Some (stack_of new)
 Meets old c place false new = (stack_with old place c ≡ None) × (new ≡ old)
 
--- the kind of a line with one more token
-abbrev pub kind_with : UnitKind → TokKind → UnitKind
-kind_with unit_kind.Blank kind.Remark = unit_kind.Comment
-kind_with k kind.Remark = k
-kind_with k other = unit_kind.Code
-
--- the line has one more token
-pub record AddsTo (old : Scan) (token : Token) (new : Scan) : Type 0 where
-  pub tokens : new.tokens.items ≡ old.tokens.items ++ token ∷ []
-  pub same : new ≡ record old { tokens = new.tokens; kind = kind_with old.kind token.kind }
-
--- the open piece became a token of this kind
-abbrev pub Emits : Scan → TokKind → Scan → Type 0
-Emits old k new = AddsTo old (token k old.piece.start old.stop old.piece.line) new
-
--- a token from the open piece, if it is one
-abbrev pub tokens_with : Option TokKind → ℕ → ℕ → ℕ → List Token
-tokens_with None start stop line = []
-tokens_with (Some k) start stop line = token k start stop line ∷ []
-
--- whether the open piece is a backslash, with or without its line end
-abbrev pub is_join_mode : Mode → Bool
-is_join_mode modes.Backslash = true
-is_join_mode modes.JoinReturn = true
-is_join_mode other = false
-
--- whether no piece is open, or a mark
-abbrev pub holds_nothing : Mode → Bool
-holds_nothing modes.Start = true
-holds_nothing modes.Free = true
-holds_nothing other = false
-
--- the kind of a line with one more token, if there is one
-abbrev pub kind_through : UnitKind → Option TokKind → UnitKind
-kind_through old None = old
-kind_through old (Some k) = kind_with old k
-
--- the kind of a line whose open piece is closed
-abbrev pub kind_closed : UnitKind → Mode → UnitKind
-kind_closed old m = if is_join_mode m then unit_kind.Code else kind_through old (token_of m)
-
--- space after nothing except a mark is the indentation
-abbrev pub indent_closed : ℕ → Mode → Bool → ℕ → ℕ
-indent_closed old modes.Space true size = size
-indent_closed old other margin size = old
-
 -- the scan with no piece open where it stops
 abbrev pub freed : Scan → Scan
-freed old = record old { piece = record { mode = modes.Free; start = old.stop; line = old.count.line } }
-
--- the scan with the open piece closed, where the line's tokens are these
-abbrev pub closed_with : Scan → Vec Token → Scan
-closed_with old tokens = record (freed old) {
-  tokens = tokens;
-  kind = kind_closed old.kind old.piece.mode;
-  indent = indent_closed old.indent old.piece.mode old.margin (old.stop - old.piece.start);
-  margin = old.margin && holds_nothing old.piece.mode;
-}
-
--- the open piece is closed
-pub record Closes (old new : Scan) : Type 0 where
-  pub tokens : new.tokens.items ≡ old.tokens.items ++ tokens_with (token_of old.piece.mode) old.piece.start old.stop old.piece.line
-  pub same : new ≡ closed_with old new.tokens
+freed old = record old { piece = record { mode = modes.Free; start = old.stop } }
 
 -- the count of lines with one more character
 abbrev pub count_with : Count → ℕ → Count
@@ -139,31 +72,9 @@ count_with old c = record { line = old.line + counts_after old.after_return c; a
 abbrev pub with_character : Scan → ℕ → Scan
 with_character old c = record old { stop = old.stop + len_utf8 c; count = count_with old.count c }
 
--- the scan with a character that is a piece alone, after closed ones: an operator, or a line end
-abbrev pub stood_with : Scan → ℕ → Option TokKind → Vec Token → Scan
-stood_with closed c k tokens =
-    record (freed (with_character closed c)) { margin = false; kind = kind_through closed.kind k; tokens = tokens }
-
--- such a character was taken
-pub record AddsPiece (closed new : Scan) (c : ℕ) (k : Option TokKind) : Type 0 where
-  pub tokens : new.tokens.items ≡ closed.tokens.items ++ tokens_with k closed.piece.start (closed.stop + len_utf8 c) closed.piece.line
-  pub same : new ≡ stood_with closed c k new.tokens
-
--- the open piece was closed, and then such a character was taken
-pub record ClosesAndAdds (old : Scan) (c : ℕ) (k : Option TokKind) (new : Scan) : Type 0 where
-  pub mid : Scan
-  pub closes : Closes old mid
-  pub stands : AddsPiece mid new c k
-
 -- the scan in another mode
 abbrev pub in_mode : Scan → Mode → Scan
 in_mode old m = record old { piece = record old.piece { mode = m } }
-
--- a piece opened with a character, after the open one
-pub record ClosesAndOpens (old : Scan) (c : ℕ) (m : Mode) (new : Scan) : Type 0 where
-  pub mid : Scan
-  pub closes : Closes old mid
-  pub is : new ≡ in_mode (with_character mid c) m
 
 -- how many brackets are open
 abbrev pub depth_of : Brackets → ℕ
@@ -193,14 +104,13 @@ pub record GoesOnInString (old : Scan) (t : FieldScanned) (c : ℕ) (new : Scan)
 pub record ClosesString (old : Scan) (t : FieldScanned) (c : ℕ) (new : Scan) : Type 0 where
   pub fields : FieldScan
   pub move : fielded_move (depth_of old.brackets) (Some t) c ≡ moves.Closes
-  pub closes : Closes (with_character (with_field_scan old fields) c) new
+  pub same : new ≡ freed (with_character (with_field_scan old fields) c)
 
 -- what one more character comes to in that string
-abbrev pub TakesInString : Scan → FieldScanned → ℕ → Result Progress AllocError → Scan → Type 0
-TakesInString old t c (Ok progress.Going) new = GoesOnInString old t c new ⊎ ClosesString old t c new
-TakesInString old t c (Ok (progress.LineEnded len)) new = ⊥
-TakesInString old t c (Ok progress.Refused) new = (fielded_move (depth_of old.brackets) (Some t) c ≡ moves.Refused) × (new ≡ old)
-TakesInString old t c (Err e) new = Unit {0}
+abbrev pub TakesInString : Scan → FieldScanned → ℕ → Progress → Scan → Type 0
+TakesInString old t c progress.Going new = GoesOnInString old t c new ⊎ ClosesString old t c new
+TakesInString old t c (progress.LineEnded len) new = ⊥
+TakesInString old t c progress.Refused new = (fielded_move (depth_of old.brackets) (Some t) c ≡ moves.Refused) × (new ≡ old)
 
 -- whether no bracket is open
 abbrev pub none_open : List Bracket → Bool
@@ -217,26 +127,18 @@ abbrev pub with_brackets : Scan → Brackets → Scan
 with_brackets old b = record old { brackets = b }
 
 -- an operator came after the open piece, or may not stand there
-abbrev pub Operates : Scan → ℕ → Result Progress AllocError → Scan → Type 0
-Operates old c (Ok progress.Refused) new = (stack_with old.brackets old.stop c ≡ None) × (new ≡ old)
-Operates old c (Ok progress.Going) new =
-    (met : Brackets) × (stack_with old.brackets old.stop c ≡ Some (stack_of met))
-    × ClosesAndAdds (with_brackets old met) c (Some (kind.Op c)) new
-Operates old c (Ok (progress.LineEnded len)) new = ⊥
-Operates old c (Err e) new = Unit {0}
+abbrev pub Operates : Scan → ℕ → Progress → Scan → Type 0
+Operates old c progress.Refused new = (stack_with old.brackets old.stop c ≡ None) × (new ≡ old)
+Operates old c progress.Going new =
+    (met : Brackets) × (stack_with old.brackets old.stop c ≡ Some (stack_of met)) × (new ≡ freed (with_character (with_brackets old met) c))
+Operates old c (progress.LineEnded len) new = ⊥
 
 -- a character began a piece: the open one was closed, and then a piece opened, or was whole at once
-abbrev pub Begins : Scan → ℕ → Start → Result Progress AllocError → Scan → Type 0
-Begins old c (starts.Open m) r new = (r ≡ Ok progress.Going) × ClosesAndOpens old c m new
+abbrev pub Begins : Scan → ℕ → Start → Progress → Scan → Type 0
+Begins old c (starts.Open m) r new = (r ≡ progress.Going) × (new ≡ in_mode (with_character (freed old) c) m)
 Begins old c starts.Operator r new = Operates old c r new
-Begins old c starts.LineEnd r new = (r ≡ Ok (line_end_progress (none_open (stack_of old.brackets)) 1)) × ClosesAndAdds old c None new
-Begins old c starts.Nothing r new = (r ≡ Ok progress.Refused) × (new ≡ old)
-
--- whether nothing stands before, or a mark alone
-abbrev pub is_margin : List Piece → Bool
-is_margin [] = true
-is_margin (p ∷ []) = is_mark_class p.class
-is_margin (p ∷ q ∷ ps) = false
+Begins old c starts.LineEnd r new = (r ≡ line_end_progress (none_open (stack_of old.brackets)) 1) × (new ≡ freed (with_character old c))
+Begins old c starts.Nothing r new = (r ≡ progress.Refused) × (new ≡ old)
 
 -- in a string with fields the scan keeps count of the machine with fields
 abbrev pub FieldsFollow : Scan → Mode → List ℕ → Type 0
@@ -248,13 +150,8 @@ pub record Counts (scan : Scan) (s : Scanned) : Type 0 where
   pub mode : scan.piece.mode ≡ s.mode
   pub start : scan.piece.start ≡ byte_len (spelled s.done)
   pub stop : scan.stop ≡ byte_len (spelled s.done ++ s.held)
-  pub piece_line : scan.piece.line ≡ scan.line + line_ends (spelled s.done)
   pub here : scan.count.line ≡ scan.line + line_ends (spelled s.done ++ s.held)
   pub after : scan.count.after_return ≡ ends is_return (spelled s.done ++ s.held)
-  pub margin : scan.margin ≡ is_margin s.done
-  pub indent : scan.indent ≡ indent_of s.done
-  pub kind : scan.kind ≡ kind_of s.done
-  pub tokens : scan.tokens.items ≡ tokens_from 0 scan.line s.done
 
 -- and follows the machine with fields within a string
 pub record Tallies (scan : Scan) (s : Scanned) : Type 0 where
@@ -299,11 +196,10 @@ pub record ComesToEnd (s : Scanned) (c len : ℕ) (new : Scan) : Type 0 where
   pub are : AreLine body last len
 
 -- what one more character comes to: a scan that refused it is as it was
-abbrev pub Takes : Scan → Scanned → ℕ → Result Progress AllocError → Scan → Type 0
-Takes old s c (Ok progress.Going) new = GoesOnInLine s c new × (new.line ≡ old.line)
-Takes old s c (Ok (progress.LineEnded len)) new = ComesToEnd s c len new × (new.line ≡ old.line)
-Takes old s c (Ok progress.Refused) new = (stack_if (scan_step s c) ≡ None) × (new ≡ old)
-Takes old s c (Err e) new = Unit {0}
+abbrev pub Takes : Scan → Scanned → ℕ → Progress → Scan → Type 0
+Takes old s c progress.Going new = GoesOnInLine s c new × (new.line ≡ old.line)
+Takes old s c (progress.LineEnded len) new = ComesToEnd s c len new × (new.line ≡ old.line)
+Takes old s c progress.Refused new = (stack_if (scan_step s c) ≡ None) × (new ≡ old)
 
 -- whether a CR that ends a line was read last
 abbrev pub is_return_mode : Mode → Bool
@@ -339,7 +235,7 @@ abbrev pub IsNotEnded : Scan → ℕ → Type 0
 IsNotEnded scan c = is_returned scan && not (is_line_feed c) ≡ false
 
 -- what one more character comes to, wherever the machine stands that the scan keeps count of
-abbrev pub TakesNext : Scan → ℕ → Result Progress AllocError → Scan → Type 0
+abbrev pub TakesNext : Scan → ℕ → Progress → Scan → Type 0
 TakesNext old c result new =
     (s : Scanned) (read : List ℕ) → IsScanSound s read → EndsNoLine 0 s.done → IsNotEnded old c
     → Tallies old s → IsStacked old s → Takes old s c result new

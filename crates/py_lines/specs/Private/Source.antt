@@ -1,5 +1,6 @@
 -- What the reader inside a `Lines` holds: the logical line that it last read.
-use Rattle.std.specs.Prelude.{◌≡◌, ℕ, ◌+◌, ◌-◌, ◌<◌, None, Result, Ok, Err, Bool, true, false, length, take, drop}
+use Rattle.std.specs.Prelude.{◌≡◌, ℕ, ◌+◌, ◌-◌, ◌<◌, None, Result, Ok, Err, Bool, true, false, List, length, take, drop}
+use Rattle.std.specs.declared.alloc.AllocError.{AllocError}
 use Rattle.py_lines.specs.LogicalLine.{LogicalLine}
 use Rattle.py_lines.specs.Token.{EachLiesIn}
 use Rattle.py_lines.specs.Reader.{Continues, Ends, Fails, ReaderRunsOut}
@@ -7,22 +8,34 @@ use Rattle.py_lines.specs.Reader.View.{reader_of}
 use Rattle.py_lines.specs.declared.fault.LexError.{LexError}
 use Rattle.py_lines.specs.declared.fault.LexError.TheVariants as lex
 use Rattle.py_lines.specs.Private.Scan.{Scans}
-use Rattle.py_lines.specs.Private.LineState.{KeepsFault, first_mode, scanned_line}
+use Rattle.py_lines.specs.Private.LineState.{KeepsFault, first_mode, read_line, with_tokens}
+use Rattle.py_lines.specs.Private.LineTokens.{HoldsTokens}
 use Rattle.py_lines.specs.declared.fault.FaultKind.{FaultKind}
 use Rattle.py_lines.specs.declared.scan.Stop.{Stop}
 use Rattle.py_lines.specs.declared.source.Source.{Source}
 
 -- the logical line that was read last
 abbrev pub line_of_source : Source → LogicalLine
-line_of_source s = scanned_line s.state.scan (take (s.state.place - s.start) (drop s.start s.characters.now)) s.start s.end_len
+line_of_source s = read_line s.state (take (s.state.place - s.start) (drop s.start s.characters.now)) s.start s.end_len
 
--- the line that was read last reaches to where the scan stopped, with so many bytes of line end
-pub record GivesLine (old : Source) (end_len : ℕ) (new : Source) : Type 0 where
+-- the text up to where the scan of the next line stopped
+abbrev pub scanned_text : Source → List ℕ
+scanned_text s = take s.state.scan.stop (drop s.state.place s.characters.now)
+
+-- the line that reaches to where the scan stopped was read with its tokens, and has so many bytes of line end
+pub record GivesTokens (old : Source) (end_len : ℕ) (new : Source) : Type 0 where
   pub bytes : new.bytes ≡ old.bytes
   pub characters : new.characters ≡ old.characters
   pub start : new.start ≡ old.state.place
   pub ends : new.end_len ≡ end_len
-  pub state : new.state ≡ record old.state { place = old.state.place + old.state.scan.stop; line = old.state.scan.count.line }
+  pub state : new.state
+      ≡ record (with_tokens old.state new.state) { place = old.state.place + old.state.scan.stop; line = old.state.scan.count.line }
+  pub tokens : HoldsTokens (scanned_text old) old.state.line new.state.tokens
+
+-- or there was no memory for them
+abbrev pub GivesLine : Source → ℕ → Result (Unit {0}) AllocError → Source → Type 0
+GivesLine old end_len (Ok done) new = GivesTokens old end_len new
+GivesLine old end_len (Err e) new = reader_of new ≡ reader_of old
 
 -- the text has this fault from now on: so many bytes after the lines that were read
 pub record FailsAfter (old : Source) (kind : FaultKind) (offset : ℕ) (error : LexError) (new : Source) : Type 0 where
@@ -39,7 +52,7 @@ pub record HasScanned (s : Source) (stop : Stop) : Type 0 where
 -- what a call that reads the next line answers and leaves
 abbrev pub Advances : Source → Result Bool LexError → Source → Type 0
 Advances old (Ok true) new =
-    Continues (reader_of old) (line_of_source new) (reader_of new) × EachLiesIn (line_of_source new).text new.state.scan.tokens.items
+    Continues (reader_of old) (line_of_source new) (reader_of new) × EachLiesIn (line_of_source new).text new.state.tokens.tokens.items
 Advances old (Ok false) new = Ends (reader_of old) (reader_of new)
 Advances old (Err (lex.Fault f)) new = Fails (reader_of old) f (reader_of new)
 Advances old (Err lex.Memory) new = ReaderRunsOut (reader_of old) (reader_of new)

@@ -2,12 +2,12 @@
 use Rattle.std.specs.Prelude.{ℕ, Option, None, Some, take}
 use Rattle.py_lines.specs.LogicalLine.{LogicalLine}
 use Rattle.py_lines.specs.ScannerState.{ScannerState}
-use Rattle.py_lines.specs.Private.LineState.{scanned_line}
+use Rattle.py_lines.specs.Private.LineState.{read_line}
 use Rattle.py_lines.specs.declared.feed.Feed.{Feed}
 
--- the line that a scan has closed, with so many bytes of line end
+-- the line whose tokens were read, with so many bytes of line end
 abbrev pub line_of_feed : Feed → ℕ → LogicalLine
-line_of_feed f end_len = scanned_line f.state.scan (take f.state.scan.stop f.held.items) f.state.place end_len
+line_of_feed f end_len = read_line f.state (take f.state.scan.stop f.held.items) f.state.place end_len
 
 -- the same, where a line is ready
 abbrev pub ready_of : Feed → Option ℕ → Option LogicalLine

@@ -1,6 +1,6 @@
 use Rattle.std.proofs.Common.{◌≡◌, ℕ, ◌-◌, ◌<◌, List, length, take, drop, slice_index, refl, sym, ap, ◌∙◌, subst, arith, length-drop, take_all}
 use Rattle.py_lines.specs.Private.Run.{IsRunOf, is_text_byte}
-use Rattle.py_lines.proofs.LineScan.ShortPieces.{text_whole}
+use Rattle.py_lines.proofs.LineScan.PlainStrings.{text_whole}
 use Rattle.py_lines.proofs.whole_strings.whole_plain_string.Goals as goal
 
 pub returns : goal.returns

@@ -10,18 +10,37 @@ use Rattle.py_lines.specs.declared.scan.Stop.TheVariants as stops
 use Rattle.py_lines.proofs.Feeds.Steps.{open_size, within_held}
 use Rattle.py_lines.proofs.Readers.LineFaults.{refused_within}
 use Rattle.py_lines.proofs.Feeds.Loops.{held_refused, keeps_self}
+use Rattle.py_lines.proofs.Feeds.MadeReady.{ended_text, ended_within, made_held}
 use Rattle.py_lines.proofs.feed.Feed.meet.Goals as goal
-use Rattle.py_lines.proofs.feed.Feed.meet.Goals.{In-Refused}
+use Rattle.py_lines.proofs.feed.Feed.meet.Goals.{In-LineEnd, In-Refused}
 
 -- what the scan of the characters came to
 refused : (c : In-Refused) → (read : List ℕ) × (rest : List ℕ) × StopsHeld c.args.self.now (stops.Refused c.in-Refused.c) read rest
 refused c = subst (λ (t : Stop). (read : List ℕ) × (rest : List ℕ) × StopsHeld c.args.self.now t read rest) c.in-Refused.is c.requires.stops
+
+ended : (c : In-LineEnd) → (read : List ℕ) × (rest : List ℕ) × StopsHeld c.args.self.now (stops.LineEnd c.in-LineEnd.len) read rest
+ended c = subst (λ (t : Stop). (read : List ℕ) × (rest : List ℕ) × StopsHeld c.args.self.now t read rest) c.in-LineEnd.is c.requires.stops
 
 -- where it is at fault, characters end
 within_refused : (f : Feed) (read rest : List ℕ) (c : ℕ) (s : StopsHeld f (stops.Refused c) read rest) (line_fault : LineFault) (is_line_fault : IsRefusal f.state.scan c line_fault) → (line_fault.place ≤ byte_len read) × IsUtf8 (take line_fault.place f.held.items)
 within_refused f read rest c s line_fault is_line_fault =
     let within = within_held f read rest s.0 line_fault.place (refused_within f.state.place f.state.scan read s.0.way c s.4 line_fault is_line_fault) in
     (within.0, within.2)
+
+pub get_ready-requires-clause-within : goal.get_ready-requires-clause-within
+get_ready-requires-clause-within c =
+    let s = ended (goal.at.get_ready-requires-clause-within c).In-LineEnd in
+    ended_within c.args.self.now c.in-LineEnd.len s.0 s.1 s.2.0
+
+pub get_ready-requires-clause-text : goal.get_ready-requires-clause-text
+get_ready-requires-clause-text c =
+    let s = ended (goal.at.get_ready-requires-clause-text c).In-LineEnd in
+    ended_text c.args.self.now c.in-LineEnd.len s.0 s.1 s.2.0
+
+pub returns-in-LineEnd : goal.returns-in-LineEnd
+returns-in-LineEnd c =
+    let s = ended (goal.at.returns-in-LineEnd c).In-LineEnd in
+    made_held c.args.self.now c.in-LineEnd.len s.0 s.1 s.2.0 c.get_ready.new.self c.get_ready.result s.2.1 c.get_ready.ensures
 
 pub fail-requires-clause-within : goal.fail-requires-clause-within
 fail-requires-clause-within c =

@@ -26,11 +26,11 @@ extend-requires-clause-lines c =
     let f = c.args.self.now in
     omega (arith, open_stop f o.0 o.1 o.2, open_size f o.0 o.1 o.2, o.2.number, c.requires.room.fits, c.requires.room.few_lines, ap length (next_is f o.0 o.1 c.deref.result.now o.2 c.deref.ensures.value))
 
-pub returns-in-Ok : goal.returns-in-Ok
-returns-in-Ok c =
+pub returns : goal.returns
+returns c =
     let o = c.requires.opens in
     let f = c.args.self.now in
     let new : Feed = record f { state = record f.state { scan = c.extend.new.self } } in
     let keeps : KeepsText f new = record { held = refl; place = refl; line = refl; ended = refl } in
     let reached = subst (Reached (first_mode f.state.place) f.state.line f.held.items f.state.scan) (sym (next_is f o.0 o.1 c.deref.result.now o.2 c.deref.ensures.value)) (reached_held f o.0 o.1 o.2) in
-    (keeps, refl, refl, stops_held f new c.in-Ok.stop keeps (c.in-Ok.ensures.stops (first_mode f.state.place) f.state.line f.held.items (begun_sound f.state.place) reached))
+    (refl, stops_held f new c.extend.result keeps (c.extend.ensures.stops (first_mode f.state.place) f.state.line f.held.items (begun_sound f.state.place) reached))

@@ -6,20 +6,20 @@ use Rattle.py_lines.proofs.Feeds.Characters.{reached_next}
 use Rattle.py_lines.proofs.Feeds.Chunks.{rescanned_taken}
 use Rattle.py_lines.proofs.feed.Feed.take_first.Goals as goal
 
-pub extend-requires-clause-way : goal.extend-requires-clause-way
-extend-requires-clause-way c =
+pub extend-stop-requires-clause-way : goal.extend-stop-requires-clause-way
+extend-stop-requires-clause-way c =
     let o = c.requires.opens in
     let f = c.args.self.now in
     (first_mode f.state.place, f.state.line, c.args.chunk.now, begun_sound f.state.place, reached_next f o.0 o.1 c.args.chunk.now o.2 c.requires.none_held)
 
-pub extend-requires-clause-bytes : goal.extend-requires-clause-bytes
-extend-requires-clause-bytes c =
+pub extend-stop-requires-clause-bytes : goal.extend-stop-requires-clause-bytes
+extend-stop-requires-clause-bytes c =
     let o = c.requires.opens in
     let f = c.args.self.now in
     omega (arith, open_stop f o.0 o.1 o.2, open_size f o.0 o.1 o.2, ap length c.requires.none_held, c.requires.room.fits)
 
-pub extend-requires-clause-lines : goal.extend-requires-clause-lines
-extend-requires-clause-lines c =
+pub extend-stop-requires-clause-lines : goal.extend-stop-requires-clause-lines
+extend-stop-requires-clause-lines c =
     let o = c.requires.opens in
     let f = c.args.self.now in
     omega (arith, open_stop f o.0 o.1 o.2, open_size f o.0 o.1 o.2, o.2.number, ap length c.requires.none_held, c.requires.room.fits, c.requires.room.few_lines)
@@ -28,7 +28,7 @@ pub take_scanned-requires-clause-scanned : goal.take_scanned-requires-clause-sca
 take_scanned-requires-clause-scanned c =
     let o = c.requires.opens in
     let f = c.args.self.now in
-    record { none_held = c.requires.none_held; stops = c.in-Ok.ensures.stops (first_mode f.state.place) f.state.line c.args.chunk.now (begun_sound f.state.place) (reached_next f o.0 o.1 c.args.chunk.now o.2 c.requires.none_held) }
+    record { none_held = c.requires.none_held; stops = c.extend-stop.ensures.stops (first_mode f.state.place) f.state.line c.args.chunk.now (begun_sound f.state.place) (reached_next f o.0 o.1 c.args.chunk.now o.2 c.requires.none_held) }
 
-pub returns-in-Ok : goal.returns-in-Ok
-returns-in-Ok c = rescanned_taken c.args.self.now c.take_scanned.new.self c.extend.new.self c.args.chunk.now c.take_scanned.result c.take_scanned.ensures
+pub returns : goal.returns
+returns c = rescanned_taken c.args.self.now c.take_scanned.new.self c.extend-stop.new.self c.args.chunk.now c.take_scanned.result c.take_scanned.ensures

@@ -16,7 +16,7 @@ unit-requires-clause-tokens c =
     let f = c.args.self.now in
     let r : IsReady f c.in_ok-end_len.end_len = subst (λ r. StandsSo r f) c.in_ok-end_len.was c.requires.state in
     let text : c.from_utf8_unchecked-text.result.now ≡ take f.state.scan.stop f.held.items = c.from_utf8_unchecked-text.ensures ∙ ap (take f.state.scan.stop) c.deref.ensures.value in
-    subst (λ (t : List ℕ). EachLiesIn t f.state.scan.tokens.items) (sym text) (ready_lies f c.in_ok-end_len.end_len r)
+    subst (λ (t : List ℕ). EachLiesIn t f.state.tokens.tokens.items) (sym text) (ready_lies f c.in_ok-end_len.end_len r)
 
 pub unit-requires-clause-fits : goal.unit-requires-clause-fits
 unit-requires-clause-fits c =

@@ -2,7 +2,7 @@ use Rattle.std.proofs.Common.{take, slice_index, sym, ap, ◌∙◌, arith}
 use Rattle.std.proofs.lemmas.List.{take_more}
 use Rattle.py_lines.specs.Private.Machine.{spelling_with}
 use Rattle.py_lines.specs.Private.Run.{word_spelling}
-use Rattle.py_lines.proofs.LineScan.ShortPieces.{spelling_push, full_take}
+use Rattle.py_lines.proofs.LineScan.AsciiRuns.{spelling_push, full_take}
 use Rattle.py_lines.proofs.mode.Spelling.of_word.Goals as goal
 
 pub loop-i-preserved : goal.loop-i-preserved

@@ -15,6 +15,7 @@ feed_ends_body q = ap not (or-true (eqb 10 q))
 feed_ends : (run : ByteRun) → is_in_run run 10 ≡ false
 unfolding is_ascii_word is_space is_code_sign is_break
 feed_ends runs.Word = refl
+feed_ends runs.WideWord = refl
 feed_ends runs.Space = refl
 feed_ends (runs.Body q) = feed_ends_body q
 feed_ends (runs.Text q) = ap (λ b. b && nat_lt 10 128) (feed_ends_body q)

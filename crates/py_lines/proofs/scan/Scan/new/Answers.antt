@@ -1,35 +1,25 @@
-use Rattle.std.proofs.Common.{true, [], rules}
+use Rattle.std.proofs.Common.{[], rules}
 use Rattle.py_lines.specs.declared.scan.Scan.{Scan}
-use Rattle.py_lines.specs.declared.unit.UnitKind.TheVariants.{Blank}
 use Rattle.py_lines.proofs.LineScan.StringSteps.{no_fields}
 use Rattle.py_lines.proofs.scan.Scan.new.Goals as goal
 
 pub returns-clause-start : goal.returns-clause-start
 returns-clause-start c =
     let scan : Scan = record {
-      piece = record { mode = c.args.mode; start = 0; line = c.args.line };
+      piece = record { mode = c.args.mode; start = 0 };
       stop = 0;
       line = c.args.line;
       count = c.from.result;
-      margin = true;
-      indent = 0;
-      kind = Blank;
-      tokens = c.new.result;
-      brackets = c.new-2.result;
-      fields = c.new-3.result;
+      brackets = c.new.result;
+      fields = c.new-2.result;
     } in
     record {
       counts = record {
         mode = search rules;
         start = search rules;
         stop = search rules;
-        piece_line = search rules;
         here = search rules;
         after = search rules;
-        margin = search rules;
-        indent = search rules;
-        kind = search rules;
-        tokens = search rules;
       };
       fields = no_fields scan c.args.mode [] c.requires;
     }

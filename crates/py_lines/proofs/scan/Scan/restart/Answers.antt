@@ -1,21 +1,16 @@
-use Rattle.std.proofs.Common.{true, [], rules}
+use Rattle.std.proofs.Common.{[], rules}
 use Rattle.py_lines.specs.declared.scan.Scan.{Scan}
-use Rattle.py_lines.specs.declared.unit.UnitKind.TheVariants.{Blank}
 use Rattle.py_lines.proofs.LineScan.StringSteps.{no_fields}
 use Rattle.py_lines.proofs.scan.Scan.restart.Goals as goal
 
 pub returns-clause-start : goal.returns-clause-start
 returns-clause-start c =
     let scan : Scan = record {
-      piece = record { mode = c.args.mode; start = 0; line = c.args.line };
+      piece = record { mode = c.args.mode; start = 0 };
       stop = 0;
       line = c.args.line;
       count = c.from-self.result;
-      margin = true;
-      indent = 0;
-      kind = Blank;
-      tokens = c.clear.new.self;
-      brackets = c.clear-2.new.self;
+      brackets = c.clear.new.self;
       fields = c.args.self.now.fields;
     } in
     record {
@@ -23,13 +18,8 @@ returns-clause-start c =
         mode = search rules;
         start = search rules;
         stop = search rules;
-        piece_line = search rules;
         here = search rules;
         after = search rules;
-        margin = search rules;
-        indent = search rules;
-        kind = search rules;
-        tokens = search rules;
       };
       fields = no_fields scan c.args.mode [] c.requires;
     }

@@ -1,61 +1,77 @@
-use Rattle.std.proofs.Common.{◌≡◌, ℕ, ◌-◌, List, Ok, sym, ap, ◌∙◌, subst, arith, length, take_all, take, drop, length-drop}
+use Rattle.std.proofs.Common.{◌≡◌, ℕ, List, sym, ◌∙◌, arith}
 use Rattle.py_lines.specs.declared.scan.Scan.{Scan}
-use Rattle.py_lines.specs.declared.whole_pieces.Taken.{Taken}
-use Rattle.py_lines.specs.declared.whole_pieces.Taken.TheVariants as taken
-use Rattle.py_lines.specs.Private.Run.{TakesPiece}
-use Rattle.py_lines.proofs.LineScan.LineStops.{ShutsTo}
-use Rattle.py_lines.proofs.LineScan.NextPieces.{ends_line, none_goes, piece_far, piece_goes}
-use Rattle.py_lines.proofs.LineScan.ShortPieces.{shut_from}
+use Rattle.py_lines.specs.declared.whole_pieces.Passing.{Passing}
+use Rattle.py_lines.proofs.LineScan.AsciiRuns.{free_is}
+use Rattle.py_lines.proofs.LineScan.WholePieces.{StandsAt, begins_passing, left_reached, operator_left, plain_passed, stands_as, with_marks}
+use Rattle.py_lines.proofs.scan.Scan.take_pieces.Goals.{After-last_operator_end-plain, else-specials-test, then-specials-test+in-Unpassed, then-plain-gt0, else-plain-gt0}
 use Rattle.py_lines.proofs.scan.Scan.take_pieces.Goals as goal
 
-pub pieces-init : goal.pieces-init
-pieces-init c = record {
-  room = c.requires.bytes;
-  lines = c.requires.lines;
-  shorter = omega arith;
-  reached = λ m at whole start r. shut_from m at whole c.args.self.now c.args.bytes.now r;
+pub specials-init : goal.specials-init
+specials-init c = record {
+  passed = begins_passing c.args.self.now c.args.bytes.now c.next-at.new.self
+      (free_is c.args.self.now.piece.mode (sym c.is_free.ensures ∙ c.if-not-is_free.false));
+  next = c.next-at.ensures 0 c.at.ensures.marks;
 }
 
--- the bytes after a piece, and how far it went
-after_is : (bytes : List ℕ) (len : ℕ) → take (length bytes - len) (drop len bytes) ≡ drop len bytes
-after_is bytes len = take_all (length bytes - len) (drop len bytes) (omega (arith, length-drop len bytes))
+pub specials-smaller : goal.specials-smaller
+specials-smaller c =
+    let next = c.next-at-in-Passed.ensures c.pass_special.new.passing.len c.in-Passed.ensures.1 in
+    omega (arith, c.in-Passed.ensures.0, next.after, next.within)
 
-takes_bytes : (old new : Scan) (bytes : List ℕ) (t : Taken) (len : ℕ) → t ≡ taken.Bytes len → TakesPiece old bytes (Ok t) new → TakesPiece old bytes (Ok (taken.Bytes len)) new
-takes_bytes old new bytes t len is takes = subst (λ (r : Taken). TakesPiece old bytes (Ok r) new) is takes
-
-pub pieces-preserved : goal.pieces-preserved
-pieces-preserved c =
-    let bytes = c.pieces.rest.now in
-    let len = c.in-Bytes.len in
-    let takes = takes_bytes c.pieces.self c.take_piece.new.self bytes _ len c.in-Bytes.is c.in_ok-len.ensures in
-    let far = piece_far c.pieces.self c.take_piece.new.self bytes len takes in
-    let rest = after_is bytes len in
+pub specials-preserved : goal.specials-preserved
+specials-preserved c =
+    let scan = c.specials.self in
+    let p = c.specials.passing in
+    let q = c.pass_special.new.passing in
+    let at =
+    plain_passed c.args.self.now c.args.bytes.now c.specials.at scan p p.marks c.specials.invariant.passed c.specials.invariant.next in
     record {
-      room = omega (arith, c.pieces.invariant.room, far.stop, far.within, ap length rest, length-drop len bytes);
-      lines = omega (arith, c.pieces.invariant.lines, far.lines, far.within, ap length rest, length-drop len bytes);
-      shorter = omega (arith, c.pieces.invariant.shorter, ap length rest, length-drop len bytes);
-      reached = subst (ShutsTo c.args.self.now c.args.bytes.now c.take_piece.new.self) (sym rest) (piece_goes c.args.self.now c.args.bytes.now c.pieces.self c.take_piece.new.self bytes (sym c.is_free.ensures ∙ c.pieces-test.true) c.pieces.invariant.reached len takes);
+      passed = with_marks c.args.self.now c.args.bytes.now q.len c.pass_special.new.self q c.next-at-in-Passed.new.self
+          (c.in-Passed.ensures.2 c.args.self.now at);
+      next = c.next-at-in-Passed.ensures q.len c.in-Passed.ensures.1;
     }
-
-pub returns-in-Nothing-clause-reached : goal.returns-in-Nothing-clause-reached
-returns-in-Nothing-clause-reached c =
-    let old = c.pieces.self in
-    let new = c.take_piece.new.self in
-    let bytes = c.pieces.rest.now in
-    let takes : TakesPiece old bytes (Ok taken.Nothing) new = subst (λ (r : Taken). TakesPiece old bytes (Ok r) new) c.in-Nothing.is c.in_ok-len.ensures in
-    none_goes c.args.self.now c.args.bytes.now old new bytes (sym c.is_free.ensures ∙ c.pieces-test.true) c.pieces.invariant.reached takes
 
 pub returns-in-LineEnd-clause-reached : goal.returns-in-LineEnd-clause-reached
 returns-in-LineEnd-clause-reached c =
-    let old = c.pieces.self in
-    let new = c.take_piece.new.self in
-    let bytes = c.pieces.rest.now in
-    let len = c.in-LineEnd.len in
-    let takes : TakesPiece old bytes (Ok (taken.LineEnd len)) new = subst (λ (r : Taken). TakesPiece old bytes (Ok r) new) c.in-LineEnd.is c.in_ok-len.ensures in
-    ends_line c.args.self.now c.args.bytes.now old new bytes (sym c.is_free.ensures ∙ c.pieces-test.true) c.pieces.invariant.reached len takes
+    let p = c.specials.passing in
+    c.in-LineEnd.ensures c.args.self.now (plain_passed c.args.self.now c.args.bytes.now c.specials.at c.specials.self p p.marks
+    c.specials.invariant.passed c.specials.invariant.next)
 
-pub pieces-smaller : goal.pieces-smaller
-pieces-smaller c =
-    let len = c.in-Bytes.len in
-    let far = piece_far c.pieces.self c.take_piece.new.self c.pieces.rest.now len (takes_bytes c.pieces.self c.take_piece.new.self c.pieces.rest.now _ len c.in-Bytes.is c.in_ok-len.ensures) in
-    omega (arith, far.some, far.within, ap length (after_is c.pieces.rest.now len), length-drop len c.pieces.rest.now)
+-- where the loop has ended
+stands : (c : After-last_operator_end-plain)
+    → StandsAt c.args.self.now c.args.bytes.now c.specials.at c.specials-test.self c.specials-test.passing
+stands c = elim c.specials-test.branch [
+  | else-specials-test w ↦ stood c.specials-test.self c.specials-test.passing w.self-is w.passing-is
+  | then-specials-test+in-Unpassed w ↦
+      stood c.specials-test.self c.specials-test.passing (w.self-is ∙ w.in-Unpassed.ensures.0) (w.passing-is ∙ w.in-Unpassed.ensures.1)
+]
+  where
+    stood : (scan : Scan) (p : Passing) → scan ≡ c.specials.self → p ≡ c.specials.passing
+        → StandsAt c.args.self.now c.args.bytes.now c.specials.at scan p
+    stood scan p same same_passing =
+        stands_as c.args.self.now c.args.bytes.now c.specials.at c.specials.self c.specials.passing scan p same same_passing
+        (record { passed = c.specials.invariant.passed; next = c.specials.invariant.next })
+
+pub returns-clause-reached : goal.returns-clause-reached
+returns-clause-reached c = elim c.if-plain-gt0.branch [
+  | then-plain-gt0 w ↦
+      operator_left first bytes c.specials.at c.last_operator_end-plain.result scan p on c.last_operator_end-plain.ensures
+      w.if-plain-gt0.true c.if-plain-gt0.self c.if-plain-gt0.passing
+      (w.self-is ∙ w.pass_closed.ensures.scan) (w.passing-is ∙ w.pass_closed.ensures.passing)
+  | else-plain-gt0 w ↦ left_reached first bytes p.len scan p on.passed c.if-plain-gt0.self c.if-plain-gt0.passing w.self-is w.passing-is
+]
+  where
+    first : Scan
+    first = c.args.self.now
+
+    bytes : List ℕ
+    bytes = c.args.bytes.now
+
+    scan : Scan
+    scan = c.specials-test.self
+
+    p : Passing
+    p = c.specials-test.passing
+
+    on : StandsAt first bytes c.specials.at scan p
+    on = stands (goal.at.returns-clause-reached c).After-last_operator_end-plain

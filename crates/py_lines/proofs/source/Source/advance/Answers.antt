@@ -14,7 +14,7 @@ has_scanned : (s : Source) (old begun : LineState) (text : List ℕ) (stopped st
     → old.place < length s.bytes.now → old.fault ≡ None → s.state.scan.line ≡ begun.scan.line → text ≡ drop begun.place s.characters.now
     → Scans begun.scan.piece.mode text s.state.scan stopped → stopped ≡ stop → HasScanned s stop
 has_scanned s old begun text stopped stop is begins more none line next scans stops =
-    let same : s.state ≡ record old { scan = s.state.scan } = is ∙ ap (λ (l : LineState). record l { scan = s.state.scan }) begins.same in
+    let same : s.state ≡ record old { scan = s.state.scan; tokens = begun.tokens } = is ∙ ap (λ (l : LineState). record l { scan = s.state.scan }) begins.same in
     let place : s.state.place ≡ old.place = ap (λ (l : LineState). l.place) same in
     let from : text ≡ drop s.state.place s.characters.now = next ∙ ap (λ (l : LineState). drop l.place s.characters.now) (sym is) in
     record {
@@ -39,12 +39,12 @@ returns-then-self c = record {
 
 pub end_line-requires : goal.end_line-requires
 end_line-requires c =
-    has_scanned _ _ _ _ _ _ refl c.restart.ensures (is_before_end c.args.self.now c.if-self.false) c.in_default.is c.in_ok-len.ensures.line c.range_from.ensures.value c.in_ok-len.ensures.stops c.in-LineEnd.is
+    has_scanned _ _ _ _ _ _ refl c.restart.ensures (is_before_end c.args.self.now c.if-self.false) c.in_default.is c.scan_text.ensures.line c.range_from.ensures.value c.scan_text.ensures.stops c.in-LineEnd.is
 
 pub end_text-requires : goal.end_text-requires
 end_text-requires c =
-    has_scanned _ _ _ _ _ _ refl c.restart.ensures (is_before_end c.args.self.now c.if-self.false) c.in_default.is c.in_ok-len.ensures.line c.range_from.ensures.value c.in_ok-len.ensures.stops c.in-TextEnd.is
+    has_scanned _ _ _ _ _ _ refl c.restart.ensures (is_before_end c.args.self.now c.if-self.false) c.in_default.is c.scan_text.ensures.line c.range_from.ensures.value c.scan_text.ensures.stops c.in-TextEnd.is
 
 pub refuse-requires : goal.refuse-requires
 refuse-requires c =
-    has_scanned _ _ _ _ _ _ refl c.restart.ensures (is_before_end c.args.self.now c.if-self.false) c.in_default.is c.in_ok-len.ensures.line c.range_from.ensures.value c.in_ok-len.ensures.stops c.in-Refused.is
+    has_scanned _ _ _ _ _ _ refl c.restart.ensures (is_before_end c.args.self.now c.if-self.false) c.in_default.is c.scan_text.ensures.line c.range_from.ensures.value c.scan_text.ensures.stops c.in-Refused.is

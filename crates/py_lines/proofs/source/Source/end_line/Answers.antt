@@ -1,5 +1,7 @@
+use Rattle.std.proofs.Common.{◌++◌, ◌∷◌, []}
+use Rattle.std.proofs.lemmas.Result.{err_from_is_err_and}
 use Rattle.py_lines.specs.declared.scan.Stop.TheVariants.{LineEnd}
-use Rattle.py_lines.proofs.Readers.LineAnswers.{all_within, place_boundary, place_room, line_ended, few_lines_line, continues_line}
+use Rattle.py_lines.proofs.Readers.LineAnswers.{all_within, place_boundary, place_room, line_ended, is_line_text, few_lines_line, continues_line}
 use Rattle.py_lines.proofs.source.Source.end_line.Goals as goal
 
 pub give-requires-clause-within : goal.give-requires-clause-within
@@ -15,5 +17,16 @@ give-requires-clause-boundary c =
 pub give-requires-clause-lines : goal.give-requires-clause-lines
 give-requires-clause-lines c = few_lines_line c.args.self.now c.args.len c.requires
 
+pub give-requires-clause-text : goal.give-requires-clause-text
+give-requires-clause-text c =
+    let s = c.args.self.now in
+    let at = c.requires.scans.stops in
+    (at.body ++ at.last ∷ [], is_line_text s (LineEnd c.args.len) c.requires c.args.len (at.body ++ at.last ∷ []) (line_ended s c.args.len c.requires))
+
+pub returns-in_err-give : goal.returns-in_err-give
+returns-in_err-give c =
+    let p = err_from_is_err_and c.from_residual.result c.from_residual.ensures.1 in
+    rw (p.1, p.2) (record { same = c.in_err-give.ensures; more = c.requires.more; fault = c.requires.no_fault })
+
 pub returns : goal.returns
-returns c = continues_line c.args.self.now c.give.new.self c.args.len c.requires c.give.ensures
+returns c = continues_line c.args.self.now c.give.new.self c.args.len c.requires c.in_ok-give.ensures

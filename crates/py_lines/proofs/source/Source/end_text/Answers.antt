@@ -1,5 +1,5 @@
-use Rattle.std.proofs.Common.{◌≡◌, ℕ, ◌+◌, ◌-◌, ◌≤◌, Some, Err, inl, inr, length, sym, ap, ◌∙◌, subst, refl, arith}
-use Rattle.std.specs.Str.{IsCharBoundary}
+use Rattle.std.proofs.Common.{◌≡◌, ℕ, ◌-◌, ◌≤◌, Some, Err, inl, inr, true, length, sym, ap, ◌∙◌, subst, arith}
+use Rattle.std.proofs.lemmas.Result.{err_from_is_err_and}
 use Rattle.py_lines.specs.declared.fault.FaultKind.{FaultKind}
 use Rattle.py_lines.specs.declared.fault.LexError.{LexError}
 use Rattle.py_lines.specs.declared.mode.Mode.{Mode}
@@ -8,12 +8,11 @@ use Rattle.py_lines.specs.declared.scan.Stop.TheVariants.{TextEnd}
 use Rattle.py_lines.specs.declared.source.Source.{Source}
 use Rattle.py_lines.specs.Private.LineState.{IsEndLineFault}
 use Rattle.py_lines.specs.Private.Machine.{is_final}
-use Rattle.py_lines.specs.declared.scan.Scan.{Scan}
 use Rattle.py_lines.specs.Private.Source.{Advances, FailsAfter, HasScanned}
-use Rattle.py_lines.proofs.LineScan.LineSteps.{way_order}
-use Rattle.py_lines.proofs.Readers.LineAnswers.{Within, all_within, place_room, place_boundary}
+use Rattle.py_lines.proofs.Machine.PieceSteps.{pieces_at}
+use Rattle.py_lines.proofs.Readers.LineAnswers.{Within, all_within, place_room, place_boundary, is_line_text}
 use Rattle.py_lines.proofs.Readers.LineFaults.{finished}
-use Rattle.py_lines.proofs.Readers.EndAnswers.{stop_size, fails_at_bytes, fails_at_end, end_within, continues_text, few_lines_text}
+use Rattle.py_lines.proofs.Readers.EndAnswers.{stop_size, fails_at_bytes, fails_at_end, end_within, last_line, continues_text, few_lines_text}
 use Rattle.py_lines.proofs.source.Source.end_text.Goals as goal
 
 line_fault_within : (s : Source) (has : HasScanned s TextEnd) (rest : ℕ) (line_fault : LineFault) → (rest ≡ 0 → length s.bytes.now ≤ length s.characters.now) → IsEndLineFault s.state.scan rest (Some line_fault) → Within has.scans.read line_fault.place
@@ -40,24 +39,36 @@ fail-requires-clause-boundary c =
 pub returns-in-Some : goal.returns-in-Some
 returns-in-Some c = line_fault_fails c.args.self.now c.requires c.in-Some.line_fault c.in-Some.ensures c.fail.result c.fail.new.self c.fail.ensures
 
-pub close-requires : goal.close-requires
-close-requires c = way_order c.args.self.now.state.scan c.requires.scans.stops.0.state c.requires.scans.stops.0.tallies
+final_mode : (s : Source) (has : HasScanned s TextEnd) → is_final s.state.scan.piece.mode ≡ true → is_final has.scans.stops.0.state.mode ≡ true
+final_mode s has final = ap (λ (m : Mode). is_final m) (sym has.scans.stops.0.tallies.counts.mode) ∙ final
 
 pub give-requires-clause-within : goal.give-requires-clause-within
 give-requires-clause-within c =
     let s = c.args.self.now in
-    omega (arith, place_room s TextEnd c.requires s.state.scan.stop (all_within c.requires.scans.read s.state.scan.stop (stop_size s c.requires)), ap (λ (x : Scan). x.stop) c.in_ok-close.ensures.same)
+    place_room s TextEnd c.requires s.state.scan.stop (all_within c.requires.scans.read s.state.scan.stop (stop_size s c.requires))
 
 pub give-requires-clause-boundary : goal.give-requires-clause-boundary
 give-requires-clause-boundary c =
     let s = c.args.self.now in
-    subst (λ (n : ℕ). IsCharBoundary s.characters.now (s.state.place + n)) (ap (λ (x : Scan). x.stop) (sym c.in_ok-close.ensures.same)) (place_boundary s TextEnd c.requires s.state.scan.stop (all_within c.requires.scans.read s.state.scan.stop (stop_size s c.requires)))
+    place_boundary s TextEnd c.requires s.state.scan.stop (all_within c.requires.scans.read s.state.scan.stop (stop_size s c.requires))
 
 pub give-requires-clause-lines : goal.give-requires-clause-lines
-give-requires-clause-lines c = few_lines_text c.args.self.now c.requires c.close.new.self c.in_ok-close.ensures
+give-requires-clause-lines c = few_lines_text c.args.self.now c.requires
+
+pub give-requires-clause-text : goal.give-requires-clause-text
+give-requires-clause-text c =
+    let s = c.args.self.now in
+    let done = finished s.state.scan c.in_default.ensures.1 in
+    let pieces = pieces_at c.requires.scans.stops.0.state in
+    (pieces, is_line_text s TextEnd c.requires 0 pieces (last_line s c.requires (final_mode s c.requires done.0) done.1 (omega (arith, c.in_default.ensures.0))))
+
+pub returns-in_err-give : goal.returns-in_err-give
+returns-in_err-give c =
+    let p = err_from_is_err_and c.from_residual.result c.from_residual.ensures.1 in
+    rw (p.1, p.2) (record { same = c.in_err-give.ensures; more = c.requires.more; fault = c.requires.no_fault })
 
 pub returns : goal.returns
 returns c =
     let s = c.args.self.now in
     let done = finished s.state.scan c.in_default.ensures.1 in
-    continues_text s c.requires _ c.give.new.self (ap (λ (m : Mode). is_final m) (sym c.requires.scans.stops.0.tallies.counts.mode) ∙ done.0) done.1 c.in_ok-close.ensures refl refl refl refl (omega (arith, c.in_default.ensures.0)) c.give.ensures
+    continues_text s c.requires c.give.new.self (final_mode s c.requires done.0) done.1 (omega (arith, c.in_default.ensures.0)) c.in_ok-give.ensures

@@ -1,10 +1,10 @@
 use Rattle.std.proofs.Common.{ℕ, List, sym, ap, ◌∙◌, subst, arith}
 use Rattle.py_lines.specs.Token.{EachLiesIn}
-use Rattle.py_lines.specs.Private.LineState.{scanned_line}
+use Rattle.py_lines.specs.Private.LineState.{read_line}
 use Rattle.py_lines.proofs.source.Source.unit.Goals as goal
 
 pub unit-requires-clause-tokens : goal.unit-requires-clause-tokens
-unit-requires-clause-tokens c = subst (λ (t : List ℕ). EachLiesIn t c.args.self.now.state.scan.tokens.items) (sym c.range-text.ensures.value) c.requires
+unit-requires-clause-tokens c = subst (λ (t : List ℕ). EachLiesIn t c.args.self.now.state.tokens.tokens.items) (sym c.range-text.ensures.value) c.requires
 
 pub unit-requires-clause-fits : goal.unit-requires-clause-fits
 unit-requires-clause-fits c = omega (arith, c.range-text.ensures.len)
@@ -12,4 +12,4 @@ unit-requires-clause-fits c = omega (arith, c.range-text.ensures.len)
 pub returns : goal.returns
 returns c =
     let s = c.args.self.now in
-    c.unit.ensures.line ∙ ap (λ (t : List ℕ). scanned_line s.state.scan t s.start s.end_len) c.range-text.ensures.value
+    c.unit.ensures.line ∙ ap (λ (t : List ℕ). read_line s.state t s.start s.end_len) c.range-text.ensures.value

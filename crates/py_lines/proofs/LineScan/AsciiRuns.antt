@@ -1,0 +1,103 @@
+-- Runs of bytes of ASCII, and what they begin.
+use Rattle.std.proofs.Common.{◌≡◌, ℕ, zero, suc, ◌<◌, ◌≤◌, Bool, true, false, not, List, [], ◌∷◌, ◌++◌, length, take, slice_index, refl, ap, ◌∙◌, arith}
+use Rattle.std.specs.Prelude.{encode_utf8_all, codes, nat_lt}
+use Rattle.std.specs.Str.{all_scalars}
+use Rattle.std.specs.List.{list_all}
+use Rattle.std.specs.Char.{IsScalar}
+use Rattle.std.proofs.lemmas.Bool.{and_parts, and_from, both_ways}
+use Rattle.std.proofs.lemmas.Bool.Decides.{nat_tests}
+use Rattle.std.proofs.lemmas.Str.{encode_ascii}
+use Rattle.std.proofs.Math.Utf8.{low_scalar}
+use Rattle.py_lines.specs.Character.{is_space, is_word_start, is_quote, is_operator, is_break}
+use Rattle.py_lines.specs.declared.mode.Spelling.{Spelling}
+use Rattle.py_lines.specs.declared.mode.Spelling.TheVariants as spellings
+use Rattle.py_lines.specs.declared.mode.Mode.{Mode}
+use Rattle.py_lines.specs.declared.mode.Mode.TheVariants as modes
+use Rattle.py_lines.specs.declared.mode.Move.TheVariants as moves
+use Rattle.py_lines.specs.Private.Machine.{first_spelling, spelling_with, spelling_on, IsFull, move_of}
+use Rattle.py_lines.specs.Private.ScanMachine.{meet_of}
+use Rattle.py_lines.specs.Private.Run.{is_ascii_word, is_free, word_spelling}
+use Rattle.py_lines.proofs.Text.CharacterTests.{none_of}
+use Rattle.py_lines.proofs.LineScan.Runs.{stays-no_break, word_byte_low, word_byte_starts}
+
+-- a run of bytes as a list
+pub all_pass : (passes : ℕ → Bool) (bytes : List ℕ) (n : ℕ) → n ≤ length bytes → ((i : ℕ) → i < n → passes (slice_index bytes i) ≡ true)
+    → list_all passes (take n bytes) ≡ true
+all_pass passes bytes zero within each = refl
+all_pass passes [] (suc n) within each = refl
+all_pass passes (b ∷ bs) (suc n) within each = and_from (passes b) (list_all passes (take n bs)) (each 0 (omega arith))
+    (all_pass passes bs n (omega (arith, within)) (λ i less. each (suc i) (omega (arith, less))))
+
+-- the spelling of a word with one more character
+pub spelling_push : (cs : List ℕ) (c : ℕ) → IsFull cs → word_spelling (cs ++ c ∷ []) ≡ spelling_with (word_spelling cs) c
+spelling_push [] c full = absurd full
+spelling_push (b ∷ bs) c full = go (first_spelling b) bs
+  where
+    go : (s : Spelling) (xs : List ℕ) → spelling_on s (xs ++ c ∷ []) ≡ spelling_with (spelling_on s xs) c
+    go s [] = refl
+    go s (x ∷ xs) = go (spelling_with s x) xs
+
+pub full_take : (bytes : List ℕ) (n : ℕ) → 1 ≤ n → n < length bytes → IsFull (take n bytes)
+full_take bytes zero some within = absurd (omega (arith, some))
+full_take [] (suc n) some within = absurd (omega (arith, within))
+full_take (b ∷ bs) (suc n) some within = tt
+
+pub ascii_scalar : (c : ℕ) → c < 128 → IsScalar c
+ascii_scalar c low = low_scalar c (omega (arith, low))
+
+-- the characters of a run of bytes
+pub low_encodes : (passes : ℕ → Bool) (run : List ℕ) → ((c : ℕ) → passes c ≡ true → c < 128) → list_all passes run ≡ true
+    → (encode_utf8_all run ≡ run) × (all_scalars run ≡ true)
+low_encodes passes [] low all = (refl, refl)
+low_encodes passes (c ∷ cs) low all =
+    let parts = and_parts (passes c) (list_all passes cs) all in
+    let others = low_encodes passes cs low parts.1 in (
+      ap (λ t. t ++ encode_utf8_all cs) (encode_ascii c (low c parts.0))
+          ∙ ap (λ t. c ∷ t) others.0,
+      and_from _ _ (ascii_scalar c (low c parts.0)) others.1,
+    )
+
+pub free_breaks : (m : Mode) (c : ℕ) → m ≡ modes.Free → meet_of m c ≡ moves.Breaks
+unfolding meet_of move_of
+free_breaks m c is = ap (λ n. meet_of n c) is
+
+-- a word
+pub word_starts : (c : ℕ) → is_ascii_word c ≡ true → is_word_start c ≡ true
+word_starts c h = word_byte_starts c (word_byte_low c h) ∙ h
+
+pub word_whole : (c : ℕ) → is_ascii_word c ≡ true → not (is_break c) ≡ true
+word_whole c h = ap not (stays-no_break (modes.Word spellings.Name) c h)
+
+pub operator-not-quote : (c : ℕ) → is_operator c ≡ true → is_quote c ≡ false
+unfolding is_operator is_quote
+operator-not-quote c h = none_of is_quote (codes "+-*/%@&|^~<>=!()[]{},:.;") c refl h
+
+pub space-not-quote : (c : ℕ) → is_space c ≡ true → is_quote c ≡ false
+unfolding is_space is_quote
+space-not-quote c h = none_of is_quote (codes " \t" ++ 0x0C ∷ []) c refl h
+
+pub space_whole : (c : ℕ) → is_space c ≡ true → not (is_break c) ≡ true
+space_whole c h = ap not (stays-no_break modes.Space c h)
+
+-- an operator after closed pieces
+pub operator-no_break : (c : ℕ) → is_operator c ≡ true → is_break c ≡ false
+unfolding is_operator is_break
+operator-no_break c h = none_of is_break (codes "+-*/%@&|^~<>=!()[]{},:.;") c refl h
+
+-- a string after closed pieces
+pub quote-no_break : (c : ℕ) → is_quote c ≡ true → is_break c ≡ false
+unfolding is_quote is_break
+quote-no_break c h = none_of is_break (codes "'\"") c refl h
+
+abbrev pub is_low : ℕ → Bool
+is_low c = nat_lt c 128
+
+pub low_is : (c : ℕ) → nat_lt c 128 ≡ true → c < 128
+low_is c h = grind (arith, nat_tests)
+
+pub is_low_from : (c : ℕ) → c < 128 → nat_lt c 128 ≡ true
+is_low_from c h = grind (arith, nat_tests)
+
+pub free_is : (m : Mode) → is_free m ≡ true → m ≡ modes.Free
+free_is modes.Free h = refl
+free_is m h = absurd (both_ways _ refl h)

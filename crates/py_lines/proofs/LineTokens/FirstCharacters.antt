@@ -1,0 +1,156 @@
+-- What each class of pieces begins with.
+use Rattle.std.proofs.Common.{◌≡◌, ℕ, ◌<◌, ◌⊎◌, inl, inr, true, false, List, [], ◌∷◌, ◌++◌, refl, sym, ap, ◌∙◌, subst, arith, ⊎_elim}
+use Rattle.std.specs.List.{list_all}
+use Rattle.std.proofs.lemmas.Bool.{and_parts, both_ways, cases_lt, false_from_ne_true, or_cases, or_left, or_right}
+use Rattle.py_lines.specs.Character.{is_mark, is_space, is_word_character, is_word_start, is_quote, is_line_feed, is_return, is_hash, is_backslash}
+use Rattle.py_lines.specs.Piece.{Class, mark, space, word, string, operator, comment, join, line_end, is_mark_class}
+use Rattle.py_lines.specs.PieceGrammar.{joined, is_prefix, IsPrefix, IsNoneOr, feed, return_feed, return}
+use Rattle.py_lines.specs.FieldStrings.{is_field_prefix, quotes_of}
+use Rattle.py_lines.specs.Fields.{fielded, InClass}
+use Rattle.py_lines.specs.declared.mode.Mode.TheVariants as modes
+use Rattle.py_lines.specs.declared.mode.Start.{Start}
+use Rattle.py_lines.specs.declared.mode.Start.TheVariants as starts
+use Rattle.py_lines.specs.Private.Machine.{start_of, spelling_on}
+use Rattle.py_lines.specs.Private.ScanMachine.{begins_string}
+use Rattle.py_lines.proofs.Text.CharacterTests.{operator_ascii, prefix_word, the_one}
+use Rattle.py_lines.proofs.Machine.Spellings.{name_stays}
+use Rattle.py_lines.proofs.Machine.Starts.{start-mark, start-word, start-space, start-operator, start-feed, start-return, start-quote, start-hash, start-slash}
+use Rattle.py_lines.proofs.Fields.Elsewhere.{quotes_begin}
+use Rattle.py_lines.proofs.Fields.Prefixes.{field_letters}
+use Rattle.py_lines.proofs.LineScan.Runs.{space_low, quote_ascii}
+use Rattle.py_lines.proofs.LineTokens.Spellings.{fielded_spelling, high_first}
+
+-- a string: its prefix, if it has one, its first quote, and the rest
+pub record IsQuoted (text : List ℕ) : Type 0 where
+  pub prefix : List ℕ
+  pub quote : ℕ
+  pub body : List ℕ
+  pub spell : text ≡ prefix ++ quote ∷ body
+  pub begun : IsNoneOr fielded.is_prefix prefix
+  pub opens : is_quote quote ≡ true
+
+plain_begun : (prefix : List ℕ) → IsPrefix prefix → IsNoneOr fielded.is_prefix prefix
+plain_begun prefix (inl none) = inl none
+plain_begun prefix (inr is) = inr (or_left (is_prefix prefix) (is_field_prefix prefix) is)
+
+pub quoted : (text : List ℕ) → InClass string text → IsQuoted text
+quoted text (inl (inl (short, plain))) =
+    let begun = plain_begun short.prefix short.begun in
+    record { prefix = short.prefix; quote = short.quote; body = _; spell = short.spell; begun = begun; opens = short.opens }
+quoted text (inl (inr (long, plain))) =
+    let begun = plain_begun long.prefix long.begun in
+    record { prefix = long.prefix; quote = long.quote; body = _; spell = long.spell; begun = begun; opens = long.opens }
+quoted text (inr is) =
+    record {
+      prefix = is.prefix;
+      quote = is.host.quote;
+      body = _;
+      spell = is.spell ∙ ap (λ t. is.prefix ++ (t ++ (joined is.parts ++ quotes_of is.host))) (quotes_begin is.host).1;
+      begun = inr (or_right (is_prefix is.prefix) (is_field_prefix is.prefix) is.begun);
+      opens = is.opens;
+    }
+
+-- a prefix is a word
+pub record IsPrefixWord (prefix : List ℕ) : Type 0 where
+  pub first : ℕ
+  pub others : List ℕ
+  pub is : prefix ≡ first ∷ others
+  pub starts : is_word_start first ≡ true
+  pub low : first < 128
+  pub run : list_all is_word_character others ≡ true
+
+pub prefix_low : (a : ℕ) (bs : List ℕ) → fielded.is_prefix (a ∷ bs) ≡ true → a < 128
+prefix_low a bs h = ⊎_elim (λ low. low)
+    (λ high. absurd
+    (both_ways _ (ap (λ s. begins_string (spelling_on s bs)) (high_first a high) ∙ ap begins_string (name_stays bs))
+    (sym (fielded_spelling a bs) ∙ h)))
+    (cases_lt a 128)
+
+pub as_word : (a : ℕ) (bs : List ℕ) → fielded.is_prefix (a ∷ bs) ≡ true → (is_word_start a ≡ true) × (list_all is_word_character bs ≡ true)
+as_word a bs h = ⊎_elim (λ plain. prefix_word a bs plain) with_fields (or_cases (is_prefix (a ∷ bs)) (is_field_prefix (a ∷ bs)) h)
+  where
+    with_fields : is_field_prefix (a ∷ bs) ≡ true → (is_word_start a ≡ true) × (list_all is_word_character bs ≡ true)
+    with_fields is =
+        let l = field_letters (a ∷ bs) is in
+        let first : l.first ≡ a = cc in
+        (ap is_word_start (sym first) ∙ l.starts, (and_parts (is_word_character a) (list_all is_word_character bs) l.all).1)
+
+pub prefix_is_word : (prefix : List ℕ) → fielded.is_prefix prefix ≡ true → IsPrefixWord prefix
+prefix_is_word [] none = absurd (both_ways _ refl none)
+prefix_is_word (a ∷ bs) is =
+    let parts = as_word a bs is in record {
+      first = a;
+      others = bs;
+      is = refl;
+      starts = parts.0;
+      low = prefix_low a bs is;
+      run = parts.1;
+    }
+
+-- the class of a piece whose first character begins this
+abbrev pub OfStart : Start → Class → Type 0
+OfStart (starts.Open modes.Space) p = p ≡ space
+OfStart (starts.Open (modes.Word s)) p = (p ≡ word) ⊎ (p ≡ string)
+OfStart (starts.Open (modes.Opened q)) p = p ≡ string
+OfStart (starts.Open modes.Comment) p = p ≡ comment
+OfStart (starts.Open modes.Backslash) p = p ≡ join
+OfStart (starts.Open modes.Return) p = p ≡ line_end
+OfStart starts.Operator p = p ≡ operator
+OfStart starts.LineEnd p = p ≡ line_end
+OfStart _ p = ⊥
+
+-- a word or ASCII
+abbrev pub IsWordOrLow : Class → ℕ → Type 0
+IsWordOrLow p c = ((p ≡ word) × (is_word_start c ≡ true)) ⊎ (c < 128)
+
+-- what a piece begins with
+pub record BeginsSo (p : Class) (text : List ℕ) : Type 0 where
+  pub first : ℕ
+  pub others : List ℕ
+  pub is : text ≡ first ∷ others
+  pub so : OfStart (start_of first) p
+  pub low : IsWordOrLow p first
+
+by_start : (p : Class) (text : List ℕ) (c : ℕ) (cs : List ℕ) (s : Start) → text ≡ c ∷ cs → start_of c ≡ s → OfStart s p → IsWordOrLow p c
+    → BeginsSo p text
+by_start p text c cs s is starts of low =
+    record { first = c; others = cs; is = is; so = subst (λ (t : Start). OfStart t p) (sym starts) of; low = low }
+
+pub hash_is : (c : ℕ) → is_hash c ≡ true → c ≡ 35
+unfolding is_hash
+hash_is c h = the_one 35 c h
+
+pub slash_is : (c : ℕ) → is_backslash c ≡ true → c ≡ 92
+unfolding is_backslash
+slash_is c h = the_one 92 c h
+
+pub begins_so : (p : Class) (text : List ℕ) → is_mark_class p ≡ false → InClass p text → BeginsSo p text
+unfolding is_line_feed is_return
+begins_so mark text unmarked fit = absurd (both_ways _ unmarked refl)
+begins_so space text unmarked (c, cs, is, run) =
+    let so = (and_parts (is_space c) (list_all is_space cs) (ap (list_all is_space) (sym is) ∙ run)).0 in
+    by_start space text c cs _ is (start-space c so) refl (inr (space_low c so))
+begins_so word text unmarked (c, cs, is, so, run) = by_start word text c cs _ is (start-word c so) (inl refl) (inl (refl, so))
+begins_so string text unmarked is = by_prefix (quoted text is)
+  where
+    by_prefix : IsQuoted text → BeginsSo string text
+    by_prefix q = ⊎_elim
+        (λ none. by_start string text q.quote q.body _ (q.spell ∙ ap (λ t. t ++ q.quote ∷ q.body) none) (start-quote q.quote q.opens)
+        refl (inr (quote_ascii q.quote q.opens)))
+        (λ is.
+        let w = prefix_is_word q.prefix is in
+        by_start string text w.first (w.others ++ q.quote ∷ q.body) _ (q.spell ∙ ap (λ t. t ++ q.quote ∷ q.body) w.is)
+        (start-word w.first w.starts) (inr refl) (inr w.low))
+        q.begun
+begins_so operator text unmarked (c, is, so) = by_start operator text c [] _ is (start-operator c so) refl (inr (operator_ascii c so))
+begins_so comment text unmarked (c, cs, is, so, body) =
+    by_start comment text c cs _ is (start-hash c so) refl (inr (omega (arith, hash_is c so)))
+begins_so join text unmarked (c, cs, is, so, end) =
+    by_start join text c cs _ is (start-slash c so) refl (inr (omega (arith, slash_is c so)))
+begins_so line_end text unmarked (feed is) = by_start line_end text 10 [] _ is (start-feed 10 refl) refl (inr (omega arith))
+begins_so line_end text unmarked (return_feed is) = by_start line_end text 13 (10 ∷ []) _ is (start-return 13 refl) refl (inr (omega arith))
+begins_so line_end text unmarked (return is) = by_start line_end text 13 [] _ is (start-return 13 refl) refl (inr (omega arith))
+
+-- which is no mark
+pub unmarked_first : {p : Class} {text : List ℕ} → (b : BeginsSo p text) → is_mark b.first ≡ false
+unmarked_first {p} b = false_from_ne_true _ (λ marks. subst (λ (s : Start). OfStart s p) (start-mark b.first marks) b.so)

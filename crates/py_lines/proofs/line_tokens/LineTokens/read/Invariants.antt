@@ -1,0 +1,9 @@
+use Rattle.std.proofs.Common.{◌-◌, length}
+use Rattle.py_lines.specs.Private.LineTokens.{HaveRead}
+use Rattle.py_lines.proofs.line_tokens.LineTokens.read.Given as goal
+
+abbrev pub invariant-pieces : goal.invariant-pieces
+invariant-pieces l = HaveRead l.text l.line l.start l.line_here l.self
+
+abbrev pub decreases-pieces : goal.decreases-pieces
+decreases-pieces l = length l.text - l.start

@@ -1,0 +1,138 @@
+-- The tokens of a whole logical line, which are read from its text alone.
+use Rattle.std.specs.Prelude.{◌≡◌, ℕ, ◌+◌, ◌&&◌, Bool, true, false, List, [], ◌∷◌, ◌++◌, if◌then◌else◌, encode_utf8_all, take, drop, nat_eq}
+use Rattle.std.specs.List.{starts_with}
+use Rattle.std.specs.Str.{all_scalars}
+use Rattle.py_lines.specs.Character.{is_digit, is_line_feed, is_quote, is_return}
+use Rattle.py_lines.specs.Piece.{Class, space, word, string, operator, comment, join, Piece, begins, begins_marked, is_mark_class, spelled}
+use Rattle.py_lines.specs.Fields.{AreReadBefore}
+use Rattle.py_lines.specs.LogicalLine.{byte_len, line_ends, first_or_zero, token, tokens_from, kind_of, indent_of}
+use Rattle.py_lines.specs.Private.ScanMachine.{StringsFit, begins_string}
+use Rattle.py_lines.specs.Private.Run.{word_spelling}
+use Rattle.py_lines.specs.Token.{is_comment}
+use Rattle.py_lines.specs.declared.token.Token.{Token}
+use Rattle.py_lines.specs.declared.token.TokKind.{TokKind}
+use Rattle.py_lines.specs.declared.unit.UnitKind.{UnitKind}
+use Rattle.py_lines.specs.declared.unit.UnitKind.TheVariants as unit_kind
+use Rattle.py_lines.specs.declared.token.TokKind.TheVariants as kind
+use Rattle.py_lines.specs.declared.line_tokens.Role.{Role}
+use Rattle.py_lines.specs.declared.line_tokens.Role.TheVariants as roles
+use Rattle.py_lines.specs.declared.line_tokens.LinePiece.{LinePiece}
+use Rattle.py_lines.specs.declared.line_tokens.LineTokens.{LineTokens}
+
+-- the text is what these pieces spell, which something may follow, and there is room for all that their strings open where so many
+-- brackets are open before them
+pub record AreTextAt (depth : ℕ) (text : List ℕ) (pieces : List Piece) : Type 0 where
+  pub scalars : all_scalars (spelled pieces) ≡ true
+  pub spell : encode_utf8_all (spelled pieces) ≡ text
+  pub after : List ℕ
+  pub fit : AreReadBefore pieces after
+  pub strings : StringsFit depth pieces
+
+-- so for a whole line
+abbrev pub AreLineText : List ℕ → List Piece → Type 0
+AreLineText = AreTextAt 0
+
+-- the bytes are such pieces, of which this is the first, and no mark
+pub record BeginWithPiece (bytes : List ℕ) (p : Piece) : Type 0 where
+  pub unmarked : is_mark_class p.class ≡ false
+  pub others : List Piece
+  pub depth : ℕ
+  pub text : AreTextAt depth bytes (p ∷ others)
+
+-- what a piece is to its line
+abbrev pub role_of : Class → List ℕ → Role
+role_of word text = roles.Token (if begins is_digit text then kind.Number else kind.Name)
+role_of string text = roles.Token kind.Str
+role_of operator text = roles.Token (kind.Op (first_or_zero text))
+role_of comment text = roles.Token kind.Remark
+role_of join text = roles.Join
+role_of space text = roles.Space
+role_of other text = roles.LineEnd
+
+-- the piece as its line takes it
+pub record IsTakenFor (p : Piece) (piece : LinePiece) : Type 0 where
+  pub role : piece.role ≡ role_of p.class p.text
+  pub len : piece.len ≡ byte_len p.text
+  pub line_ends : piece.line_ends ≡ line_ends p.text
+
+-- the bytes of the line end that these begin with: of CR LF, or of LF or CR
+abbrev pub line_end_len : List ℕ → ℕ
+line_end_len (c ∷ d ∷ bytes) = if is_return c && is_line_feed d then 2 else 1
+line_end_len other = 1
+
+-- whether the first bytes, so many of them, are the prefix of a string, whose quote follows
+abbrev pub ends_prefix : List ℕ → ℕ → Bool
+ends_prefix bytes len = begins is_quote (drop len bytes) && begins_string (word_spelling (take len bytes))
+
+-- a token of so many bytes, without a line end
+abbrev pub token_piece : TokKind → ℕ → LinePiece
+token_piece kind len = record { role = roles.Token kind; len = len; line_ends = 0 }
+
+-- the first piece of these bytes, whatever it is
+abbrev pub IsFirstPiece : List ℕ → LinePiece → Type 0
+IsFirstPiece bytes piece = (p : Piece) → BeginWithPiece bytes p → IsTakenFor p piece
+
+-- so if it is a string
+abbrev pub IsFirstString : List ℕ → LinePiece → Type 0
+IsFirstString bytes piece = (p : Piece) → p.class ≡ string → BeginWithPiece bytes p → IsTakenFor p piece
+
+-- the bytes begin with a string
+abbrev pub BeginWithString : List ℕ → Type 0
+BeginWithString bytes = (p : Piece) × (p.class ≡ string) × BeginWithPiece bytes p
+
+-- the tokens of these pieces, which begin on this line, and what they make of it
+pub record AreTokensOf (pieces : List Piece) (line : ℕ) (t : LineTokens) : Type 0 where
+  pub kind : t.kind ≡ kind_of pieces
+  pub indent : t.indent ≡ indent_of pieces
+  pub tokens : t.tokens.items ≡ tokens_from 0 line pieces
+
+-- so for all pieces of a line of this text
+abbrev pub HoldsTokens : List ℕ → ℕ → LineTokens → Type 0
+HoldsTokens text line t = (pieces : List Piece) → AreLineText text pieces → AreTokensOf pieces line t
+
+-- the bytes of the mark that the text begins with
+abbrev pub mark_len : List ℕ → ℕ
+mark_len text = if starts_with nat_eq text (0xEF ∷ 0xBB ∷ 0xBF ∷ []) then 3 else 0
+
+-- what a line holds with a comment more
+abbrev pub with_comment : UnitKind → UnitKind
+with_comment unit_kind.Blank = unit_kind.Comment
+with_comment other = other
+
+-- what it holds with a piece more
+abbrev pub kind_with : UnitKind → Role → UnitKind
+kind_with old roles.Space = old
+kind_with old roles.LineEnd = old
+kind_with old roles.Join = unit_kind.Code
+kind_with old (roles.Token k) = if is_comment k then with_comment old else unit_kind.Code
+
+-- the token that a piece is, if it is one
+abbrev pub token_in : Role → ℕ → ℕ → ℕ → List Token
+token_in (roles.Token k) start stop line = token k start stop line ∷ []
+token_in other start stop line = []
+
+-- the tokens with those of a piece, which stands at this byte of its line, and on this line of the text
+pub record AddsPiece (old : LineTokens) (piece : LinePiece) (start line : ℕ) (new : LineTokens) : Type 0 where
+  pub kind : new.kind ≡ kind_with old.kind piece.role
+  pub indent : new.indent ≡ old.indent
+  pub tokens : new.tokens.items ≡ old.tokens.items ++ token_in piece.role start (start + piece.len) line
+
+-- the first of the pieces were read, up to this byte of the line, which is on this line of the text
+pub record HaveReadOf (pieces : List Piece) (first start line : ℕ) (t : LineTokens) : Type 0 where
+  pub done : List Piece
+  pub others : List Piece
+  pub are : pieces ≡ done ++ others
+  pub unmarked : begins_marked others ≡ false
+  pub place : start ≡ byte_len (spelled done)
+  pub number : line ≡ first + line_ends (spelled done)
+  pub kind : t.kind ≡ kind_of done
+  pub indent : t.indent ≡ indent_of pieces
+  pub tokens : t.tokens.items ≡ tokens_from 0 first done
+
+-- so for all pieces of a line of this text
+abbrev pub HaveRead : List ℕ → ℕ → ℕ → ℕ → LineTokens → Type 0
+HaveRead text first start line t = (pieces : List Piece) → AreLineText text pieces → HaveReadOf pieces first start line t
+
+-- the text is that of a line
+abbrev pub IsLineText : List ℕ → Type 0
+IsLineText text = (pieces : List Piece) × AreLineText text pieces
