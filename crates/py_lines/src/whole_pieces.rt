@@ -7,6 +7,7 @@ ghost use Rattle.py_lines.specs.Private.Outline.{BeginsLineEnd, closes_itself};
 ghost use Rattle.py_lines.specs.Private.Run.{WhereverReached};
 ghost use Rattle.py_lines.specs.Private.WholePieces.{IsNoLonger, IsOperatorEnd, LeavesOff};
 ghost use Rattle.py_lines.specs.Private.WholePieces.{PassesSpecial, closed_at, passed_to};
+ghost use Rattle.py_lines.specs.declared.whole_pieces.Special.TheVariants.{Unpassed};
 
 use crate::class::Class;
 use crate::field_strings::MAX_DEPTH_AROUND_STRING;
@@ -107,7 +108,7 @@ impl Scan {
         passing.line_ends = 0;
     }
 
-    /// Passes the line end of so many bytes at this byte.
+    /// Passes the line end of so many bytes at this byte, where the bytes after it are marked.
     #[inline(always)]
     fn pass_line_end(
         &mut self,
@@ -116,19 +117,36 @@ impl Scan {
         at: usize,
         len: usize,
     ) -> Special
+        requires within { at < length bytes.now }
         requires ends { BeginsLineEnd (drop at bytes.now) len }
-        requires marked { HasMarks bytes.now (at + 1) passing.old.marks }
+        requires marked { HasMarks bytes.now (at + len) passing.old.marks }
         requires bytes { passing.old.start + length bytes.now < 2 ^ 64 }
         requires lines { self.old.count.line + passing.old.line_ends + length bytes.now < 2 ^ 64 + at }
-        ensures { PassesSpecial bytes.now at self.old passing.old result self.new passing.new }
+        ensures passed { result ≡ Unpassed → ⊥ }
+        ensures passes { PassesSpecial bytes.now at self.old passing.old result self.new passing.new }
     {
-        passing.marks.pass(bytes, at + len);
         self.pass_closed(passing, at + len, 1);
         if self.ends_line() {
             Special::LineEnd(len)
         } else {
             Special::Passed
         }
+    }
+
+    /// Passes the CR at this byte, if LF follows, and with it.
+    #[inline(always)]
+    fn pass_return(&mut self, passing: &mut Passing, bytes: &[u8], at: usize) -> Special
+        requires within { at < length bytes.now }
+        requires marked { HasMarks bytes.now (at + 1) passing.old.marks }
+        requires bytes { passing.old.start + length bytes.now < 2 ^ 64 }
+        requires lines { self.old.count.line + passing.old.line_ends + length bytes.now < 2 ^ 64 + at }
+        ensures { PassesSpecial bytes.now at self.old passing.old result self.new passing.new }
+    {
+        let Some(len) = line_end_len(&bytes[at..]) else {
+            return Special::Unpassed;
+        };
+        passing.marks.pass(bytes, at + len);
+        self.pass_line_end(passing, bytes, at, len)
     }
 
     /// Passes the bracket at this byte.
@@ -193,10 +211,8 @@ impl Scan {
     {
         let class = Class::of(bytes[at]);
         match class {
-            Class::LineFeed | Class::Return => match line_end_len(&bytes[at..]) {
-                Some(len) => self.pass_line_end(passing, bytes, at, len),
-                None => Special::Unpassed,
-            },
+            Class::LineFeed => self.pass_line_end(passing, bytes, at, 1),
+            Class::Return => self.pass_return(passing, bytes, at),
             Class::Opening | Class::Closing => self.pass_bracket(passing, bytes, at),
             _ => self.pass_piece(passing, bytes, class, at),
         }

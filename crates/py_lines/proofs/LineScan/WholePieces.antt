@@ -378,34 +378,35 @@ module _ (bytes : List ℕ) (at : ℕ) (old : Scan) (p : Passing) (within : at <
           }),
     )
 
-  -- a line end
-  module _ (len : ℕ) (found : BeginsLineEnd (drop at bytes) len) where
-    abbrev set : Scan
-    set = closed_at old (p.start + (at + len)) (p.line_ends + 1)
+-- a line end
+module _ (bytes : List ℕ) (at : ℕ) (old : Scan) (p : Passing) (within : at < length bytes) (len : ℕ)
+    (found : BeginsLineEnd (drop at bytes) len) where
+  abbrev set : Scan
+  set = closed_at old (p.start + (at + len)) (p.line_ends + 1)
 
-    room : at + len ≤ length bytes
-    room = omega (arith, found.within, within, length-drop at bytes)
+  room : at + len ≤ length bytes
+  room = omega (arith, found.within, within, length-drop at bytes)
 
-    -- in brackets
-    pub line_end_passed : (marks : Marks) → HasMarks bytes (at + len) marks → none_open (stack_of old.brackets) ≡ false
-        → PassesSpecial bytes at old p special.Passed set (passed_to (record p { marks = marks }) (at + len) 0)
-    line_end_passed marks marked_there some = (
-      omega (arith, found.some),
-      marked_there,
-      λ first on. closes first bytes at old p on len 1 old.brackets marks (omega (arith, found.some))
-          (λ m before n none place come.
-          further bytes m before at len n (n + 1) (stack_of old.brackets) (stack_of old.brackets) (StandsBefore (drop at bytes)) IsFreeAfter
-          come room (line_end_of found.returned) (text_spells bytes m before at len n (stack_of old.brackets) come found)
-          (line_end_free found.returned (drop (at + len) bytes) m (before ++ come.run) n (stack_of old.brackets) some
-          (end_stands bytes m before at len n (stack_of old.brackets) come found))),
-    )
+  -- in brackets
+  pub line_end_passed : HasMarks bytes (at + len) p.marks → none_open (stack_of old.brackets) ≡ false
+      → PassesSpecial bytes at old p special.Passed set (passed_to p (at + len) 0)
+  line_end_passed marked some = (
+    omega (arith, found.some),
+    marked,
+    λ first on. closes first bytes at old p on len 1 old.brackets p.marks (omega (arith, found.some))
+        (λ m before n none place come.
+        further bytes m before at len n (n + 1) (stack_of old.brackets) (stack_of old.brackets) (StandsBefore (drop at bytes)) IsFreeAfter
+        come room (line_end_of found.returned) (text_spells bytes m before at len n (stack_of old.brackets) come found)
+        (line_end_free found.returned (drop (at + len) bytes) m (before ++ come.run) n (stack_of old.brackets) some
+        (end_stands bytes m before at len n (stack_of old.brackets) come found))),
+  )
 
-    -- outside
-    pub line_ended : (q : Passing) → none_open (stack_of old.brackets) ≡ true → PassesSpecial bytes at old p (special.LineEnd len) set q
-    line_ended q none first on m line whole start r =
-        let o = on.come m line whole start r in
-        ended first bytes m line whole start r at len o.n (p.line_ends + 1) (p.start + (at + len)) old o.come found none room
-        (omega (arith, on.start)) (omega (arith, o.count)) o.closed.line
+  -- outside
+  pub line_ended : (q : Passing) → none_open (stack_of old.brackets) ≡ true → PassesSpecial bytes at old p (special.LineEnd len) set q
+  line_ended q none first on m line whole start r =
+      let o = on.come m line whole start r in
+      ended first bytes m line whole start r at len o.n (p.line_ends + 1) (p.start + (at + len)) old o.come found none room
+      (omega (arith, on.start)) (omega (arith, o.count)) o.closed.line
 
 -- the same of what is equal
 pub passes_as : (bytes : List ℕ) (at : ℕ) (old : Scan) (p : Passing) (result : Special) (new other : Scan) (q r : Passing)
@@ -482,6 +483,15 @@ with_marks first bytes at scan p marks on = record {
   come = λ m line whole start r. let o = on.come m line whole start r in record
       { closed = o.closed; n = o.n; count = o.count; come = o.come };
 }
+
+pub marks_apart : (bytes : List ℕ) (at : ℕ) (old : Scan) (p : Passing) (marks : Marks) (result : Special) (new : Scan) (q : Passing)
+    → (result ≡ special.Unpassed → ⊥) → PassesSpecial bytes at old (record p { marks = marks }) result new q
+    → PassesSpecial bytes at old p result new q
+marks_apart bytes at old p marks special.Unpassed new q passed passes = absurd (passed refl)
+marks_apart bytes at old p marks special.Passed new q passed (more, marked, leads) =
+    (more, marked, λ first on. leads first (with_marks first bytes at old p marks on))
+marks_apart bytes at old p marks (special.LineEnd len) new q passed leads = λ first on.
+    leads first (with_marks first bytes at old p marks on)
 
 -- what is left where all pieces are closed
 abbrev pub Leaves : Scan → List ℕ → Scan → Passing → Type 0

@@ -21,7 +21,7 @@ use Rattle.py_lines.specs.Private.Machine.{Bracket, brackets_after}
 use Rattle.py_lines.specs.Private.Marks.{FindsNext, HasMarks, is_plain}
 use Rattle.py_lines.specs.Private.Run.{is_ascii_word}
 use Rattle.py_lines.specs.Private.Scan.{Meets, depth_of, none_open, stack_of}
-use Rattle.py_lines.specs.Private.Outline.{AreWholeLines, BeginWithLines, BeginsOuterEnd, HasComeTo, IsAfter, IsAfterLineEnd, IsAt, IsFurther, IsOuterEnd, IsPast, IsWholeLine, PassesPiece, StandsBefore, closes_itself, line_up_to, tail_of, tail_on}
+use Rattle.py_lines.specs.Private.Outline.{AreWholeLines, BeginWithLines, BeginsLineEnd, BeginsOuterEnd, HasComeTo, IsAfter, IsAfterLineEnd, IsAt, IsFurther, IsOuterEnd, IsPast, IsWholeLine, PassesPiece, StandsBefore, closes_itself, line_up_to, tail_of, tail_on}
 use Rattle.py_lines.proofs.Pieces.PieceLists.{piece}
 use Rattle.py_lines.proofs.Machine.LiveTexts.{closing-operator}
 use Rattle.py_lines.proofs.FieldMachine.PieceRuns.{opening_operator}
@@ -110,10 +110,13 @@ rest_ends bytes at len found = subst (λ (t : List ℕ). BeginsOuterEnd t len) (
 pub end_within : (bytes : List ℕ) (at len : ℕ) → at < length bytes → BeginsOuterEnd (drop at bytes) len → at + len ≤ length bytes
 end_within bytes at len within ends = let fits = ends.within in omega (arith, fits, within, length-drop at bytes)
 
-pub feed_ends : (bytes : List ℕ) (at : ℕ) → at < length bytes → slice_index bytes at ≡ 10 → BeginsOuterEnd (drop at bytes) 1
-feed_ends bytes at within is =
+pub feed_begins : (bytes : List ℕ) (at : ℕ) → at < length bytes → slice_index bytes at ≡ 10 → BeginsLineEnd (drop at bytes) 1
+feed_begins bytes at within is =
     let here : at + 0 ≡ at = omega arith in
-    outer_found (drop at bytes) (Some 1) (feed_found (drop at bytes) (omega (arith, within, length-drop at bytes)) (later bytes at 0 ∙ ap (λ (k : ℕ). slice_index bytes k) here ∙ is))
+    feed_found (drop at bytes) (omega (arith, within, length-drop at bytes)) (later bytes at 0 ∙ ap (λ (k : ℕ). slice_index bytes k) here ∙ is)
+
+pub feed_ends : (bytes : List ℕ) (at : ℕ) → at < length bytes → slice_index bytes at ≡ 10 → BeginsOuterEnd (drop at bytes) 1
+feed_ends bytes at within is = outer_found (drop at bytes) (Some 1) (feed_begins bytes at within is)
 
 -- no line was passed
 pub none_passed : (bytes : List ℕ) → BeginWithLines bytes (record { len = 0; line_ends = 0 })
