@@ -52,6 +52,7 @@ fn join(bytes: &[u8]) -> Option<Passed>
 }
 
 /// Passes the string whose first quote stands at this byte, where it is simple.
+#[inline(always)]
 fn string(bytes: &[u8], at: usize) -> Option<Passed>
     requires within { at < length bytes.now }
     requires quote { is_quote (slice_index bytes.now at) ≡ true }
