@@ -40,7 +40,7 @@
 -- start has given none, so every text has some lexing. Settled pieces begin all pieces that read more, so their lines are final.
 --
 -- The scan (proofs/LineScan): the code follows the machine through one logical line, and knows where it ends and what is
--- open in it. Where no piece is open it passes over whole pieces as over simple lines (SimpleLines), in whatever mode the line
+-- open in it. Where no piece is open it passes over whole pieces as over simple lines (SimpleLines/Passing), in whatever mode the line
 -- began, and stands again where all of them are closed: after an operator, a line end, a string or a join (WholePieces). In other
 -- pieces the characters that leave the open piece as it is are held in one step. After a line end the machine goes on as it does
 -- alone, so the next line is scanned from its own start.
@@ -57,9 +57,9 @@
 --
 -- Bytes that open or close something (proofs/SpecialBytes) are found by masks of 64 bytes.
 --
--- Simple lines (proofs/SimpleLines) are passed over from one such byte to the next. After each step the machine of the scan has gone
--- through the line so far, and a piece is open that goes on or ends there; the word that the bytes end with is known from the bytes
--- alone. The open brackets are kept as the scan keeps them (LineScan/BracketStack). After a line end outside brackets the line is
+-- Simple lines (proofs/SimpleLines) are passed over from one such byte to the next. After each step (Passing) the machine of the scan has
+-- gone through the line so far, and a piece is open that goes on or ends there; the word that the bytes end with is known from the
+-- bytes alone. The open brackets are kept as the scan keeps them (LineScan/BracketStack). After a line end outside brackets the line is
 -- whole, and the machine begins the next one (Lines). That such lines are the text's next is in Readers/PassedLines, and where it
 -- comes in pieces in Feeds/PassedLines.
 --

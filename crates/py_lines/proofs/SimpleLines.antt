@@ -10,3 +10,4 @@ pub mod Comments
 pub mod Joins
 pub mod Lines
 pub mod UnderWay
+pub mod Passing

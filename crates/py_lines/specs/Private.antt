@@ -14,6 +14,7 @@ pub mod Source
 pub mod Run
 pub mod Marks
 pub mod Outline
+pub mod Passing
 pub mod WholePieces
 pub mod WholeFields
 pub mod Feed

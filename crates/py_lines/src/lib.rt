@@ -19,6 +19,7 @@ mod lines;
 mod marks;
 mod mode;
 mod outline;
+mod passing;
 mod plain_strings;
 mod prefix;
 mod run;

@@ -1,54 +1,55 @@
 -- Whole pieces are passed over: the scan comes to where all of them are closed.
-use Rattle.std.proofs.Common.{◌≡◌, ℕ, ◌+◌, ◌-◌, ◌<◌, ◌≤◌, ◌⊎◌, inl, inr, Bool, true, false, not, ◌||◌, ◌==◌, None, Some, List, [], ◌∷◌, ◌++◌, length, take, drop, slice_index, refl, sym, ap, ◌∙◌, subst, append_assoc, append-nil, arith, length-drop}
-use Rattle.std.specs.Prelude.{encode_utf8_all, nat_lt}
+use Rattle.std.proofs.Common.{◌≡◌, ℕ, ◌+◌, ◌-◌, ◌<◌, ◌≤◌, inl, inr, Bool, true, false, not, ◌||◌, ◌==◌, if◌then◌else◌, None, Some, List, [], ◌∷◌, ◌++◌, length, take, drop, slice_index, refl, sym, ap, ◌∙◌, subst, append_assoc, append-nil, arith, length-drop}
+use Rattle.std.specs.Prelude.{encode_utf8_all}
 use Rattle.std.specs.List.{list_all}
 use Rattle.std.specs.Str.{all_scalars}
-use Rattle.std.proofs.lemmas.Bool.{and_from, and_parts, both_ways, not-true, or_parts}
-use Rattle.std.proofs.lemmas.List.{drop-drop, drop_more, get_or-drop, get_or-take, length-take-le, take-append-drop}
+use Rattle.std.proofs.lemmas.Bool.{and_parts, both_ways, not-true, or_parts}
+use Rattle.std.proofs.lemmas.List.{drop-drop, get_or-drop, get_or-take, length-take-le, take-append-drop}
 use Rattle.std.proofs.lemmas.Str.{encodes-append}
 use Rattle.std.proofs.Math.Seq.{take-add}
-use Rattle.py_lines.specs.Character.{is_backslash, is_operator, is_quote, is_return}
+use Rattle.py_lines.specs.Character.{is_operator}
 use Rattle.py_lines.specs.Balance.{is_closing, is_opening}
 use Rattle.py_lines.specs.LogicalLine.{byte_len, line_ends}
-use Rattle.py_lines.specs.Piece.{ends, operator}
 use Rattle.py_lines.specs.declared.brackets.Brackets.{Brackets}
-use Rattle.py_lines.specs.declared.class.Class.{Class}
 use Rattle.py_lines.specs.declared.class.Class.TheVariants as class
 use Rattle.py_lines.specs.declared.marks.Marks.{Marks}
 use Rattle.py_lines.specs.declared.mode.Mode.{Mode}
 use Rattle.py_lines.specs.declared.mode.Mode.TheVariants as modes
+use Rattle.py_lines.specs.declared.passing.Passing.{Passing}
 use Rattle.py_lines.specs.declared.plain_strings.Passed.{Passed}
 use Rattle.py_lines.specs.declared.scan.Scan.{Scan}
 use Rattle.py_lines.specs.declared.scan.Stop.TheVariants as stops
-use Rattle.py_lines.specs.declared.whole_pieces.Passing.{Passing}
-use Rattle.py_lines.specs.declared.whole_pieces.Special.{Special}
-use Rattle.py_lines.specs.declared.whole_pieces.Special.TheVariants as special
-use Rattle.py_lines.specs.Private.Machine.{Bracket, brackets_after}
-use Rattle.py_lines.specs.Private.Marks.{FindsNext, HasMarks, is_of_class, is_plain}
-use Rattle.py_lines.specs.Private.Outline.{BeginsLineEnd, IsFreeAfter, PassesPiece, StandsBefore, StandsClosed, closes_itself, line_end_of, tail_of}
+use Rattle.py_lines.specs.Private.Machine.{Bracket}
+use Rattle.py_lines.specs.Private.Marks.{FindsNext, is_of_class, is_plain}
+use Rattle.py_lines.specs.Private.Outline.{BeginsOuterEnd, IsFreeAfter, IsOuterEnd, StandsBefore, StandsClosed, line_end_of, tail_of}
+use Rattle.py_lines.specs.Private.Passing.{EndsLineSo, PassesOver, PassesSo, nothing_passed, passed_to, up_to}
 use Rattle.py_lines.specs.Private.Run.{Reached, WhereverReached}
-use Rattle.py_lines.specs.Private.Scan.{IsLineBefore, ScansIn, depth_of, line_start, none_open, stack_of, stack_with, with_brackets}
+use Rattle.py_lines.specs.Private.Scan.{EndsWhole, IsLineBefore, ScansIn, line_start, none_open, stack_of, with_brackets}
 use Rattle.py_lines.specs.Private.ScanMachine.{IsScanSound}
-use Rattle.py_lines.specs.Private.WholePieces.{ComesTo, HasPassed, IsOperatorEnd, PassesSpecial, closed_at, passed_to}
-use Rattle.py_lines.proofs.Pieces.PieceLists.{piece}
-use Rattle.py_lines.proofs.Machine.LiveTexts.{closing-operator}
-use Rattle.py_lines.proofs.FieldMachine.PieceRuns.{opening_operator}
+use Rattle.py_lines.specs.Private.WholePieces.{IsOperatorEnd, closed_after}
 use Rattle.py_lines.proofs.FieldScans.TextLengths.{rest_is}
 use Rattle.py_lines.proofs.LineScan.BracketStack.{keeps_at}
 use Rattle.py_lines.proofs.LineScan.LineSteps.{way_stop, way_here}
 use Rattle.py_lines.proofs.LineScan.AsciiRuns.{all_pass, is_low, low_encodes, low_is}
 use Rattle.py_lines.proofs.LogicalLines.Cuts.{byte_len-append}
-use Rattle.py_lines.proofs.Text.CharacterTests.{none_of, operator_ascii}
 use Rattle.py_lines.proofs.Text.Utf8Prefixes.{all_scalars-append}
-use Rattle.py_lines.proofs.SimpleLines.Code.{code_low, code_run, line_end_unreturned}
+use Rattle.py_lines.proofs.SimpleLines.Code.{code_low, code_run, line_end_unreturned, other_follows}
 use Rattle.py_lines.proofs.SimpleLines.FirstBytes.{line_end_low}
 use Rattle.py_lines.proofs.SimpleLines.Lines.{plain_code}
-use Rattle.py_lines.proofs.SimpleLines.Tails.{closed_stands, free_stands, free_tail}
-use Rattle.py_lines.proofs.SimpleLines.UnderWay.{free_way, line_end_ends, line_end_free, operator_free, tail_under_way, way_free}
+use Rattle.py_lines.proofs.SimpleLines.Passing.{end_is, end_last, end_spells, end_split, end_within, operator_over}
+use Rattle.py_lines.proofs.SimpleLines.Tails.{closed_stands, free_tail}
+use Rattle.py_lines.proofs.SimpleLines.UnderWay.{free_way, line_end_ends, return_ends, tail_under_way, way_free}
 
 -- how a line stands, in such a mode, after such characters
 abbrev Stand : Type 1
 Stand = Mode → List ℕ → ℕ → List Bracket → Type 0
+
+-- after these characters of a line the bytes were passed up to this one, where the line stands so
+record ComesTo (bytes : List ℕ) (m : Mode) (before : List ℕ) (at n : ℕ) (st : List Bracket) (holds : Stand) : Type 0 where
+  within : at ≤ length bytes
+  run : List ℕ
+  spell : encode_utf8_all run ≡ take at bytes
+  stands : holds m (before ++ run) n st
 
 module _ (bytes : List ℕ) (m : Mode) (before : List ℕ) where
   abbrev Comes : ℕ → ℕ → List Bracket → Stand → Type 0
@@ -87,42 +88,22 @@ module _ (bytes : List ℕ) (m : Mode) (before : List ℕ) where
       (code_run is_plain m (before ++ come.run) run (drop (from + len) bytes) n st plain_code all
       (subst (λ (t : List ℕ). StandsBefore t m (before ++ come.run) n st) split come.stands))
 
-  -- over an operator
-  operator_further : (at n : ℕ) (st after : List Bracket) → (c : ComesBefore at n st) → at < length bytes
-      → is_operator (slice_index bytes at) ≡ true
-      → brackets_after st (byte_len (before ++ c.run)) (piece operator (slice_index bytes at ∷ [])) ≡ Some after
-      → Comes (at + 1) n after IsFreeAfter
-  operator_further at n st after come within is stands_so =
-      let c = slice_index bytes at in
-      let spell = (low_encodes is_operator (c ∷ []) operator_ascii (and_from _ _ is refl)).0 in
-      further at 1 n n st after (StandsBefore (drop at bytes)) IsFreeAfter come (omega (arith, within)) (c ∷ [])
-      (spell ∙ sym (ap (take 1) (drop_more bytes at 0 within)))
-      (operator_free c (drop (at + 1) bytes) m (before ++ come.run) n st after is stands_so
-      (subst (λ (t : List ℕ). StandsBefore t m (before ++ come.run) n st) (drop_more bytes at 0 within) come.stands))
+  -- over what is passed at a byte that isn't plain
+  over_further : (at place len more n : ℕ) (closes : Bool) (st after : List Bracket) → tail_of before ≡ None
+      → (c : ComesBefore at n st) → byte_len (before ++ c.run) ≡ place → PassesOver bytes at place len more closes st after
+      → Comes (at + len) (n + more) after (StandsClosed closes (drop (at + len) bytes))
+  over_further at place len more n closes st after none c here over =
+      further at len n (n + more) st after (StandsBefore (drop at bytes)) (StandsClosed closes (drop (at + len) bytes)) c over.within
+      over.run over.spell
+      (over.leads m (before ++ c.run) n (tail_under_way before c.run bytes at none c.spell) here c.stands)
 
-  -- over a piece
-  piece_further : (at n : ℕ) (st : List Bracket) (p : Passed) → tail_of before ≡ None → length st ≤ 100 → ComesBefore at n st
-      → PassesPiece bytes at (Some p)
-      → Comes (at + p.len) (n + p.line_ends) st (StandsClosed (closes_itself (drop at bytes) p.len) (drop (at + p.len) bytes))
-  piece_further at n st p none few come (room, passes) =
-      further at p.len n (n + p.line_ends) st st (StandsBefore (drop at bytes))
-      (StandsClosed (closes_itself (drop at bytes) p.len) (drop (at + p.len) bytes)) come room passes.part.run passes.part.spell
-      (passes.part.leads m (before ++ come.run) n st (tail_under_way before come.run bytes at none come.spell, few, come.stands))
-
-  -- over a line end
-  module _ (at len n : ℕ) (st : List Bracket) (come : ComesBefore at n st) (found : BeginsLineEnd (drop at bytes) len) where
-    abbrev text : List ℕ
-    text = line_end_of found.returned
-
-    text_spells : encode_utf8_all text ≡ take len (drop at bytes)
-    text_spells = (low_encodes is_low text low_is (line_end_low found.returned)).0 ∙ sym found.spell
-
-    end_stands : StandsBefore (text ++ drop (at + len) bytes) m (before ++ come.run) n st
-    end_stands =
-        let split : drop at bytes ≡ text ++ drop (at + len) bytes =
-        sym (take-append-drop len (drop at bytes)) ∙ ap (λ t. t ++ drop len (drop at bytes)) found.spell
-        ∙ ap (λ t. text ++ t) (drop-drop len at bytes) in
-        subst (λ (t : List ℕ). StandsBefore t m (before ++ come.run) n st) split come.stands
+  stands_there : (at n : ℕ) (st : List Bracket) (closes : Bool) → Comes at n st (StandsClosed closes (drop at bytes)) → ComesBefore at n st
+  stands_there at n st closes c = record {
+    within = c.within;
+    run = c.run;
+    spell = c.spell;
+    stands = closed_stands closes (drop at bytes) m (before ++ c.run) n st c.stands;
+  }
 
 -- the characters of a line that stands so
 stands_scalars : (rest : List ℕ) (m : Mode) (read : List ℕ) (n : ℕ) (st : List Bracket) → StandsBefore rest m read n st
@@ -136,10 +117,44 @@ none_stack [] none = refl
 none_stack (b ∷ bs) none = absurd (both_ways _ refl none)
 
 -- a line that ends after these characters
-record EndsSo (scan : Scan) (len : ℕ) (m : Mode) (read : List ℕ) (n : ℕ) (st : List Bracket) : Type 0 where
+record EndsSo (scan : Scan) (len : ℕ) (after : List ℕ) (m : Mode) (read : List ℕ) (n : ℕ) (st : List Bracket) : Type 0 where
   line : IsLineBefore m scan read len
   scalars : all_scalars read ≡ true
-  whole : ends is_return read ≡ false
+  whole : EndsWhole read after
+
+-- a line end ends it outside brackets, where the scan is set after it
+ends_so : (text after : List ℕ) (m : Mode) (read : List ℕ) (n : ℕ) (scan : Scan) → IsOuterEnd text after
+    → StandsBefore (text ++ after) m read n [] → stack_of scan.brackets ≡ [] → scan.piece.mode ≡ modes.Free
+    → scan.piece.start ≡ byte_len (read ++ text) → scan.stop ≡ byte_len (read ++ text) → scan.count.line ≡ scan.line + (n + 1)
+    → scan.count.after_return ≡ (slice_index text (length text - 1) == 13)
+    → EndsSo scan (byte_len text) after m (read ++ text) (n + 1) []
+ends_so text after m read n scan (inl (returned, is)) on empty mode start stop line last =
+    let end = line_end_of returned in
+    let unreturned : scan.count.after_return ≡ false =
+    last ∙ ap (λ t. slice_index t (length t - 1) == 13) is ∙ feed_last returned in
+    subst (λ (t : List ℕ). EndsSo scan (byte_len t) after m (read ++ t) (n + 1) []) (sym is)
+    (record {
+      line = line_end_ends returned after m read n scan (subst (λ (t : List ℕ). StandsBefore (t ++ after) m read n []) is on) mode
+          (start ∙ ap (λ t. byte_len (read ++ t)) is) (stop ∙ ap (λ t. byte_len (read ++ t)) is) line unreturned;
+      scalars = all_scalars-append read end (stands_scalars (text ++ after) m read n [] on)
+          (low_encodes is_low end low_is (line_end_low returned)).1;
+      whole = inl (line_end_unreturned returned read);
+    })
+  where
+    feed_last : (returned : Bool) → (slice_index (line_end_of returned) (length (line_end_of returned) - 1) == 13) ≡ false
+    feed_last true = refl
+    feed_last false = refl
+ends_so text after m read n scan (inr (is, other)) on empty mode start stop line last =
+    let ends = subst (λ (t : List ℕ). StandsBefore (t ++ after) m read n []) is on in
+    let returned : scan.count.after_return ≡ true = last ∙ ap (λ t. slice_index t (length t - 1) == 13) is in
+    subst (λ (t : List ℕ). EndsSo scan (byte_len t) after m (read ++ t) (n + 1) []) (sym is)
+    (record {
+      line = return_ends after m read n scan ends empty mode (start ∙ ap (λ t. byte_len (read ++ t)) is)
+          (stop ∙ ap (λ t. byte_len (read ++ t)) is) line returned;
+      scalars = all_scalars-append read (13 ∷ []) (stands_scalars (text ++ after) m read n [] on)
+          (low_encodes is_low (13 ∷ []) low_is refl).1;
+      whole = inr (other_follows after other);
+    })
 
 module _ (first : Scan) (bytes : List ℕ) (m : Mode) (line : ℕ) (whole : List ℕ) (start : IsScanSound (line_start m) [])
     (r : Reached m line whole first bytes) where
@@ -162,372 +177,269 @@ module _ (first : Scan) (bytes : List ℕ) (m : Mode) (line : ℕ) (whole : List
       ∙ ap (λ t. encode_utf8_all r.read ++ t) (take-append-drop at bytes)
       ∙ r.spell
 
-  -- all pieces are closed
-  closed_reached : (at n k stop : ℕ) (b : Brackets) (scan : Scan) → ComesTo bytes m r.read at n (stack_of b) IsFreeAfter
-      → stop ≡ first.stop + at → scan.count.line + k ≡ scan.line + n → scan.line ≡ line
-      → Reached m line whole (closed_at (with_brackets scan b) stop k) (drop at bytes)
-  closed_reached at n k stop b scan c is count same =
-      let here : stop ≡ byte_len (r.read ++ c.run) = is ∙ sym (size at n (stack_of b) IsFreeAfter c) in
+  -- no piece is open
+  closed_reached : (passed : Passed) (b : Brackets)
+      → ComesTo bytes m r.read passed.len (line_ends r.read + passed.line_ends) (stack_of b) IsFreeAfter
+      → Reached m line whole (closed_after (with_brackets first b) passed false) (drop passed.len bytes)
+  closed_reached passed b c =
+      let n = line_ends r.read + passed.line_ends in
+      let here : first.stop + passed.len ≡ byte_len (r.read ++ c.run) = sym (size passed.len n (stack_of b) IsFreeAfter c) in
+      let count : first.count.line + passed.line_ends ≡ first.line + n = omega (arith, way_here m first r.read r.way start) in
       record {
         read = r.read ++ c.run;
-        way = free_way m (closed_at (with_brackets scan b) stop k) (r.read ++ c.run) n (stack_of b) c.stands refl here here count refl refl;
-        spell = spells at n (stack_of b) IsFreeAfter c;
+        way = free_way m (closed_after (with_brackets first b) passed false) (r.read ++ c.run) n (stack_of b) c.stands refl here here
+            count refl refl;
+        spell = spells passed.len n (stack_of b) IsFreeAfter c;
         scalars = c.stands.come.holds.scalars;
-        line = same;
+        line = r.line;
       }
 
   -- the line has ended
-  ended : (at len n k stop : ℕ) (scan : Scan) → ComesBefore bytes m r.read at n (stack_of scan.brackets) → BeginsLineEnd (drop at bytes) len
-      → none_open (stack_of scan.brackets) ≡ true → at + len ≤ length bytes → stop ≡ first.stop + (at + len)
-      → scan.count.line + k ≡ scan.line + (n + 1) → scan.line ≡ line → ScansIn m line whole (closed_at scan stop k) (stops.LineEnd len)
-  ended at len n k stop scan come found none room is count same =
-      let new = closed_at scan stop k in
-      let text = line_end_of found.returned in
+  ended : (at len k : ℕ) (b : Brackets) → at < length bytes
+      → ComesBefore bytes m r.read at (line_ends r.read + k) (stack_of b) → BeginsOuterEnd (drop at bytes) len
+      → none_open (stack_of b) ≡ true
+      → ScansIn m line whole (closed_after (with_brackets first b) (record { len = at + len; line_ends = k + 1 })
+      (slice_index bytes (at + len - 1) == 13)) (stops.LineEnd len)
+  ended at len k b within come found none =
+      let passed : Passed = record { len = at + len; line_ends = k + 1 } in
+      let scan = closed_after (with_brackets first b) passed (slice_index bytes (at + len - 1) == 13) in
+      let text = take len (drop at bytes) in
+      let after = drop (at + len) bytes in
       let read = r.read ++ come.run in
-      let st = stack_of scan.brackets in
+      let n = line_ends r.read + k in
+      let st = stack_of b in
       let empty = none_stack st none in
-      let on : StandsBefore (text ++ drop (at + len) bytes) m read n [] =
-      subst (λ (s : List Bracket). StandsBefore (text ++ drop (at + len) bytes) m read n s) empty
-      (end_stands bytes m r.read at len n st come found) in
-      let text_is = text_spells bytes m r.read at len n st come found in
-      let text_size : byte_len text ≡ len = ap length text_is ∙ length-take-le len (drop at bytes) found.within in
-      let here : stop ≡ byte_len (read ++ text) =
-      omega (arith, is, byte_len-append read text, size at n st (StandsBefore (drop at bytes)) come, text_size) in
-      let own : IsLineBefore m new (read ++ text) (byte_len text) =
-      line_end_ends found.returned (drop (at + len) bytes) m read n new on refl here here count refl in
-      let so : EndsSo new len m (read ++ text) (n + 1) st = record {
-        line = subst (IsLineBefore m new (read ++ text)) text_size own;
-        scalars = all_scalars-append read text (stands_scalars (text ++ drop (at + len) bytes) m read n [] on)
-            (low_encodes is_low text low_is (line_end_low found.returned)).1;
-        whole = line_end_unreturned found.returned read;
-      } in
-      let c = further bytes m r.read at len n (n + 1) st st (StandsBefore (drop at bytes)) (EndsSo new len) come room text text_is so in
+      let on : StandsBefore (text ++ after) m read n [] =
+      subst (λ (s : List Bracket). StandsBefore (text ++ after) m read n s) empty
+      (subst (λ (t : List ℕ). StandsBefore t m read n st) (end_split bytes at within len found) come.stands) in
+      let fits = found.within in
+      let text_size : byte_len text ≡ len =
+      ap length (end_spells bytes at within len found) ∙ length-take-le len (drop at bytes) fits in
+      let here : first.stop + (at + len) ≡ byte_len (read ++ text) =
+      omega (arith, byte_len-append read text, size at n st (StandsBefore (drop at bytes)) come, text_size) in
+      let count : first.count.line + (k + 1) ≡ first.line + (n + 1) = omega (arith, way_here m first r.read r.way start) in
+      let own = ends_so text after m read n scan (end_is bytes at within len found) on empty refl here here count
+      (ap (λ (c : ℕ). c == 13) (end_last bytes at within len found)) in
+      let c =
+      further bytes m r.read at len n (n + 1) st [] (StandsBefore (drop at bytes)) (EndsSo scan (byte_len text) after) come
+      (end_within bytes at within len found) text (end_spells bytes at within len found) own in
       record {
         read = r.read ++ c.run;
-        rest = drop (at + len) bytes;
+        rest = after;
         scalars = c.stands.scalars;
-        spell = spells (at + len) (n + 1) st (EndsSo new len) c;
-        stops = (c.stands.line, inl c.stands.whole);
-        number = same;
+        spell = spells (at + len) (n + 1) [] (EndsSo scan (byte_len text) after) c;
+        stops = (subst (IsLineBefore m scan (r.read ++ c.run)) text_size c.stands.line, c.stands.whole);
+        number = r.line;
       }
 
--- the scan passes more
-module _ (first : Scan) (bytes : List ℕ) (at : ℕ) (scan : Scan) (p : Passing) (on : HasPassed first bytes at scan p) where
-  -- up to where all pieces are closed
-  closes : (len k : ℕ) (b : Brackets) (marks : Marks) → k ≤ len
-      → ((m : Mode) (before : List ℕ) (n : ℕ) → tail_of before ≡ None → byte_len before ≡ first.stop → ComesBefore bytes m before at n
-      (stack_of scan.brackets) → ComesTo bytes m before (at + len) (n + k) (stack_of b) IsFreeAfter)
-      → HasPassed first bytes (at + len) (closed_at (with_brackets scan b) (p.start + (at + len)) (p.line_ends + k))
-      (passed_to (record p { marks = marks }) (at + len) 0)
-  closes len k b marks few step = record {
-    free = on.free;
-    start = on.start;
-    after = omega arith;
-    ordered = omega arith;
-    few = omega (arith, few, on.few);
-    come = λ m line whole start r.
-        let o = on.come m line whole start r in
-        let c =
-        step m r.read o.n (before_tail first bytes m line whole start r on.free) (before_size first bytes m line whole start r) o.come in
-        let stop : p.start + (at + len) ≡ first.stop + (at + len) = omega (arith, on.start) in
-        let place : at + len ≡ p.start + (at + len) - p.start = omega arith in
-        record {
-          closed = subst
-              (λ (j : ℕ). Reached m line whole (closed_at (with_brackets scan b) (p.start + (at + len)) (p.line_ends + k)) (drop j bytes))
-              place
-              (closed_reached first bytes m line whole start r (at + len) (o.n + k) (p.line_ends + k) (p.start + (at + len)) b scan c stop
-              (omega (arith, o.count)) o.closed.line);
-          n = o.n + k;
-          count = omega (arith, o.count);
-          come = record {
-            within = c.within;
-            run = c.run;
-            spell = c.spell;
-            stands = free_stands (drop (at + len) bytes) m (r.read
-                ++ c.run) (o.n + k) (stack_of b) c.stands;
-          };
-        };
-  }
+-- how a line in which the bytes stood has come to this byte of them, with these that were passed
+record HasPassedIn (m : Mode) (before bytes : List ℕ) (at : ℕ) (b : Brackets) (all closed : Passed) : Type 0 where
+  free : ComesTo bytes m before closed.len (line_ends before + closed.line_ends) (stack_of b) IsFreeAfter
+  come : ComesTo bytes m before at (line_ends before + all.line_ends) (stack_of b) (StandsBefore (drop at bytes))
 
-  -- over bytes that leave the pieces open
-  goes_on : (len k : ℕ) (marks : Marks) → k ≤ len
-      → ((m : Mode) (before : List ℕ) (n : ℕ) → tail_of before ≡ None → ComesBefore bytes m before at n (stack_of scan.brackets)
-      → ComesBefore bytes m before (at + len) (n + k) (stack_of scan.brackets))
-      → HasPassed first bytes (at + len) scan (passed_to (record p { marks = marks }) (at + len) (p.line_ends + k))
-  goes_on len k marks few step = record {
-    free = on.free;
-    start = on.start;
-    after = on.after;
-    ordered = omega (arith, on.ordered);
-    few = omega (arith, few, on.few);
-    come = λ m line whole start r.
-        let o = on.come m line whole start r in
-        record {
-          closed = o.closed;
-          n = o.n + k;
-          count = omega (arith, o.count);
-          come = step m r.read o.n (before_tail first bytes m line
-              whole start r on.free) o.come;
-        };
-  }
+-- so in each line in which they stood before the scan, where no piece was open
+pub record HasPassed (first : Scan) (bytes : List ℕ) (at : ℕ) (b : Brackets) (all closed : Passed) : Type 0 where
+  free : first.piece.mode ≡ modes.Free
+  pub within : closed.len ≤ length bytes
+  pub few : all.line_ends ≤ at
+  pub fewer : closed.line_ends ≤ all.line_ends
+  come : (m : Mode) (line : ℕ) (whole : List ℕ) → IsScanSound (line_start m) [] → (r : Reached m line whole first bytes)
+      → HasPassedIn m r.read bytes at b all closed
 
 -- nothing is passed yet
-pub begins_passing : (first : Scan) (bytes : List ℕ) (marks : Marks) → first.piece.mode ≡ modes.Free
-    → HasPassed first bytes 0 first (record { start = first.stop; len = 0; line_ends = 0; marks = marks })
-begins_passing first bytes marks free = record {
-  free = free;
-  start = refl;
-  after = omega arith;
-  ordered = omega arith;
-  few = omega arith;
-  come = λ m line whole start r.
-      let none : 0 ≡ first.stop - first.stop = omega arith in
-      let free_here = way_free m first r.read start r.scalars r.way free in
-      record {
-        closed = subst (λ (k : ℕ). Reached m line whole first (drop k bytes)) none r;
-        n = line_ends r.read;
-        count = omega (arith, way_here m first r.read r.way start);
-        come = record {
-          within = omega arith;
-          run = [];
-          spell = refl;
-          stands = free_stands bytes m (r.read ++ []) (line_ends r.read) (stack_of first.brackets)
-              (subst (λ (t : List ℕ). IsFreeAfter m t (line_ends r.read) (stack_of first.brackets)) (sym (append-nil r.read)) free_here);
-        };
-      };
-}
+pub begins_passing : (first : Scan) (bytes : List ℕ) (p : Passing) → first.piece.mode ≡ modes.Free → p ≡ nothing_passed p.marks
+    → HasPassed first bytes p.all.len first.brackets p.all p.closed
+begins_passing first bytes p free is = subst (λ (q : Passing). HasPassed first bytes q.all.len first.brackets q.all q.closed) (sym is)
+    (record {
+      free = free;
+      within = omega arith;
+      few = omega arith;
+      fewer = omega arith;
+      come = λ m line whole start r.
+          let none : line_ends r.read ≡ line_ends r.read + 0 = omega arith in
+          let free_here : ComesTo bytes m r.read 0 (line_ends r.read) (stack_of first.brackets) IsFreeAfter = record {
+            within = omega arith;
+            run = [];
+            spell = refl;
+            stands = subst (λ (t : List ℕ). IsFreeAfter m t (line_ends r.read) (stack_of first.brackets)) (sym (append-nil r.read))
+                (way_free m first r.read start r.scalars r.way free);
+          } in
+          let here = subst (λ (k : ℕ). ComesTo bytes m r.read 0 k (stack_of first.brackets) IsFreeAfter) none free_here in
+          record { free = here; come = stands_there bytes m r.read 0 (line_ends r.read + 0) (stack_of first.brackets) true here };
+    })
 
--- up to the next byte that isn't plain
-pub plain_passed : (first : Scan) (bytes : List ℕ) (at : ℕ) (scan : Scan) (p : Passing) (marks : Marks) → HasPassed first bytes p.len scan p
-    → FindsNext bytes p.len at marks → HasPassed first bytes at scan (record p { marks = marks })
-plain_passed first bytes at scan p marks on next = record {
+-- over plain bytes, up to the next one that isn't plain or less far
+plain_up_to : (first : Scan) (bytes : List ℕ) (from at to : ℕ) (b : Brackets) (all closed : Passed) (marks : Marks)
+    → HasPassed first bytes from b all closed → FindsNext bytes from at marks → from ≤ to → to ≤ at → HasPassed first bytes to b all closed
+plain_up_to first bytes from at to b all closed marks on next after before = record {
   free = on.free;
-  start = on.start;
-  after = on.after;
-  ordered = omega (arith, on.ordered, next.after);
-  few = omega (arith, on.few, next.after);
+  within = on.within;
+  few = omega (arith, on.few, after);
+  fewer = on.fewer;
   come = λ m line whole start r.
       let o = on.come m line whole start r in
-      let there : p.len + (at - p.len) ≡ at = omega (arith, next.after) in
+      let n = line_ends r.read + all.line_ends in
+      let there : from + (to - from) ≡ to = omega (arith, after) in
       record {
-        closed = o.closed;
-        n = o.n;
-        count = o.count;
-        come = subst (λ (k : ℕ). ComesBefore bytes m r.read k o.n (stack_of scan.brackets)) there
-            (plain_further bytes m r.read p.len (at - p.len) o.n (stack_of scan.brackets) o.come (omega (arith, there, next.within))
-            (λ i after less. next.plain i after (omega (arith, less, there))));
+        free = o.free;
+        come = subst (λ (k : ℕ). ComesBefore bytes m r.read k n (stack_of b)) there
+            (plain_further bytes m r.read from (to - from) n (stack_of b) o.come (omega (arith, there, before, next.within))
+            (λ i later less. next.plain i later (omega (arith, less, there, before))));
       };
 }
 
-module _ (bytes : List ℕ) (at : ℕ) (old : Scan) (p : Passing) (within : at < length bytes) (marked : HasMarks bytes (at + 1) p.marks) where
-  -- a bracket, which its brackets have met at its place in the line
-  pub bracket_passed : (b : Brackets) → is_operator (slice_index bytes at) ≡ true
-      → stack_with old.brackets (p.start + at) (slice_index bytes at) ≡ Some (stack_of b)
-      → PassesSpecial bytes at old p special.Passed (closed_at (with_brackets old b) (p.start + (at + 1)) (p.line_ends + 0))
-      (passed_to p (at + 1) 0)
-  bracket_passed b is met = (
-    omega arith,
-    marked,
-    λ first on. closes first bytes at old p on 1 0 b p.marks (omega arith)
-        (λ m before n none place come.
-        let here : byte_len (before ++ come.run) ≡ p.start + at =
-        omega (arith, place, on.start, byte_len-append before come.run, ap length come.spell, length-take-le at bytes come.within) in
-        let same : n ≡ n + 0 = omega arith in
-        subst (λ (k : ℕ). ComesTo bytes m before (at + 1) k (stack_of b) IsFreeAfter) same
-        (operator_further bytes m before at n (stack_of old.brackets) (stack_of b) come within is
-        (ap (λ (k : ℕ). brackets_after (stack_of old.brackets) k (piece operator (slice_index bytes at ∷ []))) here ∙ met))),
-  )
+pub plain_passed : (first : Scan) (bytes : List ℕ) (from at : ℕ) (b : Brackets) (all closed : Passed) (marks : Marks)
+    → HasPassed first bytes from b all closed → FindsNext bytes from at marks → HasPassed first bytes at b all closed
+plain_passed first bytes from at b all closed marks on next =
+    plain_up_to first bytes from at at b all closed marks on next next.after (omega arith)
 
-  -- a piece that has closed itself, or one that is open yet
-  module _ (piece : Passed) (few : depth_of old.brackets ≤ 100) (passes : PassesPiece bytes at (Some piece)) (marks : Marks)
-      (marked_there : HasMarks bytes (at + piece.len) marks) where
-    comes_there : (m : Mode) (before : List ℕ) (n : ℕ) → tail_of before ≡ None → ComesBefore bytes m before at n (stack_of old.brackets)
-        → ComesTo bytes m before (at + piece.len) (n + piece.line_ends) (stack_of old.brackets)
-        (StandsClosed (closes_itself (drop at bytes) piece.len) (drop (at + piece.len) bytes))
-    comes_there m before n none come = piece_further bytes m before at n (stack_of old.brackets) piece none few come passes
+module _ (first : Scan) (bytes : List ℕ) (at : ℕ) (b : Brackets) (all closed : Passed) (on : HasPassed first bytes at b all closed) where
+  -- what is passed at a byte that isn't plain
+  module _ (len more : ℕ) (closes : Bool) (after : List Bracket)
+      (over : PassesOver bytes at (first.stop + at) len more closes (stack_of b) after) where
+    comes_over : (m : Mode) (line : ℕ) (whole : List ℕ) → IsScanSound (line_start m) [] → (r : Reached m line whole first bytes)
+        → ComesTo bytes m r.read (at + len) (line_ends r.read + (all.line_ends + more)) after
+        (StandsClosed closes (drop (at + len) bytes))
+    comes_over m line whole start r =
+        let o = on.come m line whole start r in
+        let n = line_ends r.read + all.line_ends in
+        let same : n + more ≡ line_ends r.read + (all.line_ends + more) = omega arith in
+        subst (λ (k : ℕ). ComesTo bytes m r.read (at + len) k after (StandsClosed closes (drop (at + len) bytes))) same
+        (over_further bytes m r.read at (first.stop + at) len more n closes (stack_of b) after
+        (before_tail first bytes m line whole start r on.free) o.come
+        (size first bytes m line whole start r at n (stack_of b) (StandsBefore (drop at bytes)) o.come) over)
 
-    further_on : at < at + piece.len
-    further_on = let some = passes.1.some in omega (arith, some)
+  over_passed : (c : Brackets) (len more : ℕ) (closes : Bool)
+      → PassesOver bytes at (first.stop + at) len more closes (stack_of b) (stack_of c) → (closes ≡ false → c ≡ b)
+      → HasPassed first bytes (at + len) c (up_to all (at + len) more) (if closes then up_to all (at + len) more else closed)
+  over_passed c len more true over kept = record {
+    free = on.free;
+    within = over.within;
+    few = let less = over.few in omega (arith, less, on.few);
+    fewer = omega arith;
+    come = λ m line whole start r.
+        let there = comes_over len more true (stack_of c) over m line whole start r in
+        record {
+          free = there;
+          come = stands_there bytes m r.read (at + len) (line_ends r.read + (all.line_ends + more)) (stack_of c) true there;
+        };
+  }
+  over_passed c len more false over kept = record {
+    free = on.free;
+    within = on.within;
+    few = let less = over.few in omega (arith, less, on.few);
+    fewer = omega (arith, on.fewer);
+    come = λ m line whole start r.
+        let there = comes_over len more false (stack_of c) over m line whole start r in
+        record {
+          free = subst (λ (k : Brackets). ComesTo bytes m r.read closed.len (line_ends r.read + closed.line_ends) (stack_of k) IsFreeAfter)
+              (sym (kept refl)) (on.come m line whole start r).free;
+          come = there;
+        };
+  }
 
-    pub piece_closed : closes_itself (drop at bytes) piece.len ≡ true
-        → PassesSpecial bytes at old p special.Passed (closed_at old (p.start + (at + piece.len)) (p.line_ends + piece.line_ends))
-        (passed_to (record p { marks = marks }) (at + piece.len) 0)
-    piece_closed is = (
-      further_on,
-      marked_there,
-      λ first on. closes first bytes at old p on piece.len piece.line_ends old.brackets marks passes.1.few
-          (λ m before n none place come.
-          subst (λ (b : Bool). ComesTo bytes m before (at + piece.len) (n + piece.line_ends) (stack_of old.brackets)
-          (StandsClosed b (drop (at + piece.len) bytes))) is (comes_there m before n none come)),
-    )
+  -- a line end that ends the line
+  line_ended : (len : ℕ) (c : Brackets) (q : Passing) → at < length bytes → EndsLineSo bytes at all b len q c → WhereverReached first bytes
+      (λ m line whole. ScansIn m line whole
+      (closed_after (with_brackets first c) q.all (slice_index bytes (q.all.len - 1) == 13)) (stops.LineEnd len))
+  line_ended len c q within so m line whole start r =
+      subst (λ (k : Brackets). ScansIn m line whole (closed_after (with_brackets first k) q.all (slice_index bytes (q.all.len - 1) == 13))
+      (stops.LineEnd len)) (sym so.kept)
+      (subst (λ (p : Passed). ScansIn m line whole (closed_after (with_brackets first b) p (slice_index bytes (p.len - 1) == 13))
+      (stops.LineEnd len)) (sym so.is)
+      (ended first bytes m line whole start r at len all.line_ends b within (on.come m line whole start r).come so.ends so.none))
 
-    pub piece_open : PassesSpecial bytes at old p special.Passed old
-        (passed_to (record p { marks = marks }) (at + piece.len) (p.line_ends + piece.line_ends))
-    piece_open = (
-      further_on,
-      marked_there,
-      λ first on. goes_on first bytes at old p on piece.len piece.line_ends marks passes.1.few
-          (λ m before n none come.
-          let there = comes_there m before n none come in
-          record {
-            within = there.within;
-            run = there.run;
-            spell = there.spell;
-            stands = closed_stands (closes_itself (drop at bytes) piece.len) (drop (at + piece.len) bytes) m (before ++ there.run)
-                (n + piece.line_ends) (stack_of old.brackets) there.stands;
-          }),
-    )
-
--- a line end
-module _ (bytes : List ℕ) (at : ℕ) (old : Scan) (p : Passing) (within : at < length bytes) (len : ℕ)
-    (found : BeginsLineEnd (drop at bytes) len) where
-  abbrev set : Scan
-  set = closed_at old (p.start + (at + len)) (p.line_ends + 1)
-
-  room : at + len ≤ length bytes
-  room = omega (arith, found.within, within, length-drop at bytes)
-
-  -- in brackets
-  pub line_end_passed : HasMarks bytes (at + len) p.marks → none_open (stack_of old.brackets) ≡ false
-      → PassesSpecial bytes at old p special.Passed set (passed_to p (at + len) 0)
-  line_end_passed marked some = (
-    omega (arith, found.some),
-    marked,
-    λ first on. closes first bytes at old p on len 1 old.brackets p.marks (omega (arith, found.some))
-        (λ m before n none place come.
-        further bytes m before at len n (n + 1) (stack_of old.brackets) (stack_of old.brackets) (StandsBefore (drop at bytes)) IsFreeAfter
-        come room (line_end_of found.returned) (text_spells bytes m before at len n (stack_of old.brackets) come found)
-        (line_end_free found.returned (drop (at + len) bytes) m (before ++ come.run) n (stack_of old.brackets) some
-        (end_stands bytes m before at len n (stack_of old.brackets) come found))),
-  )
-
-  -- outside
-  pub line_ended : (q : Passing) → none_open (stack_of old.brackets) ≡ true → PassesSpecial bytes at old p (special.LineEnd len) set q
-  line_ended q none first on m line whole start r =
-      let o = on.come m line whole start r in
-      ended first bytes m line whole start r at len o.n (p.line_ends + 1) (p.start + (at + len)) old o.come found none room
-      (omega (arith, on.start)) (omega (arith, o.count)) o.closed.line
-
--- the same of what is equal
-pub passes_as : (bytes : List ℕ) (at : ℕ) (old : Scan) (p : Passing) (result : Special) (new other : Scan) (q r : Passing)
-    → PassesSpecial bytes at old p result new q → other ≡ new → r ≡ q → PassesSpecial bytes at old p result other r
-passes_as bytes at old p result new other q r passes scan passing =
-    subst (λ (s : Scan). PassesSpecial bytes at old p result s r) (sym scan)
-    (subst (PassesSpecial bytes at old p result new) (sym passing) passes)
-
--- a bracket is an operator
-pub bracket_operator : (b : ℕ) (k : Class) → is_of_class k b ≡ true → (k ≡ class.Opening) ⊎ (k ≡ class.Closing) → is_operator b ≡ true
-bracket_operator b k so (inl is) = opening_operator b (subst (λ (i : Class). is_of_class i b ≡ true) is so)
-bracket_operator b k so (inr is) = closing-operator b (subst (λ (i : Class). is_of_class i b ≡ true) is so)
-
-backslash-not-quote : (c : ℕ) → is_backslash c ≡ true → is_quote c ≡ false
-unfolding is_backslash is_quote
-backslash-not-quote c h = none_of is_quote (92 ∷ []) c refl h
-
--- what the classes of the first byte and of the last one tell of the end of a piece
-pub backslash_closes : (bytes : List ℕ) (at len : ℕ) → 0 < len → is_backslash (slice_index bytes at) ≡ true
-    → slice_index bytes (at + len - 1) == 10 ≡ true → closes_itself (drop at bytes) len ≡ true
-backslash_closes bytes at len some is feeds =
-    let here : at + 0 ≡ at = omega arith in
-    let last : at + (len - 1) ≡ at + len - 1 = omega (arith, some) in
-    let first : slice_index (drop at bytes) 0 ≡ slice_index bytes at =
-    get_or-drop at bytes 0 0 ∙ ap (λ (k : ℕ). slice_index bytes k) here in
-    let ends : slice_index (drop at bytes) (len - 1) ≡ slice_index bytes (at + len - 1) =
-    get_or-drop at bytes (len - 1) 0 ∙ ap (λ (k : ℕ). slice_index bytes k) last in
-    let other : is_quote (slice_index (drop at bytes) 0) ≡ false = ap is_quote first ∙ backslash-not-quote (slice_index bytes at) is in
-    let slash : is_backslash (slice_index (drop at bytes) 0) ≡ true = ap is_backslash first ∙ is in
-    rw (other, slash) (ap (λ (c : ℕ). c == 10) ends ∙ feeds)
-
-pub quote_closes : (bytes : List ℕ) (at len : ℕ) → is_quote (slice_index bytes at) ≡ true → nat_lt 2 len ≡ true
-    → closes_itself (drop at bytes) len ≡ true
-quote_closes bytes at len is more =
-    let here : at + 0 ≡ at = omega arith in
-    let first : slice_index (drop at bytes) 0 ≡ slice_index bytes at =
-    get_or-drop at bytes 0 0 ∙ ap (λ (k : ℕ). slice_index bytes k) here in
-    let quote : is_quote (slice_index (drop at bytes) 0) ≡ true = ap is_quote first ∙ is in
-    rw quote more
+  passes_on : (c : Brackets) (q : Passing) → PassesSo bytes at (first.stop + at) all closed b q c
+      → HasPassed first bytes q.all.len c q.all q.closed
+  passes_on c q so = subst (λ (x : Passing). HasPassed first bytes x.all.len c x.all x.closed) (sym so.is)
+      (over_passed c so.len so.more so.closes so.over so.kept)
 
 -- plain bytes up to an operator
-pub operator_closes : (first : Scan) (bytes : List ℕ) (at len : ℕ) (scan : Scan) (p : Passing) → HasPassed first bytes p.len scan p
-    → FindsNext bytes p.len at p.marks → 0 < len → p.len + len ≤ at
-    → is_of_class class.Operator (slice_index bytes (p.len + (len - 1))) ≡ true → HasPassed first bytes (p.len + len)
-    (closed_at scan (p.start + (p.len + len)) (p.line_ends + 0)) (passed_to p (p.len + len) 0)
-operator_closes first bytes at len scan p on next some room so =
-    closes first bytes p.len scan p on len 0 scan.brackets p.marks (omega arith)
-    (λ m before n none place come.
-    let st = stack_of scan.brackets in
-    let to = p.len + (len - 1) in
+operator_closes : (first : Scan) (bytes : List ℕ) (from at len : ℕ) (b : Brackets) (all closed : Passed) (marks : Marks)
+    → HasPassed first bytes from b all closed → FindsNext bytes from at marks
+    → IsOperatorEnd (take (at - from) (drop from bytes)) len → 0 < len
+    → HasPassed first bytes (from + len) b (up_to all (from + len) 0) (up_to all (from + len) 0)
+operator_closes first bytes from at len b all closed marks on next (fits, inl none) some = absurd (omega (arith, none, some))
+operator_closes first bytes from at len b all closed marks on next (fits, inr so) some =
+    let size_is : length (take (at - from) (drop from bytes)) ≡ at - from =
+    length-take-le (at - from) (drop from bytes) (omega (arith, next.within, next.after, length-drop from bytes)) in
+    let to = from + (len - 1) in
+    let short : len - 1 < at - from = omega (arith, fits, size_is, some) in
+    let byte : slice_index (take (at - from) (drop from bytes)) (len - 1) ≡ slice_index bytes to =
+    get_or-take (at - from) (drop from bytes) (len - 1) 0 short ∙ get_or-drop from bytes (len - 1) 0 in
     let c = slice_index bytes to in
-    let parts = and_parts (is_operator c) (not (is_opening c || is_closing c)) so in
+    let parts = and_parts (is_operator c) (not (is_opening c || is_closing c)) (ap (is_of_class class.Operator) (sym byte) ∙ so) in
     let none_of_both = or_parts (is_opening c) (is_closing c) (not-true _ parts.1) in
-    let plain =
-    plain_further bytes m before p.len (len - 1) n st come (omega (arith, some, room, next.within))
-    (λ i after less. next.plain i after (omega (arith, less, some, room))) in
-    let over =
-    operator_further bytes m before to n st st plain (omega (arith, some, room, next.within)) parts.0
-    (keeps_at st (byte_len (before ++ plain.run)) c none_of_both.0 none_of_both.1) in
-    let there : to + 1 ≡ p.len + len = omega (arith, some) in
-    let same : n ≡ n + 0 = omega arith in
-    subst (λ (k : ℕ). ComesTo bytes m before k (n + 0) st IsFreeAfter) there
-    (subst (λ (k : ℕ). ComesTo bytes m before (to + 1) k st IsFreeAfter) same over))
+    let st = stack_of b in
+    let there : to + 1 ≡ from + len = omega (arith, some) in
+    subst (λ (k : ℕ). HasPassed first bytes k b (up_to all k 0) (up_to all k 0)) there
+    (over_passed first bytes to b all closed
+    (plain_up_to first bytes from at to b all closed marks on next (omega arith) (omega (arith, short, next.after))) b 1 0 true
+    (operator_over bytes to (omega (arith, short, next.within, next.after)) (first.stop + to) st st parts.0
+    (keeps_at st (first.stop + to) c none_of_both.0 none_of_both.1)) (λ _. refl))
 
--- the marks of what was passed tell nothing of it
-pub with_marks : (first : Scan) (bytes : List ℕ) (at : ℕ) (scan : Scan) (p : Passing) (marks : Marks) → HasPassed first bytes at scan p
-    → HasPassed first bytes at scan (record p { marks = marks })
-with_marks first bytes at scan p marks on = record {
-  free = on.free;
-  start = on.start;
-  after = on.after;
-  ordered = on.ordered;
-  few = on.few;
-  come = λ m line whole start r. let o = on.come m line whole start r in record
-      { closed = o.closed; n = o.n; count = o.count; come = o.come };
-}
+-- what is left where no piece is open
+abbrev pub Leaves : Scan → List ℕ → Scan → Passed → Type 0
+Leaves first bytes scan closed = WhereverReached first bytes
+    (λ m line whole. Reached m line whole scan (take (length bytes - closed.len) (drop closed.len bytes)))
 
-pub marks_apart : (bytes : List ℕ) (at : ℕ) (old : Scan) (p : Passing) (marks : Marks) (result : Special) (new : Scan) (q : Passing)
-    → (result ≡ special.Unpassed → ⊥) → PassesSpecial bytes at old (record p { marks = marks }) result new q
-    → PassesSpecial bytes at old p result new q
-marks_apart bytes at old p marks special.Unpassed new q passed passes = absurd (passed refl)
-marks_apart bytes at old p marks special.Passed new q passed (more, marked, leads) =
-    (more, marked, λ first on. leads first (with_marks first bytes at old p marks on))
-marks_apart bytes at old p marks (special.LineEnd len) new q passed leads = λ first on.
-    leads first (with_marks first bytes at old p marks on)
-
--- what is left where all pieces are closed
-abbrev pub Leaves : Scan → List ℕ → Scan → Passing → Type 0
-Leaves first bytes scan p = WhereverReached first bytes
-    (λ m line whole. Reached m line whole scan (take (length bytes - (scan.stop - p.start)) (drop (scan.stop - p.start) bytes)))
-
-pub left_reached : (first : Scan) (bytes : List ℕ) (at : ℕ) (scan : Scan) (p : Passing) → HasPassed first bytes at scan p
-    → (new : Scan) (q : Passing) → new ≡ scan → q ≡ p → Leaves first bytes new q
-left_reached first bytes at scan p on new q same same_passing =
-    subst (λ (s : Scan). Leaves first bytes s q) (sym same)
-    (subst (Leaves first bytes scan) (sym same_passing)
-    (λ m line whole start r. subst (Reached m line whole scan) (sym (rest_is bytes (scan.stop - p.start)))
-    (on.come m line whole start r).closed))
+left_reached : (first : Scan) (bytes : List ℕ) (at : ℕ) (b : Brackets) (all closed : Passed) → HasPassed first bytes at b all closed
+    → (scan : Scan) → scan ≡ closed_after (with_brackets first b) closed false → Leaves first bytes scan closed
+left_reached first bytes at b all closed on scan set m line whole start r =
+    subst (λ (s : Scan). Reached m line whole s (take (length bytes - closed.len) (drop closed.len bytes))) (sym set)
+    (subst (Reached m line whole (closed_after (with_brackets first b) closed false)) (sym (rest_is bytes closed.len))
+    (closed_reached first bytes m line whole start r closed b (on.come m line whole start r).free))
 
 -- before a byte that isn't plain, or at the end of the bytes
 pub record StandsAt (first : Scan) (bytes : List ℕ) (at : ℕ) (scan : Scan) (p : Passing) : Type 0 where
-  pub passed : HasPassed first bytes p.len scan p
-  pub next : FindsNext bytes p.len at p.marks
+  pub same : scan ≡ with_brackets first scan.brackets
+  pub passed : HasPassed first bytes p.all.len scan.brackets p.all p.closed
+  pub next : FindsNext bytes p.all.len at p.marks
 
 pub stands_as : (first : Scan) (bytes : List ℕ) (at : ℕ) (scan : Scan) (p : Passing) (new : Scan) (q : Passing) → new ≡ scan → q ≡ p
     → StandsAt first bytes at scan p → StandsAt first bytes at new q
 stands_as first bytes at scan p new q same same_passing on = subst (λ (s : Scan). StandsAt first bytes at s q) (sym same)
     (subst (StandsAt first bytes at scan) (sym same_passing) on)
 
--- up to the last operator
-pub operator_left : (first : Scan) (bytes : List ℕ) (at len : ℕ) (scan : Scan) (p : Passing) → StandsAt first bytes at scan p
-    → IsOperatorEnd (take (at - p.len) (drop p.len bytes)) len → 0 < len → (new : Scan) (q : Passing)
-    → new ≡ closed_at scan (p.start + (p.len + len)) (p.line_ends + 0) → q ≡ passed_to p (p.len + len) 0 → Leaves first bytes new q
-operator_left first bytes at len scan p on (within, inl none) some new q same same_passing = absurd (omega (arith, none, some))
-operator_left first bytes at len scan p on (within, inr so) some new q same same_passing =
-    let next = on.next in
-    let size : length (take (at - p.len) (drop p.len bytes)) ≡ at - p.len =
-    length-take-le (at - p.len) (drop p.len bytes) (omega (arith, next.within, next.after, length-drop p.len bytes)) in
-    let short : len - 1 < at - p.len = omega (arith, within, size, some) in
-    let byte : slice_index (take (at - p.len) (drop p.len bytes)) (len - 1) ≡ slice_index bytes (p.len + (len - 1)) =
-    get_or-take (at - p.len) (drop p.len bytes) (len - 1) 0 short ∙ get_or-drop p.len bytes (len - 1) 0 in
-    left_reached first bytes (p.len + len) (closed_at scan (p.start + (p.len + len)) (p.line_ends + 0)) (passed_to p (p.len + len) 0)
-    (operator_closes first bytes at len scan p on.passed next some (omega (arith, within, size, next.after))
-    (ap (is_of_class class.Operator) (sym byte) ∙ so)) new q same same_passing
+module _ (first : Scan) (bytes : List ℕ) (at : ℕ) (scan : Scan) (p : Passing) (on : StandsAt first bytes at scan p) where
+  here : HasPassed first bytes at scan.brackets p.all p.closed
+  here = plain_passed first bytes p.all.len at scan.brackets p.all p.closed p.marks on.passed on.next
+
+  pub few : p.all.line_ends ≤ at
+  few = here.few
+
+  -- after what was passed there
+  pub stands_next : (c : Brackets) (q : Passing) (to : ℕ) (marks : Marks)
+      → PassesSo bytes at (scan.stop + at) p.all p.closed scan.brackets q c → FindsNext bytes q.all.len to marks
+      → StandsAt first bytes to (with_brackets scan c) (record q { marks = marks })
+  stands_next c q to marks so next = record {
+    same = ap (λ (s : Scan). with_brackets s c) on.same;
+    passed = passes_on first bytes at scan.brackets p.all p.closed here c q
+        (subst (λ (k : ℕ). PassesSo bytes at (k + at) p.all p.closed scan.brackets q c) (ap (λ (s : Scan). s.stop) on.same) so);
+    next = next;
+  }
+
+  -- after a line end
+  pub stands_ended : (len : ℕ) (new : Scan) (q : Passing) (c : Brackets) → at < length bytes
+      → EndsLineSo bytes at p.all scan.brackets len q c
+      → new ≡ closed_after (with_brackets scan c) q.all (slice_index bytes (q.all.len - 1) == 13)
+      → WhereverReached first bytes (λ m line whole. ScansIn m line whole new (stops.LineEnd len))
+  stands_ended len new q c within so set m line whole start r =
+      subst (λ (s : Scan). ScansIn m line whole s (stops.LineEnd len))
+      (sym (set ∙ ap (λ (s : Scan). closed_after (with_brackets s c) q.all (slice_index bytes (q.all.len - 1) == 13)) on.same))
+      (line_ended first bytes at scan.brackets p.all p.closed here len c q within so m line whole start r)
+
+  -- where the scan leaves off
+  pub stands_left : (new : Scan) → new ≡ closed_after scan p.closed false → Leaves first bytes new p.closed
+  stands_left new set =
+      left_reached first bytes p.all.len scan.brackets p.all p.closed on.passed new
+      (set ∙ ap (λ (s : Scan). closed_after s p.closed false) on.same)
+
+  pub operator_left : (len : ℕ) (q : Passing) (new : Scan) → IsOperatorEnd (take (at - p.all.len) (drop p.all.len bytes)) len → 0 < len
+      → q ≡ passed_to p (p.all.len + len) 0 true → new ≡ closed_after scan q.closed false → Leaves first bytes new q.closed
+  operator_left len q new ends some is set =
+      let passed = up_to p.all (p.all.len + len) 0 in
+      subst (λ (x : Passing). Leaves first bytes new x.closed) (sym is)
+      (left_reached first bytes (p.all.len + len) scan.brackets passed passed
+      (operator_closes first bytes p.all.len at len scan.brackets p.all p.closed p.marks on.passed on.next ends some) new
+      (set ∙ ap (λ (x : Passing). closed_after scan x.closed false) is ∙ ap (λ (s : Scan). closed_after s passed false) on.same))

@@ -20,7 +20,7 @@ use Rattle.py_lines.specs.Private.ScanMachine.{meet_of, scan_step, scan_steps}
 use Rattle.py_lines.specs.Private.Scan.{AreLine, EndsNoLine, counts_after, line_start, none_open}
 use Rattle.py_lines.specs.Private.Run.{is_ascii_word}
 use Rattle.py_lines.specs.Private.FieldText.{is_apart_mode, is_code_mode}
-use Rattle.py_lines.specs.Private.Outline.{BeginOther, HoldsLineEnds, HasCome, GoesOnAfter, IsFreeAfter, EndsBefore, StandsBefore, IsAfterLineEnd, IsOuterEnd, IsTail, line_end_of, tail_of, tail_on, tail_with}
+use Rattle.py_lines.specs.Private.Outline.{BeginOther, HoldsLineEnds, HasCome, GoesOnAfter, IsFreeAfter, EndsBefore, StandsBefore, StandsClosed, IsWholeLine, IsOuterEnd, IsTail, line_end_of, tail_of, tail_on, tail_with}
 use Rattle.py_lines.proofs.Pieces.PieceLists.{piece}
 use Rattle.py_lines.proofs.Machine.Starts.{start-word, start-space, start-operator, start-feed, start-return}
 use Rattle.py_lines.proofs.Machine.PieceSteps.{scanned, pieces_at}
@@ -35,7 +35,7 @@ use Rattle.py_lines.proofs.LineScan.PieceEnd.{closed_text}
 use Rattle.py_lines.proofs.LineScan.Runs.{break_low, ends-run, line_ends-run, space_low, word_byte_continues, word_byte_low}
 use Rattle.py_lines.proofs.LineScan.AsciiRuns.{ascii_scalar, free_breaks, operator-no_break, operator-not-quote, word_starts, word_whole, space-not-quote, space_whole}
 use Rattle.py_lines.proofs.LineScan.TextSteps.{begun_sound}
-use Rattle.py_lines.proofs.SimpleLines.Tails.{apart_tail, come_sound, feed-no-word, feed_unreturned, free_goes_on, free_stands, no_tail, no_tail_with, operator-no-word, return_returns, stands, tail_on-append, tail_push}
+use Rattle.py_lines.proofs.SimpleLines.Tails.{apart_tail, come_sound, feed-no-word, feed_unreturned, free_goes_on, free_stands, no_tail, no_tail_with, operator-no-word, return_returns, stands, stands_less, tail_on-append, tail_push}
 use Rattle.py_lines.proofs.Text.CharacterTests.{break-not-quote, excluded, feed_from, feed_is, none_of, operator_ascii}
 use Rattle.py_lines.proofs.Text.Utf8Prefixes.{all_scalars-append}
 use Rattle.py_lines.proofs.Text.Utf8Shapes.{one, two, three, four}
@@ -119,7 +119,7 @@ line_end_unreturned false read = ends-last is_return read 10 ∙ feed_unreturned
 line_end_unreturned true read = ap (ends is_return) (sym (append_assoc read (13 ∷ []) (10 ∷ []))) ∙ ends-last is_return (read ++ 13 ∷ []) 10 ∙ feed_unreturned
 
 -- the pieces where the open one is closed
-closed_spells : (initial : Mode) (read : List ℕ) (n : ℕ) (st : List Bracket) (s : Scanned) → HasCome initial read n st s → spelled (pieces_at s) ≡ read
+pub closed_spells : (initial : Mode) (read : List ℕ) (n : ℕ) (st : List Bracket) (s : Scanned) → HasCome initial read n st s → spelled (pieces_at s) ≡ read
 closed_spells initial read n st s come =
     let sound = come_sound initial read n st s come in
     closed_text s.mode s.done s.held sound.holds ∙ sound.spell
@@ -199,7 +199,7 @@ return_closes : meet_of modes.Return 10 ≡ moves.Closes
 unfolding meet_of move_of
 return_closes = rw feed_is_feed refl
 
-return_opens : (initial : Mode) (read : List ℕ) (n : ℕ) (st : List Bracket) (on : EndsBefore 13 initial read n st) → scan_steps (Some (line_start initial)) (read ++ 13 ∷ []) ≡ Some (scanned (pieces initial read n st 13 on) modes.Return (13 ∷ []))
+pub return_opens : (initial : Mode) (read : List ℕ) (n : ℕ) (st : List Bracket) (on : EndsBefore 13 initial read n st) → scan_steps (Some (line_start initial)) (read ++ 13 ∷ []) ≡ Some (scanned (pieces initial read n st 13 on) modes.Return (13 ∷ []))
 return_opens initial read n st on = begins_as initial read n st 13 on (starts.Open modes.Return) (start-return 13 return_returns)
 
 pub line_end_steps : (returned : Bool) (initial : Mode) (read : List ℕ) (n : ℕ) (st : List Bracket) (on : EndsBefore (line_end_first returned) initial read n st)
@@ -242,8 +242,9 @@ line_end_inside returned initial read n (b ∷ bs) on some =
       };
     }
 
-line_end_passed : (returned : Bool) (after : List ℕ) (read : List ℕ) (n : ℕ) (st : List Bracket) → EndsBefore (line_end_first returned) modes.Free read n st → IsAfterLineEnd st (read ++ line_end_of returned) (n + 1) after
-line_end_passed returned after read n [] on =
+line_end_whole : (returned : Bool) (after : List ℕ) (read : List ℕ) (n : ℕ) → EndsBefore (line_end_first returned) modes.Free read n []
+    → IsWholeLine (read ++ line_end_of returned) (n + 1) after
+line_end_whole returned after read n on =
     let done = pieces modes.Free read n [] (line_end_first returned) on in
     record {
       body = done;
@@ -257,7 +258,6 @@ line_end_passed returned after read n [] on =
       holds = holds_line_end returned read n on.come.holds on.parted;
       tail = no_tail_line_end returned read;
     }
-line_end_passed returned after read n (b ∷ bs) on = free_stands after modes.Free (read ++ line_end_of returned) (n + 1) (b ∷ bs) (line_end_inside returned modes.Free read n (b ∷ bs) on refl)
 
 -- CR alone, before another byte: the machine holds it yet
 return_waits : (c : ℕ) → (c ≡ 10 → ⊥) → meet_of modes.Return c ≡ moves.Breaks
@@ -267,9 +267,13 @@ return_waits c other = rw (false_from_ne_true (is_line_feed c) (λ feeds. other 
 pub no_tail_return : (read : List ℕ) → tail_of (read ++ 13 ∷ []) ≡ None
 no_tail_return read = no_tail read 13 return-no-word
 
-return_passed : (after : List ℕ) (read : List ℕ) (n : ℕ) (st : List Bracket) → BeginOther after → EndsBefore 13 modes.Free read n st → IsAfterLineEnd st (read ++ 13 ∷ []) (n + 1) after
-return_passed [] read n st other on = absurd other
-return_passed (c ∷ cs) read n [] other on =
+pub other_follows : (after : List ℕ) → BeginOther after → (b : ℕ) × (more : List ℕ) × (after ≡ b ∷ more) × (b ≡ 10 → ⊥)
+other_follows [] other = absurd other
+other_follows (b ∷ more) other = (b, more, refl, other)
+
+return_whole : (after : List ℕ) (read : List ℕ) (n : ℕ) → BeginOther after → EndsBefore 13 modes.Free read n []
+    → IsWholeLine (read ++ 13 ∷ []) (n + 1) after
+return_whole after read n other on =
     let done = pieces modes.Free read n [] 13 on in
     record {
       body = done;
@@ -279,22 +283,26 @@ return_passed (c ∷ cs) read n [] other on =
       state = scanned done modes.Return (13 ∷ []);
       steps = return_opens modes.Free read n [] on;
       ended = inr (refl, refl);
-      whole = inr (c, cs, refl, other);
+      whole = inr (other_follows after other);
       holds = holds_return read n on.come.holds;
       tail = no_tail_return read;
     }
-return_passed (c ∷ cs) read n (b ∷ bs) other on = inr (record {
-  state = scanned (pieces modes.Free read n (b ∷ bs) 13 on) modes.Return (13 ∷ []);
+
+return_inside : (after : List ℕ) (initial : Mode) (read : List ℕ) (n : ℕ) (st : List Bracket) → BeginOther after → none_open st ≡ false
+    → EndsBefore 13 initial read n st → StandsBefore after initial (read ++ 13 ∷ []) (n + 1) st
+return_inside [] initial read n st other some on = absurd other
+return_inside (c ∷ cs) initial read n st other some on = inr (record {
+  state = scanned (pieces initial read n st 13 on) modes.Return (13 ∷ []);
   come = record {
     start = on.come.start;
-    steps = return_opens modes.Free read n (b ∷ bs) on;
-    stacked = closed_stack modes.Free read n (b ∷ bs) 13 on;
-    one_line = closed_line modes.Free read n (b ∷ bs) 13 on;
+    steps = return_opens initial read n st on;
+    stacked = closed_stack initial read n st 13 on;
+    one_line = closed_line initial read n st 13 on;
     holds = holds_return read n on.come.holds;
   };
   breaks = return_waits c other;
   parted = λ feeds. absurd (other feeds);
-  inside = λ is. refl;
+  inside = λ is. some;
   tail = λ begins. no_tail_return read;
 })
 
@@ -497,13 +505,36 @@ pub line_end_next : (returned : Bool) (rest : List ℕ) (initial : Mode) (read :
 line_end_next true rest initial read n st on = break_next (10 ∷ rest) initial read n st 13 (first-break true) on
 line_end_next false rest initial read n st on = break_next rest initial read n st 10 (first-break false) on
 
-pub line_end_on : (text after : List ℕ) (read : List ℕ) (n : ℕ) (st : List Bracket) → IsOuterEnd text after → StandsBefore (text ++ after) modes.Free read n st → IsAfterLineEnd st (read ++ text) (n + 1) after
-line_end_on text after read n st (inl (returned, is)) on =
-    subst (λ (t : List ℕ). IsAfterLineEnd st (read ++ t) (n + 1) after) (sym is)
-    (line_end_passed returned after read n st (line_end_next returned after modes.Free read n st (subst (λ (t : List ℕ). StandsBefore (t ++ after) modes.Free read n st) is on)))
-line_end_on text after read n st (inr (is, other)) on =
-    subst (λ (t : List ℕ). IsAfterLineEnd st (read ++ t) (n + 1) after) (sym is)
-    (return_passed after read n st other (break_next after modes.Free read n st 13 (first-break true) (subst (λ (t : List ℕ). StandsBefore (t ++ after) modes.Free read n st) is on)))
+pub return_next : (rest : List ℕ) (initial : Mode) (read : List ℕ) (n : ℕ) (st : List Bracket)
+    → StandsBefore (13 ∷ rest) initial read n st → EndsBefore 13 initial read n st
+return_next rest initial read n st on = break_next rest initial read n st 13 (first-break true) on
+
+-- outside brackets it ends the line
+pub outer_end_whole : (text after : List ℕ) (read : List ℕ) (n : ℕ) → IsOuterEnd text after
+    → StandsBefore (text ++ after) modes.Free read n [] → IsWholeLine (read ++ text) (n + 1) after
+outer_end_whole text after read n (inl (returned, is)) on =
+    subst (λ (t : List ℕ). IsWholeLine (read ++ t) (n + 1) after) (sym is)
+    (line_end_whole returned after read n (line_end_next returned after modes.Free read n []
+    (subst (λ (t : List ℕ). StandsBefore (t ++ after) modes.Free read n []) is on)))
+outer_end_whole text after read n (inr (is, other)) on =
+    subst (λ (t : List ℕ). IsWholeLine (read ++ t) (n + 1) after) (sym is)
+    (return_whole after read n other (return_next after modes.Free read n []
+    (subst (λ (t : List ℕ). StandsBefore (t ++ after) modes.Free read n []) is on)))
+
+-- in brackets the line goes on, after CR alone with a piece open
+pub outer_end_inside : (text after : List ℕ) (initial : Mode) (read : List ℕ) (n : ℕ) (st : List Bracket) (closes : Bool)
+    → IsOuterEnd text after → none_open st ≡ false → (closes ≡ true → text ≡ 13 ∷ [] → ⊥) → StandsBefore (text ++ after) initial read n st
+    → StandsClosed closes after initial (read ++ text) (n + 1) st
+outer_end_inside text after initial read n st closes (inl (returned, is)) some fed on =
+    subst (λ (t : List ℕ). StandsClosed closes after initial (read ++ t) (n + 1) st) (sym is)
+    (stands_less true closes after initial (read ++ line_end_of returned) (n + 1) st (λ _. refl)
+    (line_end_inside returned initial read n st (line_end_next returned after initial read n st
+    (subst (λ (t : List ℕ). StandsBefore (t ++ after) initial read n st) is on)) some))
+outer_end_inside text after initial read n st true (inr (is, other)) some fed on = absurd (fed refl is)
+outer_end_inside text after initial read n st false (inr (is, other)) some fed on =
+    subst (λ (t : List ℕ). StandsBefore after initial (read ++ t) (n + 1) st) (sym is)
+    (return_inside after initial read n st other some (return_next after initial read n st
+    (subst (λ (t : List ℕ). StandsBefore (t ++ after) initial read n st) is on)))
 
 -- bytes of code are ASCII
 pub code_low : (c : ℕ) → IsCodeByte c → c < 128

@@ -15,13 +15,14 @@ use Rattle.py_lines.specs.declared.brackets.Brackets.{Brackets}
 use Rattle.py_lines.specs.declared.marks.Marks.{Marks}
 use Rattle.py_lines.specs.declared.mode.Mode.TheVariants as modes
 use Rattle.py_lines.specs.declared.mode.Spelling.{Spelling}
-use Rattle.py_lines.specs.declared.outline.Outline.{Outline}
+use Rattle.py_lines.specs.declared.passing.Passing.{Passing}
 use Rattle.py_lines.specs.declared.plain_strings.Passed.{Passed}
 use Rattle.py_lines.specs.Private.Machine.{Bracket, brackets_after}
 use Rattle.py_lines.specs.Private.Marks.{FindsNext, HasMarks, is_plain}
 use Rattle.py_lines.specs.Private.Run.{is_ascii_word}
-use Rattle.py_lines.specs.Private.Scan.{Meets, depth_of, none_open, stack_of}
-use Rattle.py_lines.specs.Private.Outline.{AreWholeLines, BeginWithLines, BeginsLineEnd, BeginsOuterEnd, HasComeTo, IsAfter, IsAfterLineEnd, IsAt, IsFurther, IsOuterEnd, IsPast, IsWholeLine, PassesPiece, StandsBefore, closes_itself, line_up_to, tail_of, tail_on}
+use Rattle.py_lines.specs.Private.Scan.{none_open, stack_of}
+use Rattle.py_lines.specs.Private.Outline.{AreWholeLines, BeginWithLines, BeginsOuterEnd, HasComeTo, IsWholeLine, StandsBefore, line_up_to, tail_of, tail_on}
+use Rattle.py_lines.specs.Private.Passing.{EndsLineSo, PassesOver, PassesSo, nothing_passed, up_to}
 use Rattle.py_lines.proofs.Pieces.PieceLists.{piece}
 use Rattle.py_lines.proofs.Machine.LiveTexts.{closing-operator}
 use Rattle.py_lines.proofs.FieldMachine.PieceRuns.{opening_operator}
@@ -31,9 +32,10 @@ use Rattle.py_lines.proofs.LineScan.AsciiRuns.{all_pass, is_low, low_encodes, lo
 use Rattle.py_lines.proofs.LogicalLines.Cuts.{byte_len-append}
 use Rattle.py_lines.proofs.Text.CharacterTests.{operator_ascii}
 use Rattle.py_lines.proofs.Text.Utf8Prefixes.{all_scalars-append}
-use Rattle.py_lines.proofs.SimpleLines.Code.{IsCodeByte, begun, code_low, code_run, ends_so, line_end_on, operator_ends, operator_passed, tail-encoded}
+use Rattle.py_lines.proofs.SimpleLines.Code.{IsCodeByte, begun, code_low, code_run, outer_end_whole, tail-encoded}
 use Rattle.py_lines.proofs.SimpleLines.Tails.{closed_stands, stands, tail_on-append}
-use Rattle.py_lines.proofs.SimpleLines.FirstBytes.{feed_found, outer_end_low, outer_found}
+use Rattle.py_lines.proofs.SimpleLines.FirstBytes.{feed_found, outer_found}
+use Rattle.py_lines.proofs.SimpleLines.Passing.{end_is, end_spells, end_split, end_within, passed_further}
 
 -- a plain byte is one of code
 pub plain_code : (c : ℕ) → is_plain c ≡ true → IsCodeByte c
@@ -107,16 +109,10 @@ lines_few (t ∷ texts) read n after are =
 pub rest_ends : (bytes : List ℕ) (at len : ℕ) → BeginsOuterEnd (take (length bytes - at) (drop at bytes)) len → BeginsOuterEnd (drop at bytes) len
 rest_ends bytes at len found = subst (λ (t : List ℕ). BeginsOuterEnd t len) (rest_is bytes at) found
 
-pub end_within : (bytes : List ℕ) (at len : ℕ) → at < length bytes → BeginsOuterEnd (drop at bytes) len → at + len ≤ length bytes
-end_within bytes at len within ends = let fits = ends.within in omega (arith, fits, within, length-drop at bytes)
-
-pub feed_begins : (bytes : List ℕ) (at : ℕ) → at < length bytes → slice_index bytes at ≡ 10 → BeginsLineEnd (drop at bytes) 1
-feed_begins bytes at within is =
-    let here : at + 0 ≡ at = omega arith in
-    feed_found (drop at bytes) (omega (arith, within, length-drop at bytes)) (later bytes at 0 ∙ ap (λ (k : ℕ). slice_index bytes k) here ∙ is)
-
 pub feed_ends : (bytes : List ℕ) (at : ℕ) → at < length bytes → slice_index bytes at ≡ 10 → BeginsOuterEnd (drop at bytes) 1
-feed_ends bytes at within is = outer_found (drop at bytes) (Some 1) (feed_begins bytes at within is)
+feed_ends bytes at within is =
+    let here : at + 0 ≡ at = omega arith in
+    outer_found (drop at bytes) (Some 1) (feed_found (drop at bytes) (omega (arith, within, length-drop at bytes)) (later bytes at 0 ∙ ap (λ (k : ℕ). slice_index bytes k) here ∙ is))
 
 -- no line was passed
 pub none_passed : (bytes : List ℕ) → BeginWithLines bytes (record { len = 0; line_ends = 0 })
@@ -201,51 +197,16 @@ module _ (bytes : List ℕ) where
       later_byte : (from i : ℕ) → slice_index (drop from bytes) i ≡ slice_index bytes (from + i)
       later_byte from i = get_or-drop from bytes i 0
 
-  one_more : (at : ℕ) → at < length bytes → take 1 (drop at bytes) ≡ slice_index bytes at ∷ []
-  one_more at within = ap (take 1) (drop_more bytes at 0 within)
+  -- over what is passed at a byte that isn't plain
+  pub passed_on : (lines : Passed) (at n len more : ℕ) (closes : Bool) (st after : List Bracket) → HasComeTo bytes lines at n st
+      → PassesOver bytes at (at - lines.len) len more closes st after → HasComeTo bytes lines (at + len) (n + more) after
+  passed_on lines at n len more closes st after come over =
+      let place = ap length come.spell ∙ line_size lines at come.ordered come.within in
+      step lines at n len more st after come over.within over.run over.spell
+      (closed_stands closes (drop (at + len) bytes) modes.Free (come.read ++ over.run) (come.more + more) after
+      (over.leads modes.Free come.read come.more (same_tail lines at n st come) place come.stands))
 
-  -- over a bracket
-  pub bracket_on : (lines : Passed) (at n : ℕ) (st after : List Bracket) → (come : HasComeTo bytes lines at n st) → at < length bytes → is_operator (slice_index bytes at) ≡ true → brackets_after st (byte_len come.read) (piece operator (slice_index bytes at ∷ [])) ≡ Some after → HasComeTo bytes lines (at + 1) n after
-  bracket_on lines at n st after come within is stands_so =
-      let c = slice_index bytes at in
-      let here : StandsBefore (c ∷ drop (at + 1) bytes) modes.Free come.read come.more st = subst (λ (t : List ℕ). StandsBefore t modes.Free come.read come.more st) (drop_more bytes at 0 within) come.stands in
-      let none : n + 0 ≡ n = omega arith in
-      let same : come.more ≡ come.more + 0 = omega arith in
-      let spell = (low_encodes is_operator (c ∷ []) operator_ascii (and_from _ _ is refl)).0 in
-      subst (λ (k : ℕ). HasComeTo bytes lines (at + 1) k after) none
-      (step lines at n 1 0 st after come (omega (arith, within)) (c ∷ []) (spell ∙ sym (one_more at within))
-      (subst (λ (k : ℕ). StandsBefore (drop (at + 1) bytes) modes.Free (come.read ++ c ∷ []) k after) same
-      (stands (drop (at + 1) bytes) modes.Free (come.read ++ c ∷ []) come.more after
-      (operator_passed modes.Free come.read come.more st c (ends_so modes.Free come.read (drop (at + 1) bytes) come.more st c (operator_ends modes.Free come.read come.more st c is) here) after is stands_so))))
-
-  -- over a piece
-  pub piece_on : (lines : Passed) (at n : ℕ) (st : List Bracket) (p : Passed) → length st ≤ 100 → HasComeTo bytes lines at n st → PassesPiece bytes at (Some p) → HasComeTo bytes lines (at + p.len) (n + p.line_ends) st
-  piece_on lines at n st p few come (room, passes) = step lines at n p.len p.line_ends st st come room passes.part.run passes.part.spell
-      (closed_stands (closes_itself (drop at bytes) p.len) (drop (at + p.len) bytes) modes.Free (come.read ++ passes.part.run) (come.more + p.line_ends) st (passes.part.leads modes.Free come.read come.more st (same_tail lines at n st come, few, come.stands)))
-
-  -- over a line end: the line goes on where a bracket is open, and ends where none is
-  module _ (lines : Passed) (at n len : ℕ) (st : List Bracket) (come : HasComeTo bytes lines at n st) (within : at < length bytes) (ends : BeginsOuterEnd (drop at bytes) len) where
-    abbrev text : List ℕ
-    text = take len (drop at bytes)
-
-    room : at + len ≤ length bytes
-    room = end_within bytes at len within ends
-
-    spells : encode_utf8_all text ≡ take len (drop at bytes)
-    spells = (low_encodes is_low text low_is (outer_end_low text (drop len (drop at bytes)) ends.is)).0
-
-    on_line_end : IsAfterLineEnd st (come.read ++ text) (come.more + 1) (drop (at + len) bytes)
-    on_line_end =
-        let split : drop at bytes ≡ text ++ drop (at + len) bytes = sym (take-append-drop len (drop at bytes)) ∙ ap (λ t. text ++ t) (drop-drop len at bytes) in
-        line_end_on text (drop (at + len) bytes) come.read come.more st (subst (IsOuterEnd text) (drop-drop len at bytes) ends.is) (subst (λ (t : List ℕ). StandsBefore t modes.Free come.read come.more st) split come.stands)
-
-  pub line_end_in_brackets : (lines : Passed) (at n len : ℕ) (st : List Bracket) → HasComeTo bytes lines at n st → at < length bytes → BeginsOuterEnd (drop at bytes) len → none_open st ≡ false → HasComeTo bytes lines (at + len) (n + 1) st
-  line_end_in_brackets lines at n len [] come within ends some = absurd (both_ways _ some refl)
-  line_end_in_brackets lines at n len (b ∷ bs) come within ends some =
-      let text = take len (drop at bytes) in
-      step lines at n len 1 (b ∷ bs) (b ∷ bs) come (room lines at n len (b ∷ bs) come within ends) text (spells lines at n len (b ∷ bs) come within ends)
-      (on_line_end lines at n len (b ∷ bs) come within ends)
-
+  -- over a line end that ends the line
   pub line_end_ends_line : (lines : Passed) (at n len : ℕ) (st : List Bracket) → HasComeTo bytes lines at n st → at < length bytes → BeginsOuterEnd (drop at bytes) len → none_open st ≡ true → HasComeTo bytes (record { len = at + len; line_ends = n + 1 }) (at + len) (n + 1) st
   line_end_ends_line lines at n len (b ∷ bs) come within ends none = absurd (both_ways _ refl none)
   line_end_ends_line lines at n len [] come within ends none =
@@ -253,9 +214,12 @@ module _ (bytes : List ℕ) where
       let text = take len (drop at bytes) in
       let line = come.read ++ text in
       let after = drop (at + len) bytes in
-      let whole : IsWholeLine line (come.more + 1) after = on_line_end lines at n len [] come within ends in
-      let fits = room lines at n len [] come within ends in
-      let own : encode_utf8_all line ≡ line_up_to bytes lines (at + len) = further_spells lines at len come.ordered come.read text come.spell (spells lines at n len [] come within ends) in
+      let whole : IsWholeLine line (come.more + 1) after =
+      outer_end_whole text after come.read come.more (end_is bytes at within len ends)
+      (subst (λ (t : List ℕ). StandsBefore t modes.Free come.read come.more []) (end_split bytes at within len ends) come.stands) in
+      let fits = end_within bytes at within len ends in
+      let own : encode_utf8_all line ≡ line_up_to bytes lines (at + len) =
+      further_spells lines at len come.ordered come.read text come.spell (end_spells bytes at within len ends) in
       let there : lines.len + (at + len - lines.len) ≡ at + len = omega (arith, come.ordered) in
       let all : encode_utf8_all (past.read ++ line) ≡ take (at + len) bytes =
       encodes-append past.read line ∙ ap (λ t. t ++ encode_utf8_all line) past.spell ∙ ap (λ t. take lines.len bytes ++ t) own
@@ -308,90 +272,60 @@ module _ (bytes : List ℕ) where
       own : StandsBefore (drop at bytes) modes.Free come.read come.more st → come.more ≤ byte_len come.read
       own on = in_line (drop at bytes) come.read come.more on
 
-pub next_is : (bytes : List ℕ) (from at : ℕ) (old new : Outline) (b : Brackets) → IsAfter bytes from old b → new ≡ record old { marks = new.marks } → FindsNext bytes from at new.marks → IsAt bytes at new b
-next_is bytes from at old new b on same next =
-    let come = plain_on bytes old.lines from at old.line_ends (stack_of b) new.marks on.come next in
-    subst (λ (o : Outline). IsAt bytes at o b) (sym same) (record { come = come; special = next.special; marked = next.rest })
+-- the line that is open after these lines has come to this byte, which isn't plain, or the bytes end there
+pub record StandsAt (bytes : List ℕ) (lines : Passed) (at : ℕ) (p : Passing) (b : Brackets) : Type 0 where
+  pub come : HasComeTo bytes lines at p.all.line_ends (stack_of b)
+  pub marked : at < length bytes → HasMarks bytes (at + 1) p.marks
 
-pub begins_at : (bytes : List ℕ) (at : ℕ) (new : Outline) (b : Brackets) → stack_of b ≡ [] → new.lines ≡ record { len = 0; line_ends = 0 } → new.line_ends ≡ 0 → FindsNext bytes 0 at new.marks → IsAt bytes at new b
-begins_at bytes at new b none lines ends next = record {
-  come =
-      subst (λ (st : List Bracket). HasComeTo bytes new.lines at new.line_ends st) (sym none)
-      (subst (λ (p : Passed). HasComeTo bytes p at new.line_ends []) (sym lines)
-      (subst (λ (n : ℕ). HasComeTo bytes (record { len = 0; line_ends = 0 }) at n []) (sym ends)
-      (plain_on bytes (record { len = 0; line_ends = 0 }) 0 at 0 [] new.marks (first_come bytes) next)));
-  special = next.special;
+-- it has come further than this byte, after bytes that were passed
+pub record HasComeFurther (bytes : List ℕ) (lines : Passed) (at : ℕ) (p : Passing) (b : Brackets) : Type 0 where
+  pub further : at < p.all.len
+  pub come : HasComeTo bytes lines p.all.len p.all.line_ends (stack_of b)
+  pub marked : HasMarks bytes p.all.len p.marks
+
+-- from where bytes were passed to the next one that isn't plain
+pub next_at : (bytes : List ℕ) (lines : Passed) (at : ℕ) (p : Passing) (marks : Marks) (b : Brackets)
+    → HasComeTo bytes lines p.all.len p.all.line_ends (stack_of b) → FindsNext bytes p.all.len at marks
+    → StandsAt bytes lines at (record p { marks = marks }) b
+next_at bytes lines at p marks b come next = record {
+  come = plain_on bytes lines p.all.len at p.all.line_ends (stack_of b) marks come next;
   marked = next.rest;
 }
 
--- the outline comes further
-module _ (bytes : List ℕ) (at : ℕ) (o : Outline) (b : Brackets) (on : IsAt bytes at o b) (within : at < length bytes) where
-  pub line_ended : (len : ℕ) (new : Outline) → BeginsOuterEnd (drop at bytes) len → new ≡ record o { lines = record { len = at + len; line_ends = o.line_ends + 1 }; line_ends = o.line_ends + 1 } → none_open (stack_of b) ≡ true → IsPast bytes (at + len) new b
-  line_ended len new ends same none =
-      subst (λ (x : Outline). IsPast bytes (at + len) x b) (sym same) (line_end_ends_line bytes o.lines at o.line_ends len (stack_of b) on.come within ends none)
+pub begins_at : (bytes : List ℕ) (at : ℕ) (p : Passing) (marks : Marks) (b : Brackets) → stack_of b ≡ []
+    → p ≡ nothing_passed p.marks → FindsNext bytes 0 at marks → StandsAt bytes p.all at (record p { marks = marks }) b
+begins_at bytes at p marks b none nothing next = record {
+  come = subst (λ (st : List Bracket). HasComeTo bytes p.all at p.all.line_ends st) (sym none)
+      (subst (λ (q : Passed). HasComeTo bytes q at q.line_ends []) (sym (ap (λ (q : Passing). q.all) nothing))
+      (plain_on bytes (record { len = 0; line_ends = 0 }) 0 at 0 [] marks (first_come bytes) next));
+  marked = next.rest;
+}
 
-  pub line_goes_on : (len : ℕ) (new : Outline) → BeginsOuterEnd (drop at bytes) len → new ≡ record o { line_ends = o.line_ends + 1 } → none_open (stack_of b) ≡ false → IsPast bytes (at + len) new b
-  line_goes_on len new ends same some =
-      subst (λ (x : Outline). IsPast bytes (at + len) x b) (sym same) (line_end_in_brackets bytes o.lines at o.line_ends len (stack_of b) on.come within ends some)
+module _ (bytes : List ℕ) (lines : Passed) (at : ℕ) (p : Passing) (b : Brackets) (on : StandsAt bytes lines at p b) where
+  pub own_few : p.all.line_ends ≤ at
+  own_few = few_ends bytes lines at p.all.line_ends (stack_of b) on.come
 
-  -- what follows LF is marked
-  pub feed_passed : (new : Outline) → IsPast bytes (at + 1) new b → new.marks ≡ o.marks → IsFurther bytes at new b
-  feed_passed new past same = record {
-    from = at + 1;
-    further = omega arith;
-    on = record { come = past; marked = subst (λ (m : Marks). HasMarks bytes (at + 1) m) (sym same) (on.marked within) };
-  }
-
-  -- and what follows CR, or CR LF, once that is passed
-  pub return_passed : (len : ℕ) (mid : Outline) (marks : Marks) → BeginsOuterEnd (drop at bytes) len → IsPast bytes (at + len) mid b → mid.marks ≡ o.marks
-      → ((from : ℕ) → HasMarks bytes from mid.marks → from ≤ at + len → HasMarks bytes (at + len) marks) → IsFurther bytes at (record mid { marks = marks }) b
-  return_passed len mid marks ends past same pass =
-      let some = ends.some in
+  -- over what was passed there
+  pub goes_on : (q : Passing) (c : Brackets) → PassesSo bytes at (at - lines.len) p.all p.closed b q c → HasComeFurther bytes lines at q c
+  goes_on q c so =
+      let far = passed_further bytes at (at - lines.len) p.all p.closed b q c so in
       record {
-        from = at + len;
-        further = omega (arith, some);
-        on = record { come = past; marked = pass (at + 1) (subst (λ (m : Marks). HasMarks bytes (at + 1) m) (sym same) (on.marked within)) (omega (arith, some)) };
+        further = far.0;
+        come = subst (λ (x : Passing). HasComeTo bytes lines x.all.len x.all.line_ends (stack_of c)) (sym so.is)
+            (passed_on bytes lines at p.all.line_ends so.len so.more so.closes (stack_of b) (stack_of c) on.come so.over);
+        marked = far.1;
       }
 
-  -- what `pass` of the marks requires there
-  pub base_before_end : (len : ℕ) (mid : Outline) → BeginsOuterEnd (drop at bytes) len → mid.marks ≡ o.marks → mid.marks.base ≤ at + len
-  base_before_end len mid ends same =
-      let some = ends.some in
-      let base = (on.marked within).base in
-      omega (arith, some, base, ap (λ (m : Marks). m.base) same)
-
-  -- over a bracket, which its brackets have met at its place in the line
-  bracket_passed : (new : Brackets) → is_operator (slice_index bytes at) ≡ true → Meets b (slice_index bytes at) (at - o.lines.len) true new → IsFurther bytes at o new
-  bracket_passed new is meets =
-      let place = ap length on.come.spell ∙ line_size bytes o.lines at on.come.ordered on.come.within in
+  pub ends_line : (len : ℕ) (q : Passing) (c : Brackets) → at < length bytes → EndsLineSo bytes at p.all b len q c
+      → HasComeFurther bytes q.all at q c
+  ends_line len q c within so =
+      let some = so.ends.some in
+      let size : q.all.len ≡ at + len = ap (λ (x : Passed). x.len) so.is in
       record {
-        from = at + 1;
-        further = omega arith;
-        on = record {
-          come = bracket_on bytes o.lines at o.line_ends (stack_of b) (stack_of new) on.come within is (ap (λ (k : ℕ). brackets_after (stack_of b) k (piece operator (slice_index bytes at ∷ []))) place ∙ meets);
-          marked = on.marked within;
-        };
+        further = omega (arith, some, size);
+        come = subst (λ (x : Passed). HasComeTo bytes x x.len x.line_ends (stack_of c)) (sym so.is)
+            (subst (λ (k : Brackets). HasComeTo bytes (up_to p.all (at + len) 1) (at + len) (p.all.line_ends + 1) (stack_of k))
+            (sym so.kept)
+            (line_end_ends_line bytes lines at p.all.line_ends len (stack_of b) on.come within so.ends so.none));
+        marked = subst (λ (k : ℕ). HasMarks bytes k q.marks) (sym size) so.marked;
       }
-
-  pub opened : (met : Bool) (new : Brackets) → is_opening (slice_index bytes at) ≡ true → Meets b (slice_index bytes at) (at - o.lines.len) met new → IsTrue met → IsFurther bytes at o new
-  opened met new is meets met_is = bracket_passed new (opening_operator (slice_index bytes at) is) (subst (λ (m : Bool). Meets b (slice_index bytes at) (at - o.lines.len) m new) met_is meets)
-
-  pub closed : (met : Bool) (new : Brackets) → is_closing (slice_index bytes at) ≡ true → Meets b (slice_index bytes at) (at - o.lines.len) met new → IsTrue met → IsFurther bytes at o new
-  closed met new is meets met_is = bracket_passed new (closing-operator (slice_index bytes at) is) (subst (λ (m : Bool). Meets b (slice_index bytes at) (at - o.lines.len) m new) met_is meets)
-
-  pub piece_passed : (new : Marks) (p : Passed) → depth_of b ≤ 100 → PassesPiece bytes at (Some p) → ((from : ℕ) → HasMarks bytes from o.marks → from ≤ at + p.len → HasMarks bytes (at + p.len) new) → IsFurther bytes at (record o { line_ends = o.line_ends + p.line_ends; marks = new }) b
-  piece_passed new p few passes pass =
-      let some = passes.1.some in
-      record {
-        from = at + p.len;
-        further = omega (arith, some);
-        on = record { come = piece_on bytes o.lines at o.line_ends (stack_of b) p few on.come passes; marked = pass (at + 1) (on.marked within) (omega (arith, some)) };
-      }
-
-  pub piece_few : (p : Passed) → depth_of b ≤ 100 → PassesPiece bytes at (Some p) → o.line_ends + p.line_ends ≤ length bytes
-  piece_few p few passes =
-      let ends = few_ends bytes o.lines (at + p.len) (o.line_ends + p.line_ends) (stack_of b) (piece_on bytes o.lines at o.line_ends (stack_of b) p few on.come passes) in
-      omega (arith, ends, passes.0)
-
-  pub own_few : o.line_ends ≤ at
-  own_few = few_ends bytes o.lines at o.line_ends (stack_of b) on.come

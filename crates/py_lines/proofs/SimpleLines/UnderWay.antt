@@ -1,10 +1,11 @@
 -- A scan under way in a line stands as the lines that are passed over do, where no piece is open.
 use Rattle.std.proofs.Common.{◌≡◌, ℕ, ◌+◌, Bool, true, false, Option, None, Some, List, [], ◌∷◌, ◌++◌, take, refl, sym, ap, ◌∙◌, append-nil}
 use Rattle.std.specs.Prelude.{encode_utf8_all}
+use Rattle.std.proofs.lemmas.Str.{encodes_same}
 use Rattle.std.specs.Str.{all_scalars}
-use Rattle.py_lines.specs.Character.{is_operator, is_return}
+use Rattle.py_lines.specs.Character.{is_line_feed, is_operator, is_return}
 use Rattle.py_lines.specs.LogicalLine.{byte_len, line_ends}
-use Rattle.py_lines.specs.Piece.{line_end, operator, Piece, ends, spelled}
+use Rattle.py_lines.specs.Piece.{line_end, operator, Piece, begins, ends, spelled}
 use Rattle.py_lines.specs.declared.mode.Mode.{Mode}
 use Rattle.py_lines.specs.declared.mode.Mode.TheVariants as modes
 use Rattle.py_lines.specs.declared.mode.Spelling.{Spelling}
@@ -14,10 +15,12 @@ use Rattle.py_lines.specs.Private.ScanMachine.{IsScanSound, scan_steps}
 use Rattle.py_lines.specs.Private.Scan.{EndsNoLine, IsLineBefore, IsUnderWay, Tallies, line_start, none_open, stack_of}
 use Rattle.py_lines.specs.Private.Outline.{IsFreeAfter, StandsBefore, line_end_of, tail_of, tail_on}
 use Rattle.py_lines.proofs.Machine.PieceSteps.{scanned}
-use Rattle.py_lines.proofs.Pieces.PieceLists.{piece}
-use Rattle.py_lines.proofs.LineScan.LineSteps.{sound_steps}
-use Rattle.py_lines.proofs.SimpleLines.Code.{ends_so, holds_line_end, line_end_first, line_end_inside, line_end_next, line_end_steps, line_end_unreturned, line_is, operator_closes, operator_ends, pieces, tail-encoded}
-use Rattle.py_lines.proofs.SimpleLines.Tails.{come_sound, free_tail, tail_on-append}
+use Rattle.py_lines.proofs.Pieces.PieceLists.{piece, spelled-push}
+use Rattle.py_lines.proofs.LineScan.LineSteps.{returned_fit, sound_steps}
+use Rattle.py_lines.proofs.LineScan.LineCount.{ends-last}
+use Rattle.py_lines.proofs.Lexings.LineEnds.{line_string}
+use Rattle.py_lines.proofs.SimpleLines.Code.{ends_so, holds_line_end, holds_return, line_end_first, line_end_next, return_next, return_opens, line_end_steps, line_end_unreturned, line_is, operator_closes, operator_ends, pieces, tail-encoded}
+use Rattle.py_lines.proofs.SimpleLines.Tails.{come_sound, free_tail, return_returns, tail_on-append}
 
 -- a machine that stands in no piece holds nothing
 free_at : (m : Mode) (read : List ℕ) (st : List Bracket) (done : List Piece) (mode : Mode) (held : List ℕ) → mode ≡ modes.Free → IsScanSound (scanned done mode held) read → IsScanSound (line_start m) [] → scan_steps (Some (line_start m)) read ≡ Some (scanned done mode held)
@@ -70,10 +73,6 @@ pub operator_free : (c : ℕ) (rest : List ℕ) (m : Mode) (read : List ℕ) (n 
     → IsFreeAfter m (read ++ c ∷ []) n after
 operator_free c rest m read n st after is may on = operator_closes m read n st c (ends_so m read rest n st c (operator_ends m read n st c is) on) after is may
 
--- nor after LF or CR LF in brackets
-pub line_end_free : (returned : Bool) (rest : List ℕ) (m : Mode) (read : List ℕ) (n : ℕ) (st : List Bracket) → none_open st ≡ false → StandsBefore (line_end_of returned ++ rest) m read n st → IsFreeAfter m (read ++ line_end_of returned) (n + 1) st
-line_end_free returned rest m read n st some on = line_end_inside returned m read n st (line_end_next returned rest m read n st on) some
-
 -- LF or CR LF outside brackets ends the line, whatever follows, where the scan is set after it
 pub line_end_ends : (returned : Bool) (rest : List ℕ) (m : Mode) (read : List ℕ) (n : ℕ) (scan : Scan) → StandsBefore (line_end_of returned ++ rest) m read n [] → scan.piece.mode ≡ modes.Free → scan.piece.start ≡ byte_len (read ++ line_end_of returned)
     → scan.stop ≡ byte_len (read ++ line_end_of returned) → scan.count.line ≡ scan.line + (n + 1) → scan.count.after_return ≡ false → IsLineBefore m scan (read ++ line_end_of returned) (byte_len (line_end_of returned))
@@ -94,6 +93,42 @@ line_end_ends returned rest m read n scan on mode start stop line after rest_aft
       fit = λ more is. sound.fit more;
       strings = sound.strings;
       tallies = tallies_closed scan (done ++ last ∷ []) (read ++ text) (n + 1) sound.spell (holds_line_end returned read n before.come.holds before.parted).count (line_end_unreturned returned read) mode start stop line after;
+    }
+
+-- so CR alone, before another byte: the machine holds it yet
+pub return_ends : (rest : List ℕ) (m : Mode) (read : List ℕ) (n : ℕ) (scan : Scan) → StandsBefore (13 ∷ rest) m read n []
+    → stack_of scan.brackets ≡ [] → scan.piece.mode ≡ modes.Free → scan.piece.start ≡ byte_len (read ++ 13 ∷ [])
+    → scan.stop ≡ byte_len (read ++ 13 ∷ []) → scan.count.line ≡ scan.line + (n + 1) → scan.count.after_return ≡ true
+    → IsLineBefore m scan (read ++ 13 ∷ []) (byte_len (13 ∷ []))
+return_ends rest m read n scan on empty mode start stop line after rest_after apart =
+    let before = return_next rest m read n [] on in
+    let done = pieces m read n [] 13 before in
+    let to = scanned done modes.Return (13 ∷ []) in
+    let steps = return_opens m read n [] before in
+    let sound = sound_steps m (read ++ 13 ∷ []) to before.come.start steps in
+    let last = ends-last is_return read 13 ∙ return_returns in
+    let spell = spelled-push done line_end (13 ∷ []) ∙ sound.spell in
+    let closed = append-nil (spelled (done ++ piece line_end (13 ∷ []) ∷ [])) ∙ spell in
+    record {
+      body = done;
+      last = piece line_end (13 ∷ []);
+      are = line_is m read n 13 before (13 ∷ []);
+      to = to;
+      steps = steps;
+      spell = spell;
+      fit = λ more is. returned_fit done (13 ∷ []) (read ++ 13 ∷ []) more sound refl
+          (ap (begins is_line_feed) (encodes_same more rest_after is) ∙ apart last);
+      strings = line_string done (piece line_end (13 ∷ [])) refl sound.strings;
+      tallies = record {
+        counts = record {
+          mode = mode;
+          start = start ∙ ap byte_len (sym spell);
+          stop = stop ∙ ap byte_len (sym closed);
+          here = line ∙ ap (λ (k : ℕ). scan.line + k) (sym (holds_return read n before.come.holds).count ∙ ap line_ends (sym closed));
+          after = after ∙ sym last ∙ ap (ends is_return) (sym closed);
+        };
+        fields = tt;
+      };
     }
 
 -- from where no word is open on, what a line ends with is what its bytes end with

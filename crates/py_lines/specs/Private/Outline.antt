@@ -6,19 +6,16 @@ use Rattle.py_lines.specs.Piece.{Piece, ends, line_end}
 use Rattle.py_lines.specs.LogicalLine.{line_ends}
 use Rattle.py_lines.specs.Private.Machine.{Scanned, fresh, Bracket, brackets_of, first_spelling, spelling_with}
 use Rattle.py_lines.specs.Private.ScanMachine.{IsScanSound, begins_string, is_field_spelling, is_raw_spelling, meet_of, scan_steps}
-use Rattle.py_lines.specs.Private.Scan.{AreLine, EndsNoLine, EndsWhole, line_start, none_open, stack_of}
+use Rattle.py_lines.specs.Private.Scan.{AreLine, EndsNoLine, EndsWhole, line_start, none_open}
 use Rattle.py_lines.specs.Private.Run.{is_ascii_word}
 use Rattle.py_lines.specs.Private.FieldText.{is_apart_mode}
-use Rattle.py_lines.specs.declared.brackets.Brackets.{Brackets}
 use Rattle.py_lines.specs.declared.mode.Mode.{Mode}
 use Rattle.py_lines.specs.declared.mode.Mode.TheVariants as modes
 use Rattle.py_lines.specs.declared.mode.Move.TheVariants as moves
 use Rattle.py_lines.specs.declared.mode.Spelling.{Spelling}
-use Rattle.py_lines.specs.declared.outline.Outline.{Outline}
 use Rattle.py_lines.specs.declared.plain_strings.Passed.{Passed}
 use Rattle.py_lines.specs.declared.prefix.Prefix.{Prefix}
 use Rattle.py_lines.specs.declared.prefix.Prefix.TheVariants as prefixes
-use Rattle.py_lines.specs.Private.Marks.{HasMarks, is_plain}
 
 -- a line end: CR LF, or LF alone
 abbrev pub line_end_of : Bool → List ℕ
@@ -236,11 +233,6 @@ pub record IsWholeLine (read : List ℕ) (n : ℕ) (after : List ℕ) : Type 0 w
   pub holds : HoldsLineEnds read n
   pub tail : tail_of read ≡ None
 
--- the characters up to a line end, and with it, are a line where no bracket is open; else the line goes on
-abbrev pub IsAfterLineEnd : List Bracket → List ℕ → ℕ → List ℕ → Type 0
-IsAfterLineEnd [] read n after = IsWholeLine read n after
-IsAfterLineEnd (b ∷ bs) read n after = StandsBefore after modes.Free read n (b ∷ bs)
-
 -- characters that are a line come before others that are lines, and so are these together
 pub record BeginsWithLine (rest : List ℕ → ℕ → Type 0) (line read : List ℕ) (n : ℕ) (after : List ℕ) : Type 0 where
   pub later : List ℕ
@@ -279,24 +271,3 @@ pub record HasComeTo (bytes : List ℕ) (lines : Passed) (at n : ℕ) (st : List
   pub read : List ℕ
   pub spell : encode_utf8_all read ≡ line_up_to bytes lines at
   pub stands : StandsBefore (drop at bytes) modes.Free read more st
-
--- the outline has come to this byte, with these brackets; its marks are left out of account
-abbrev pub IsPast : List ℕ → ℕ → Outline → Brackets → Type 0
-IsPast bytes from o b = HasComeTo bytes o.lines from o.line_ends (stack_of b)
-
--- it stands at a byte that isn't plain, or at the end of the bytes
-pub record IsAt (bytes : List ℕ) (at : ℕ) (o : Outline) (b : Brackets) : Type 0 where
-  pub come : IsPast bytes at o b
-  pub special : at < length bytes → is_plain (slice_index bytes at) ≡ false
-  pub marked : at < length bytes → HasMarks bytes (at + 1) o.marks
-
--- or after such a byte
-pub record IsAfter (bytes : List ℕ) (from : ℕ) (o : Outline) (b : Brackets) : Type 0 where
-  pub come : IsPast bytes from o b
-  pub marked : HasMarks bytes from o.marks
-
--- it has come further than this byte
-pub record IsFurther (bytes : List ℕ) (at : ℕ) (o : Outline) (b : Brackets) : Type 0 where
-  pub from : ℕ
-  pub further : at < from
-  pub on : IsAfter bytes from o b

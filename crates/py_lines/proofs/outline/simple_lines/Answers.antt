@@ -1,17 +1,39 @@
-use Rattle.std.proofs.Common.{refl, arith}
-use Rattle.py_lines.proofs.SimpleLines.Lines.{begins_at, next_is}
+use Rattle.std.proofs.Common.{sym, arith, subst}
+use Rattle.py_lines.specs.declared.plain_strings.Passed.{Passed}
+use Rattle.py_lines.proofs.SimpleLines.Lines.{HasComeFurther, begins_at, ends_line, goes_on, next_at, own_few}
+use Rattle.py_lines.proofs.outline.simple_lines.Goals.{After-next-at-in-specials, in-Passed, in-LineEnd}
 use Rattle.py_lines.proofs.outline.simple_lines.Goals as goal
 
 pub specials-init : goal.specials-init
-specials-init c = begins_at c.args.bytes.now c.next-at.result _ _ c.clear.ensures refl refl (c.next-at.ensures 0 c.at.ensures.marks)
+specials-init c =
+    begins_at c.args.bytes.now c.next-at.result c.new-passing.result c.next-at.new.self c.clear.new.self c.clear.ensures
+    c.new-passing.ensures.nothing (c.next-at.ensures 0 c.new-passing.ensures.marked)
+
+pub pass-requires-clause-few : goal.pass-requires-clause-few
+pass-requires-clause-few c =
+    own_few c.args.bytes.now c.specials.lines c.specials.at c.specials.passing c.specials.brackets c.specials.invariant
+
+-- after the byte
+came : (c : After-next-at-in-specials) → HasComeFurther c.args.bytes.now c.match-pass.lines c.specials.at c.pass.new.self c.pass.new.brackets
+came c = elim c.match-pass.branch [
+  | in-Passed w ↦
+      subst (λ (l : Passed). HasComeFurther c.args.bytes.now l c.specials.at c.pass.new.self c.pass.new.brackets) (sym w.lines-is)
+      (goes_on c.args.bytes.now c.specials.lines c.specials.at c.specials.passing c.specials.brackets c.specials.invariant c.pass.new.self
+      c.pass.new.brackets w.in-Passed.ensures)
+  | in-LineEnd w ↦
+      subst (λ (l : Passed). HasComeFurther c.args.bytes.now l c.specials.at c.pass.new.self c.pass.new.brackets) (sym w.lines-is)
+      (ends_line c.args.bytes.now c.specials.lines c.specials.at c.specials.passing c.specials.brackets c.specials.invariant _
+      c.pass.new.self c.pass.new.brackets c.specials-test.true w.in-LineEnd.ensures)
+]
 
 pub specials-smaller : goal.specials-smaller
 specials-smaller c =
-    let far = c.pass.ensures.further c.if-not-pass.false in
-    let next = c.next-at-in-specials.ensures far.from far.on.marked in
+    let far = came (goal.at.specials-smaller c).After-next-at-in-specials in
+    let next = c.next-at-in-specials.ensures c.pass.new.self.all.len far.marked in
     omega (arith, far.further, next.after, next.within, c.specials-test.true)
 
 pub specials-preserved : goal.specials-preserved
 specials-preserved c =
-    let far = c.pass.ensures.further c.if-not-pass.false in
-    next_is c.args.bytes.now far.from c.next-at-in-specials.result c.pass.new.self _ c.pass.new.brackets far.on refl (c.next-at-in-specials.ensures far.from far.on.marked)
+    let far = came (goal.at.specials-preserved c).After-next-at-in-specials in
+    next_at c.args.bytes.now c.match-pass.lines c.next-at-in-specials.result c.pass.new.self c.next-at-in-specials.new.self
+    c.pass.new.brackets far.come (c.next-at-in-specials.ensures c.pass.new.self.all.len far.marked)

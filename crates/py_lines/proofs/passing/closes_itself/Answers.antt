@@ -1,8 +1,8 @@
 use Rattle.std.proofs.Common.{◌≡◌, true, slice_index, subst}
 use Rattle.py_lines.specs.declared.class.Class.{Class}
 use Rattle.py_lines.specs.Private.Marks.{is_of_class}
-use Rattle.py_lines.proofs.LineScan.WholePieces.{backslash_closes, quote_closes}
-use Rattle.py_lines.proofs.whole_pieces.closes_itself.Goals as goal
+use Rattle.py_lines.proofs.SimpleLines.Passing.{backslash_closes, quote_closes}
+use Rattle.py_lines.proofs.passing.closes_itself.Goals as goal
 
 pub returns-in-Quote : goal.returns-in-Quote
 returns-in-Quote c = λ more.

@@ -1,0 +1,222 @@
+-- Bytes are passed over at one that isn't plain: brackets, line ends and pieces, wherever in a line they stand.
+use Rattle.std.proofs.Common.{◌≡◌, ℕ, ◌+◌, ◌-◌, ◌<◌, ◌≤◌, inl, inr, Bool, true, false, Some, List, [], ◌∷◌, ◌++◌, ◌==◌, length, take, drop, slice_index, refl, sym, ap, ◌∙◌, subst, arith, length-drop}
+use Rattle.std.specs.Prelude.{encode_utf8_all, nat_lt}
+use Rattle.std.proofs.lemmas.Bool.{and_from, both_ways}
+use Rattle.std.proofs.lemmas.List.{drop-drop, drop_more, get_or-drop, get_or-take, length-take-le, take-append-drop}
+use Rattle.py_lines.specs.Balance.{is_closing, is_opening}
+use Rattle.py_lines.specs.Character.{is_backslash, is_operator, is_quote}
+use Rattle.py_lines.specs.LogicalLine.{byte_len}
+use Rattle.py_lines.specs.Piece.{operator}
+use Rattle.py_lines.specs.declared.brackets.Brackets.{Brackets}
+use Rattle.py_lines.specs.declared.marks.Marks.{Marks}
+use Rattle.py_lines.specs.declared.passing.Passing.{Passing}
+use Rattle.py_lines.specs.declared.passing.Special.{Special}
+use Rattle.py_lines.specs.declared.passing.Special.TheVariants as special
+use Rattle.py_lines.specs.declared.plain_strings.Passed.{Passed}
+use Rattle.py_lines.specs.Private.Machine.{Bracket, brackets_after}
+use Rattle.py_lines.specs.Private.Marks.{HasMarks}
+use Rattle.py_lines.specs.Private.Outline.{BeginsOuterEnd, IsFreeAfter, IsOuterEnd, PassesPiece, StandsBefore, closes_itself}
+use Rattle.py_lines.specs.Private.Passing.{EndsLineSo, IsMet, PassesOver, PassesSo, PassesSpecial, passed_to, up_to}
+use Rattle.py_lines.specs.Private.Scan.{Meets, depth_of, none_open, stack_of}
+use Rattle.py_lines.proofs.Pieces.PieceLists.{piece}
+use Rattle.py_lines.proofs.Machine.LiveTexts.{closing-operator}
+use Rattle.py_lines.proofs.FieldMachine.PieceRuns.{opening_operator}
+use Rattle.py_lines.proofs.LineScan.AsciiRuns.{is_low, low_encodes, low_is}
+use Rattle.py_lines.proofs.Text.CharacterTests.{none_of, operator_ascii}
+use Rattle.py_lines.proofs.SimpleLines.Code.{outer_end_inside}
+use Rattle.py_lines.proofs.SimpleLines.FirstBytes.{outer_end_low}
+use Rattle.py_lines.proofs.SimpleLines.Tails.{stands_less}
+use Rattle.py_lines.proofs.SimpleLines.UnderWay.{operator_free}
+
+module _ (bytes : List ℕ) (at : ℕ) (within : at < length bytes) where
+  -- over an operator, which the brackets allow
+  pub operator_over : (place : ℕ) (st after : List Bracket) → is_operator (slice_index bytes at) ≡ true
+      → brackets_after st place (piece operator (slice_index bytes at ∷ [])) ≡ Some after → PassesOver bytes at place 1 0 true st after
+  operator_over place st after is may =
+      let c = slice_index bytes at in
+      record {
+        some = omega arith;
+        within = omega (arith, within);
+        few = omega arith;
+        run = c ∷ [];
+        spell = (low_encodes is_operator (c ∷ []) operator_ascii (and_from _ _ is refl)).0
+            ∙ sym (ap (take 1) (drop_more bytes at 0 within));
+        leads = λ m read n tail here on.
+            let same : n ≡ n + 0 = omega arith in
+            subst (λ (k : ℕ). IsFreeAfter m (read ++ c ∷ []) k after) same
+            (operator_free c (drop (at + 1) bytes) m read n st after is
+            (ap (λ (k : ℕ). brackets_after st k (piece operator (c ∷ []))) here ∙ may)
+            (subst (λ (t : List ℕ). StandsBefore t m read n st) (drop_more bytes at 0 within) on));
+      }
+
+  -- over a piece
+  pub piece_over : (place : ℕ) (b : Brackets) (p : Passed) (closes : Bool) → depth_of b ≤ 100 → PassesPiece bytes at (Some p)
+      → (closes ≡ true → closes_itself (drop at bytes) p.len ≡ true)
+      → PassesOver bytes at place p.len p.line_ends closes (stack_of b) (stack_of b)
+  piece_over place b p closes few (room, passes) shut = record {
+    some = passes.some;
+    within = room;
+    few = passes.few;
+    run = passes.part.run;
+    spell = passes.part.spell;
+    leads = λ m read n tail here on.
+        stands_less (closes_itself (drop at bytes) p.len) closes (drop (at + p.len) bytes) m (read ++ passes.part.run) (n + p.line_ends)
+        (stack_of b) shut (passes.part.leads m read n (stack_of b) (tail, few, on));
+  }
+
+-- a line end
+module _ (bytes : List ℕ) (at : ℕ) (within : at < length bytes) (len : ℕ) (ends : BeginsOuterEnd (drop at bytes) len) where
+  abbrev pub end_text : List ℕ
+  end_text = take len (drop at bytes)
+
+  pub end_within : at + len ≤ length bytes
+  end_within = let fits = ends.within in omega (arith, fits, within, length-drop at bytes)
+
+  pub end_spells : encode_utf8_all end_text ≡ take len (drop at bytes)
+  end_spells = (low_encodes is_low end_text low_is (outer_end_low end_text (drop len (drop at bytes)) ends.is)).0
+
+  pub end_split : drop at bytes ≡ end_text ++ drop (at + len) bytes
+  end_split = sym (take-append-drop len (drop at bytes)) ∙ ap (λ t. end_text ++ t) (drop-drop len at bytes)
+
+  pub end_is : IsOuterEnd end_text (drop (at + len) bytes)
+  end_is = subst (IsOuterEnd end_text) (drop-drop len at bytes) ends.is
+
+  -- its last byte
+  pub end_last : slice_index bytes (at + len - 1) ≡ slice_index end_text (length end_text - 1)
+  end_last =
+      let some = ends.some in
+      let fits = ends.within in
+      let size : len - 1 ≡ length end_text - 1 = ap (λ (k : ℕ). k - 1) (sym (length-take-le len (drop at bytes) fits)) in
+      let there : at + len - 1 ≡ at + (len - 1) = omega (arith, some) in
+      ap (λ (k : ℕ). slice_index bytes k) there ∙ sym (get_or-drop at bytes (len - 1) 0)
+      ∙ sym (get_or-take len (drop at bytes) (len - 1) 0 (omega (arith, some))) ∙ ap (λ (k : ℕ). slice_index end_text k) size
+
+  -- over one in brackets
+  line_end_over : (place : ℕ) (st : List Bracket) → none_open st ≡ false
+      → PassesOver bytes at place len 1 (slice_index bytes (at + len - 1) == 10) st st
+  line_end_over place st some = record {
+    some = ends.some;
+    within = end_within;
+    few = let one = ends.some in omega (arith, one);
+    run = end_text;
+    spell = end_spells;
+    leads = λ m read n tail here on.
+        outer_end_inside end_text (drop (at + len) bytes) m read n st (slice_index bytes (at + len - 1) == 10) end_is some
+        (λ feeds is.
+        let last : slice_index bytes (at + len - 1) ≡ 13 = end_last ∙ ap (λ t. slice_index t (length t - 1)) is in
+        both_ways _ (ap (λ (c : ℕ). c == 10) last) feeds)
+        (subst (λ (t : List ℕ). StandsBefore t m read n st) end_split on);
+  }
+
+  module _ (place : ℕ) (old : Passing) (b : Brackets) (new : Passing) (marked : HasMarks bytes (at + len) old.marks)
+      (is : new ≡ passed_to old (at + len) 1 (slice_index bytes (at + len - 1) == 10)) where
+    marks_are : new.marks ≡ old.marks
+    marks_are = ap (λ (p : Passing). p.marks) is
+
+    marked_there : HasMarks bytes (at + len) new.marks
+    marked_there = subst (HasMarks bytes (at + len)) (sym marks_are) marked
+
+    pub line_end_passed : none_open (stack_of b) ≡ false → PassesSpecial bytes at place old b special.Passed new b
+    line_end_passed some = record {
+      len = len;
+      more = 1;
+      closes = slice_index bytes (at + len - 1) == 10;
+      over = line_end_over place (stack_of b) some;
+      kept = λ _. refl;
+      is = is ∙ ap (λ (m : Marks). passed_to (record old { marks = m }) (at + len) 1 (slice_index bytes (at + len - 1) == 10))
+          (sym marks_are);
+      marked = marked_there;
+    }
+
+    pub line_end_ends : none_open (stack_of b) ≡ true → PassesSpecial bytes at place old b (special.LineEnd len) new b
+    line_end_ends none = record { ends = ends; none = none; kept = refl; is = ap (λ (p : Passing). p.all) is; marked = marked_there }
+
+-- what marks there were before tells nothing of what was passed since
+pub marks_apart : (bytes : List ℕ) (at place : ℕ) (old : Passing) (marks : Marks) (b : Brackets) (result : Special) (new : Passing)
+    (c : Brackets) → (result ≡ special.Unpassed → ⊥) → PassesSpecial bytes at place (record old { marks = marks }) b result new c
+    → PassesSpecial bytes at place old b result new c
+marks_apart bytes at place old marks b special.Unpassed new c passed so = absurd (passed refl)
+marks_apart bytes at place old marks b special.Passed new c passed so = so
+marks_apart bytes at place old marks b (special.LineEnd len) new c passed so = so
+
+-- bytes were passed, and what follows them is marked
+pub passed_further : (bytes : List ℕ) (at place : ℕ) (all closed : Passed) (b : Brackets) (new : Passing) (c : Brackets)
+    → PassesSo bytes at place all closed b new c → (at < new.all.len) × HasMarks bytes new.all.len new.marks
+passed_further bytes at place all closed b new c so =
+    let some = so.over.some in
+    let size : new.all.len ≡ at + so.len = ap (λ (p : Passing). p.all.len) so.is in
+    (omega (arith, some, size), subst (λ (k : ℕ). HasMarks bytes k new.marks) (sym size) so.marked)
+
+module _ (bytes : List ℕ) (at : ℕ) (old : Passing) (within : at < length bytes) (marked : HasMarks bytes (at + 1) old.marks) where
+  -- a bracket, which was met or not
+  bracket_passed : (place : ℕ) (b : Brackets) (met : Bool) (c : Brackets) (result : Special) (new : Passing)
+      → is_operator (slice_index bytes at) ≡ true → Meets b (slice_index bytes at) place met c → IsMet met at old result new
+      → PassesSpecial bytes at place old b result new c
+  bracket_passed place b true c result new is meets (passed, so) =
+      subst (λ (s : Special). PassesSpecial bytes at place old b s new c) (sym passed)
+      (subst (λ (p : Passing). PassesSo bytes at place old.all old.closed b p c) (sym so)
+      (record {
+        len = 1;
+        more = 0;
+        closes = true;
+        over = operator_over bytes at within place (stack_of b) (stack_of c) is meets;
+        kept = λ none. absurd (both_ways _ none refl);
+        is = refl;
+        marked = marked;
+      }))
+  bracket_passed place b false c result new is meets (unpassed, same) =
+      subst (λ (s : Special). PassesSpecial bytes at place old b s new c) (sym unpassed) (same, meets.1)
+
+  pub opened : (place : ℕ) (b : Brackets) (met : Bool) (c : Brackets) (result : Special) (new : Passing)
+      → is_opening (slice_index bytes at) ≡ true → Meets b (slice_index bytes at) place met c → IsMet met at old result new
+      → PassesSpecial bytes at place old b result new c
+  opened place b met c result new is = bracket_passed place b met c result new (opening_operator (slice_index bytes at) is)
+
+  pub closed : (place : ℕ) (b : Brackets) (met : Bool) (c : Brackets) (result : Special) (new : Passing)
+      → is_closing (slice_index bytes at) ≡ true → Meets b (slice_index bytes at) place met c → IsMet met at old result new
+      → PassesSpecial bytes at place old b result new c
+  closed place b met c result new is = bracket_passed place b met c result new (closing-operator (slice_index bytes at) is)
+
+  -- a piece
+  pub piece_passed : (place : ℕ) (b : Brackets) (p : Passed) (closes : Bool) (marks : Marks) (new : Passing) → depth_of b ≤ 100
+      → PassesPiece bytes at (Some p) → (closes ≡ true → closes_itself (drop at bytes) p.len ≡ true) → HasMarks bytes (at + p.len) marks
+      → new ≡ passed_to (record old { marks = marks }) (at + p.len) p.line_ends closes
+      → PassesSpecial bytes at place old b special.Passed new b
+  piece_passed place b p closes marks new few passes shut there is =
+      subst (λ (q : Passing). PassesSo bytes at place old.all old.closed b q b) (sym is)
+      (record {
+        len = p.len;
+        more = p.line_ends;
+        closes = closes;
+        over = piece_over bytes at within place b p closes few passes shut;
+        kept = λ _. refl;
+        is = refl;
+        marked = there;
+      })
+
+backslash-not-quote : (c : ℕ) → is_backslash c ≡ true → is_quote c ≡ false
+unfolding is_backslash is_quote
+backslash-not-quote c h = none_of is_quote (92 ∷ []) c refl h
+
+-- what the classes of the first byte and of the last one tell of the end of a piece
+pub backslash_closes : (bytes : List ℕ) (at len : ℕ) → 0 < len → is_backslash (slice_index bytes at) ≡ true
+    → slice_index bytes (at + len - 1) == 10 ≡ true → closes_itself (drop at bytes) len ≡ true
+backslash_closes bytes at len some is feeds =
+    let here : at + 0 ≡ at = omega arith in
+    let last : at + (len - 1) ≡ at + len - 1 = omega (arith, some) in
+    let first : slice_index (drop at bytes) 0 ≡ slice_index bytes at =
+    get_or-drop at bytes 0 0 ∙ ap (λ (k : ℕ). slice_index bytes k) here in
+    let ends : slice_index (drop at bytes) (len - 1) ≡ slice_index bytes (at + len - 1) =
+    get_or-drop at bytes (len - 1) 0 ∙ ap (λ (k : ℕ). slice_index bytes k) last in
+    let other : is_quote (slice_index (drop at bytes) 0) ≡ false = ap is_quote first ∙ backslash-not-quote (slice_index bytes at) is in
+    let slash : is_backslash (slice_index (drop at bytes) 0) ≡ true = ap is_backslash first ∙ is in
+    rw (other, slash) (ap (λ (c : ℕ). c == 10) ends ∙ feeds)
+
+pub quote_closes : (bytes : List ℕ) (at len : ℕ) → is_quote (slice_index bytes at) ≡ true → nat_lt 2 len ≡ true
+    → closes_itself (drop at bytes) len ≡ true
+quote_closes bytes at len is more =
+    let here : at + 0 ≡ at = omega arith in
+    let first : slice_index (drop at bytes) 0 ≡ slice_index bytes at =
+    get_or-drop at bytes 0 0 ∙ ap (λ (k : ℕ). slice_index bytes k) here in
+    let quote : is_quote (slice_index (drop at bytes) 0) ≡ true = ap is_quote first ∙ is in
+    rw quote more

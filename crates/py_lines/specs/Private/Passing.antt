@@ -1,0 +1,69 @@
+-- Bytes of a line that are passed over at one that isn't plain: what that comes to, wherever in a line they stand.
+use Rattle.std.specs.Prelude.{◌≡◌, ℕ, ◌+◌, ◌<◌, ◌≤◌, Bool, true, false, if◌then◌else◌, List, ◌++◌, length, take, drop, encode_utf8_all}
+use Rattle.py_lines.specs.LogicalLine.{byte_len}
+use Rattle.py_lines.specs.declared.brackets.Brackets.{Brackets}
+use Rattle.py_lines.specs.declared.marks.Marks.{Marks}
+use Rattle.py_lines.specs.declared.mode.Mode.{Mode}
+use Rattle.py_lines.specs.declared.passing.Passing.{Passing}
+use Rattle.py_lines.specs.declared.passing.Special.{Special}
+use Rattle.py_lines.specs.declared.passing.Special.TheVariants as special
+use Rattle.py_lines.specs.declared.plain_strings.Passed.{Passed}
+use Rattle.py_lines.specs.Private.Machine.{Bracket}
+use Rattle.py_lines.specs.Private.Marks.{HasMarks}
+use Rattle.py_lines.specs.Private.Outline.{BeginsOuterEnd, StandsBefore, StandsClosed, tail_of}
+use Rattle.py_lines.specs.Private.Scan.{none_open, stack_of}
+
+-- nothing was passed
+abbrev pub nothing_passed : Marks → Passing
+nothing_passed marks = record {
+  all = record { len = 0; line_ends = 0 };
+  closed = record { len = 0; line_ends = 0 };
+  marks = marks;
+}
+
+-- the bytes up to this one, with so many more line ends than others
+abbrev pub up_to : Passed → ℕ → ℕ → Passed
+up_to old to n = record { len = to; line_ends = old.line_ends + n }
+
+-- they were passed, and it is known whether no piece is open there
+abbrev pub passed_to : Passing → ℕ → ℕ → Bool → Passing
+passed_to old to n closes = record old { all = up_to old.all to n; closed = if closes then up_to old.all to n else old.closed }
+
+-- wherever the bytes stand so in a line, at this byte of it, so many of them can be passed, with so many line ends
+pub record PassesOver (bytes : List ℕ) (at place len more : ℕ) (closes : Bool) (st after : List Bracket) : Type 0 where
+  pub some : 0 < len
+  pub within : at + len ≤ length bytes
+  pub few : more ≤ len
+  pub run : List ℕ
+  pub spell : encode_utf8_all run ≡ take len (drop at bytes)
+  pub leads : (m : Mode) (read : List ℕ) (n : ℕ) → tail_of read ≡ tail_of (take at bytes) → byte_len read ≡ place
+      → StandsBefore (drop at bytes) m read n st → StandsClosed closes (drop (at + len) bytes) m (read ++ run) (n + more) after
+
+-- they were passed, after others: the open brackets change only where no piece is open after them
+pub record PassesSo (bytes : List ℕ) (at place : ℕ) (all closed : Passed) (b : Brackets) (new : Passing) (c : Brackets) : Type 0 where
+  pub len : ℕ
+  pub more : ℕ
+  pub closes : Bool
+  pub over : PassesOver bytes at place len more closes (stack_of b) (stack_of c)
+  pub kept : closes ≡ false → c ≡ b
+  pub is : new ≡ passed_to (record { all = all; closed = closed; marks = new.marks }) (at + len) more closes
+  pub marked : HasMarks bytes (at + len) new.marks
+
+-- a line end of so many bytes was passed, which ends the line
+pub record EndsLineSo (bytes : List ℕ) (at : ℕ) (all : Passed) (b : Brackets) (len : ℕ) (new : Passing) (c : Brackets) : Type 0 where
+  pub ends : BeginsOuterEnd (drop at bytes) len
+  pub none : none_open (stack_of b) ≡ true
+  pub kept : c ≡ b
+  pub is : new.all ≡ up_to all (at + len) 1
+  pub marked : HasMarks bytes (at + len) new.marks
+
+-- what a byte that isn't plain comes to
+abbrev pub PassesSpecial : List ℕ → ℕ → ℕ → Passing → Brackets → Special → Passing → Brackets → Type 0
+PassesSpecial bytes at place old b special.Unpassed new c = (new ≡ old) × (c ≡ b)
+PassesSpecial bytes at place old b special.Passed new c = PassesSo bytes at place old.all old.closed b new c
+PassesSpecial bytes at place old b (special.LineEnd len) new c = EndsLineSo bytes at old.all b len new c
+
+-- a bracket is passed where it may stand
+abbrev pub IsMet : Bool → ℕ → Passing → Special → Passing → Type 0
+IsMet true at old result new = (result ≡ special.Passed) × (new ≡ passed_to old (at + 1) 0 true)
+IsMet false at old result new = (result ≡ special.Unpassed) × (new ≡ old)

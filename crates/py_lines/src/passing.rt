@@ -1,0 +1,189 @@
+//! Bytes of a line that are passed over at once, from one that isn't plain to the next.
+
+ghost use Rattle.std.specs.Prelude.{◌≡◌, ℕ, ◌+◌, ◌<◌, ◌≤◌, ◌^◌, Bool, true, drop, length, slice_index};
+ghost use Rattle.py_lines.specs.Private.Marks.{HasMarks, is_of_class};
+ghost use Rattle.py_lines.specs.Private.Outline.{BeginsOuterEnd, closes_itself};
+ghost use Rattle.py_lines.specs.Private.Passing.{IsMet, PassesSpecial, nothing_passed, passed_to};
+ghost use Rattle.py_lines.specs.declared.passing.Special.TheVariants.{Unpassed};
+
+use crate::brackets::Brackets;
+use crate::class::Class;
+use crate::field_strings::MAX_DEPTH_AROUND_STRING;
+use crate::marks::Marks;
+use crate::outline::{outer_end_len, piece};
+use crate::plain_strings::Passed;
+
+/// What a byte that isn't plain came to.
+#[derive(Clone, Copy)]
+pub enum Special {
+    /// It was passed, or the piece that it begins, and the line goes on.
+    Passed,
+    /// It ends the line: so many bytes are its line end.
+    LineEnd(usize),
+    /// It was not passed.
+    Unpassed,
+}
+
+/// How far bytes were passed.
+#[derive(Drop)]
+pub struct Passing {
+    /// Those that were passed.
+    pub all: Passed,
+    /// Those of them after which it is known that no piece is open.
+    pub closed: Passed,
+    /// The bytes after them that are not plain.
+    pub marks: Marks,
+}
+
+/// Whether no piece is open after the comment, the join or the string at this byte, which has so many bytes. A third quote may
+/// follow two, and LF may follow CR.
+#[inline(always)]
+fn closes_itself(bytes: &[u8], class: Class, at: usize, len: usize) -> bool
+    requires some { 0 < len }
+    requires within { at + len ≤ length bytes.now }
+    requires class { is_of_class class (slice_index bytes.now at) ≡ true }
+    ensures { result ≡ true → closes_itself (drop at bytes.now) len ≡ true }
+{
+    match class {
+        Class::Quote => len > 2,
+        Class::Backslash => bytes[at + len - 1] == b'\n',
+        _ => false,
+    }
+}
+
+impl Passing {
+    /// No byte is passed yet.
+    #[inline(always)]
+    pub fn new(bytes: &[u8]) -> Passing
+        ensures nothing { result ≡ nothing_passed result.marks }
+        ensures marked { HasMarks bytes.now 0 result.marks }
+    {
+        let none = Passed {
+            len: 0,
+            line_ends: 0,
+        };
+        Passing {
+            all: none,
+            closed: none,
+            marks: Marks::at(bytes, 0),
+        }
+    }
+
+    /// Passes the bytes up to this one, with so many more line ends. It may be known that no piece is open there.
+    #[inline(always)]
+    pub fn pass_to(&mut self, to: usize, line_ends: u64, closes: bool)
+        requires { self.old.all.line_ends + line_ends < 2 ^ 64 }
+        ensures { self.new ≡ passed_to self.old to line_ends closes }
+    {
+        self.all = Passed {
+            len: to,
+            line_ends: self.all.line_ends + line_ends,
+        };
+        if closes {
+            self.closed = self.all;
+        }
+    }
+
+    /// Passes the line end of so many bytes at this byte, where the bytes after it are marked. After CR alone the scan has a piece
+    /// open.
+    #[inline(always)]
+    fn pass_line_end(&mut self, brackets: &Brackets, bytes: &[u8], at: usize, len: usize) -> Special
+        requires within { at < length bytes.now }
+        requires ends { BeginsOuterEnd (drop at bytes.now) len }
+        requires marked { HasMarks bytes.now (at + len) self.old.marks }
+        requires few { self.old.all.line_ends ≤ at }
+        ensures passed { result ≡ Unpassed → ⊥ }
+        ensures passes { (place : ℕ)
+            → PassesSpecial bytes.now at place self.old brackets.now result self.new brackets.now }
+    {
+        self.pass_to(at + len, 1, bytes[at + len - 1] == b'\n');
+        if brackets.is_empty() {
+            Special::LineEnd(len)
+        } else {
+            Special::Passed
+        }
+    }
+
+    /// Passes the CR at this byte, and LF after it, if a byte follows.
+    #[inline(always)]
+    fn pass_return(&mut self, brackets: &Brackets, bytes: &[u8], at: usize) -> Special
+        requires within { at < length bytes.now }
+        requires marked { HasMarks bytes.now (at + 1) self.old.marks }
+        requires few { self.old.all.line_ends ≤ at }
+        ensures { (place : ℕ)
+            → PassesSpecial bytes.now at place self.old brackets.now result self.new brackets.now }
+    {
+        let Some(len) = outer_end_len(&bytes[at..]) else {
+            return Special::Unpassed;
+        };
+        self.marks.pass(bytes, at + len);
+        self.pass_line_end(brackets, bytes, at, len)
+    }
+
+    /// Passes the bracket at this byte, if it may stand there.
+    #[inline(always)]
+    fn pass_bracket(&mut self, met: bool, at: usize) -> Special
+        requires fits { at + 1 < 2 ^ 64 }
+        requires few { self.old.all.line_ends ≤ at }
+        ensures { IsMet met at self.old result self.new }
+    {
+        if !met {
+            return Special::Unpassed;
+        }
+        self.pass_to(at + 1, 0, true);
+        Special::Passed
+    }
+
+    /// Passes the comment, the join or the string that begins at this byte, where so few brackets are open that there is room for
+    /// all that a string with fields opens.
+    #[inline(always)]
+    fn pass_piece(&mut self, brackets: &Brackets, bytes: &[u8], class: Class, at: usize) -> Special
+        requires within { at < length bytes.now }
+        requires class { is_of_class class (slice_index bytes.now at) ≡ true }
+        requires marked { HasMarks bytes.now (at + 1) self.old.marks }
+        requires few { self.old.all.line_ends ≤ at }
+        ensures { (place : ℕ)
+            → PassesSpecial bytes.now at place self.old brackets.now result self.new brackets.now }
+    {
+        if brackets.len() > MAX_DEPTH_AROUND_STRING {
+            return Special::Unpassed;
+        }
+        let Some(piece) = piece(bytes, class, at) else {
+            return Special::Unpassed;
+        };
+        let to = at + piece.len;
+        self.marks.pass(bytes, to);
+        let closes = closes_itself(bytes, class, at, piece.len);
+        self.pass_to(to, piece.line_ends, closes);
+        Special::Passed
+    }
+
+    /// Passes the byte at this place, which is not plain, or the piece that it begins. In its line it stands at the byte `place`.
+    #[inline(always)]
+    pub fn pass(
+        &mut self,
+        brackets: &mut Brackets,
+        bytes: &[u8],
+        at: usize,
+        place: usize,
+    ) -> Special
+        requires within { at < length bytes.now }
+        requires marked { HasMarks bytes.now (at + 1) self.old.marks }
+        requires few { self.old.all.line_ends ≤ at }
+        ensures { PassesSpecial bytes.now at place self.old brackets.old result self.new brackets.new }
+    {
+        match Class::of(bytes[at]) {
+            Class::LineFeed => self.pass_line_end(brackets, bytes, at, 1),
+            Class::Return => self.pass_return(brackets, bytes, at),
+            Class::Opening => {
+                let met = brackets.open(bytes[at] as char, place);
+                self.pass_bracket(met, at)
+            }
+            Class::Closing => {
+                let met = brackets.close(bytes[at] as char);
+                self.pass_bracket(met, at)
+            }
+            class => self.pass_piece(brackets, bytes, class, at),
+        }
+    }
+}
