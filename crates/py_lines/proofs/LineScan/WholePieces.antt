@@ -7,7 +7,8 @@ use Rattle.std.proofs.lemmas.Bool.{and_parts, both_ways, not-true, or_parts}
 use Rattle.std.proofs.lemmas.List.{drop-drop, get_or-drop, get_or-take, length-take-le, take-append-drop}
 use Rattle.std.proofs.lemmas.Str.{encodes-append}
 use Rattle.std.proofs.Math.Seq.{take-add}
-use Rattle.py_lines.specs.Character.{is_operator}
+use Rattle.py_lines.specs.Character.{is_operator, is_return}
+use Rattle.py_lines.specs.Piece.{ends}
 use Rattle.py_lines.specs.Balance.{is_closing, is_opening}
 use Rattle.py_lines.specs.LogicalLine.{byte_len, line_ends}
 use Rattle.py_lines.specs.declared.brackets.Brackets.{Brackets}
@@ -21,7 +22,7 @@ use Rattle.py_lines.specs.declared.scan.Scan.{Scan}
 use Rattle.py_lines.specs.declared.scan.Stop.TheVariants as stops
 use Rattle.py_lines.specs.Private.Machine.{Bracket}
 use Rattle.py_lines.specs.Private.Marks.{FindsNext, is_of_class, is_plain}
-use Rattle.py_lines.specs.Private.Outline.{BeginsOuterEnd, IsFreeAfter, IsOuterEnd, StandsBefore, StandsClosed, line_end_of, tail_of}
+use Rattle.py_lines.specs.Private.Outline.{BeginsOuterEnd, IsFreeAfter, IsLine, StandsBefore, StandsClosed, tail_of}
 use Rattle.py_lines.specs.Private.Passing.{EndsLineSo, PassesOver, PassesSo, nothing_passed, passed_to, up_to}
 use Rattle.py_lines.specs.Private.Run.{Reached, WhereverReached}
 use Rattle.py_lines.specs.Private.Scan.{EndsWhole, IsLineBefore, ScansIn, line_start, none_open, stack_of, with_brackets}
@@ -33,12 +34,12 @@ use Rattle.py_lines.proofs.LineScan.LineSteps.{way_stop, way_here}
 use Rattle.py_lines.proofs.LineScan.AsciiRuns.{all_pass, is_low, low_encodes, low_is}
 use Rattle.py_lines.proofs.LogicalLines.Cuts.{byte_len-append}
 use Rattle.py_lines.proofs.Text.Utf8Prefixes.{all_scalars-append}
-use Rattle.py_lines.proofs.SimpleLines.Code.{code_low, code_run, line_end_unreturned, other_follows}
+use Rattle.py_lines.proofs.SimpleLines.Code.{code_low, code_run, outer_end_returns, outer_end_whole}
 use Rattle.py_lines.proofs.SimpleLines.FirstBytes.{line_end_low}
 use Rattle.py_lines.proofs.SimpleLines.Lines.{plain_code}
 use Rattle.py_lines.proofs.SimpleLines.Passing.{end_is, end_last, end_spells, end_split, end_within, operator_over}
 use Rattle.py_lines.proofs.SimpleLines.Tails.{closed_stands, free_tail}
-use Rattle.py_lines.proofs.SimpleLines.UnderWay.{free_way, line_end_ends, return_ends, tail_under_way, way_free}
+use Rattle.py_lines.proofs.SimpleLines.UnderWay.{free_way, line_before, tail_under_way, way_free}
 
 -- how a line stands, in such a mode, after such characters
 abbrev Stand : Type 1
@@ -105,56 +106,15 @@ module _ (bytes : List ℕ) (m : Mode) (before : List ℕ) where
     stands = closed_stands closes (drop at bytes) m (before ++ c.run) n st c.stands;
   }
 
--- the characters of a line that stands so
-stands_scalars : (rest : List ℕ) (m : Mode) (read : List ℕ) (n : ℕ) (st : List Bracket) → StandsBefore rest m read n st
-    → all_scalars read ≡ true
-stands_scalars [] m read n st on = on.come.holds.scalars
-stands_scalars (c ∷ rest) m read n st (inl on) = on.come.holds.scalars
-stands_scalars (c ∷ rest) m read n st (inr on) = on.come.holds.scalars
-
 none_stack : (st : List Bracket) → none_open st ≡ true → st ≡ []
 none_stack [] none = refl
 none_stack (b ∷ bs) none = absurd (both_ways _ refl none)
 
--- a line that ends after these characters
-record EndsSo (scan : Scan) (len : ℕ) (after : List ℕ) (m : Mode) (read : List ℕ) (n : ℕ) (st : List Bracket) : Type 0 where
-  line : IsLineBefore m scan read len
-  scalars : all_scalars read ≡ true
-  whole : EndsWhole read after
-
--- a line end ends it outside brackets, where the scan is set after it
-ends_so : (text after : List ℕ) (m : Mode) (read : List ℕ) (n : ℕ) (scan : Scan) → IsOuterEnd text after
-    → StandsBefore (text ++ after) m read n [] → stack_of scan.brackets ≡ [] → scan.piece.mode ≡ modes.Free
-    → scan.piece.start ≡ byte_len (read ++ text) → scan.stop ≡ byte_len (read ++ text) → scan.count.line ≡ scan.line + (n + 1)
-    → scan.count.after_return ≡ (slice_index text (length text - 1) == 13)
-    → EndsSo scan (byte_len text) after m (read ++ text) (n + 1) []
-ends_so text after m read n scan (inl (returned, is)) on empty mode start stop line last =
-    let end = line_end_of returned in
-    let unreturned : scan.count.after_return ≡ false =
-    last ∙ ap (λ t. slice_index t (length t - 1) == 13) is ∙ feed_last returned in
-    subst (λ (t : List ℕ). EndsSo scan (byte_len t) after m (read ++ t) (n + 1) []) (sym is)
-    (record {
-      line = line_end_ends returned after m read n scan (subst (λ (t : List ℕ). StandsBefore (t ++ after) m read n []) is on) mode
-          (start ∙ ap (λ t. byte_len (read ++ t)) is) (stop ∙ ap (λ t. byte_len (read ++ t)) is) line unreturned;
-      scalars = all_scalars-append read end (stands_scalars (text ++ after) m read n [] on)
-          (low_encodes is_low end low_is (line_end_low returned)).1;
-      whole = inl (line_end_unreturned returned read);
-    })
-  where
-    feed_last : (returned : Bool) → (slice_index (line_end_of returned) (length (line_end_of returned) - 1) == 13) ≡ false
-    feed_last true = refl
-    feed_last false = refl
-ends_so text after m read n scan (inr (is, other)) on empty mode start stop line last =
-    let ends = subst (λ (t : List ℕ). StandsBefore (t ++ after) m read n []) is on in
-    let returned : scan.count.after_return ≡ true = last ∙ ap (λ t. slice_index t (length t - 1) == 13) is in
-    subst (λ (t : List ℕ). EndsSo scan (byte_len t) after m (read ++ t) (n + 1) []) (sym is)
-    (record {
-      line = return_ends after m read n scan ends empty mode (start ∙ ap (λ t. byte_len (read ++ t)) is)
-          (stop ∙ ap (λ t. byte_len (read ++ t)) is) line returned;
-      scalars = all_scalars-append read (13 ∷ []) (stands_scalars (text ++ after) m read n [] on)
-          (low_encodes is_low (13 ∷ []) low_is refl).1;
-      whole = inr (other_follows after other);
-    })
+-- a line that has ended after these characters, with so many bytes of them, of which CR may be the last
+record EndsSo (len : ℕ) (after : List ℕ) (returned : Bool) (m : Mode) (read : List ℕ) (n : ℕ) (st : List Bracket) : Type 0 where
+  line : IsLine m read n after
+  size : line.len ≡ len
+  returns : returned ≡ ends is_return read
 
 module _ (first : Scan) (bytes : List ℕ) (m : Mode) (line : ℕ) (whole : List ℕ) (start : IsScanSound (line_start m) [])
     (r : Reached m line whole first bytes) where
@@ -202,33 +162,39 @@ module _ (first : Scan) (bytes : List ℕ) (m : Mode) (line : ℕ) (whole : List
       (slice_index bytes (at + len - 1) == 13)) (stops.LineEnd len)
   ended at len k b within come found none =
       let passed : Passed = record { len = at + len; line_ends = k + 1 } in
-      let scan = closed_after (with_brackets first b) passed (slice_index bytes (at + len - 1) == 13) in
+      let returned = slice_index bytes (at + len - 1) == 13 in
+      let scan = closed_after (with_brackets first b) passed returned in
       let text = take len (drop at bytes) in
       let after = drop (at + len) bytes in
       let read = r.read ++ come.run in
       let n = line_ends r.read + k in
-      let st = stack_of b in
-      let empty = none_stack st none in
-      let on : StandsBefore (text ++ after) m read n [] =
-      subst (λ (s : List Bracket). StandsBefore (text ++ after) m read n s) empty
-      (subst (λ (t : List ℕ). StandsBefore t m read n st) (end_split bytes at within len found) come.stands) in
+      let is = end_is bytes at within len found in
+      let spell = end_spells bytes at within len found in
       let fits = found.within in
-      let text_size : byte_len text ≡ len =
-      ap length (end_spells bytes at within len found) ∙ length-take-le len (drop at bytes) fits in
-      let here : first.stop + (at + len) ≡ byte_len (read ++ text) =
-      omega (arith, byte_len-append read text, size at n st (StandsBefore (drop at bytes)) come, text_size) in
-      let count : first.count.line + (k + 1) ≡ first.line + (n + 1) = omega (arith, way_here m first r.read r.way start) in
-      let own = ends_so text after m read n scan (end_is bytes at within len found) on empty refl here here count
-      (ap (λ (c : ℕ). c == 13) (end_last bytes at within len found)) in
+      let on : StandsBefore (text ++ after) m read n [] =
+      subst (λ (s : List Bracket). StandsBefore (text ++ after) m read n s) (none_stack (stack_of b) none)
+      (subst (λ (t : List ℕ). StandsBefore t m read n (stack_of b)) (end_split bytes at within len found) come.stands) in
+      let line_is = outer_end_whole text after m read n is on in
+      let own : EndsSo len after returned m (read ++ text) (n + 1) [] = record {
+        line = line_is.0;
+        size = line_is.1 ∙ ap length spell ∙ length-take-le len (drop at bytes) fits;
+        returns = ap (λ (c : ℕ). c == 13) (end_last bytes at within len found) ∙ outer_end_returns text after read is;
+      } in
       let c =
-      further bytes m r.read at len n (n + 1) st [] (StandsBefore (drop at bytes)) (EndsSo scan (byte_len text) after) come
-      (end_within bytes at within len found) text (end_spells bytes at within len found) own in
+      further bytes m r.read at len n (n + 1) (stack_of b) [] (StandsBefore (drop at bytes)) (EndsSo len after returned) come
+      (end_within bytes at within len found) text spell own in
+      let here : first.stop + (at + len) ≡ byte_len (r.read ++ c.run) = sym (size (at + len) (n + 1) [] (EndsSo len after returned) c) in
+      let count : first.count.line + (k + 1) ≡ first.line + (n + 1) = omega (arith, way_here m first r.read r.way start) in
       record {
         read = r.read ++ c.run;
         rest = after;
-        scalars = c.stands.scalars;
-        spell = spells (at + len) (n + 1) [] (EndsSo scan (byte_len text) after) c;
-        stops = (subst (IsLineBefore m scan (r.read ++ c.run)) text_size c.stands.line, c.stands.whole);
+        scalars = c.stands.line.holds.scalars;
+        spell = spells (at + len) (n + 1) [] (EndsSo len after returned) c;
+        stops = (
+          subst (IsLineBefore m scan (r.read ++ c.run)) c.stands.size
+              (line_before m (r.read ++ c.run) (n + 1) after scan start c.stands.line refl here here count c.stands.returns),
+          c.stands.line.whole,
+        );
         number = r.line;
       }
 

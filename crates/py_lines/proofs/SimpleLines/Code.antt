@@ -1,5 +1,5 @@
 -- Code is passed over: the machine goes through its words, spaces, operators and brackets, up to a line end.
-use Rattle.std.proofs.Common.{◌≡◌, ℕ, ◌+◌, ◌<◌, ◌≤◌, ◌⊎◌, inl, inr, Bool, true, false, not, ◌||◌, Option, None, Some, List, [], ◌∷◌, ◌++◌, refl, sym, ap, ◌∙◌, subst, append_assoc, append-nil, arith, lit<, ⊎_elim}
+use Rattle.std.proofs.Common.{◌≡◌, ◌==◌, ℕ, ◌+◌, ◌-◌, length, slice_index, ◌<◌, ◌≤◌, ◌⊎◌, inl, inr, Bool, true, false, not, ◌||◌, Option, None, Some, List, [], ◌∷◌, ◌++◌, refl, sym, ap, ◌∙◌, subst, append_assoc, append-nil, arith, lit<, ⊎_elim}
 use Rattle.std.specs.Prelude.{codes, encode_utf8, encode_utf8_all}
 use Rattle.std.specs.Str.{all_scalars}
 use Rattle.std.specs.List.{list_all}
@@ -20,7 +20,7 @@ use Rattle.py_lines.specs.Private.ScanMachine.{meet_of, scan_step, scan_steps}
 use Rattle.py_lines.specs.Private.Scan.{AreLine, EndsNoLine, counts_after, line_start, none_open}
 use Rattle.py_lines.specs.Private.Run.{is_ascii_word}
 use Rattle.py_lines.specs.Private.FieldText.{is_apart_mode, is_code_mode}
-use Rattle.py_lines.specs.Private.Outline.{BeginOther, HoldsLineEnds, HasCome, GoesOnAfter, IsFreeAfter, EndsBefore, StandsBefore, StandsClosed, IsWholeLine, IsOuterEnd, IsTail, line_end_of, tail_of, tail_on, tail_with}
+use Rattle.py_lines.specs.Private.Outline.{BeginOther, HoldsLineEnds, HasCome, GoesOnAfter, IsFreeAfter, EndsBefore, StandsBefore, StandsClosed, IsLine, IsOuterEnd, IsTail, line_end_of, tail_of, tail_on, tail_with}
 use Rattle.py_lines.proofs.Pieces.PieceLists.{piece}
 use Rattle.py_lines.proofs.Machine.Starts.{start-word, start-space, start-operator, start-feed, start-return}
 use Rattle.py_lines.proofs.Machine.PieceSteps.{scanned, pieces_at}
@@ -119,7 +119,7 @@ line_end_unreturned false read = ends-last is_return read 10 ∙ feed_unreturned
 line_end_unreturned true read = ap (ends is_return) (sym (append_assoc read (13 ∷ []) (10 ∷ []))) ∙ ends-last is_return (read ++ 13 ∷ []) 10 ∙ feed_unreturned
 
 -- the pieces where the open one is closed
-pub closed_spells : (initial : Mode) (read : List ℕ) (n : ℕ) (st : List Bracket) (s : Scanned) → HasCome initial read n st s → spelled (pieces_at s) ≡ read
+closed_spells : (initial : Mode) (read : List ℕ) (n : ℕ) (st : List Bracket) (s : Scanned) → HasCome initial read n st s → spelled (pieces_at s) ≡ read
 closed_spells initial read n st s come =
     let sound = come_sound initial read n st s come in
     closed_text s.mode s.done s.held sound.holds ∙ sound.spell
@@ -199,7 +199,7 @@ return_closes : meet_of modes.Return 10 ≡ moves.Closes
 unfolding meet_of move_of
 return_closes = rw feed_is_feed refl
 
-pub return_opens : (initial : Mode) (read : List ℕ) (n : ℕ) (st : List Bracket) (on : EndsBefore 13 initial read n st) → scan_steps (Some (line_start initial)) (read ++ 13 ∷ []) ≡ Some (scanned (pieces initial read n st 13 on) modes.Return (13 ∷ []))
+return_opens : (initial : Mode) (read : List ℕ) (n : ℕ) (st : List Bracket) (on : EndsBefore 13 initial read n st) → scan_steps (Some (line_start initial)) (read ++ 13 ∷ []) ≡ Some (scanned (pieces initial read n st 13 on) modes.Return (13 ∷ []))
 return_opens initial read n st on = begins_as initial read n st 13 on (starts.Open modes.Return) (start-return 13 return_returns)
 
 pub line_end_steps : (returned : Bool) (initial : Mode) (read : List ℕ) (n : ℕ) (st : List Bracket) (on : EndsBefore (line_end_first returned) initial read n st)
@@ -242,22 +242,28 @@ line_end_inside returned initial read n (b ∷ bs) on some =
       };
     }
 
-line_end_whole : (returned : Bool) (after : List ℕ) (read : List ℕ) (n : ℕ) → EndsBefore (line_end_first returned) modes.Free read n []
-    → IsWholeLine (read ++ line_end_of returned) (n + 1) after
-line_end_whole returned after read n on =
-    let done = pieces modes.Free read n [] (line_end_first returned) on in
-    record {
-      body = done;
-      last = piece line_end (line_end_of returned);
-      len = byte_len (line_end_of returned);
-      are = line_is modes.Free read n (line_end_first returned) on (line_end_of returned);
-      state = fresh (done ++ piece line_end (line_end_of returned) ∷ []);
-      steps = line_end_steps returned modes.Free read n [] on;
-      ended = inl refl;
-      whole = inl (line_end_unreturned returned read);
-      holds = holds_line_end returned read n on.come.holds on.parted;
-      tail = no_tail_line_end returned read;
-    }
+-- a line end outside brackets: the line is whole
+abbrev pub EndsWith : List ℕ → Mode → List ℕ → ℕ → List ℕ → Type 0
+EndsWith text m read n after = (line : IsLine m (read ++ text) (n + 1) after) × (line.len ≡ byte_len text)
+
+line_end_whole : (returned : Bool) (after : List ℕ) (m : Mode) (read : List ℕ) (n : ℕ) → EndsBefore (line_end_first returned) m read n []
+    → EndsWith (line_end_of returned) m read n after
+line_end_whole returned after m read n on =
+    let done = pieces m read n [] (line_end_first returned) on in (
+      record {
+        body = done;
+        last = piece line_end (line_end_of returned);
+        len = byte_len (line_end_of returned);
+        are = line_is m read n (line_end_first returned) on (line_end_of returned);
+        state = fresh (done ++ piece line_end (line_end_of returned) ∷ []);
+        steps = line_end_steps returned m read n [] on;
+        ended = inl refl;
+        whole = inl (line_end_unreturned returned read);
+        holds = holds_line_end returned read n on.come.holds on.parted;
+        tail = no_tail_line_end returned read;
+      },
+      refl,
+    )
 
 -- CR alone, before another byte: the machine holds it yet
 return_waits : (c : ℕ) → (c ≡ 10 → ⊥) → meet_of modes.Return c ≡ moves.Breaks
@@ -267,26 +273,28 @@ return_waits c other = rw (false_from_ne_true (is_line_feed c) (λ feeds. other 
 pub no_tail_return : (read : List ℕ) → tail_of (read ++ 13 ∷ []) ≡ None
 no_tail_return read = no_tail read 13 return-no-word
 
-pub other_follows : (after : List ℕ) → BeginOther after → (b : ℕ) × (more : List ℕ) × (after ≡ b ∷ more) × (b ≡ 10 → ⊥)
+other_follows : (after : List ℕ) → BeginOther after → (b : ℕ) × (more : List ℕ) × (after ≡ b ∷ more) × (b ≡ 10 → ⊥)
 other_follows [] other = absurd other
 other_follows (b ∷ more) other = (b, more, refl, other)
 
-return_whole : (after : List ℕ) (read : List ℕ) (n : ℕ) → BeginOther after → EndsBefore 13 modes.Free read n []
-    → IsWholeLine (read ++ 13 ∷ []) (n + 1) after
-return_whole after read n other on =
-    let done = pieces modes.Free read n [] 13 on in
-    record {
-      body = done;
-      last = piece line_end (13 ∷ []);
-      len = byte_len (13 ∷ []);
-      are = line_is modes.Free read n 13 on (13 ∷ []);
-      state = scanned done modes.Return (13 ∷ []);
-      steps = return_opens modes.Free read n [] on;
-      ended = inr (refl, refl);
-      whole = inr (other_follows after other);
-      holds = holds_return read n on.come.holds;
-      tail = no_tail_return read;
-    }
+return_whole : (after : List ℕ) (m : Mode) (read : List ℕ) (n : ℕ) → BeginOther after → EndsBefore 13 m read n []
+    → EndsWith (13 ∷ []) m read n after
+return_whole after m read n other on =
+    let done = pieces m read n [] 13 on in (
+      record {
+        body = done;
+        last = piece line_end (13 ∷ []);
+        len = byte_len (13 ∷ []);
+        are = line_is m read n 13 on (13 ∷ []);
+        state = scanned done modes.Return (13 ∷ []);
+        steps = return_opens m read n [] on;
+        ended = inr (refl, refl);
+        whole = inr (other_follows after other);
+        holds = holds_return read n on.come.holds;
+        tail = no_tail_return read;
+      },
+      refl,
+    )
 
 return_inside : (after : List ℕ) (initial : Mode) (read : List ℕ) (n : ℕ) (st : List Bracket) → BeginOther after → none_open st ≡ false
     → EndsBefore 13 initial read n st → StandsBefore after initial (read ++ 13 ∷ []) (n + 1) st
@@ -510,16 +518,30 @@ pub return_next : (rest : List ℕ) (initial : Mode) (read : List ℕ) (n : ℕ)
 return_next rest initial read n st on = break_next rest initial read n st 13 (first-break true) on
 
 -- outside brackets it ends the line
-pub outer_end_whole : (text after : List ℕ) (read : List ℕ) (n : ℕ) → IsOuterEnd text after
-    → StandsBefore (text ++ after) modes.Free read n [] → IsWholeLine (read ++ text) (n + 1) after
-outer_end_whole text after read n (inl (returned, is)) on =
-    subst (λ (t : List ℕ). IsWholeLine (read ++ t) (n + 1) after) (sym is)
-    (line_end_whole returned after read n (line_end_next returned after modes.Free read n []
-    (subst (λ (t : List ℕ). StandsBefore (t ++ after) modes.Free read n []) is on)))
-outer_end_whole text after read n (inr (is, other)) on =
-    subst (λ (t : List ℕ). IsWholeLine (read ++ t) (n + 1) after) (sym is)
-    (return_whole after read n other (return_next after modes.Free read n []
-    (subst (λ (t : List ℕ). StandsBefore (t ++ after) modes.Free read n []) is on)))
+pub outer_end_whole : (text after : List ℕ) (m : Mode) (read : List ℕ) (n : ℕ) → IsOuterEnd text after
+    → StandsBefore (text ++ after) m read n [] → EndsWith text m read n after
+outer_end_whole text after m read n (inl (returned, is)) on =
+    subst (λ (t : List ℕ). EndsWith t m read n after) (sym is)
+    (line_end_whole returned after m read n (line_end_next returned after m read n []
+    (subst (λ (t : List ℕ). StandsBefore (t ++ after) m read n []) is on)))
+outer_end_whole text after m read n (inr (is, other)) on =
+    subst (λ (t : List ℕ). EndsWith t m read n after) (sym is)
+    (return_whole after m read n other (return_next after m read n []
+    (subst (λ (t : List ℕ). StandsBefore (t ++ after) m read n []) is on)))
+
+-- whether it ends with CR
+pub outer_end_returns : (text after read : List ℕ) → IsOuterEnd text after
+    → (slice_index text (length text - 1) == 13) ≡ ends is_return (read ++ text)
+outer_end_returns text after read (inl (returned, is)) =
+    subst (λ (t : List ℕ). (slice_index t (length t - 1) == 13) ≡ ends is_return (read ++ t)) (sym is)
+    (fed returned ∙ sym (line_end_unreturned returned read))
+  where
+    fed : (b : Bool) → (slice_index (line_end_of b) (length (line_end_of b) - 1) == 13) ≡ false
+    fed true = refl
+    fed false = refl
+outer_end_returns text after read (inr (is, other)) =
+    subst (λ (t : List ℕ). (slice_index t (length t - 1) == 13) ≡ ends is_return (read ++ t)) (sym is)
+    (sym (ends-last is_return read 13 ∙ return_returns))
 
 -- in brackets the line goes on, after CR alone with a piece open
 pub outer_end_inside : (text after : List ℕ) (initial : Mode) (read : List ℕ) (n : ℕ) (st : List Bracket) (closes : Bool)

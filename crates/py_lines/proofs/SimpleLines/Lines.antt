@@ -215,8 +215,8 @@ module _ (bytes : List ℕ) where
       let line = come.read ++ text in
       let after = drop (at + len) bytes in
       let whole : IsWholeLine line (come.more + 1) after =
-      outer_end_whole text after come.read come.more (end_is bytes at within len ends)
-      (subst (λ (t : List ℕ). StandsBefore t modes.Free come.read come.more []) (end_split bytes at within len ends) come.stands) in
+      (outer_end_whole text after modes.Free come.read come.more (end_is bytes at within len ends)
+      (subst (λ (t : List ℕ). StandsBefore t modes.Free come.read come.more []) (end_split bytes at within len ends) come.stands)).0 in
       let fits = end_within bytes at within len ends in
       let own : encode_utf8_all line ≡ line_up_to bytes lines (at + len) =
       further_spells lines at len come.ordered come.read text come.spell (end_spells bytes at within len ends) in

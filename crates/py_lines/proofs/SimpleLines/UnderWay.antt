@@ -1,5 +1,5 @@
 -- A scan under way in a line stands as the lines that are passed over do, where no piece is open.
-use Rattle.std.proofs.Common.{◌≡◌, ℕ, ◌+◌, Bool, true, false, Option, None, Some, List, [], ◌∷◌, ◌++◌, take, refl, sym, ap, ◌∙◌, append-nil}
+use Rattle.std.proofs.Common.{◌≡◌, ℕ, ◌+◌, inl, inr, subst, Bool, true, false, Option, None, Some, List, [], ◌∷◌, ◌++◌, take, refl, sym, ap, ◌∙◌, append-nil}
 use Rattle.std.specs.Prelude.{encode_utf8_all}
 use Rattle.std.proofs.lemmas.Str.{encodes_same}
 use Rattle.std.specs.Str.{all_scalars}
@@ -10,16 +10,17 @@ use Rattle.py_lines.specs.declared.mode.Mode.{Mode}
 use Rattle.py_lines.specs.declared.mode.Mode.TheVariants as modes
 use Rattle.py_lines.specs.declared.mode.Spelling.{Spelling}
 use Rattle.py_lines.specs.declared.scan.Scan.{Scan}
-use Rattle.py_lines.specs.Private.Machine.{Bracket, brackets_after, brackets_of, fresh}
-use Rattle.py_lines.specs.Private.ScanMachine.{IsScanSound, scan_steps}
-use Rattle.py_lines.specs.Private.Scan.{EndsNoLine, IsLineBefore, IsUnderWay, Tallies, line_start, none_open, stack_of}
-use Rattle.py_lines.specs.Private.Outline.{IsFreeAfter, StandsBefore, line_end_of, tail_of, tail_on}
+use Rattle.py_lines.specs.Private.Machine.{Bracket, Scanned, brackets_after, brackets_of, fresh}
+use Rattle.py_lines.specs.Private.ScanMachine.{IsScanSound, StringsFit, scan_steps}
+use Rattle.py_lines.specs.Fields.{AreReadBefore}
+use Rattle.py_lines.specs.Private.Scan.{AreLine, EndsNoLine, IsAtLineEnd, IsLineBefore, IsUnderWay, Tallies, line_start, none_open, stack_of}
+use Rattle.py_lines.specs.Private.Outline.{IsEndedBy, IsFreeAfter, IsLine, StandsBefore, tail_of, tail_on}
 use Rattle.py_lines.proofs.Machine.PieceSteps.{scanned}
 use Rattle.py_lines.proofs.Pieces.PieceLists.{piece, spelled-push}
 use Rattle.py_lines.proofs.LineScan.LineSteps.{returned_fit, sound_steps}
 use Rattle.py_lines.proofs.LineScan.LineCount.{ends-last}
 use Rattle.py_lines.proofs.Lexings.LineEnds.{line_string}
-use Rattle.py_lines.proofs.SimpleLines.Code.{ends_so, holds_line_end, holds_return, line_end_first, line_end_next, return_next, return_opens, line_end_steps, line_end_unreturned, line_is, operator_closes, operator_ends, pieces, tail-encoded}
+use Rattle.py_lines.proofs.SimpleLines.Code.{ends_so, holds_line_end, holds_return, line_end_first, line_end_next, return_next, line_end_steps, line_end_unreturned, line_is, operator_closes, operator_ends, pieces, tail-encoded}
 use Rattle.py_lines.proofs.SimpleLines.Tails.{come_sound, free_tail, return_returns, tail_on-append}
 
 -- a machine that stands in no piece holds nothing
@@ -73,63 +74,56 @@ pub operator_free : (c : ℕ) (rest : List ℕ) (m : Mode) (read : List ℕ) (n 
     → IsFreeAfter m (read ++ c ∷ []) n after
 operator_free c rest m read n st after is may on = operator_closes m read n st c (ends_so m read rest n st c (operator_ends m read n st c is) on) after is may
 
--- LF or CR LF outside brackets ends the line, whatever follows, where the scan is set after it
-pub line_end_ends : (returned : Bool) (rest : List ℕ) (m : Mode) (read : List ℕ) (n : ℕ) (scan : Scan) → StandsBefore (line_end_of returned ++ rest) m read n [] → scan.piece.mode ≡ modes.Free → scan.piece.start ≡ byte_len (read ++ line_end_of returned)
-    → scan.stop ≡ byte_len (read ++ line_end_of returned) → scan.count.line ≡ scan.line + (n + 1) → scan.count.after_return ≡ false → IsLineBefore m scan (read ++ line_end_of returned) (byte_len (line_end_of returned))
-line_end_ends returned rest m read n scan on mode start stop line after rest_after apart =
-    let text = line_end_of returned in
-    let before = line_end_next returned rest m read n [] on in
-    let done = pieces m read n [] (line_end_first returned) before in
-    let last = piece line_end text in
-    let steps = line_end_steps returned m read n [] before in
-    let sound : IsScanSound (fresh (done ++ last ∷ [])) (read ++ text) = sound_steps m (read ++ text) (fresh (done ++ last ∷ [])) before.come.start steps in
-    record {
-      body = done;
-      last = last;
-      are = line_is m read n (line_end_first returned) before text;
-      to = fresh (done ++ last ∷ []);
-      steps = steps;
-      spell = sym (append-nil (spelled (done ++ last ∷ []))) ∙ sound.spell;
-      fit = λ more is. sound.fit more;
-      strings = sound.strings;
-      tallies = tallies_closed scan (done ++ last ∷ []) (read ++ text) (n + 1) sound.spell (holds_line_end returned read n before.come.holds before.parted).count (line_end_unreturned returned read) mode start stop line after;
-    }
+-- a line that has ended is one for the scan too, where it is set after it
+pub line_before : (m : Mode) (read : List ℕ) (n : ℕ) (after : List ℕ) (scan : Scan) → IsScanSound (line_start m) []
+    → (line : IsLine m read n after) → scan.piece.mode ≡ modes.Free → scan.piece.start ≡ byte_len read → scan.stop ≡ byte_len read
+    → scan.count.line ≡ scan.line + n → scan.count.after_return ≡ ends is_return read → IsLineBefore m scan read line.len
+line_before m read n after scan begun line mode start stop here returned more apart =
+    by line.state (sound_steps m read line.state begun line.steps) line.steps line.last line.are line.ended
+  where
+    set : (s : Scanned) (last : Piece) → scan_steps (Some (line_start m)) read ≡ Some s → AreLine line.body last line.len
+        → spelled (line.body ++ last ∷ []) ≡ read
+        → ((beyond : List ℕ) → encode_utf8_all beyond ≡ encode_utf8_all more → AreReadBefore (line.body ++ last ∷ []) beyond)
+        → StringsFit 0 (line.body ++ last ∷ []) → IsAtLineEnd m scan read (encode_utf8_all more) line.len
+    set s last steps are spell fit strings =
+        let closed : read ≡ spelled (line.body ++ last ∷ []) ++ [] = sym (append-nil (spelled (line.body ++ last ∷ [])) ∙ spell) in
+        record {
+          body = line.body;
+          last = last;
+          are = are;
+          to = s;
+          steps = steps;
+          spell = spell;
+          fit = fit;
+          strings = strings;
+          tallies = record {
+            counts = record {
+              mode = mode;
+              start = start ∙ ap byte_len (sym spell);
+              stop = stop ∙ ap byte_len closed;
+              here = here ∙ ap (λ (k : ℕ). scan.line + k) (sym line.holds.count ∙ ap line_ends closed);
+              after = returned ∙ ap (ends is_return) closed;
+            };
+            fields = tt;
+          };
+        }
 
--- so CR alone, before another byte: the machine holds it yet
-pub return_ends : (rest : List ℕ) (m : Mode) (read : List ℕ) (n : ℕ) (scan : Scan) → StandsBefore (13 ∷ rest) m read n []
-    → stack_of scan.brackets ≡ [] → scan.piece.mode ≡ modes.Free → scan.piece.start ≡ byte_len (read ++ 13 ∷ [])
-    → scan.stop ≡ byte_len (read ++ 13 ∷ []) → scan.count.line ≡ scan.line + (n + 1) → scan.count.after_return ≡ true
-    → IsLineBefore m scan (read ++ 13 ∷ []) (byte_len (13 ∷ []))
-return_ends rest m read n scan on empty mode start stop line after rest_after apart =
-    let before = return_next rest m read n [] on in
-    let done = pieces m read n [] 13 before in
-    let to = scanned done modes.Return (13 ∷ []) in
-    let steps = return_opens m read n [] before in
-    let sound = sound_steps m (read ++ 13 ∷ []) to before.come.start steps in
-    let last = ends-last is_return read 13 ∙ return_returns in
-    let spell = spelled-push done line_end (13 ∷ []) ∙ sound.spell in
-    let closed = append-nil (spelled (done ++ piece line_end (13 ∷ []) ∷ [])) ∙ spell in
-    record {
-      body = done;
-      last = piece line_end (13 ∷ []);
-      are = line_is m read n 13 before (13 ∷ []);
-      to = to;
-      steps = steps;
-      spell = spell;
-      fit = λ more is. returned_fit done (13 ∷ []) (read ++ 13 ∷ []) more sound refl
-          (ap (begins is_line_feed) (encodes_same more rest_after is) ∙ apart last);
-      strings = line_string done (piece line_end (13 ∷ [])) refl sound.strings;
-      tallies = record {
-        counts = record {
-          mode = mode;
-          start = start ∙ ap byte_len (sym spell);
-          stop = stop ∙ ap byte_len (sym closed);
-          here = line ∙ ap (λ (k : ℕ). scan.line + k) (sym (holds_return read n before.come.holds).count ∙ ap line_ends (sym closed));
-          after = after ∙ sym last ∙ ap (ends is_return) (sym closed);
-        };
-        fields = tt;
-      };
-    }
+    by : (s : Scanned) → IsScanSound s read → scan_steps (Some (line_start m)) read ≡ Some s → (last : Piece)
+        → AreLine line.body last line.len → IsEndedBy s line.body last → IsAtLineEnd m scan read (encode_utf8_all more) line.len
+    by s sound steps last are (inl is) =
+        let fresh_sound = subst (λ (t : Scanned). IsScanSound t read) is sound in
+        set s last steps are (sym (append-nil (spelled (line.body ++ last ∷ []))) ∙ fresh_sound.spell) (λ beyond same. fresh_sound.fit beyond)
+        fresh_sound.strings
+    by s sound steps last are (inr (is, last_is)) =
+        let held = subst (λ (t : Scanned). IsScanSound t read) is sound in
+        let end = piece line_end (13 ∷ []) in
+        let returns : ends is_return read ≡ true =
+        ap (ends is_return) (sym held.spell) ∙ ends-last is_return (spelled line.body) 13 ∙ return_returns in
+        set s end steps (subst (λ (p : Piece). AreLine line.body p line.len) last_is are)
+        (spelled-push line.body line_end (13 ∷ []) ∙ held.spell)
+        (λ beyond same. returned_fit line.body (13 ∷ []) read beyond held refl
+        (ap (begins is_line_feed) (encodes_same beyond more same) ∙ apart returns))
+        (line_string line.body end refl held.strings)
 
 -- from where no word is open on, what a line ends with is what its bytes end with
 pub tail_under_way : (read run bytes : List ℕ) (at : ℕ) → tail_of read ≡ None → encode_utf8_all run ≡ take at bytes → tail_of (read ++ run) ≡ tail_of (take at bytes)

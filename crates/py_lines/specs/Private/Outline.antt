@@ -220,18 +220,22 @@ IsEndedBy s body last =
     (s ≡ fresh (body ++ last ∷ []))
     ⊎ ((s ≡ record { done = body; mode = modes.Return; held = 13 ∷ [] }) × (last ≡ record { class = line_end; text = 13 ∷ [] }))
 
--- the characters before these bytes are a line after the text's first, which its line end has ended
-pub record IsWholeLine (read : List ℕ) (n : ℕ) (after : List ℕ) : Type 0 where
+-- the characters before these bytes are a line that began in this mode, which its line end has ended
+pub record IsLine (m : Mode) (read : List ℕ) (n : ℕ) (after : List ℕ) : Type 0 where
   pub body : List Piece
   pub last : Piece
   pub len : ℕ
   pub are : AreLine body last len
   pub state : Scanned
-  pub steps : scan_steps (Some (line_start modes.Free)) read ≡ Some state
+  pub steps : scan_steps (Some (line_start m)) read ≡ Some state
   pub ended : IsEndedBy state body last
   pub whole : EndsWhole read after
   pub holds : HoldsLineEnds read n
   pub tail : tail_of read ≡ None
+
+-- so a line after the text's first
+abbrev pub IsWholeLine : List ℕ → ℕ → List ℕ → Type 0
+IsWholeLine read n after = IsLine modes.Free read n after
 
 -- characters that are a line come before others that are lines, and so are these together
 pub record BeginsWithLine (rest : List ℕ → ℕ → Type 0) (line read : List ℕ) (n : ℕ) (after : List ℕ) : Type 0 where
