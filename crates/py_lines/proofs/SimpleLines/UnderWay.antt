@@ -112,8 +112,8 @@ line_before m read n after scan begun line mode start stop here returned more ap
         → AreLine line.body last line.len → IsEndedBy s line.body last → IsAtLineEnd m scan read (encode_utf8_all more) line.len
     by s sound steps last are (inl is) =
         let fresh_sound = subst (λ (t : Scanned). IsScanSound t read) is sound in
-        set s last steps are (sym (append-nil (spelled (line.body ++ last ∷ []))) ∙ fresh_sound.spell) (λ beyond same. fresh_sound.fit beyond)
-        fresh_sound.strings
+        set s last steps are (sym (append-nil (spelled (line.body ++ last ∷ []))) ∙ fresh_sound.spell)
+        (λ beyond same. fresh_sound.fit beyond) fresh_sound.strings
     by s sound steps last are (inr (is, last_is)) =
         let held = subst (λ (t : Scanned). IsScanSound t read) is sound in
         let end = piece line_end (13 ∷ []) in

@@ -14,7 +14,8 @@ pass-requires-clause-few c =
     own_few c.args.bytes.now c.specials.lines c.specials.at c.specials.passing c.specials.brackets c.specials.invariant
 
 -- after the byte
-came : (c : After-next-at-in-specials) → HasComeFurther c.args.bytes.now c.match-pass.lines c.specials.at c.pass.new.self c.pass.new.brackets
+came : (c : After-next-at-in-specials)
+    → HasComeFurther c.args.bytes.now c.match-pass.lines c.specials.at c.pass.new.self c.pass.new.brackets
 came c = elim c.match-pass.branch [
   | in-Passed w ↦
       subst (λ (l : Passed). HasComeFurther c.args.bytes.now l c.specials.at c.pass.new.self c.pass.new.brackets) (sym w.lines-is)

@@ -13,6 +13,6 @@ returns-in-Opening c =
 
 pub returns-in-Closing : goal.returns-in-Closing
 returns-in-Closing c =
-    closed c.args.bytes.now c.args.at c.args.self.now c.requires.within c.requires.marked c.args.place c.args.brackets.now c.close-met.result
-    c.close-met.new.self c.pass_bracket-in-Closing.result c.pass_bracket-in-Closing.new.self c.in-Closing.ensures (c.close-met.ensures c.args.place)
-    c.pass_bracket-in-Closing.ensures
+    closed c.args.bytes.now c.args.at c.args.self.now c.requires.within c.requires.marked c.args.place c.args.brackets.now
+    c.close-met.result c.close-met.new.self c.pass_bracket-in-Closing.result c.pass_bracket-in-Closing.new.self c.in-Closing.ensures
+    (c.close-met.ensures c.args.place) c.pass_bracket-in-Closing.ensures
