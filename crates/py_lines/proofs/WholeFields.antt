@@ -476,7 +476,7 @@ module _ (raw : Bool) (q : ℕ) (quote : is_quote q ≡ true) where
   over_second : (initial : Mode) (read : List ℕ) (n : ℕ) (st : List Bracket) → FieldsBegin q raw initial read n st → IsInPiece (modes.FieldEmpty own) initial (read ++ q ∷ q ∷ []) n st
   over_second initial read n st (few, on) =
       subst (λ (t : List ℕ). IsInPiece (modes.FieldEmpty own) initial t n st) (append_assoc read (q ∷ []) (q ∷ []))
-      (strings.grows (modes.FieldOpened own) (modes.FieldEmpty own) q n initial (read ++ q ∷ []) n st (λ done held. ap (moved (scanned done (modes.FieldOpened own) held) q) (opened_quote own)) quote-not-return (quote_held (read ++ q ∷ []) n on.come.holds) on)
+      (strings.grows_there (modes.FieldOpened own) (modes.FieldEmpty own) q n initial (read ++ q ∷ []) n st (λ done held. ap (moved (scanned done (modes.FieldOpened own) held) q) (opened_quote own)) quote-not-return (quote_held (read ++ q ∷ []) n on.come.holds) on)
 
   -- three
   over_third : (scan : FieldScan) (initial : Mode) (read : List ℕ) (n : ℕ) (st : List Bracket) → FollowsBody scan triple 0 → FieldsBegin q raw initial read n st → IsInFields scan (4 + bool_byte raw) initial (read ++ q ∷ q ∷ q ∷ []) n st
@@ -578,7 +578,7 @@ field_string_at raw bytes at s (Some p) within quote tail field raw_is has =
           leads = λ initial read n st on.
               let before : StandsBefore (q ∷ drop (at + 1) bytes) initial read n st = subst (λ (t : List ℕ). StandsBefore t initial read n st) (drop_more bytes at 0 within) on.2 in
               let word = word_open (drop (at + 1) bytes) initial read n st q s (on.0 ∙ tail) quote before in
-              let opened : IsInPiece (modes.FieldOpened (first_host q raw)) initial (read ++ q ∷ []) n st = strings.grows (modes.Word s) (modes.FieldOpened (first_host q raw)) q n initial read n st (λ done held. ap (moved (scanned done (modes.Word s) held) q) (quote_opens s raw q field raw_is quote)) (quote-not-return raw q quote) (quote_held raw q quote read n word.come.holds) word in
+              let opened : IsInPiece (modes.FieldOpened (first_host q raw)) initial (read ++ q ∷ []) n st = strings.grows_there (modes.Word s) (modes.FieldOpened (first_host q raw)) q n initial read n st (λ done held. ap (moved (scanned done (modes.Word s) held) q) (quote_opens s raw q field raw_is quote)) (quote-not-return raw q quote) (quote_held raw q quote read n word.come.holds) word in
               let begins : FieldsBegin (slice_index rest 0) raw initial read n st = subst (λ (c : ℕ). FieldsBegin c raw initial read n st) (sym first) (on.1, opened) in
               subst (λ (b : Bool). StandsClosed b (drop (at + p.len) bytes) initial (read ++ is.part.run) (n + p.line_ends) st) (sym (string_closes rest p.len (ap is_quote first ∙ quote)))
               (subst (λ (t : List ℕ). StandsClosed (nat_lt 2 p.len) t initial (read ++ is.part.run) (n + p.line_ends) st) (drop-drop p.len at bytes) (is.part.leads initial read n st begins));

@@ -12,7 +12,7 @@ use Rattle.py_lines.specs.declared.mode.Move.TheVariants as moves
 use Rattle.py_lines.specs.Private.Machine.{Bracket, move_of}
 use Rattle.py_lines.specs.Private.ScanMachine.{meet_of}
 use Rattle.py_lines.specs.Private.Run.{IsRunOf, IsWholeComment, is_ascii_word, is_comment_byte, stays}
-use Rattle.py_lines.specs.Private.Outline.{EndsBefore, GoesOnAfter, IsInPiece, Passes, PassesFirst, StandsBefore, StandsClosed, closes_itself}
+use Rattle.py_lines.specs.Private.Outline.{BeforePiece, EndsBefore, GoesOnAfter, IsInPieceAfter, Passes, PassesFirst, StandsBefore, StandsClosed, closes_itself}
 use Rattle.py_lines.proofs.Machine.Starts.{start-hash}
 use Rattle.py_lines.proofs.Text.CharacterTests.{the_one}
 use Rattle.py_lines.proofs.LineScan.Runs.{word_byte_continues}
@@ -50,9 +50,8 @@ hash_ends : (initial : Mode) (read : List ℕ) (n : ℕ) (st : List Bracket) →
 hash_ends initial read n st on = code_ends initial read n st 35 on hash-not-word hash-not-quote hash-not-space hash-no-word
 
 -- `#` opens a comment
-comment_opens : (initial : Mode) (read : List ℕ) (n : ℕ) (st : List Bracket) → EndsBefore 35 initial read n st → IsInPiece modes.Comment initial (read ++ 35 ∷ []) n st
+comment_opens : (initial : Mode) (read : List ℕ) (n : ℕ) (st : List Bracket) (on : EndsBefore 35 initial read n st) → IsInPieceAfter modes.Comment (record { mode = initial; done = pieces initial read n st 35 on }) (read ++ 35 ∷ []) n st
 comment_opens initial read n st on = record {
-  done = pieces initial read n st 35 on;
   held = 35 ∷ [];
   come = opens initial read n st 35 on modes.Comment (start-hash 35 hash_hash) (holds_one read 35 n on.come.holds (omega arith) hash-not-break);
   unreturned = one_unreturned read 35 hash-not-break;
@@ -63,9 +62,9 @@ comment_breaks : (c : ℕ) → is_break c ≡ true → meet_of modes.Comment c �
 unfolding meet_of move_of
 comment_breaks c is = rw is refl
 
-comment_ends : (initial : Mode) (read : List ℕ) (n : ℕ) (st : List Bracket) (c : ℕ) → is_break c ≡ true → IsInPiece modes.Comment initial read n st → EndsBefore c initial read n st
+comment_ends : (initial : BeforePiece) (read : List ℕ) (n : ℕ) (st : List Bracket) (c : ℕ) → is_break c ≡ true → IsInPieceAfter modes.Comment initial read n st → EndsBefore c initial.mode read n st
 comment_ends initial read n st c is on = record {
-  state = record { done = on.done; mode = modes.Comment; held = on.held };
+  state = record { done = initial.done; mode = modes.Comment; held = on.held };
   come = on.come;
   breaks = comment_breaks c is;
   parted = λ feeds. on.unreturned;
@@ -83,11 +82,13 @@ break_of c h = go (is_break c) h
 comment_leads : (cs : List ℕ) (k : ℕ) (run : List ℕ) (initial : Mode) (read : List ℕ) (n : ℕ) (st : List Bracket) → all_scalars run ≡ true → list_all (stays modes.Comment) run ≡ true → k < length cs → is_break (slice_index cs k) ≡ true
     → StandsBefore (35 ∷ cs) initial read n st → StandsBefore (drop k cs) initial (read ++ 35 ∷ run) (n + 0) st
 comment_leads cs k run initial read n st scalars all within breaks on =
-    let opened = comment_opens initial read n st (ends_so initial read cs n st 35 (hash_ends initial read n st) on) in
-    let come = subst (λ (t : List ℕ). IsInPiece modes.Comment initial t n st) (append_assoc read (35 ∷ []) run) (goes_on modes.Comment initial (read ++ 35 ∷ []) run n st scalars all opened) in
+    let ends = ends_so initial read cs n st 35 (hash_ends initial read n st) on in
+    let opened = comment_opens initial read n st ends in
+    let before : BeforePiece = record { mode = initial; done = pieces initial read n st 35 ends } in
+    let come = subst (λ (t : List ℕ). IsInPieceAfter modes.Comment before t n st) (append_assoc read (35 ∷ []) run) (goes_on modes.Comment before (read ++ 35 ∷ []) run n st scalars all opened) in
     let same : n ≡ n + 0 = omega arith in
     subst (λ (m : ℕ). StandsBefore (drop k cs) initial (read ++ 35 ∷ run) m st) same
-    (subst (λ (rest : List ℕ). StandsBefore rest initial (read ++ 35 ∷ run) n st) (sym (drop-cons cs k 0 within)) (inr (comment_ends initial (read ++ 35 ∷ run) n st (slice_index cs k) breaks come)))
+    (subst (λ (rest : List ℕ). StandsBefore rest initial (read ++ 35 ∷ run) n st) (sym (drop-cons cs k 0 within)) (inr (comment_ends before (read ++ 35 ∷ run) n st (slice_index cs k) breaks come)))
 
 -- it never closes itself
 never_closes : (cs : List ℕ) (len : ℕ) → closes_itself (35 ∷ cs) len ≡ false

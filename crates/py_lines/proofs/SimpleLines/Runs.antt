@@ -9,20 +9,19 @@ use Rattle.py_lines.specs.Private.Machine.{Bracket}
 use Rattle.py_lines.specs.Private.ScanMachine.{move_at, scan_steps}
 use Rattle.py_lines.specs.Private.Scan.{line_start}
 use Rattle.py_lines.specs.Private.Run.{HasAsciiQuote, stays}
-use Rattle.py_lines.specs.Private.Outline.{IsInPiece}
+use Rattle.py_lines.specs.Private.Outline.{BeforePiece, IsInPieceAfter}
 use Rattle.py_lines.proofs.Machine.PieceSteps.{steps_by-append}
 use Rattle.py_lines.proofs.LineScan.Runs.{all_no_break, characters_stay, ends-run, held_run}
 use Rattle.py_lines.proofs.SimpleLines.Code.{holds_more}
 
 -- the open piece goes on
-pub goes_on : (m initial : Mode) (read run : List ℕ) (n : ℕ) (st : List Bracket) → all_scalars run ≡ true → list_all (stays m) run ≡ true → IsInPiece m initial read n st → IsInPiece m initial (read ++ run) n st
-goes_on m initial read [] n st scalars all on = subst (λ (t : List ℕ). IsInPiece m initial t n st) (sym (append-nil read)) on
+pub goes_on : (m : Mode) (initial : BeforePiece) (read run : List ℕ) (n : ℕ) (st : List Bracket) → all_scalars run ≡ true → list_all (stays m) run ≡ true → IsInPieceAfter m initial read n st → IsInPieceAfter m initial (read ++ run) n st
+goes_on m initial read [] n st scalars all on = subst (λ (t : List ℕ). IsInPieceAfter m initial t n st) (sym (append-nil read)) on
 goes_on m initial read (c ∷ cs) n st scalars all on = record {
-  done = on.done;
   held = on.held ++ c ∷ cs;
   come = record {
     start = on.come.start;
-    steps = steps_by-append move_at (Some (line_start initial)) read (c ∷ cs) ∙ ap (λ o. scan_steps o (c ∷ cs)) on.come.steps ∙ held_run on.done m on.held (c ∷ cs) all;
+    steps = steps_by-append move_at (Some (line_start initial.mode)) read (c ∷ cs) ∙ ap (λ o. scan_steps o (c ∷ cs)) on.come.steps ∙ held_run initial.done m on.held (c ∷ cs) all;
     stacked = on.come.stacked;
     one_line = on.come.one_line;
     holds = holds_more read (c ∷ cs) n on.come.holds scalars (all_no_break m (c ∷ cs) all);

@@ -20,7 +20,7 @@ use Rattle.py_lines.specs.Private.Machine.{fresh, moved, Bracket, long_move, mov
 use Rattle.py_lines.specs.Private.ScanMachine.{begins_string, is_field_spelling, is_raw_spelling, meet_of, quote_move, scan_step, scan_steps}
 use Rattle.py_lines.specs.Private.Scan.{line_start}
 use Rattle.py_lines.specs.Private.Run.{Spans, is_body_byte}
-use Rattle.py_lines.specs.Private.Outline.{BeginsLineEnd, BeginsLong, EndsBefore, GoesOnAfter, HasEscape, HasLineEnd, HasString, HoldsLineEnds, IsEscaped, IsInLong, IsInPiece, IsInShort, IsFreeAfter, IsTail, Passes, PassesPart, PassesPiece, PassesOrNot, StandsBefore, StandsClosed, StringBegins, closes_itself, is_plain_prefix, line_end_of, short_mode, tail_of}
+use Rattle.py_lines.specs.Private.Outline.{BeginsLineEnd, BeginsLong, EndsBefore, GoesOnAfter, HasEscape, HasLineEnd, BeforePiece, HasClosedString, HasString, HoldsLineEnds, IsEscaped, IsInLong, IsInPiece, IsInPieceAfter, IsInShort, IsTail, Passes, PassesPart, PassesPiece, PassesOrNot, StandsBefore, StandsClosed, StringBegins, StringEnds, closes_itself, is_plain_prefix, line_end_of, short_mode, tail_of}
 use Rattle.py_lines.proofs.Pieces.PieceLists.{piece}
 use Rattle.py_lines.proofs.Machine.Starts.{start-quote}
 use Rattle.py_lines.proofs.Machine.PieceSteps.{scanned}
@@ -33,7 +33,7 @@ use Rattle.py_lines.proofs.LineScan.Runs.{body_parts, break-return, quote_ascii,
 use Rattle.py_lines.proofs.LineScan.AsciiRuns.{is_low, is_low_from, low_encodes, low_is, quote-no_break}
 use Rattle.py_lines.proofs.LineScan.PlainStrings.{inside_closes}
 use Rattle.py_lines.proofs.Text.CharacterTests.{quote-not-word}
-use Rattle.py_lines.proofs.SimpleLines.Code.{apart_breaks, code_other, holds_line_end, holds_more, holds_one, line_end_unreturned, one_unreturned, opens, quote-not-space, tail_code}
+use Rattle.py_lines.proofs.SimpleLines.Code.{apart_breaks, code_other, holds_line_end, holds_more, holds_one, line_end_unreturned, one_unreturned, opens, pieces, quote-not-space, tail_code}
 use Rattle.py_lines.proofs.SimpleLines.Tails.{feed_unreturned, no_tail, quote-no-word}
 use Rattle.py_lines.proofs.SimpleLines.Joins.{slash-not-break, slash_slash}
 use Rattle.py_lines.proofs.SimpleLines.FirstBytes.{first_then, line_end_low, taken_one, taken_two}
@@ -43,13 +43,12 @@ use Rattle.py_lines.proofs.SimpleLines.Runs.{goes_on, stay_spelled}
 abbrev pub Steps : Mode → ℕ → Mode → Type 0
 Steps m c next = (done : List Piece) (held : List ℕ) → scan_step (scanned done m held) c ≡ Some (scanned done next (held ++ c ∷ []))
 
-pub grows : (m next : Mode) (c k : ℕ) (initial : Mode) (read : List ℕ) (n : ℕ) (st : List Bracket) → Steps m c next → is_return c ≡ false → HoldsLineEnds (read ++ c ∷ []) k → IsInPiece m initial read n st → IsInPiece next initial (read ++ c ∷ []) k st
+pub grows : (m next : Mode) (c k : ℕ) (initial : BeforePiece) (read : List ℕ) (n : ℕ) (st : List Bracket) → Steps m c next → is_return c ≡ false → HoldsLineEnds (read ++ c ∷ []) k → IsInPieceAfter m initial read n st → IsInPieceAfter next initial (read ++ c ∷ []) k st
 grows m next c k initial read n st step other holds s = record {
-  done = s.done;
   held = s.held ++ c ∷ [];
   come = record {
     start = s.come.start;
-    steps = steps_push (line_start initial) read (scanned s.done m s.held) c s.come.steps ∙ step s.done s.held;
+    steps = steps_push (line_start initial.mode) read (scanned initial.done m s.held) c s.come.steps ∙ step initial.done s.held;
     stacked = s.come.stacked;
     one_line = s.come.one_line;
     holds = holds;
@@ -57,18 +56,22 @@ grows m next c k initial read n st step other holds s = record {
   unreturned = ends-last is_return read c ∙ other;
 }
 
+pub grows_there : (m next : Mode) (c k : ℕ) (initial : Mode) (read : List ℕ) (n : ℕ) (st : List Bracket) → Steps m c next → is_return c ≡ false → HoldsLineEnds (read ++ c ∷ []) k → IsInPiece m initial read n st → IsInPiece next initial (read ++ c ∷ []) k st
+grows_there m next c k initial read n st step other holds s =
+    let grown = grows m next c k (record { mode = initial; done = s.done }) read n st step other holds (record { held = s.held; come = s.come; unreturned = s.unreturned }) in
+    record { done = s.done; held = grown.held; come = grown.come; unreturned = grown.unreturned }
+
 -- so does a line end, by way of this mode where CR stands before LF
-line_end_grows : (m mid next : Mode) (returned : Bool) (initial : Mode) (read : List ℕ) (n : ℕ) (st : List Bracket) → Steps m 10 next → Steps m 13 mid → Steps mid 10 next → IsInPiece m initial read n st → IsInPiece next initial (read ++ line_end_of returned) (n + 1) st
+line_end_grows : (m mid next : Mode) (returned : Bool) (initial : BeforePiece) (read : List ℕ) (n : ℕ) (st : List Bracket) → Steps m 10 next → Steps m 13 mid → Steps mid 10 next → IsInPieceAfter m initial read n st → IsInPieceAfter next initial (read ++ line_end_of returned) (n + 1) st
 line_end_grows m mid next false initial read n st feed return after_return s =
     grows m next 10 (n + 1) initial read n st feed feed_unreturned (holds_line_end false read n s.come.holds (λ feeds. s.unreturned)) s
 line_end_grows m mid next true initial read n st feed return after_return s = record {
-  done = s.done;
   held = (s.held ++ 13 ∷ []) ++ 10 ∷ [];
   come = record {
     start = s.come.start;
-    steps = ap (scan_steps (Some (line_start initial))) (sym (append_assoc read (13 ∷ []) (10 ∷ [])))
-        ∙ steps_push (line_start initial) (read ++ 13 ∷ []) (scanned s.done mid (s.held ++ 13 ∷ [])) 10 (steps_push (line_start initial) read (scanned s.done m s.held) 13 s.come.steps ∙ return s.done s.held)
-        ∙ after_return s.done (s.held ++ 13 ∷ []);
+    steps = ap (scan_steps (Some (line_start initial.mode))) (sym (append_assoc read (13 ∷ []) (10 ∷ [])))
+        ∙ steps_push (line_start initial.mode) (read ++ 13 ∷ []) (scanned initial.done mid (s.held ++ 13 ∷ [])) 10 (steps_push (line_start initial.mode) read (scanned initial.done m s.held) 13 s.come.steps ∙ return initial.done s.held)
+        ∙ after_return initial.done (s.held ++ 13 ∷ []);
     stacked = s.come.stacked;
     one_line = s.come.one_line;
     holds = holds_line_end true read n s.come.holds (λ feeds. s.unreturned);
@@ -209,8 +212,8 @@ escaped_low text feeds (inl (returned, is, one)) = ap (list_all is_low) is ∙ l
 escaped_low text feeds (inr (c, is, low, none, zero)) = ap (list_all is_low) is ∙ and_from _ _ (is_low_from c low) refl
 
 -- a part, by its characters
-pub low_part : {stands comes : Mode → List ℕ → ℕ → List Bracket → Type 0} (bytes text : List ℕ) (len feeds : ℕ) → len ≤ length bytes → list_all is_low text ≡ true → take len bytes ≡ text → ((initial : Mode) (read : List ℕ) (n : ℕ) (st : List Bracket) → stands initial read n st → comes initial (read ++ text) (n + feeds) st) → PassesPart bytes len feeds stands comes
-low_part {stands} {comes} bytes text len feeds within low spell leads = record {
+pub low_part : {Before : Type 0} {stands comes : Before → List ℕ → ℕ → List Bracket → Type 0} (bytes text : List ℕ) (len feeds : ℕ) → len ≤ length bytes → list_all is_low text ≡ true → take len bytes ≡ text → ((initial : Before) (read : List ℕ) (n : ℕ) (st : List Bracket) → stands initial read n st → comes initial (read ++ text) (n + feeds) st) → PassesPart bytes len feeds stands comes
+low_part {Before} {stands} {comes} bytes text len feeds within low spell leads = record {
   within = within;
   run = text;
   spell = (low_encodes is_low text low_is low).0 ∙ sym spell;
@@ -218,20 +221,20 @@ low_part {stands} {comes} bytes text len feeds within low spell leads = record {
 }
 
 -- without a line end
-pub still : {stands comes : Mode → List ℕ → ℕ → List Bracket → Type 0} (bytes run : List ℕ) (len : ℕ) → len ≤ length bytes → encode_utf8_all run ≡ take len bytes → ((initial : Mode) (read : List ℕ) (n : ℕ) (st : List Bracket) → stands initial read n st → comes initial (read ++ run) n st) → PassesPart bytes len 0 stands comes
-still {stands} {comes} bytes run len within spell leads = record {
+pub still : {Before : Type 0} {stands comes : Before → List ℕ → ℕ → List Bracket → Type 0} (bytes run : List ℕ) (len : ℕ) → len ≤ length bytes → encode_utf8_all run ≡ take len bytes → ((initial : Before) (read : List ℕ) (n : ℕ) (st : List Bracket) → stands initial read n st → comes initial (read ++ run) n st) → PassesPart bytes len 0 stands comes
+still {Before} {stands} {comes} bytes run len within spell leads = record {
   within = within;
   run = run;
   spell = spell;
   leads = λ initial read n st on. subst (λ (k : ℕ). comes initial (read ++ run) k st) (omega arith) (leads initial read n st on);
 }
 
-pub low_still : {stands comes : Mode → List ℕ → ℕ → List Bracket → Type 0} (bytes text : List ℕ) (len : ℕ) → len ≤ length bytes → list_all is_low text ≡ true → take len bytes ≡ text → ((initial : Mode) (read : List ℕ) (n : ℕ) (st : List Bracket) → stands initial read n st → comes initial (read ++ text) n st) → PassesPart bytes len 0 stands comes
-low_still {stands} {comes} bytes text len within low spell leads = still bytes text len within ((low_encodes is_low text low_is low).0 ∙ sym spell) leads
+pub low_still : {Before : Type 0} {stands comes : Before → List ℕ → ℕ → List Bracket → Type 0} (bytes text : List ℕ) (len : ℕ) → len ≤ length bytes → list_all is_low text ≡ true → take len bytes ≡ text → ((initial : Before) (read : List ℕ) (n : ℕ) (st : List Bracket) → stands initial read n st → comes initial (read ++ text) n st) → PassesPart bytes len 0 stands comes
+low_still {Before} {stands} {comes} bytes text len within low spell leads = still bytes text len within ((low_encodes is_low text low_is low).0 ∙ sym spell) leads
 
 -- one part after another
-pub after : {stands comes goes : Mode → List ℕ → ℕ → List Bracket → Type 0} (bytes : List ℕ) (len feeds more further : ℕ) (all : ℕ) → feeds + further ≡ all → PassesPart bytes len feeds stands comes → PassesPart (drop len bytes) more further comes goes → PassesPart bytes (len + more) all stands goes
-after {stands} {comes} {goes} bytes len feeds more further all same first second =
+pub after : {Before : Type 0} {stands comes goes : Before → List ℕ → ℕ → List Bracket → Type 0} (bytes : List ℕ) (len feeds more further : ℕ) (all : ℕ) → feeds + further ≡ all → PassesPart bytes len feeds stands comes → PassesPart (drop len bytes) more further comes goes → PassesPart bytes (len + more) all stands goes
+after {Before} {stands} {comes} {goes} bytes len feeds more further all same first second =
     let within = first.within in
     let room = second.within in
     record {
@@ -270,15 +273,21 @@ module _ (q : ℕ) (quote : is_quote q ≡ true) where
   quote_held read n holds = holds_one read q n holds (quote_ascii q quote) (quote-no_break q quote)
 
   -- a string begins
-  opened : (initial : Mode) (read : List ℕ) (n : ℕ) (st : List Bracket) → EndsBefore q initial read n st → StringBegins q initial read n st
-  opened initial read n st on = record {
-    done = _;
-    held = _;
+  abbrev Begins : Mode → List ℕ → ℕ → List Bracket → Type 0
+  Begins initial read n st = (done : List Piece) × StringBegins q (record { mode = initial; done = done }) read n st
+
+  opened : (initial : Mode) (read : List ℕ) (n : ℕ) (st : List Bracket) → EndsBefore q initial read n st → Begins initial read n st
+  opened initial read n st on = (pieces initial read n st q on, record {
+    held = q ∷ [];
     come = opens initial read n st q on (modes.Opened q) (start-quote q quote) (quote_held read n on.come.holds);
     unreturned = one_unreturned read q (quote-no_break q quote);
-  }
+  })
 
-  after_tail : (initial : Mode) (read : List ℕ) (n : ℕ) (st : List Bracket) (t : Option Spelling) → tail_of read ≡ t → (on : GoesOnAfter initial read n st) → IsTail t on.state.mode → is_plain_prefix t ≡ true → StringBegins q initial read n st
+  pub after_word : (s : Spelling) (initial : BeforePiece) (read : List ℕ) (n : ℕ) (st : List Bracket) → is_plain_prefix (Some s) ≡ true → IsInPieceAfter (modes.Word s) initial read n st → StringBegins q initial read n st
+  after_word s initial read n st plain on =
+      grows (modes.Word s) (modes.Opened q) q n initial read n st (λ done held. ap (moved (scanned done (modes.Word s) held) q) (prefix_quote s q quote plain)) quote-not-return (quote_held read n on.come.holds) on
+
+  after_tail : (initial : Mode) (read : List ℕ) (n : ℕ) (st : List Bracket) (t : Option Spelling) → tail_of read ≡ t → (on : GoesOnAfter initial read n st) → IsTail t on.state.mode → is_plain_prefix t ≡ true → Begins initial read n st
   after_tail initial read n st None none on apart plain =
       opened initial read n st (record {
         state = on.state;
@@ -289,35 +298,36 @@ module _ (q : ℕ) (quote : is_quote q ≡ true) where
         tail = λ _. none;
       })
   after_tail initial read n st (Some s) some on is plain =
-      let in_word : IsInPiece (modes.Word s) initial read n st = subst (λ (m : Mode). IsInPiece m initial read n st) is (record { done = on.state.done; held = on.state.held; come = on.come; unreturned = on.unreturned }) in
-      grows (modes.Word s) (modes.Opened q) q n initial read n st (λ done held. ap (moved (scanned done (modes.Word s) held) q) (prefix_quote s q quote plain)) quote-not-return (quote_held read n on.come.holds) in_word
+      let before : BeforePiece = record { mode = initial; done = on.state.done } in
+      let in_word : IsInPieceAfter (modes.Word s) before read n st = subst (λ (m : Mode). IsInPieceAfter m before read n st) is (record { held = on.state.held; come = on.come; unreturned = on.unreturned }) in
+      (on.state.done, after_word s before read n st plain in_word)
 
-  pub string_begins : (rest : List ℕ) (initial : Mode) (read : List ℕ) (n : ℕ) (st : List Bracket) → is_plain_prefix (tail_of read) ≡ true → StandsBefore (q ∷ rest) initial read n st → StringBegins q initial read n st
+  pub string_begins : (rest : List ℕ) (initial : Mode) (read : List ℕ) (n : ℕ) (st : List Bracket) → is_plain_prefix (tail_of read) ≡ true → StandsBefore (q ∷ rest) initial read n st → Begins initial read n st
   string_begins rest initial read n st plain (inl on) = after_tail initial read n st (tail_of read) refl on on.tail plain
   string_begins rest initial read n st plain (inr on) = opened initial read n st on
 
   -- it is closed
-  closes : (m initial : Mode) (read : List ℕ) (n : ℕ) (st : List Bracket) → ((s : IsInPiece m initial read n st) → scan_step (scanned s.done m s.held) q ≡ Some (fresh (s.done ++ piece string (s.held ++ q ∷ []) ∷ []))) → IsInPiece m initial read n st → IsFreeAfter initial (read ++ q ∷ []) n st
+  closes : (m : Mode) (initial : BeforePiece) (read : List ℕ) (n : ℕ) (st : List Bracket) → ((s : IsInPieceAfter m initial read n st) → scan_step (scanned initial.done m s.held) q ≡ Some (fresh (initial.done ++ piece string (s.held ++ q ∷ []) ∷ []))) → IsInPieceAfter m initial read n st → HasClosedString initial (read ++ q ∷ []) n st
   closes m initial read n st step s =
       let text = piece string (s.held ++ q ∷ []) in
       record {
-        done = s.done ++ text ∷ [];
+        text = s.held ++ q ∷ [];
         come = record {
           start = s.come.start;
-          steps = steps_push (line_start initial) read (scanned s.done m s.held) q s.come.steps ∙ step s;
-          stacked = keeps s.done text st refl refl s.come.stacked;
-          one_line = EndsNoLine-push 0 s.done text s.come.one_line refl;
+          steps = steps_push (line_start initial.mode) read (scanned initial.done m s.held) q s.come.steps ∙ step s;
+          stacked = keeps initial.done text st refl refl s.come.stacked;
+          one_line = EndsNoLine-push 0 initial.done text s.come.one_line refl;
           holds = quote_held read n s.come.holds;
         };
       }
 
   -- an empty string, before what follows
-  pub empty : (initial : Mode) (read rest : List ℕ) (c n : ℕ) (st : List Bracket) → (c ≡ q → ⊥) → StringBegins q initial read n st → StandsBefore (c ∷ rest) initial (read ++ q ∷ q ∷ []) n st
+  pub empty : (initial : BeforePiece) (read rest : List ℕ) (c n : ℕ) (st : List Bracket) → (c ≡ q → ⊥) → StringBegins q initial read n st → StandsBefore (c ∷ rest) initial.mode (read ++ q ∷ q ∷ []) n st
   empty initial read rest c n st unlike on =
       let two = grows (modes.Opened q) (modes.Empty q) q n initial (read ++ q ∷ []) n st (λ done held. ap (moved (scanned done (modes.Opened q) held) q) (opened_quote q)) quote-not-return (quote_held (read ++ q ∷ []) n on.come.holds) on in
       let spell = append_assoc read (q ∷ []) (q ∷ []) in
-      inr (subst (λ (t : List ℕ). EndsBefore c initial t n st) spell (record {
-        state = scanned two.done (modes.Empty q) two.held;
+      inr (subst (λ (t : List ℕ). EndsBefore c initial.mode t n st) spell (record {
+        state = scanned initial.done (modes.Empty q) two.held;
         come = two.come;
         breaks = empty_breaks q c (false_from_ne_true (c == q) (λ h. unlike (eqb-true c q h)));
         parted = λ feeds. two.unreturned;
@@ -340,21 +350,21 @@ module _ (q : ℕ) (quote : is_quote q ≡ true) where
   spans_stay bytes k is = stay_spelled (modes.Inside q) bytes k (quote_ascii q quote) is.run.within is.run.each is.utf8.0 is.utf8.1.1
 
   -- so many line ends are none
-  none_more : (m initial : Mode) (read : List ℕ) (n feeds : ℕ) (st : List Bracket) → feeds ≡ 0 → IsInPiece m initial read n st → IsInPiece m initial read (n + feeds) st
-  none_more m initial read n feeds st none on = subst (λ (k : ℕ). IsInPiece m initial read k st) (omega (arith, none)) on
+  none_more : (m : Mode) (initial : BeforePiece) (read : List ℕ) (n feeds : ℕ) (st : List Bracket) → feeds ≡ 0 → IsInPieceAfter m initial read n st → IsInPieceAfter m initial read (n + feeds) st
+  none_more m initial read n feeds st none on = subst (λ (k : ℕ). IsInPieceAfter m initial read k st) (omega (arith, none)) on
 
-  one_more : (m initial : Mode) (read : List ℕ) (n feeds : ℕ) (st : List Bracket) → feeds ≡ 1 → IsInPiece m initial read (n + 1) st → IsInPiece m initial read (n + feeds) st
-  one_more m initial read n feeds st one on = subst (λ (k : ℕ). IsInPiece m initial read k st) (omega (arith, one)) on
+  one_more : (m : Mode) (initial : BeforePiece) (read : List ℕ) (n feeds : ℕ) (st : List Bracket) → feeds ≡ 1 → IsInPieceAfter m initial read (n + 1) st → IsInPieceAfter m initial read (n + feeds) st
+  one_more m initial read n feeds st one on = subst (λ (k : ℕ). IsInPieceAfter m initial read k st) (omega (arith, one)) on
 
   -- what a backslash escapes, which leads from one mode to another
   escaped_leads : (mid after_return next : Mode) → ((c : ℕ) → is_return c ≡ false → Steps mid c next) → Steps mid 13 after_return → Steps after_return 10 next
-      → (initial : Mode) (read text : List ℕ) (n feeds : ℕ) (st : List Bracket) → IsEscaped text feeds → IsInPiece mid initial read n st → IsInPiece next initial (read ++ text) (n + feeds) st
+      → (initial : BeforePiece) (read text : List ℕ) (n feeds : ℕ) (st : List Bracket) → IsEscaped text feeds → IsInPieceAfter mid initial read n st → IsInPieceAfter next initial (read ++ text) (n + feeds) st
   escaped_leads mid after_return next other return feed initial read text n feeds st (inl (returned, is, one)) on =
       one_more next initial (read ++ text) n feeds st one
-      (subst (λ (t : List ℕ). IsInPiece next initial (read ++ t) (n + 1) st) (sym is) (line_end_grows mid after_return next returned initial read n st (other 10 feed_unreturned) return feed on))
+      (subst (λ (t : List ℕ). IsInPieceAfter next initial (read ++ t) (n + 1) st) (sym is) (line_end_grows mid after_return next returned initial read n st (other 10 feed_unreturned) return feed on))
   escaped_leads mid after_return next other return feed initial read text n feeds st (inr (c, is, low, none, zero)) on =
       none_more next initial (read ++ text) n feeds st zero
-      (subst (λ (t : List ℕ). IsInPiece next initial (read ++ t) n st) (sym is) (grows mid next c n initial read n st (other c (break-return c none)) (break-return c none) (holds_one read c n on.come.holds low none) on))
+      (subst (λ (t : List ℕ). IsInPieceAfter next initial (read ++ t) n st) (sym is) (grows mid next c n initial read n st (other c (break-return c none)) (break-return c none) (holds_one read c n on.come.holds low none) on))
 
   -- the modes of a short string
   abbrev short_is : Bool → Mode
@@ -363,7 +373,7 @@ module _ (q : ℕ) (quote : is_quote q ≡ true) where
   pub short_later : (len : ℕ) → 1 < len → short_mode q len ≡ modes.Inside q
   short_later len more = ap short_is (false_from_ne_true (len == 1) (λ h. omega (arith, more, eqb-true len 1 h)))
 
-  short_character : (b : Bool) (c : ℕ) → all_scalars (c ∷ []) ≡ true → is_body_byte q c ≡ true → (initial : Mode) (read : List ℕ) (n : ℕ) (st : List Bracket) → IsInPiece (short_is b) initial read n st → IsInPiece (modes.Inside q) initial (read ++ c ∷ []) n st
+  short_character : (b : Bool) (c : ℕ) → all_scalars (c ∷ []) ≡ true → is_body_byte q c ≡ true → (initial : BeforePiece) (read : List ℕ) (n : ℕ) (st : List Bracket) → IsInPieceAfter (short_is b) initial read n st → IsInPieceAfter (modes.Inside q) initial (read ++ c ∷ []) n st
   short_character b c scalar is initial read n st on =
       grows (short_is b) (modes.Inside q) c n initial read n st (by b) (text-not-return c is) (text_held read n c scalar is on.come.holds) on
     where
@@ -375,9 +385,9 @@ module _ (q : ℕ) (quote : is_quote q ≡ true) where
           let parts = body_parts q c is in
           ap (moved (scanned done (modes.Inside q) held) c) (inside_other q c parts.0 parts.1 parts.2)
 
-  short_escaped : (b : Bool) (initial : Mode) (read text : List ℕ) (n feeds : ℕ) (st : List Bracket) → IsEscaped text feeds → IsInPiece (short_is b) initial read n st → IsInPiece (modes.Inside q) initial (read ++ 92 ∷ text) (n + feeds) st
+  short_escaped : (b : Bool) (initial : BeforePiece) (read text : List ℕ) (n feeds : ℕ) (st : List Bracket) → IsEscaped text feeds → IsInPieceAfter (short_is b) initial read n st → IsInPieceAfter (modes.Inside q) initial (read ++ 92 ∷ text) (n + feeds) st
   short_escaped b initial read text n feeds st escaped on =
-      subst (λ (t : List ℕ). IsInPiece (modes.Inside q) initial t (n + feeds) st) (append_assoc read (92 ∷ []) text)
+      subst (λ (t : List ℕ). IsInPieceAfter (modes.Inside q) initial t (n + feeds) st) (append_assoc read (92 ∷ []) text)
       (escaped_leads (modes.Escape q) (modes.EscapeReturn q) (modes.Inside q)
       (λ c other done held. ap (moved (scanned done (modes.Escape q) held) c) (escape_other q c other))
       (λ done held. ap (moved (scanned done (modes.Escape q) held) 13) (escape_return q))
@@ -392,7 +402,7 @@ module _ (q : ℕ) (quote : is_quote q ≡ true) where
   pub short_first : (bytes : List ℕ) → 0 < length bytes → slice_index bytes 0 ≡ q → PassesPart bytes 1 0 (StringBegins q) (IsInShort q 1)
   short_first bytes within is = low_still bytes (q ∷ []) 1 within quote_low (taken_one bytes within ∙ ap (λ (c : ℕ). c ∷ []) is) (λ initial read n st on. on)
 
-  short_text : (len : ℕ) (text : List ℕ) (initial : Mode) (read : List ℕ) (n : ℕ) (st : List Bracket) → 1 ≤ len → all_scalars text ≡ true → list_all (is_body_byte q) text ≡ true → IsInShort q len initial read n st → IsInShort q (len + byte_len text) initial (read ++ text) n st
+  short_text : (len : ℕ) (text : List ℕ) (initial : BeforePiece) (read : List ℕ) (n : ℕ) (st : List Bracket) → 1 ≤ len → all_scalars text ≡ true → list_all (is_body_byte q) text ≡ true → IsInShort q len initial read n st → IsInShort q (len + byte_len text) initial (read ++ text) n st
   short_text len [] initial read n st some scalars all on =
       subst (λ (k : ℕ). IsInShort q k initial (read ++ []) n st) (omega arith) (subst (λ (t : List ℕ). IsInShort q len initial t n st) (sym (append-nil read)) on)
   short_text len (c ∷ cs) initial read n st some scalars all on =
@@ -400,8 +410,8 @@ module _ (q : ℕ) (quote : is_quote q ≡ true) where
       let each = and_parts _ (all_scalars cs) scalars in
       let later : 1 < len + byte_len (c ∷ cs) = omega (arith, some, length-le-encodes (c ∷ cs)) in
       let one = short_character (len == 1) c (and_from _ _ each.0 refl) parts.0 initial read n st on in
-      subst (λ (m : Mode). IsInPiece m initial (read ++ c ∷ cs) n st) (sym (short_later (len + byte_len (c ∷ cs)) later))
-      (subst (λ (t : List ℕ). IsInPiece (modes.Inside q) initial t n st) (append_assoc read (c ∷ []) cs) (goes_on (modes.Inside q) initial (read ++ c ∷ []) cs n st each.1 parts.1 one))
+      subst (λ (m : Mode). IsInPieceAfter m initial (read ++ c ∷ cs) n st) (sym (short_later (len + byte_len (c ∷ cs)) later))
+      (subst (λ (t : List ℕ). IsInPieceAfter (modes.Inside q) initial t n st) (append_assoc read (c ∷ []) cs) (goes_on (modes.Inside q) initial (read ++ c ∷ []) cs n st each.1 parts.1 one))
 
   pub short_run : (bytes : List ℕ) (len k : ℕ) → 1 ≤ len → Spans (is_body_byte q) bytes k → PassesPart bytes k 0 (IsInShort q len) (IsInShort q (len + k))
   short_run bytes len k some is = still bytes is.utf8.0 k is.run.within is.utf8.1.1 (λ initial read n st on.
@@ -412,42 +422,42 @@ module _ (q : ℕ) (quote : is_quote q ≡ true) where
   short_escape bytes len p some has =
       let more = has.some in
       low_part bytes (92 ∷ has.text) p.len p.line_ends has.within (escaped_low has.text p.line_ends has.escaped) has.spell (λ initial read n st on.
-      subst (λ (m : Mode). IsInPiece m initial (read ++ 92 ∷ has.text) (n + p.line_ends) st) (sym (short_later (len + p.len) (omega (arith, some, more))))
+      subst (λ (m : Mode). IsInPieceAfter m initial (read ++ 92 ∷ has.text) (n + p.line_ends) st) (sym (short_later (len + p.len) (omega (arith, some, more))))
       (short_escaped (len == 1) initial read has.text n p.line_ends st has.escaped on))
 
-  pub short_last : (bytes : List ℕ) (len : ℕ) → 1 < len → 0 < length bytes → slice_index bytes 0 ≡ q → PassesPart bytes 1 0 (IsInShort q len) IsFreeAfter
+  pub short_last : (bytes : List ℕ) (len : ℕ) → 1 < len → 0 < length bytes → slice_index bytes 0 ≡ q → PassesPart bytes 1 0 (IsInShort q len) HasClosedString
   short_last bytes len more within is = low_still bytes (q ∷ []) 1 within quote_low (taken_one bytes within ∙ ap (λ (c : ℕ). c ∷ []) is) (λ initial read n st on.
-      closes (modes.Inside q) initial read n st (λ s. ap (moved (scanned s.done (modes.Inside q) s.held) q) (inside_closes q)) (subst (λ (m : Mode). IsInPiece m initial read n st) (short_later len more) on))
+      closes (modes.Inside q) initial read n st (λ s. ap (moved (scanned initial.done (modes.Inside q) s.held) q) (inside_closes q)) (subst (λ (m : Mode). IsInPieceAfter m initial read n st) (short_later len more) on))
 
   -- a string of three quotes begins
-  begun_long : (initial : Mode) (read : List ℕ) (n : ℕ) (st : List Bracket) → StringBegins q initial read n st → IsInLong q initial (read ++ q ∷ q ∷ q ∷ []) n st
+  begun_long : (initial : BeforePiece) (read : List ℕ) (n : ℕ) (st : List Bracket) → StringBegins q initial read n st → IsInLong q initial (read ++ q ∷ q ∷ q ∷ []) n st
   begun_long initial read n st one =
       let two = grows (modes.Opened q) (modes.Empty q) q n initial (read ++ q ∷ []) n st (λ done held. ap (moved (scanned done (modes.Opened q) held) q) (opened_quote q)) quote-not-return (quote_held (read ++ q ∷ []) n one.come.holds) one in
       let three = grows (modes.Empty q) (modes.Long q) q n initial ((read ++ q ∷ []) ++ q ∷ []) n st (λ done held. ap (moved (scanned done (modes.Empty q) held) q) (empty_quote q)) quote-not-return (quote_held ((read ++ q ∷ []) ++ q ∷ []) n two.come.holds) two in
       subst (λ (t : List ℕ). IsInLong q initial t n st) (append_assoc (read ++ q ∷ []) (q ∷ []) (q ∷ []) ∙ append_assoc read (q ∷ []) (q ∷ q ∷ [])) three
 
   -- a quote of its text
-  lone : (initial : Mode) (read : List ℕ) (n : ℕ) (st : List Bracket) → IsInLong q initial read n st → IsInPiece (modes.LongOne q) initial (read ++ q ∷ []) n st
+  lone : (initial : BeforePiece) (read : List ℕ) (n : ℕ) (st : List Bracket) → IsInLong q initial read n st → IsInPieceAfter (modes.LongOne q) initial (read ++ q ∷ []) n st
   lone initial read n st on = grows (modes.Long q) (modes.LongOne q) q n initial read n st (λ done held. ap (moved (scanned done (modes.Long q) held) q) (long_quote q)) quote-not-return (quote_held read n on.come.holds) on
 
   -- its last quotes
-  closed_long : (initial : Mode) (read : List ℕ) (n : ℕ) (st : List Bracket) → IsInLong q initial read n st → IsFreeAfter initial (read ++ q ∷ q ∷ q ∷ []) n st
+  closed_long : (initial : BeforePiece) (read : List ℕ) (n : ℕ) (st : List Bracket) → IsInLong q initial read n st → HasClosedString initial (read ++ q ∷ q ∷ q ∷ []) n st
   closed_long initial read n st on =
       let one = lone initial read n st on in
       let two = grows (modes.LongOne q) (modes.LongTwo q) q n initial (read ++ q ∷ []) n st (λ done held. ap (moved (scanned done (modes.LongOne q) held) q) (one_quote q)) quote-not-return (quote_held (read ++ q ∷ []) n one.come.holds) one in
-      subst (λ (t : List ℕ). IsFreeAfter initial t n st) (append_assoc (read ++ q ∷ []) (q ∷ []) (q ∷ []) ∙ append_assoc read (q ∷ []) (q ∷ q ∷ []))
-      (closes (modes.LongTwo q) initial ((read ++ q ∷ []) ++ q ∷ []) n st (λ s. ap (moved (scanned s.done (modes.LongTwo q) s.held) q) (two_closes q)) two)
+      subst (λ (t : List ℕ). HasClosedString initial t n st) (append_assoc (read ++ q ∷ []) (q ∷ []) (q ∷ []) ∙ append_assoc read (q ∷ []) (q ∷ q ∷ []))
+      (closes (modes.LongTwo q) initial ((read ++ q ∷ []) ++ q ∷ []) n st (λ s. ap (moved (scanned initial.done (modes.LongTwo q) s.held) q) (two_closes q)) two)
 
   -- a line end, and one after a quote of its text
   feed_in_long : Steps (modes.Long q) 10 (modes.Long q)
   feed_in_long done held = ap (moved (scanned done (modes.Long q) held) 10) (long_other q 10 (feed-not-quote q quote) feed-plain)
 
-  line_end_in_long : (returned : Bool) (initial : Mode) (read : List ℕ) (n : ℕ) (st : List Bracket) → IsInLong q initial read n st → IsInLong q initial (read ++ line_end_of returned) (n + 1) st
+  line_end_in_long : (returned : Bool) (initial : BeforePiece) (read : List ℕ) (n : ℕ) (st : List Bracket) → IsInLong q initial read n st → IsInLong q initial (read ++ line_end_of returned) (n + 1) st
   line_end_in_long returned initial read n st on =
       line_end_grows (modes.Long q) (modes.Long q) (modes.Long q) returned initial read n st feed_in_long
       (λ done held. ap (moved (scanned done (modes.Long q) held) 13) (long_other q 13 (return-not-quote q quote) return-plain)) feed_in_long on
 
-  lone_line_end : (returned : Bool) (initial : Mode) (read : List ℕ) (n : ℕ) (st : List Bracket) → IsInLong q initial read n st → IsInLong q initial (read ++ q ∷ line_end_of returned) (n + 1) st
+  lone_line_end : (returned : Bool) (initial : BeforePiece) (read : List ℕ) (n : ℕ) (st : List Bracket) → IsInLong q initial read n st → IsInLong q initial (read ++ q ∷ line_end_of returned) (n + 1) st
   lone_line_end returned initial read n st on =
       subst (λ (t : List ℕ). IsInLong q initial t (n + 1) st) (append_assoc read (q ∷ []) (line_end_of returned))
       (line_end_grows (modes.LongOne q) (modes.Long q) (modes.Long q) returned initial (read ++ q ∷ []) n st
@@ -455,7 +465,7 @@ module _ (q : ℕ) (quote : is_quote q ≡ true) where
       (λ done held. ap (moved (scanned done (modes.LongOne q) held) 13) (one_other q 13 (return-not-quote q quote) return-plain)) feed_in_long (lone initial read n st on))
 
   -- text after such a quote
-  lone_text : (text : List ℕ) (initial : Mode) (read : List ℕ) (n : ℕ) (st : List Bracket) → 0 < byte_len text → all_scalars text ≡ true → list_all (is_body_byte q) text ≡ true → IsInLong q initial read n st → IsInLong q initial (read ++ q ∷ text) n st
+  lone_text : (text : List ℕ) (initial : BeforePiece) (read : List ℕ) (n : ℕ) (st : List Bracket) → 0 < byte_len text → all_scalars text ≡ true → list_all (is_body_byte q) text ≡ true → IsInLong q initial read n st → IsInLong q initial (read ++ q ∷ text) n st
   lone_text [] initial read n st some scalars all on = absurd (omega (arith, some))
   lone_text (c ∷ cs) initial read n st some scalars all on =
       let parts = and_parts (is_body_byte q c) (list_all (is_body_byte q) cs) all in
@@ -470,7 +480,7 @@ module _ (q : ℕ) (quote : is_quote q ≡ true) where
   pub long_first : (bytes : List ℕ) → BeginsLong q bytes → PassesPart bytes 3 0 (StringBegins q) (IsInLong q)
   long_first bytes long = low_still bytes (q ∷ q ∷ q ∷ []) 3 long.within quotes_low long.spell begun_long
 
-  pub long_last : (bytes : List ℕ) → BeginsLong q bytes → PassesPart bytes 3 0 (IsInLong q) IsFreeAfter
+  pub long_last : (bytes : List ℕ) → BeginsLong q bytes → PassesPart bytes 3 0 (IsInLong q) HasClosedString
   long_last bytes long = low_still bytes (q ∷ q ∷ q ∷ []) 3 long.within quotes_low long.spell closed_long
 
   pub long_run : (bytes : List ℕ) (k : ℕ) → Spans (is_body_byte q) bytes k → PassesPart bytes k 0 (IsInLong q) (IsInLong q)
@@ -509,7 +519,7 @@ module _ (q : ℕ) (quote : is_quote q ≡ true) where
             (λ initial read n st on. lone_text is.utf8.0 initial read n st (omega (arith, more, size)) is.utf8.1.0 (spans_stay (drop 1 bytes) len is) on);
       }
 
-  long_escaped : (initial : Mode) (read text : List ℕ) (n feeds : ℕ) (st : List Bracket) → IsEscaped text feeds → IsInLong q initial read n st → IsInLong q initial (read ++ 92 ∷ text) (n + feeds) st
+  long_escaped : (initial : BeforePiece) (read text : List ℕ) (n feeds : ℕ) (st : List Bracket) → IsEscaped text feeds → IsInLong q initial read n st → IsInLong q initial (read ++ 92 ∷ text) (n + feeds) st
   long_escaped initial read text n feeds st escaped on =
       subst (λ (t : List ℕ). IsInLong q initial t (n + feeds) st) (append_assoc read (92 ∷ []) text)
       (escaped_leads (modes.LongEscape q) (modes.Long q) (modes.Long q)
@@ -532,9 +542,9 @@ part_of_escape q quote bytes None has = tt
 part_of_escape q quote bytes (Some p) has = record { some = has.some; few = escape_few bytes p has; part = long_escape_part q quote bytes p has }
 
 -- a string that isn't empty is passed where its parts are
-whole_string : (bytes : List ℕ) (len n : ℕ) → 2 < len → n ≤ len → PassesPart bytes len n (StringBegins (slice_index bytes 0)) IsFreeAfter → HasString bytes (Some (record { len = len; line_ends = n }))
+whole_string : (bytes : List ℕ) (len n : ℕ) → 2 < len → n ≤ len → PassesPart bytes len n (StringBegins (slice_index bytes 0)) HasClosedString → HasString bytes (Some (record { len = len; line_ends = n }))
 whole_string bytes len n more few part =
-    subst (λ (b : Bool). Passes bytes (record { len = len; line_ends = n }) (StringBegins (slice_index bytes 0)) (StandsClosed b (drop len bytes))) (sym (lt-ltb 2 len more))
+    subst (λ (b : Bool). Passes bytes (record { len = len; line_ends = n }) (StringBegins (slice_index bytes 0)) (StringEnds b (drop len bytes))) (sym (lt-ltb 2 len more))
     (record { some = omega (arith, more); few = few; part = part })
 
 -- a short string as far as the code has come in it
@@ -586,12 +596,17 @@ module _ (bytes : List ℕ) (quote : is_quote (slice_index bytes 0) ≡ true) wh
     some = omega arith;
     few = omega arith;
     part = low_still bytes (own ∷ own ∷ []) 2 (omega (arith, within)) (quotes_two own quote) (taken_two bytes (omega (arith, within)) ∙ ap (λ (c : ℕ). own ∷ c ∷ []) second) (λ initial read n st on.
-        subst (λ (t : List ℕ). StandsBefore t initial (read ++ own ∷ own ∷ []) n st) (sym (drop_more bytes 2 0 within)) (empty own quote initial read (drop 3 bytes) (slice_index bytes 2) n st third on));
+        subst (λ (t : List ℕ). StandsBefore t initial.mode (read ++ own ∷ own ∷ []) n st) (sym (drop_more bytes 2 0 within)) (empty own quote initial read (drop 3 bytes) (slice_index bytes 2) n st third on));
   }
 
 -- such a piece closes itself if it isn't empty
 pub string_closes : (bytes : List ℕ) (len : ℕ) → is_quote (slice_index bytes 0) ≡ true → closes_itself bytes len ≡ nat_lt 2 len
 string_closes bytes len quote = rw quote refl
+
+-- where it was closed no piece is open
+ends_closed : (b : Bool) (rest : List ℕ) (before : BeforePiece) (read : List ℕ) (n : ℕ) (st : List Bracket) → StringEnds b rest before read n st → StandsClosed b rest before.mode read n st
+ends_closed true rest before read n st ends = record { done = _; come = ends.come }
+ends_closed false rest before read n st ends = ends
 
 -- a string at a byte of a line
 pub string_at : (bytes : List ℕ) (at : ℕ) (found : Option Passed) → at < length bytes → is_quote (slice_index bytes at) ≡ true → is_plain_prefix (tail_of (take at bytes)) ≡ true → HasString (take (length bytes - at) (drop at bytes)) found → PassesPiece bytes at found
@@ -613,9 +628,12 @@ string_at bytes at (Some p) within quote plain has =
           leads = λ initial read n st on.
               let q = slice_index bytes at in
               let before : StandsBefore (q ∷ drop (at + 1) bytes) initial read n st = subst (λ (t : List ℕ). StandsBefore t initial read n st) (drop_more bytes at 0 within) on.2 in
-              let begins : StringBegins (slice_index rest 0) initial read n st = subst (λ (c : ℕ). StringBegins c initial read n st) (sym first) (string_begins q quote (drop (at + 1) bytes) initial read n st (ap is_plain_prefix on.0 ∙ plain) before) in
+              let (done, opened) = string_begins q quote (drop (at + 1) bytes) initial read n st (ap is_plain_prefix on.0 ∙ plain) before in
+              let begun : BeforePiece = record { mode = initial; done = done } in
+              let begins : StringBegins (slice_index rest 0) begun read n st = subst (λ (c : ℕ). StringBegins c begun read n st) (sym first) opened in
+              let ends = ends_closed (nat_lt 2 p.len) (drop p.len rest) begun (read ++ is.part.run) (n + p.line_ends) st (is.part.leads begun read n st begins) in
               subst (λ (b : Bool). StandsClosed b (drop (at + p.len) bytes) initial (read ++ is.part.run) (n + p.line_ends) st) (sym (string_closes rest p.len (ap is_quote first ∙ quote)))
-              (subst (λ (t : List ℕ). StandsClosed (nat_lt 2 p.len) t initial (read ++ is.part.run) (n + p.line_ends) st) (drop-drop p.len at bytes) (is.part.leads initial read n st begins));
+              (subst (λ (t : List ℕ). StandsClosed (nat_lt 2 p.len) t initial (read ++ is.part.run) (n + p.line_ends) st) (drop-drop p.len at bytes) ends);
         };
       },
     )

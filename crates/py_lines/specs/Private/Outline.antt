@@ -2,7 +2,7 @@
 use Rattle.std.specs.Prelude.{◌≡◌, ℕ, ◌+◌, ◌-◌, ◌<◌, ◌≤◌, ◌⊎◌, ◌==◌, ◌||◌, ◌&&◌, Bool, true, false, if◌then◌else◌, Option, None, Some, List, [], ◌∷◌, ◌++◌, length, nat_lt, take, drop, slice_index, encode_utf8_all}
 use Rattle.std.specs.Str.{all_scalars}
 use Rattle.py_lines.specs.Character.{is_backslash, is_break, is_quote, is_return}
-use Rattle.py_lines.specs.Piece.{Piece, ends, line_end}
+use Rattle.py_lines.specs.Piece.{Piece, ends, line_end, string}
 use Rattle.py_lines.specs.LogicalLine.{line_ends}
 use Rattle.py_lines.specs.Private.Machine.{Scanned, fresh, Bracket, brackets_of, first_spelling, spelling_with}
 use Rattle.py_lines.specs.Private.ScanMachine.{IsScanSound, begins_string, is_field_spelling, is_raw_spelling, meet_of, scan_steps}
@@ -124,7 +124,23 @@ abbrev pub StandsClosed : Bool → List ℕ → Mode → List ℕ → ℕ → Li
 StandsClosed true bytes = IsFreeAfter
 StandsClosed false bytes = StandsBefore bytes
 
--- after these characters of a line, which CR doesn't end, such a piece is open
+-- what stands before a piece of a line: the mode that the line began in, and the finished pieces
+pub record BeforePiece : Type 0 where
+  pub mode : Mode
+  pub done : List Piece
+
+-- after these characters of a line, which CR doesn't end, such a piece is open, which begins there
+pub record IsInPieceAfter (piece_mode : Mode) (before : BeforePiece) (read : List ℕ) (n : ℕ) (st : List Bracket) : Type 0 where
+  pub held : List ℕ
+  pub come : HasCome before.mode read n st (record { done = before.done; mode = piece_mode; held = held })
+  pub unreturned : ends is_return read ≡ false
+
+-- a string that begins there was closed with the last of them
+pub record HasClosedString (before : BeforePiece) (read : List ℕ) (n : ℕ) (st : List Bracket) : Type 0 where
+  pub text : List ℕ
+  pub come : HasCome before.mode read n st (fresh (before.done ++ record { class = string; text = text } ∷ []))
+
+-- such a piece is open, wherever it begins
 pub record IsInPiece (piece_mode m : Mode) (read : List ℕ) (n : ℕ) (st : List Bracket) : Type 0 where
   pub done : List Piece
   pub held : List ℕ
@@ -132,37 +148,42 @@ pub record IsInPiece (piece_mode m : Mode) (read : List ℕ) (n : ℕ) (st : Lis
   pub unreturned : ends is_return read ≡ false
 
 -- with this quote after them a string without fields is open, which holds nothing yet
-abbrev pub StringBegins : ℕ → Mode → List ℕ → ℕ → List Bracket → Type 0
-StringBegins q m read = IsInPiece (modes.Opened q) m (read ++ q ∷ [])
+abbrev pub StringBegins : ℕ → BeforePiece → List ℕ → ℕ → List Bracket → Type 0
+StringBegins q before read = IsInPieceAfter (modes.Opened q) before (read ++ q ∷ [])
+
+-- it was closed, where it holds something; else it stands before the bytes that follow
+abbrev pub StringEnds : Bool → List ℕ → BeforePiece → List ℕ → ℕ → List Bracket → Type 0
+StringEnds true bytes = HasClosedString
+StringEnds false bytes = λ before. StandsBefore bytes before.mode
 
 -- wherever a line stands so, it comes to stand so after so many of the bytes, which spell characters with so many line ends
-pub record PassesPart (bytes : List ℕ) (len feeds : ℕ) (stands comes : Mode → List ℕ → ℕ → List Bracket → Type 0) : Type 0 where
+pub record PassesPart {Before : Type 0} (bytes : List ℕ) (len feeds : ℕ) (stands comes : Before → List ℕ → ℕ → List Bracket → Type 0) : Type 0 where
   pub within : len ≤ length bytes
   pub run : List ℕ
   pub spell : encode_utf8_all run ≡ take len bytes
-  pub leads : (m : Mode) (read : List ℕ) (n : ℕ) (st : List Bracket) → stands m read n st → comes m (read ++ run) (n + feeds) st
+  pub leads : (b : Before) (read : List ℕ) (n : ℕ) (st : List Bracket) → stands b read n st → comes b (read ++ run) (n + feeds) st
 
 -- a part that isn't empty
-pub record Passes (bytes : List ℕ) (p : Passed) (stands comes : Mode → List ℕ → ℕ → List Bracket → Type 0) : Type 0 where
+pub record Passes {Before : Type 0} (bytes : List ℕ) (p : Passed) (stands comes : Before → List ℕ → ℕ → List Bracket → Type 0) : Type 0 where
   pub some : 0 < p.len
   pub few : p.line_ends ≤ p.len
   pub part : PassesPart bytes p.len p.line_ends stands comes
 
 -- the part that was passed leads there, if one was passed
-abbrev pub PassesOrNot : List ℕ → Option Passed → (stands comes : Mode → List ℕ → ℕ → List Bracket → Type 0) → Type 0
-PassesOrNot bytes None stands comes = Unit {0}
-PassesOrNot bytes (Some p) stands comes = Passes bytes p stands comes
+abbrev pub PassesOrNot : {Before : Type 0} → List ℕ → Option Passed → (stands comes : Before → List ℕ → ℕ → List Bracket → Type 0) → Type 0
+PassesOrNot {Before} bytes None stands comes = Unit {0}
+PassesOrNot {Before} bytes (Some p) stands comes = Passes bytes p stands comes
 
 -- what is open in a short string of this quote after so many bytes of it
 abbrev pub short_mode : ℕ → ℕ → Mode
 short_mode q len = if len == 1 then modes.Opened q else modes.Inside q
 
-abbrev pub IsInShort : ℕ → ℕ → Mode → List ℕ → ℕ → List Bracket → Type 0
-IsInShort q len = IsInPiece (short_mode q len)
+abbrev pub IsInShort : ℕ → ℕ → BeforePiece → List ℕ → ℕ → List Bracket → Type 0
+IsInShort q len = IsInPieceAfter (short_mode q len)
 
 -- a string of three such quotes is open, which ends with none of these bytes
-abbrev pub IsInLong : ℕ → Mode → List ℕ → ℕ → List Bracket → Type 0
-IsInLong q = IsInPiece (modes.Long q)
+abbrev pub IsInLong : ℕ → BeforePiece → List ℕ → ℕ → List Bracket → Type 0
+IsInLong q = IsInPieceAfter (modes.Long q)
 
 -- the bytes begin with three such quotes
 pub record BeginsLong (q : ℕ) (bytes : List ℕ) : Type 0 where
@@ -212,7 +233,7 @@ PassesFirst bytes (Some p) = Passes bytes p (StandsBefore bytes) (StandsClosed (
 -- so the string, where it begins
 abbrev pub HasString : List ℕ → Option Passed → Type 0
 HasString bytes None = Unit {0}
-HasString bytes (Some p) = Passes bytes p (StringBegins (slice_index bytes 0)) (StandsClosed (nat_lt 2 p.len) (drop p.len bytes))
+HasString bytes (Some p) = Passes bytes p (StringBegins (slice_index bytes 0)) (StringEnds (nat_lt 2 p.len) (drop p.len bytes))
 
 -- the machine has closed these pieces, of which the last is a line end, or holds that yet, which is CR
 abbrev pub IsEndedBy : Scanned → List Piece → Piece → Type 0
