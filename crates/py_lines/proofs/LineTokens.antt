@@ -7,7 +7,7 @@ pub mod FirstPieces
 pub mod Words
 pub mod Strings
 pub mod StringScans
-pub mod ShortStrings
+pub mod WholeStrings
 pub mod Kinds
 pub mod Lines
 pub mod LineStarts

@@ -1,21 +1,22 @@
 //! The tokens of a whole logical line, which are read from its text alone.
 
-ghost use Rattle.std.specs.Prelude.{◌≡◌, ℕ, ◌+◌, ◌<◌, ◌^◌, true, [], length, OnOk};
+ghost use Rattle.std.specs.Prelude.{◌≡◌, ℕ, ◌+◌, ◌<◌, ◌^◌, true, [], drop, length, take, OnOk};
 ghost use Rattle.py_lines.specs.Character.{is_quote, is_space};
 ghost use Rattle.py_lines.specs.Piece.{Piece, begins};
 ghost use Rattle.py_lines.specs.Private.Run.{IsRunOf, is_wide_word};
 ghost use Rattle.py_lines.specs.Private.LineTokens.{AddsPiece, BeginWithPiece, BeginWithString, HaveRead};
 ghost use Rattle.py_lines.specs.Private.LineTokens.{HoldsTokens, IsFirstPiece, IsFirstString, IsLineText};
-ghost use Rattle.py_lines.specs.Private.LineTokens.{ends_prefix, kind_with, line_end_len, mark_len, token_piece};
+ghost use Rattle.py_lines.specs.Private.LineTokens.{ends_prefix, is_plain_word, kind_with, line_end_len, mark_len, token_piece};
 
 use crate::character::{is_line_feed, is_quote, is_return, is_space};
 use crate::class::Class;
 use crate::mode::{Mode, Spelling};
+use crate::plain_strings::plain_string;
 use crate::run::{ByteRun, comment_run};
 use crate::scan::Scan;
 use crate::token::{TokKind, Token};
 use crate::unit::UnitKind;
-use crate::whole_strings::{quoted_text_len, whole_plain_string};
+use crate::whole_strings::quoted_text_len;
 use std::alloc::{AllocError, Global};
 
 /// What a piece is to its line.
@@ -78,15 +79,20 @@ fn scanned_string(scan: &mut Scan, bytes: &[u8]) -> LinePiece
     }
 }
 
-/// The string without a prefix that the bytes begin with.
-fn string(scan: &mut Scan, bytes: &[u8]) -> LinePiece
-    requires quote { begins is_quote bytes.now ≡ true }
+/// The string without fields that the bytes begin with, whose prefix has so many of them, or none.
+fn string(scan: &mut Scan, bytes: &[u8], prefix: usize) -> LinePiece
+    requires quote { begins is_quote (drop prefix bytes.now) ≡ true }
+    requires plain { is_plain_word (take prefix bytes.now) ≡ true }
     requires string { BeginWithString bytes.now }
     ensures { IsFirstString bytes.now result }
 {
-    match whole_plain_string(bytes) {
-        Some(len) => LinePiece::token(TokKind::Str, len),
-        None => scanned_string(scan, bytes),
+    match plain_string(&bytes[prefix..]) {
+        Some(quoted) if quoted.len > 2 => LinePiece {
+            role: Role::Token(TokKind::Str),
+            len: prefix + quoted.len,
+            line_ends: quoted.line_ends,
+        },
+        _ => scanned_string(scan, bytes),
     }
 }
 
@@ -107,13 +113,10 @@ fn prefixed_string(scan: &mut Scan, bytes: &[u8], prefix: usize) -> LinePiece
     requires string { BeginWithString bytes.now }
     ensures { IsFirstString bytes.now result }
 {
-    let quoted = &bytes[prefix..];
-    let len = if Spelling::of_word(&bytes[..prefix]).has_fields() {
-        quoted_text_len(quoted)
-    } else {
-        whole_plain_string(quoted)
-    };
-    match len {
+    if !Spelling::of_word(&bytes[..prefix]).has_fields() {
+        return string(scan, bytes, prefix);
+    }
+    match quoted_text_len(&bytes[prefix..]) {
         Some(len) => LinePiece::token(TokKind::Str, prefix + len),
         None => scanned_string(scan, bytes),
     }
@@ -155,7 +158,7 @@ fn first_piece(scan: &mut Scan, bytes: &[u8]) -> LinePiece
     let first = bytes[0];
     match Class::of(first) {
         Class::Word | Class::Wide => word_or_string(scan, bytes),
-        Class::Quote => string(scan, bytes),
+        Class::Quote => string(scan, bytes, 0),
         Class::Operator | Class::Opening | Class::Closing => {
             LinePiece::token(TokKind::Op(first), 1)
         }
@@ -257,8 +260,8 @@ impl LineTokens {
         mark
     }
 
-    /// Reads the tokens of a whole logical line without fault, which begins on this line. The scan goes through its
-    /// strings. If there is no memory for the tokens, nothing is said of those that it holds.
+    /// Reads the tokens of a whole logical line without fault, which begins on this line. The scan goes through the
+    /// strings that aren't simple. If there is no memory for the tokens, nothing is said of those that it holds.
     pub fn read(&mut self, scan: &mut Scan, text: &[u8], line: u64) -> Result<(), AllocError>
         requires text { IsLineText text.now }
         requires lines { line + length text.now < 2 ^ 64 }

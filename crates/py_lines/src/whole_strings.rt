@@ -17,7 +17,7 @@ use crate::run::{ByteRun, is_ascii_word};
 /// How many bytes the string has that the bytes begin with, where it has no prefix, is short, holds something, and is ASCII with no
 /// escape.
 #[inline(always)]
-pub fn whole_plain_string(bytes: &[u8]) -> Option<usize>
+fn whole_plain_string(bytes: &[u8]) -> Option<usize>
     requires begins { begins is_quote bytes.now ≡ true }
     ensures { HasWholePlainString bytes.now result }
 {

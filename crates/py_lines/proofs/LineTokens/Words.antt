@@ -64,7 +64,7 @@ wide_unbroken (c ∷ cs) all =
     and_from (not (is_break c)) (list_all (λ d. not (is_break d)) cs)
     (ap not (false_from_ne_true _ (λ breaks. both_ways _ (break_not_wide c breaks) parts.0))) (wide_unbroken cs parts.1)
 
-first_byte : (passes : ℕ → Bool) (bytes : List ℕ) → begins passes bytes ≡ true → passes (slice_index bytes 0) ≡ true
+pub first_byte : (passes : ℕ → Bool) (bytes : List ℕ) → begins passes bytes ≡ true → passes (slice_index bytes 0) ≡ true
 first_byte passes [] none = absurd (both_ways _ refl none)
 first_byte passes (b ∷ bs) h = h
 

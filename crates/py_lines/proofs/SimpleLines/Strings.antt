@@ -277,11 +277,14 @@ module _ (q : ℕ) (quote : is_quote q ≡ true) where
   Begins initial read n st = (done : List Piece) × StringBegins q (record { mode = initial; done = done }) read n st
 
   opened : (initial : Mode) (read : List ℕ) (n : ℕ) (st : List Bracket) → EndsBefore q initial read n st → Begins initial read n st
-  opened initial read n st on = (pieces initial read n st q on, record {
-    held = q ∷ [];
-    come = opens initial read n st q on (modes.Opened q) (start-quote q quote) (quote_held read n on.come.holds);
-    unreturned = one_unreturned read q (quote-no_break q quote);
-  })
+  opened initial read n st on = (
+    pieces initial read n st q on,
+    record {
+      held = q ∷ [];
+      come = opens initial read n st q on (modes.Opened q) (start-quote q quote) (quote_held read n on.come.holds);
+      unreturned = one_unreturned read q (quote-no_break q quote);
+    },
+  )
 
   pub after_word : (s : Spelling) (initial : BeforePiece) (read : List ℕ) (n : ℕ) (st : List Bracket) → is_plain_prefix (Some s) ≡ true → IsInPieceAfter (modes.Word s) initial read n st → StringBegins q initial read n st
   after_word s initial read n st plain on =

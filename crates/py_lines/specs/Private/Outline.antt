@@ -156,8 +156,10 @@ abbrev pub StringEnds : Bool → List ℕ → BeforePiece → List ℕ → ℕ �
 StringEnds true bytes = HasClosedString
 StringEnds false bytes = λ before. StandsBefore bytes before.mode
 
--- wherever a line stands so, it comes to stand so after so many of the bytes, which spell characters with so many line ends
-pub record PassesPart {Before : Type 0} (bytes : List ℕ) (len feeds : ℕ) (stands comes : Before → List ℕ → ℕ → List Bracket → Type 0) : Type 0 where
+-- wherever a line stands so, it comes to stand so after so many of the bytes, which spell characters with so many line ends; what
+-- stands before them stays the same: the mode that the line began in, or what is before a piece
+pub record PassesPart {Before : Type 0} (bytes : List ℕ) (len feeds : ℕ)
+    (stands comes : Before → List ℕ → ℕ → List Bracket → Type 0) : Type 0 where
   pub within : len ≤ length bytes
   pub run : List ℕ
   pub spell : encode_utf8_all run ≡ take len bytes
@@ -170,7 +172,8 @@ pub record Passes {Before : Type 0} (bytes : List ℕ) (p : Passed) (stands come
   pub part : PassesPart bytes p.len p.line_ends stands comes
 
 -- the part that was passed leads there, if one was passed
-abbrev pub PassesOrNot : {Before : Type 0} → List ℕ → Option Passed → (stands comes : Before → List ℕ → ℕ → List Bracket → Type 0) → Type 0
+abbrev pub PassesOrNot : {Before : Type 0} → List ℕ → Option Passed → (stands comes : Before → List ℕ → ℕ → List Bracket → Type 0)
+    → Type 0
 PassesOrNot {Before} bytes None stands comes = Unit {0}
 PassesOrNot {Before} bytes (Some p) stands comes = Passes bytes p stands comes
 

@@ -1,9 +1,11 @@
-use Rattle.std.proofs.Common.{sym, subst}
-use Rattle.py_lines.specs.Private.LineTokens.{IsFirstString}
-use Rattle.py_lines.proofs.LineTokens.ShortStrings.{plain_taken}
+use Rattle.std.proofs.Common.{ℕ, List, Some, subst}
+use Rattle.py_lines.specs.Private.Outline.{HasString}
+use Rattle.py_lines.proofs.FieldScans.TextLengths.{rest_is}
+use Rattle.py_lines.proofs.LineTokens.WholeStrings.{plain_taken}
 use Rattle.py_lines.proofs.line_tokens.string.Goals as goal
 
 pub returns-in-Some : goal.returns-in-Some
 returns-in-Some c =
     let bytes = c.args.bytes.now in
-    subst (IsFirstString bytes) (sym c.token.ensures) (plain_taken bytes c.in-Some.len c.in-Some.ensures)
+    plain_taken bytes c.args.prefix c.in-Some.quoted c.requires.quote c.requires.plain c.if-quoted-gt2.true
+    (subst (λ (t : List ℕ). HasString t (Some c.in-Some.quoted)) (rest_is bytes c.args.prefix) c.in-Some.ensures)
