@@ -7,6 +7,7 @@ pub mod TriedLines
 pub mod Settled
 pub mod Held
 pub mod OneLine
+pub mod LineAtOnce
 pub mod MoreLines
 pub mod WholePiece
 pub mod NothingFed

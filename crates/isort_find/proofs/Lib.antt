@@ -32,9 +32,10 @@
 --
 -- A finder over pieces (proofs/Fed) says everything of every text that goes on from the bytes fed, so no proof divides a
 -- text. Where it stands says what it has found (`HasReachedIn`). It lets a line go (LetGo), passes over lines that bind nothing
--- (PassedLines), tries the next one (TriedLines), takes bytes up to a line's end (OneLine), and line by line (MoreLines) a whole
--- piece (WholePiece). Asked for what is ready it gives a binding (Ready) or none (NoneReady). Where nothing is ready, all that is
--- settled was given and no fault is decided (Settled), and the rest is held (Held).
+-- (PassedLines), tries the next one (TriedLines), takes bytes up to a line's end (OneLine), where a line in which neither `import`
+-- nor `from` stands is let go at once (LineAtOnce), and line by line (MoreLines) a whole piece (WholePiece). Asked for what is ready
+-- it gives a binding (Ready) or none (NoneReady). Where nothing is ready, all that is settled was given and no fault is decided
+-- (Settled), and the rest is held (Held).
 pub mod Keys
 pub mod Finds
 pub mod Walks

@@ -1,6 +1,7 @@
 //! The imports of a text that comes in pieces.
 ghost use Rattle.std.specs.Prelude.{◌≡◌, ◌+◌, ◌-◌, ◌≤◌, ◌^◌, ℕ, List, [], true, false, Ok, drop, length, IsTrue, IfOk, IfErr};
 ghost use Rattle.py_imports.specs.BindingValue.{BindingValue};
+ghost use Rattle.py_lines.specs.ScannerState.{fed_of};
 
 use crate::cursor::Cursor;
 use crate::error::{FindError, ResumeError};
@@ -11,7 +12,7 @@ use crate::pending::LineStart;
 use crate::walker::{Phase, Walker};
 use py_imports::laws::lines_without_import_bind_nothing;
 use py_imports::{Binding, FirstWords};
-use py_lines::{LexError, Scanner};
+use py_lines::{Fault, LexError, Scanner};
 use std::alloc::Global;
 use std::marker::Model;
 
@@ -41,9 +42,10 @@ impl PieceFinder {
     ghost use Rattle.isort_find.specs.Pieces.{PieceFinderState, HasFoundIn, AreAllSettled, IsUndecided, IsOpenYet, FeedsPiece};
     ghost use Rattle.isort_find.specs.Pieces.{GivesReady, EndsFeeding, GoesOnFrom, fed_by, held_by, has_ready};
     ghost use Rattle.isort_find.specs.Position.{phase_in};
-    ghost use Rattle.isort_find.specs.Private.PieceSteps.{IsBetween, IsNextStart, LetsLineGo, PassesLines};
-    ghost use Rattle.isort_find.specs.Private.PieceSteps.{TriesReady, TakesBytesOf, IsToGoOn, IsToStop};
-    ghost use Rattle.isort_find.specs.Private.PieceSteps.{HasTakenAll, ReadsUnread, TakesReady, Rests, with_passed};
+    ghost use Rattle.isort_find.specs.Private.PieceSteps.{FeedsLine, IsBetween, IsNextStart, LetsLineGo, PassesLines};
+    ghost use Rattle.isort_find.specs.Private.PieceSteps.{TriesReady, TakesBytesOf, TakesLineOf, IsToGoOn, IsToStop};
+    ghost use Rattle.isort_find.specs.Private.PieceSteps.{HasTakenAll, ReadsUnread, TakesReady, Rests, walker_of, with_passed, with_walker};
+    ghost use Rattle.isort_find.specs.Private.Walks.{with_fault};
 
     /// A finder at the start of a text, before its first piece. It answers `Memory` alone.
     pub fn new(alloc: Global, options: FindOptions) -> Result<PieceFinder, FindError>
@@ -139,22 +141,47 @@ impl PieceFinder {
         passed + self.scanner.held().len() - held
     }
 
-    /// Takes bytes up to the end of a logical line, and reads that line: how many.
+    /// The text has this fault, from now on. The logical line that has it begins at `start`.
+    fn fail(&mut self, start: LineStart, fault: Fault) -> FindError
+        ensures answer { result ≡ FindError.Fault fault }
+        ensures kept { self.new ≡ with_walker self.old (with_fault (walker_of self.old) start fault) }
+    {
+        self.walker.fail(start, fault)
+    }
+
+    /// Hands bytes to the scanner, up to the end of a logical line: how many. Where lines may be passed over, one in which neither
+    /// `import` nor `from` stands is let go at once.
+    #[inline(always)]
+    fn feed_line(&mut self, piece: &[u8]) -> Result<usize, LexError>
+        requires fits { fed_of self.old.scanning + length piece.now ≤ 2 ^ 62 }
+        requires open_yet { self.old.scanning.ended ≡ false }
+        ensures { FeedsLine self.old piece.now result self.new }
+    {
+        // A line that begins with one of the words holds it, so its tokens are read anyway.
+        let named = piece.starts_with(b"import") || piece.starts_with(b"from");
+        if self.walker.may_pass_lines() && !named {
+            return self.scanner.feed_naming(piece, b"import", b"from");
+        }
+        self.scanner.feed(piece)
+    }
+
+    /// Takes bytes up to the end of a logical line, and reads that line, if it may bind something: how many.
     #[inline(always)]
     fn take_line(&mut self, piece: &[u8]) -> Result<usize, FindError>
         requires fits { fed_by self.old + length piece.now ≤ 2 ^ 62 }
         requires open_yet { self.old.scanning.ended ≡ false }
         requires between { IsBetween self.old }
-        ensures { TakesBytesOf self.old piece.now result self.new }
+        ensures { TakesLineOf self.old piece.now result self.new }
     {
         known_laws();
+        lines_without_import_bind_nothing();
         let start = self.start();
-        match self.scanner.feed(piece) {
+        match self.feed_line(piece) {
             Ok(taken) => {
                 self.try_line()?;
                 Ok(taken)
             }
-            Err(LexError::Fault(fault)) => Err(self.walker.fail(start, fault)),
+            Err(LexError::Fault(fault)) => Err(self.fail(start, fault)),
             Err(LexError::Memory) => Err(FindError::Memory),
         }
     }
@@ -175,6 +202,7 @@ impl PieceFinder {
         let mut taken = 0;
         'lines: loop {
             taken += self.pass_lines(piece, taken, &mut words, &mut pauses);
+            let place = self.start().offset;
             match self.take_line(&piece[taken..]) {
                 Ok(more) => taken += more,
                 Err(FindError::Fault(fault)) => return Err(FindError::Fault(fault)),
@@ -185,23 +213,24 @@ impl PieceFinder {
                     return Ok(taken);
                 }
             }
-            if !self.goes_on(taken < piece.len()) {
+            if !self.goes_on(taken < piece.len(), place) {
                 return Ok(taken);
             }
         }
     }
 
-    /// Whether nothing is ready, and there is more of the piece, or a line is held that gave nothing.
-    fn goes_on(&self, more: bool) -> bool
-        ensures goes { IsTrue result → IsToGoOn self.now more }
-        ensures done { result ≡ false → has_ready self.now ≡ false → IsToStop self.now more }
+    /// Whether nothing is ready, and there is more of the piece, or a line that began at byte `place` was let go, or one is held that
+    /// gave nothing.
+    fn goes_on(&self, more: bool, place: u64) -> bool
+        ensures goes { IsTrue result → IsToGoOn self.now more place }
+        ensures done { result ≡ false → has_ready self.now ≡ false → IsToStop self.now more place }
     {
         if !self.walker.is_open() || self.has_ready() {
             return false;
         }
         match self.scanner.ready() {
             Some(_) => true,
-            None => more,
+            None => more || self.scanner.offset() > place,
         }
     }
 

@@ -9,8 +9,8 @@ pub mod Loops
 pub mod Begun
 pub mod Characters
 pub mod ReadyLines
-pub mod MadeReady
 pub mod LastBytes
+pub mod Needles
 pub mod NextHeld
 pub mod Chunks
 pub mod FailedHeld

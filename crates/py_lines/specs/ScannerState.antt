@@ -4,6 +4,7 @@
 -- (`WhereScans`, `WhereFed`, `WhereWhole`), and then what the state itself has become.
 pub mod View
 use Rattle.std.specs.Prelude.{◌≡◌, ℕ, ◌+◌, ◌<◌, ◌≤◌, ◌⊎◌, Bool, true, false, Option, None, Some, Result, Ok, Err, List, [], ◌∷◌, ◌++◌, flat_map, length, take, drop}
+use Rattle.memchr.specs.Find.{Nowhere, OccursAt}
 use Rattle.py_lines.specs.Character.{is_return}
 use Rattle.py_lines.specs.Piece.{ends}
 use Rattle.py_lines.specs.LogicalLine.{LogicalLine}
@@ -140,6 +141,14 @@ Feeds old piece (Ok n) new = TakesBytes old piece n new
 Feeds old piece (Err (lex.Fault f)) new = MeetsFault old piece f new
 Feeds old piece (Err lex.Memory) new = ScannerRunsOut old new
 
+-- this word stands nowhere in these bytes
+abbrev pub LacksWord : List ℕ → List ℕ → Type 0
+LacksWord bytes word = Nowhere (OccursAt bytes word) 0 (length bytes)
+
+-- neither word stands in these bytes
+abbrev pub LacksBoth : List ℕ → List ℕ → List ℕ → Type 0
+LacksBoth word other bytes = LacksWord bytes word × LacksWord bytes other
+
 -- the scanner scans this text, of which it has released these lines, and the bytes fed settle them
 abbrev pub HasSettled : ScannerState → List ℕ → List LogicalLine → Type 0
 HasSettled s text lines = IsScanning s text lines × IsSettled (take (fed_of s) text) lines
@@ -155,6 +164,21 @@ pub record Releases (old new : ScannerState) : Type 0 where
   pub none_ready : new.ready ≡ None
   pub ended : new.ended ≡ old.ended
   pub fault : new.fault ≡ old.fault
+
+-- So many bytes of a piece were taken, and a line in which neither word stands was released at once, if one got ready with them: then
+-- none is ready. A line that is ready was so before, or one of the words stands in it. One that was ready before stays so.
+pub record TakesNaming (word other : List ℕ) (old : ScannerState) (piece : List ℕ) (n : ℕ) (new : ScannerState) : Type 0 where
+  pub mid : ScannerState
+  pub takes : TakesBytes old piece n mid
+  pub same : (new ≡ mid) ⊎ ((line : LogicalLine) × (mid.ready ≡ Some line) × LacksBoth word other line.text × Releases mid new)
+  pub kept : (line : LogicalLine) → new.ready ≡ Some line → (old.ready ≡ Some line) ⊎ ¬ (LacksBoth word other line.text)
+  pub waits : (line : LogicalLine) → old.ready ≡ Some line → new ≡ old
+
+-- what a call that is fed a piece answers, where lines in which neither word stands are released at once
+abbrev pub FeedsNaming : List ℕ → List ℕ → ScannerState → List ℕ → Result ℕ LexError → ScannerState → Type 0
+FeedsNaming word other old piece (Ok n) new = TakesNaming word other old piece n new
+FeedsNaming word other old piece (Err (lex.Fault f)) new = MeetsFault old piece f new
+FeedsNaming word other old piece (Err lex.Memory) new = ScannerRunsOut old new
 
 -- the scanner stands after a line that was released: it holds at most the one byte that has shown that CR ends it, and the text goes on
 pub record StandsAfterLine (s : ScannerState) : Type 0 where

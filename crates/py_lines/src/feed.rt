@@ -6,7 +6,7 @@ ghost use Rattle.std.specs.Str.{StartsWithNoChar};
 ghost use Rattle.py_lines.specs.Private.Feed.{TellsHopeless};
 ghost use Rattle.py_lines.specs.Private.LineTokens.{IsLineText};
 ghost use Rattle.py_lines.specs.Private.Outline.{BeginWithLines};
-ghost use Rattle.py_lines.specs.ScannerState.{HoldsAfterLines};
+ghost use Rattle.py_lines.specs.ScannerState.{HoldsAfterLines, LacksBoth};
 
 use crate::fault::{Fault, FaultKind, LexError};
 use crate::line_state::LineState;
@@ -14,6 +14,7 @@ use crate::outline::simple_lines;
 use crate::plain_strings::Passed;
 use crate::scan::Stop;
 use crate::unit::Unit;
+use memchr::memmem;
 use std::alloc::{AllocError, Global};
 
 /// How many bytes are taken at once to follow those that are held, if no more are held. Most lines have fewer.
@@ -92,6 +93,15 @@ fn hold_after_lines(held: &mut Vec<u8>, bytes: &[u8], lines: Passed) -> bool
     true
 }
 
+/// Whether neither word stands in these bytes.
+fn lacks_both(bytes: &[u8], word: &[u8], other: &[u8]) -> bool
+    requires { 0 < length bytes.now }
+    ensures yes { IsTrue result → LacksBoth word.now other.now bytes.now }
+    ensures no { result ≡ false → ¬ (LacksBoth word.now other.now bytes.now) }
+{
+    memmem::find(bytes, word).is_none() && memmem::find(bytes, other).is_none()
+}
+
 /// The text since the line that was released last, and how far it was scanned.
 #[derive(Drop)]
 pub struct Feed {
@@ -107,13 +117,13 @@ pub struct Feed {
 
 impl Feed {
     ghost use Rattle.std.specs.Prelude.{◌&&◌, not, IsTrue, true, false, None, Some, Ok, Err, List, [], IsUtf8};
-    ghost use Rattle.py_lines.specs.ScannerState.{begun_at, Finishes, PassesPieceLines, StandsAfterLine};
+    ghost use Rattle.py_lines.specs.ScannerState.{begun_at, Feeds, FeedsNaming, Finishes, PassesPieceLines, StandsAfterLine};
     ghost use Rattle.py_lines.specs.ScannerState.View.{ready_of, scanning_of};
     ghost use Rattle.py_lines.specs.UnitLine.{line_in};
     ghost use Rattle.py_lines.specs.Private.Scan.{is_returned};
-    ghost use Rattle.py_lines.specs.Private.Feed.{HasRoom, IsOpen, FailsAt, GetsReady, ScansCharacters, ScansHeld};
-    ghost use Rattle.py_lines.specs.Private.Feed.{StopsHeld, whole_end, GivesBack, TakesChunk, HasScannedNext};
-    ghost use Rattle.py_lines.specs.Private.Feed.{IsScanned, IsReady, IsSoundFeed, FeedsSo, EndsHeld, EndsText, LetsGo};
+    ghost use Rattle.py_lines.specs.Private.Feed.{HasRoom, IsOpen, FailsAt, ReadsTokens, ScansCharacters, ScansHeld};
+    ghost use Rattle.py_lines.specs.Private.Feed.{StopsHeld, whole_end, GivesBack, TakesChunk, HasScannedNext, WaitsSo};
+    ghost use Rattle.py_lines.specs.Private.Feed.{HoldsLine, IsScanned, IsSoundFeed, TakesSo, EndsHeld, EndsText, LetsGo};
 
     /// At this byte of a text, which is on this line. Nothing was fed.
     pub fn at(alloc: Global, place: u64, line: u64) -> Feed
@@ -140,20 +150,21 @@ impl Feed {
         self.state.fail(kind, prefix)
     }
 
-    /// Reads the tokens of the line that has ended where the scan stopped, with so many bytes of line end: it is ready then. If there
-    /// is no memory for them, the scan is begun anew.
-    fn get_ready(&mut self, end_len: usize) -> Result<(), LexError>
+    /// Reads the tokens of the line that has ended where the scan stopped. If there is no memory for them, no line is ready: only so
+    /// many bytes stay held, and their scan is begun anew.
+    fn read_tokens(&mut self, before: usize) -> Result<(), LexError>
         requires within { self.old.state.scan.stop ≤ length self.old.held.items }
         requires text { IsLineText (take self.old.state.scan.stop self.old.held.items) }
         requires room { HasRoom self.old 0 }
-        ensures { GetsReady self.old end_len result self.new }
+        ensures { ReadsTokens self.old before result self.new }
     {
         let stop = self.state.scan.stop;
         if let Err(error) = self.state.read_tokens(&self.held[..stop]) {
+            self.held.truncate(before);
+            self.ready = None;
             self.state.restart();
             return Err(error.into());
         }
-        self.ready = Some(end_len);
         Ok(())
     }
 
@@ -182,7 +193,8 @@ impl Feed {
         }
         if self.state.scan.is_returned() {
             self.state.scan.free();
-            return self.get_ready(1);
+            self.ready = Some(1);
+            return Ok(());
         }
         if is_hopeless(&self.held[self.state.scan.stop..]) {
             let offset = self.state.scan.stop;
@@ -200,7 +212,10 @@ impl Feed {
         ensures { ScansHeld self.old result self.new }
     {
         match stop {
-            Stop::LineEnd(len) => self.get_ready(len),
+            Stop::LineEnd(len) => {
+                self.ready = Some(len);
+                Ok(())
+            }
             Stop::TextEnd => self.scan_part(),
             Stop::Refused(c) => {
                 let line_fault = self.state.scan.refusal(c);
@@ -275,10 +290,7 @@ impl Feed {
             self.state.restart();
             return Err(error.into());
         }
-        if let Err(error) = self.get_ready(end_len) {
-            self.held.clear();
-            return Err(error);
-        }
+        self.ready = Some(end_len);
         Ok(len)
     }
 
@@ -298,17 +310,9 @@ impl Feed {
             self.state.restart();
             return Err(error.into());
         }
-        match self.meet(stop) {
-            Ok(()) => {
-                self.give_back(0);
-                Ok(self.held.len())
-            }
-            Err(LexError::Fault(fault)) => Err(LexError::Fault(fault)),
-            Err(LexError::Memory) => {
-                self.held.clear();
-                Err(LexError::Memory)
-            }
-        }
+        self.meet(stop)?;
+        self.give_back(0);
+        Ok(self.held.len())
     }
 
     /// Takes bytes of these where none is held, up to a line's end: how many. They are scanned where they stand. If there
@@ -339,32 +343,20 @@ impl Feed {
             return self.take_first(chunk);
         }
         self.held.extend_from_slice(chunk)?;
-        match self.scan_held() {
-            Ok(()) => {
-                self.give_back(before);
-                Ok(self.held.len() - before)
-            }
-            Err(LexError::Fault(fault)) => Err(LexError::Fault(fault)),
-            Err(LexError::Memory) => {
-                self.held.truncate(before);
-                Err(LexError::Memory)
-            }
-        }
+        self.scan_held()?;
+        self.give_back(before);
+        Ok(self.held.len() - before)
     }
 
-    /// Takes bytes of a piece, up to a line's end: how many.
-    pub fn feed(&mut self, piece: &[u8]) -> Result<usize, LexError>
+    /// Takes bytes of a piece, up to a line's end: how many. Its tokens are not read.
+    fn take_bytes(&mut self, piece: &[u8]) -> Result<usize, LexError>
         requires sound { IsSoundFeed self.old }
+        requires no_fault { self.old.state.fault ≡ None }
+        requires not_ready { self.old.ready ≡ None }
         requires fits { self.old.state.place + length self.old.held.items + length piece.now
             ≤ 2 ^ 62 }
-        ensures { FeedsSo self.old piece.now result self.new }
+        ensures { TakesSo self.old piece.now result self.new }
     {
-        if let Some(fault) = self.state.fault {
-            return Err(LexError::Fault(fault));
-        }
-        if self.ready.is_some() {
-            return Ok(0);
-        }
         if piece.is_empty() {
             self.scan_held()?;
         }
@@ -382,9 +374,69 @@ impl Feed {
         Ok(taken)
     }
 
-    /// Releases the line that is ready.
+    /// Whether a line is ready, and so no byte is taken; or the fault, once it was met.
+    #[inline(always)]
+    fn waits(&self) -> Result<bool, LexError>
+        ensures { WaitsSo self.now result }
+    {
+        match self.state.fault {
+            Some(fault) => Err(LexError::Fault(fault)),
+            None => Ok(self.ready.is_some()),
+        }
+    }
+
+    /// Takes bytes of a piece, up to a line's end: how many.
+    pub fn feed(&mut self, piece: &[u8]) -> Result<usize, LexError>
+        requires sound { IsSoundFeed self.old }
+        requires fits { self.old.state.place + length self.old.held.items + length piece.now
+            ≤ 2 ^ 62 }
+        ensures feeds { Feeds (scanning_of self.old) piece.now result (scanning_of self.new) }
+        ensures sound { IsSoundFeed self.new }
+    {
+        if self.waits()? {
+            return Ok(0);
+        }
+        let before = self.held.len();
+        let taken = self.take_bytes(piece)?;
+        if self.ready.is_some() {
+            self.read_tokens(before)?;
+        }
+        Ok(taken)
+    }
+
+    /// Takes bytes of a piece, up to a line's end: how many. A line in which neither word stands is let go at once, without its tokens.
+    pub fn feed_naming(
+        &mut self,
+        piece: &[u8],
+        word: &[u8],
+        other: &[u8],
+    ) -> Result<usize, LexError>
+        requires sound { IsSoundFeed self.old }
+        requires fits { self.old.state.place + length self.old.held.items + length piece.now
+            ≤ 2 ^ 62 }
+        ensures feeds { FeedsNaming word.now other.now (scanning_of self.old) piece.now result
+            (scanning_of self.new) }
+        ensures sound { IsSoundFeed self.new }
+    {
+        if self.waits()? {
+            return Ok(0);
+        }
+        let held = self.held.len();
+        let taken = self.take_bytes(piece)?;
+        if self.ready.is_none() {
+            return Ok(taken);
+        }
+        if lacks_both(&self.held[..self.state.scan.stop], word, other) {
+            self.release();
+            return Ok(taken);
+        }
+        self.read_tokens(held)?;
+        Ok(taken)
+    }
+
+    /// Releases the line that is ready. Its tokens need not be read.
     pub fn release(&mut self)
-        requires ready { (end_len : ℕ) × IsReady self.old end_len }
+        requires ready { (end_len : ℕ) × HoldsLine self.old end_len }
         requires fits { self.old.state.place + length self.old.held.items ≤ 2 ^ 62 }
         ensures { LetsGo self.old self.new }
     {
@@ -451,13 +503,15 @@ impl Feed {
         ensures { EndsHeld self.old result self.new }
     {
         if self.state.scan.is_returned() {
-            return self.get_ready(1);
+            self.ready = Some(1);
+            return Ok(());
         }
         let rest = self.held.len() - self.state.scan.stop;
         if let Some(line_fault) = self.state.end_fault(rest) {
             return Err(self.fail(line_fault.kind, line_fault.place));
         }
-        self.get_ready(0)
+        self.ready = Some(0);
+        Ok(())
     }
 
     /// The text's last line, which is ready then, if anything is held; or the fault that stands there.
@@ -485,6 +539,10 @@ impl Feed {
             return Err(LexError::Fault(fault));
         }
         self.end_text()?;
+        let all = self.held.len();
+        if self.ready.is_some() {
+            self.read_tokens(all)?;
+        }
         self.ended = true;
         Ok(())
     }

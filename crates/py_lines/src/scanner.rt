@@ -1,7 +1,7 @@
 //! The logical lines of a text that comes in pieces.
 ghost use Rattle.std.specs.Prelude.{◌≡◌, ℕ, ◌+◌, ◌<◌, ◌≤◌, ◌^◌, false, None, Some, IsSome, List, [], length, IfOk, IfErr};
 ghost use Rattle.py_lines.specs.ScannerState.{ScannerState, IsScanning, ScansFrom, begun_at, fed_of};
-ghost use Rattle.py_lines.specs.ScannerState.{Feeds, Releases, PassesPieceLines, Finishes};
+ghost use Rattle.py_lines.specs.ScannerState.{Feeds, FeedsNaming, Releases, PassesPieceLines, Finishes};
 ghost use Rattle.py_lines.specs.ScannerState.View.{scanning_of};
 ghost use Rattle.py_lines.specs.UnitLine.{line_in};
 ghost use Rattle.py_lines.specs.Private.Feed.{IsSoundFeed};
@@ -65,13 +65,31 @@ impl Scanner {
     /// too. No other byte after the line is taken.
     ///
     /// The error is `Fault` as soon as the bytes decide it, and at each later call again. It is `Memory` where a growth was
-    /// refused before the first byte: none was taken, and the scanner is as it was.
+    /// refused and so no byte was taken: the scanner is as it was.
     pub fn feed(&mut self, piece: &[u8]) -> Result<usize, LexError>
         requires fits { fed_of self.old + length piece.now ≤ 2 ^ 62 }
         requires open_yet { self.old.ended ≡ false }
         ensures feeds { Feeds self.old piece.now result self.new }
     {
         self.feed.feed(piece)
+    }
+
+    /// Takes bytes of a piece as [`Scanner::feed`] does, and answers how many. A line that gets ready and holds neither word is released at
+    /// once. Words count by their bytes alone, in strings and comments too. It is quicker than [`Scanner::feed`] where most lines hold
+    /// none of them, since it reads no tokens of those that it releases.
+    ///
+    /// The errors are those of [`Scanner::feed`].
+    pub fn feed_naming(
+        &mut self,
+        piece: &[u8],
+        word: &[u8],
+        other: &[u8],
+    ) -> Result<usize, LexError>
+        requires fits { fed_of self.old + length piece.now ≤ 2 ^ 62 }
+        requires open_yet { self.old.ended ≡ false }
+        ensures feeds { FeedsNaming word.now other.now self.old piece.now result self.new }
+    {
+        self.feed.feed_naming(piece, word, other)
     }
 
     /// The line that is ready, lent out of the scanner, if one is. It isn't empty.
@@ -94,7 +112,7 @@ impl Scanner {
     /// Passes over the next logical lines (2.1.1) without their tokens, one after another, and answers how many bytes they have. `bytes`
     /// is the text from [`Scanner::offset`] on: the byte that is held, if one is, and the piece after it. The lines are fed and released
     /// then. Where CR alone ends the last one, the byte after it is fed, too, and held. The answer is 0 where no line is passed over, and
-    /// then nothing changed. It takes no memory but for that byte, and is quicker than [`Scanner::feed`].
+    /// then nothing changed. It takes no memory except for that byte, and is quicker than [`Scanner::feed`].
     ///
     /// A line is passed over where it ends at byte `before` of `bytes` or before it, and is simple: it is ASCII except in comments and in
     /// strings without fields, where CR stands before LF alone. Which lines are simple is not promised. None is passed over at the text's

@@ -1,5 +1,5 @@
 -- What a finder over pieces is once bytes were taken line by line.
-use Rattle.std.proofs.Common.{◌≡◌, ℕ, ◌+◌, ◌-◌, ◌*◌, ◌<◌, ◌≤◌, true, false, nat_lt, zero, suc, Option, None, Some, List, [], ◌++◌, length, take, drop, inl, inr, ◌⊎◌, refl, sym, ap, ◌∙◌, subst, length-append, arith}
+use Rattle.std.proofs.Common.{◌≡◌, ℕ, ◌+◌, ◌-◌, ◌*◌, ◌<◌, ◌≤◌, Bool, true, false, nat_lt, zero, suc, Option, None, Some, Ok, List, [], ◌++◌, length, take, drop, inl, inr, ◌⊎◌, refl, sym, ap, ◌∙◌, subst, length-append, arith}
 use Rattle.std.proofs.lemmas.Bool.{ltb-true}
 use Rattle.std.proofs.Math.Seq.{take-add, take-append_seam}
 use Rattle.std.proofs.lemmas.List.{length-take-le, length-drop, drop-take}
@@ -9,9 +9,9 @@ use Rattle.py_lines.specs.declared.fault.Fault.{Fault}
 use Rattle.py_imports.specs.BindingValue.{BindingValue}
 use Rattle.isort_find.specs.Settled.{DecidesFound}
 use Rattle.isort_find.specs.Cursor.{CursorState}
-use Rattle.isort_find.specs.Position.{phase_in, skip_in}
+use Rattle.isort_find.specs.Position.{phase_in, ready_in, skip_in}
 use Rattle.isort_find.specs.Pieces.{PieceFinderState, piece_finder_state, options_for, fed_by, has_ready, HasFoundIn, PieceFinderRunsOut, MeetsFaultIn}
-use Rattle.isort_find.specs.Private.PieceSteps.{Advances, IsToGoOn, TakesLines, TakesNothing}
+use Rattle.isort_find.specs.Private.PieceSteps.{Advances, IsToGoOn, IsToStop, TakesLineOf, TakesLines, TakesNothing}
 use Rattle.isort_find.specs.declared.options.FindOptions.{FindOptions}
 use Rattle.isort_find.specs.declared.pending.LineStart.{LineStart}
 use Rattle.isort_find.specs.declared.walker.Position.{Position}
@@ -91,7 +91,9 @@ abbrev pub left_to_take : ℕ → ScannerState → ℕ
 left_to_take rest s = rest * 4 + length s.held * 2 + (1 - length (ready_lines s.ready))
 
 -- it falls where lines are passed over, and then bytes are taken
-pub takes_fewer : (old mid new : ScannerState) (rest left k m : ℕ) → left + (k + m) ≡ rest → length mid.held ≤ length old.held + k → ((line : LogicalLine) → old.ready ≡ Some line → length mid.held < length old.held + k) → length new.held ≤ length mid.held + m → (m ≡ 0 → (line : LogicalLine) × (new.ready ≡ Some line)) → left_to_take left new < left_to_take rest old
+takes_fewer : (old mid new : ScannerState) (rest left k m : ℕ) → left + (k + m) ≡ rest → length mid.held ≤ length old.held + k
+    → ((line : LogicalLine) → old.ready ≡ Some line → length mid.held < length old.held + k) → length new.held ≤ length mid.held + m
+    → (m ≡ 0 → (line : LogicalLine) × (new.ready ≡ Some line)) → left_to_take left new < left_to_take rest old
 takes_fewer old mid new rest left k m size held gone more ready = by (k + m) refl old.ready refl
   where
     by : (n : ℕ) → k + m ≡ n → (r : Option LogicalLine) → old.ready ≡ r → left_to_take left new < left_to_take rest old
@@ -99,13 +101,53 @@ takes_fewer old mid new rest left k m size held gone more ready = by (k + m) ref
     by zero none None is = omega (arith, none, size, held, more, ap (λ x. length (ready_lines x)) is, ap (λ x. length (ready_lines x)) (ready (omega (arith, none))).1)
     by zero none (Some line) is = omega (arith, none, size, gone line is, more, ap (λ x. length (ready_lines x)) (ready (omega (arith, none))).1)
 
--- where no byte is taken and the finder goes on, a line has got ready
-pub ready_after : (piece : List ℕ) (at m : ℕ) (f : PieceFinderState) → (m ≡ 0 → drop at piece ≡ []) → IsToGoOn f (nat_lt (at + m) (length piece)) → m ≡ 0 → (line : LogicalLine) × (f.scanning.ready ≡ Some line)
-ready_after piece at m f some goes none_taken = by goes.either
+-- it falls too where a line was let go at once, whether bytes were taken or not
+lets_fewer : (old mid new : ScannerState) (rest left k m : ℕ) → left + (k + m) ≡ rest → length mid.held ≤ length old.held + k
+    → length new.held < length mid.held + m → left_to_take left new < left_to_take rest old
+lets_fewer old mid new rest left k m size held fewer = omega (arith, size, held, fewer)
+
+-- what was found with a line is found, whether it was let go at once or not
+pub line_advances : (mid new : PieceFinderState) (piece : List ℕ) (m : ℕ) → TakesLineOf mid piece (Ok m) new → Advances mid piece m new
+line_advances mid new piece m (inl takes) = takes.advances
+line_advances mid new piece m (inr passes) = passes.advances
+
+-- no byte was taken only where there is none
+line_some : (mid new : PieceFinderState) (piece : List ℕ) (m : ℕ) → TakesLineOf mid piece (Ok m) new → m ≡ 0 → piece ≡ []
+line_some mid new piece m (inl takes) = takes.some
+line_some mid new piece m (inr passes) = passes.some
+
+-- where the finder goes on, less is left to take
+pub line_fewer : (old : ScannerState) (mid new : PieceFinderState) (piece : List ℕ) (rest left at k m : ℕ) → left + (k + m) ≡ rest
+    → length mid.scanning.held ≤ length old.held + k → ((line : LogicalLine) → old.ready ≡ Some line
+    → length mid.scanning.held < length old.held + k) → phase_in mid.position ≡ phase.Open → TakesLineOf mid (drop at piece) (Ok m) new
+    → IsToGoOn new (nat_lt (at + m) (length piece)) mid.scanning.place → left_to_take left new.scanning < left_to_take rest old
+line_fewer old mid new piece rest left at k m size held gone opened line goes = by goes.either
   where
-    by : (nat_lt (at + m) (length piece) ≡ true) ⊎ ((line : LogicalLine) × (f.scanning.ready ≡ Some line)) → (line : LogicalLine) × (f.scanning.ready ≡ Some line)
-    by (inl more) = absurd (omega (arith, ltb-true (at + m) (length piece) more, ap length (some none_taken), length-drop at piece))
-    by (inr ready) = ready
+    next : Advances mid (drop at piece) m new
+    next = line_advances mid new (drop at piece) m line
+
+    by : (nat_lt (at + m) (length piece) ≡ true) ⊎ (mid.scanning.place < new.scanning.place)
+        ⊎ ((line : LogicalLine) × (new.scanning.ready ≡ Some line)) → left_to_take left new.scanning < left_to_take rest old
+    by (inl more) = takes_fewer old mid.scanning new.scanning rest left k m size held gone next.held
+        (λ none. absurd (omega (
+          arith,
+          ltb-true (at + m) (length piece) more,
+          ap length (line_some mid new (drop at piece) m line none),
+          length-drop at piece,
+        )))
+    by (inr (inl further)) = lets_fewer old mid.scanning new.scanning rest left k m size held
+        (let fed = next.fed in omega (arith, further, fed, fed_open mid opened, fed_open new goes.is_open))
+    by (inr (inr ready)) = takes_fewer old mid.scanning new.scanning rest left k m size held gone next.held (λ none. ready)
+
+-- where the finder stops with nothing ready, the line wasn't let go at once
+pub line_stops : (mid new : PieceFinderState) (piece : List ℕ) (m : ℕ) (more : Bool) → TakesLineOf mid piece (Ok m) new
+    → (has_ready new ≡ false → IsToStop new more mid.scanning.place) → TakesLines mid piece m new
+line_stops mid new piece m more (inl takes) stops = takes
+line_stops mid new piece m more (inr passes) stops = absurd (by (stops (ap ready_in passes.between.position)))
+  where
+    by : IsToStop new more mid.scanning.place → ⊥
+    by (inl over) = over (ap phase_in passes.between.position)
+    by (inr none) = let stays = none.stays in omega (arith, stays, passes.further)
 
 -- memory ran out, and the next line is left unread
 abbrev pub lost : PieceFinderState → LineStart → PieceFinderState

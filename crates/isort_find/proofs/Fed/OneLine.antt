@@ -42,7 +42,7 @@ moved_on s t cursor text skip values b released place = record {
     moved (inr e) = inr (e ∙ sym place)
 
 -- bytes were taken, and the finder is between the same lines
-taken_between : (old : PieceFinderState) (t : ScannerState) → BeginsLine old t → (s : ScannerState) (piece : List ℕ) (n : ℕ) → TakesBytes t piece n s → (text : List ℕ) (values : List BindingValue) → HasFoundIn old text values → GoesOnWith text (fed_by old) (take n piece) → IsBetweenLines s old.cursor text (skip_in old.position) values
+pub taken_between : (old : PieceFinderState) (t : ScannerState) → BeginsLine old t → (s : ScannerState) (piece : List ℕ) (n : ℕ) → TakesBytes t piece n s → (text : List ℕ) (values : List BindingValue) → HasFoundIn old text values → GoesOnWith text (fed_by old) (take n piece) → IsBetweenLines s old.cursor text (skip_in old.position) values
 taken_between old t b s piece n takes text values h goes =
     let between = begun_between old t b text values h in
     let lines = between.after.lines in

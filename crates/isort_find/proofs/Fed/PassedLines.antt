@@ -17,7 +17,7 @@ use Rattle.isort_find.proofs.Finds.PassedOn.{after_passed}
 use Rattle.isort_find.proofs.Fed.LetGo.{BeginsLine, line_begun, begun_between, begun_fed, begun_held, begun_gone, begun_scanning, ended_gone}
 
 -- after more lines, which bind nothing, the same was found
-passed_between : (t s : ScannerState) (cursor : CursorState) (text : List ℕ) (skip : ℕ) (values : List BindingValue) (lines : List LogicalLine) (b : IsBetweenLines t cursor text skip values) → skip ≡ 0 → cursor.options.top_only ≡ false → BindAll lines [] → IsScanning s text (b.after.lines ++ lines) → IsBetweenLines s cursor text skip values
+pub passed_between : (t s : ScannerState) (cursor : CursorState) (text : List ℕ) (skip : ℕ) (values : List BindingValue) (lines : List LogicalLine) (b : IsBetweenLines t cursor text skip values) → skip ≡ 0 → cursor.options.top_only ≡ false → BindAll lines [] → IsScanning s text (b.after.lines ++ lines) → IsBetweenLines s cursor text skip values
 unfolding after_passed
 passed_between t s cursor text skip values lines b fresh counts binds scanning = record {
   after = after_passed text cursor.options t.place t.line skip values b.after fresh counts lines binds s.place s.line scanning.first;
@@ -26,7 +26,7 @@ passed_between t s cursor text skip values lines b fresh counts binds scanning =
 }
 
 -- the finder goes on after bytes that were passed over, with its line let go
-gone_on : (old : PieceFinderState) (t : ScannerState) → BeginsLine old t → (s : ScannerState) (piece : List ℕ) (n : ℕ) → n ≤ length piece → t.place ≤ s.place → fed_of s ≡ fed_of t + n → s ≡ record t { place = s.place; line = s.line; held = s.held } → InEachText old (take n piece) (λ text values. IsBetweenLines s old.cursor text (skip_in old.position) values) → PassesLines old piece n (line_begun old s)
+pub gone_on : (old : PieceFinderState) (t : ScannerState) → BeginsLine old t → (s : ScannerState) (piece : List ℕ) (n : ℕ) → n ≤ length piece → t.place ≤ s.place → fed_of s ≡ fed_of t + n → s ≡ record t { place = s.place; line = s.line; held = s.held } → InEachText old (take n piece) (λ text values. IsBetweenLines s old.cursor text (skip_in old.position) values) → PassesLines old piece n (line_begun old s)
 gone_on old t b s piece n within further fed same between =
     let none = ap (λ (x : ScannerState). x.ready) same ∙ b.none_ready in
     record {

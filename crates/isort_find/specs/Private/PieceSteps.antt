@@ -1,7 +1,8 @@
 -- How a finder over pieces goes from one state to the next within a call.
-use Rattle.std.specs.Prelude.{◌≡◌, ℕ, ◌+◌, ◌<◌, ◌≤◌, ◌⊎◌, Bool, true, false, Option, None, Some, Result, Ok, Err, List, [], length, take}
+use Rattle.std.specs.Prelude.{◌≡◌, ℕ, ◌+◌, ◌<◌, ◌≤◌, ◌⊎◌, Bool, true, false, Option, None, Some, Result, Ok, Err, List, [], codes, length, take}
 use Rattle.py_lines.specs.LogicalLine.{LogicalLine}
-use Rattle.py_lines.specs.ScannerState.{ScannerState, Releases}
+use Rattle.py_lines.specs.ScannerState.{ScannerState, Feeds, FeedsNaming, Releases}
+use Rattle.py_lines.specs.declared.fault.LexError.{LexError}
 use Rattle.py_imports.specs.declared.binding.Binding.{Binding}
 use Rattle.isort_find.specs.Pieces.{PieceFinderState, HasFoundIn, InEachText, HasNoFault, IsUndecided, IsNextNew, PieceFinderRunsOut, MeetsFaultIn, piece_finder_state, fed_by, has_ready}
 use Rattle.isort_find.specs.Position.{phase_in, is_unread, skip_in}
@@ -91,6 +92,25 @@ pub record TakesLines (old : PieceFinderState) (piece : List ℕ) (n : ℕ) (new
   pub some : n ≡ 0 → piece ≡ []
   pub no_fault : HasNoFault new
 
+-- no binding of the next line was looked at, and no line ends the top
+pub record MayPassLines (f : PieceFinderState) : Type 0 where
+  pub fresh : skip_in f.position ≡ 0
+  pub counts : f.cursor.options.top_only ≡ false
+
+-- the scanner was fed, and nothing else changed: a line in which neither `import` nor `from` stands was let go at once, if it may be
+pub record FeedsLine (old : PieceFinderState) (piece : List ℕ) (result : Result ℕ LexError) (new : PieceFinderState) : Type 0 where
+  pub same : new ≡ record old { scanning = new.scanning }
+  pub feeds : Feeds old.scanning piece result new.scanning
+      ⊎ (MayPassLines old × FeedsNaming (codes "import") (codes "from") old.scanning piece result new.scanning)
+
+-- Bytes were taken up to a line's end, and that line was let go at once: it binds nothing. One byte more may be held, which wasn't
+-- looked at yet.
+pub record PassesLine (old : PieceFinderState) (piece : List ℕ) (n : ℕ) (new : PieceFinderState) : Type 0 where
+  pub advances : Advances old piece n new
+  pub between : IsBetween new
+  pub some : n ≡ 0 → piece ≡ []
+  pub further : old.scanning.place < new.scanning.place
+
 -- a growth was refused before the first byte, and no line is held that was read
 pub record TakesNothing (old new : PieceFinderState) : Type 0 where
   pub keeps : PieceFinderRunsOut old new
@@ -103,19 +123,30 @@ TakesBytesOf old piece (Ok n) new = TakesLines old piece n new
 TakesBytesOf old piece (Err (error.Fault fault)) new = MeetsFaultIn old piece fault new
 TakesBytesOf old piece (Err error.Memory) new = TakesNothing old new
 
+-- the same, of one line, which may have been let go at once
+abbrev pub TakesLineOf : PieceFinderState → List ℕ → Result ℕ FindError → PieceFinderState → Type 0
+TakesLineOf old piece (Ok n) new = TakesLines old piece n new ⊎ PassesLine old piece n new
+TakesLineOf old piece (Err e) new = TakesBytesOf old piece (Err e) new
+
 -- the line that ends the top was read, or the whole piece was taken and no line is held that was read
 abbrev pub HasTakenAll : List ℕ → ℕ → PieceFinderState → Type 0
 HasTakenAll piece n f = (phase_in f.position ≡ phase.End) ⊎ ((n ≡ length piece) × (f.scanning.ready ≡ None))
 
--- nothing is ready, and there is more to take, or a line is held that was read
-pub record IsToGoOn (f : PieceFinderState) (more : Bool) : Type 0 where
+-- nothing is ready, and there is more to take, or the lines that were let go end after this byte, or a line is held that was read
+pub record IsToGoOn (f : PieceFinderState) (more : Bool) (place : ℕ) : Type 0 where
   pub is_open : phase_in f.position ≡ phase.Open
   pub none_ready : has_ready f ≡ false
-  pub either : (more ≡ true) ⊎ ((line : LogicalLine) × (f.scanning.ready ≡ Some line))
+  pub either : (more ≡ true) ⊎ (place < f.scanning.place) ⊎ ((line : LogicalLine) × (f.scanning.ready ≡ Some line))
 
--- the end or a fault was met, or there is no more to take and no line is held that was read
-abbrev pub IsToStop : PieceFinderState → Bool → Type 0
-IsToStop f more = ¬ (phase_in f.position ≡ phase.Open) ⊎ ((more ≡ false) × (f.scanning.ready ≡ None))
+-- there is no more to take, no line was let go that began at this byte, and none is held that was read
+pub record HasNoMore (f : PieceFinderState) (more : Bool) (place : ℕ) : Type 0 where
+  pub all : more ≡ false
+  pub stays : f.scanning.place ≤ place
+  pub none_ready : f.scanning.ready ≡ None
+
+-- the end or a fault was met, or there is no more to take
+abbrev pub IsToStop : PieceFinderState → Bool → ℕ → Type 0
+IsToStop f more place = ¬ (phase_in f.position ≡ phase.Open) ⊎ HasNoMore f more place
 
 -- more was passed over after the top
 abbrev pub with_passed : PieceFinderState → ℕ → PieceFinderState

@@ -294,7 +294,8 @@ static BAD_SCRIPTS: &[Script] = &[
     Script(
         ALL,
         &[
-            Act::Feed(b"x = 1\nimport\nimport a\n"),
+            // The tokens of the first line are read, so that memory for them is asked for before a byte was taken.
+            Act::Feed(b"from_\nimport\nimport a\n"),
             Act::Next(1),
             Act::Finish,
             Act::Next(1),

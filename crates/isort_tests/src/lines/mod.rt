@@ -1,5 +1,6 @@
 //! Tests of py_lines.
 mod made;
+mod naming;
 mod passing;
 mod reader;
 mod rows;

@@ -1,15 +1,15 @@
 -- A piece that is taken by chunks.
-use Rattle.std.proofs.Common.{◌≡◌, ℕ, zero, suc, ◌+◌, ◌-◌, ◌<◌, ◌≤◌, false, Option, None, Some, Result, Ok, Err, List, [], ◌++◌, length, take, drop, refl, sym, ap, ◌∙◌, subst, inr, append_assoc, append-nil, arith, length-drop, length-take}
+use Rattle.std.proofs.Common.{◌≡◌, ℕ, zero, suc, ◌+◌, ◌-◌, ◌<◌, ◌≤◌, false, Option, None, Some, Result, Ok, Err, List, [], ◌++◌, length}
+use Rattle.std.proofs.Common.{take, drop, refl, sym, ap, ◌∙◌, subst, append_assoc, append-nil, arith, length-drop, length-take}
 use Rattle.std.specs.Prelude.{is_some}
-use Rattle.std.specs.Global.{Vec}
 use Rattle.std.proofs.lemmas.List.{take_all, take-take}
 use Rattle.std.proofs.Math.Seq.{take-add}
 use Rattle.py_lines.specs.declared.feed.Feed.{Feed}
 use Rattle.py_lines.specs.declared.fault.LexError.{LexError}
 use Rattle.py_lines.specs.declared.fault.LexError.TheVariants as lex
 use Rattle.py_lines.specs.declared.scan.Scan.{Scan}
-use Rattle.py_lines.specs.Private.Feed.{Restarts, EndsAfter, HoldsMore, IsScanned, IsHeldSo, IsUnchanged, IsSoundFeed, StandsSo, TakesChunk, ScansHeld, FailsWith, FailsPiece, IsLastChunk, StopsTaking, TakesSome, FeedsSo}
-use Rattle.py_lines.proofs.Feeds.Loops.{restarts_keep, restarts_ready, restarts_fault, restarts_open}
+use Rattle.py_lines.specs.Private.Feed.{EndsAfter, HoldsMore, IsScanned, IsHeldOpen, IsUnchanged, IsSoundFeed, StandsSo, TakesChunk}
+use Rattle.py_lines.specs.Private.Feed.{ScansHeld, FailsWith, FailsPiece, IsLastChunk, StopsTaking, TakesSome, TakesSo}
 
 pub none_is : (r : Option ℕ) → is_some r ≡ false → r ≡ None
 none_is None h = refl
@@ -18,29 +18,36 @@ none_is (Some n) h = absurd (cc)
 pub holds_none : (f : Feed) → HoldsMore f [] f
 holds_none f = record { held = sym (append-nil f.held.items); place = refl; line = refl; ended = refl }
 
-pub restarts_unchanged : (old new : Feed) → old.ready ≡ None → Restarts old new → IsUnchanged old new
-restarts_unchanged old new ready r =
-    let keeps = restarts_keep old new r in
-    record {
-      same = record { held = ap (λ (v : Vec ℕ). v.items) keeps.held ∙ sym (append-nil old.held.items); place = keeps.place; line = keeps.line; ended = keeps.ended };
-      ready = restarts_ready old new r;
-      fault = restarts_fault old new r;
-      state = subst (λ o. IsHeldSo o new) (sym (restarts_ready old new r ∙ ready)) ([], new.held.items, restarts_open old new r);
-    }
-
 -- where bytes of a piece are left and no line is ready, a line is open in what is held
-pub open_next : (old mid : Feed) (piece : List ℕ) (taken : ℕ) → IsSoundFeed old → old.state.fault ≡ None → old.ready ≡ None → mid.ready ≡ None → 0 < length piece → (taken ≡ 0 → 0 < length piece → mid ≡ old) → ((taken ≡ 0 → piece ≡ []) → IsScanned mid.ready mid) → IsHeldSo None mid
+pub open_next : (old mid : Feed) (piece : List ℕ) (taken : ℕ) → IsSoundFeed old → old.state.fault ≡ None → old.ready ≡ None
+    → mid.ready ≡ None → 0 < length piece → (taken ≡ 0 → 0 < length piece → mid ≡ old)
+    → ((taken ≡ 0 → piece ≡ []) → IsScanned mid.ready mid) → IsHeldOpen mid
 open_next old mid piece zero sound no_fault not_ready none some begun scanned =
-    subst (IsHeldSo None) (sym (begun refl some)) (subst (λ (r : Option ℕ). StandsSo r old) not_ready sound.state no_fault)
+    subst IsHeldOpen (sym (begun refl some)) (subst (λ (r : Option ℕ). StandsSo r old) not_ready sound.state no_fault)
 open_next old mid piece (suc n) sound no_fault not_ready none some begun scanned = go (subst (λ (r : Option ℕ). IsScanned r mid) none (scanned (λ first. absurd (omega (arith, first)))))
   where
-    go : IsScanned None mid → IsHeldSo None mid
+    go : IsScanned None mid → IsHeldOpen mid
     go (read, rest, opens, part) = (read, rest, opens)
 
 -- no bytes are fed
-pub none_taken : (old new : Feed) (piece : List ℕ) (error : LexError) → old.ready ≡ None → old.state.fault ≡ None → ScansHeld old (Err error) new → FeedsSo old piece (Err error) new
-none_taken old new piece (lex.Fault f) ready fault fails = inr (fault, record { not_ready = ready; n = 0; within = omega arith; mid = old; more = holds_none old; fails = fails })
-none_taken old new piece lex.Memory ready fault r = (fault, ready, restarts_unchanged old new ready r)
+pub none_taken : (old new : Feed) (piece : List ℕ) (error : LexError) → old.ready ≡ None → ScansHeld old (Err error) new
+    → TakesSo old piece (Err error) new
+none_taken old new piece (lex.Fault f) ready fails = record {
+  not_ready = ready;
+  n = 0;
+  within = omega arith;
+  mid = old;
+  more = holds_none
+      old;
+  fails = fails;
+}
+none_taken old new piece lex.Memory ready none = absurd none
+
+-- a fault in the bytes that are held then
+pub chunk_fault : (old mid new : Feed) (chunk : List ℕ) (error : LexError) → HoldsMore old chunk mid → ScansHeld mid (Err error) new
+    → TakesChunk old chunk (Err error) new
+chunk_fault old mid new chunk (lex.Fault f) more fails = record { mid = mid; more = more; fails = fails }
+chunk_fault old mid new chunk lex.Memory more none = absurd none
 
 -- the bytes of a piece that aren't taken yet, as a slice has them
 abbrev pub rest_of : List ℕ → ℕ → List ℕ
@@ -84,11 +91,13 @@ last_chunk old mid new piece taken len end_len more ready scanned stops is =
     }
 
 -- a fault in the chunk that was taken
-pub chunk_fails : (old mid new : Feed) (piece : List ℕ) (taken len : ℕ) (error : LexError) → is_some old.ready ≡ false → taken ≤ length piece → len ≤ length (rest_of piece taken) → HoldsMore old (take taken piece) mid → (w : FailsWith mid (take len (rest_of piece taken)) error new) → FailsPiece old piece error new
+pub chunk_fails : (old mid new : Feed) (piece : List ℕ) (taken len : ℕ) (error : LexError) → old.ready ≡ None → taken ≤ length piece
+    → len ≤ length (rest_of piece taken) → HoldsMore old (take taken piece) mid
+    → (w : FailsWith mid (take len (rest_of piece taken)) error new) → FailsPiece old piece error new
 chunk_fails old mid new piece taken len error ready within less more w =
     let is = rest_is piece taken in
     record {
-      not_ready = none_is old.ready ready;
+      not_ready = ready;
       n = taken + len;
       within = omega (arith, within, less, ap length is, length-drop taken piece);
       mid = w.mid;
@@ -97,17 +106,19 @@ chunk_fails old mid new piece taken len error ready within less more w =
     }
 
 -- where a growth was refused after the first bytes
-pub stops_short : (old mid new : Feed) (piece : List ℕ) (taken : ℕ) → is_some old.ready ≡ false → taken ≤ length piece → (taken ≡ 0 → ⊥) → HoldsMore old (take taken piece) mid → mid.state.fault ≡ old.state.fault → mid.ready ≡ None → ((taken ≡ 0 → piece ≡ []) → IsScanned mid.ready mid) → IsUnchanged mid new → TakesSome old piece taken new
+pub stops_short : (old mid new : Feed) (piece : List ℕ) (taken : ℕ) → old.ready ≡ None → taken ≤ length piece → (taken ≡ 0 → ⊥)
+    → HoldsMore old (take taken piece) mid → mid.state.fault ≡ old.state.fault → mid.ready ≡ None
+    → ((taken ≡ 0 → piece ≡ []) → IsScanned mid.ready mid) → IsUnchanged mid new → TakesSome old piece taken new
 stops_short old mid new piece taken ready within some more fault mid_ready scanned u =
     let s = u.same in
-    let is_ready : new.ready ≡ None = u.ready ∙ mid_ready in
     record {
-      not_ready = none_is old.ready ready;
+      not_ready = ready;
       within = within;
       some = λ zero. absurd (some zero);
       more = record { held = s.held ∙ append-nil mid.held.items ∙ more.held; place = s.place ∙ more.place; line = s.line ∙ more.line; ended = s.ended ∙ more.ended };
       fault = u.fault ∙ fault;
-      stops = subst (λ r. StopsTaking old piece taken r new) (sym is_ready) (mid, s, subst (λ r. IsScanned r mid) mid_ready (scanned (λ zero. absurd (some zero))), subst (λ r. IsHeldSo r new) is_ready u.state);
+      stops = subst (λ r. StopsTaking old piece taken r new) (sym u.ready)
+          (mid, s, subst (λ r. IsScanned r mid) mid_ready (scanned (λ zero. absurd (some zero))), u.opens);
     }
 
 -- what a scan of all that is held leaves, once bytes were taken
@@ -116,9 +127,11 @@ stops_taking old new piece taken None s last = (new, holds_none new, s, (s.0, s.
 stops_taking old new piece taken (Some n) s last = (s, λ some. last n some refl)
 
 -- bytes of a piece were taken up to a line's end, or all
-pub takes_some : (old new : Feed) (piece : List ℕ) (taken : ℕ) → is_some old.ready ≡ false → taken ≤ length piece → (taken ≡ 0 → piece ≡ []) → HoldsMore old (take taken piece) new → new.state.fault ≡ old.state.fault → ((taken ≡ 0 → piece ≡ []) → IsScanned new.ready new) → ((end_len : ℕ) → 0 < taken → new.ready ≡ Some end_len → IsLastChunk old piece taken end_len new) → TakesSome old piece taken new
+pub takes_some : (old new : Feed) (piece : List ℕ) (taken : ℕ) → old.ready ≡ None → taken ≤ length piece → (taken ≡ 0 → piece ≡ [])
+    → HoldsMore old (take taken piece) new → new.state.fault ≡ old.state.fault → ((taken ≡ 0 → piece ≡ []) → IsScanned new.ready new)
+    → ((end_len : ℕ) → 0 < taken → new.ready ≡ Some end_len → IsLastChunk old piece taken end_len new) → TakesSome old piece taken new
 takes_some old new piece taken ready within none more fault scanned last = record {
-  not_ready = none_is old.ready ready;
+  not_ready = ready;
   within = within;
   some = none;
   more = more;
@@ -130,4 +143,10 @@ takes_some old new piece taken ready within none more fault scanned last = recor
 pub rescanned_taken : (old new : Feed) (scan : Scan) (chunk : List ℕ) (r : Result ℕ LexError) → TakesChunk (record old { state = record old.state { scan = scan } }) chunk r new → TakesChunk old chunk r new
 rescanned_taken old new scan chunk (Ok n) t = record { some = t.some; within = t.within; more = record { held = t.more.held; place = t.more.place; line = t.more.line; ended = t.more.ended }; fault = t.fault; stops = t.stops }
 rescanned_taken old new scan chunk (Err (lex.Fault f)) t = record { mid = t.mid; more = record { held = t.more.held; place = t.more.place; line = t.more.line; ended = t.more.ended }; fails = t.fails }
-rescanned_taken old new scan chunk (Err lex.Memory) t = record { same = record { held = t.same.held; place = t.same.place; line = t.same.line; ended = t.same.ended }; ready = t.ready; fault = t.fault; state = t.state }
+rescanned_taken old new scan chunk (Err lex.Memory) t = record {
+  same = record { held = t.same.held; place = t.same.place; line = t.same.line; ended = t.same.ended };
+  ready = t.ready;
+  fault =
+      t.fault;
+  opens = t.opens;
+}

@@ -1,5 +1,6 @@
 -- The text ends with what is held: its last line, or the fault that stands there.
-use Rattle.std.proofs.Common.{◌≡◌, ℕ, ◌+◌, ◌<◌, ◌≤◌, true, false, ◌&&◌, None, Some, Result, Ok, Err, List, [], ◌∷◌, ◌++◌, length, take, refl, sym, ap, ◌∙◌, subst, append-nil, arith}
+use Rattle.std.proofs.Common.{◌≡◌, ℕ, ◌+◌, ◌<◌, ◌≤◌, true, false, ◌&&◌, None, Some, Ok, Err, List, [], ◌∷◌, ◌++◌, length, take, refl, sym}
+use Rattle.std.proofs.Common.{ap, ◌∙◌, subst, append-nil, arith}
 use Rattle.std.specs.Prelude.{encode_utf8_all}
 use Rattle.std.specs.Str.{StartsWithNoChar}
 use Rattle.std.proofs.lemmas.Bool.{both_ways, and_parts, false_from_ne_true}
@@ -18,21 +19,19 @@ use Rattle.py_lines.specs.declared.mode.Mode.TheVariants as modes
 use Rattle.py_lines.specs.declared.scan.LineFault.{LineFault}
 use Rattle.py_lines.specs.Private.Machine.{Bracket, is_final}
 use Rattle.py_lines.specs.Private.Scan.{is_returned, is_return_mode, none_open, stack_of, line_start, IsUnfinished}
-use Rattle.py_lines.specs.Private.LineState.{first_mode, with_tokens}
-use Rattle.py_lines.specs.Private.LineTokens.{HoldsTokens, IsLineText}
-use Rattle.py_lines.specs.Private.Feed.{IsOpen, IsPartOfCharacter, FailsAt, GetsReady, IsMadeReady, EndsWith, IsLastLine, HasEndFault, EndsHeld}
+use Rattle.py_lines.specs.Private.LineState.{first_mode}
+use Rattle.py_lines.specs.Private.Feed.{IsOpen, IsPartOfCharacter, FailsAt, EndsWith, IsLastLine, HasEndFault, EndsHeld}
 use Rattle.py_lines.proofs.Machine.PieceSteps.{pieces_at}
 use Rattle.py_lines.proofs.ScanMachine.Advance.{GoesTo}
 use Rattle.py_lines.proofs.LineScan.TextSteps.{way_goes}
-use Rattle.py_lines.proofs.Readers.LineAnswers.{IsScannedLine, Within, lent_line}
+use Rattle.py_lines.proofs.Readers.LineAnswers.{IsScannedLine, Within}
 use Rattle.py_lines.proofs.Readers.LineFaults.{finished, unfinished_within}
 use Rattle.py_lines.proofs.Readers.EndAnswers.{end_return, line_at_text_end, line_at_return, returned_final}
 use Rattle.py_lines.proofs.Feeds.Known.{IsKnown, is_known}
 use Rattle.py_lines.proofs.Feeds.Ended.{ended_bytes, ended_unfinished, ended_line}
 use Rattle.py_lines.proofs.Feeds.Loops.{fails_keep}
 use Rattle.py_lines.proofs.Feeds.Steps.{open_sound, open_stop, open_size, within_held}
-use Rattle.py_lines.proofs.Feeds.ReadyLines.{stopped_text, line_of_ready, ready_line}
-use Rattle.py_lines.proofs.Feeds.MadeReady.{is_line_text}
+use Rattle.py_lines.proofs.Feeds.ReadyLines.{holds_line}
 
 module _ (f : Feed) (read rest : List ℕ) (o : IsOpen f read rest) where
   -- what is known where the text ends
@@ -99,7 +98,7 @@ module _ (f : Feed) (read rest : List ℕ) (o : IsOpen f read rest) where
   IsLastScan end_len = IsScannedLine (line_start (first_mode f.state.place)) f.state.scan read end_len (pieces_at o.way.state)
 
   -- no line end closes it
-  pub plain_line : rest ≡ [] → 0 < length f.held.items → is_returned f.state.scan ≡ false → IsUnfinished f.state.scan None → IsLastScan 0
+  plain_line : rest ≡ [] → 0 < length f.held.items → is_returned f.state.scan ≡ false → IsUnfinished f.state.scan None → IsLastScan 0
   plain_line none some not_yet unfinished =
       let (final, empty) = finished f.state.scan unfinished in
       line_at_text_end (first_mode f.state.place) f.state.scan read o.way (open_sound f read rest o) (ap is_final (sym o.way.tallies.counts.mode) ∙ final) (open_yet not_yet) empty (read_some none some)
@@ -114,35 +113,28 @@ module _ (f : Feed) (read rest : List ℕ) (o : IsOpen f read rest) where
       open_nothing [] is = refl
       open_nothing (b ∷ bs) is = absurd (both_ways _ refl is)
 
-  pub returned_line : rest ≡ [] → 0 < length f.held.items → is_returned f.state.scan ≡ true → IsLastScan 1
+  returned_line : rest ≡ [] → 0 < length f.held.items → is_returned f.state.scan ≡ true → IsLastScan 1
   returned_line none some returned =
       let (mode, empty) = returned_parts returned in
       line_at_return (first_mode f.state.place) f.state.scan read o.way (open_sound f read rest o) mode empty (read_some none some)
 
-  -- its text
-  pub last_text : (end_len : ℕ) → IsLastScan end_len → IsLineText (take f.state.scan.stop f.held.items)
-  last_text end_len line = is_line_text (line_start (first_mode f.state.place)) f.state.scan f.held.items read rest end_len (pieces_at o.way.state) o.scalars o.spell line
-
-  -- it is ready, once its tokens are read
-  last_line : (new : Feed) (end_len : ℕ) → rest ≡ [] → 0 < length f.held.items → is_final f.state.scan.piece.mode ≡ true → stack_of f.state.scan.brackets ≡ [] → IsLastScan end_len → IsMadeReady f end_len new → IsLastLine f new
-  last_line new end_len none some final empty line made =
-      let tokens = new.state.tokens in
-      let ready : Feed = record f { state = with_tokens f.state new.state; ready = Some end_len } in
-      let scanned = lent_line (line_start (first_mode f.state.place)) f.state.scan new.state.scan read end_len (pieces_at o.way.state) line in
-      let holds : HoldsTokens (encode_utf8_all read) f.state.line tokens = subst (λ t. HoldsTokens t f.state.line tokens) (stopped_text f.state.scan.stop f.held.items read rest o.spell line.stop) made.tokens in
-      let is = line_of_ready ready end_len read rest (pieces_at o.way.state) o.scalars o.spell o.number scanned holds in
-      subst (IsLastLine f) (sym made.same) (record {
-        text = record { held = refl; place = refl; line = refl; ended = refl };
-        fault = refl;
-        end_len = end_len;
-        is_ready = refl;
-        ready = ready_line ready end_len read rest (pieces_at o.way.state) o.scalars o.spell o.number scanned holds;
-        all = line.stop ∙ sym (ap length (append-nil (encode_utf8_all read))) ∙ ap (λ t. length (encode_utf8_all read ++ t)) (sym none) ∙ ap length o.spell;
-        lexed = λ text lines ends.
-            let k = known_at text lines ends some in
-            subst (λ (l : LogicalLine). IsLexed text (lines ++ l ∷ []) None) (sym is)
-            (ended_line text f.state.place f.state.line lines read rest k (whole_at text lines ends) none o.way.state (subst (GoesTo (line_start (first_mode f.state.place)) read o.way.state) empty (way_goes o.way)) (ap is_final (sym o.way.tallies.counts.mode) ∙ final) line.line.some line.line.whole);
-      })
+  -- it is ready
+  last_line : (end_len : ℕ) → rest ≡ [] → 0 < length f.held.items → is_final f.state.scan.piece.mode ≡ true
+      → stack_of f.state.scan.brackets ≡ [] → IsLastScan end_len → IsLastLine f (record f { ready = Some end_len })
+  last_line end_len none some final empty line = record {
+    text = record { held = refl; place = refl; line = refl; ended = refl };
+    fault = refl;
+    end_len = end_len;
+    is_ready = refl;
+    holds = holds_line (record f { ready = Some end_len }) end_len read rest (pieces_at o.way.state) o.scalars o.spell o.number line;
+    all = line.stop ∙ sym (ap length (append-nil (encode_utf8_all read))) ∙ ap (λ t. length (encode_utf8_all read ++ t)) (sym none)
+        ∙ ap length o.spell;
+    lexed = λ text lines ends.
+        let k = known_at text lines ends some in
+        ended_line text f.state.place f.state.line lines read rest k (whole_at text lines ends) none o.way.state
+        (subst (GoesTo (line_start (first_mode f.state.place)) read o.way.state) empty (way_goes o.way))
+        (ap is_final (sym o.way.tallies.counts.mode) ∙ final) line.line.some line.line.whole;
+  }
 
   -- what these come to
   pub all_scanned : length f.held.items ≤ f.state.scan.stop → rest ≡ []
@@ -158,16 +150,14 @@ module _ (f : Feed) (read rest : List ℕ) (o : IsOpen f read rest) where
       subst (λ (e : LexError). EndsHeld f (Err e) new) (sym fails.keeps.error_is)
       (ends_open new fails.keeps.fault line_fault none some not_yet unfinished (subst (λ (e : LexError). FailsAt f line_fault.kind line_fault.place e new) fails.keeps.error_is fails) not_ready)
 
-  pub ends_so_plain : (new : Feed) (result : Result (Unit {0}) LexError) → rest ≡ [] → 0 < length f.held.items → is_returned f.state.scan ≡ false → IsUnfinished f.state.scan None → GetsReady f 0 result new → EndsHeld f result new
-  ends_so_plain new (Ok done) none some not_yet unfinished made =
+  pub ends_so_plain : rest ≡ [] → 0 < length f.held.items → is_returned f.state.scan ≡ false → IsUnfinished f.state.scan None
+      → EndsHeld f (Ok tt) (record f { ready = Some 0 })
+  ends_so_plain none some not_yet unfinished =
       let (final, empty) = finished f.state.scan unfinished in
-      last_line new 0 none some final empty (plain_line none some not_yet unfinished) made
-  ends_so_plain new (Err (lex.Fault x)) none some not_yet unfinished gets = absurd gets
-  ends_so_plain new (Err lex.Memory) none some not_yet unfinished restarts = restarts
+      last_line 0 none some final empty (plain_line none some not_yet unfinished)
 
-  pub ends_so_returned : (new : Feed) (result : Result (Unit {0}) LexError) → rest ≡ [] → 0 < length f.held.items → is_returned f.state.scan ≡ true → GetsReady f 1 result new → EndsHeld f result new
-  ends_so_returned new (Ok done) none some returned made =
+  pub ends_so_returned : rest ≡ [] → 0 < length f.held.items → is_returned f.state.scan ≡ true
+      → EndsHeld f (Ok tt) (record f { ready = Some 1 })
+  ends_so_returned none some returned =
       let (mode, empty) = returned_parts returned in
-      last_line new 1 none some (returned_final f.state.scan.piece.mode mode) empty (returned_line none some returned) made
-  ends_so_returned new (Err (lex.Fault x)) none some returned gets = absurd gets
-  ends_so_returned new (Err lex.Memory) none some returned restarts = restarts
+      last_line 1 none some (returned_final f.state.scan.piece.mode mode) empty (returned_line none some returned)

@@ -6,14 +6,13 @@ use Rattle.std.proofs.lemmas.List.{drop-drop, take_all}
 use Rattle.std.proofs.Math.Seq.{take-add}
 use Rattle.py_lines.specs.Character.{is_return}
 use Rattle.py_lines.specs.Piece.{ends, spelled}
-use Rattle.py_lines.specs.LogicalLine.{LogicalLine}
+use Rattle.py_lines.specs.LogicalLine.{LogicalLine, line_of}
 use Rattle.py_lines.specs.Fields.{AreReadBefore}
 use Rattle.py_lines.specs.Reading.{Decodes, IsBalancedReading, EndsLine}
 use Rattle.py_lines.specs.Faults.{IsLive}
 use Rattle.py_lines.specs.Settled.{IsHopeless, IsSettled, Decides}
 use Rattle.py_lines.specs.Given.{AreFirstLines}
 use Rattle.py_lines.specs.ScannerState.{GoesOnWith, EndsExactly, HoldsReady}
-use Rattle.py_lines.specs.ScannerState.View.{line_of_feed}
 use Rattle.py_lines.specs.declared.fault.Fault.{Fault}
 use Rattle.py_lines.specs.declared.feed.Feed.{Feed}
 use Rattle.py_lines.specs.declared.mode.Mode.{Mode}
@@ -31,7 +30,7 @@ use Rattle.py_lines.proofs.LineScan.TextSteps.{way_goes}
 use Rattle.py_lines.proofs.Feeds.Known.{IsKnown, known_after, is_known}
 use Rattle.py_lines.proofs.Feeds.SettledSoFar.{MayGetFeed, Follow, settled_open, settled_ready, ended_before}
 use Rattle.py_lines.proofs.Feeds.DecidedSoFar.{undecided}
-use Rattle.py_lines.proofs.Feeds.ReadyLines.{stopped_text, ended_scan}
+use Rattle.py_lines.proofs.Feeds.ReadyLines.{IsLineOfText, ended_scan}
 use Rattle.py_lines.proofs.Feeds.LastBytes.{exactly_encoded}
 use Rattle.py_lines.proofs.Feeds.NextHeld.{next_pieces, next_line, next_is, next_some}
 
@@ -83,7 +82,11 @@ never_before text new mid lines n all after r e spell whole first goes settled =
     by_whole (inr (b, more, is, other)) none = absurd (omega (arith, ap length (sym is ∙ none)))
 
 -- the line that has ended with the bytes taken last is settled, and what is held is it, with one byte more after CR alone
-module _ (text : List ℕ) (new mid : Feed) (lines : List LogicalLine) (n : ℕ) (e : EndsLineHeld n new) (last : EndsExactly e.all e.after ⊎ HadEnded mid.held.items e.all) (first : AreFirstLines text new.state.place new.state.line lines) (goes : GoesOnWith text new.state.place new.held.items) (before : GoesOnWith text new.state.place mid.held.items) (settled : 0 < length mid.held.items → IsSettled (take (new.state.place + length mid.held.items) text) lines) where
+module _ (text : List ℕ) (new mid : Feed) (lines : List LogicalLine) (n : ℕ) (l : LogicalLine) (is : IsLineOfText new l)
+    (e : EndsLineHeld n new) (last : EndsExactly e.all e.after ⊎ HadEnded mid.held.items e.all)
+    (first : AreFirstLines text new.state.place new.state.line lines) (goes : GoesOnWith text new.state.place new.held.items)
+    (before : GoesOnWith text new.state.place mid.held.items) (settled : 0 < length mid.held.items
+    → IsSettled (take (new.state.place + length mid.held.items) text) lines) where
   fed_some : 0 < length (encode_utf8_all e.all)
   fed_some = (ended_scan new n e.all e.after e.ended [] (λ returned. refl)).line.some
 
@@ -93,18 +96,22 @@ module _ (text : List ℕ) (new mid : Feed) (lines : List LogicalLine) (n : ℕ)
   follows : EndsExactly e.all e.after
   follows = ⊎_elim (λ exact. exact) (λ had. absurd (never_before text new mid lines n e.all e.after had.rest e.ended had.spell had.whole first before settled)) last
 
-  pub settled_fed : IsSettled (take (new.state.place + length new.held.items) text) (lines ++ line_of_feed new n ∷ [])
+  is_next : l ≡ line_of new.state.place new.state.line (next_pieces text new lines n e.all e.after e.ended e.whole fed_known)
+  is_next = next_is text new lines n e.all e.after e.ended e.whole fed_known l is
+
+  pub settled_fed : IsSettled (take (new.state.place + length new.held.items) text) (lines ++ l ∷ [])
   settled_fed =
       let u = next_pieces text new lines n e.all e.after e.ended e.whole fed_known in
       let next = next_line text new lines n e.all e.after e.ended e.whole fed_known in
       let follow : Follow u e.after = ⊎_elim (λ done. Follow.by_feed done.1 (ap (ends is_return) next.spell ∙ done.0)) (λ one. Follow.by_byte one.1.0 one.1.1 one.1.2) follows in
-      subst (λ l. IsSettled (take (new.state.place + length l) text) (lines ++ line_of_feed new n ∷ [])) e.ended.spell
-      (subst (λ x. IsSettled (take (new.state.place + length (encode_utf8_all e.all ++ e.after)) text) (lines ++ x ∷ [])) (sym (next_is text new lines n e.all e.after e.ended e.whole fed_known e.tokens))
+      subst (λ t. IsSettled (take (new.state.place + length t) text) (lines ++ l ∷ [])) e.ended.spell
+      (subst (λ x. IsSettled (take (new.state.place + length (encode_utf8_all e.all ++ e.after)) text) (lines ++ x ∷ [])) (sym is_next)
       (settled_ready text new.state.place new.state.line lines e.all e.after fed_known u next follow))
 
-  pub whole_fed : HoldsReady new.held.items (Some (line_of_feed new n))
+  pub whole_fed : HoldsReady new.held.items (Some l)
   whole_fed =
-      let text_is : take new.state.scan.stop new.held.items ≡ encode_utf8_all e.all = stopped_text new.state.scan.stop new.held.items e.all e.after e.ended.spell (ended_scan new n e.all e.after e.ended [] (λ returned. refl)).stop in
+      let next = next_line text new lines n e.all e.after e.ended e.whole fed_known in
+      let text_is : l.text ≡ encode_utf8_all e.all = ap (λ (x : LogicalLine). x.text) is_next ∙ ap encode_utf8_all next.spell in
       (e.after, sym e.ended.spell ∙ ap (λ t. t ++ e.after) (sym text_is), subst (λ t. EndsExactly t e.after) (sym text_is) (exactly_encoded e.all e.after follows))
 
 -- nothing is decided where the lines given end

@@ -1,22 +1,31 @@
 -- What a call that feeds a piece answers, for every text that goes on so.
-use Rattle.std.proofs.Common.{◌≡◌, ℕ, ◌+◌, ◌-◌, ◌<◌, ◌≤◌, ◌^◌, Option, None, Some, Result, Ok, Err, List, [], ◌++◌, length, take, drop, refl, sym, ap, ◌∙◌, subst, ⊎_elim, inl, inr, append_assoc, append-nil, arith, length-append}
+use Rattle.std.proofs.Common.{◌≡◌, ℕ, ◌+◌, ◌-◌, ◌<◌, ◌≤◌, ◌^◌, ◌⊎◌, true, Option, None, Some, Err, List, [], ◌++◌, length, take, drop, refl}
+use Rattle.std.proofs.Common.{sym, ap, ◌∙◌, subst, ⊎_elim, inl, inr, append_assoc, append-nil, arith, length-append}
+use Rattle.std.specs.Prelude.{is_some}
 use Rattle.std.specs.Global.{Vec}
 use Rattle.std.proofs.lemmas.Bool.{cases_lt}
 use Rattle.std.proofs.lemmas.List.{take-append-drop, length-take-le}
-use Rattle.std.proofs.Math.Seq.{take-add}
+use Rattle.std.proofs.Math.Seq.{take-add, take-append_seam}
 use Rattle.py_lines.specs.LogicalLine.{LogicalLine}
 use Rattle.py_lines.specs.Lexed.{IsLexed}
 use Rattle.py_lines.specs.Settled.{IsSettled, Decides}
 use Rattle.py_lines.specs.Given.{AreFirstLines}
-use Rattle.py_lines.specs.ScannerState.{ScannerState, ready_lines, fed_of, HoldsReady, GoesOnWith, IsScanning, TakesBytes, MeetsFault, ScannerRunsOut, Feeds}
+use Rattle.py_lines.specs.ScannerState.{ScannerState, ready_lines, fed_of, HoldsReady, GoesOnWith, IsScanning, TakesBytes, MeetsFault}
+use Rattle.py_lines.specs.ScannerState.{ScannerRunsOut, Feeds, FeedsNaming, LacksBoth, TakesNaming}
 use Rattle.py_lines.specs.ScannerState.View.{line_of_feed, ready_of, scanning_of}
 use Rattle.py_lines.specs.declared.fault.Fault.{Fault}
 use Rattle.py_lines.specs.declared.fault.LexError.{LexError}
 use Rattle.py_lines.specs.declared.fault.LexError.TheVariants as lex
 use Rattle.py_lines.specs.declared.feed.Feed.{Feed}
-use Rattle.py_lines.specs.Private.Feed.{KeepsText, HoldsMore, IsScanned, IsUnchanged, EndsLineHeld, IsLastChunk, StopsTaking, TakesSome, Waits, FailsPiece, FeedsSo, StandsSo, IsSoundFeed}
+use Rattle.py_lines.specs.declared.line_state.LineState.{LineState}
+use Rattle.py_lines.specs.Private.LineState.{with_tokens}
+use Rattle.py_lines.specs.Private.Feed.{KeepsText, HasRoom, HoldsMore, IsScanned, IsUnchanged, EndsLineHeld, IsLastChunk, StopsTaking}
+use Rattle.py_lines.specs.Private.Feed.{TakesSome, FailsPiece, TakesSo, StandsSo, IsSoundFeed, WaitsSo, line_held, DropsLine, HasReadTokens}
+use Rattle.py_lines.specs.Private.Feed.{HoldsLine, LetsGo, ReadsTokens}
 use Rattle.py_lines.proofs.Lexings.DecidedFaults.{decided_more}
-use Rattle.py_lines.proofs.Feeds.ReadyLines.{ended_ready, held_stands}
+use Rattle.py_lines.proofs.Feeds.ReadyLines.{IsLineOfText, ended_holds, ended_line_of, held_text, line_read, ready_as, some_is, with_line}
+use Rattle.py_lines.proofs.Feeds.Loops.{begun_open}
+use Rattle.py_lines.proofs.Feeds.ReleasedHeld.{released_sound, releases}
 use Rattle.py_lines.proofs.Feeds.FailedHeld.{goes_with_first, failed_held, failed_keeps}
 use Rattle.py_lines.proofs.Feeds.FedHeld.{goes_joined, settled_scanned, undecided_fed, never_before, settled_fed, whole_fed}
 
@@ -29,6 +38,18 @@ goes_at text old new held place is goes = subst (λ (n : ℕ). GoesOnWith text n
 
 settled_of : (text : List ℕ) (lines : List LogicalLine) (old new : Feed) → new.state.place ≡ old.state.place → new.held.items ≡ old.held.items → IsSettled (take (old.state.place + length old.held.items) text) lines → IsSettled (take (new.state.place + length new.held.items) text) lines
 settled_of text lines old new place held settled = subst (λ (n : ℕ). IsSettled (take (n + length new.held.items) text) lines) (sym place) (subst (λ l. IsSettled (take (old.state.place + length l) text) lines) (sym held) settled)
+
+-- the line that a caller sees ready, if one has ended
+abbrev IsSeen : Feed → Option ℕ → Option LogicalLine → Type 0
+IsSeen f None line = line ≡ None
+IsSeen f (Some end_len) line = (l : LogicalLine) × (line ≡ Some l) × IsLineOfText f l
+
+pub room_more : (old new : Feed) (bytes : List ℕ) → IsSoundFeed old → old.state.place + length old.held.items + length bytes ≤ 2 ^ 62
+    → HoldsMore old bytes new → HasRoom new 0
+room_more old new bytes s fits more = record {
+  fits = omega (arith, fits, more.place, ap length more.held, length-append old.held.items bytes);
+  few_lines = omega (arith, s.room.few_lines, more.place, more.line);
+}
 
 module _ (old new : Feed) (piece : List ℕ) (n : ℕ) (t : TakesSome old piece n new) (text : List ℕ) (lines : List LogicalLine) (s : IsScanning (scanning_of old) text lines) (go : GoesOnWith text (fed_of (scanning_of old)) (take n piece)) where
   first_old : AreFirstLines text old.state.place old.state.line lines
@@ -89,50 +110,56 @@ module _ (old new : Feed) (piece : List ℕ) (n : ℕ) (t : TakesSome old piece 
         settled_of text lines old c.mid c.more.place held (settled_old (omega (arith, some, ap length held))))
         (cases_lt 0 c.before))
 
-  settled_so : (r : Option ℕ) → StopsTaking old piece n r new → 0 < length new.held.items → IsSettled (take (new.state.place + length new.held.items) text) (lines ++ ready_lines (ready_of new r))
-  settled_so None (mid, same, scanned, opens) some = open_settled mid same scanned some
-  settled_so (Some len) (e, last) some = ⊎_elim
-      (λ later. let c = last later in settled_fed text new c.mid lines len c.ended c.ends first_new goes_new (chunk_goes len c) (chunk_settled len c))
+  settled_so : (r : Option ℕ) (line : Option LogicalLine) → IsSeen new r line → StopsTaking old piece n r new → 0 < length new.held.items
+      → IsSettled (take (new.state.place + length new.held.items) text) (lines ++ ready_lines line)
+  settled_so None line is (mid, same, scanned, opens) some =
+      subst (λ x. IsSettled (take (new.state.place + length new.held.items) text) (lines ++ ready_lines x)) (sym is)
+      (open_settled mid same scanned some)
+  settled_so (Some len) line (l, is, of) (e, last) some =
+      subst (λ x. IsSettled (take (new.state.place + length new.held.items) text) (lines ++ ready_lines x)) (sym is) (⊎_elim
+      (λ later. let c = last later in settled_fed text new c.mid lines len l of c.ended c.ends first_new goes_new (chunk_goes len c)
+      (chunk_settled len c))
       (λ none. absurd (never_none len e (omega (arith, none))))
-      (cases_lt 0 n)
+      (cases_lt 0 n))
 
-  whole_so : (r : Option ℕ) → StopsTaking old piece n r new → HoldsReady new.held.items (ready_of new r)
-  whole_so None stops = tt
-  whole_so (Some len) (e, last) = ⊎_elim
-      (λ later. let c = last later in whole_fed text new c.mid lines len c.ended c.ends first_new goes_new (chunk_goes len c) (chunk_settled len c))
+  whole_so : (r : Option ℕ) (line : Option LogicalLine) → IsSeen new r line → StopsTaking old piece n r new → HoldsReady new.held.items line
+  whole_so None line is stops = subst (HoldsReady new.held.items) (sym is) tt
+  whole_so (Some len) line (l, is, of) (e, last) = subst (HoldsReady new.held.items) (sym is) (⊎_elim
+      (λ later. let c = last later in whole_fed text new c.mid lines len l of c.ended c.ends first_new goes_new (chunk_goes len c)
+      (chunk_settled len c))
       (λ none. absurd (never_none len e (omega (arith, none))))
-      (cases_lt 0 n)
+      (cases_lt 0 n))
 
-  undecided_so : (r : Option ℕ) → ready_of new r ≡ None → StopsTaking old piece n r new → (fault : Fault) → ¬ (Decides (take (new.state.place + length new.held.items) text) fault)
-  undecided_so None none (mid, same, scanned, opens) fault d =
+  undecided_so : (r : Option ℕ) (line : Option LogicalLine) → IsSeen new r line → line ≡ None → StopsTaking old piece n r new
+      → (fault : Fault) → ¬ (Decides (take (new.state.place + length new.held.items) text) fault)
+  undecided_so None line is none (mid, same, scanned, opens) fault d =
       undecided_fed text mid lines (open_first mid same) (open_goes mid same) scanned fault
       (subst (λ (m : ℕ). Decides (take (m + length mid.held.items) text) fault) same.place (subst (λ l. Decides (take (new.state.place + length l) text) fault) (same.held ∙ append-nil mid.held.items) d))
-  undecided_so (Some len) none stops fault d = absurd (cc)
+  undecided_so (Some len) line (l, is, of) none stops fault d = absurd (let h = sym is ∙ none in cc)
 
-  pub scans_so : old.state.fault ≡ None → IsScanning (scanning_of new) text lines
-  scans_so fault = record {
+  scans_so : (line : Option LogicalLine) → IsSeen new new.ready line → old.state.fault ≡ None → IsScanning (with_line new line) text lines
+  scans_so line is fault = record {
     first = first_new;
     held = goes_new;
-    settled = settled_so new.ready t.stops;
-    whole = whole_so new.ready t.stops;
+    settled = settled_so new.ready line is t.stops;
+    whole = whole_so new.ready line is t.stops;
     open_yet = t.more.ended ∙ s.open_yet;
     no_fault = t.fault ∙ fault;
   }
-
-  pub undecided_now : (scanning_of new).ready ≡ None → (fault : Fault) → ¬ (Decides (take (fed_of (scanning_of new)) text) fault)
-  undecided_now none fault = undecided_so new.ready none t.stops fault
 
 no_line : (old : Feed) (r : Option ℕ) (u : LogicalLine) → r ≡ None → ready_of old r ≡ Some u → ⊥
 no_line old None u none is = absurd (cc)
 no_line old (Some n) u none is = absurd (cc)
 
-takes_bytes : (old new : Feed) (piece : List ℕ) (n : ℕ) → old.state.fault ≡ None → TakesSome old piece n new → TakesBytes (scanning_of old) piece n (scanning_of new)
-takes_bytes old new piece n fault t = record {
+-- bytes were taken, and this line is ready now, if one has ended
+takes_bytes : (old new : Feed) (piece : List ℕ) (n : ℕ) → old.state.fault ≡ None → TakesSome old piece n new
+    → (line : Option LogicalLine) → IsSeen new new.ready line → TakesBytes (scanning_of old) piece n (with_line new line)
+takes_bytes old new piece n fault t line is = record {
   within = t.within;
-  scans = λ text lines s go. scans_so old new piece n t text lines s go fault;
-  undecided = λ text lines s go none. undecided_now old new piece n t text lines s go none;
+  scans = λ text lines s go. scans_so old new piece n t text lines s go line is fault;
+  undecided = λ text lines s go none fault. undecided_so old new piece n t text lines s go new.ready line is none t.stops fault;
   some = λ zero. inl (t.some zero);
-  waits = λ u is. absurd (no_line old old.ready u t.not_ready is);
+  waits = λ u seen. absurd (no_line old old.ready u t.not_ready seen);
   held = t.more.held;
   place = t.more.place;
   line = t.more.line;
@@ -141,31 +168,25 @@ takes_bytes old new piece n fault t = record {
   no_fault = t.fault ∙ fault;
 }
 
--- where a line is ready
-same_text : (text : List ℕ) (lines : List LogicalLine) (old new : ScannerState) → new ≡ old → IsScanning old text lines → IsScanning new text lines
-same_text text lines old new same s = subst (λ (x : ScannerState). IsScanning x text lines) (sym same) s
-
-waits_so : (old new : Feed) (piece : List ℕ) (n : ℕ) → old.state.fault ≡ None → Waits old n new → TakesBytes (scanning_of old) piece n (scanning_of new)
-waits_so old new piece n fault w =
-    let same : scanning_of new ≡ scanning_of old = ap scanning_of w.same in
-    let ready : ready_of old old.ready ≡ Some (line_of_feed old w.end_len) = ap (ready_of old) w.ready in
+-- where a line is ready, no byte is taken
+pub waits_so : (f : Feed) (piece : List ℕ) → f.state.fault ≡ None → is_some f.ready ≡ true
+    → TakesBytes (scanning_of f) piece 0 (scanning_of f)
+waits_so f piece fault ready =
+    let m = some_is f.ready ready in
+    let line : ready_of f f.ready ≡ Some (line_of_feed f m.0) = ap (ready_of f) m.1 in
     record {
-      within = omega (arith, w.none);
-      scans = λ text lines s go. same_text text lines (scanning_of old) (scanning_of new) same s;
-      undecided = λ text lines s go none fault d. no_line new new.ready (line_of_feed old w.end_len) (none_ready new.ready none) (ap (λ (x : ScannerState). x.ready) same ∙ ready);
-      some = λ zero. inr (line_of_feed old w.end_len, ready);
-      waits = λ u is. (w.none, same);
-      held = ap (λ (x : ScannerState). x.held) same ∙ sym (append-nil old.held.items) ∙ ap (λ (m : ℕ). old.held.items ++ take m piece) (sym w.none);
-      place = ap (λ (x : ScannerState). x.place) same;
-      line = ap (λ (x : ScannerState). x.line) same;
+      within = omega arith;
+      scans = λ text lines s go. s;
+      undecided = λ text lines s go none fault d. absurd (let h = sym line ∙ none in cc);
+      some = λ zero. inr (line_of_feed f m.0, line);
+      waits = λ u is. (refl, refl);
+      held = sym (append-nil f.held.items);
+      place = refl;
+      line = refl;
       fault = fault;
-      open_yet = ap (λ (x : ScannerState). x.ended) same;
-      no_fault = ap (λ (x : ScannerState). x.fault) same ∙ fault;
+      open_yet = refl;
+      no_fault = fault;
     }
-  where
-    none_ready : (r : Option ℕ) → ready_of new r ≡ None → r ≡ None
-    none_ready None h = refl
-    none_ready (Some m) h = absurd (cc)
 
 -- where the fault is met
 meets_fault : (old new : Feed) (piece : List ℕ) (fault : Fault) → old.state.fault ≡ None → FailsPiece old piece (lex.Fault fault) new → MeetsFault (scanning_of old) piece fault (scanning_of new)
@@ -201,26 +222,28 @@ meets_fault old new piece fault none p = record {
         (p.n, p.within, subst (λ t. Decides t fault) (sym (take-add (p.mid.state.place + at.n) more text) ∙ ap (λ (m : ℕ). take m text) whole) (decided_more (take (p.mid.state.place + at.n) text) (take more (drop (p.mid.state.place + at.n) text)) fault at.decided), at.lexed)
 
 -- where it was met before
-meets_again : (old new : Feed) (piece : List ℕ) (fault : Fault) → old.state.fault ≡ Some fault → new ≡ old → MeetsFault (scanning_of old) piece fault (scanning_of new)
-meets_again old new piece fault was same = record {
+meets_again : (f : Feed) (piece : List ℕ) (fault : Fault) → f.state.fault ≡ Some fault
+    → MeetsFault (scanning_of f) piece fault (scanning_of f)
+meets_again f piece fault was = record {
   decided = λ text lines s go. absurd (let none = s.no_fault in let h = sym was ∙ none in cc);
   again = λ first is. (let h = sym was ∙ is in cc);
   none_ready = λ none. absurd (let h = sym was ∙ none in cc);
-  place = ap (λ (f : Feed). f.state.place) same;
-  line = ap (λ (f : Feed). f.state.line) same;
-  fed = omega (arith, ap (λ (f : Feed). fed_of (scanning_of f)) same);
-  ready = ap (λ (f : Feed). ready_of f f.ready) same;
-  open_yet = ap (λ (f : Feed). f.ended) same;
-  kept = ap (λ (f : Feed). f.state.fault) same ∙ was;
+  place = refl;
+  line = refl;
+  fed = omega arith;
+  ready = refl;
+  open_yet = refl;
+  kept = was;
 }
 
 -- where a growth was refused
-runs_short : (old new : Feed) → old.state.fault ≡ None → old.ready ≡ None → IsUnchanged old new → ScannerRunsOut (scanning_of old) (scanning_of new)
+pub runs_short : (old new : Feed) → old.state.fault ≡ None → old.ready ≡ None → IsUnchanged old new
+    → ScannerRunsOut (scanning_of old) (scanning_of new)
 runs_short old new fault ready u =
     let place = u.same.place in
     let line = u.same.line in
     let held = u.same.held ∙ append-nil old.held.items in
-    let is_ready : ready_of new new.ready ≡ ready_of old old.ready = ap (ready_of new) (u.ready ∙ ready) ∙ sym (ap (ready_of old) ready) in
+    let is_ready : ready_of new new.ready ≡ ready_of old old.ready = ap (ready_of new) u.ready ∙ sym (ap (ready_of old) ready) in
     let ended = u.same.ended in
     let kept = u.fault in
     record {
@@ -229,33 +252,176 @@ runs_short old new fault ready u =
       no_fault = fault;
     }
 
-pub feeds_so : (old new : Feed) (piece : List ℕ) (r : Result ℕ LexError) → FeedsSo old piece r new → Feeds (scanning_of old) piece r (scanning_of new)
-feeds_so old new piece (Ok n) (fault, how) = ⊎_elim (λ w. waits_so old new piece n fault w) (λ t. takes_bytes old new piece n fault t) how
-feeds_so old new piece (Err (lex.Fault f)) how = ⊎_elim (λ a. meets_again old new piece f a.0 a.1) (λ p. meets_fault old new piece f p.0 p.1) how
-feeds_so old new piece (Err lex.Memory) (fault, ready, u) = runs_short old new fault ready u
-
 -- the state stays sound
-stands_taking : (old new : Feed) (piece : List ℕ) (n : ℕ) (r : Option ℕ) → StopsTaking old piece n r new → StandsSo r new
-stands_taking old new piece n None (mid, same, scanned, opens) = λ no_fault. opens
-stands_taking old new piece n (Some len) (e, last) = ended_ready new len e
-
 sound_more : (old new : Feed) (bytes : List ℕ) → IsSoundFeed old → old.state.place + length old.held.items + length bytes ≤ 2 ^ 62 → HoldsMore old bytes new → StandsSo new.ready new → IsSoundFeed new
-sound_more old new bytes s fits more stands = record {
-  room = record {
-    fits = omega (arith, fits, more.place, ap length more.held, length-append old.held.items bytes);
-    few_lines = omega (arith, s.room.few_lines, more.place, more.line);
-  };
-  state = stands;
+sound_more old new bytes s fits more stands = record { room = room_more old new bytes s fits more; state = stands }
+
+-- where nothing changed for the caller
+pub sound_unchanged : (old new : Feed) → IsSoundFeed old → IsUnchanged old new → IsSoundFeed new
+sound_unchanged old new s u = sound_more old new [] s s.room.fits u.same (subst (λ r. StandsSo r new) (sym u.ready) (λ no_fault. u.opens))
+
+-- so many bytes stay held, and no line is ready
+pub dropped : (old mid new : Feed) (bytes : List ℕ) (before : ℕ) → HoldsMore old bytes mid → mid.state.fault ≡ old.state.fault
+    → before ≡ length old.held.items → DropsLine mid before new → IsUnchanged old new
+dropped old mid new bytes before more fault size d =
+    let held : new.held.items ≡ old.held.items
+    = d.held ∙ ap (take before) more.held ∙ ap (λ (n : ℕ). take n (old.held.items ++ bytes)) size ∙ take-append_seam old.held.items bytes in
+    record {
+      same = record {
+        held = held ∙ sym (append-nil old.held.items);
+        place = ap (λ (s : LineState). s.place) d.begins.same ∙ more.place;
+        line = ap (λ (s : LineState). s.line) d.begins.same ∙ more.line;
+        ended = ap (λ (f : Feed). f.ended) d.same ∙ more.ended;
+      };
+      ready = ap (λ (f : Feed). f.ready) d.same;
+      fault = ap (λ (s : LineState). s.fault) d.begins.same ∙ fault;
+      opens = ([], new.held.items, begun_open mid.state new d.begins);
+    }
+
+-- what is answered before bytes are taken
+pub feeds_at_once : (f : Feed) (piece : List ℕ) (error : LexError) → WaitsSo f (Err error)
+    → Feeds (scanning_of f) piece (Err error) (scanning_of f)
+feeds_at_once f piece (lex.Fault fault) was = meets_again f piece fault was
+feeds_at_once f piece lex.Memory none = absurd none
+
+-- what the bytes come to in the end, without a line
+module _ (old new : Feed) (piece : List ℕ) (sound : IsSoundFeed old)
+    (fits : old.state.place + length old.held.items + length piece ≤ 2 ^ 62) (no_fault : old.state.fault ≡ None) where
+  pub fed_error : old.ready ≡ None → (error : LexError) → TakesSo old piece (Err error) new
+      → Feeds (scanning_of old) piece (Err error) (scanning_of new) × IsSoundFeed new
+  fed_error not_ready (lex.Fault f) p =
+      let keeps = failed_keeps p.mid new f p.fails in
+      let held = ap (λ (v : Vec ℕ). v.items) keeps.0.held in (
+        meets_fault old new piece f no_fault p,
+        sound_more old new (take p.n piece) sound (omega (arith, fits, length-take-le p.n piece p.within, p.within))
+            (record {
+              held = held ∙ p.more.held;
+              place = keeps.0.place ∙ p.more.place;
+              line = keeps.0.line
+                  ∙ p.more.line;
+              ended = keeps.0.ended ∙ p.more.ended;
+            })
+            (subst (λ o. StandsSo o new) (sym keeps.1) (λ none. absurd (let h = sym keeps.2 ∙ none in cc))),
+      )
+  fed_error not_ready lex.Memory u = (runs_short old new no_fault not_ready u, sound_unchanged old new sound u)
+
+  module _ (n : ℕ) (t : TakesSome old piece n new) where
+    pub fed_room : HasRoom new 0
+    fed_room = room_more old new (take n piece) sound (omega (arith, fits, length-take-le n piece t.within, t.within)) t.more
+
+    pub fed_open : new.ready ≡ None → TakesBytes (scanning_of old) piece n (scanning_of new) × IsSoundFeed new
+    fed_open none = (
+      takes_bytes old new piece n no_fault t (ready_of new new.ready) (subst (λ r. IsSeen new r (ready_of new r)) (sym none) refl),
+      record { room = fed_room; state = subst (λ r. StandsSo r new) (sym none) (opens new.ready none t.stops) },
+    )
+      where
+        opens : (r : Option ℕ) → r ≡ None → StopsTaking old piece n r new → StandsSo None new
+        opens None is stops = λ no_fault. stops.3
+        opens (Some m) is stops = absurd (cc)
+
+    -- with the line that has ended
+    fed_ends : (end_len : ℕ) → new.ready ≡ Some end_len → EndsLineHeld end_len new
+    fed_ends end_len is = (subst (λ r. StopsTaking old piece n r new) is t.stops).0
+
+    module _ (some : is_some new.ready ≡ true) where
+      abbrev end_len : ℕ
+      end_len = (some_is new.ready some).0
+
+      ready : new.ready ≡ Some end_len
+      ready = (some_is new.ready some).1
+
+      pub ends_here : EndsLineHeld end_len new
+      ends_here = fed_ends end_len ready
+
+      abbrev pub fed_holds : HoldsLine new end_len
+      fed_holds = ended_holds new end_len ends_here
+
+      abbrev line_here : LogicalLine
+      line_here = line_held new end_len fed_holds
+
+      fed_line : TakesBytes (scanning_of old) piece n (with_line new (Some line_here))
+      fed_line = takes_bytes old new piece n no_fault t (Some line_here)
+          (subst (λ r. IsSeen new r (Some line_here)) (sym ready) (line_here, refl, ended_line_of new end_len ends_here))
+
+      -- once its tokens are read
+      pub fed_read : (now : Feed) → HasReadTokens new now → TakesBytes (scanning_of old) piece n (scanning_of now) × IsSoundFeed now
+      fed_read now read =
+          let g : Feed = record new { state = with_tokens new.state now.state } in
+          let seen : scanning_of g ≡ with_line new (Some line_here)
+          = ap (with_line new) (ap (ready_of g) ready ∙ ap Some (line_read new end_len fed_holds now.state read.tokens)) in
+          let room : HasRoom g 0 = record { fits = fed_room.fits; few_lines = fed_room.few_lines } in
+          let stands = ready_as new end_len fed_holds now.state new.ended (line_read new end_len fed_holds now.state read.tokens) in
+          subst (λ (x : Feed). TakesBytes (scanning_of old) piece n (scanning_of x) × IsSoundFeed x) (sym read.same) (
+            subst (TakesBytes (scanning_of old) piece n) (sym seen) fed_line,
+            record
+                { room = room; state = subst (λ r. StandsSo r g) (sym ready) stands },
+          )
+
+      -- where one of the words stands in it
+      pub fed_named : (now : Feed) (word other : List ℕ) → ¬ (LacksBoth word other (take new.state.scan.stop new.held.items))
+          → HasReadTokens new now → TakesNaming word other (scanning_of old) piece n (scanning_of now) × IsSoundFeed now
+      fed_named now word other has read =
+          let both = fed_read now read in (
+            record {
+              mid = scanning_of now;
+              takes = both.0;
+              same = inl refl;
+              kept = λ line is. inr
+                  (subst (λ l. ¬ (LacksBoth word other l)) (sym (text line is)) has);
+              waits = λ line is. absurd (let none = ap (ready_of old) t.not_ready in let h = sym none ∙ is in cc);
+            },
+            both.1,
+          )
+        where
+          text : (line : LogicalLine) → ready_of now now.ready ≡ Some line → line.text ≡ take new.state.scan.stop new.held.items
+          text line is =
+              let at : now.ready ≡ Some end_len = ap (λ (x : Feed). x.ready) read.same ∙ ready in
+              let same : Some (line_of_feed now end_len) ≡ Some line = sym (ap (ready_of now) at) ∙ is in
+              let one : line_of_feed now end_len ≡ line = (cc) in
+              sym (ap (λ (l : LogicalLine). l.text) one) ∙ ap (λ (x : Feed). take x.state.scan.stop x.held.items) read.same
+
+      -- where none does, and it is released
+      pub fed_released : (now : Feed) (word other : List ℕ) → LacksBoth word other (take new.state.scan.stop new.held.items)
+          → LetsGo new now
+          → TakesNaming word other (scanning_of old) piece n (scanning_of now) × IsSoundFeed now
+      fed_released now word other lacks go = (
+        record {
+          mid = with_line new (Some line_here);
+          takes = fed_line;
+          same = inr (
+            line_here,
+            refl,
+            subst (LacksBoth word other) (sym (held_text new end_len fed_holds)) lacks,
+            releases new now end_len
+                fed_holds go,
+          );
+          kept = λ line is. absurd (let none = ap (ready_of now) go.ready in let h = sym none ∙ is in cc);
+          waits = λ line is. absurd (let none = ap (ready_of old) t.not_ready in let h = sym none ∙ is in cc);
+        },
+        released_sound new now end_len fed_holds go fed_room,
+      )
+
+      -- where there is no memory for the tokens
+      pub fed_short : (now : Feed) (error : LexError) (held : ℕ) → held ≡ length old.held.items → ReadsTokens new held (Err error) now
+          → Feeds (scanning_of old) piece (Err error) (scanning_of now) × IsSoundFeed now
+      fed_short now (lex.Fault f) held size never = absurd never
+      fed_short now lex.Memory held size drops =
+          let u = dropped old new now (take n piece) held t.more t.fault size drops in
+          (runs_short old now no_fault t.not_ready u, sound_unchanged old now sound u)
+
+-- what is answered where bytes were taken is what is answered where lines are released at once, if none has got ready
+pub naming_open : (word other : List ℕ) (old new : ScannerState) (piece : List ℕ) (n : ℕ) → TakesBytes old piece n new
+    → (old.ready ≡ new.ready) ⊎ (new.ready ≡ None) → TakesNaming word other old piece n new
+naming_open word other old new piece n t which = record {
+  mid = new;
+  takes = t;
+  same = inl refl;
+  kept = λ line is. ⊎_elim (λ same. inl (same ∙ is)) (λ none. absurd (let h = sym none ∙ is in cc)) which;
+  waits = λ line is. (t.waits line is).1;
 }
 
-pub sound_fed : (old new : Feed) (piece : List ℕ) (r : Result ℕ LexError) → IsSoundFeed old → old.state.place + length old.held.items + length piece ≤ 2 ^ 62 → FeedsSo old piece r new → IsSoundFeed new
-sound_fed old new piece (Ok n) s fits (fault, inl w) = subst IsSoundFeed (sym w.same) s
-sound_fed old new piece (Ok n) s fits (fault, inr t) = sound_more old new (take n piece) s (omega (arith, fits, length-take-le n piece t.within, t.within)) t.more (stands_taking old new piece n new.ready t.stops)
-sound_fed old new piece (Err (lex.Fault f)) s fits (inl (was, same)) = subst IsSoundFeed (sym same) s
-sound_fed old new piece (Err (lex.Fault f)) s fits (inr (fault, p)) =
-    let keeps = failed_keeps p.mid new f p.fails in
-    let held = ap (λ (v : Vec ℕ). v.items) keeps.0.held in
-    sound_more old new (take p.n piece) s (omega (arith, fits, length-take-le p.n piece p.within, p.within))
-    (record { held = held ∙ p.more.held; place = keeps.0.place ∙ p.more.place; line = keeps.0.line ∙ p.more.line; ended = keeps.0.ended ∙ p.more.ended })
-    (subst (λ o. StandsSo o new) (sym keeps.1) (λ none. absurd (let h = sym keeps.2 ∙ none in cc)))
-sound_fed old new piece (Err lex.Memory) s fits (fault, ready, u) = sound_more old new [] s (omega (arith, fits)) u.same (held_stands new.ready new u.state)
+-- an error is the same in both
+pub naming_error : (word other : List ℕ) (old new : ScannerState) (piece : List ℕ) (error : LexError)
+    → Feeds old piece (Err error) new → FeedsNaming word other old piece (Err error) new
+naming_error word other old new piece (lex.Fault f) feeds = feeds
+naming_error word other old new piece lex.Memory feeds = feeds

@@ -10,20 +10,23 @@ use Rattle.py_lines.specs.LogicalLine.{LogicalLine}
 use Rattle.py_lines.specs.Lexed.{IsLexed}
 use Rattle.py_lines.specs.Settled.{IsSettled}
 use Rattle.py_lines.specs.Given.{AreFirstLines}
-use Rattle.py_lines.specs.ScannerState.{GoesOnWith, IsScanning, HoldsLast, EndsScan, ready_lines}
+use Rattle.py_lines.specs.ScannerState.{GoesOnWith, IsScanning, EndsScan, Finishes, ready_lines}
 use Rattle.py_lines.specs.ScannerState.View.{ready_of, scanning_of}
 use Rattle.py_lines.specs.declared.fault.LexError.{LexError}
 use Rattle.py_lines.specs.declared.fault.LexError.TheVariants as lex
 use Rattle.py_lines.specs.declared.feed.Feed.{Feed}
+use Rattle.py_lines.specs.Private.LineState.{with_tokens}
 use Rattle.py_lines.specs.Private.Scan.{EndsWhole}
-use Rattle.py_lines.specs.Private.Feed.{KeepsText, IsScanned, ScansHeld, EndsLineHeld, EndsHeld, EndsWith, HasRoom, IsReady, StandsSo, HasEndedText, EndsText}
+use Rattle.py_lines.specs.Private.Feed.{KeepsText, IsScanned, ScansHeld, EndsLineHeld, EndsHeld, EndsWith, HasRoom, HoldsSo, HasEndedText}
+use Rattle.py_lines.specs.Private.Feed.{EndsText, HasReadTokens, HoldsLine, HoldsMore, IsHeldOpen, IsSoundFeed, ReadsTokens, StandsSo}
+use Rattle.py_lines.specs.Private.Feed.{line_held}
 use Rattle.py_lines.proofs.Feeds.Known.{is_known}
 use Rattle.py_lines.proofs.Feeds.SettledSoFar.{ended_before}
 use Rattle.py_lines.proofs.Feeds.Ended.{ended_empty}
-use Rattle.py_lines.proofs.Feeds.ReadyLines.{ended_ready, scanned_stands}
+use Rattle.py_lines.proofs.Feeds.ReadyLines.{ended_holds, held_text, line_read, ready_as, some_is, with_line}
+use Rattle.py_lines.proofs.Feeds.FedScanner.{dropped, runs_short, sound_unchanged}
 use Rattle.py_lines.proofs.Feeds.NextHeld.{next_pieces, next_line, next_some}
 use Rattle.py_lines.proofs.Feeds.FailedHeld.{failed_held, failed_keeps}
-use Rattle.py_lines.proofs.Feeds.Loops.{restarts_on}
 
 items_kept : (old new : Feed) → KeepsText old new → new.held.items ≡ old.held.items
 items_kept old new keeps = ap (λ (v : Vec ℕ). v.items) keeps.held
@@ -37,11 +40,7 @@ pub text_fault : (old new : Feed) (error : LexError) → ScansHeld old (Err erro
 text_fault old new (lex.Fault f) fails =
     let keeps = failed_keeps old new f fails in
     record { text = keeps.0; none_ready = keeps.1; kept = keeps.2; lexed = λ text lines ends. (failed_held old new f fails text lines ends.first ends.held).lexed }
-text_fault old new lex.Memory restarts = restarts
-
--- what is held has a line that is ready, and so some bytes
-ready_size : (f : Feed) (n : ℕ) → IsReady f n → 0 < length f.held.items
-ready_size f n r = omega (arith, r.some, ap length r.spell, length-append (encode_utf8_all r.read) r.rest)
+text_fault old new lex.Memory none = absurd none
 
 no_return : (read rest text : List ℕ) → text ≡ read → EndsWhole read rest → rest ≡ [] → ends is_return text ≡ false
 no_return read rest text is (inl feed) none = ap (ends is_return) is ∙ feed
@@ -52,7 +51,7 @@ none_ended : (old mid : Feed) (end_len : ℕ) (text : List ℕ) (lines : List Lo
 none_ended old mid end_len text lines keeps not_ready scanning e =
     let bytes = encode_utf8_all e.all ++ e.after in
     let held : bytes ≡ old.held.items = e.ended.spell ∙ items_kept old mid keeps in
-    let some : 0 < length bytes = omega (arith, ready_size mid end_len (ended_ready mid end_len e), ap length e.ended.spell) in
+    let some : 0 < length bytes = omega (arith, (ended_holds mid end_len e).some, length-append (encode_utf8_all e.all) e.after) in
     let first_mid : AreFirstLines text mid.state.place mid.state.line lines = first_kept old mid text lines keeps scanning.first in
     let goes : GoesOnWith text mid.state.place bytes = subst (λ (n : ℕ). GoesOnWith text n bytes) (sym keeps.place) (subst (GoesOnWith text old.state.place) (sym held) scanning.held) in
     let k = is_known text mid.state.place mid.state.line lines e.all e.after first_mid e.ended.scalars goes some in
@@ -66,23 +65,31 @@ none_ended old mid end_len text lines keeps not_ready scanning e =
 
 -- the scan has left no line open: none had ended, so nothing is held
 pub text_ready : (old mid : Feed) (end_len : ℕ) → old.ready ≡ None → mid.ready ≡ Some end_len → KeepsText old mid → mid.state.fault ≡ old.state.fault → IsScanned mid.ready mid → EndsText old (Ok tt) mid
-text_ready old mid end_len not_ready ready keeps fault scanned = record {
-  text = keeps;
-  fault = fault;
-  state = scanned_stands mid.ready mid scanned;
-  lexed = λ text lines scanning whole. absurd (none_ended old mid end_len text lines keeps not_ready scanning (subst (λ r. IsScanned r mid) ready scanned));
-}
+text_ready old mid end_len not_ready ready keeps fault scanned =
+    let e : EndsLineHeld end_len mid = subst (λ r. IsScanned r mid) ready scanned in
+    let h = ended_holds mid end_len e in
+    record {
+      text = keeps;
+      fault = fault;
+      line = Some (line_held mid end_len h);
+      holds = subst (λ r. HoldsSo mid r (Some (line_held mid end_len h))) (sym ready) (h, refl);
+      lexed = λ text lines scanning whole. absurd (none_ended old mid end_len text lines keeps not_ready scanning e);
+    }
 
 pub text_empty : (old mid : Feed) → mid.held.items ≡ [] → mid.ready ≡ None → KeepsText old mid → mid.state.fault ≡ old.state.fault → IsScanned mid.ready mid → EndsText old (Ok tt) mid
-text_empty old mid none not_ready keeps fault scanned = record {
-  text = keeps;
-  fault = fault;
-  state = scanned_stands mid.ready mid scanned;
-  lexed = λ text lines scanning whole.
-      let empty : length old.held.items ≡ 0 = ap length (sym (items_kept old mid keeps) ∙ none) in
-      let lexed : IsLexed text lines None = ended_empty text old.state.place old.state.line lines scanning.first (omega (arith, whole, empty)) in
-      subst (λ r. IsLexed text (lines ++ ready_lines (ready_of mid r)) None × HoldsLast mid.held.items (ready_of mid r)) (sym not_ready) (subst (λ l. IsLexed text l None) (sym (append-nil lines)) lexed, tt);
-}
+text_empty old mid none not_ready keeps fault scanned =
+    let s : IsScanned None mid = subst (λ r. IsScanned r mid) not_ready scanned in
+    record {
+      text = keeps;
+      fault = fault;
+      line = None;
+      holds = subst (λ r. HoldsSo mid r None) (sym not_ready) (refl, λ no_fault. (s.0, s.1, s.2));
+      lexed = λ text lines scanning whole.
+          let empty : length old.held.items ≡ 0 = ap length (sym (items_kept old mid keeps) ∙ none) in
+          let lexed : IsLexed text lines None = ended_empty text old.state.place old.state.line lines scanning.first
+          (omega (arith, whole, empty)) in
+          (subst (λ l. IsLexed text l None) (sym (append-nil lines)) lexed, tt);
+    }
 
 pub text_left : (old mid : Feed) → is_some mid.ready ≡ true → old.ready ≡ None → KeepsText old mid → mid.state.fault ≡ old.state.fault → IsScanned mid.ready mid → EndsText old (Ok tt) mid
 text_left old mid some not_ready keeps fault scanned = go mid.ready refl
@@ -109,11 +116,12 @@ pub text_ended : (old mid new : Feed) (result : Result (Unit {0}) LexError) → 
 text_ended old mid new (Ok done) not_ready none keeps fault e = record {
   text = kept_on old mid new keeps e.text;
   fault = e.fault ∙ fault;
-  state = subst (λ (r : Option ℕ). StandsSo r new) (sym e.is_ready) e.ready;
+  line = Some (line_held new e.end_len e.holds);
+  holds = subst (λ (r : Option ℕ). HoldsSo new r (Some (line_held new e.end_len e.holds))) (sym e.is_ready) (e.holds, refl);
   lexed = λ text lines scanning whole.
       let ends : EndsWith old text lines = record { first = scanning.first; held = scanning.held; whole = whole } in
-      subst (λ (r : Option ℕ). IsLexed text (lines ++ ready_lines (ready_of new r)) None × HoldsLast new.held.items (ready_of new r)) (sym e.is_ready)
-      (e.lexed text lines (ends_before_scan old mid text lines keeps ends), sym (take_all new.state.scan.stop new.held.items (omega (arith, e.all))));
+      let all = sym (take_all new.state.scan.stop new.held.items (omega (arith, e.all))) ∙ sym (held_text new e.end_len e.holds) in
+      (e.lexed text lines (ends_before_scan old mid text lines keeps ends), all);
 }
 text_ended old mid new (Err (lex.Fault f)) not_ready none keeps fault e = record {
   text = kept_on old mid new keeps e.text;
@@ -121,7 +129,7 @@ text_ended old mid new (Err (lex.Fault f)) not_ready none keeps fault e = record
   kept = e.kept;
   lexed = λ text lines ends. e.lexed text lines (ends_before_scan old mid text lines keeps ends);
 }
-text_ended old mid new (Err lex.Memory) not_ready none keeps fault restarts = restarts_on old mid new keeps (none ∙ sym not_ready) fault restarts
+text_ended old mid new (Err lex.Memory) not_ready none keeps fault never = absurd never
 
 -- what a scan keeps leaves room
 pub room_kept : (old mid : Feed) → KeepsText old mid → HasRoom old 0 → HasRoom mid 0
@@ -129,10 +137,6 @@ room_kept old mid keeps room = record {
   fits = omega (arith, room.fits, keeps.place, ap length (items_kept old mid keeps));
   few_lines = omega (arith, room.few_lines, keeps.place, keeps.line);
 }
-
-pub none_from : (ready : Option ℕ) → is_some ready ≡ false → ready ≡ None
-none_from None is = refl
-none_from (Some n) is = absurd (both_ways _ is refl)
 
 -- the text has ended
 abbrev pub ended_now : Feed → Feed
@@ -142,12 +146,13 @@ same_ready : (ready : Option ℕ) (f : Feed) → ready_of f ready ≡ ready_of (
 same_ready None f = refl
 same_ready (Some n) f = refl
 
-pub finish_now : (old f : Feed) → old.state.fault ≡ None → HasEndedText old f → EndsScan (scanning_of old) (scanning_of (ended_now f))
+pub finish_now : (old f : Feed) → old.state.fault ≡ None → (e : HasEndedText old f)
+    → EndsScan (scanning_of old) (with_line (ended_now f) e.line)
 finish_now old f no_fault e =
     let held = items_kept old f e.text in
     record {
       scans = λ text lines scanning whole.
-          let lexed = subst (λ r. IsLexed text (lines ++ ready_lines r) None × HoldsLast f.held.items r) (same_ready f.ready f) (e.lexed text lines scanning whole) in
+          let lexed = e.lexed text lines scanning whole in
           let from_there : drop old.state.place text ≡ old.held.items = sym (take_all (length old.held.items) (drop old.state.place text) (omega (arith, whole, length-drop old.state.place text))) ∙ scanning.held in
           record {
             first = first_kept old f text lines e.text scanning.first;
@@ -163,3 +168,74 @@ finish_now old f no_fault e =
       ended = refl;
       no_fault = e.fault ∙ no_fault;
     }
+
+module _ (old f : Feed) (sound : IsSoundFeed old) (no_fault : old.state.fault ≡ None) (e : HasEndedText old f) where
+  pub last_room : HasRoom f 0
+  last_room = room_kept old f e.text sound.room
+
+  -- no line is left
+  pub finish_none : f.ready ≡ None → EndsScan (scanning_of old) (scanning_of (ended_now f)) × IsSoundFeed (ended_now f)
+  finish_none none =
+      let at : HoldsSo f None e.line = subst (λ r. HoldsSo f r e.line) none e.holds in (
+        subst (λ r. EndsScan (scanning_of old) (with_line (ended_now f) r)) (at.0 ∙ sym (ap (ready_of (ended_now f)) none))
+            (finish_now old f no_fault e),
+        record {
+          room = record { fits = last_room.fits; few_lines = last_room.few_lines };
+          state = subst (λ r. StandsSo r (ended_now f))
+              (sym none) (λ fault. still at.1 fault);
+        },
+      )
+    where
+      still : (f.state.fault ≡ None → IsHeldOpen f) → f.state.fault ≡ None → IsHeldOpen (ended_now f)
+      still opens fault =
+          let o = opens fault in
+          (o.0, o.1, record { scalars = o.2.scalars; spell = o.2.spell; way = o.2.way; number = o.2.number })
+
+  -- the text's last line is
+  last_holds : (end_len : ℕ) → f.ready ≡ Some end_len → (h : HoldsLine f end_len) × (e.line ≡ Some (line_held f end_len h))
+  last_holds end_len ready = subst (λ r. HoldsSo f r e.line) ready e.holds
+
+  module _ (some : is_some f.ready ≡ true) where
+    abbrev end_len : ℕ
+    end_len = (some_is f.ready some).0
+
+    ready : f.ready ≡ Some end_len
+    ready = (some_is f.ready some).1
+
+    pub last_here : HoldsLine f end_len
+    last_here = (last_holds end_len ready).0
+
+    -- once its tokens are read
+    pub finish_read : (new : Feed) → HasReadTokens f new → EndsScan (scanning_of old) (scanning_of (ended_now new)) × IsSoundFeed
+        (ended_now new)
+    unfolding last_here
+    finish_read new read =
+        let g : Feed = record f { state = with_tokens f.state new.state } in
+        let line = line_read f end_len last_here new.state read.tokens in
+        let seen : e.line ≡ ready_of (ended_now g) g.ready = (last_holds end_len ready).1 ∙ sym (ap (ready_of g) ready ∙ ap Some line)
+        ∙ same_ready g.ready g in
+        let stands = ready_as f end_len last_here new.state true line in
+        subst (λ (x : Feed). EndsScan (scanning_of old) (scanning_of (ended_now x)) × IsSoundFeed (ended_now x)) (sym read.same) (
+          subst (λ r. EndsScan (scanning_of old) (with_line (ended_now f) r)) seen (finish_now old f no_fault e),
+          record {
+            room = record { fits = last_room.fits; few_lines = last_room.few_lines };
+            state = subst (λ r. StandsSo r (ended_now g))
+                (sym ready) stands;
+          },
+        )
+
+    -- where there is no memory for them
+    pub finish_short : (new : Feed) (error : LexError) (all : ℕ) → old.ready ≡ None → all ≡ length f.held.items
+        → ReadsTokens f all (Err error) new
+        → Finishes (scanning_of old) (Err error) (scanning_of new) × IsSoundFeed new
+    finish_short new (lex.Fault x) all not_ready size never = absurd never
+    finish_short new lex.Memory all not_ready size drops =
+        let held = items_kept old f e.text in
+        let more : HoldsMore old [] f = record {
+          held = held ∙ sym (append-nil old.held.items);
+          place = e.text.place;
+          line = e.text.line;
+          ended = e.text.ended;
+        } in
+        let u = dropped old f new [] all more e.fault (size ∙ ap length held) drops in
+        (runs_short old new no_fault not_ready u, sound_unchanged old new sound u)

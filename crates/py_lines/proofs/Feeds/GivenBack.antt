@@ -1,5 +1,6 @@
 -- What stays held where a line is ready.
-use Rattle.std.proofs.Common.{◌≡◌, ℕ, zero, suc, ◌+◌, ◌-◌, ◌<◌, ◌≤◌, ◌⊎◌, true, false, Option, None, Some, Err, List, [], ◌∷◌, ◌++◌, length, take, refl, sym, ap, ◌∙◌, subst, ⊎_elim, inl, inr, append-nil, arith, length-append}
+use Rattle.std.proofs.Common.{◌≡◌, ℕ, zero, suc, ◌+◌, ◌-◌, ◌<◌, ◌≤◌, ◌⊎◌, true, false, None, Some, List, [], ◌∷◌, ◌++◌, length, take, refl}
+use Rattle.std.proofs.Common.{sym, ap, ◌∙◌, subst, ⊎_elim, inl, inr, append-nil, arith, length-append}
 use Rattle.std.specs.Prelude.{encode_utf8_all, is_some, max}
 use Rattle.std.specs.Global.{Vec}
 use Rattle.std.proofs.lemmas.Bool.{both_ways, false_from_ne_true, cond_both, cases_lt}
@@ -9,8 +10,6 @@ use Rattle.std.proofs.Math.Seq.{take-append-add, take-append_seam}
 use Rattle.py_lines.specs.Character.{is_return}
 use Rattle.py_lines.specs.Piece.{ends, spelled}
 use Rattle.py_lines.specs.LogicalLine.{byte_len}
-use Rattle.py_lines.specs.declared.fault.LexError.{LexError}
-use Rattle.py_lines.specs.declared.fault.LexError.TheVariants as lex
 use Rattle.py_lines.specs.declared.feed.Feed.{Feed}
 use Rattle.py_lines.specs.declared.mode.Mode.{Mode}
 use Rattle.py_lines.specs.declared.scan.Scan.{Scan}
@@ -18,10 +17,11 @@ use Rattle.py_lines.specs.Private.LineState.{first_mode}
 use Rattle.py_lines.specs.Private.Scan.{EndsWhole, IsLineBefore, line_start}
 use Rattle.py_lines.specs.declared.scan.Stop.TheVariants as stops
 use Rattle.py_lines.specs.ScannerState.{EndsExactly}
-use Rattle.py_lines.specs.Private.Feed.{GetsReady, HasScannedNext, IsEnded, IsHeldSo, IsMadeReady, IsScanned, IsUnchanged, EndsLineHeld, HadEnded, EndsAfter, Restarts, whole_end, GivesBack, TakesOf, TakesChunk}
+use Rattle.py_lines.specs.Private.Feed.{HasScannedNext, IsEnded, IsScanned, IsUnchanged, EndsLineHeld, HadEnded, EndsAfter, Restarts}
+use Rattle.py_lines.specs.Private.Feed.{whole_end, GivesBack, TakesOf}
 use Rattle.py_lines.proofs.Feeds.Chunks.{none_is}
-use Rattle.py_lines.proofs.Feeds.Loops.{restarts_fault, restarts_keep, restarts_open, restarts_ready}
-use Rattle.py_lines.proofs.Feeds.MadeReady.{made_keeps, made_ended}
+use Rattle.py_lines.proofs.Feeds.Loops.{begun_open, restarts_fault, restarts_keep, restarts_ready}
+use Rattle.py_lines.proofs.Feeds.ReadyLines.{some_is}
 use Rattle.py_lines.proofs.Readers.LineAnswers.{IsScannedLine, line_at_end}
 
 -- a line's end stays whole where one byte after CR stays
@@ -88,7 +88,6 @@ module _ (f : Feed) (end_len : ℕ) (e : EndsLineHeld end_len f) (v : Vec ℕ) (
     after = take (kept - byte_len e.all) e.after;
     ended = record { scalars = e.ended.scalars; spell = taken_spell (first_mode f.state.place) f.state.scan f.held.items e.all e.after end_len e.ended.spell e.ended.at e.whole kept within ∙ sym held; at = e.ended.at; number = e.ended.number };
     whole = taken_whole (first_mode f.state.place) f.state.scan f.held.items e.all e.after end_len e.ended.spell e.ended.at e.whole kept within;
-    tokens = e.tokens;
   }
 
   had_ended : whole_end f.state.scan ≤ before → HadEnded (take before f.held.items) e.all
@@ -101,10 +100,6 @@ module _ (f : Feed) (end_len : ℕ) (e : EndsLineHeld end_len f) (v : Vec ℕ) (
   pub kept_stops : EndsAfter (take before f.held.items) (Some end_len) (record f { held = v })
   unfolding kept_line
   kept_stops = (kept_line, ⊎_elim (λ is. inl (taken_exactly (first_mode f.state.place) f.state.scan f.held.items e.all e.after end_len e.ended.spell e.ended.at e.whole kept is)) (λ past. inr (had_ended past)) which)
-
-pub some_is : (r : Option ℕ) → is_some r ≡ true → (n : ℕ) × (r ≡ Some n)
-some_is None h = absurd (cc)
-some_is (Some n) h = (n, refl)
 
 -- the scan stops within what is held
 pub stop_small : (f : Feed) → IsScanned f.ready f → is_some f.ready ≡ true → f.state.scan.stop ≤ length f.held.items
@@ -172,13 +167,13 @@ module _ (old : Feed) (chunk : List ℕ) (end_len n : ℕ) (s : HasScannedNext o
   abbrev mode : Mode
   mode = first_mode old.state.place
 
-  abbrev pub line_after : List ℕ
+  abbrev line_after : List ℕ
   line_after = take (n - byte_len s.stops.read) s.stops.rest
 
   line_whole : EndsWhole s.stops.read line_after
   line_whole = taken_whole mode old.state.scan chunk s.stops.read s.stops.rest end_len s.stops.spell s.stops.stops.0 s.stops.stops.1 n (omega (arith, is))
 
-  pub line_held : IsEnded (record old { held = v }) end_len s.stops.read line_after
+  line_held : IsEnded (record old { held = v }) end_len s.stops.read line_after
   line_held =
       let t = s.stops in
       record {
@@ -188,18 +183,25 @@ module _ (old : Feed) (chunk : List ℕ) (end_len n : ℕ) (s : HasScannedNext o
         number = t.number;
       }
 
-  -- it was taken, once its tokens are read
-  pub line_taken : (new : Feed) → IsMadeReady (record old { held = v }) end_len new → TakesOf old chunk n new
-  line_taken new made =
+  -- it was taken
+  pub line_taken : TakesOf old chunk n (record old { held = v; ready = Some end_len })
+  line_taken =
       let t = s.stops in
-      let keeps = made_keeps (record old { held = v }) end_len t.read line_after line_held new made in
-      let ends = made_ended (record old { held = v }) end_len t.read line_after line_held new made line_whole in
+      let e = line_held in
       record {
         some = omega (arith, is, end_some mode old.state.scan chunk t.read t.rest end_len t.spell t.stops.0 t.stops.1);
         within = omega (arith, is, end_within mode old.state.scan chunk t.read t.rest end_len t.spell t.stops.0 t.stops.1);
-        more = record { held = ap (λ (w : Vec ℕ). w.items) keeps.held ∙ held; place = keeps.place; line = keeps.line; ended = keeps.ended };
-        fault = ap (λ (f : Feed). f.state.fault) made.same;
-        stops = subst (λ o. EndsAfter old.held.items o new) (sym (ap (λ (f : Feed). f.ready) made.same)) (ends, inl (taken_exactly mode old.state.scan chunk t.read t.rest end_len t.spell t.stops.0 t.stops.1 n is));
+        more = record { held = held; place = refl; line = refl; ended = refl };
+        fault = refl;
+        stops = (
+          record {
+            all = t.read;
+            after = line_after;
+            ended = record { scalars = e.scalars; spell = e.spell; at = e.at; number = e.number };
+            whole = line_whole;
+          },
+          inl (taken_exactly mode old.state.scan chunk t.read t.rest end_len t.spell t.stops.0 t.stops.1 n is),
+        );
       }
 
 -- the memory for a scan was refused: what was held before is held again, and its scan begins anew
@@ -207,16 +209,10 @@ pub refused_unchanged : (f : Feed) (longer shorter : Vec ℕ) (new : Feed) → f
 refused_unchanged f longer shorter new not_ready items restarts =
     let mid : Feed = record f { held = longer } in
     let keeps = restarts_keep mid new restarts in
-    let ready : new.ready ≡ f.ready = restarts_ready mid new restarts in
-    let open_anew = restarts_open mid new restarts in
+    let open_anew = begun_open f.state new restarts.begins in
     record {
       same = record { held = items ∙ sym (append-nil f.held.items); place = keeps.place; line = keeps.line; ended = keeps.ended };
-      ready = ready;
+      ready = restarts_ready mid new restarts ∙ not_ready;
       fault = restarts_fault mid new restarts;
-      state = subst (λ (r : Option ℕ). IsHeldSo r (record new { held = shorter })) (sym (ready ∙ not_ready)) ([], shorter.items, record { scalars = refl; spell = refl; way = open_anew.way; number = open_anew.number });
+      opens = ([], shorter.items, record { scalars = refl; spell = refl; way = open_anew.way; number = open_anew.number });
     }
-
--- the same for the tokens of a line, where nothing was held
-pub refused_line : (f : Feed) (longer shorter : Vec ℕ) (new : Feed) (chunk : List ℕ) (end_len : ℕ) (error : LexError) → f.ready ≡ None → shorter.items ≡ f.held.items → GetsReady (record f { held = longer }) end_len (Err error) new → TakesChunk f chunk (Err error) (record new { held = shorter })
-refused_line f longer shorter new chunk end_len (lex.Fault x) not_ready items gets = absurd gets
-refused_line f longer shorter new chunk end_len lex.Memory not_ready items restarts = refused_unchanged f longer shorter new not_ready items restarts

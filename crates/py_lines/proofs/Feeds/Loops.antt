@@ -1,5 +1,5 @@
 -- What a scan of what is held comes to.
-use Rattle.std.proofs.Common.{◌≡◌, ℕ, false, None, Ok, Err, List, [], length, refl, sym, ap, ◌∙◌, subst, arith}
+use Rattle.std.proofs.Common.{◌≡◌, ℕ, false, None, Some, Ok, Err, List, [], length, refl, sym, ap, ◌∙◌, subst, arith}
 use Rattle.std.specs.Str.{StartsWithNoChar}
 use Rattle.std.proofs.lemmas.Bool.{both_ways}
 use Rattle.std.proofs.lemmas.List.{nil_from_length}
@@ -12,9 +12,10 @@ use Rattle.py_lines.specs.declared.feed.Feed.{Feed}
 use Rattle.py_lines.specs.declared.line_state.LineState.{LineState}
 use Rattle.py_lines.specs.declared.scan.Stop.TheVariants as stops
 use Rattle.py_lines.specs.declared.scan.LineFault.{LineFault}
-use Rattle.py_lines.specs.Private.Scan.{Tallies, IsStacked, IsUnderWay, line_start, is_returned, IsRefusal}
-use Rattle.py_lines.specs.Private.LineState.{first_mode}
-use Rattle.py_lines.specs.Private.Feed.{KeepsText, Restarts, IsOpen, IsPartOfCharacter, FailsAt, FailsNext, StopsHeld, IsScanned, ScansHeld}
+use Rattle.py_lines.specs.Private.Scan.{EndsWhole, IsUnderWay, line_start, is_returned, IsRefusal}
+use Rattle.py_lines.specs.Private.LineState.{BeginsAnew, first_mode}
+use Rattle.py_lines.specs.Private.Feed.{KeepsText, Restarts, IsEnded, IsOpen, IsPartOfCharacter, FailsAt, FailsNext, StopsHeld, IsScanned}
+use Rattle.py_lines.specs.Private.Feed.{ScansHeld}
 use Rattle.py_lines.proofs.Text.Utf8Prefixes.{nothing_bad}
 use Rattle.py_lines.proofs.Text.Incomplete.{part_none}
 use Rattle.py_lines.proofs.Feeds.Steps.{open_stop, open_size}
@@ -54,32 +55,14 @@ pub restarts_ready : (old new : Feed) → Restarts old new → new.ready ≡ old
 restarts_ready old new r = ap (λ (f : Feed). f.ready) r.same
 
 -- it is that of a line of which nothing was read
-pub restarts_open : (old new : Feed) → Restarts old new → IsOpen new [] new.held.items
-restarts_open old new r =
-    let keeps = restarts_keep old new r in
-    record {
-      scalars = refl;
-      spell = refl;
-      way = subst (λ (n : ℕ). IsUnderWay (first_mode n) new.state.scan []) (sym keeps.place) (record { state = line_start (first_mode old.state.place); steps = refl; tallies = r.begins.tallies; stacked = r.begins.stacked; one_line = tt });
-      number = r.begins.number ∙ sym keeps.line;
-    }
-
--- a scan that was begun anew at the same place
-pub restarts_on : (old mid new : Feed) → KeepsText old mid → mid.ready ≡ old.ready → mid.state.fault ≡ old.state.fault → Restarts mid new → Restarts old new
-restarts_on old mid new keeps ready fault r =
-    let held = keeps.held in
-    let place = keeps.place in
-    let line = keeps.line in
-    let ended = keeps.ended in
-    record {
-      same = r.same ∙ (λ i. record { held = held i; state = new.state; ready = ready i; ended = ended i });
-      begins = record {
-        same = r.begins.same ∙ (λ i. record { place = place i; line = line i; fault = fault i; scan = new.state.scan; tokens = new.state.tokens });
-        tallies = subst (λ (n : ℕ). Tallies new.state.scan (line_start (first_mode n))) place r.begins.tallies;
-        stacked = subst (λ (n : ℕ). IsStacked new.state.scan (line_start (first_mode n))) place r.begins.stacked;
-        number = r.begins.number ∙ line;
-      };
-    }
+pub begun_open : (was : LineState) (new : Feed) → BeginsAnew was new.state → IsOpen new [] new.held.items
+begun_open was new b = record {
+  scalars = refl;
+  spell = refl;
+  way = subst (λ (n : ℕ). IsUnderWay (first_mode n) new.state.scan []) (sym (ap (λ (s : LineState). s.place) b.same))
+      (record { state = line_start (first_mode was.place); steps = refl; tallies = b.tallies; stacked = b.stacked; one_line = tt });
+  number = b.number ∙ sym (ap (λ (s : LineState). s.line) b.same);
+}
 
 -- all was scanned
 pub part_all : (f : Feed) (read rest : List ℕ) → IsOpen f read rest → f.ready ≡ None → f.state.scan.stop ≡ length f.held.items → IsScanned f.ready f
@@ -110,8 +93,17 @@ held_refused old mid new read rest c line_fault error keeps ready (opens, after,
     fails_held old mid new read rest line_fault.kind line_fault.place error keeps ready opens fails
     (λ e at. FailsNext.at_character c after scalar spell (record { way = opens.way; refuses = refuses; not_yet = not_yet; line_fault = line_fault; is_line_fault = is_line_fault; fails = at }))
 
+-- a line has ended: it is ready
+pub held_ended : (f : Feed) (end_len : ℕ) (read rest : List ℕ) → IsEnded f end_len read rest → EndsWhole read rest
+    → ScansHeld f (Ok tt) (record f { ready = Some end_len })
+held_ended f end_len read rest e whole = (
+  record { held = refl; place = refl; line = refl; ended = refl },
+  refl,
+  record { all = read; after = rest; ended = record { scalars = e.scalars; spell = e.spell; at = e.at; number = e.number }; whole = whole },
+)
+
 -- the same, from where a scan of the characters came to
 pub held_from : (old mid new : Feed) (r : _) → KeepsText old mid → mid.ready ≡ old.ready → mid.state.fault ≡ old.state.fault → ScansHeld mid r new → ScansHeld old r new
 held_from old mid new (Ok done) keeps ready fault s = (keeps_on old mid new keeps s.0, s.1 ∙ fault, s.2)
 held_from old mid new (Err (lex.Fault f)) keeps ready fault s = record { mid = s.mid; text = keeps_on old mid s.mid keeps s.text; not_ready = s.not_ready; read = s.read; rest = s.rest; opens = s.opens; fails = s.fails }
-held_from old mid new (Err lex.Memory) keeps ready fault r = restarts_on old mid new keeps ready fault r
+held_from old mid new (Err lex.Memory) keeps ready fault none = absurd none

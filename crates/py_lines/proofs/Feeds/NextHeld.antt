@@ -4,15 +4,13 @@ use Rattle.std.specs.Prelude.{encode_utf8_all}
 use Rattle.py_lines.specs.Character.{is_line_feed, is_return}
 use Rattle.py_lines.specs.Piece.{Piece, begins, ends}
 use Rattle.py_lines.specs.LogicalLine.{LogicalLine, line_of}
-use Rattle.py_lines.specs.ScannerState.View.{line_of_feed}
 use Rattle.py_lines.specs.declared.feed.Feed.{Feed}
 use Rattle.py_lines.specs.Private.Scan.{EndsWhole}
-use Rattle.py_lines.specs.Private.LineTokens.{HoldsTokens}
 use Rattle.py_lines.specs.Private.Feed.{IsEnded}
 use Rattle.py_lines.proofs.LineScan.LineSteps.{follows_whole}
 use Rattle.py_lines.proofs.Feeds.Known.{IsKnown}
 use Rattle.py_lines.proofs.Feeds.SettledSoFar.{IsNextLine}
-use Rattle.py_lines.proofs.Feeds.ReadyLines.{ended_scan, line_of_ended}
+use Rattle.py_lines.proofs.Feeds.ReadyLines.{IsLineOfText, ended_scan, holds_line}
 
 module _ (text : List ℕ) (f : Feed) (lines : List LogicalLine) (end_len : ℕ) (read rest : List ℕ) (e : IsEnded f end_len read rest) (whole : EndsWhole read rest) (k : IsKnown text f.state.place f.state.line lines read rest) where
   -- after CR comes no LF
@@ -41,8 +39,11 @@ module _ (text : List ℕ) (f : Feed) (lines : List LogicalLine) (end_len : ℕ)
         steps = line.steps;
       }
 
-  pub next_is : HoldsTokens (encode_utf8_all read) f.state.line f.state.tokens → line_of_feed f end_len ≡ line_of f.state.place f.state.line next_pieces
-  next_is holds = line_of_ended f end_len read rest e holds k.more no_feed_next
+  pub next_is : (l : LogicalLine) → IsLineOfText f l → l ≡ line_of f.state.place f.state.line next_pieces
+  next_is l is =
+      let at = e.at k.more no_feed_next in
+      let scan = ended_scan f end_len read rest e k.more no_feed_next in
+      is at.body at.last at.are.class (holds_line f end_len read rest next_pieces e.scalars e.spell e.number scan).text
 
   pub next_some : 0 < length read
   next_some = go read (ended_scan f end_len read rest e k.more no_feed_next).line.some

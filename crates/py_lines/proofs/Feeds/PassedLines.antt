@@ -35,7 +35,7 @@ use Rattle.py_lines.proofs.Feeds.LastBytes.{ends-encoded}
 use Rattle.py_lines.proofs.Feeds.SettledSoFar.{Follow, IsNextLine, settled_ready}
 use Rattle.py_lines.proofs.Feeds.Released.{released}
 use Rattle.py_lines.proofs.Feeds.ReleasedHeld.{goes_after}
-use Rattle.py_lines.proofs.Feeds.Loops.{restarts_open}
+use Rattle.py_lines.proofs.Feeds.Loops.{begun_open}
 
 -- the logical lines of the lines that were found, from this byte and line of a text on
 abbrev lines_at : (texts : List (List ℕ)) (place line : ℕ) (read : List ℕ) (n : ℕ) (after : List ℕ) → AreWholeLines texts read n after → List LogicalLine
@@ -280,7 +280,8 @@ module _ (f : Feed) (held : Vec ℕ) (state : LineState) (scan : Scan) (stands :
           fits = omega (arith, place, ap length kept, sound.room.fits);
           few_lines = omega (arith, place, line, sound.room.few_lines);
         };
-        state = subst (λ x. StandsSo x begun) (sym none_ready_yet) (λ no_fault. ([], held.items, restarts_open (record f { state = record f.state { scan = scan }; held = held }) begun (record { same = refl; begins = anew })));
+        state = subst (λ x. StandsSo x begun) (sym none_ready_yet)
+            (λ no_fault. ([], held.items, begun_open (record f.state { scan = scan }) begun anew));
       }
 
 -- the lines that the code has found in the first of these bytes, after which the scan of the next line begins
@@ -409,5 +410,11 @@ module _ (f : Feed) (bytes : List ℕ) (before stop : ℕ) (p : Passed) (stands 
               fits = omega (arith, place, room, fits);
               few_lines = omega (arith, place, line, few, sound.room.few_lines);
             };
-            state = subst (λ x. StandsSo x after) (sym not_ready) (λ no_fault. ([], held.items, restarts_open (record f { state = record f.state { place = f.state.place + p.len; line = f.state.line + p.line_ends; scan = scan }; held = held }) after (record { same = refl; begins = anew })));
+            state = subst (λ x. StandsSo x after) (sym not_ready)
+                (λ no_fault. (
+                  [],
+                  held.items,
+                  begun_open (record f.state
+                      { place = f.state.place + p.len; line = f.state.line + p.line_ends; scan = scan }) after anew,
+                ));
           }

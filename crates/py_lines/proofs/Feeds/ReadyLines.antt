@@ -1,18 +1,24 @@
--- The line that is ready: the logical line of the pieces that the scan found.
-use Rattle.std.proofs.Common.{◌≡◌, ℕ, ◌+◌, true, false, Option, Some, None, List, [], ◌∷◌, ◌++◌, take, refl, sym, ap, ◌∙◌, subst}
-use Rattle.std.specs.Prelude.{encode_utf8_all, IsUtf8}
+-- The line that stands in what is held: the logical line of the pieces that the scan found.
+use Rattle.std.proofs.Common.{◌≡◌, ℕ, ◌+◌, ◌≤◌, Bool, true, false, Option, Some, None, List, [], ◌∷◌, ◌++◌, length, take, refl, sym, ap}
+use Rattle.std.proofs.Common.{◌∙◌, subst, arith, length-append}
+use Rattle.std.specs.Prelude.{encode_utf8_all, IsUtf8, is_some}
 use Rattle.std.specs.Str.{all_scalars}
+use Rattle.std.proofs.lemmas.Str.{encodes_same}
 use Rattle.std.proofs.Math.Seq.{take-append_seam}
 use Rattle.py_lines.specs.Character.{is_line_feed, is_return}
-use Rattle.py_lines.specs.Piece.{Piece, begins, ends, spelled}
+use Rattle.py_lines.specs.Piece.{Piece, begins, ends, line_end, spelled}
 use Rattle.py_lines.specs.LogicalLine.{LogicalLine, byte_len, line_ends, line_of}
 use Rattle.py_lines.specs.Token.{EachLiesIn}
-use Rattle.py_lines.specs.ScannerState.View.{line_of_feed}
+use Rattle.py_lines.specs.ScannerState.{ScannerState}
+use Rattle.py_lines.specs.ScannerState.View.{line_of_feed, ready_of, scanning_of}
 use Rattle.py_lines.specs.declared.feed.Feed.{Feed}
+use Rattle.py_lines.specs.declared.line_state.LineState.{LineState}
 use Rattle.py_lines.specs.Private.Scan.{line_start}
-use Rattle.py_lines.specs.Private.LineState.{first_mode}
-use Rattle.py_lines.specs.Private.LineTokens.{HoldsTokens}
-use Rattle.py_lines.specs.Private.Feed.{IsEnded, EndsLineHeld, IsScanned, IsHeldSo, IsReady, StandsSo}
+use Rattle.py_lines.specs.Private.LineState.{first_mode, with_tokens}
+use Rattle.py_lines.specs.Private.LineTokens.{AreLineText, HoldsTokens, IsLineText}
+use Rattle.py_lines.specs.Private.Feed.{EndsLineHeld, HoldsLine, IsEnded, IsReady, line_held}
+use Rattle.py_lines.proofs.Fields.OneReading.{one_fielded_reading}
+use Rattle.py_lines.proofs.Lexings.LineEnds.{read-alone}
 use Rattle.py_lines.proofs.LogicalLines.TokenPlaces.{tokens_lie}
 use Rattle.py_lines.proofs.Readers.LineAnswers.{IsScannedLine, line_at_end, line_text}
 
@@ -20,27 +26,21 @@ use Rattle.py_lines.proofs.Readers.LineAnswers.{IsScannedLine, line_at_end, line
 pub stopped_text : (stop : ℕ) (held read rest : List ℕ) → encode_utf8_all read ++ rest ≡ held → stop ≡ byte_len read → take stop held ≡ encode_utf8_all read
 stopped_text stop held read rest spell size = ap (λ (n : ℕ). take n held) size ∙ ap (take (byte_len read)) (sym spell) ∙ take-append_seam (encode_utf8_all read) rest
 
--- the logical line of a line that was scanned whole, and whose tokens were read
-pub line_of_ready : (f : Feed) (end_len : ℕ) (read rest : List ℕ) (u : List Piece) → all_scalars read ≡ true → encode_utf8_all read ++ rest ≡ f.held.items → f.state.scan.line ≡ f.state.line → IsScannedLine (line_start (first_mode f.state.place)) f.state.scan read end_len u → HoldsTokens (encode_utf8_all read) f.state.line f.state.tokens → line_of_feed f end_len ≡ line_of f.state.place f.state.line u
-line_of_ready f end_len read rest u scalars held number line holds =
-    let text : take f.state.scan.stop f.held.items ≡ encode_utf8_all (spelled u) = stopped_text f.state.scan.stop f.held.items read rest held line.stop ∙ ap encode_utf8_all (sym line.line.spell) in
-    let are = holds u (line_text (line_start (first_mode f.state.place)) f.state.scan read end_len u scalars line) in
-    let tokens = are.tokens in
-    let kind = are.kind in
-    let indent = are.indent in
-    let ends = line.ends in
-    λ i. record { kind = kind i; text = text i; tokens = tokens i; offset = f.state.place; line = number i; indent = indent i; end_len = ends i }
-
--- such a line is ready
-pub ready_line : (f : Feed) (end_len : ℕ) (read rest : List ℕ) (u : List Piece) → all_scalars read ≡ true → encode_utf8_all read ++ rest ≡ f.held.items → f.state.scan.line ≡ f.state.line → IsScannedLine (line_start (first_mode f.state.place)) f.state.scan read end_len u → HoldsTokens (encode_utf8_all read) f.state.line f.state.tokens → IsReady f end_len
-ready_line f end_len read rest u scalars held number line holds = record {
+-- a line that was scanned whole
+abbrev pub holds_line : (f : Feed) (end_len : ℕ) (read rest : List ℕ) (u : List Piece) → all_scalars read ≡ true
+    → encode_utf8_all read ++ rest ≡ f.held.items → f.state.scan.line ≡ f.state.line
+    → IsScannedLine (line_start (first_mode f.state.place)) f.state.scan read end_len u → HoldsLine f end_len
+holds_line f end_len read rest u scalars held number line = record {
   read = read;
   rest = rest;
   pieces = u;
   scalars = scalars;
   spell = held;
   spells = line.line.spell;
-  line_is = line_of_ready f end_len read rest u scalars held number line holds;
+  text = subst (λ t. AreLineText t u) (sym (stopped_text f.state.scan.stop f.held.items read rest held line.stop))
+      (line_text (line_start (first_mode f.state.place)) f.state.scan read end_len u scalars line);
+  number = number;
+  ends = line.ends;
   stop = line.stop;
   here = line.here ∙ ap (λ (n : ℕ). n + line_ends read) number;
   some = line.line.some;
@@ -50,29 +50,103 @@ ready_line f end_len read rest u scalars held number line holds = record {
 pub ended_scan : (f : Feed) (end_len : ℕ) (read rest : List ℕ) (e : IsEnded f end_len read rest) (after : List ℕ) (h : ends is_return read ≡ true → begins is_line_feed after ≡ false) → IsScannedLine (line_start (first_mode f.state.place)) f.state.scan read end_len ((e.at after h).body ++ (e.at after h).last ∷ [])
 ended_scan f end_len read rest e after h = line_at_end (first_mode f.state.place) f.state.scan read (encode_utf8_all after) end_len (e.at after h) after refl
 
--- the same, as a logical line
-pub line_of_ended : (f : Feed) (end_len : ℕ) (read rest : List ℕ) (e : IsEnded f end_len read rest) → HoldsTokens (encode_utf8_all read) f.state.line f.state.tokens → (after : List ℕ) (h : ends is_return read ≡ true → begins is_line_feed after ≡ false) → line_of_feed f end_len ≡ line_of f.state.place f.state.line ((e.at after h).body ++ (e.at after h).last ∷ [])
-line_of_ended f end_len read rest e holds after h = line_of_ready f end_len read rest ((e.at after h).body ++ (e.at after h).last ∷ []) e.scalars e.spell e.number (ended_scan f end_len read rest e after h) holds
-
--- it is ready
-pub ended_ready : (f : Feed) (end_len : ℕ) → EndsLineHeld end_len f → IsReady f end_len
-ended_ready f end_len e =
+abbrev pub ended_holds : (f : Feed) (end_len : ℕ) → EndsLineHeld end_len f → HoldsLine f end_len
+ended_holds f end_len e =
     let at = e.ended.at [] (λ returned. refl) in
-    ready_line f end_len e.all e.after (at.body ++ at.last ∷ []) e.ended.scalars e.ended.spell e.ended.number (ended_scan f end_len e.all e.after e.ended [] (λ returned. refl)) e.tokens
+    holds_line f end_len e.all e.after (at.body ++ at.last ∷ []) e.ended.scalars e.ended.spell e.ended.number
+    (ended_scan f end_len e.all e.after e.ended [] (λ returned. refl))
 
--- what a scan of all that is held leaves
-pub scanned_stands : (ready : Option ℕ) (f : Feed) → IsScanned ready f → StandsSo ready f
-scanned_stands None f (read, rest, opens, part) = λ no_fault. (read, rest, opens)
-scanned_stands (Some end_len) f e = ended_ready f end_len e
+-- a text that ends a line is that of one list of pieces
+same_pieces : (text : List ℕ) (body others : List Piece) (last end : Piece) → last.class ≡ line_end → end.class ≡ line_end
+    → AreLineText text (body ++ last ∷ []) → AreLineText text (others ++ end ∷ []) → body ++ last ∷ [] ≡ others ++ end ∷ []
+same_pieces text body others last end ends also one two =
+    let same : spelled (body ++ last ∷ []) ≡ spelled (others ++ end ∷ [])
+    = encodes_same (spelled (body ++ last ∷ [])) (spelled (others ++ end ∷ [])) (one.spell ∙ sym two.spell) in
+    one_fielded_reading (body ++ last ∷ []) (others ++ end ∷ []) (spelled (others ++ end ∷ []))
+    (record { spell = same; fit = read-alone body last one.after ends one.fit })
+    (record { spell = refl; fit = read-alone others end two.after also two.fit })
 
-pub held_stands : (ready : Option ℕ) (f : Feed) → IsHeldSo ready f → StandsSo ready f
-held_stands None f opens = λ no_fault. opens
-held_stands (Some end_len) f e = ended_ready f end_len e
+-- the logical line of whatever pieces the line's text has, which a line end ends
+abbrev pub IsLineOfText : Feed → LogicalLine → Type 0
+IsLineOfText f l = (body : List Piece) (last : Piece) → last.class ≡ line_end
+    → AreLineText (take f.state.scan.stop f.held.items) (body ++ last ∷ []) → l ≡ line_of f.state.place f.state.line (body ++ last ∷ [])
 
--- the text of the line that is ready is characters
-pub ready_utf8 : (f : Feed) (end_len : ℕ) → IsReady f end_len → IsUtf8 (take f.state.scan.stop f.held.items)
-ready_utf8 f end_len r = (r.read, (r.scalars, sym (stopped_text f.state.scan.stop f.held.items r.read r.rest r.spell r.stop)))
+pub ended_line_of : (f : Feed) (end_len : ℕ) (e : EndsLineHeld end_len f) → IsLineOfText f (line_held f end_len (ended_holds f end_len e))
+ended_line_of f end_len e body last class text =
+    let at = e.ended.at [] (λ returned. refl) in
+    ap (line_of f.state.place f.state.line) (same_pieces _ at.body body at.last last at.are.class class (ended_holds f end_len e).text text)
+
+module _ (f : Feed) (end_len : ℕ) (h : HoldsLine f end_len) where
+  -- its text
+  pub held_text : (line_held f end_len h).text ≡ take f.state.scan.stop f.held.items
+  held_text = h.text.spell
+
+  pub held_within : f.state.scan.stop ≤ length f.held.items
+  held_within = omega (arith, h.stop, ap length h.spell, length-append (encode_utf8_all h.read) h.rest)
+
+  pub held_utf8 : IsUtf8 (take f.state.scan.stop f.held.items)
+  held_utf8 = (h.read, (h.scalars, sym (stopped_text f.state.scan.stop f.held.items h.read h.rest h.spell h.stop)))
+
+  pub held_line_text : IsLineText (take f.state.scan.stop f.held.items)
+  held_line_text = (h.pieces, h.text)
+
+  -- once its tokens are read
+  module _ (state : LineState) (tokens : HoldsTokens (take f.state.scan.stop f.held.items) f.state.line state.tokens) where
+    pub line_read : line_of_feed (record f { state = with_tokens f.state state }) end_len ≡ line_held f end_len h
+    line_read =
+        let are = tokens h.pieces h.text in
+        let text = sym h.text.spell in
+        let number = h.number in
+        let kind = are.kind in
+        let list = are.tokens in
+        let indent = are.indent in
+        let ends = h.ends in
+        λ i. record {
+          kind = kind i;
+          text = text i;
+          tokens = list i;
+          offset = f.state.place;
+          line = number i;
+          indent = indent i;
+          end_len =
+              ends i;
+        }
+
+  -- it is ready then, whether the text has ended or not
+  pub ready_as : (state : LineState) (ended : Bool) → line_of_feed (record f { state = with_tokens f.state state; ended = ended }) end_len ≡
+      line_held f end_len h
+      → IsReady (record f { state = with_tokens f.state state; ended = ended }) end_len
+  ready_as state ended is = record {
+    holds = record {
+      read = h.read;
+      rest = h.rest;
+      pieces = h.pieces;
+      scalars = h.scalars;
+      spell = h.spell;
+      spells = h.spells;
+      text = h.text;
+      number = h.number;
+      ends = h.ends;
+      stop = h.stop;
+      here = h.here;
+      some = h.some;
+    };
+    line_is = is;
+  }
+
+-- the scanner as its callers see it, with this line ready
+abbrev pub with_line : Feed → Option LogicalLine → ScannerState
+with_line f line = record (scanning_of f) { ready = line }
+
+pub ready_seen : (f : Feed) (end_len : ℕ) → f.ready ≡ Some end_len → (r : IsReady f end_len)
+    → scanning_of f ≡ with_line f (Some (line_held f end_len r.holds))
+ready_seen f end_len is r = ap (with_line f) (ap (ready_of f) is ∙ ap Some r.line_is)
+
+pub some_is : (r : Option ℕ) → is_some r ≡ true → (n : ℕ) × (r ≡ Some n)
+some_is None h = absurd (cc)
+some_is (Some n) h = (n, refl)
 
 -- the tokens of the line that is ready lie in it
 pub ready_lies : (f : Feed) (end_len : ℕ) → IsReady f end_len → EachLiesIn (take f.state.scan.stop f.held.items) f.state.tokens.tokens.items
-ready_lies f end_len r = subst (λ (l : LogicalLine). EachLiesIn l.text l.tokens) (sym r.line_is) (tokens_lie f.state.line r.pieces (ap all_scalars r.spells ∙ r.scalars))
+ready_lies f end_len r = subst (λ (l : LogicalLine). EachLiesIn l.text l.tokens) (sym r.line_is)
+    (tokens_lie f.state.line r.holds.pieces (ap all_scalars r.holds.spells ∙ r.holds.scalars))

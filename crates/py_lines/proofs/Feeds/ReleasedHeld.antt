@@ -9,11 +9,12 @@ use Rattle.py_lines.specs.Lexed.{IsLexed, IsLexedWhole}
 use Rattle.py_lines.specs.Settled.{IsSettled}
 use Rattle.py_lines.specs.Given.{AreFirstLines}
 use Rattle.py_lines.specs.ScannerState.{ScannerState, GoesOnWith, IsScanning, HasEnded, HoldsReady, HoldsLast, Releases, fed_of, ready_lines}
-use Rattle.py_lines.specs.ScannerState.View.{line_of_feed, ready_of, scanning_of}
+use Rattle.py_lines.specs.ScannerState.View.{ready_of, scanning_of}
 use Rattle.py_lines.specs.declared.feed.Feed.{Feed}
-use Rattle.py_lines.specs.Private.Feed.{IsReady, StandsSo, IsSoundFeed, LetsGo}
+use Rattle.py_lines.specs.Private.Feed.{HasRoom, HoldsLine, IsReady, StandsSo, IsSoundFeed, LetsGo, line_held}
 use Rattle.py_lines.proofs.LineScan.LineCount.{line_ends-bytes}
 use Rattle.py_lines.proofs.Feeds.Known.{is_known}
+use Rattle.py_lines.proofs.Feeds.ReadyLines.{ready_seen, with_line}
 use Rattle.py_lines.proofs.Feeds.Released.{released, last_released}
 
 -- a line is ready where a caller sees one
@@ -31,10 +32,13 @@ goes_after text place first later goes =
     let left : drop (place + length first) text ≡ later ++ drop (length (first ++ later)) (drop place text) = sym (drop-drop (length first) place text) ∙ ap (drop (length first)) (sym from_there) ∙ drop-append_seam first (later ++ drop (length (first ++ later)) (drop place text)) in
     ap (take (length later)) left ∙ take-append_seam later (drop (length (first ++ later)) (drop place text))
 
-module _ (old new : Feed) (n : ℕ) (ready : old.ready ≡ Some n) (r : IsReady old n) (go : LetsGo old new) where
+module _ (old new : Feed) (n : ℕ) (r : HoldsLine old n) (go : LetsGo old new) where
+  abbrev unit : LogicalLine
+  unit = line_held old n r
+
   -- the line and what comes after it
-  text_is : take old.state.scan.stop old.held.items ≡ encode_utf8_all r.read
-  text_is = ap (λ (l : LogicalLine). l.text) r.line_is ∙ ap encode_utf8_all r.spells
+  text_is : unit.text ≡ encode_utf8_all r.read
+  text_is = ap encode_utf8_all r.spells
 
   rest_is : new.held.items ≡ r.rest
   rest_is = go.held ∙ ap (λ (m : ℕ). drop m old.held.items) r.stop ∙ ap (drop (byte_len r.read)) (sym r.spell) ∙ drop-append_seam (encode_utf8_all r.read) r.rest
@@ -55,21 +59,28 @@ module _ (old new : Feed) (n : ℕ) (ready : old.ready ≡ Some n) (r : IsReady 
       let line : new.state.line ≡ old.state.line + line_ends r.read = go.line ∙ r.here in
       subst (λ (m : ℕ). AreFirstLines text m new.state.line lines) (sym place) (subst (λ (m : ℕ). AreFirstLines text (old.state.place + byte_len r.read) m lines) (sym line) first)
 
-  scans_on : (text : List ℕ) (lines : List LogicalLine) → IsScanning (scanning_of old) text lines → IsScanning (scanning_of new) text (lines ++ line_of_feed old n ∷ []) × IsSettled (take (fed_of (scanning_of new)) text) (lines ++ line_of_feed old n ∷ [])
+  scans_on : (text : List ℕ) (lines : List LogicalLine) → IsScanning (with_line old (Some unit)) text lines
+      → IsScanning (scanning_of new) text (lines ++ unit ∷ []) × IsSettled (take (fed_of (scanning_of new)) text) (lines ++ unit ∷ [])
   scans_on text lines scanning =
       let goes : GoesOnWith text old.state.place (encode_utf8_all r.read ++ r.rest) = subst (GoesOnWith text old.state.place) (sym r.spell) scanning.held in
       let some : 0 < length (encode_utf8_all r.read ++ r.rest) = omega (arith, r.some, length-append (encode_utf8_all r.read) r.rest) in
       let k = is_known text old.state.place old.state.line lines r.read r.rest scanning.first r.scalars goes some in
-      let settled_old : IsSettled (take (old.state.place + length old.held.items) text) (lines ++ line_of_feed old n ∷ []) = subst (λ x. IsSettled (take (old.state.place + length old.held.items) text) (lines ++ ready_lines (ready_of old x))) ready (scanning.settled (omega (arith, some, ap length r.spell))) in
-      let settled_known : IsSettled (take (old.state.place + length (encode_utf8_all r.read ++ r.rest)) text) (lines ++ line_of_feed old n ∷ []) = subst (λ l. IsSettled (take (old.state.place + length l) text) (lines ++ line_of_feed old n ∷ [])) (sym r.spell) settled_old in
-      let settled_new : IsSettled (take (fed_of (scanning_of new)) text) (lines ++ line_of_feed old n ∷ []) = subst (λ (m : ℕ). IsSettled (take m text) (lines ++ line_of_feed old n ∷ [])) (sym fed_is) settled_old in
-      let first : AreFirstLines text (old.state.place + byte_len r.read) (old.state.line + line_ends r.read) (lines ++ line_of_feed old n ∷ []) = released text old.state.place old.state.line lines r.read r.rest k (line_of_feed old n) text_is settled_known in
+      let settled_old : IsSettled (take (old.state.place + length old.held.items) text) (lines ++ unit ∷ []) =
+      scanning.settled (omega (arith, some, ap length r.spell)) in
+      let settled_known : IsSettled (take (old.state.place + length (encode_utf8_all r.read ++ r.rest)) text) (lines ++ unit ∷ []) =
+      subst (λ l. IsSettled (take (old.state.place + length l) text) (lines ++ unit ∷ [])) (sym r.spell) settled_old in
+      let settled_new : IsSettled (take (fed_of (scanning_of new)) text) (lines ++ unit ∷ []) = subst
+      (λ (m : ℕ). IsSettled (take m text) (lines ++ unit ∷ [])) (sym fed_is) settled_old in
+      let first : AreFirstLines text (old.state.place + byte_len r.read) (old.state.line + line_ends r.read) (lines ++ unit ∷ []) =
+      released text old.state.place old.state.line lines r.read r.rest k unit text_is settled_known in
       let place : new.state.place ≡ old.state.place + byte_len r.read = go.place ∙ ap (λ (m : ℕ). old.state.place + m) r.stop in
       let held : GoesOnWith text new.state.place new.held.items = subst (λ (m : ℕ). GoesOnWith text m new.held.items) (sym place) (subst (GoesOnWith text (old.state.place + byte_len r.read)) (sym rest_is) (goes_after text old.state.place (encode_utf8_all r.read) r.rest goes)) in (
         record {
-          first = first_here text (lines ++ line_of_feed old n ∷ []) first;
+          first = first_here text (lines ++ unit ∷ []) first;
           held = held;
-          settled = λ more. subst (λ x. IsSettled (take (fed_of (scanning_of new)) text) ((lines ++ line_of_feed old n ∷ []) ++ ready_lines x)) (sym none_ready) (subst (IsSettled (take (fed_of (scanning_of new)) text)) (sym (append-nil (lines ++ line_of_feed old n ∷ []))) settled_new);
+          settled = λ more. subst (λ x. IsSettled (take (fed_of (scanning_of new)) text) ((lines ++ unit ∷ []) ++ ready_lines x))
+              (sym none_ready) (subst (IsSettled (take (fed_of (scanning_of new)) text)) (sym (append-nil (lines ++ unit ∷ [])))
+              settled_new);
           whole = subst (HoldsReady new.held.items) (sym none_ready) tt;
           open_yet = go.ended ∙ scanning.open_yet;
           no_fault = go.fault ∙ scanning.no_fault;
@@ -77,37 +88,41 @@ module _ (old new : Feed) (n : ℕ) (ready : old.ready ≡ Some n) (r : IsReady 
         settled_new,
       )
 
-  ends_on : (text : List ℕ) (lines : List LogicalLine) → HasEnded (scanning_of old) text lines → HasEnded (scanning_of new) text (lines ++ line_of_feed old n ∷ [])
+  ends_on : (text : List ℕ) (lines : List LogicalLine) → HasEnded (with_line old (Some unit)) text lines
+      → HasEnded (scanning_of new) text (lines ++ unit ∷ [])
   ends_on text lines ended =
-      let all : IsLexedWhole text (lines ++ line_of_feed old n ∷ []) = subst (λ x. IsLexed text (lines ++ ready_lines (ready_of old x)) None) ready ended.lexed in
+      let all : IsLexedWhole text (lines ++ unit ∷ []) = ended.lexed in
       record {
-        first = first_here text (lines ++ line_of_feed old n ∷ []) (last_released text old.state.place old.state.line lines r.read (line_of_feed old n) text_is ended.first all);
-        lexed = subst (λ x. IsLexed text ((lines ++ line_of_feed old n ∷ []) ++ ready_lines x) None) (sym none_ready) (subst (λ l. IsLexed text l None) (sym (append-nil (lines ++ line_of_feed old n ∷ []))) all);
+        first = first_here text (lines ++ unit ∷ []) (last_released text old.state.place old.state.line lines r.read unit text_is
+            ended.first all);
+        lexed = subst (λ x. IsLexed text ((lines ++ unit ∷ []) ++ ready_lines x) None) (sym none_ready)
+            (subst (λ l. IsLexed text l None) (sym (append-nil (lines ++ unit ∷ []))) all);
         held = go.held ∙ ap (drop old.state.scan.stop) ended.held ∙ drop-drop old.state.scan.stop old.state.place text ∙ ap (λ (m : ℕ). drop m text) (sym go.place);
         whole = subst (HoldsLast new.held.items) (sym none_ready) tt;
         ended = go.ended ∙ ended.ended;
         no_fault = go.fault ∙ ended.no_fault;
       }
 
-  pub releases : Releases (scanning_of old) (scanning_of new)
+  pub releases : Releases (with_line old (Some unit)) (scanning_of new)
   releases = record {
-    unit = line_of_feed old n;
-    was = ap (ready_of old) ready;
+    unit = unit;
+    was = refl;
     scans = scans_on;
     ends = ends_on;
     place = go.place ∙ ap (λ (m : ℕ). old.state.place + m) (r.stop ∙ ap length (sym text_is));
-    held = sym (take-append-drop old.state.scan.stop old.held.items) ∙ ap (λ t. take old.state.scan.stop old.held.items ++ t) (sym go.held);
+    held = sym (take-append-drop old.state.scan.stop old.held.items) ∙ ap (λ t. take old.state.scan.stop old.held.items ++ t) (sym go.held)
+        ∙ ap (λ t. t ++ new.held.items) (sym r.text.spell);
     none_ready = none_ready;
     ended = go.ended;
     fault = go.fault;
   }
 
   -- the state after it
-  pub released_sound : IsSoundFeed old → IsSoundFeed new
-  released_sound sound = record {
+  pub released_sound : HasRoom old 0 → IsSoundFeed new
+  released_sound room = record {
     room = record {
-      fits = omega (arith, fed_is, sound.room.fits);
-      few_lines = omega (arith, go.place, go.line, r.stop, r.here, line_ends-bytes r.read, sound.room.few_lines);
+      fits = omega (arith, fed_is, room.fits);
+      few_lines = omega (arith, go.place, go.line, r.stop, r.here, line_ends-bytes r.read, room.few_lines);
     };
     state = subst (λ x. StandsSo x new) (sym go.ready) (λ no_fault. ([], new.held.items, go.opens));
   }
@@ -116,4 +131,9 @@ module _ (old new : Feed) (n : ℕ) (ready : old.ready ≡ Some n) (r : IsReady 
 pub release_seen : (old new : Feed) (seen : ScannerState) → scanning_of old ≡ seen → IsSoundFeed old → IsSome seen.ready → LetsGo old new → Releases seen (scanning_of new) × IsSoundFeed new
 release_seen old new seen is sound some go =
     let at = ready_from old sound (subst (λ (s : ScannerState). IsSome s.ready) (sym is) some) in
-    (subst (λ (s : ScannerState). Releases s (scanning_of new)) is (releases old new at.0 at.1 at.2 go), released_sound old new at.0 at.1 at.2 go sound)
+    let h = at.2.holds in
+    let seen_is : with_line old (Some (line_held old at.0 h)) ≡ seen = sym (ready_seen old at.0 at.1 at.2) ∙ is in (
+      subst (λ (s : ScannerState). Releases s (scanning_of new)) seen_is (releases old new at.0 h go),
+      released_sound old new at.0 h go
+          sound.room,
+    )

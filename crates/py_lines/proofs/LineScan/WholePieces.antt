@@ -1,8 +1,7 @@
 -- Whole pieces are passed over: the scan comes to where all of them are closed.
-use Rattle.std.proofs.Common.{◌≡◌, ℕ, ◌+◌, ◌-◌, ◌<◌, ◌≤◌, inl, inr, Bool, true, false, not, ◌||◌, ◌==◌, if◌then◌else◌, None, Some, List, [], ◌∷◌, ◌++◌, length, take, drop, slice_index, refl, sym, ap, ◌∙◌, subst, append_assoc, append-nil, arith, length-drop}
+use Rattle.std.proofs.Common.{◌≡◌, ℕ, ◌+◌, ◌-◌, ◌<◌, ◌≤◌, inl, inr, Bool, true, false, not, ◌||◌, ◌==◌, if◌then◌else◌, None, List, [], ◌∷◌, ◌++◌, length, take, drop, slice_index, refl, sym, ap, ◌∙◌, subst, append_assoc, append-nil, arith, length-drop}
 use Rattle.std.specs.Prelude.{encode_utf8_all}
 use Rattle.std.specs.List.{list_all}
-use Rattle.std.specs.Str.{all_scalars}
 use Rattle.std.proofs.lemmas.Bool.{and_parts, both_ways, not-true, or_parts}
 use Rattle.std.proofs.lemmas.List.{drop-drop, get_or-drop, get_or-take, length-take-le, take-append-drop}
 use Rattle.std.proofs.lemmas.Str.{encodes-append}
@@ -25,17 +24,15 @@ use Rattle.py_lines.specs.Private.Marks.{FindsNext, is_of_class, is_plain}
 use Rattle.py_lines.specs.Private.Outline.{BeginsOuterEnd, IsFreeAfter, IsLine, StandsBefore, StandsClosed, tail_of}
 use Rattle.py_lines.specs.Private.Passing.{EndsLineSo, PassesOver, PassesSo, nothing_passed, passed_to, up_to}
 use Rattle.py_lines.specs.Private.Run.{Reached, WhereverReached}
-use Rattle.py_lines.specs.Private.Scan.{EndsWhole, IsLineBefore, ScansIn, line_start, none_open, stack_of, with_brackets}
+use Rattle.py_lines.specs.Private.Scan.{IsLineBefore, ScansIn, line_start, none_open, stack_of, with_brackets}
 use Rattle.py_lines.specs.Private.ScanMachine.{IsScanSound}
 use Rattle.py_lines.specs.Private.WholePieces.{IsOperatorEnd, closed_after}
 use Rattle.py_lines.proofs.FieldScans.TextLengths.{rest_is}
 use Rattle.py_lines.proofs.LineScan.BracketStack.{keeps_at}
 use Rattle.py_lines.proofs.LineScan.LineSteps.{way_stop, way_here}
-use Rattle.py_lines.proofs.LineScan.AsciiRuns.{all_pass, is_low, low_encodes, low_is}
+use Rattle.py_lines.proofs.LineScan.AsciiRuns.{all_pass, low_encodes}
 use Rattle.py_lines.proofs.LogicalLines.Cuts.{byte_len-append}
-use Rattle.py_lines.proofs.Text.Utf8Prefixes.{all_scalars-append}
 use Rattle.py_lines.proofs.SimpleLines.Code.{code_low, code_run, outer_end_returns, outer_end_whole}
-use Rattle.py_lines.proofs.SimpleLines.FirstBytes.{line_end_low}
 use Rattle.py_lines.proofs.SimpleLines.Lines.{plain_code}
 use Rattle.py_lines.proofs.SimpleLines.Passing.{end_is, end_last, end_spells, end_split, end_within, operator_over}
 use Rattle.py_lines.proofs.SimpleLines.Tails.{closed_stands, free_tail}

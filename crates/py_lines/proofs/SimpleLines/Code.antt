@@ -35,7 +35,7 @@ use Rattle.py_lines.proofs.LineScan.PieceEnd.{closed_text}
 use Rattle.py_lines.proofs.LineScan.Runs.{break_low, ends-run, line_ends-run, space_low, word_byte_continues, word_byte_low}
 use Rattle.py_lines.proofs.LineScan.AsciiRuns.{ascii_scalar, free_breaks, operator-no_break, operator-not-quote, word_starts, word_whole, space-not-quote, space_whole}
 use Rattle.py_lines.proofs.LineScan.TextSteps.{begun_sound}
-use Rattle.py_lines.proofs.SimpleLines.Tails.{apart_tail, come_sound, feed-no-word, feed_unreturned, free_goes_on, free_stands, no_tail, no_tail_with, operator-no-word, return_returns, stands, stands_less, tail_on-append, tail_push}
+use Rattle.py_lines.proofs.SimpleLines.Tails.{apart_tail, come_sound, feed-no-word, feed_unreturned, free_goes_on, no_tail, no_tail_with, operator-no-word, return_returns, stands, stands_less, tail_on-append, tail_push}
 use Rattle.py_lines.proofs.Text.CharacterTests.{break-not-quote, excluded, feed_from, feed_is, none_of, operator_ascii}
 use Rattle.py_lines.proofs.Text.Utf8Prefixes.{all_scalars-append}
 use Rattle.py_lines.proofs.Text.Utf8Shapes.{one, two, three, four}

@@ -2,35 +2,30 @@
 use Rattle.std.proofs.Common.{◌≡◌, ℕ, ◌+◌, ◌-◌, ◌<◌, ◌≤◌, ◌⊎◌, inl, inr, Bool, true, false, not, ◌&&◌, ◌||◌, Option, None, Some, List, [], ◌∷◌, ◌++◌, length, take, drop, slice_index, refl, sym, ap, ◌∙◌, subst, append_assoc, append-nil, arith, length-append, length-drop}
 use Rattle.std.specs.List.{list_all}
 use Rattle.std.specs.Str.{all_scalars}
-use Rattle.std.proofs.lemmas.Bool.{and_from, and_parts, both_ways, or_cases}
-use Rattle.std.proofs.lemmas.List.{drop-drop, drop_more, get_or-drop, length-take-le, take-append-drop}
+use Rattle.std.proofs.lemmas.Bool.{and_parts, both_ways, or_cases}
+use Rattle.std.proofs.lemmas.List.{drop-drop, get_or-drop, length-take-le, take-append-drop}
 use Rattle.std.proofs.lemmas.Str.{encodes-append}
 use Rattle.std.proofs.Math.Seq.{take-add}
-use Rattle.std.specs.Prelude.{IsTrue, encode_utf8_all}
+use Rattle.std.specs.Prelude.{encode_utf8_all}
 use Rattle.py_lines.specs.Balance.{is_closing, is_opening}
 use Rattle.py_lines.specs.Character.{is_operator, is_space}
 use Rattle.py_lines.specs.LogicalLine.{byte_len, line_ends}
-use Rattle.py_lines.specs.Piece.{operator}
 use Rattle.py_lines.specs.declared.brackets.Brackets.{Brackets}
 use Rattle.py_lines.specs.declared.marks.Marks.{Marks}
 use Rattle.py_lines.specs.declared.mode.Mode.TheVariants as modes
 use Rattle.py_lines.specs.declared.mode.Spelling.{Spelling}
 use Rattle.py_lines.specs.declared.passing.Passing.{Passing}
 use Rattle.py_lines.specs.declared.plain_strings.Passed.{Passed}
-use Rattle.py_lines.specs.Private.Machine.{Bracket, brackets_after}
+use Rattle.py_lines.specs.Private.Machine.{Bracket}
 use Rattle.py_lines.specs.Private.Marks.{FindsNext, HasMarks, is_plain}
 use Rattle.py_lines.specs.Private.Run.{is_ascii_word}
 use Rattle.py_lines.specs.Private.Scan.{none_open, stack_of}
 use Rattle.py_lines.specs.Private.Outline.{AreWholeLines, BeginWithLines, BeginsOuterEnd, HasComeTo, IsWholeLine, StandsBefore, line_up_to, tail_of, tail_on}
 use Rattle.py_lines.specs.Private.Passing.{EndsLineSo, PassesOver, PassesSo, nothing_passed, up_to}
-use Rattle.py_lines.proofs.Pieces.PieceLists.{piece}
-use Rattle.py_lines.proofs.Machine.LiveTexts.{closing-operator}
-use Rattle.py_lines.proofs.FieldMachine.PieceRuns.{opening_operator}
 use Rattle.py_lines.proofs.FieldScans.TextLengths.{later, rest_is}
 use Rattle.py_lines.proofs.LineScan.LineCount.{line_ends-bytes}
-use Rattle.py_lines.proofs.LineScan.AsciiRuns.{all_pass, is_low, low_encodes, low_is}
+use Rattle.py_lines.proofs.LineScan.AsciiRuns.{all_pass, low_encodes}
 use Rattle.py_lines.proofs.LogicalLines.Cuts.{byte_len-append}
-use Rattle.py_lines.proofs.Text.CharacterTests.{operator_ascii}
 use Rattle.py_lines.proofs.Text.Utf8Prefixes.{all_scalars-append}
 use Rattle.py_lines.proofs.SimpleLines.Code.{IsCodeByte, begun, code_low, code_run, outer_end_whole, tail-encoded}
 use Rattle.py_lines.proofs.SimpleLines.Tails.{closed_stands, stands, tail_on-append}

@@ -1,5 +1,5 @@
 -- A scan under way in a line stands as the lines that are passed over do, where no piece is open.
-use Rattle.std.proofs.Common.{◌≡◌, ℕ, ◌+◌, inl, inr, subst, Bool, true, false, Option, None, Some, List, [], ◌∷◌, ◌++◌, take, refl, sym, ap, ◌∙◌, append-nil}
+use Rattle.std.proofs.Common.{◌≡◌, ℕ, ◌+◌, inl, inr, subst, true, false, Option, None, Some, List, [], ◌∷◌, ◌++◌, take, refl, sym, ap, ◌∙◌, append-nil}
 use Rattle.std.specs.Prelude.{encode_utf8_all}
 use Rattle.std.proofs.lemmas.Str.{encodes_same}
 use Rattle.std.specs.Str.{all_scalars}
@@ -13,14 +13,14 @@ use Rattle.py_lines.specs.declared.scan.Scan.{Scan}
 use Rattle.py_lines.specs.Private.Machine.{Bracket, Scanned, brackets_after, brackets_of, fresh}
 use Rattle.py_lines.specs.Private.ScanMachine.{IsScanSound, StringsFit, scan_steps}
 use Rattle.py_lines.specs.Fields.{AreReadBefore}
-use Rattle.py_lines.specs.Private.Scan.{AreLine, EndsNoLine, IsAtLineEnd, IsLineBefore, IsUnderWay, Tallies, line_start, none_open, stack_of}
+use Rattle.py_lines.specs.Private.Scan.{AreLine, EndsNoLine, IsAtLineEnd, IsLineBefore, IsUnderWay, Tallies, line_start, stack_of}
 use Rattle.py_lines.specs.Private.Outline.{IsEndedBy, IsFreeAfter, IsLine, StandsBefore, tail_of, tail_on}
 use Rattle.py_lines.proofs.Machine.PieceSteps.{scanned}
 use Rattle.py_lines.proofs.Pieces.PieceLists.{piece, spelled-push}
 use Rattle.py_lines.proofs.LineScan.LineSteps.{returned_fit, sound_steps}
 use Rattle.py_lines.proofs.LineScan.LineCount.{ends-last}
 use Rattle.py_lines.proofs.Lexings.LineEnds.{line_string}
-use Rattle.py_lines.proofs.SimpleLines.Code.{ends_so, holds_line_end, holds_return, line_end_first, line_end_next, return_next, line_end_steps, line_end_unreturned, line_is, operator_closes, operator_ends, pieces, tail-encoded}
+use Rattle.py_lines.proofs.SimpleLines.Code.{ends_so, operator_closes, operator_ends, tail-encoded}
 use Rattle.py_lines.proofs.SimpleLines.Tails.{come_sound, free_tail, return_returns, tail_on-append}
 
 -- a machine that stands in no piece holds nothing

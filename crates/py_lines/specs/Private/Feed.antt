@@ -1,18 +1,19 @@
 -- What the scanner inside a `Scanner` holds: the text since the line that was released last, and how far it was scanned.
-use Rattle.std.specs.Prelude.{◌≡◌, ℕ, ◌+◌, ◌<◌, ◌≤◌, ◌⊎◌, ◌^◌, Bool, true, false, Option, None, Some, Result, Ok, Err, List, [], ◌∷◌, ◌++◌, length, take, drop, encode_utf8, encode_utf8_all, if◌then◌else◌}
+use Rattle.std.specs.Prelude.{◌≡◌, ℕ, ◌+◌, ◌<◌, ◌≤◌, ◌⊎◌, ◌^◌, Bool, true, false, Option, None, Some, Result, Ok, Err, List, [], ◌∷◌, ◌++◌}
+use Rattle.std.specs.Prelude.{length, take, drop, encode_utf8, encode_utf8_all, is_some, if◌then◌else◌}
 use Rattle.std.specs.Str.{StartsWithNoChar, all_scalars}
 use Rattle.std.specs.Char.{IsScalar}
 use Rattle.py_lines.specs.Piece.{Piece, spelled}
-use Rattle.py_lines.specs.LogicalLine.{LogicalLine, byte_len, line_ends, line_of}
+use Rattle.py_lines.specs.LogicalLine.{LogicalLine, byte_len, end_len_of, line_ends, line_of}
 use Rattle.py_lines.specs.Lexed.{IsLexed}
 use Rattle.py_lines.specs.Settled.{IsHopeless}
 use Rattle.py_lines.specs.Given.{AreFirstLines}
 use Rattle.py_lines.specs.ScannerState.{GoesOnWith, IsScanning, EndsExactly, HoldsLast, fed_of, ready_lines}
-use Rattle.py_lines.specs.ScannerState.View.{line_of_feed, ready_of, scanning_of}
+use Rattle.py_lines.specs.ScannerState.View.{line_of_feed, scanning_of}
 use Rattle.py_lines.specs.Private.ScanMachine.{scan_step}
 use Rattle.py_lines.specs.Private.Scan.{ScansIn, IsUnderWay, stack_if, is_returned, IsRefusal, EndsWhole, IsLineBefore, IsNotEnded}
 use Rattle.py_lines.specs.Private.LineState.{BeginsAnew, KeepsFault, first_mode, with_tokens}
-use Rattle.py_lines.specs.Private.LineTokens.{HoldsTokens}
+use Rattle.py_lines.specs.Private.LineTokens.{AreLineText, HoldsTokens}
 use Rattle.py_lines.specs.declared.fault.Fault.{Fault}
 use Rattle.py_lines.specs.declared.fault.FaultKind.{FaultKind}
 use Rattle.py_lines.specs.declared.fault.FaultKind.TheVariants.{BadUtf8}
@@ -66,16 +67,22 @@ pub record FailsAt (old : Feed) (kind : FaultKind) (offset : ℕ) (error : LexEr
   pub same : new ≡ record old { state = new.state }
   pub keeps : KeepsFault old.state kind offset (take offset old.held.items) error new.state
 
--- the line that has ended where the scan stopped was read with its tokens, and is ready
-pub record IsMadeReady (old : Feed) (end_len : ℕ) (new : Feed) : Type 0 where
-  pub same : new ≡ record old { state = with_tokens old.state new.state; ready = Some end_len }
+-- the tokens of the line that has ended where the scan stopped were read
+pub record HasReadTokens (old new : Feed) : Type 0 where
+  pub same : new ≡ record old { state = with_tokens old.state new.state }
   pub tokens : HoldsTokens (take old.state.scan.stop old.held.items) old.state.line new.state.tokens
 
--- or there was no memory for them
-abbrev pub GetsReady : Feed → ℕ → Result (Unit {0}) LexError → Feed → Type 0
-GetsReady old end_len (Ok done) new = IsMadeReady old end_len new
-GetsReady old end_len (Err (lex.Fault f)) new = ⊥
-GetsReady old end_len (Err lex.Memory) new = Restarts old new
+-- no line is ready: so many bytes stay held, and their scan is begun anew
+pub record DropsLine (old : Feed) (before : ℕ) (new : Feed) : Type 0 where
+  pub same : new ≡ record old { held = new.held; state = new.state; ready = None }
+  pub held : new.held.items ≡ take before old.held.items
+  pub begins : BeginsAnew old.state new.state
+
+-- what a call that reads the tokens answers and leaves
+abbrev pub ReadsTokens : Feed → ℕ → Result (Unit {0}) LexError → Feed → Type 0
+ReadsTokens old before (Ok done) new = HasReadTokens old new
+ReadsTokens old before (Err (lex.Fault f)) new = ⊥
+ReadsTokens old before (Err lex.Memory) new = DropsLine old before new
 
 -- the line that is open in what is held may not go on with this character
 pub record RefusesNext (old : Feed) (read : List ℕ) (c : ℕ) (error : LexError) (new : Feed) : Type 0 where
@@ -86,13 +93,12 @@ pub record RefusesNext (old : Feed) (read : List ℕ) (c : ℕ) (error : LexErro
   pub is_line_fault : IsRefusal old.state.scan c line_fault
   pub fails : FailsAt old line_fault.kind line_fault.place error new
 
--- a line has ended in what is held, and its tokens are read
+-- a line has ended in what is held
 pub record EndsLineHeld (end_len : ℕ) (new : Feed) : Type 0 where
   pub all : List ℕ
   pub after : List ℕ
   pub ended : IsEnded new end_len all after
   pub whole : EndsWhole all after
-  pub tokens : HoldsTokens (encode_utf8_all all) new.state.line new.state.tokens
 
 -- what is left is a part of a character, or nothing
 pub record IsPartOfCharacter (f : Feed) (rest : List ℕ) : Type 0 where
@@ -145,12 +151,11 @@ pub record FailsHeld (old : Feed) (error : LexError) (new : Feed) : Type 0 where
 abbrev pub ScansHeld : Feed → Result (Unit {0}) LexError → Feed → Type 0
 ScansHeld old (Ok done) new = KeepsText old new × (new.state.fault ≡ old.state.fault) × IsScanned new.ready new
 ScansHeld old (Err (lex.Fault f)) new = FailsHeld old (lex.Fault f) new
-ScansHeld old (Err lex.Memory) new = Restarts old new
+ScansHeld old (Err lex.Memory) new = ⊥
 
--- a line is open in what is held, or has ended in it
-abbrev pub IsHeldSo : Option ℕ → Feed → Type 0
-IsHeldSo None f = (read : List ℕ) × (rest : List ℕ) × IsOpen f read rest
-IsHeldSo (Some end_len) f = EndsLineHeld end_len f
+-- a line is open in what is held
+abbrev pub IsHeldOpen : Feed → Type 0
+IsHeldOpen f = (read : List ℕ) × (rest : List ℕ) × IsOpen f read rest
 
 -- these bytes more are held, and nothing else is said of the scan
 pub record HoldsMore (old : Feed) (bytes : List ℕ) (new : Feed) : Type 0 where
@@ -159,12 +164,12 @@ pub record HoldsMore (old : Feed) (bytes : List ℕ) (new : Feed) : Type 0 where
   pub line : new.state.line ≡ old.state.line
   pub ended : new.ended ≡ old.ended
 
--- nothing that contracts see has changed, and the scan may go on
+-- nothing that contracts see has changed, no line is ready, and the scan may go on
 pub record IsUnchanged (old new : Feed) : Type 0 where
   pub same : HoldsMore old [] new
-  pub ready : new.ready ≡ old.ready
+  pub ready : new.ready ≡ None
   pub fault : new.state.fault ≡ old.state.fault
-  pub state : IsHeldSo new.ready new
+  pub opens : IsHeldOpen new
 
 -- a line of these characters had ended in these bytes before
 pub record HadEnded (held all : List ℕ) : Type 0 where
@@ -214,23 +219,33 @@ TakesChunk old chunk (Ok n) new = TakesOf old chunk n new
 TakesChunk old chunk (Err (lex.Fault f)) new = FailsWith old chunk (lex.Fault f) new
 TakesChunk old chunk (Err lex.Memory) new = IsUnchanged old new
 
--- What is held begins with these characters, of a logical line that is ready: the one of these pieces. The scan stopped
--- after them.
-pub record IsReady (f : Feed) (end_len : ℕ) : Type 0 where
+-- What is held begins with these characters, of a logical line: the one of these pieces. The scan stopped after them.
+pub record HoldsLine (f : Feed) (end_len : ℕ) : Type 0 where
   pub read : List ℕ
   pub rest : List ℕ
   pub pieces : List Piece
   pub scalars : all_scalars read ≡ true
   pub spell : encode_utf8_all read ++ rest ≡ f.held.items
   pub spells : spelled pieces ≡ read
-  pub line_is : line_of_feed f end_len ≡ line_of f.state.place f.state.line pieces
+  pub text : AreLineText (take f.state.scan.stop f.held.items) pieces
+  pub number : f.state.scan.line ≡ f.state.line
+  pub ends : end_len ≡ end_len_of pieces
   pub stop : f.state.scan.stop ≡ byte_len read
   pub here : f.state.scan.count.line ≡ f.state.line + line_ends read
   pub some : 0 < byte_len read
 
+-- that logical line
+abbrev pub line_held : (f : Feed) (end_len : ℕ) → HoldsLine f end_len → LogicalLine
+line_held f end_len h = line_of f.state.place f.state.line h.pieces
+
+-- such a line is ready, with its tokens
+pub record IsReady (f : Feed) (end_len : ℕ) : Type 0 where
+  pub holds : HoldsLine f end_len
+  pub line_is : line_of_feed f end_len ≡ line_held f end_len holds
+
 -- a line is ready, or else one is open in what is held, unless the text has a fault
 abbrev pub StandsSo : Option ℕ → Feed → Type 0
-StandsSo None f = f.state.fault ≡ None → IsHeldSo None f
+StandsSo None f = f.state.fault ≡ None → IsHeldOpen f
 StandsSo (Some end_len) f = IsReady f end_len
 
 -- the state between two calls
@@ -252,7 +267,7 @@ pub record IsLastChunk (old : Feed) (piece : List ℕ) (n end_len : ℕ) (new : 
 
 -- where a line is ready, it has ended with the bytes taken last; else the same bytes were scanned before
 abbrev pub StopsTaking : Feed → List ℕ → ℕ → Option ℕ → Feed → Type 0
-StopsTaking old piece n None new = (mid : Feed) × HoldsMore mid [] new × IsScanned None mid × IsHeldSo None new
+StopsTaking old piece n None new = (mid : Feed) × HoldsMore mid [] new × IsScanned None mid × IsHeldOpen new
 StopsTaking old piece n (Some end_len) new = EndsLineHeld end_len new × (0 < n → IsLastChunk old piece n end_len new)
 
 -- so many bytes of a piece were taken
@@ -264,13 +279,6 @@ pub record TakesSome (old : Feed) (piece : List ℕ) (n : ℕ) (new : Feed) : Ty
   pub fault : new.state.fault ≡ old.state.fault
   pub stops : StopsTaking old piece n new.ready new
 
--- a line is ready: no byte was taken
-pub record Waits (old : Feed) (n : ℕ) (new : Feed) : Type 0 where
-  pub end_len : ℕ
-  pub ready : old.ready ≡ Some end_len
-  pub none : n ≡ 0
-  pub same : new ≡ old
-
 -- with bytes of a piece the scan of what is held meets a fault
 pub record FailsPiece (old : Feed) (piece : List ℕ) (error : LexError) (new : Feed) : Type 0 where
   pub not_ready : old.ready ≡ None
@@ -280,12 +288,17 @@ pub record FailsPiece (old : Feed) (piece : List ℕ) (error : LexError) (new : 
   pub more : HoldsMore old (take n piece) mid
   pub fails : FailsHeld mid error new
 
--- what a call that is fed a piece answers and leaves
-abbrev pub FeedsSo : Feed → List ℕ → Result ℕ LexError → Feed → Type 0
-FeedsSo old piece (Ok n) new = (old.state.fault ≡ None) × (Waits old n new ⊎ TakesSome old piece n new)
-FeedsSo old piece (Err (lex.Fault f)) new =
-    ((old.state.fault ≡ Some f) × (new ≡ old)) ⊎ ((old.state.fault ≡ None) × FailsPiece old piece (lex.Fault f) new)
-FeedsSo old piece (Err lex.Memory) new = (old.state.fault ≡ None) × (old.ready ≡ None) × IsUnchanged old new
+-- what a call that takes bytes of a piece answers and leaves
+abbrev pub TakesSo : Feed → List ℕ → Result ℕ LexError → Feed → Type 0
+TakesSo old piece (Ok n) new = TakesSome old piece n new
+TakesSo old piece (Err (lex.Fault f)) new = FailsPiece old piece (lex.Fault f) new
+TakesSo old piece (Err lex.Memory) new = IsUnchanged old new
+
+-- whether a line is ready, where no fault was met
+abbrev pub WaitsSo : Feed → Result Bool LexError → Type 0
+WaitsSo f (Ok waits) = (f.state.fault ≡ None) × (waits ≡ is_some f.ready)
+WaitsSo f (Err (lex.Fault fault)) = f.state.fault ≡ Some fault
+WaitsSo f (Err lex.Memory) = ⊥
 
 -- the text ends with what is held, after the lines released
 pub record EndsWith (f : Feed) (text : List ℕ) (lines : List LogicalLine) : Type 0 where
@@ -293,16 +306,16 @@ pub record EndsWith (f : Feed) (text : List ℕ) (lines : List LogicalLine) : Ty
   pub held : GoesOnWith text f.state.place f.held.items
   pub whole : length text ≡ f.state.place + length f.held.items
 
--- what is held is the text's last line, which is ready now
+-- what is held is the text's last line
 pub record IsLastLine (old new : Feed) : Type 0 where
   pub text : KeepsText old new
   pub fault : new.state.fault ≡ old.state.fault
   pub end_len : ℕ
   pub is_ready : new.ready ≡ Some end_len
-  pub ready : IsReady new end_len
+  pub holds : HoldsLine new end_len
   pub all : new.state.scan.stop ≡ length new.held.items
   pub lexed : (text : List ℕ) (lines : List LogicalLine) → EndsWith old text lines
-      → IsLexed text (lines ++ line_of_feed new end_len ∷ []) None
+      → IsLexed text (lines ++ line_held new end_len holds ∷ []) None
 
 -- the text that ends with what is held has this fault, which is kept
 pub record HasEndFault (old : Feed) (fault : Fault) (new : Feed) : Type 0 where
@@ -315,22 +328,28 @@ pub record HasEndFault (old : Feed) (fault : Fault) (new : Feed) : Type 0 where
 abbrev pub EndsHeld : Feed → Result (Unit {0}) LexError → Feed → Type 0
 EndsHeld old (Ok done) new = IsLastLine old new
 EndsHeld old (Err (lex.Fault f)) new = HasEndFault old f new
-EndsHeld old (Err lex.Memory) new = Restarts old new
+EndsHeld old (Err lex.Memory) new = ⊥
 
--- the text ends with what is held, and has no fault there: the line that is ready now, if one is, is its last
+-- the line that stands in what is held, if one does, and else one is open, unless the text has a fault
+abbrev pub HoldsSo : Feed → Option ℕ → Option LogicalLine → Type 0
+HoldsSo f None line = (line ≡ None) × (f.state.fault ≡ None → IsHeldOpen f)
+HoldsSo f (Some end_len) line = (h : HoldsLine f end_len) × (line ≡ Some (line_held f end_len h))
+
+-- the text ends with what is held, and has no fault there: the line that stands there, if one does, is its last
 pub record HasEndedText (old new : Feed) : Type 0 where
   pub text : KeepsText old new
   pub fault : new.state.fault ≡ old.state.fault
-  pub state : StandsSo new.ready new
+  pub line : Option LogicalLine
+  pub holds : HoldsSo new new.ready line
   pub lexed : (text : List ℕ) (lines : List LogicalLine) → IsScanning (scanning_of old) text lines
       → length text ≡ fed_of (scanning_of old)
-      → IsLexed text (lines ++ ready_lines (ready_of new new.ready)) None × HoldsLast new.held.items (ready_of new new.ready)
+      → IsLexed text (lines ++ ready_lines line) None × HoldsLast new.held.items line
 
 -- what a call that ends the text answers and leaves
 abbrev pub EndsText : Feed → Result (Unit {0}) LexError → Feed → Type 0
 EndsText old (Ok done) new = HasEndedText old new
 EndsText old (Err (lex.Fault f)) new = HasEndFault old f new
-EndsText old (Err lex.Memory) new = Restarts old new
+EndsText old (Err lex.Memory) new = ⊥
 
 -- the line that was ready is let go: what is held begins after it, and so does the scan of the next line
 pub record LetsGo (old new : Feed) : Type 0 where

@@ -1,12 +1,12 @@
 -- Lines are taken until one gives a binding, or the piece is out.
-use Rattle.std.proofs.Common.{◌≡◌, Err, List, ℕ, length, take, drop, sym, ◌∙◌, subst, ap, ◌+◌, ◌-◌, arith}
+use Rattle.std.proofs.Common.{◌≡◌, Ok, Err, List, ℕ, length, take, drop, nat_lt, sym, ◌∙◌, subst, ap, ◌+◌, ◌-◌, arith}
 use Rattle.std.proofs.lemmas.List.{take_rest, length-drop}
 use Rattle.isort_find.specs.Position.{phase_in, ready_in}
 use Rattle.isort_find.specs.Pieces.{PieceFinderState, piece_finder_state, MeetsFaultIn}
-use Rattle.isort_find.specs.Private.PieceSteps.{TakesLines, TakesBytesOf}
+use Rattle.isort_find.specs.Private.PieceSteps.{IsToGoOn, IsToStop, TakesBytesOf, TakesLineOf, TakesLines}
 use Rattle.isort_find.specs.Private.Walks.{WalkerState}
 use Rattle.isort_find.specs.declared.error.FindError.{FindError}
-use Rattle.isort_find.proofs.Fed.MoreLines.{advances_more, advances_none, takes_more, fault_after, lost, lost_after, keeps_after, ready_after, takes_fewer}
+use Rattle.isort_find.proofs.Fed.MoreLines.{advances_more, advances_none, takes_more, fault_after, line_advances, line_fewer, line_stops, lost, lost_after, keeps_after}
 use Rattle.isort_find.proofs.pieces.PieceFinder.take_lines.Goals as goal
 
 pub lines-init : goal.lines-init
@@ -41,37 +41,52 @@ lines-smaller c =
     let piece = c.args.piece.now in
     let at = c.lines.taken + c.pass_lines-taken.result in
     let passes = c.pass_lines-taken.ensures.passes in
-    let next = subst (λ (bytes : List ℕ). TakesLines c.pass_lines-taken.new.self bytes c.in-Ok.more c.take_line.new.self) (take_rest piece at) c.in-Ok.ensures in
-    let ready = ready_after piece at c.in-Ok.more c.take_line.new.self next.some (c.goes_on.ensures.goes c.if-not-goes_on.false) in
+    let mid = c.pass_lines-taken.new.self in
+    let last = c.take_line.new.self in
+    let next = subst (λ (bytes : List ℕ). TakesLineOf mid bytes (Ok c.in-Ok.more) last) (take_rest piece at) c.in-Ok.ensures in
     let within = passes.advances.within in
-    let more = next.advances.within in
+    let more = (line_advances mid last (drop at piece) c.in-Ok.more next).within in
     let size : length piece - (at + c.in-Ok.more) + (c.pass_lines-taken.result + c.in-Ok.more) ≡ length piece - c.lines.taken = omega (arith, within, more, c.lines.invariant.within, length-drop at piece, length-drop c.lines.taken piece) in
-    takes_fewer c.lines.self.scanning c.pass_lines-taken.new.self.scanning c.take_line.new.self.scanning (length piece - c.lines.taken) (length piece - (at + c.in-Ok.more)) c.pass_lines-taken.result c.in-Ok.more size passes.advances.held passes.gone next.advances.held ready
+    let goes = subst (IsToGoOn last (nat_lt (at + c.in-Ok.more) (length piece))) c.start-place.ensures.offset
+    (c.goes_on.ensures.goes c.if-not-goes_on.false) in
+    line_fewer c.lines.self.scanning mid last piece (length piece - c.lines.taken) (length piece - (at + c.in-Ok.more)) at
+    c.pass_lines-taken.result c.in-Ok.more size passes.advances.held passes.gone (ap phase_in passes.between.position) next goes
 
 pub lines-preserved : goal.lines-preserved
 lines-preserved c =
     let at = c.lines.taken + c.pass_lines-taken.result in
+    let mid = c.pass_lines-taken.new.self in
+    let last = c.take_line.new.self in
     let passes = c.pass_lines-taken.ensures.passes.advances in
-    let passed = advances_more c.args.self.now c.lines.self c.pass_lines-taken.new.self c.args.piece.now c.lines.taken c.pass_lines-taken.result c.lines.invariant.advances passes in
-    let next = subst (λ (bytes : List ℕ). TakesLines c.pass_lines-taken.new.self bytes c.in-Ok.more c.take_line.new.self) (take_rest c.args.piece.now at) c.in-Ok.ensures in
-    let all = takes_more c.args.self.now c.pass_lines-taken.new.self c.take_line.new.self c.args.piece.now at c.in-Ok.more passed next in
+    let passed = advances_more c.args.self.now c.lines.self mid c.args.piece.now c.lines.taken c.pass_lines-taken.result
+    c.lines.invariant.advances passes in
+    let next = subst (λ (bytes : List ℕ). TakesLineOf mid bytes (Ok c.in-Ok.more) last) (take_rest c.args.piece.now at) c.in-Ok.ensures in
+    let all = advances_more c.args.self.now mid last c.args.piece.now at c.in-Ok.more passed
+    (line_advances mid last (drop at c.args.piece.now) c.in-Ok.more next) in
     let goes = c.goes_on.ensures.goes c.if-not-goes_on.false in
     record {
-      advances = all.advances;
-      within = all.advances.within;
-      fed = all.advances.fed;
+      advances = all;
+      within = all.within;
+      fed = all.fed;
       is_open = goes.is_open;
       none_ready = goes.none_ready;
-      open_yet = all.advances.open_yet ∙ c.requires.open_yet;
+      open_yet = all.open_yet ∙ c.requires.open_yet;
       text = c.pass_lines-taken.ensures.text ∙ c.lines.invariant.text;
     }
 
 pub returns-then-not-goes_on-clause-takes : goal.returns-then-not-goes_on-clause-takes
 returns-then-not-goes_on-clause-takes c =
+    let piece = c.args.piece.now in
     let at = c.lines.taken + c.pass_lines-taken.result in
-    let passed = advances_more c.args.self.now c.lines.self c.pass_lines-taken.new.self c.args.piece.now c.lines.taken c.pass_lines-taken.result c.lines.invariant.advances c.pass_lines-taken.ensures.passes.advances in
-    let next = subst (λ (bytes : List ℕ). TakesLines c.pass_lines-taken.new.self bytes c.in-Ok.more c.take_line.new.self) (take_rest c.args.piece.now at) c.in-Ok.ensures in
-    takes_more c.args.self.now c.pass_lines-taken.new.self c.take_line.new.self c.args.piece.now at c.in-Ok.more passed next
+    let mid = c.pass_lines-taken.new.self in
+    let last = c.take_line.new.self in
+    let passed = advances_more c.args.self.now c.lines.self mid piece c.lines.taken c.pass_lines-taken.result c.lines.invariant.advances
+    c.pass_lines-taken.ensures.passes.advances in
+    let line = subst (λ (bytes : List ℕ). TakesLineOf mid bytes (Ok c.in-Ok.more) last) (take_rest piece at) c.in-Ok.ensures in
+    let next = line_stops mid last (drop at piece) c.in-Ok.more (nat_lt (at + c.in-Ok.more) (length piece)) line
+    (λ none. subst (IsToStop last (nat_lt (at + c.in-Ok.more) (length piece))) c.start-place.ensures.offset
+    (c.goes_on.ensures.done c.if-not-goes_on.true none)) in
+    takes_more c.args.self.now mid last piece at c.in-Ok.more passed next
 
 pub returns-in-Err-Fault-clause-takes : goal.returns-in-Err-Fault-clause-takes
 returns-in-Err-Fault-clause-takes c =

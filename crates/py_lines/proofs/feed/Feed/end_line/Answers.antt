@@ -8,7 +8,8 @@ use Rattle.py_lines.specs.Private.LineState.{IsEndLineFault}
 use Rattle.py_lines.specs.Private.Scan.{is_returned}
 use Rattle.py_lines.proofs.Readers.LineAnswers.{Within, all_within}
 use Rattle.py_lines.proofs.Feeds.Steps.{open_stop, open_size, within_held}
-use Rattle.py_lines.proofs.Feeds.EndedHeld.{all_scanned, ends_so_bytes, ends_so_open, ends_so_plain, ends_so_returned, last_text, open_line_fault_within, plain_line, returned_line}
+use Rattle.py_lines.proofs.Feeds.EndedHeld.{all_scanned, ends_so_bytes, ends_so_open, ends_so_plain, ends_so_returned}
+use Rattle.py_lines.proofs.Feeds.EndedHeld.{open_line_fault_within}
 use Rattle.py_lines.proofs.feed.Feed.end_line.Goals as goal
 
 line_fault_within : (f : Feed) (read after : List ℕ) (o : IsOpen f read after) → 0 < length f.held.items → (held : ℕ) → held ≡ length f.held.items → (line_fault : LineFault) → IsEndLineFault f.state.scan (held - f.state.scan.stop) (Some line_fault) → Within read line_fault.place
@@ -22,24 +23,11 @@ line_fault_fails f read after o part some not_yet not_ready held all line_fault 
 line_fault_fails f read after o part some not_yet not_ready held all line_fault (inr (none, unfinished)) error new at =
     ends_so_open f read after o new error line_fault (all_scanned f read after o (omega (arith, all, none))) some not_yet unfinished at not_ready
 
-pub get_ready-requires-clause-within : goal.get_ready-requires-clause-within
-get_ready-requires-clause-within c =
-    let o = c.requires.scanned in
-    let f = c.args.self.now in
-    omega (arith, open_stop f o.0 o.1 o.2, open_size f o.0 o.1 o.2)
-
-pub get_ready-requires-clause-text : goal.get_ready-requires-clause-text
-get_ready-requires-clause-text c =
-    let o = c.requires.scanned in
-    let f = c.args.self.now in
-    let returned = sym c.is_returned.ensures ∙ c.if-is_returned.true in
-    last_text f o.0 o.1 o.2 1 (returned_line f o.0 o.1 o.2 (o.3.last returned) c.requires.some returned)
-
 pub returns-then-is_returned : goal.returns-then-is_returned
 returns-then-is_returned c =
     let o = c.requires.scanned in
     let returned = sym c.is_returned.ensures ∙ c.if-is_returned.true in
-    ends_so_returned c.args.self.now o.0 o.1 o.2 c.get_ready.new.self c.get_ready.result (o.3.last returned) c.requires.some returned c.get_ready.ensures
+    ends_so_returned c.args.self.now o.0 o.1 o.2 (o.3.last returned) c.requires.some returned
 
 pub overflow_sub-rest : goal.overflow_sub-rest
 overflow_sub-rest c =
@@ -66,22 +54,9 @@ returns-in-Some c =
     let f = c.args.self.now in
     line_fault_fails f o.0 o.1 o.2 o.3 c.requires.some (sym c.is_returned.ensures ∙ c.if-is_returned.false) c.requires.not_ready c.len.result (omega (arith, c.len.ensures)) c.in-Some.line_fault c.in-Some.ensures c.fail.result c.fail.new.self c.fail.ensures
 
-pub get_ready-requires-2-clause-within : goal.get_ready-requires-2-clause-within
-get_ready-requires-2-clause-within c =
-    let o = c.requires.scanned in
-    let f = c.args.self.now in
-    omega (arith, open_stop f o.0 o.1 o.2, open_size f o.0 o.1 o.2)
-
-pub get_ready-requires-2-clause-text : goal.get_ready-requires-2-clause-text
-get_ready-requires-2-clause-text c =
-    let o = c.requires.scanned in
-    let f = c.args.self.now in
-    let none = all_scanned f o.0 o.1 o.2 (omega (arith, c.len.ensures, c.in_default.ensures.0)) in
-    last_text f o.0 o.1 o.2 0 (plain_line f o.0 o.1 o.2 none c.requires.some (sym c.is_returned.ensures ∙ c.if-is_returned.false) c.in_default.ensures.1)
-
 pub returns : goal.returns
 returns c =
     let o = c.requires.scanned in
     let f = c.args.self.now in
     let none = all_scanned f o.0 o.1 o.2 (omega (arith, c.len.ensures, c.in_default.ensures.0)) in
-    ends_so_plain f o.0 o.1 o.2 c.get_ready-2.new.self c.get_ready-2.result none c.requires.some (sym c.is_returned.ensures ∙ c.if-is_returned.false) c.in_default.ensures.1 c.get_ready-2.ensures
+    ends_so_plain f o.0 o.1 o.2 none c.requires.some (sym c.is_returned.ensures ∙ c.if-is_returned.false) c.in_default.ensures.1

@@ -9,8 +9,7 @@ use Rattle.py_lines.specs.declared.feed.Feed.{Feed}
 use Rattle.py_lines.specs.declared.scan.Stop.TheVariants as stops
 use Rattle.py_lines.proofs.Feeds.Steps.{open_size, within_held}
 use Rattle.py_lines.proofs.Readers.LineFaults.{refused_within}
-use Rattle.py_lines.proofs.Feeds.Loops.{held_refused, keeps_self}
-use Rattle.py_lines.proofs.Feeds.MadeReady.{ended_text, ended_within, made_held}
+use Rattle.py_lines.proofs.Feeds.Loops.{held_ended, held_refused, keeps_self}
 use Rattle.py_lines.proofs.feed.Feed.meet.Goals as goal
 use Rattle.py_lines.proofs.feed.Feed.meet.Goals.{In-LineEnd, In-Refused}
 
@@ -27,20 +26,10 @@ within_refused f read rest c s line_fault is_line_fault =
     let within = within_held f read rest s.0 line_fault.place (refused_within f.state.place f.state.scan read s.0.way c s.4 line_fault is_line_fault) in
     (within.0, within.2)
 
-pub get_ready-requires-clause-within : goal.get_ready-requires-clause-within
-get_ready-requires-clause-within c =
-    let s = ended (goal.at.get_ready-requires-clause-within c).In-LineEnd in
-    ended_within c.args.self.now c.in-LineEnd.len s.0 s.1 s.2.0
-
-pub get_ready-requires-clause-text : goal.get_ready-requires-clause-text
-get_ready-requires-clause-text c =
-    let s = ended (goal.at.get_ready-requires-clause-text c).In-LineEnd in
-    ended_text c.args.self.now c.in-LineEnd.len s.0 s.1 s.2.0
-
 pub returns-in-LineEnd : goal.returns-in-LineEnd
 returns-in-LineEnd c =
     let s = ended (goal.at.returns-in-LineEnd c).In-LineEnd in
-    made_held c.args.self.now c.in-LineEnd.len s.0 s.1 s.2.0 c.get_ready.new.self c.get_ready.result s.2.1 c.get_ready.ensures
+    held_ended c.args.self.now c.in-LineEnd.len s.0 s.1 s.2.0 s.2.1
 
 pub fail-requires-clause-within : goal.fail-requires-clause-within
 fail-requires-clause-within c =

@@ -1,13 +1,11 @@
-use Rattle.std.proofs.Common.{◌<◌, length, take, refl, sym, ap, ◌∙◌, subst, ⊎_elim, arith}
+use Rattle.std.proofs.Common.{Some, Ok, ◌<◌, length, refl, sym, ◌∙◌, subst, ⊎_elim, arith}
 use Rattle.std.proofs.lemmas.Bool.{cases_lt}
 use Rattle.std.specs.Str.{StartsWithNoChar}
 use Rattle.py_lines.specs.Settled.{IsHopeless}
 use Rattle.py_lines.specs.declared.scan.Scan.{Scan}
-use Rattle.py_lines.specs.Private.Feed.{GetsReady, KeepsText}
-use Rattle.py_lines.specs.Private.LineTokens.{IsLineText}
+use Rattle.py_lines.specs.Private.Feed.{KeepsText, ScansHeld}
 use Rattle.py_lines.proofs.Feeds.Steps.{open_stop, open_size, open_within, within_held, next_is, scan_freed, ends_returned, returned_whole}
-use Rattle.py_lines.proofs.Feeds.Loops.{keeps_self, part_all, part_left, part_fails, held_from}
-use Rattle.py_lines.proofs.Feeds.MadeReady.{ended_text, made_held}
+use Rattle.py_lines.proofs.Feeds.Loops.{keeps_self, part_all, part_left, part_fails, held_ended, held_from}
 use Rattle.py_lines.proofs.Readers.LineAnswers.{all_within}
 use Rattle.py_lines.proofs.feed.Feed.scan_part.Goals as goal
 
@@ -16,15 +14,6 @@ returns-then-self-len c =
     let f = c.args.self.now in
     let o = c.requires.opens in
     (keeps_self f, refl, part_all f o.0 o.1 o.2 c.requires.not_ready (omega (arith, c.if-self-len.true, c.len.ensures)))
-
-pub get_ready-requires-clause-within : goal.get_ready-requires-clause-within
-get_ready-requires-clause-within c = let o = c.requires.opens in omega (arith, open_stop c.args.self.now o.0 o.1 o.2, open_size c.args.self.now o.0 o.1 o.2, ap (λ (s : Scan). s.stop) c.free.ensures)
-
-pub get_ready-requires-clause-text : goal.get_ready-requires-clause-text
-get_ready-requires-clause-text c =
-    let o = c.requires.opens in
-    let f = c.args.self.now in
-    subst (λ (s : Scan). IsLineText (take s.stop f.held.items)) (sym c.free.ensures) (ended_text (scan_freed f) 1 o.0 o.1 (ends_returned f o.0 o.1 o.2 (sym c.is_returned.ensures ∙ c.if-is_returned.true)))
 
 pub returns-then-is_returned : goal.returns-then-is_returned
 returns-then-is_returned c =
@@ -36,8 +25,9 @@ returns-then-is_returned c =
     (cases_lt f.state.scan.stop c.len.result) in
     let ended = ends_returned f o.0 o.1 o.2 (sym c.is_returned.ensures ∙ c.if-is_returned.true) in
     let keeps : KeepsText f (scan_freed f) = record { held = refl; place = refl; line = refl; ended = refl } in
-    let gets : GetsReady (scan_freed f) 1 c.get_ready.result c.get_ready.new.self = subst (λ (s : Scan). GetsReady (record f { state = record f.state { scan = s } }) 1 c.get_ready.result c.get_ready.new.self) c.free.ensures c.get_ready.ensures in
-    held_from f (scan_freed f) c.get_ready.new.self c.get_ready.result keeps refl refl (made_held (scan_freed f) 1 o.0 o.1 ended c.get_ready.new.self c.get_ready.result (returned_whole o.0 o.1 some o.3) gets)
+    let holds = held_from f (scan_freed f) _ (Ok tt) keeps refl refl
+    (held_ended (scan_freed f) 1 o.0 o.1 ended (returned_whole o.0 o.1 some o.3)) in
+    subst (λ (s : Scan). ScansHeld f (Ok tt) (record f { state = record f.state { scan = s }; ready = Some 1 })) (sym c.free.ensures) holds
 
 pub slice_bounds-is_hopeless-count : goal.slice_bounds-is_hopeless-count
 slice_bounds-is_hopeless-count c = let o = c.requires.opens in omega (arith, open_within c.args.self.now o.0 o.1 o.2 _ c.deref.ensures.value)

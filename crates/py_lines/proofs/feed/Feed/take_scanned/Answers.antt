@@ -3,8 +3,10 @@ use Rattle.py_lines.specs.declared.feed.Feed.{Feed}
 use Rattle.py_lines.specs.declared.fault.LexError.{LexError}
 use Rattle.py_lines.specs.Private.Scan.{ScansIn}
 use Rattle.py_lines.specs.Private.LineState.{first_mode}
-use Rattle.py_lines.specs.Private.Feed.{KeepsText, ScansHeld, TakesChunk}
+use Rattle.py_lines.specs.Private.Feed.{KeepsText, TakesChunk}
 use Rattle.py_lines.proofs.Feeds.Characters.{stops_held}
+use Rattle.std.proofs.lemmas.Result.{err_from_is_err_and}
+use Rattle.py_lines.proofs.Feeds.Chunks.{chunk_fault}
 use Rattle.py_lines.proofs.Feeds.GivenBack.{refused_unchanged}
 use Rattle.py_lines.proofs.feed.Feed.take_scanned.Goals as goal
 
@@ -21,12 +23,6 @@ meet-requires c =
       room = record { fits = omega (arith, c.requires.room.fits, ap length items); few_lines = c.requires.room.few_lines };
     }
 
-pub returns-in-Err-Fault : goal.returns-in-Err-Fault
-returns-in-Err-Fault c =
-    let f = c.args.self.now in
-    let mid : Feed = record f { held = c.extend_from_slice.new.self } in
-    record { mid = mid; more = record { held = c.in_default-extend_from_slice.ensures.items; place = refl; line = refl; ended = refl }; fails = subst (λ (e : LexError). ScansHeld mid (Err e) c.meet.new.self) c.in-Err-Fault.field-0-is c.in-Err-Fault.ensures }
-
 pub returns-in-Err : goal.returns-in-Err
 returns-in-Err c =
     let f = c.args.self.now in
@@ -35,10 +31,9 @@ returns-in-Err c =
     subst (λ (e : LexError). TakesChunk f c.args.chunk.now (Err e) (record new { held = held })) (sym c.into.ensures)
     (refused_unchanged f f.held held new c.requires.not_ready c.in-Err.ensures.items (record { same = refl; begins = c.restart.ensures }))
 
-pub returns-in-Err-Memory : goal.returns-in-Err-Memory
-returns-in-Err-Memory c =
+pub returns-in_err-meet : goal.returns-in_err-meet
+returns-in_err-meet c =
+    let p = err_from_is_err_and c.from_residual.result c.from_residual.ensures.1 in
     let f = c.args.self.now in
-    let held = c.extend_from_slice.new.self in
-    let scans = subst (λ (e : LexError). ScansHeld (record f { held = held }) (Err e) c.meet.new.self) c.in-Err-Memory.field-0-is c.in-Err-Memory.ensures in
-    let items = c.clear.ensures.items ∙ sym c.requires.scanned.none_held in
-    refused_unchanged f held c.clear.new.self c.meet.new.self c.requires.not_ready items scans
+    rw (p.1, p.2) (chunk_fault f (record f { held = c.extend_from_slice.new.self }) c.meet.new.self c.args.chunk.now _
+    (record { held = c.in_default-extend_from_slice.ensures.items; place = refl; line = refl; ended = refl }) c.in_err-meet.ensures)

@@ -2,14 +2,14 @@ use Rattle.std.proofs.Common.{◌≡◌, ℕ, List, length, take, sym, ap, ◌�
 use Rattle.std.specs.Prelude.{IsUtf8}
 use Rattle.py_lines.specs.Token.{EachLiesIn}
 use Rattle.py_lines.specs.Private.Feed.{IsReady, StandsSo}
-use Rattle.py_lines.proofs.Feeds.ReadyLines.{ready_lies, ready_utf8}
+use Rattle.py_lines.proofs.Feeds.ReadyLines.{held_utf8, ready_lies}
 use Rattle.py_lines.proofs.feed.Feed.unit.Goals as goal
 
 pub from_utf8_unchecked-text-requires : goal.from_utf8_unchecked-text-requires
 from_utf8_unchecked-text-requires c =
     let f = c.args.self.now in
     let r : IsReady f c.in_ok-end_len.end_len = subst (λ r. StandsSo r f) c.in_ok-end_len.was c.requires.state in
-    subst (λ (t : List ℕ). IsUtf8 (take f.state.scan.stop t)) (sym c.deref.ensures.value) (ready_utf8 f c.in_ok-end_len.end_len r)
+    subst (λ (t : List ℕ). IsUtf8 (take f.state.scan.stop t)) (sym c.deref.ensures.value) (held_utf8 f c.in_ok-end_len.end_len r.holds)
 
 pub unit-requires-clause-tokens : goal.unit-requires-clause-tokens
 unit-requires-clause-tokens c =

@@ -1,6 +1,6 @@
 use Rattle.std.proofs.Common.{◌≡◌, ℕ, ◌-◌, ◌<◌, ◌≤◌, Some, [], length, take}
 use Rattle.py_lines.specs.Private.Feed.{HoldsMore, IsScanned, IsLastChunk}
-use Rattle.py_lines.proofs.feed.Feed.feed.Given as goal
+use Rattle.py_lines.proofs.feed.Feed.take_bytes.Given as goal
 
 abbrev pub invariant-loop-taken : goal.invariant-loop-taken
 invariant-loop-taken l = record {
