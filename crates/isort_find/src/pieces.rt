@@ -144,7 +144,8 @@ impl PieceFinder {
     /// The text has this fault, from now on. The logical line that has it begins at `start`.
     fn fail(&mut self, start: LineStart, fault: Fault) -> FindError
         ensures answer { result ≡ FindError.Fault fault }
-        ensures kept { self.new ≡ with_walker self.old (with_fault (walker_of self.old) start fault) }
+        ensures kept { self.new
+            ≡ with_walker self.old (with_fault (walker_of self.old) start fault) }
     {
         self.walker.fail(start, fault)
     }

@@ -170,7 +170,8 @@ impl Passing {
         requires within { at < length bytes.now }
         requires marked { HasMarks bytes.now (at + 1) self.old.marks }
         requires few { self.old.all.line_ends ≤ at }
-        ensures { PassesSpecial bytes.now at place self.old brackets.old result self.new brackets.new }
+        ensures { PassesSpecial bytes.now at place self.old brackets.old result
+            self.new brackets.new }
     {
         match Class::of(bytes[at]) {
             Class::LineFeed => self.pass_line_end(brackets, bytes, at, 1),
