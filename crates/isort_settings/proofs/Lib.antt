@@ -21,8 +21,9 @@
 -- Lists of modules (proofs/ModuleLists): the standard library is sorted, so a binary search finds what it holds, and two
 -- lists are compared place by place.
 --
--- Orders (proofs/OrderParts, OrderRuns, OrderNumbers): the runs that the code splits off are the first parts of the
--- cut, and of two numbers without leading zeros the longer one is greater.
+-- Orders (proofs/OrderParts, OrderRuns, OrderNumbers, OrderShared): the runs that the code splits off are the first parts
+-- of the cut, of two numbers without leading zeros the longer one is greater, and what two texts begin with alike doesn't
+-- count, if it cuts no number.
 --
 -- Total orders (proofs/OrderLaws, OrderThen): one order and then another is total if both are, and so the orders are
 -- total. proofs/OrderRows has rows worked out by hand.
@@ -36,6 +37,7 @@ pub mod OrderNumbers
 pub mod OrderParts
 pub mod OrderRows
 pub mod OrderRuns
+pub mod OrderShared
 pub mod OrderThen
 pub mod OwnListsRead
 pub mod Places

@@ -31,7 +31,7 @@ BeginsWithDigit (z ∷ zs) = is_ascii_digit z ≡ true
 abbrev parts_after : List Numbered → List Part
 parts_after ns = flat_map (λ n. number (digits_value 10 n.digits) ∷ text n.after ∷ []) ns
 
-abbrev parts_of : NumberCut → List Part
+abbrev pub parts_of : NumberCut → List Part
 parts_of c = text c.first ∷ parts_after c.others
 
 -- the parts of what begins at the first digit
@@ -52,7 +52,7 @@ digit_before-first d (x ∷ xs) [] = refl
 digit_before-first d (x ∷ xs) (n ∷ ns) = refl
 
 -- a byte before a cut text
-abbrev byte_before_cut : Bool → ℕ → NumberCut → NumberCut
+abbrev pub byte_before_cut : Bool → ℕ → NumberCut → NumberCut
 byte_before_cut b x c = cond b (digit_before_cut x c) (record c { first = x ∷ c.first })
 
 no_first : (b : Bool) (x : ℕ) (c : NumberCut) → b ≡ true → (byte_before_cut b x c).first ≡ []
@@ -141,7 +141,7 @@ lower_digit c h =
     let low : c < 65 = omega (arith, bounds.1) in
     (lowercase_is c).1 low
 
-digit_lower : (c : ℕ) → is_ascii_digit (to_ascii_lowercase c) ≡ is_ascii_digit c
+pub digit_lower : (c : ℕ) → is_ascii_digit (to_ascii_lowercase c) ≡ is_ascii_digit c
 digit_lower c =
     ⊎_elim
     (λ (low : c < 65). ap is_ascii_digit ((lowercase_is c).1 low))

@@ -1,7 +1,7 @@
 //! The natural order of texts, in which a number counts by its value, and the classes of names.
 ghost use Rattle.std.specs.Prelude.{◌≡◌, ◌==◌, drop, take};
 ghost use Rattle.std.specs.Cmp.Lexicographic.{slice_cmp};
-ghost use Rattle.std.specs.List.{prefix_len, position_or_len};
+ghost use Rattle.std.specs.List.{common_prefix_len, position_or_len, prefix_len, suffix_len};
 ghost use Rattle.std.specs.Char.{is_ascii_digit};
 ghost use Rattle.std.specs.Ordering.{nat_cmp};
 ghost use Rattle.std.specs.Str.Parse.{AllDigits, digits_value};
@@ -63,10 +63,34 @@ pub fn split_run(text: &[u8], byte: u8) -> (usize, &[u8])
 pub fn natural_cmp(a: &[u8], b: &[u8], case_sensitive: bool) -> Ordering
     ensures { result ≡ natural_cmp case_sensitive a.now b.now }
 {
-    match parts_cmp(a, b, case_sensitive) {
+    let shared = shared_len(a, b);
+    let start = shared - digits_at_end(&a[..shared]);
+    let (_, a_rest) = a.split_at(start);
+    let (_, b_rest) = b.split_at(start);
+    match parts_cmp(a_rest, b_rest, case_sensitive) {
         Ordering::Equal => a.cmp(b),
         by_parts => by_parts,
     }
+}
+
+/// How many bytes two texts begin with alike.
+fn shared_len(a: &[u8], b: &[u8]) -> usize
+    ensures { result ≡ common_prefix_len (λ x y. x == y) a.now b.now }
+{
+    a.iter()
+        .zip(b)
+        .position(|(x, y)| x != y)
+        .unwrap_or(a.len().min(b.len()))
+}
+
+/// How many digits a text ends with.
+fn digits_at_end(text: &[u8]) -> usize
+    ensures { result ≡ suffix_len is_ascii_digit text.now }
+{
+    text.iter()
+        .rev()
+        .position(|b| !b.is_ascii_digit())
+        .unwrap_or(text.len())
 }
 
 /// The order of two texts by their parts alone: text, number, text, number and so on.
