@@ -7,13 +7,13 @@ use Rattle.std.proofs.lemmas.Slice.Zip.{length-zip}
 use Rattle.std.specs.Char.{is_ascii_digit, to_ascii_lowercase}
 use Rattle.std.specs.Cmp.{nat_cmp_is}
 use Rattle.std.specs.Cmp.Lexicographic.{slice_cmp}
-use Rattle.std.specs.List.{common_prefix_len, position_or_len, suffix_len, zip}
-use Rattle.std.specs.Option.{unwrap_or}
+use Rattle.std.specs.List.{common_prefix_len, position_or_len, slice_get, suffix_len, zip}
+use Rattle.std.specs.Option.{option_cmp, unwrap_or}
 use Rattle.std.specs.Ordering.{nat_cmp, ordering_then}
 use Rattle.std.specs.Str.Parse.{digits_value}
-use Rattle.isort_settings.proofs.OrderParts.{byte_before_cut, digit_lower, parts_of, parts_order}
+use Rattle.isort_settings.proofs.OrderParts.{byte_before_cut, compare_text, digit_lower, digits_start, numbers, parts_of, parts_order}
 use Rattle.isort_settings.proofs.OrderRuns.{position-end}
-use Rattle.isort_settings.specs.Orders.{Numbered, NumberCut, digit_before, cut_at_numbers, part_cmp}
+use Rattle.isort_settings.specs.Orders.{Numbered, NumberCut, digit_before, cased, cut_at_numbers, part_cmp}
 
 -- nothing, or a byte that is no digit last
 abbrev pub EndsInText : List ℕ → Type 0
@@ -157,3 +157,25 @@ order_after_shared s a b a_rest b_rest shared digits h k ea eb =
     ∙ ap (λ xs. parts_order s xs (take start a ++ drop start b)) (take-append-drop start a)
     ∙ ap (λ p. parts_order s a (p ++ drop start b)) (take-shared start a b (omega arith))
     ∙ ap (parts_order s a) (take-append-drop start b))
+
+-- the first bytes of the texts before the first digits, and then all
+firsts_then : (o p : Ordering) → ordering_then o p ≡ ordering_then o (ordering_then o p)
+firsts_then Less p = refl
+firsts_then Equal p = refl
+firsts_then Greater p = refl
+
+first_bytes : (u v : List ℕ) → slice_cmp nat_cmp u v ≡ ordering_then (option_cmp nat_cmp (slice_get u 0) (slice_get v 0)) (slice_cmp nat_cmp u v)
+first_bytes [] [] = refl
+first_bytes [] (y ∷ v) = refl
+first_bytes (x ∷ u) [] = refl
+first_bytes (x ∷ u) (y ∷ v) = firsts_then (nat_cmp x y) (slice_cmp nat_cmp u v)
+
+pub order_by_first : (s : Bool) (a b : List ℕ) (x y : Option ℕ) → x ≡ slice_get (cased s (take (digits_start a) a)) 0 → y ≡ slice_get (cased s (take (digits_start b) b)) 0
+    → ordering_then (option_cmp nat_cmp x y) (parts_order s a b) ≡ parts_order s a b
+order_by_first s a b x y ex ey =
+    let u : List ℕ = cased s (take (digits_start a) a) in
+    let v : List ℕ = cased s (take (digits_start b) b) in
+    let rest : Ordering = slice_cmp part_cmp (numbers s (drop (digits_start a) a)) (numbers s (drop (digits_start b) b)) in
+    let o : Ordering = option_cmp nat_cmp (slice_get u 0) (slice_get v 0) in
+    let all = compare_text s a b in
+    rw (ex, ey) (sym (all ∙ ap (λ q. ordering_then q rest) (first_bytes u v) ∙ then-assoc o (slice_cmp nat_cmp u v) rest ∙ ap (ordering_then o) (sym all)))

@@ -1,7 +1,7 @@
 //! The natural order of texts, in which a number counts by its value, and the classes of names.
 ghost use Rattle.std.specs.Prelude.{◌≡◌, ◌==◌, drop, take};
 ghost use Rattle.std.specs.Cmp.Lexicographic.{slice_cmp};
-ghost use Rattle.std.specs.List.{common_prefix_len, position_or_len, prefix_len, suffix_len};
+ghost use Rattle.std.specs.List.{common_prefix_len, position_or_len, prefix_len, slice_get, suffix_len};
 ghost use Rattle.std.specs.Char.{is_ascii_digit};
 ghost use Rattle.std.specs.Ordering.{nat_cmp};
 ghost use Rattle.std.specs.Str.Parse.{AllDigits, digits_value};
@@ -67,7 +67,7 @@ pub fn natural_cmp(a: &[u8], b: &[u8], case_sensitive: bool) -> Ordering
     let start = shared - digits_at_end(&a[..shared]);
     let (_, a_rest) = a.split_at(start);
     let (_, b_rest) = b.split_at(start);
-    match parts_cmp(a_rest, b_rest, case_sensitive) {
+    match rest_cmp(a_rest, b_rest, case_sensitive) {
         Ordering::Equal => a.cmp(b),
         by_parts => by_parts,
     }
@@ -91,6 +91,32 @@ fn digits_at_end(text: &[u8]) -> usize
         .rev()
         .position(|b| !b.is_ascii_digit())
         .unwrap_or(text.len())
+}
+
+/// The order of two texts by their parts alone, where mostly their first bytes decide.
+fn rest_cmp(a: &[u8], b: &[u8], case_sensitive: bool) -> Ordering
+    ensures { result
+        ≡ slice_cmp part_cmp (parts case_sensitive a.now) (parts case_sensitive b.now) }
+{
+    let a_first = first_of_text(a, case_sensitive);
+    let b_first = first_of_text(b, case_sensitive);
+    match a_first.cmp(&b_first) {
+        Ordering::Equal => parts_cmp(a, b, case_sensitive),
+        by_first => by_first,
+    }
+}
+
+/// The first byte of a text as it is compared, unless the text begins with a digit.
+fn first_of_text(text: &[u8], case_sensitive: bool) -> Option<u8>
+    ensures { result
+        ≡ slice_get (cased case_sensitive (take (position_or_len is_ascii_digit text.now) text.now)) 0 }
+{
+    match text.first() {
+        Some(first) if first.is_ascii_digit() => None,
+        Some(first) if case_sensitive => Some(*first),
+        Some(first) => Some(first.to_ascii_lowercase()),
+        None => None,
+    }
 }
 
 /// The order of two texts by their parts alone: text, number, text, number and so on.

@@ -23,9 +23,9 @@ split_at-requires-2 c =
 pub returns-in-Equal : goal.returns-in-Equal
 returns-in-Equal c =
     let same = order_after_shared c.args.case_sensitive c.args.a.now c.args.b.now _ _ _ _ c.shared_len-shared.ensures c.digits_at_end.ensures c.split_at.ensures.back c.split_at-2.ensures.back in
-    c.cmp.ensures ∙ then-tied _ _ _ (c.parts_cmp.ensures ∙ same) c.in-Equal.is
+    c.cmp.ensures ∙ then-tied _ _ _ (c.rest_cmp.ensures ∙ same) c.in-Equal.is
 
 pub returns-in_default : goal.returns-in_default
 returns-in_default c =
     let same = order_after_shared c.args.case_sensitive c.args.a.now c.args.b.now _ _ _ _ c.shared_len-shared.ensures c.digits_at_end.ensures c.split_at.ensures.back c.split_at-2.ensures.back in
-    then-decided _ _ _ (c.parts_cmp.ensures ∙ same) c.in_default.not-Equal
+    then-decided _ _ _ (c.rest_cmp.ensures ∙ same) c.in_default.not-Equal
