@@ -470,6 +470,14 @@ static ORDERS: &[Ordered] = &[
     ),
     Ordered("order_by_type = false", &["A", "a", "A0", "B"]),
     Ordered("order_by_type = false\ncase_sensitive = true", &["B", "a"]),
+    Ordered("", &["a01", "a1", "a1b", "a10"]),
+    Ordered("", &["01a", "1a", "2a", "10a", "a"]),
+    Ordered("", &["x0012", "x0013", "x00120"]),
+    Ordered("order_by_type = false", &["A1b", "a1B", "a1b", "A1c"]),
+    Ordered(
+        "order_by_type = false\ncase_sensitive = true",
+        &["A1b", "A1c", "a1B", "a1b"],
+    ),
 ];
 
 /// Two modules and their order.
@@ -487,6 +495,7 @@ static MODULES: &[Compared] = &[
     Compared(".", ".a", Less),
     Compared("a.b10", "a.b9", Greater),
     Compared("a.b", "a.b", Equal),
+    Compared("a1.b10", "a1.b1c", Greater),
     Compared("CONST", "b", Greater),
 ];
 
