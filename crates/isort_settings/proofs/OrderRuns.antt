@@ -10,7 +10,7 @@ end_step true k n last = refl
 end_step false k n last = sym (last refl)
 
 -- the first place that passes, or the end
-pub position-end : {X : Type 0} (p : X → Bool) (xs : List X) (r : Option ℕ)
+pub position-end : (p : ℕ → Bool) (xs : List ℕ) (r : Option ℕ)
     → r ≡ cond (ltb (position_or_len p xs) (length xs)) (Some (position_or_len p xs)) None → unwrap_or r (length xs) ≡ position_or_len p xs
 position-end p xs r h =
     let le : position_or_len p xs ≤ length xs = prefix_len-le-length (λ x. not (p x)) xs in

@@ -1,18 +1,16 @@
 -- What two texts begin with alike doesn't count in the order of their parts, if it cuts no number.
-use Rattle.std.proofs.Common.{◌≡◌, ◌==◌, ℕ, ◌+◌, ◌-◌, ◌<◌, ◌≤◌, min, ltb, zero, suc, Bool, true, false, cond, not, List, [], ◌∷◌, ◌++◌, map, length, take, drop, get_or, Option, Some, None, Ordering, Less, Equal, Greater, refl, sym, ◌∙◌, ap, subst, arith, reverse}
+use Rattle.std.proofs.Common.{◌≡◌, ◌==◌, ℕ, ◌+◌, ◌-◌, ◌<◌, ◌≤◌, zero, suc, Bool, true, false, cond, List, [], ◌∷◌, ◌++◌, map, length, take, drop, get_or, Option, Ordering, Less, Equal, Greater, refl, sym, ◌∙◌, ap, subst, arith, reverse}
 use Rattle.std.proofs.lemmas.Bool.{eqb-true}
 use Rattle.std.proofs.lemmas.List.{length-reverse, map-append, take-append-drop, take-take, length-take-le, get_or-reverse, get_or-take}
 use Rattle.std.proofs.lemmas.List.Sums.{common_prefix_len-le, prefix_len_stops, suffix_len-le-length}
-use Rattle.std.proofs.lemmas.Slice.Zip.{length-zip}
 use Rattle.std.specs.Char.{is_ascii_digit, to_ascii_lowercase}
 use Rattle.std.specs.Cmp.{nat_cmp_is}
 use Rattle.std.specs.Cmp.Lexicographic.{slice_cmp}
-use Rattle.std.specs.List.{common_prefix_len, position_or_len, slice_get, suffix_len, zip}
-use Rattle.std.specs.Option.{option_cmp, unwrap_or}
+use Rattle.std.specs.List.{common_prefix_len, slice_get, suffix_len}
+use Rattle.std.specs.Option.{option_cmp}
 use Rattle.std.specs.Ordering.{nat_cmp, ordering_then}
 use Rattle.std.specs.Str.Parse.{digits_value}
 use Rattle.isort_settings.proofs.OrderParts.{byte_before_cut, compare_text, digit_lower, digits_start, numbers, parts_of, parts_order}
-use Rattle.isort_settings.proofs.OrderRuns.{position-end}
 use Rattle.isort_settings.specs.Orders.{Numbered, NumberCut, digit_before, cased, cut_at_numbers, part_cmp}
 
 -- nothing, or a byte that is no digit last
@@ -108,22 +106,6 @@ EndsInText-before xs =
     let e : length xs - 1 - k ≡ length (take n xs) - 1 = omega arith in
     ap is_ascii_digit (get_or-take n xs (length (take n xs) - 1) 0 (omega arith) ∙ ap (λ j. get_or xs j 0) (sym e) ∙ sym (get_or-reverse xs k 0 (omega arith)))
     ∙ prefix_len_stops is_ascii_digit (reverse xs) 0 less)
-
--- where the first bytes that differ stand, as `position` finds them
-differ_step : (b c : Bool) (m n : ℕ) → b ≡ not c → m ≡ n → cond (not b) (1 + m) 0 ≡ cond c (1 + n) 0
-differ_step b true m n e f = rw (e, f) refl
-differ_step b false m n e f = rw e refl
-
-differ-shared : (a b : List ℕ) → position_or_len (λ (p : ℕ × ℕ). not (p.0 == p.1)) (zip a b) ≡ common_prefix_len (λ x y. x == y) a b
-differ-shared [] b = refl
-differ-shared (x ∷ a) [] = refl
-differ-shared (x ∷ a) (y ∷ b) = differ_step _ (x == y) _ _ refl (differ-shared a b)
-
-pub position-shared : (a b : List ℕ) (r : Option ℕ) (shorter : ℕ) → shorter ≡ min (length a) (length b)
-    → r ≡ cond (ltb (position_or_len (λ (p : ℕ × ℕ). not (p.0 == p.1)) (zip a b)) (length (zip a b))) (Some (position_or_len (λ (p : ℕ × ℕ). not (p.0 == p.1)) (zip a b))) None
-    → unwrap_or r shorter ≡ common_prefix_len (λ x y. x == y) a b
-position-shared a b r shorter e h =
-    ap (unwrap_or r) (e ∙ sym (length-zip a b)) ∙ position-end (λ (p : ℕ × ℕ). not (p.0 == p.1)) (zip a b) r h ∙ differ-shared a b
 
 -- as many bytes as are alike are the same
 take_step : (t : Bool) (n m x y : ℕ) (a b : List ℕ) → (x == y) ≡ t → suc n ≤ cond t (1 + m) 0 → (n ≤ m → take n a ≡ take n b) → x ∷ take n a ≡ y ∷ take n b

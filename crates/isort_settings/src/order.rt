@@ -77,10 +77,12 @@ pub fn natural_cmp(a: &[u8], b: &[u8], case_sensitive: bool) -> Ordering
 fn shared_len(a: &[u8], b: &[u8]) -> usize
     ensures { result ≡ common_prefix_len (λ x y. x == y) a.now b.now }
 {
-    a.iter()
-        .zip(b)
-        .position(|(x, y)| x != y)
-        .unwrap_or(a.len().min(b.len()))
+    let len = a.len().min(b.len());
+    let mut shared = 0;
+    'alike: while shared < len && a[shared] == b[shared] {
+        shared += 1;
+    }
+    shared
 }
 
 /// How many digits a text ends with.

@@ -1,14 +1,10 @@
--- The first place at which the bytes differ, or the end of the shorter text.
-use Rattle.std.proofs.Common.{◌==◌, not, ℕ, rules, tests, ◌∙◌}
-use Rattle.std.proofs.lemmas.Iterator.{YieldsList-from_slice, YieldsList-from_zip}
-use Rattle.std.proofs.lemmas.Iterator.Search.{position_from_yields_List}
-use Rattle.isort_settings.proofs.OrderShared.{position-shared}
+-- At the end of the shorter text nothing is left to compare.
+use Rattle.std.proofs.Common.{◌==◌, ℕ, drop, length-drop, arith}
+use Rattle.std.proofs.lemmas.List.Sums.{common_prefix_len-le}
 use Rattle.isort_settings.proofs.order.shared_len.Goals as goal
 
-pub returns : goal.returns
-returns c =
-    c.unwrap_or.ensures
-    ∙ position-shared _ _ c.position.result c.min.result c.min.ensures
-    (position_from_yields_List (λ (p : ℕ × ℕ). not (p.0 == p.1)) c.position.new.self _ c.position.result c.position.ensures.ran
-    (YieldsList-from_zip (YieldsList-from_slice c.args.a.now cc) (YieldsList-from_slice c.args.b.now cc))
-    (λ x b q k. search (rules, tests)))
+pub returns-after-alike : goal.returns-after-alike
+returns-after-alike c =
+    let n : ℕ = c.alike.shared in
+    let left = common_prefix_len-le (λ (x y : ℕ). x == y) (drop n c.args.a.now) (drop n c.args.b.now) in
+    omega (arith, left.0, left.1, length-drop n c.args.a.now, length-drop n c.args.b.now, c.min-len.ensures)
