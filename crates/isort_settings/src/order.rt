@@ -111,7 +111,8 @@ fn rest_cmp(a: &[u8], b: &[u8], case_sensitive: bool) -> Ordering
 /// The first byte of a text as it is compared, unless the text begins with a digit.
 fn first_of_text(text: &[u8], case_sensitive: bool) -> Option<u8>
     ensures { result
-        ≡ slice_get (cased case_sensitive (take (position_or_len is_ascii_digit text.now) text.now)) 0 }
+        ≡ slice_get
+        (cased case_sensitive (take (position_or_len is_ascii_digit text.now) text.now)) 0 }
 {
     match text.first() {
         Some(first) if first.is_ascii_digit() => None,
