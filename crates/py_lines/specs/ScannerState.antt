@@ -180,9 +180,8 @@ FeedsNaming word other old piece (Ok n) new = TakesNaming word other old piece n
 FeedsNaming word other old piece (Err (lex.Fault f)) new = MeetsFault old piece f new
 FeedsNaming word other old piece (Err lex.Memory) new = ScannerRunsOut old new
 
--- the scanner stands after a line that was released: it holds at most the one byte that has shown that CR ends it, and the text goes on
-pub record StandsAfterLine (s : ScannerState) : Type 0 where
-  pub later : 0 < s.place
+-- the scanner stands where a line begins: it holds at most the line's first byte, as after CR, and the text goes on
+pub record StandsAtLine (s : ScannerState) : Type 0 where
   pub held : length s.held ≤ 1
   pub ready : s.ready ≡ None
   pub open_yet : s.ended ≡ false
@@ -194,14 +193,13 @@ pub record HoldsAfterLines (bytes : List ℕ) (len : ℕ) (held : List ℕ) : Ty
   pub within : len + length held ≤ length bytes
   pub next : take (len + length held) bytes ≡ take len bytes ++ held
 
--- Lines were passed over: so many bytes of the text from the place of the scanner on, where it has released a line; the first of them
--- may be held. They are these logical lines, one after another, and end at this byte of them or before it. Or none were, and nothing
--- changed.
+-- Lines were passed over: so many bytes of the text from the place of the scanner on, the first of which may be held. They are these
+-- logical lines, one after another, and end at this byte of them or before it. Or none were, and nothing changed.
 pub record PassesPieceLines (old : ScannerState) (bytes : List ℕ) (before len : ℕ) (new : ScannerState) : Type 0 where
   pub lines : List LogicalLine
   pub texts : flat_map (λ line. line.text) lines ≡ take len bytes
   pub ends : len ≤ before
-  pub stands : 0 < len → StandsAfterLine old
+  pub stands : 0 < len → StandsAtLine old
   pub began : 0 < len → take (length old.held) bytes ≡ old.held
   pub held : 0 < len → HoldsAfterLines bytes len new.held
   pub scans : 0 < len → WhereScans old (λ text given.

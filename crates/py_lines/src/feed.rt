@@ -117,7 +117,7 @@ pub struct Feed {
 
 impl Feed {
     ghost use Rattle.std.specs.Prelude.{◌&&◌, not, IsTrue, true, false, None, Some, Ok, Err, List, [], IsUtf8};
-    ghost use Rattle.py_lines.specs.ScannerState.{begun_at, Feeds, FeedsNaming, Finishes, PassesPieceLines, StandsAfterLine};
+    ghost use Rattle.py_lines.specs.ScannerState.{begun_at, Feeds, FeedsNaming, Finishes, PassesPieceLines, StandsAtLine};
     ghost use Rattle.py_lines.specs.ScannerState.View.{ready_of, scanning_of};
     ghost use Rattle.py_lines.specs.UnitLine.{line_in};
     ghost use Rattle.py_lines.specs.Private.Scan.{is_returned};
@@ -452,9 +452,9 @@ impl Feed {
         self.state.restart();
     }
 
-    /// Whether the last line was released, and the text goes on with these bytes, of which one at most is held.
-    fn stands_after_line(&self, bytes: &[u8]) -> bool
-        ensures stands { IsTrue result → StandsAfterLine (scanning_of self.now) }
+    /// Whether a line begins with these bytes, of which one at most is held.
+    fn stands_at_line(&self, bytes: &[u8]) -> bool
+        ensures stands { IsTrue result → StandsAtLine (scanning_of self.now) }
         ensures begins { IsTrue result
             → take (length self.now.held.items) bytes.now ≡ self.now.held.items }
     {
@@ -463,15 +463,11 @@ impl Feed {
             [byte] => !bytes.is_empty() && bytes[0] == *byte,
             _ => false,
         };
-        begins
-            && self.state.place > 0
-            && self.ready.is_none()
-            && !self.ended
-            && self.state.fault.is_none()
+        begins && self.ready.is_none() && !self.ended && self.state.fault.is_none()
     }
 
     /// Passes over the logical lines that these bytes begin with, as long as they are simple and end at this byte of them or before it: how
-    /// many bytes they have. The bytes begin with what is held. The text's first line is not passed over.
+    /// many bytes they have. The bytes begin with what is held.
     pub fn pass_lines(&mut self, bytes: &[u8], before: usize) -> usize
         requires sound { IsSoundFeed self.old }
         requires fits { self.old.state.place + length bytes.now ≤ 2 ^ 62 }
@@ -479,7 +475,7 @@ impl Feed {
             (scanning_of self.new) }
         ensures sound { IsSoundFeed self.new }
     {
-        if !self.stands_after_line(bytes) {
+        if !self.stands_at_line(bytes) {
             return 0;
         }
         let clear = &bytes[..before.min(bytes.len())];

@@ -170,17 +170,12 @@ impl<'t> Source<'t> {
         }
     }
 
-    /// Passes over the next logical lines, as long as they are simple and end at this byte or before it: how many bytes they have. The
-    /// text's first line is not passed over.
+    /// Passes over the next logical lines, as long as they are simple and end at this byte or before it: how many bytes they have.
     pub fn pass_lines(&mut self, before: usize) -> usize
         ensures { PassesUpTo (reader_of self.old) before result (reader_of self.new) }
     {
         let place = self.state.place as usize;
-        if place == 0
-            || place >= before
-            || before > self.characters.len()
-            || self.state.fault.is_some()
-        {
+        if place >= before || before > self.characters.len() || self.state.fault.is_some() {
             return 0;
         }
         let bytes = &self.characters.as_bytes()[place..before];

@@ -11,11 +11,10 @@ use Rattle.py_lines.specs.Piece.{Piece, ends, spelled}
 use Rattle.py_lines.specs.LogicalLine.{LogicalLine, byte_len, first_or_zero, line_of}
 use Rattle.py_lines.specs.Settled.{IsSettled}
 use Rattle.py_lines.specs.Given.{AreFirstLines}
-use Rattle.py_lines.specs.ScannerState.{EndsExactly, GoesOnWith, HasSettled, HoldsAfterLines, HoldsReady, IsScanning, PassesPieceLines, ScannerState, StandsAfterLine, ready_lines}
+use Rattle.py_lines.specs.ScannerState.{EndsExactly, GoesOnWith, HasSettled, HoldsAfterLines, HoldsReady, IsScanning, PassesPieceLines, ScannerState, StandsAtLine, ready_lines}
 use Rattle.py_lines.specs.ScannerState.View.{ready_of, scanning_of}
 use Rattle.py_lines.specs.declared.feed.Feed.{Feed}
 use Rattle.py_lines.specs.declared.line_state.LineState.{LineState}
-use Rattle.py_lines.specs.declared.mode.Mode.{Mode}
 use Rattle.py_lines.specs.declared.plain_strings.Passed.{Passed}
 use Rattle.py_lines.specs.declared.scan.Scan.{Scan}
 use Rattle.py_lines.specs.Private.Feed.{IsSoundFeed, StandsSo}
@@ -29,7 +28,7 @@ use Rattle.py_lines.proofs.LineScan.LineCount.{ends-last}
 use Rattle.py_lines.proofs.LineScan.LineSteps.{follows_whole}
 use Rattle.py_lines.proofs.Text.CharacterTests.{return_is}
 use Rattle.py_lines.proofs.Readers.LineAnswers.{IsReadLine}
-use Rattle.py_lines.proofs.Readers.PassedLines.{first_free, passed_line, take_slice, whole_read}
+use Rattle.py_lines.proofs.Readers.PassedLines.{passed_line, take_slice, whole_read}
 use Rattle.py_lines.proofs.Feeds.Known.{IsKnown, is_known}
 use Rattle.py_lines.proofs.Feeds.LastBytes.{ends-encoded}
 use Rattle.py_lines.proofs.Feeds.SettledSoFar.{Follow, IsNextLine, settled_ready}
@@ -85,7 +84,7 @@ abbrev AreSettledAt : List ℕ → ℕ → ℕ → ℕ → List LogicalLine → 
 AreSettledAt text place line known lines = AreFirstLines text place line lines × IsSettled (take (place + known) text) lines
 
 -- a line that the text goes on with, and what is known after it
-module _ (text : List ℕ) (place line : ℕ) (given : List LogicalLine) (later : place ≡ 0 → ⊥) (first : AreFirstLines text place line given) (read more : List ℕ) (n : ℕ) (some : 0 < length read) (goes : GoesOnWith text place (encode_utf8_all read ++ more)) (exact : EndsExactly read more) (after : List ℕ) (whole : IsWholeLine read n after) where
+module _ (text : List ℕ) (place line : ℕ) (given : List LogicalLine) (first : AreFirstLines text place line given) (read more : List ℕ) (n : ℕ) (some : 0 < length read) (goes : GoesOnWith text place (encode_utf8_all read ++ more)) (exact : EndsExactly read more) (after : List ℕ) (whole : IsWholeLine read n after) where
   abbrev pieces : List Piece
   pieces = whole.body ++ whole.last ∷ []
 
@@ -93,7 +92,7 @@ module _ (text : List ℕ) (place line : ℕ) (given : List LogicalLine) (later 
   known = is_known text place line given read more first whole.holds.scalars goes (omega (arith, some, length-le-encodes read, length-append (encode_utf8_all read) more))
 
   as_line : IsReadLine (line_start (first_mode place)) read pieces
-  as_line = subst (λ (m : Mode). IsReadLine (line_start m) read pieces) (sym (first_free place later)) (whole_read read n after some whole)
+  as_line = whole_read place read n after some whole
 
   next : IsNextLine place read known.more pieces
   next = record {
@@ -137,15 +136,15 @@ last_exact read line (c ∷ cs) more is some exact =
     ⊎_elim (λ feed. inl (sym same ∙ feed.0, feed.1)) (λ one. inr (sym same ∙ one.0, one.1)) exact
 
 -- so lines, of which there is one at least
-lines_settled : (t : List ℕ) (texts : List (List ℕ)) (text : List ℕ) (place line : ℕ) (given : List LogicalLine) (read more : List ℕ) (n : ℕ) (after : List ℕ) (are : AreWholeLines (t ∷ texts) read n after) → (place ≡ 0 → ⊥) → AreFirstLines text place line given → GoesOnWith text place (encode_utf8_all read ++ more) → EndsExactly read more
+lines_settled : (t : List ℕ) (texts : List (List ℕ)) (text : List ℕ) (place line : ℕ) (given : List LogicalLine) (read more : List ℕ) (n : ℕ) (after : List ℕ) (are : AreWholeLines (t ∷ texts) read n after) → AreFirstLines text place line given → GoesOnWith text place (encode_utf8_all read ++ more) → EndsExactly read more
     → AreSettledAt text (place + byte_len read) (line + n) (length more) (given ++ lines_at (t ∷ texts) place line read n after are)
-lines_settled t [] text place line given read more n after are later first goes exact =
+lines_settled t [] text place line given read more n after are first goes exact =
     let all : read ≡ t = are.spell ∙ ap (λ u. t ++ u) are.lines.0 ∙ append-nil t in
     let own : n ≡ are.own = omega (arith, are.count, are.lines.1) in
     subst (λ (m : ℕ). AreSettledAt text (place + byte_len read) (line + m) (length more) (given ++ lines_at (t ∷ []) place line read n after are)) (sym own)
     (subst (λ u. AreSettledAt text (place + byte_len u) (line + are.own) (length more) (given ++ lines_at (t ∷ []) place line read n after are)) (sym all)
-    (line_settled text place line given later first t more are.own are.some (subst (λ u. GoesOnWith text place (encode_utf8_all u ++ more)) all goes) (subst (λ u. EndsExactly u more) all exact) (encode_utf8_all are.later ++ after) are.whole))
-lines_settled t (u ∷ texts) text place line given read more n after are later first goes exact =
+    (line_settled text place line given first t more are.own are.some (subst (λ u. GoesOnWith text place (encode_utf8_all u ++ more)) all goes) (subst (λ u. EndsExactly u more) all exact) (encode_utf8_all are.later ++ after) are.whole))
+lines_settled t (u ∷ texts) text place line given read more n after are first goes exact =
     let own_bytes = encode_utf8_all t in
     let later_bytes = encode_utf8_all are.later in
     let spell : encode_utf8_all read ≡ own_bytes ++ later_bytes = ap encode_utf8_all are.spell ∙ encodes-append t are.later in
@@ -153,9 +152,9 @@ lines_settled t (u ∷ texts) text place line given read more n after are later 
     let some : 0 < length are.later = omega (arith, ap length are.lines.spell, length-append u are.lines.later, are.lines.some) in
     let own = shown t (later_bytes ++ more) (same_first t later_bytes after more (omega (arith, some, length-le-encodes are.later)) are.whole.whole) in
     let near : GoesOnWith text place (own_bytes ++ own.more) = goes_first text place (own_bytes ++ own.more) own.unseen (subst (GoesOnWith text place) (ap (λ b. own_bytes ++ b) own.spell ∙ sym (append_assoc own_bytes own.more own.unseen)) split) in
-    let one = line_settled text place line given later first t own.more are.own are.some near own.exact (later_bytes ++ after) are.whole in
+    let one = line_settled text place line given first t own.more are.own are.some near own.exact (later_bytes ++ after) are.whole in
     let here = line_of place line (are.whole.body ++ are.whole.last ∷ []) in
-    let others = lines_settled u texts text (place + byte_len t) (line + are.own) (given ++ here ∷ []) are.later more are.more after are.lines (λ (none : place + byte_len t ≡ 0). omega (arith, none, are.some, length-le-encodes t)) one.0 (goes_after text place own_bytes (later_bytes ++ more) split) (last_exact read t are.later more are.spell some exact) in
+    let others = lines_settled u texts text (place + byte_len t) (line + are.own) (given ++ here ∷ []) are.later more are.more after are.lines one.0 (goes_after text place own_bytes (later_bytes ++ more) split) (last_exact read t are.later more are.spell some exact) in
     let place_is : place + byte_len t + byte_len are.later ≡ place + byte_len read = omega (arith, ap length spell, length-append own_bytes later_bytes) in
     let line_is : line + are.own + are.more ≡ line + n = omega (arith, are.count) in
     let rest = lines_at (u ∷ texts) (place + byte_len t) (line + are.own) are.later are.more after are.lines in
@@ -163,10 +162,10 @@ lines_settled t (u ∷ texts) text place line given read more n after are later 
     (subst (λ (m : ℕ). AreSettledAt text m (line + n) (length more) ((given ++ here ∷ []) ++ rest)) place_is
     (subst (λ (m : ℕ). AreSettledAt text (place + byte_len t + byte_len are.later) m (length more) ((given ++ here ∷ []) ++ rest)) line_is others))
 
-all_settled : (texts : List (List ℕ)) (text : List ℕ) (place line : ℕ) (given : List LogicalLine) (read more : List ℕ) (n : ℕ) (after : List ℕ) (are : AreWholeLines texts read n after) → 0 < byte_len read → (place ≡ 0 → ⊥) → AreFirstLines text place line given → GoesOnWith text place (encode_utf8_all read ++ more) → EndsExactly read more
+all_settled : (texts : List (List ℕ)) (text : List ℕ) (place line : ℕ) (given : List LogicalLine) (read more : List ℕ) (n : ℕ) (after : List ℕ) (are : AreWholeLines texts read n after) → 0 < byte_len read → AreFirstLines text place line given → GoesOnWith text place (encode_utf8_all read ++ more) → EndsExactly read more
     → AreSettledAt text (place + byte_len read) (line + n) (length more) (given ++ lines_at texts place line read n after are)
-all_settled [] text place line given read more n after are some later first goes exact = absurd (omega (arith, some, ap byte_len are.0))
-all_settled (t ∷ texts) text place line given read more n after are some later first goes exact = lines_settled t texts text place line given read more n after are later first goes exact
+all_settled [] text place line given read more n after are some first goes exact = absurd (omega (arith, some, ap byte_len are.0))
+all_settled (t ∷ texts) text place line given read more n after are some first goes exact = lines_settled t texts text place line given read more n after are first goes exact
 
 -- the last byte of the first so many
 last_of : (bytes : List ℕ) (len : ℕ) → 0 < len → len ≤ length bytes → ends is_return (take len bytes) ≡ is_return (slice_index bytes (len - 1))
@@ -255,7 +254,7 @@ passes_none old new bytes before same = record {
 }
 
 -- where no line is passed over the scan of the next one begins anew
-module _ (f : Feed) (held : Vec ℕ) (state : LineState) (scan : Scan) (stands : StandsAfterLine (scanning_of f)) (kept : held.items ≡ f.held.items) (anew : BeginsAnew (record f.state { scan = scan }) state) where
+module _ (f : Feed) (held : Vec ℕ) (state : LineState) (scan : Scan) (stands : StandsAtLine (scanning_of f)) (kept : held.items ≡ f.held.items) (anew : BeginsAnew (record f.state { scan = scan }) state) where
   abbrev begun : Feed
   begun = record f { state = state; held = held }
 
@@ -285,7 +284,7 @@ module _ (f : Feed) (held : Vec ℕ) (state : LineState) (scan : Scan) (stands :
       }
 
 -- the lines that the code has found in the first of these bytes, after which the scan of the next line begins
-module _ (f : Feed) (bytes : List ℕ) (before stop : ℕ) (p : Passed) (stands : StandsAfterLine (scanning_of f)) (began : take (length f.held.items) bytes ≡ f.held.items) (stop_is : stop ≡ min before (length bytes)) (found : BeginWithLines (take stop bytes) p) (some : 0 < p.len) where
+module _ (f : Feed) (bytes : List ℕ) (before stop : ℕ) (p : Passed) (stands : StandsAtLine (scanning_of f)) (began : take (length f.held.items) bytes ≡ f.held.items) (stop_is : stop ≡ min before (length bytes)) (found : BeginWithLines (take stop bytes) p) (some : 0 < p.len) where
   read : List ℕ
   read = found.read
 
@@ -358,7 +357,7 @@ module _ (f : Feed) (bytes : List ℕ) (before stop : ℕ) (p : Passed) (stands 
       unfolding lines
       first text given scanning goes =
           let there : f.state.place + byte_len read ≡ state.place = omega (arith, place, read_size) in
-          let at = all_settled found.texts text f.state.place f.state.line given read held.items p.line_ends beyond are (omega (arith, some, read_size)) (λ (none : f.state.place ≡ 0). omega (arith, none, stands.later)) scanning.first goes exact in
+          let at = all_settled found.texts text f.state.place f.state.line given read held.items p.line_ends beyond are (omega (arith, some, read_size)) scanning.first goes exact in
           subst (λ (m : ℕ). AreSettledAt text m state.line (length held.items) (given ++ lines)) there
           (subst (λ (m : ℕ). AreSettledAt text (f.state.place + byte_len read) m (length held.items) (given ++ lines)) (sym line) at)
 

@@ -1,27 +1,30 @@
 -- Lines that were passed over are the text's next.
-use Rattle.std.proofs.Common.{◌≡◌, ℕ, zero, suc, ◌+◌, ◌-◌, ◌<◌, ◌≤◌, inl, inr, true, false, None, List, [], ◌∷◌, ◌++◌, length, take, drop, refl, sym, ap, ◌∙◌, subst, append_assoc, append-nil, arith}
+use Rattle.std.proofs.Common.{◌≡◌, ℕ, zero, suc, ◌+◌, ◌-◌, ◌<◌, ◌≤◌, inl, inr, true, false, None, Some, List, [], ◌∷◌, ◌++◌, length, take, drop, refl, sym, ap, ◌∙◌, subst, append_assoc, append-nil, arith}
 use Rattle.std.specs.Prelude.{encode_utf8_all, slice_range}
 use Rattle.std.specs.Str.{all_scalars, IsCharBoundary, IsUtf8}
 use Rattle.std.proofs.lemmas.List.{drop-drop, drop-take, length-append, length-take, length-take-le, length-drop, take-append-drop, take-append-le}
 use Rattle.std.proofs.lemmas.Str.{IsCharBoundary-from_rest, IsCharBoundary-from_take, IsUtf8-drop, IsUtf8-had, encodes-append, length-le-encodes}
 use Rattle.std.proofs.Math.Seq.{drop-append_seam, take-append_seam}
-use Rattle.py_lines.specs.Character.{is_line_feed, is_return}
+use Rattle.std.proofs.lemmas.Bool.{cond_both}
+use Rattle.py_lines.specs.Character.{is_line_feed, is_mark, is_return}
 use Rattle.py_lines.specs.Fields.{AreReadBefore}
 use Rattle.py_lines.specs.Piece.{line_end, Piece, begins, ends, spelled}
 use Rattle.py_lines.specs.LogicalLine.{LogicalLine, byte_len, line_of}
 use Rattle.py_lines.specs.Lines.{PassesUpTo}
 use Rattle.py_lines.specs.Reader.{Reader, PassesLine, PassesLines}
 use Rattle.py_lines.specs.Reader.View.{reader_of}
-use Rattle.py_lines.specs.declared.mode.Mode.{Mode}
 use Rattle.py_lines.specs.declared.mode.Mode.TheVariants as modes
+use Rattle.py_lines.specs.declared.mode.Move.{Move}
+use Rattle.py_lines.specs.declared.mode.Move.TheVariants as moves
 use Rattle.py_lines.specs.declared.plain_strings.Passed.{Passed}
 use Rattle.py_lines.specs.declared.source.Source.{Source}
 use Rattle.py_lines.specs.Private.LineState.{first_mode}
-use Rattle.py_lines.specs.Private.Machine.{Scanned}
-use Rattle.py_lines.specs.Private.ScanMachine.{IsScanSound, StringsFit}
+use Rattle.py_lines.specs.Private.Machine.{Scanned, moved, move_of, started}
+use Rattle.py_lines.specs.Private.ScanMachine.{IsScanSound, StringsFit, meet_of, scan_steps}
 use Rattle.py_lines.specs.Private.Scan.{line_start}
 use Rattle.py_lines.specs.Private.Outline.{AreWholeLines, BeginWithLines, IsEndedBy, IsWholeLine}
 use Rattle.py_lines.proofs.Pieces.PieceLists.{piece, spelled-push}
+use Rattle.py_lines.proofs.Machine.Starts.{start-mark}
 use Rattle.py_lines.proofs.Lexings.GivenLines.{IsEnded}
 use Rattle.py_lines.proofs.Lexings.LineEnds.{line_string}
 use Rattle.py_lines.proofs.LineScan.LineCount.{ends-last, line_ends-bytes}
@@ -63,23 +66,31 @@ passed_line read n after line = by line.ended
           fit = λ more none. returned_fit line.body (13 ∷ []) read more open_yet refl (none returned);
         })
 
-pub whole_read : (read : List ℕ) (n : ℕ) (after : List ℕ) → 0 < length read → (line : IsWholeLine read n after) → IsReadLine (line_start modes.Free) read (line.body ++ line.last ∷ [])
-whole_read read n after some line =
+-- a character at which the machine begins a line is no mark, so it begins the text's first line as well
+start_steps : (read : List ℕ) (s : Scanned) → 0 < length read → scan_steps (Some (line_start modes.Free)) read ≡ Some s → scan_steps (Some (line_start modes.Start)) read ≡ Some s
+unfolding meet_of move_of
+start_steps [] s some steps = absurd (omega (arith, some))
+start_steps (c ∷ cs) s some steps =
+    cond_both (is_mark c) moves.Closes moves.Breaks (λ (v : Move). scan_steps (moved (line_start modes.Start) c v) cs ≡ Some s)
+    (λ marks. let stuck : None ≡ Some s = ap (λ st. scan_steps (started [] c st) cs) (sym (start-mark c marks)) ∙ steps in absurd (cc))
+    (λ other. steps)
+
+first_steps : (place : ℕ) (read : List ℕ) (s : Scanned) → 0 < length read → scan_steps (Some (line_start modes.Free)) read ≡ Some s → scan_steps (Some (line_start (first_mode place))) read ≡ Some s
+first_steps zero read s some steps = start_steps read s some steps
+first_steps (suc n) read s some steps = steps
+
+pub whole_read : (place : ℕ) (read : List ℕ) (n : ℕ) (after : List ℕ) → 0 < length read → (line : IsWholeLine read n after) → IsReadLine (line_start (first_mode place)) read (line.body ++ line.last ∷ [])
+whole_read place read n after some line =
     let passed = passed_line read n after line in
     record {
       to = line.state;
-      steps = line.steps;
+      steps = first_steps place read line.state some line.steps;
       spell = passed.spell;
       whole = one_line 0 line.body line.last line.are.one_line line.are.class line.are.level;
       stacked = no_class_bracket line.body line.last line.are.class line.are.paired;
       strings = passed.strings;
       some = omega (arith, some, length-le-encodes read);
     }
-
--- no mark may stand after the text's start
-pub first_free : (n : ℕ) → (n ≡ 0 → ⊥) → first_mode n ≡ modes.Free
-first_free zero later = absurd (later refl)
-first_free (suc n) later = refl
 
 -- the first bytes of a slice
 pub take_slice : (bytes : List ℕ) (n k : ℕ) → n ≤ length (take k bytes) → take n (take k bytes) ≡ take n bytes
@@ -125,7 +136,7 @@ source_after s len feeds room few utf8 = record {
 }
 
 -- a line whose bytes those after the reader's place begin with
-module _ (s : Source) (later : s.state.place ≡ 0 → ⊥) (no_fault : s.state.fault ≡ None) (read : List ℕ) (n : ℕ) (after beyond : List ℕ) (some : 0 < length read) (room : s.state.place + byte_len read ≤ length s.characters.now)
+module _ (s : Source) (no_fault : s.state.fault ≡ None) (read : List ℕ) (n : ℕ) (after beyond : List ℕ) (some : 0 < length read) (room : s.state.place + byte_len read ≤ length s.characters.now)
     (split : encode_utf8_all read ++ (after ++ beyond) ≡ drop s.state.place s.characters.now) (line : IsWholeLine read n after) where
   prefix_long : length s.characters.now ≤ length s.bytes.now
   prefix_long = omega (arith, ap length s.prefix, length-take (length s.characters.now) s.bytes.now)
@@ -134,7 +145,7 @@ module _ (s : Source) (later : s.state.place ≡ 0 → ⊥) (no_fault : s.state.
   pieces = line.body ++ line.last ∷ []
 
   as_line : IsReadLine (line_start (first_mode s.state.place)) read pieces
-  as_line = subst (λ (m : Mode). IsReadLine (line_start m) read pieces) (sym (first_free s.state.place later)) (whole_read read n after some line)
+  as_line = whole_read s.state.place read n after some line
 
   abbrev pub line_is : LogicalLine
   line_is = line_of s.state.place s.state.line pieces
@@ -165,8 +176,8 @@ pub record PassesAll (s : Source) (len n : ℕ) : Type 0 where
   pub lines : List LogicalLine
   pub passes : PassesLines (reader_of s) lines (further s len n)
 
-pub passes_all : (texts : List (List ℕ)) (s : Source) (read : List ℕ) (n : ℕ) (after beyond : List ℕ) → (s.state.place ≡ 0 → ⊥) → s.state.fault ≡ None → s.state.place + byte_len read ≤ length s.characters.now → encode_utf8_all read ++ (after ++ beyond) ≡ drop s.state.place s.characters.now → AreWholeLines texts read n after → PassesAll s (byte_len read) n
-passes_all [] s read n after beyond later no_fault room split are =
+pub passes_all : (texts : List (List ℕ)) (s : Source) (read : List ℕ) (n : ℕ) (after beyond : List ℕ) → s.state.fault ≡ None → s.state.place + byte_len read ≤ length s.characters.now → encode_utf8_all read ++ (after ++ beyond) ≡ drop s.state.place s.characters.now → AreWholeLines texts read n after → PassesAll s (byte_len read) n
+passes_all [] s read n after beyond no_fault room split are =
     let size : byte_len read ≡ 0 = ap byte_len are.0 in
     let place : s.state.place + byte_len read ≡ s.state.place = omega (arith, size) in
     let line : s.state.line + n ≡ s.state.line = omega (arith, are.1) in
@@ -174,7 +185,7 @@ passes_all [] s read n after beyond later no_fault room split are =
       lines = [];
       passes = λ i. record { text = s.bytes.now; place = place i; line = line i; fault = s.state.fault };
     }
-passes_all (t ∷ texts) s read n after beyond later no_fault room split are =
+passes_all (t ∷ texts) s read n after beyond no_fault room split are =
     let own_bytes = encode_utf8_all t in
     let later_bytes = encode_utf8_all are.later in
     let all : encode_utf8_all read ≡ own_bytes ++ later_bytes = ap encode_utf8_all are.spell ∙ encodes-append t are.later in
@@ -187,20 +198,20 @@ passes_all (t ∷ texts) s read n after beyond later no_fault room split are =
     let mid = source_after s (byte_len t) are.own own_room few (t, (are.whole.holds.scalars, sym own)) in
     let later_split : later_bytes ++ (after ++ beyond) ≡ drop (s.state.place + byte_len t) s.characters.now =
     sym (append_assoc later_bytes after beyond) ∙ sym (drop-append_seam own_bytes ((later_bytes ++ after) ++ beyond)) ∙ ap (drop (byte_len t)) parts ∙ drop-drop (byte_len t) s.state.place s.characters.now in
-    let others = passes_all texts mid are.later are.more after beyond (λ (none : s.state.place + byte_len t ≡ 0). omega (arith, none, are.some, length-le-encodes t)) no_fault (omega (arith, room, sizes)) later_split are.lines in
+    let others = passes_all texts mid are.later are.more after beyond no_fault (omega (arith, room, sizes)) later_split are.lines in
     let place : s.state.place + byte_len read ≡ s.state.place + byte_len t + byte_len are.later = omega (arith, sizes) in
     let line : s.state.line + n ≡ s.state.line + are.own + are.more = omega (arith, are.count) in
     record {
-      lines = line_is s later no_fault t are.own (later_bytes ++ after) beyond are.some own_room parts are.whole ∷ others.lines;
+      lines = line_is s no_fault t are.own (later_bytes ++ after) beyond are.some own_room parts are.whole ∷ others.lines;
       passes = (
         further s (byte_len t) are.own,
-        passes_line s later no_fault t are.own (later_bytes ++ after) beyond are.some own_room parts are.whole,
+        passes_line s no_fault t are.own (later_bytes ++ after) beyond are.some own_room parts are.whole,
         subst (λ (r : Reader). PassesLines (further s (byte_len t) are.own) others.lines r) (sym (λ i. record { text = s.bytes.now; place = place i; line = line i; fault = s.state.fault })) others.passes,
       );
     }
 
 -- the lines that the code has found
-module _ (s : Source) (later : s.state.place ≡ 0 → ⊥) (no_fault : s.state.fault ≡ None) (before : ℕ) (ordered : s.state.place < before) (within : before ≤ length s.characters.now)
+module _ (s : Source) (no_fault : s.state.fault ≡ None) (before : ℕ) (ordered : s.state.place < before) (within : before ≤ length s.characters.now)
     (p : Passed) (found : BeginWithLines (take (before - s.state.place) (drop s.state.place s.characters.now)) p) where
   rest : List ℕ
   rest = drop s.state.place s.characters.now
@@ -249,7 +260,7 @@ module _ (s : Source) (later : s.state.place ≡ 0 → ⊥) (no_fault : s.state.
   all : PassesAll s p.len p.line_ends
   all =
       subst (λ (k : ℕ). PassesAll s k p.line_ends) size
-      (passes_all found.texts s read p.line_ends after beyond later no_fault (omega (arith, size, room, within)) split are)
+      (passes_all found.texts s read p.line_ends after beyond no_fault (omega (arith, size, room, within)) split are)
 
   pub passes_up_to : PassesUpTo (reader_of s) before p.len (further s p.len p.line_ends)
   passes_up_to = record {

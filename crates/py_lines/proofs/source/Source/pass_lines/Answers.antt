@@ -23,8 +23,8 @@ overflow_add-line c =
     let s = c.args.self.now in
     let lines = found s c.args.before c.as_bytes.result.now c.simple_lines-lines.result c.as_bytes.ensures.value c.simple_lines-lines.ensures in
     let no_fault = none_is s.state.fault (sym c.is_some.ensures ∙ c.if-is_some.false) in
-    let less = few s c.if-place-eq0.false no_fault c.args.before c.if-place-before.false c.if-before-self.false c.simple_lines-lines.result lines in
-    let place = room s c.if-place-eq0.false no_fault c.args.before c.if-place-before.false c.if-before-self.false c.simple_lines-lines.result lines in
+    let less = few s no_fault c.args.before c.if-place-before.false c.if-before-self.false c.simple_lines-lines.result lines in
+    let place = room s no_fault c.args.before c.if-place-before.false c.if-before-self.false c.simple_lines-lines.result lines in
     let own = s.few_lines in
     let within = c.if-before-self.false in
     let fits = c.ranges.before.fits in
@@ -35,8 +35,8 @@ invariant_of-self c =
     let s = c.args.self.now in
     let lines = found s c.args.before c.as_bytes.result.now c.simple_lines-lines.result c.as_bytes.ensures.value c.simple_lines-lines.ensures in
     let no_fault = none_is s.state.fault (sym c.is_some.ensures ∙ c.if-is_some.false) in
-    let less = few s c.if-place-eq0.false no_fault c.args.before c.if-place-before.false c.if-before-self.false c.simple_lines-lines.result lines in
-    let place = room s c.if-place-eq0.false no_fault c.args.before c.if-place-before.false c.if-before-self.false c.simple_lines-lines.result lines in
+    let less = few s no_fault c.args.before c.if-place-before.false c.if-before-self.false c.simple_lines-lines.result lines in
+    let place = room s no_fault c.args.before c.if-place-before.false c.if-before-self.false c.simple_lines-lines.result lines in
     let moved = ap (λ (t : LineState). t.place) c.pass.ensures in
     let row = ap (λ (t : LineState). t.line) c.pass.ensures in
     record {
@@ -45,7 +45,7 @@ invariant_of-self c =
       bad = s.bad;
       ordered = omega (arith, moved, s.ordered);
       within = omega (arith, moved, place, c.if-before-self.false);
-      boundary = subst (IsCharBoundary s.characters.now) (sym moved) (boundary s c.if-place-eq0.false no_fault c.args.before c.if-place-before.false c.if-before-self.false c.simple_lines-lines.result lines);
+      boundary = subst (IsCharBoundary s.characters.now) (sym moved) (boundary s no_fault c.args.before c.if-place-before.false c.if-before-self.false c.simple_lines-lines.result lines);
       start_boundary = s.start_boundary;
       few_lines = omega (arith, moved, row, less, s.few_lines);
     }
@@ -55,4 +55,4 @@ returns c =
     let s = c.args.self.now in
     let lines = found s c.args.before c.as_bytes.result.now c.simple_lines-lines.result c.as_bytes.ensures.value c.simple_lines-lines.ensures in
     let no_fault = none_is s.state.fault (sym c.is_some.ensures ∙ c.if-is_some.false) in
-    subst (λ (t : LineState). PassesUpTo (reader_of s) c.args.before c.simple_lines-lines.result.len (record { text = s.bytes.now; place = t.place; line = t.line; fault = t.fault })) (sym c.pass.ensures) (passes_up_to s c.if-place-eq0.false no_fault c.args.before c.if-place-before.false c.if-before-self.false c.simple_lines-lines.result lines)
+    subst (λ (t : LineState). PassesUpTo (reader_of s) c.args.before c.simple_lines-lines.result.len (record { text = s.bytes.now; place = t.place; line = t.line; fault = t.fault })) (sym c.pass.ensures) (passes_up_to s no_fault c.args.before c.if-place-before.false c.if-before-self.false c.simple_lines-lines.result lines)
