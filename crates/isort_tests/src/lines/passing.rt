@@ -23,12 +23,39 @@ impl Case for Passing {
         let Ok(mut lines) = Lines::new(alloc, self.0.as_bytes()) else {
             return false;
         };
-        passes(&mut lines, self.1, 0)
-            && gives(&mut lines)
+        gives(&mut lines)
             && passes(&mut lines, self.1, self.2)
             && (lines.offset(), lines.line()) == self.3
     }
 }
+
+/// Lines from a text's start on, with the same numbers.
+struct FirstLines(&'static str, usize, usize, (u64, u64));
+
+impl Case for FirstLines {
+    fn holds(&self, alloc: Global) -> bool {
+        let (Ok(mut lines), Ok(mut scanner)) = (
+            Lines::new(alloc, self.0.as_bytes()),
+            Scanner::new(alloc),
+        ) else {
+            return false;
+        };
+        passes(&mut lines, self.1, self.2)
+            && (lines.offset(), lines.line()) == self.3
+            && passes_over(&mut scanner, self.0.as_bytes(), self.1, self.2)
+            && (scanner.offset(), scanner.line()) == self.3
+    }
+}
+
+static FIRST_LINES: &[FirstLines] = &[
+    FirstLines("a\nb = c\n", 8, 8, (8, 3)),
+    FirstLines("'''a\n'''\nb\n", 11, 11, (11, 4)),
+    FirstLines("# a\r\nimport b\n", 5, 5, (5, 2)),
+    FirstLines("a\nb\n", 3, 2, (2, 2)),
+    // A byte order mark begins the first line.
+    FirstLines("\u{feff}a\nb\n", 7, 0, (0, 1)),
+    FirstLines("\u{feff}\nb\n", 6, 0, (0, 1)),
+];
 
 static PASSING: &[Passing] = &[
     // Words, operators, spaces, brackets and strings, and a line without any.
@@ -208,6 +235,7 @@ static PIECES_WITH_RETURNS: &[PassingPiece] = &[
 #[test]
 fn simple_lines_are_passed_over(rt: HostRuntime) -> Result<(), Fail> {
     let alloc = rt.alloc();
+    each_holds_again(alloc, &[("FIRST_LINES", FIRST_LINES)])?;
     each_holds_again(
         alloc,
         &[
