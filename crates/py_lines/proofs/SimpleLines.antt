@@ -11,3 +11,4 @@ pub mod Joins
 pub mod Lines
 pub mod UnderWay
 pub mod Passing
+pub mod MarkedPieces

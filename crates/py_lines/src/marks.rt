@@ -1,7 +1,7 @@
 //! Where the next byte of a text stands that is not plain.
 
-ghost use Rattle.std.specs.Prelude.{◌≡◌, ◌+◌, ◌<◌, ◌≤◌, ℕ, length};
-ghost use Rattle.py_lines.specs.Private.Marks.{FindsNext, HasMarks, is_mark, is_set};
+ghost use Rattle.std.specs.Prelude.{◌≡◌, ◌+◌, ◌<◌, ◌≤◌, ℕ, List, length};
+ghost use Rattle.py_lines.specs.Private.Marks.{FindsNext, HasMarks, IsSpecial, is_mark, is_set};
 
 use crate::class::special64;
 
@@ -70,6 +70,17 @@ impl Marks {
         let place = self.base + self.bits.trailing_zeros() as usize;
         self.bits &= self.bits - 1;
         place
+    }
+
+    /// The byte at this place, which was passed last, is not passed.
+    #[inline(always)]
+    pub fn keep(&mut self, place: usize)
+        requires base { self.old.base ≤ place }
+        requires reach { place < self.old.base + 64 }
+        ensures { (text : List ℕ) → IsSpecial text place
+            → HasMarks text (place + 1) self.old → HasMarks text place self.new }
+    {
+        self.bits |= 1 << (place - self.base);
     }
 
     /// Passes the bytes up to this one.

@@ -1,17 +1,20 @@
 //! Bytes of a line that are passed over at once, from one that isn't plain to the next.
 
-ghost use Rattle.std.specs.Prelude.{◌≡◌, ℕ, ◌+◌, ◌<◌, ◌≤◌, ◌^◌, Bool, true, drop, length, slice_index};
+ghost use Rattle.std.specs.Prelude.{◌≡◌, ℕ, ◌+◌, ◌<◌, ◌≤◌, ◌^◌, Bool, false, true, IsTrue, drop, length, slice_index};
+ghost use Rattle.py_lines.specs.Character.{is_hash, is_quote};
 ghost use Rattle.py_lines.specs.Private.Marks.{HasMarks, is_of_class};
 ghost use Rattle.py_lines.specs.Private.Outline.{BeginsOuterEnd, closes_itself};
-ghost use Rattle.py_lines.specs.Private.Passing.{IsMet, PassesSpecial, nothing_passed, passed_to};
+ghost use Rattle.py_lines.specs.Private.Passing.{IsMet, PassesMarked, PassesSpecial, nothing_passed, passed_to};
 ghost use Rattle.py_lines.specs.declared.passing.Special.TheVariants.{Unpassed};
 
 use crate::brackets::Brackets;
+use crate::character::is_break;
 use crate::class::Class;
 use crate::field_strings::MAX_DEPTH_AROUND_STRING;
 use crate::marks::Marks;
 use crate::outline::{outer_end_len, piece};
 use crate::plain_strings::Passed;
+use crate::prefix::Prefix;
 
 /// What a byte that isn't plain came to.
 #[derive(Clone, Copy)]
@@ -134,6 +137,71 @@ impl Passing {
         Special::Passed
     }
 
+    /// Passes the string that the quote at this byte begins, if it has no fields and the next byte that isn't plain closes it: whether
+    /// it is so. Most strings are.
+    #[inline(always)]
+    fn pass_plain_string(&mut self, bytes: &[u8], at: usize) -> bool
+        requires within { at < length bytes.now }
+        requires quote { is_quote (slice_index bytes.now at) ≡ true }
+        requires marked { HasMarks bytes.now (at + 1) self.old.marks }
+        requires few { self.old.all.line_ends ≤ at }
+        ensures passed { IsTrue result → PassesMarked bytes.now at self.old self.new }
+        ensures same { result ≡ false → self.new ≡ self.old }
+    {
+        let mut marks = self.marks;
+        let end = marks.next(bytes);
+        if end >= bytes.len() || bytes[end] != bytes[at] || end == at + 1 {
+            return false;
+        }
+        let Prefix::Plain = Prefix::before(bytes, at) else {
+            return false;
+        };
+        self.marks = marks;
+        self.pass_to(end + 1, 0, true);
+        true
+    }
+
+    /// Passes the comment that the `#` at this byte begins, if it is ASCII and a line end follows it: whether it is so.
+    #[inline(always)]
+    fn pass_ascii_comment(&mut self, bytes: &[u8], at: usize) -> bool
+        requires within { at < length bytes.now }
+        requires hash { is_hash (slice_index bytes.now at) ≡ true }
+        requires marked { HasMarks bytes.now (at + 1) self.old.marks }
+        requires few { self.old.all.line_ends ≤ at }
+        ensures passed { IsTrue result → PassesMarked bytes.now at self.old self.new }
+        ensures same { result ≡ false → self.new ≡ self.old }
+    {
+        let mut marks = self.marks;
+        let mut end = marks.next(bytes);
+        'specials: while end < bytes.len() && bytes[end] < 128 && !is_break(bytes[end] as char) {
+            end = marks.next(bytes);
+        }
+        if end >= bytes.len() || bytes[end] >= 128 {
+            return false;
+        }
+        marks.keep(end);
+        self.marks = marks;
+        self.pass_to(end, 0, false);
+        true
+    }
+
+    /// Passes such a comment or string, if one begins at this byte: whether it does.
+    #[inline(always)]
+    fn pass_marked(&mut self, bytes: &[u8], class: Class, at: usize) -> bool
+        requires within { at < length bytes.now }
+        requires class { is_of_class class (slice_index bytes.now at) ≡ true }
+        requires marked { HasMarks bytes.now (at + 1) self.old.marks }
+        requires few { self.old.all.line_ends ≤ at }
+        ensures passed { IsTrue result → PassesMarked bytes.now at self.old self.new }
+        ensures same { result ≡ false → self.new ≡ self.old }
+    {
+        match class {
+            Class::Quote => self.pass_plain_string(bytes, at),
+            Class::Hash => self.pass_ascii_comment(bytes, at),
+            _ => false,
+        }
+    }
+
     /// Passes the comment, the join or the string that begins at this byte, where so few brackets are open that there is room for
     /// all that a string with fields opens.
     #[inline(always)]
@@ -147,6 +215,9 @@ impl Passing {
     {
         if brackets.len() > MAX_DEPTH_AROUND_STRING {
             return Special::Unpassed;
+        }
+        if self.pass_marked(bytes, class, at) {
+            return Special::Passed;
         }
         let Some(piece) = piece(bytes, class, at) else {
             return Special::Unpassed;

@@ -39,7 +39,8 @@ impl Prefix {
         }
     }
 
-    /// What the word is that ends at this byte, if one does.
+    /// What the word is that ends at this byte, if one does. Mostly none does.
+    #[inline(always)]
     pub fn before(bytes: &[u8], at: usize) -> Prefix
         requires { at < length bytes.now }
         ensures { IsPrefix result (tail_of (take at bytes.now)) }

@@ -1,12 +1,13 @@
 -- The marks of a text after some of it is passed.
-use Rattle.std.proofs.Common.{◌≡◌, ℕ, ◌+◌, ◌-◌, ◌*◌, ◌%◌, ◌^◌, ◌<◌, ◌≤◌, true, false, not, ◌&&◌, eqb, leb, ltb, List, length, slice_index, bit_and, refl, sym, ap, ◌∙◌, inl, inr, arith, w64, ◌++◌, drop, replicate}
-use Rattle.std.specs.Int.{trailing_zeros}
+use Rattle.std.proofs.Common.{◌≡◌, ℕ, ◌+◌, ◌-◌, ◌*◌, ◌%◌, ◌^◌, ◌<◌, ◌≤◌, true, false, not, ◌&&◌, eqb, leb, ltb, List, length, slice_index, bit_and, bit_or, refl, sym, ap, ◌∙◌, inl, inr, arith, w64, ◌++◌, drop, replicate}
+use Rattle.std.specs.Int.{bit_at, trailing_zeros}
 use Rattle.std.proofs.lemmas.Bool.{and_parts, cases_eq, cases_lt, eq-eqb, leb-true, le-leb, le-ltb, lt-leb, lt-ltb, ltb-true, ne_eqb, not-true, not-false}
 use Rattle.std.proofs.lemmas.List.{get_or_append_left, get_or-append_right, get_or-drop, get_or-replicate}
+use Rattle.std.proofs.lemmas.Nat.Bits.{bit_at_set_other, bit_at_set_same}
 use Rattle.py_lines.specs.declared.marks.Marks.{Marks}
 use Rattle.py_lines.specs.Character.{is_space}
 use Rattle.py_lines.specs.Private.Run.{is_ascii_word}
-use Rattle.py_lines.specs.Private.Marks.{FindsNext, HasMarks, is_mark, is_plain, is_set}
+use Rattle.py_lines.specs.Private.Marks.{FindsNext, HasMarks, IsSpecial, is_mark, is_plain, is_set}
 use Rattle.py_lines.proofs.SpecialBytes.Bits.{HasLowest, cleared_below-is, lowest, unset}
 
 -- a byte of the text that isn't plain
@@ -63,6 +64,40 @@ passes_in_block text from to m has le within near =
             | inr high ↦ ap (λ b. b && is_set m.bits k) (le-leb (to - m.base) k high) ∙ has.bits k less ∙ later_mark text from to (m.base + k) (omega (arith, high, le)) (omega (arith, high))
           ];
     }
+
+-- the byte that was passed last is marked again
+pub kept : (text : List ℕ) (place : ℕ) (m : Marks) → m.base ≤ place → place < m.base + 64 → IsSpecial text place → HasMarks text (place + 1) m
+    → HasMarks text place (record { base = m.base; bits = bit_or m.bits (1 * 2 ^ (place - m.base) % 2 ^ 64) })
+unfolding is_set
+kept text place m base reach (within, special) has =
+    record {
+      base = base;
+      within = omega (arith, within);
+      reach = omega (arith, reach);
+      bits = λ k less. elim (cases_eq k j) [
+        | inl same ↦
+            let here : m.base + k ≡ place = omega (arith, same, base) in
+            ap (λ i. eqb (bit_at (bit_or m.bits (1 * 2 ^ j % 2 ^ 64)) i) 1) same
+            ∙ ap (λ b. eqb b 1) (bit_at_set_same w64 m.bits j near)
+            ∙ sym (ap (is_mark text place) here ∙ marked)
+        | inr other ↦
+            ap (λ b. eqb b 1) (bit_at_set_other w64 m.bits j near k other)
+            ∙ has.bits k less
+            ∙ elim (cases_lt (m.base + k) place) [
+              | inl low ↦ no_mark_before text (place + 1) (m.base + k) (omega (arith, low)) ∙ sym (no_mark_before text place (m.base + k) low)
+              | inr high ↦ later_mark text (place + 1) place (m.base + k) (omega (arith, high, other, base)) high
+            ]
+      ];
+    }
+  where
+    j : ℕ
+    j = place - m.base
+
+    near : j < 64
+    near = omega (arith, reach, base)
+
+    marked : is_mark text place place ≡ true
+    marked = mark_from text place place (omega arith) ∙ ap (λ b. b && not (is_plain (slice_index text place))) (lt-ltb place (length text) within) ∙ ap not special
 
 -- plain bytes were passed, up to the block of the marks
 pub record HasPassed (text : List ℕ) (from : ℕ) (m : Marks) : Type 0 where

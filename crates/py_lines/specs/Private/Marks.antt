@@ -55,6 +55,10 @@ pub record HasMarks (text : List ℕ) (from : ℕ) (marks : Marks) : Type 0 wher
   pub reach : from ≤ marks.base + 64
   pub bits : (k : ℕ) → k < 64 → is_set marks.bits k ≡ is_mark text from (marks.base + k)
 
+-- a byte that isn't plain stands at this place
+abbrev pub IsSpecial : List ℕ → ℕ → Type 0
+IsSpecial text place = (place < length text) × (is_plain (slice_index text place) ≡ false)
+
 -- the next byte from there on that isn't plain stands at this place, or the text ends there; it is passed
 pub record FindsNext (text : List ℕ) (from at : ℕ) (marks : Marks) : Type 0 where
   pub after : from ≤ at

@@ -11,7 +11,7 @@ use Rattle.py_lines.specs.declared.plain_strings.Passed.{Passed}
 use Rattle.py_lines.specs.Private.Machine.{Bracket}
 use Rattle.py_lines.specs.Private.Marks.{HasMarks}
 use Rattle.py_lines.specs.Private.Outline.{BeginsOuterEnd, StandsBefore, StandsClosed, tail_of}
-use Rattle.py_lines.specs.Private.Scan.{none_open, stack_of}
+use Rattle.py_lines.specs.Private.Scan.{depth_of, none_open, stack_of}
 
 -- nothing was passed
 abbrev pub nothing_passed : Marks → Passing
@@ -67,3 +67,7 @@ PassesSpecial bytes at place old b (special.LineEnd len) new c = EndsLineSo byte
 abbrev pub IsMet : Bool → ℕ → Passing → Special → Passing → Type 0
 IsMet true at old result new = (result ≡ special.Passed) × (new ≡ passed_to old (at + 1) 0 true)
 IsMet false at old result new = (result ≡ special.Unpassed) × (new ≡ old)
+
+-- it, or the piece that it begins, was passed, where few brackets are open, which stay as they are
+abbrev pub PassesMarked : List ℕ → ℕ → Passing → Passing → Type 0
+PassesMarked bytes at old new = (place : ℕ) (b : Brackets) → depth_of b ≤ 100 → PassesSo bytes at place old.all old.closed b new b

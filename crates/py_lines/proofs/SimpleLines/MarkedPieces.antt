@@ -1,0 +1,187 @@
+-- Pieces of ASCII whose end the marks show: the bytes up to there are those of the piece.
+use Rattle.std.proofs.Common.{◌≡◌, ℕ, ◌+◌, ◌-◌, ◌<◌, ◌≤◌, Bool, true, false, not, ◌||◌, ◌==◌, Some, List, ◌++◌, lit<, length, take, drop, slice_index, refl, sym, ap, ◌∙◌, subst, arith, eqb-true, inl, inr, ◌⊎◌, length-drop}
+use Rattle.std.specs.Prelude.{codes}
+use Rattle.std.proofs.lemmas.Bool.{and_from, both_ways, cases_order, eq-eqb, false_from_ne_true, or_cases}
+use Rattle.std.proofs.lemmas.List.{drop-drop}
+use Rattle.py_lines.specs.Character.{is_break, is_hash, is_one_of, is_operator, is_quote, is_space}
+use Rattle.py_lines.specs.Balance.{is_closing, is_opening}
+use Rattle.py_lines.specs.declared.marks.Marks.{Marks}
+use Rattle.py_lines.specs.declared.passing.Passing.{Passing}
+use Rattle.py_lines.specs.declared.plain_strings.Passed.{Passed}
+use Rattle.py_lines.specs.Private.Marks.{FindsNext, HasMarks, is_plain}
+use Rattle.py_lines.specs.Private.Outline.{HasString, PassesFirst, PassesPiece, StandsClosed, closes_itself, is_plain_prefix, tail_of}
+use Rattle.py_lines.specs.Private.Passing.{PassesMarked, passed_to}
+use Rattle.py_lines.specs.Private.Run.{IsRunOf, IsWholeComment, Spans, is_ascii_word, is_body_byte, is_remark_byte, is_text_byte}
+use Rattle.py_lines.proofs.LineScan.AsciiRuns.{is_low_from}
+use Rattle.py_lines.proofs.LineScan.Spans.{ascii_comment, text_spans}
+use Rattle.py_lines.proofs.Text.CharacterTests.{each_of, none_of}
+use Rattle.py_lines.proofs.SimpleLines.Code.{code_low}
+use Rattle.py_lines.proofs.SimpleLines.Comments.{comment_passed}
+use Rattle.py_lines.proofs.SimpleLines.Lines.{plain_code}
+use Rattle.py_lines.proofs.SimpleLines.Passing.{piece_passed}
+use Rattle.py_lines.proofs.FieldScans.TextLengths.{later, rest_is}
+use Rattle.py_lines.proofs.SimpleLines.Strings.{short_begun, short_ended, short_more, string_at}
+
+-- quotes, line ends and the backslash are no plain bytes
+pub quote-not-plain : (c : ℕ) → is_quote c ≡ true → is_plain c ≡ false
+unfolding is_plain is_ascii_word is_space is_operator is_opening is_closing is_quote
+quote-not-plain c h = none_of is_plain (codes "'\"") c refl h
+
+ends-not-plain : (c : ℕ) → is_one_of (codes "\\\n\r") c ≡ true → is_plain c ≡ false
+unfolding is_plain is_ascii_word is_space is_operator is_opening is_closing
+ends-not-plain c h = none_of is_plain (codes "\\\n\r") c refl h
+
+pub break-not-plain : (c : ℕ) → is_break c ≡ true → is_plain c ≡ false
+unfolding is_plain is_ascii_word is_space is_operator is_opening is_closing is_break
+break-not-plain c h = none_of is_plain (codes "\n\r") c refl h
+
+-- a plain byte may stand in a string, and in a comment
+plain_text : (q c : ℕ) → is_quote q ≡ true → is_plain c ≡ true → is_text_byte q c ≡ true
+unfolding is_body_byte
+plain_text q c quote plain = and_from _ _ (ap not body) (is_low_from c (code_low c (plain_code c plain)))
+  where
+    body : (c == q) || is_one_of (codes "\\\n\r") c ≡ false
+    body = false_from_ne_true _ (λ h. by (or_cases (c == q) (is_one_of (codes "\\\n\r") c) h))
+      where
+        by : (c == q ≡ true) ⊎ (is_one_of (codes "\\\n\r") c ≡ true) → ⊥
+        by (inl same) = both_ways _ (quote-not-plain q quote) (ap is_plain (sym (eqb-true c q same)) ∙ plain)
+        by (inr ends) = both_ways _ (ends-not-plain c ends) plain
+
+pub plain_remark : (c : ℕ) → is_plain c ≡ true → is_remark_byte c ≡ true
+plain_remark c plain = and_from _ _ (ap not (false_from_ne_true _ (λ h. both_ways _ (break-not-plain c h) plain))) (is_low_from c (code_low c (plain_code c plain)))
+
+-- the first bytes from there on, so many of them, are such bytes
+abbrev pub Between : (ℕ → Bool) → List ℕ → ℕ → ℕ → Type 0
+Between passes bytes at end = (i : ℕ) → at < i → i < end → passes (slice_index bytes i) ≡ true
+
+break_low : (c : ℕ) → is_break c ≡ true → c < 128
+unfolding is_break
+break_low c h = each_of (λ b. b < 128) (codes "\n\r") c (lit< tt, (lit< tt, tt)) h
+
+-- a piece with which the bytes from there on begin
+first_piece : (bytes : List ℕ) (at len : ℕ) → at + len ≤ length bytes → PassesFirst (drop at bytes) (Some (record { len = len; line_ends = 0 })) → PassesPiece bytes at (Some (record { len = len; line_ends = 0 }))
+first_piece bytes at len room first = (
+  room,
+  record {
+    some = first.some;
+    few = first.few;
+    part = record {
+      within = first.part.within;
+      run = first.part.run;
+      spell = first.part.spell;
+      leads = λ m read n st on. subst (λ (t : List ℕ). StandsClosed (closes_itself (drop at bytes) len) t m (read ++ first.part.run) (n + 0) st) (drop-drop len at bytes) (first.part.leads m read n st on.2);
+    };
+  },
+)
+
+module _ (bytes : List ℕ) (at end : ℕ) (further : at < end) (within : end < length bytes) where
+  abbrev rest : List ℕ
+  rest = drop at bytes
+
+  rest_byte : (i : ℕ) → slice_index (drop 1 rest) i ≡ slice_index bytes (at + (1 + i))
+  rest_byte i = later rest 1 i ∙ later bytes at (1 + i)
+
+  run_of : (passes : ℕ → Bool) → Between passes bytes at end → passes (slice_index bytes end) ≡ false → IsRunOf passes (drop 1 rest) (end - at - 1)
+  run_of passes each stops = record {
+    within = omega (arith, further, within, length-drop at bytes, length-drop 1 rest);
+    each = λ i less. ap passes (rest_byte i) ∙ each (at + (1 + i)) (omega arith) (omega (arith, less, further));
+    ends = λ more.
+        let last : at + (1 + (end - at - 1)) ≡ end = omega (arith, further) in
+        ap passes (rest_byte (end - at - 1) ∙ ap (λ (k : ℕ). slice_index bytes k) last) ∙ stops;
+  }
+
+  first_is : slice_index rest 0 ≡ slice_index bytes at
+  first_is = let here : at + 0 ≡ at = omega arith in later bytes at 0 ∙ ap (λ (k : ℕ). slice_index bytes k) here
+
+  -- a string without a prefix of its own
+  module _ (quote : is_quote (slice_index bytes at) ≡ true) (plain : Between is_plain bytes at end) (closes : slice_index bytes end ≡ slice_index bytes at) where
+    quote_first : is_quote (slice_index rest 0) ≡ true
+    quote_first = ap is_quote first_is ∙ quote
+
+    text : IsRunOf (is_text_byte (slice_index rest 0)) (drop 1 rest) (end - at - 1)
+    unfolding is_body_byte
+    text = run_of (is_text_byte (slice_index rest 0)) (λ i more less. plain_text (slice_index rest 0) (slice_index bytes i) quote_first (plain i more less)) closing
+      where
+        closing : is_text_byte (slice_index rest 0) (slice_index bytes end) ≡ false
+        closing = rw (eq-eqb (slice_index bytes end) (slice_index rest 0) (closes ∙ sym first_is)) refl
+
+    pub marked_string : at + 1 < end → is_plain_prefix (tail_of (take at bytes)) ≡ true → PassesPiece bytes at (Some (record { len = end + 1 - at; line_ends = 0 }))
+    marked_string some prefix =
+        let k = end - at - 1 in
+        let room : 1 < length rest = omega (arith, some, within, length-drop at bytes) in
+        let spans = text_spans (slice_index rest 0) (drop 1 rest) k text in
+        let begun = short_begun rest quote_first room in
+        let read = short_more rest quote_first 1 0 k (omega arith) begun (subst (λ (t : List ℕ). Spans (is_body_byte (slice_index rest 0)) t k) (sym (rest_is rest 1)) spans) in
+        let second : slice_index rest 1 ≡ slice_index bytes (at + 1) = later bytes at 1 in
+        let holds : slice_index rest 1 ≡ slice_index rest 0 → ⊥ = λ same.
+        both_ways _ (quote-not-plain (slice_index rest 0) quote_first) (ap is_plain (sym same ∙ second) ∙ plain (at + 1) (omega arith) some) in
+        let there : at + (1 + k) ≡ end = omega (arith, further) in
+        let last : slice_index rest (1 + k) ≡ slice_index rest 0 = later bytes at (1 + k) ∙ ap (λ (i : ℕ). slice_index bytes i) there ∙ closes ∙ sym first_is in
+        let ended = short_ended rest quote_first (1 + k) 0 (omega arith) holds read (omega arith) (omega (arith, further, within, length-drop at bytes)) last in
+        let size : 1 + k + 1 ≡ end + 1 - at = omega (arith, further) in
+        string_at bytes at (Some (record { len = end + 1 - at; line_ends = 0 })) (omega (arith, further, within)) quote prefix
+        (subst (λ (t : List ℕ). HasString t (Some (record { len = end + 1 - at; line_ends = 0 }))) (sym (rest_is bytes at))
+        (subst (λ (n : ℕ). HasString rest (Some (record { len = n; line_ends = 0 }))) size ended))
+
+  -- a comment
+  pub marked_comment : is_hash (slice_index bytes at) ≡ true → Between is_remark_byte bytes at end → is_break (slice_index bytes end) ≡ true → PassesPiece bytes at (Some (record { len = end - at; line_ends = 0 }))
+  marked_comment hash remark breaks =
+      let k = end - at - 1 in
+      let stops : is_remark_byte (slice_index bytes end) ≡ false = rw breaks refl in
+      let run = run_of is_remark_byte remark stops in
+      let low : slice_index (drop 1 rest) k < 128 = subst (λ (c : ℕ). c < 128) (sym last) (break_low (slice_index bytes end) breaks) in
+      let whole = ascii_comment (drop 1 rest) k run (omega (arith, further, within, length-drop at bytes, length-drop 1 rest)) low in
+      let first = comment_passed rest k (omega (arith, further, within, length-drop at bytes)) (ap is_hash first_is ∙ hash) (subst (λ (t : List ℕ). IsWholeComment t (Some k)) (sym (rest_is rest 1)) whole) in
+      let size : 1 + k ≡ end - at = omega (arith, further) in
+      first_piece bytes at (end - at) (omega (arith, further, within)) (subst (λ (n : ℕ). PassesFirst rest (Some (record { len = n; line_ends = 0 }))) size first)
+    where
+      last : slice_index (drop 1 rest) (end - at - 1) ≡ slice_index bytes end
+      last =
+          let there : at + (1 + (end - at - 1)) ≡ end = omega (arith, further) in
+          rest_byte (end - at - 1) ∙ ap (λ (i : ℕ). slice_index bytes i) there
+
+-- wherever so few brackets are open it is passed
+module _ (bytes : List ℕ) (at : ℕ) (old new : Passing) (within : at < length bytes) (marked : HasMarks bytes (at + 1) old.marks) where
+  pub passes_marked : (p : Passed) (closes : Bool) (to : ℕ) (marks : Marks) → PassesPiece bytes at (Some p) → (closes ≡ true → closes_itself (drop at bytes) p.len ≡ true) → at + p.len ≡ to → HasMarks bytes to marks
+      → new ≡ passed_to (record old { marks = marks }) to p.line_ends closes → PassesMarked bytes at old new
+  passes_marked p closes to marks passes shut there has is = λ place b few.
+      piece_passed bytes at old within marked place b p closes marks new few passes shut (subst (λ (k : ℕ). HasMarks bytes k marks) (sym there) has)
+      (is ∙ ap (λ (k : ℕ). passed_to (record old { marks = marks }) k p.line_ends closes) (sym there))
+
+-- a comment of ASCII goes on up to the next byte that isn't plain
+pub record ReadsComment (bytes : List ℕ) (at end : ℕ) (marks : Marks) : Type 0 where
+  pub further : at < end
+  pub within : end ≤ length bytes
+  pub each : Between is_remark_byte bytes at end
+  pub special : end < length bytes → is_plain (slice_index bytes end) ≡ false
+  pub rest : end < length bytes → HasMarks bytes (end + 1) marks
+  pub held : end < length bytes → (marks.base ≤ end) × (end < marks.base + 64)
+
+pub comment_begun : (bytes : List ℕ) (at end : ℕ) (marks : Marks) → FindsNext bytes (at + 1) end marks → ReadsComment bytes at end marks
+comment_begun bytes at end marks next =
+    let after = next.after in
+    record {
+      further = omega (arith, after);
+      within = next.within;
+      each = λ i more less. plain_remark (slice_index bytes i) (next.plain i (omega (arith, more)) less);
+      special = next.special;
+      rest = next.rest;
+      held = next.held;
+    }
+
+-- over a byte that isn't plain and ends no line, to the next
+pub comment_further : (bytes : List ℕ) (at end to : ℕ) (marks next_marks : Marks) → ReadsComment bytes at end marks → is_remark_byte (slice_index bytes end) ≡ true → FindsNext bytes (end + 1) to next_marks → ReadsComment bytes at to next_marks
+comment_further bytes at end to marks next_marks so_far remark next =
+    let after = next.after in
+    record {
+      further = omega (arith, so_far.further, after);
+      within = next.within;
+      each = λ i more less. elim (cases_order i end) [
+        | inl here ↦ ap (λ (k : ℕ). is_remark_byte (slice_index bytes k)) here ∙ remark
+        | inr (inl before) ↦ so_far.each i more before
+        | inr (inr later) ↦ plain_remark (slice_index bytes i) (next.plain i (omega (arith, later)) less)
+      ];
+      special = next.special;
+      rest = next.rest;
+      held = next.held;
+    }
