@@ -9,6 +9,7 @@ pub mod TextSteps
 pub mod LineCount
 pub mod Increments
 pub mod Runs
+pub mod LongText
 pub mod Spans
 pub mod AsciiRuns
 pub mod PlainStrings

@@ -1,11 +1,12 @@
 //! Strings without fields that bytes hold whole, where they are simple: they are passed over.
 
-ghost use Rattle.std.specs.Prelude.{◌≡◌, ◌<◌, true, IsTrue, length, slice_index};
+ghost use Rattle.std.specs.Prelude.{◌≡◌, ◌<◌, ◌≤◌, true, IsTrue, length, slice_index};
 ghost use Rattle.py_lines.specs.Character.{is_quote};
-ghost use Rattle.py_lines.specs.Private.Outline.{BeginsLong, HasEscape, HasLineEnd, HasString, IsInLong, PassesOrNot};
+ghost use Rattle.py_lines.specs.Private.Outline.{BeginsLong, HasEscape, HasLineEnd, HasString, IsInLong};
+ghost use Rattle.py_lines.specs.Private.Outline.{PassesOrNot, PassesPart};
 
 use crate::character::is_break;
-use crate::run::body_characters;
+use crate::run::{body_characters, long_text};
 
 /// Bytes that were passed.
 #[derive(Clone, Copy)]
@@ -123,6 +124,21 @@ fn part_of_long(quote: u8, bytes: &[u8]) -> Option<Passed>
     escape(bytes)
 }
 
+/// Passes text of a string of three such quotes: lines of it as far as they fill blocks, and the run of text after them.
+#[inline(always)]
+fn text_of_long(quote: u8, bytes: &[u8]) -> Passed
+    requires { is_quote quote ≡ true }
+    ensures few { result.line_ends ≤ result.len }
+    ensures part { PassesPart bytes.now result.len result.line_ends
+        (IsInLong quote) (IsInLong quote) }
+{
+    let lines = long_text(quote, bytes);
+    Passed {
+        len: lines.len + body_characters(quote, &bytes[lines.len..]),
+        line_ends: lines.line_ends,
+    }
+}
+
 /// The string of three quotes that the bytes begin with.
 fn long_string(bytes: &[u8]) -> Option<Passed>
     requires quote { is_quote (slice_index bytes.now 0) ≡ true }
@@ -133,7 +149,9 @@ fn long_string(bytes: &[u8]) -> Option<Passed>
     let mut len = 3;
     let mut line_ends = 0;
     'parts: loop {
-        len += body_characters(quote, &bytes[len..]);
+        let text = text_of_long(quote, &bytes[len..]);
+        len += text.len;
+        line_ends += text.line_ends;
         let rest = &bytes[len..];
         if begins_long(quote, rest) {
             return Some(Passed {

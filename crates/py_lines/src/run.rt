@@ -1,15 +1,18 @@
 //! Runs of bytes that leave the open piece as it is.
 
 ghost use Rattle.std.specs.Prelude.{◌≡◌, ◌<◌, ◌≤◌, ◌==◌, true, length};
+ghost use Rattle.std.specs.List.{count_by};
 ghost use Rattle.py_lines.specs.Character.{is_space};
 ghost use Rattle.py_lines.specs.declared.mode.Mode.TheVariants.{Word};
 ghost use Rattle.py_lines.specs.Private.Run.{CountsSet, HasAsciiQuote, IsRunOf, IsWholeComment};
 ghost use Rattle.py_lines.specs.Private.Run.{Marks, Spans, is_between, is_in_run, is_ascii_word};
 ghost use Rattle.py_lines.specs.Private.Run.{is_comment_byte, is_body_byte, is_text_byte, is_literal_byte};
+ghost use Rattle.py_lines.specs.Private.Run.{HasLongText, is_feed, is_long_byte};
 ghost use Rattle.py_lines.specs.Private.Run.{is_code_byte, is_code_sign, is_remark_byte, is_wide_word, stays};
 
 use crate::character::is_break;
 use crate::mode::{Mode, Spelling};
+use crate::plain_strings::Passed;
 use crate::utf8::utf8_len;
 use std::simd::prelude::*;
 
@@ -78,6 +81,23 @@ fn text(quote: u8, lanes: u8x16) -> u8x16
         .simd_lt(u8x16::splat(128))
         .select(u8x16::splat(255), u8x16::splat(0));
     body(quote, lanes) & ascii
+}
+
+/// The lanes of the text of a string of three quotes, where it is ASCII and no CR.
+#[inline(always)]
+fn long(quote: u8, lanes: u8x16) -> u8x16
+    ensures { Marks (is_long_byte quote) lanes result }
+{
+    text(quote, lanes) | equal(lanes, b'\n')
+}
+
+/// How many lanes hold LF.
+#[inline(always)]
+fn line_feeds(lanes: u8x16) -> u64
+    ensures { result ≡ count_by is_feed lanes }
+{
+    let feeds = lanes.simd_eq(u8x16::splat(b'\n')).to_bitmask();
+    feeds.count_ones() as u64
 }
 
 /// The lanes of the text of a string with fields, where it is ASCII.
@@ -266,6 +286,24 @@ pub fn body_characters(quote: u8, bytes: &[u8]) -> usize
     let rest = &bytes[ascii..];
     let run = ByteRun::Body(quote).len_in(rest);
     ascii + utf8_len(&rest[..run])
+}
+
+/// The bytes of the text of a string of three such quotes that fill blocks of sixteen, with their line feeds: ASCII without such a
+/// quote, backslash or CR.
+pub fn long_text(quote: u8, bytes: &[u8]) -> Passed
+    ensures { HasLongText quote bytes.now result }
+{
+    let mut len = 0;
+    let mut line_ends = 0;
+    'parts: while bytes.len() - len >= 16 {
+        let lanes = u8x16::from_slice(&bytes[len..]);
+        if set_first(long(quote, lanes)) < 16 {
+            return Passed { len, line_ends };
+        }
+        len += 16;
+        line_ends += line_feeds(lanes);
+    }
+    Passed { len, line_ends }
 }
 
 /// How many bytes of whole characters a text begins with that leave the open piece as it is, and end no line.

@@ -14,7 +14,8 @@ ghost use Rattle.py_lines.specs.Private.Scan.{TakesNext, with_character, Begins,
 ghost use Rattle.py_lines.specs.Private.Scan.{IsStacked, Scans, ScansIn, line_start, is_returned, none_open, stack_of};
 ghost use Rattle.py_lines.specs.Private.Scan.{refused_place, IsRefusal};
 ghost use Rattle.py_lines.specs.Private.Scan.{IsUnfinished, IsPlainUnfinished, StandsInString, TakesInString, in_mode};
-ghost use Rattle.py_lines.specs.Private.Run.{WhereverReached, is_free, HoldsRun, HeldIn, HasAsciiQuote, ReachedInSomeLine};
+ghost use Rattle.py_lines.specs.Private.Run.{WhereverReached, is_free, HoldsLongText, HoldsRun, HeldIn};
+ghost use Rattle.py_lines.specs.Private.Run.{HasAsciiQuote, ReachedInSomeLine};
 ghost use Rattle.py_lines.specs.declared.mode.Mode.{Mode};
 ghost use Rattle.py_lines.specs.declared.mode.Mode.TheVariants.{Fielded, Free};
 ghost use Rattle.py_lines.specs.declared.mode.Move.TheVariants.{Breaks, Grows};
@@ -26,7 +27,7 @@ use crate::fault::FaultKind;
 use crate::field_scan::{FieldProgress, FieldScan};
 use crate::host::StringWithFields;
 use crate::mode::{Mode, Move, Start};
-use crate::run::characters_in;
+use crate::run::{characters_in, long_text};
 use crate::utf8::first_character;
 use crate::whole_pieces::Left;
 
@@ -397,6 +398,25 @@ impl Scan {
         &bytes[len..]
     }
 
+    /// Takes lines of an open string of three quotes, as far as they fill blocks, and answers the bytes after them.
+    fn hold_lines<'s>(&mut self, bytes: &'s [u8]) -> &'s [u8]
+        requires bytes { self.old.stop + length bytes.now < 2 ^ 64 }
+        requires lines { self.old.count.line + length bytes.now < 2 ^ 64 }
+        requires quote { HasAsciiQuote self.old.piece.mode }
+        ensures { HoldsLongText self.old bytes.now result.now self.new }
+    {
+        match self.piece.mode {
+            // LF after CR ends no line of its own.
+            Mode::Long(quote) if !self.count.after_return => {
+                let lines = long_text(quote as u8, bytes);
+                self.stop += lines.len;
+                self.count.line += lines.line_ends;
+                &bytes[lines.len..]
+            }
+            _ => bytes,
+        }
+    }
+
     /// Takes characters that go on in the line, up to its end, bytes that begin no character, or a character that is
     /// refused. A CR at the end of the bytes stays open.
     pub fn extend(&mut self, bytes: &[u8]) -> Stop
@@ -421,7 +441,10 @@ impl Scan {
             }
             let len = c.len_utf8();
             match self.take(c) {
-                Progress::Going => rest = self.hold(&left[len..]),
+                Progress::Going => {
+                    let more = self.hold_lines(&left[len..]);
+                    rest = self.hold(more);
+                }
                 Progress::LineEnded(len) => return Stop::LineEnd(len),
                 Progress::Refused => return Stop::Refused(c),
             }

@@ -20,7 +20,7 @@ use Rattle.py_lines.specs.declared.scan.Stop.TheVariants as stops
 use Rattle.py_lines.specs.Private.Machine.{Scanned, start_of}
 use Rattle.py_lines.specs.Private.ScanMachine.{IsScanSound, meet_of}
 use Rattle.py_lines.specs.Private.Scan.{Tallies, IsStacked, Takes, TakesNext, Begins, freed, line_start, stack_of, none_open, is_returned, is_return_mode, IsAtLineEnd, EndsWhole, ScansIn, Scans}
-use Rattle.py_lines.specs.Private.Run.{ReachedInSomeLine, HoldsRun, HasAsciiQuote, Reached, is_free}
+use Rattle.py_lines.specs.Private.Run.{ReachedInSomeLine, HoldsLongText, HoldsRun, HasAsciiQuote, Reached, is_free}
 use Rattle.py_lines.specs.Private.WholePieces.{LeavesOff}
 use Rattle.py_lines.proofs.LineScan.AsciiRuns.{free_breaks, free_is}
 use Rattle.py_lines.proofs.Text.CharacterTests.{feed_from, feed_is}
@@ -35,6 +35,7 @@ use Rattle.py_lines.proofs.LineScan.LineSteps.{sound_steps, way_here, way_stop, 
 use Rattle.py_lines.specs.Private.FieldScan.{IsInPlace}
 use Rattle.py_lines.proofs.LineScan.StringSteps.{fields_placed}
 use Rattle.py_lines.proofs.LineScan.Runs.{reached_character, reached_run, way_quote}
+use Rattle.py_lines.proofs.LineScan.LongText.{reached_long}
 
 -- wherever in a line the scan stood before a text, it stands now before another
 abbrev pub GoesTo : Scan → List ℕ → Scan → List ℕ → Type 0
@@ -148,6 +149,12 @@ other_whole read (b ∷ more) c rest is other = inr (
 pub goes_run : (first : Scan) (text : List ℕ) (old new : Scan) (before rest : List ℕ) → GoesTo first text old before
     → HoldsRun old before rest new → GoesTo first text new rest
 goes_run first text old new before rest goes holds m line whole start r = reached_run m line whole old new before rest
+    (goes m line whole start r) start holds
+
+-- text of a string of three quotes was held
+pub goes_long : (first : Scan) (text : List ℕ) (old new : Scan) (before rest : List ℕ) → GoesTo first text old before
+    → HoldsLongText old before rest new → GoesTo first text new rest
+goes_long first text old new before rest goes holds m line whole start r = reached_long m line whole old new before rest
     (goes m line whole start r) start holds
 
 module _ (first : Scan) (text : List ℕ) (old : Scan) (before : List ℕ) (goes : GoesTo first text old before) where

@@ -19,7 +19,7 @@ use Rattle.py_lines.specs.declared.plain_strings.Passed.{Passed}
 use Rattle.py_lines.specs.Private.Machine.{fresh, moved, Bracket, long_move, move_of, short_move}
 use Rattle.py_lines.specs.Private.ScanMachine.{begins_string, is_field_spelling, is_raw_spelling, meet_of, quote_move, scan_step, scan_steps}
 use Rattle.py_lines.specs.Private.Scan.{line_start}
-use Rattle.py_lines.specs.Private.Run.{Spans, is_body_byte}
+use Rattle.py_lines.specs.Private.Run.{HasLongText, Spans, is_body_byte, is_long_byte}
 use Rattle.py_lines.specs.Private.Outline.{BeginsLineEnd, BeginsLong, EndsBefore, GoesOnAfter, HasEscape, HasLineEnd, BeforePiece, HasClosedString, HasString, HoldsLineEnds, IsEscaped, IsInLong, IsInPiece, IsInPieceAfter, IsInShort, IsTail, Passes, PassesPart, PassesPiece, PassesOrNot, StandsBefore, StandsClosed, StringBegins, StringEnds, closes_itself, is_plain_prefix, line_end_of, short_mode, tail_of}
 use Rattle.py_lines.proofs.Pieces.PieceLists.{piece}
 use Rattle.py_lines.proofs.Machine.Starts.{start-quote}
@@ -30,14 +30,15 @@ use Rattle.py_lines.proofs.LineScan.Increments.{EndsNoLine-push}
 use Rattle.py_lines.proofs.LineScan.LineCount.{ends-last}
 use Rattle.py_lines.proofs.LineScan.LineSteps.{steps_push}
 use Rattle.py_lines.proofs.LineScan.Runs.{body_parts, break-return, quote_ascii, stays-no_break}
-use Rattle.py_lines.proofs.LineScan.AsciiRuns.{is_low, is_low_from, low_encodes, low_is, quote-no_break}
+use Rattle.py_lines.proofs.LineScan.LongText.{long_characters}
+use Rattle.py_lines.proofs.LineScan.AsciiRuns.{all_pass, is_low, is_low_from, low_encodes, low_is, quote-no_break}
 use Rattle.py_lines.proofs.LineScan.PlainStrings.{inside_closes}
 use Rattle.py_lines.proofs.Text.CharacterTests.{quote-not-word}
 use Rattle.py_lines.proofs.SimpleLines.Code.{apart_breaks, code_other, holds_line_end, holds_more, holds_one, line_end_unreturned, one_unreturned, opens, pieces, quote-not-space, tail_code}
 use Rattle.py_lines.proofs.SimpleLines.Tails.{feed_unreturned, no_tail, quote-no-word}
 use Rattle.py_lines.proofs.SimpleLines.Joins.{slash-not-break, slash_slash}
 use Rattle.py_lines.proofs.SimpleLines.FirstBytes.{first_then, line_end_low, taken_one, taken_two}
-use Rattle.py_lines.proofs.SimpleLines.Runs.{goes_on, stay_spelled}
+use Rattle.py_lines.proofs.SimpleLines.Runs.{goes_on, lines_go_on, stay_spelled}
 
 -- a character makes the open piece grow so
 abbrev pub Steps : Mode → ℕ → Mode → Type 0
@@ -486,8 +487,23 @@ module _ (q : ℕ) (quote : is_quote q ≡ true) where
   pub long_last : (bytes : List ℕ) → BeginsLong q bytes → PassesPart bytes 3 0 (IsInLong q) HasClosedString
   long_last bytes long = low_still bytes (q ∷ q ∷ q ∷ []) 3 long.within quotes_low long.spell closed_long
 
-  pub long_run : (bytes : List ℕ) (k : ℕ) → Spans (is_body_byte q) bytes k → PassesPart bytes k 0 (IsInLong q) (IsInLong q)
+  long_run : (bytes : List ℕ) (k : ℕ) → Spans (is_body_byte q) bytes k → PassesPart bytes k 0 (IsInLong q) (IsInLong q)
   long_run bytes k is = still bytes is.utf8.0 k is.run.within is.utf8.1.1 (λ initial read n st on. goes_on (modes.Long q) initial read is.utf8.0 n st is.utf8.1.0 (spans_stay bytes k is) on)
+
+  long_lines : (bytes : List ℕ) (p : Passed) → HasLongText q bytes p → PassesPart bytes p.len p.line_ends (IsInLong q) (IsInLong q)
+  long_lines bytes p has =
+      let all = all_pass (is_long_byte q) bytes p.len has.run.within has.run.each in
+      record {
+        within = has.run.within;
+        run = take p.len bytes;
+        spell = (long_characters q quote (take p.len bytes) all).0;
+        leads = λ initial read n st on.
+            subst (λ (k : ℕ). IsInLong q initial (read ++ take p.len bytes) (n + k) st) has.count
+            (lines_go_on q quote initial read (take p.len bytes) n st all on);
+      }
+
+  pub text_part : (bytes : List ℕ) (p : Passed) (k : ℕ) → HasLongText q bytes p → Spans (is_body_byte q) (take (length bytes - p.len) (drop p.len bytes)) k → PassesPart bytes (p.len + k) p.line_ends (IsInLong q) (IsInLong q)
+  text_part bytes p k has run = after bytes p.len p.line_ends k 0 p.line_ends (omega arith) (long_lines bytes p has) (long_run (drop p.len bytes) k (subst (λ (t : List ℕ). Spans (is_body_byte q) t k) (rest_is bytes p.len) run))
 
   pub line_end_part : (bytes : List ℕ) (len : ℕ) → BeginsLineEnd bytes len → Passes bytes (record { len = len; line_ends = 1 }) (IsInLong q) (IsInLong q)
   line_end_part bytes len ends =
@@ -582,8 +598,8 @@ module _ (bytes : List ℕ) (quote : is_quote (slice_index bytes 0) ≡ true) wh
   pub long_begun : BeginsLong own bytes → PassesPart bytes 3 0 (StringBegins own) (IsInLong own)
   long_begun long = long_first own quote bytes long
 
-  pub long_more : (len n k : ℕ) → PassesPart bytes len n (StringBegins own) (IsInLong own) → Spans (is_body_byte own) (take (length bytes - len) (drop len bytes)) k → PassesPart bytes (len + k) n (StringBegins own) (IsInLong own)
-  long_more len n k read run = after bytes len n k 0 n (omega arith) read (long_run own quote (drop len bytes) k (subst (λ (t : List ℕ). Spans (is_body_byte own) t k) (rest_is bytes len) run))
+  pub long_more : (len n k feeds : ℕ) → PassesPart bytes len n (StringBegins own) (IsInLong own) → PassesPart (take (length bytes - len) (drop len bytes)) k feeds (IsInLong own) (IsInLong own) → PassesPart bytes (len + k) (n + feeds) (StringBegins own) (IsInLong own)
+  long_more len n k feeds read text = after bytes len n k feeds (n + feeds) refl read (subst (λ (t : List ℕ). PassesPart t k feeds (IsInLong own) (IsInLong own)) (rest_is bytes len) text)
 
   pub long_ended : (len n : ℕ) → PassesPart bytes len n (StringBegins own) (IsInLong own) → n ≤ len → BeginsLong own (take (length bytes - len) (drop len bytes)) → HasString bytes (Some (record { len = len + 3; line_ends = n }))
   long_ended len n read few long =
@@ -591,7 +607,7 @@ module _ (bytes : List ℕ) (quote : is_quote (slice_index bytes 0) ≡ true) wh
       (after bytes len n 3 0 n (omega arith) read (long_last own quote (drop len bytes) (subst (λ (t : List ℕ). BeginsLong own t) (rest_is bytes len) long)))
 
   pub long_on : (len n : ℕ) (p : Passed) → PassesPart bytes len n (StringBegins own) (IsInLong own) → Passes (take (length bytes - len) (drop len bytes)) p (IsInLong own) (IsInLong own) → PassesPart bytes (len + p.len) (n + p.line_ends) (StringBegins own) (IsInLong own)
-  long_on len n p read has = after bytes len n p.len p.line_ends (n + p.line_ends) refl read (subst (λ (t : List ℕ). PassesPart t p.len p.line_ends (IsInLong own) (IsInLong own)) (rest_is bytes len) has.part)
+  long_on len n p read has = long_more len n p.len p.line_ends read has.part
 
   -- an empty string
   pub empty_is : 2 < length bytes → slice_index bytes 1 ≡ own → (slice_index bytes 2 ≡ own → ⊥) → HasString bytes (Some (record { len = 2; line_ends = 0 }))

@@ -2,7 +2,7 @@
 use Rattle.std.specs.Prelude.{◌&&◌, Option, None, Some, ◌≡◌, ℕ, ◌+◌, ◌-◌, ◌<◌, ◌≤◌, ◌⊎◌, Bool, true, false, ◌==◌, ◌||◌, not, nat_lt, nat_le, if◌then◌else◌, map, List, [], ◌∷◌, ◌++◌, length, take, drop, slice_index, codes, encode_utf8, encode_utf8_all}
 use Rattle.std.specs.Str.{all_scalars, byte, IsUtf8}
 use Rattle.std.specs.Char.{is_ascii_alphanumeric, len_utf8, IsScalar}
-use Rattle.std.specs.List.{list_all, prefix_len}
+use Rattle.std.specs.List.{count_by, list_all, prefix_len}
 use Rattle.py_lines.specs.Character.{is_one_of, is_brace, is_space, is_break, is_hash, is_backslash, is_quote}
 use Rattle.py_lines.specs.LogicalLine.{byte_len}
 use Rattle.py_lines.specs.Private.Machine.{IsFull, first_spelling, spelling_on}
@@ -14,6 +14,7 @@ use Rattle.py_lines.specs.declared.mode.Spelling.{Spelling}
 use Rattle.py_lines.specs.declared.mode.Spelling.TheVariants as spellings
 use Rattle.py_lines.specs.declared.mode.Mode.{Mode}
 use Rattle.py_lines.specs.declared.mode.Mode.TheVariants as modes
+use Rattle.py_lines.specs.declared.plain_strings.Passed.{Passed}
 use Rattle.py_lines.specs.declared.run.ByteRun.{ByteRun}
 use Rattle.py_lines.specs.declared.run.ByteRun.TheVariants as runs
 use Rattle.py_lines.specs.declared.scan.Scan.{Scan}
@@ -61,6 +62,18 @@ is_body_byte quote c = not ((c == quote) || is_one_of (codes "\\\n\r") c)
 -- the same, of ASCII
 abbrev pub is_text_byte : ℕ → ℕ → Bool
 is_text_byte quote c = is_body_byte quote c && nat_lt c 128
+
+-- the same in a string of three quotes, or LF
+abbrev pub is_long_byte : ℕ → ℕ → Bool
+is_long_byte quote c = is_text_byte quote c || (c == byte "\n")
+
+abbrev pub is_feed : ℕ → Bool
+is_feed c = c == byte "\n"
+
+-- the first bytes are such, so many of them, and so many of these are LF
+pub record HasLongText (quote : ℕ) (bytes : List ℕ) (text : Passed) : Type 0 where
+  pub run : HasRun (is_long_byte quote) bytes text.len
+  pub count : count_by is_feed (take text.len bytes) ≡ text.line_ends
 
 -- the same in a string with fields, where it is no brace either
 abbrev pub is_literal_byte : ℕ → ℕ → Bool
@@ -118,6 +131,10 @@ HasAsciiQuote other = Unit {0}
 abbrev pub with_bytes : Scan → ℕ → Scan
 with_bytes old len = record old { stop = old.stop + len; count = record { line = old.count.line; after_return = false } }
 
+-- the scan with these bytes more read, of which each LF ends a line
+abbrev pub with_lines : Scan → List ℕ → Scan
+with_lines old run = record old { stop = old.stop + length run; count = record old.count { line = old.count.line + count_by is_feed run } }
+
 -- these characters leave the open piece as it is, and end no line
 abbrev pub Stay : Mode → Scan → List ℕ → Type 0
 Stay modes.Fielded scan run =
@@ -140,6 +157,20 @@ pub record HoldsRun (old : Scan) (text rest : List ℕ) (new : Scan) : Type 0 wh
   pub scalars : all_scalars run ≡ true
   pub stay : Stay old.piece.mode old run
   pub reads : ((run ≡ []) × (new ≡ old)) ⊎ (IsFull run × (new ≡ with_bytes old (byte_len run)))
+
+-- bytes of an open string of three quotes were read, with which the text begins
+pub record ReadsLongText (old : Scan) (text rest : List ℕ) (new : Scan) : Type 0 where
+  pub quote : ℕ
+  pub run : List ℕ
+  pub spell : run ++ rest ≡ text
+  pub here : old.piece.mode ≡ modes.Long quote
+  pub parted : old.count.after_return ≡ false
+  pub all : list_all (is_long_byte quote) run ≡ true
+  pub reads : new ≡ with_lines old run
+
+-- they were, or nothing was
+abbrev pub HoldsLongText : Scan → List ℕ → List ℕ → Scan → Type 0
+HoldsLongText old text rest new = ((rest ≡ text) × (new ≡ old)) ⊎ ReadsLongText old text rest new
 
 -- a character that these bytes begin with
 pub record BeginsWith (bytes : List ℕ) (c : ℕ) : Type 0 where

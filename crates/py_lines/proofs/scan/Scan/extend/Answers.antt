@@ -2,13 +2,13 @@ use Rattle.std.proofs.Common.{◌≡◌, ℕ, ◌-◌, List, length, take, drop,
 use Rattle.std.specs.Prelude.{encode_utf8}
 use Rattle.std.specs.Char.{len_utf8}
 use Rattle.std.proofs.lemmas.Str.{length-encode}
-use Rattle.py_lines.specs.Private.Run.{HoldsRun}
+use Rattle.py_lines.specs.Private.Run.{HoldsLongText}
 use Rattle.py_lines.specs.declared.scan.Progress.{Progress}
 use Rattle.py_lines.specs.declared.scan.Scan.{Scan}
 use Rattle.py_lines.specs.declared.scan.Stop.TheVariants as stops
-use Rattle.py_lines.proofs.LineScan.LineStops.{GoesTo, StopsNow, TakesTo, goes_room, goes_lines, goes_placed, goes_quote, left_ends, left_goes, goes_run, goes_character, stops_line, stops_returned, stops_refused, stops_text}
+use Rattle.py_lines.proofs.LineScan.LineStops.{GoesTo, StopsNow, TakesTo, goes_room, goes_lines, goes_placed, goes_long, goes_quote, left_ends, left_goes, goes_run, goes_character, stops_line, stops_returned, stops_refused, stops_text}
 use Rattle.py_lines.proofs.scan.Scan.extend.Goals as goal
-use Rattle.py_lines.proofs.scan.Scan.extend.Goals.{In-Bytes, After-take, In-Going}
+use Rattle.py_lines.proofs.scan.Scan.extend.Goals.{In-Bytes, After-take, In-Going, After-hold_lines-more}
 
 -- where the pieces have left the scan
 left_to : (c : In-Bytes) → GoesTo c.args.self.now c.args.bytes.now c.take_pieces.new.self c.in-Bytes.left.now
@@ -108,10 +108,10 @@ pub take-requires-clause-placed : goal.take-requires-clause-placed
 take-requires-clause-placed c = goes_placed c.args.self.now c.args.bytes.now c.take_pieces.new.self c.in-Bytes.left.now c.requires.way
     (left_to (goal.at.take-requires-clause-placed c).In-Bytes)
 
-pub hold-rest-requires-clause-bytes : goal.hold-rest-requires-clause-bytes
-hold-rest-requires-clause-bytes c =
+pub hold_lines-more-requires-clause-bytes : goal.hold_lines-more-requires-clause-bytes
+hold_lines-more-requires-clause-bytes c =
     let before = c.in-Bytes.left.now in
-    let gone = goes (goal.at.hold-rest-requires-clause-bytes c).In-Going in
+    let gone = goes (goal.at.hold_lines-more-requires-clause-bytes c).In-Going in
     omega (
       arith,
       c.requires.bytes,
@@ -120,18 +120,54 @@ hold-rest-requires-clause-bytes c =
           (after_is before c.in-Some.c c.len_utf8-len.result c.len_utf8-len.ensures.value),
     )
 
+pub hold_lines-more-requires-clause-lines : goal.hold_lines-more-requires-clause-lines
+hold_lines-more-requires-clause-lines c =
+    let before = c.in-Bytes.left.now in
+    let gone = goes (goal.at.hold_lines-more-requires-clause-lines c).In-Going in
+    omega (
+      arith,
+      c.requires.lines,
+      goes_room c.args.self.now c.args.bytes.now c.take.new.self _ c.requires.way gone,
+      goes_lines c.args.self.now c.args.bytes.now c.take.new.self _ c.requires.way gone,
+      ap length
+          (after_is before c.in-Some.c c.len_utf8-len.result c.len_utf8-len.ensures.value),
+    )
+
+pub hold_lines-more-requires-clause-quote : goal.hold_lines-more-requires-clause-quote
+hold_lines-more-requires-clause-quote c = goes_quote c.args.self.now c.args.bytes.now c.take.new.self _ c.requires.way
+    (goes (goal.at.hold_lines-more-requires-clause-quote c).In-Going)
+
+-- and after the lines of a string of three quotes
+goes_on : (c : After-hold_lines-more) → GoesTo c.args.self.now c.args.bytes.now c.take.new.self (drop (len_utf8 c.in-Some.c) c.in-Bytes.left.now)
+    → GoesTo c.args.self.now c.args.bytes.now c.hold_lines-more.new.self c.hold_lines-more.result.now
+goes_on c gone =
+    let held =
+    subst (λ (t : List ℕ). HoldsLongText c.take.new.self t c.hold_lines-more.result.now c.hold_lines-more.new.self)
+    (after_is c.in-Bytes.left.now c.in-Some.c c.len_utf8-len.result c.len_utf8-len.ensures.value) c.hold_lines-more.ensures in
+    goes_long c.args.self.now c.args.bytes.now c.take.new.self c.hold_lines-more.new.self _ c.hold_lines-more.result.now gone held
+
+pub hold-rest-requires-clause-bytes : goal.hold-rest-requires-clause-bytes
+hold-rest-requires-clause-bytes c =
+    let at = goal.at.hold-rest-requires-clause-bytes c in
+    let gone = goes_on at.After-hold_lines-more (goes at.In-Going) in
+    omega (
+      arith,
+      c.requires.bytes,
+      goes_room c.args.self.now c.args.bytes.now c.hold_lines-more.new.self c.hold_lines-more.result.now c.requires.way gone,
+    )
+
 pub hold-rest-requires-clause-quote : goal.hold-rest-requires-clause-quote
-hold-rest-requires-clause-quote c = goes_quote c.args.self.now c.args.bytes.now c.take.new.self _ c.requires.way
-    (goes (goal.at.hold-rest-requires-clause-quote c).In-Going)
+hold-rest-requires-clause-quote c =
+    let at = goal.at.hold-rest-requires-clause-quote c in
+    goes_quote c.args.self.now c.args.bytes.now c.hold_lines-more.new.self c.hold_lines-more.result.now c.requires.way
+    (goes_on at.After-hold_lines-more (goes at.In-Going))
 
 pub characters-preserved : goal.characters-preserved
 characters-preserved c =
-    let held =
-    subst (λ (t : List ℕ). HoldsRun c.take.new.self t c.hold-rest.result.now c.hold-rest.new.self)
-    (after_is c.in-Bytes.left.now c.in-Some.c c.len_utf8-len.result c.len_utf8-len.ensures.value) c.hold-rest.ensures in
+    let at = goal.at.characters-preserved c in
     record {
-      goes = goes_run c.args.self.now c.args.bytes.now c.take.new.self c.hold-rest.new.self _ c.hold-rest.result.now (goes
-          (goal.at.characters-preserved c).In-Going) held;
+      goes = goes_run c.args.self.now c.args.bytes.now c.hold_lines-more.new.self c.hold-rest.new.self c.hold_lines-more.result.now
+          c.hold-rest.result.now (goes_on at.After-hold_lines-more (goes at.In-Going)) c.hold-rest.ensures;
     }
 
 pub returns-in-LineEnded : goal.returns-in-LineEnded

@@ -1,0 +1,147 @@
+-- Text of a string of three quotes is read with its line feeds, where it is ASCII without CR.
+use Rattle.std.proofs.Common.{◌≡◌, ℕ, ◌+◌, ◌<◌, ◌==◌, Bool, true, false, cond, ◌&&◌, ◌||◌, Some, List, [], ◌∷◌, ◌++◌, length, refl, sym, ap, ◌∙◌, subst, append_assoc, append-nil, arith, inl, inr, ⊎_elim}
+use Rattle.std.specs.Prelude.{encode_utf8_all, if◌then◌else◌, nat_lt}
+use Rattle.std.specs.Str.{all_scalars}
+use Rattle.std.specs.List.{count_by, list_all}
+use Rattle.std.proofs.lemmas.Bool.{and_parts, both_ways, eqb-true, false_from_ne_true, or_cases}
+use Rattle.std.proofs.lemmas.List.Sums.{sum_by-append}
+use Rattle.std.proofs.lemmas.Str.{encodes-append}
+use Rattle.py_lines.specs.Character.{is_backslash, is_line_feed, is_quote, is_return}
+use Rattle.py_lines.specs.Piece.{Piece, ends, spelled}
+use Rattle.py_lines.specs.LogicalLine.{byte_len, line_ends}
+use Rattle.py_lines.specs.declared.mode.Mode.{Mode}
+use Rattle.py_lines.specs.declared.mode.Mode.TheVariants as modes
+use Rattle.py_lines.specs.declared.mode.Move.TheVariants as moves
+use Rattle.py_lines.specs.declared.scan.Scan.{Scan}
+use Rattle.py_lines.specs.Private.Machine.{long_move, move_of}
+use Rattle.py_lines.specs.Private.ScanMachine.{HoldsOpen, IsScanSound, meet_of, move_at, move_in, scan_steps}
+use Rattle.py_lines.specs.Private.Scan.{FieldsFollow, IsUnderWay, counts_after, line_start}
+use Rattle.py_lines.specs.Private.Run.{HoldsLongText, ReadsLongText, Reached, is_feed, is_long_byte, is_text_byte, is_body_byte, with_lines}
+use Rattle.py_lines.specs.Balance.{depth_through}
+use Rattle.py_lines.proofs.Text.CharacterTests.{feed-not-quote, feed-not-return, feed-not-slash, feed_from}
+use Rattle.py_lines.proofs.Text.Utf8Prefixes.{all_scalars-append}
+use Rattle.py_lines.proofs.LogicalLines.Cuts.{byte_len-append}
+use Rattle.py_lines.proofs.Machine.PieceSteps.{run_by, scanned, steps_by-append}
+use Rattle.py_lines.proofs.LineScan.Increments.{line_ends-step}
+use Rattle.py_lines.proofs.LineScan.LineCount.{ends-last}
+use Rattle.py_lines.proofs.LineScan.LineSteps.{sound_steps}
+use Rattle.py_lines.proofs.LineScan.Runs.{body_parts, break-return}
+use Rattle.py_lines.proofs.LineScan.AsciiRuns.{low_encodes, low_is}
+
+module _ (q : ℕ) (quote : is_quote q ≡ true) where
+  -- what such a byte is not
+  record IsPlain (c : ℕ) : Type 0 where
+    other : c == q ≡ false
+    slash : is_backslash c ≡ false
+    unreturned : is_return c ≡ false
+    low : c < 128
+
+  plain : (c : ℕ) → is_long_byte q c ≡ true → IsPlain c
+  plain c passes = ⊎_elim text feed (or_cases (is_text_byte q c) (is_feed c) passes)
+    where
+      text : is_text_byte q c ≡ true → IsPlain c
+      text is =
+          let parts = and_parts (is_body_byte q c) (nat_lt c 128) is in
+          let body = body_parts q c parts.0 in
+          record { other = body.0; slash = body.1; unreturned = break-return c body.2; low = low_is c parts.1 }
+
+      feed : is_feed c ≡ true → IsPlain c
+      feed is =
+          let ten = eqb-true c 10 is in
+          let feeds = feed_from c ten in
+          record {
+            other = false_from_ne_true (c == q) (λ same. both_ways (is_quote c) (feed-not-quote c feeds) (ap is_quote (eqb-true c q same) ∙ quote));
+            slash = feed-not-slash c feeds;
+            unreturned = feed-not-return c feeds;
+            low = omega (arith, ten);
+          }
+
+  -- the machine holds them
+  grows : (depth : ℕ) (held : List ℕ) (c : ℕ) → is_long_byte q c ≡ true → move_in (modes.Long q) depth held c ≡ moves.Grows (modes.Long q)
+  unfolding meet_of move_of long_move
+  grows depth held c passes = let p = plain c passes in rw (p.other, p.slash) refl
+
+  pub long_held : (done : List Piece) (held run : List ℕ) → list_all (is_long_byte q) run ≡ true
+      → scan_steps (Some (scanned done (modes.Long q) held)) run ≡ Some (scanned done (modes.Long q) (held ++ run))
+  long_held done held run all =
+      run_by move_at done (modes.Long q) (is_long_byte q) (λ h c passes. grows (depth_through 0 done) h c passes) held run all
+
+  -- they are characters
+  pub long_characters : (run : List ℕ) → list_all (is_long_byte q) run ≡ true → (encode_utf8_all run ≡ run) × (all_scalars run ≡ true)
+  long_characters run all = low_encodes (is_long_byte q) run (λ c passes. (plain c passes).low) all
+
+  -- each LF among them ends a line
+  counts : (c : ℕ) → is_return c ≡ false → counts_after false c ≡ cond (is_feed c) 1 0
+  unfolding counts_after is_line_feed
+  counts c unreturned = rw unreturned (go (c == 10))
+    where
+      go : (feeds : Bool) → ◌≡◌ {A = ℕ} (if (feeds || false) && true then 1 else 0) (cond feeds 1 0)
+      go true = refl
+      go false = refl
+
+  pub long_counts : (before run : List ℕ) → ends is_return before ≡ false → list_all (is_long_byte q) run ≡ true
+      → (line_ends (before ++ run) ≡ line_ends before + count_by is_feed run) × (ends is_return (before ++ run) ≡ false)
+  long_counts before [] parted all = (ap line_ends (append-nil before) ∙ omega arith, ap (ends is_return) (append-nil before) ∙ parted)
+  long_counts before (c ∷ cs) parted all =
+      let parts = and_parts (is_long_byte q c) (list_all (is_long_byte q) cs) all in
+      let unreturned = (plain c parts.0).unreturned in
+      let later = long_counts (before ++ c ∷ []) cs (ends-last is_return before c ∙ unreturned) parts.1 in
+      let one : counts_after (ends is_return before) c ≡ cond (is_feed c) 1 0 = ap (λ b. counts_after b c) parted ∙ counts c unreturned in
+      let head : count_by is_feed (c ∷ cs) ≡ 0 + cond (is_feed c) 1 0 + count_by is_feed cs = sum_by-append (λ b. cond (is_feed b) 1 0) (c ∷ []) cs in
+      let spell = append_assoc before (c ∷ []) cs in (
+        ap line_ends (sym spell) ∙ later.0 ∙ omega (arith, line_ends-step before c, one, head),
+        ap (ends is_return) (sym spell) ∙ later.1,
+      )
+
+-- the scan goes over them
+long_way : (m : Mode) (old new : Scan) (read text rest : List ℕ) (way : IsUnderWay m old read) → IsScanSound (line_start m) [] → (reads : ReadsLongText old text rest new)
+    → is_quote reads.quote ≡ true → IsUnderWay m new (read ++ reads.run)
+long_way m old new read text rest way start reads quote =
+    let q = reads.quote in
+    let run = reads.run in
+    let s = way.state in
+    let counts = way.tallies.counts in
+    let here : s.mode ≡ modes.Long q = sym counts.mode ∙ reads.here in
+    let more = long_counts q quote (spelled s.done ++ s.held) run (sym counts.after ∙ reads.parted) reads.all in
+    let longer : (spelled s.done ++ s.held) ++ run ≡ spelled s.done ++ (s.held ++ run) = append_assoc (spelled s.done) s.held run in
+    let size : byte_len run ≡ length run = ap length (long_characters q quote run reads.all).0 in
+    let held : scan_steps (Some (scanned s.done s.mode s.held)) run ≡ Some (scanned s.done s.mode (s.held ++ run)) =
+    subst (λ (n : Mode). scan_steps (Some (scanned s.done n s.held)) run ≡ Some (scanned s.done n (s.held ++ run))) (sym here) (long_held q quote s.done s.held run reads.all) in
+    let after : Scan = with_lines old run in
+    subst (λ (scan : Scan). IsUnderWay m scan (read ++ run)) (sym reads.reads)
+    (record {
+      state = scanned s.done s.mode (s.held ++ run);
+      steps = steps_by-append move_at (Some (line_start m)) read run ∙ ap (λ o. scan_steps o run) way.steps ∙ held;
+      tallies = record {
+        counts = record {
+          mode = counts.mode;
+          start = counts.start;
+          stop = omega (arith, counts.stop, byte_len-append (spelled s.done ++ s.held) run, ap byte_len longer, size);
+          here = omega (arith, counts.here, more.0, ap line_ends longer);
+          after = reads.parted ∙ sym more.1 ∙ ap (ends is_return) longer;
+        };
+        fields = subst (λ (n : Mode). FieldsFollow after n (s.held ++ run)) (sym here) tt;
+      };
+      stacked = way.stacked;
+      one_line = way.one_line;
+    })
+
+pub reached_long : (m : Mode) (at : ℕ) (text : List ℕ) (old new : Scan) (mid rest : List ℕ) → Reached m at text old mid → IsScanSound (line_start m) [] → HoldsLongText old mid rest new → Reached m at text new rest
+reached_long m at text old new mid rest r start (inl (same, still)) =
+    subst (λ (scan : Scan). Reached m at text scan rest) (sym still) (subst (λ (t : List ℕ). Reached m at text old t) (sym same) r)
+reached_long m at text old new mid rest r start (inr reads) =
+    let way = r.way in
+    let sound = sound_steps m r.read way.state start way.steps in
+    let quote = long_quote way.state.mode way.state.done way.state.held reads.quote sound.holds (sym way.tallies.counts.mode ∙ reads.here) in
+    let chars = long_characters reads.quote quote reads.run reads.all in
+    record {
+      read = r.read ++ reads.run;
+      way = long_way m old new r.read mid rest way start reads quote;
+      spell = ap (λ t. t ++ rest) (encodes-append r.read reads.run) ∙ append_assoc (encode_utf8_all r.read) (encode_utf8_all reads.run) rest
+          ∙ ap (λ t. encode_utf8_all r.read ++ t) (ap (λ t. t ++ rest) chars.0 ∙ reads.spell) ∙ r.spell;
+      scalars = all_scalars-append r.read reads.run r.scalars chars.1;
+      line = ap (λ (s : Scan). s.line) reads.reads ∙ r.line;
+    }
+  where
+    long_quote : (mode : Mode) (done : List Piece) (held : List ℕ) (q : ℕ) → HoldsOpen mode done held → mode ≡ modes.Long q → is_quote q ≡ true
+    long_quote mode done held q holds is = let here : HoldsOpen (modes.Long q) done held = subst (λ (n : Mode). HoldsOpen n done held) is holds in here.0.opens

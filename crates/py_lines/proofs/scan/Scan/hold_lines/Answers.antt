@@ -1,0 +1,26 @@
+use Rattle.std.proofs.Common.{ℕ, ◌+◌, ◌-◌, ◌++◌, length, take, drop, inr, sym, ap, ◌∙◌, arith, length-drop, take-append-drop, take_all}
+use Rattle.std.specs.List.{count_by}
+use Rattle.std.proofs.lemmas.List.{length-take-le}
+use Rattle.py_lines.specs.Private.Run.{is_feed, is_long_byte}
+use Rattle.py_lines.specs.declared.scan.Scan.{Scan}
+use Rattle.py_lines.proofs.LineScan.AsciiRuns.{all_pass}
+use Rattle.py_lines.proofs.scan.Scan.hold_lines.Goals as goal
+
+pub returns-in-Long : goal.returns-in-Long
+returns-in-Long c =
+    let old = c.args.self.now in
+    let bytes = c.args.bytes.now in
+    let len = c.long_text-lines.result.len in
+    let text = c.long_text-lines.ensures in
+    let run = take len bytes in
+    let after : ℕ → ℕ → Scan = λ n k. record old { stop = old.stop + n; count = record old.count { line = old.count.line + k } } in
+    let size = length-take-le len bytes text.run.within in
+    inr (record {
+      quote = c.in-Long.quote;
+      run = run;
+      spell = ap (λ t. run ++ t) (take_all (length bytes - len) (drop len bytes) (omega (arith, length-drop len bytes))) ∙ take-append-drop len bytes;
+      here = c.in-Long.is;
+      parted = c.if-not-self.true;
+      all = all_pass (is_long_byte c.in-Long.quote) bytes len text.run.within text.run.each;
+      reads = sym (ap (λ (n : ℕ). after n (count_by is_feed run)) size ∙ ap (λ (k : ℕ). after len k) text.count);
+    })
