@@ -124,7 +124,7 @@ fn part_of_long(quote: u8, bytes: &[u8]) -> Option<Passed>
     escape(bytes)
 }
 
-/// Passes text of a string of three such quotes: lines of it as far as they fill blocks, and the run of text after them.
+/// Passes text of a string of three such quotes: its lines up to the last block, and the run of text after them.
 #[inline(always)]
 fn text_of_long(quote: u8, bytes: &[u8]) -> Passed
     requires { is_quote quote ≡ true }
@@ -133,8 +133,13 @@ fn text_of_long(quote: u8, bytes: &[u8]) -> Passed
         (IsInLong quote) (IsInLong quote) }
 {
     let lines = long_text(quote, bytes);
+    let rest = &bytes[lines.len..];
+    // A byte that is no such text stands first.
+    if rest.len() >= 16 && rest[0].is_ascii() {
+        return lines;
+    }
     Passed {
-        len: lines.len + body_characters(quote, &bytes[lines.len..]),
+        len: lines.len + body_characters(quote, rest),
         line_ends: lines.line_ends,
     }
 }

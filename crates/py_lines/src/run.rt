@@ -1,6 +1,6 @@
 //! Runs of bytes that leave the open piece as it is.
 
-ghost use Rattle.std.specs.Prelude.{◌≡◌, ◌<◌, ◌≤◌, ◌==◌, true, length};
+ghost use Rattle.std.specs.Prelude.{◌≡◌, ◌<◌, ◌≤◌, ◌==◌, true, length, take};
 ghost use Rattle.std.specs.List.{count_by};
 ghost use Rattle.py_lines.specs.Character.{is_space};
 ghost use Rattle.py_lines.specs.declared.mode.Mode.TheVariants.{Word};
@@ -91,13 +91,14 @@ fn long(quote: u8, lanes: u8x16) -> u8x16
     text(quote, lanes) | equal(lanes, b'\n')
 }
 
-/// How many lanes hold LF.
+/// How many of so many first lanes hold LF.
 #[inline(always)]
-fn line_feeds(lanes: u8x16) -> u64
-    ensures { result ≡ count_by is_feed lanes }
+fn line_feeds(lanes: u8x16, first: usize) -> u64
+    requires { first ≤ 16 }
+    ensures { result ≡ count_by is_feed (take first lanes) }
 {
     let feeds = lanes.simd_eq(u8x16::splat(b'\n')).to_bitmask();
-    feeds.count_ones() as u64
+    (feeds & ((1 << first) - 1)).count_ones() as u64
 }
 
 /// The lanes of the text of a string with fields, where it is ASCII.
@@ -288,8 +289,8 @@ pub fn body_characters(quote: u8, bytes: &[u8]) -> usize
     ascii + utf8_len(&rest[..run])
 }
 
-/// The bytes of the text of a string of three such quotes that fill blocks of sixteen, with their line feeds: ASCII without such a
-/// quote, backslash or CR.
+/// Text of a string of three such quotes that bytes begin with, and its line feeds: ASCII without such a quote, backslash or CR. It
+/// ends before another byte, or where fewer than sixteen bytes follow it.
 pub fn long_text(quote: u8, bytes: &[u8]) -> Passed
     ensures { HasLongText quote bytes.now result }
 {
@@ -297,11 +298,15 @@ pub fn long_text(quote: u8, bytes: &[u8]) -> Passed
     let mut line_ends = 0;
     'parts: while bytes.len() - len >= 16 {
         let lanes = u8x16::from_slice(&bytes[len..]);
-        if set_first(long(quote, lanes)) < 16 {
-            return Passed { len, line_ends };
+        let more = set_first(long(quote, lanes));
+        if more < 16 {
+            return Passed {
+                len: len + more,
+                line_ends: line_ends + line_feeds(lanes, more),
+            };
         }
         len += 16;
-        line_ends += line_feeds(lanes);
+        line_ends += line_feeds(lanes, 16);
     }
     Passed { len, line_ends }
 }

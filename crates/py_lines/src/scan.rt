@@ -398,7 +398,7 @@ impl Scan {
         &bytes[len..]
     }
 
-    /// Takes lines of an open string of three quotes, as far as they fill blocks, and answers the bytes after them.
+    /// Takes text of an open string of three quotes with its lines, and answers the bytes after it.
     fn hold_lines<'s>(&mut self, bytes: &'s [u8]) -> &'s [u8]
         requires bytes { self.old.stop + length bytes.now < 2 ^ 64 }
         requires lines { self.old.count.line + length bytes.now < 2 ^ 64 }

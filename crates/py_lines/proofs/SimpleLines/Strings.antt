@@ -490,7 +490,7 @@ module _ (q : ℕ) (quote : is_quote q ≡ true) where
   long_run : (bytes : List ℕ) (k : ℕ) → Spans (is_body_byte q) bytes k → PassesPart bytes k 0 (IsInLong q) (IsInLong q)
   long_run bytes k is = still bytes is.utf8.0 k is.run.within is.utf8.1.1 (λ initial read n st on. goes_on (modes.Long q) initial read is.utf8.0 n st is.utf8.1.0 (spans_stay bytes k is) on)
 
-  long_lines : (bytes : List ℕ) (p : Passed) → HasLongText q bytes p → PassesPart bytes p.len p.line_ends (IsInLong q) (IsInLong q)
+  pub long_lines : (bytes : List ℕ) (p : Passed) → HasLongText q bytes p → PassesPart bytes p.len p.line_ends (IsInLong q) (IsInLong q)
   long_lines bytes p has =
       let all = all_pass (is_long_byte q) bytes p.len has.run.within has.run.each in
       record {

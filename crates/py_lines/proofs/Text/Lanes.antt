@@ -1,13 +1,14 @@
 -- Lanes that pass a test, marked by vectors of 16 bytes.
-use Rattle.std.proofs.Common.{◌≡◌, ℕ, ◌%◌, ◌^◌, ◌≤◌, ◌<◌, ◌&&◌, ◌||◌, not, List, [], ◌∷◌, Bool, true, false, cond, ◌+◌, ◌-◌, take, drop, slice_index, leb, ltb, eqb, length, map, ◌++◌, replicate, refl, sym, ap, inl, inr, ◌∙◌, subst, arith, w8, bit_and, bit_or}
-use Rattle.std.specs.List.{prefix_len}
+use Rattle.std.proofs.Common.{◌≡◌, ℕ, zero, suc, ◌*◌, ◌/◌, ◌%◌, ◌^◌, ◌≤◌, ◌<◌, ◌&&◌, ◌||◌, not, List, [], ◌∷◌, Bool, true, false, cond, ◌+◌, ◌-◌, take, drop, slice_index, leb, ltb, eqb, length, map, ◌++◌, replicate, refl, sym, ap, inl, inr, ◌∙◌, subst, arith, w8, bit_and, bit_or}
+use Rattle.std.specs.List.{count_by, prefix_len}
 use Rattle.std.specs.Simd.Lanes.{chunk, zip2, sel_l, mask_l, top}
-use Rattle.std.specs.Int.Count.{count_trailing_zeros}
-use Rattle.std.proofs.lemmas.Simd.{length-chunk, get_or-chunk, map-map, tops_compared, zip2_splat, zip2_splat_left, zip2_of_maps, first_set_mask_l, bitmask_splat, mask_l-mod}
+use Rattle.std.specs.Int.Count.{count_trailing_zeros, ones}
+use Rattle.std.proofs.lemmas.Simd.{length-chunk, get_or-chunk, map-map, tops_compared, zip2_splat, zip2_splat_left, zip2_of_maps, first_set_mask_l, bitmask_splat, mask_l-mod, ones-mask_l}
+use Rattle.std.proofs.lemmas.Nat.{and_mask, mod-pow-add}
 use Rattle.std.proofs.lemmas.Str.Ascii.{IsAscii-from_all}
 use Rattle.std.proofs.lemmas.List.Elements.{All-from_get_or}
 use Rattle.std.specs.Str.{IsAscii}
-use Rattle.std.proofs.lemmas.List.{take_all, length-map, length-drop, length-append, length-replicate, get_or-drop, get_or_append_left, get_or-append_right, get_or-replicate}
+use Rattle.std.proofs.lemmas.List.{take_all, length-map, length-drop, length-append, length-replicate, get_or-drop, get_or_append_left, get_or-append_right, get_or-replicate, take-map}
 use Rattle.std.proofs.lemmas.List.Sums.{prefix_len-le-length, prefix_len_passes, prefix_len_stops}
 use Rattle.std.proofs.lemmas.Bool.{both_ways, ne_eqb, cases_lt}
 use Rattle.py_lines.specs.Character.{is_one_of}
@@ -214,3 +215,24 @@ filled_run p bytes block mask pad r same few stops counts marks =
       | inl past ↦ absurd (both_ways _ (ap p at_pad ∙ stops) (passes (length bytes) past))
       | inr le ↦ le
     ]
+
+-- the bits of the first lanes alone
+lowest : (b : Bool) (n : ℕ) → ((cond b 1 0 + 2 * n) % 2 ≡ cond b 1 0) × ((cond b 1 0 + 2 * n) / 2 ≡ n)
+lowest true n = (omega arith, omega arith)
+lowest false n = (omega arith, omega arith)
+
+bits_more : (b : Bool) (n k : ℕ) → (cond b 1 0 + 2 * n) % 2 ^ (k + 1) ≡ cond b 1 0 + 2 * (n % 2 ^ k)
+bits_more b n k =
+    let all : ℕ = cond b 1 0 + 2 * n in
+    let (low, high) = lowest b n in
+    mod-pow-add all k 1 ∙ ap (λ (h : ℕ). h % 2 ^ k * 2 + all % 2) high ∙ ap (λ (l : ℕ). n % 2 ^ k * 2 + l) low ∙ omega arith
+
+mask_l-take : (ms : List Bool) (k : ℕ) → mask_l ms % 2 ^ k ≡ mask_l (take k ms)
+mask_l-take ms zero = omega arith
+mask_l-take [] (suc k) = mask_l-mod [] (suc k) (omega arith)
+mask_l-take (m ∷ ms) (suc k) =
+    let more : suc k ≡ k + 1 = omega arith in
+    ap (λ (j : ℕ). mask_l (m ∷ ms) % 2 ^ j) more ∙ bits_more m (mask_l ms) k ∙ ap (λ (n : ℕ). cond m 1 0 + 2 * n) (mask_l-take ms k)
+
+pub ones_first : (p : ℕ → Bool) (vs : List ℕ) (k : ℕ) → ones (bit_and (mask_l (map p vs)) (2 ^ k - 1)) ≡ count_by p (take k vs)
+ones_first p vs k = ap ones (and_mask (mask_l (map p vs)) k ∙ mask_l-take (map p vs) k ∙ ap mask_l (take-map p k vs)) ∙ ones-mask_l p (take k vs)

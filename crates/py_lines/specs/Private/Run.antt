@@ -63,21 +63,22 @@ is_body_byte quote c = not ((c == quote) || is_one_of (codes "\\\n\r") c)
 abbrev pub is_text_byte : ℕ → ℕ → Bool
 is_text_byte quote c = is_body_byte quote c && nat_lt c 128
 
--- the same in a string of three quotes, or LF
-abbrev pub is_long_byte : ℕ → ℕ → Bool
-is_long_byte quote c = is_text_byte quote c || (c == byte "\n")
+-- the same in a string with fields, where it is no brace either
+abbrev pub is_literal_byte : ℕ → ℕ → Bool
+is_literal_byte quote c = is_text_byte quote c && not (is_brace c)
 
+-- LF
 abbrev pub is_feed : ℕ → Bool
 is_feed c = c == byte "\n"
+
+-- a byte of ASCII of the text of a string of three quotes, CR apart
+abbrev pub is_long_byte : ℕ → ℕ → Bool
+is_long_byte quote c = is_text_byte quote c || is_feed c
 
 -- the first bytes are such, so many of them, and so many of these are LF
 pub record HasLongText (quote : ℕ) (bytes : List ℕ) (text : Passed) : Type 0 where
   pub run : HasRun (is_long_byte quote) bytes text.len
   pub count : count_by is_feed (take text.len bytes) ≡ text.line_ends
-
--- the same in a string with fields, where it is no brace either
-abbrev pub is_literal_byte : ℕ → ℕ → Bool
-is_literal_byte quote c = is_text_byte quote c && not (is_brace c)
 
 -- a space, or one of the operators that code in fields has mostly: `!`, `=`, and those from `*` to `/`
 unfoldable pub is_code_sign : ℕ → Bool
