@@ -16,6 +16,11 @@ use py_lines::{Fault, LexError, Scanner};
 use std::alloc::Global;
 use std::marker::Model;
 
+/// Whether bytes begin with a word with which import statements begin.
+fn begins_import(bytes: &[u8]) -> bool {
+    bytes.starts_with(b"import") || bytes.starts_with(b"from")
+}
+
 /// Finds the imports of a text that comes in pieces, each as soon as its logical line is whole. It keeps the text of one
 /// line, and after CR one byte more. Contracts see it as a `PieceFinderState`.
 ///
@@ -130,11 +135,11 @@ impl PieceFinder {
             return 0;
         }
         let first = start - held;
-        let before = words.clear_up_to(first) - first;
         // Most lines with an import follow another one.
-        if before == 0 {
+        if begins_import(&piece[first..]) {
             return 0;
         }
+        let before = words.clear_up_to(first) - first;
         let passed = self.scanner.pass_lines(&piece[first..], before);
         // The piece may begin in mid-line.
         pauses.note(passed > 0 || start == 0);
@@ -159,8 +164,7 @@ impl PieceFinder {
         ensures { FeedsLine self.old piece.now result self.new }
     {
         // A line that begins with one of the words holds it, so its tokens are read anyway.
-        let named = piece.starts_with(b"import") || piece.starts_with(b"from");
-        if self.walker.may_pass_lines() && !named {
+        if self.walker.may_pass_lines() && !begins_import(piece) {
             return self.scanner.feed_naming(piece, b"import", b"from");
         }
         self.scanner.feed(piece)

@@ -24,8 +24,8 @@ returns-then-held-start-clause-passes c =
     let rest = drop c.args.start c.args.piece.now in
     subst (PassesLines old rest 0) (sym gone.is ∙ c.self.view_is) (passes_none old c.self.inside.scanner gone.begins rest)
 
-pub returns-then-before-eq0-clause-passes : goal.returns-then-before-eq0-clause-passes
-returns-then-before-eq0-clause-passes c =
+pub returns-then-begins_import-clause-passes : goal.returns-then-begins_import-clause-passes
+returns-then-begins_import-clause-passes c =
     let old = c.args.self.now in
     let gone = has_let_go old _ c.requires.is_open c.requires.none_ready c.requires.open_yet (subst (LetsLineGo old) (sym c.self.view_is) c.let_go.ensures) in
     let rest = drop c.args.start c.args.piece.now in
