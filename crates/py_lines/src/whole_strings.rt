@@ -5,7 +5,7 @@ ghost use Rattle.std.specs.Str.{byte};
 ghost use Rattle.py_lines.specs.FieldStrings.{begins_open};
 ghost use Rattle.py_lines.specs.Character.{is_quote};
 ghost use Rattle.py_lines.specs.Piece.{begins};
-ghost use Rattle.py_lines.specs.Private.Run.{BeginsPlainString, HasWholePlainString};
+ghost use Rattle.py_lines.specs.Private.Run.{BeginsPlainString, HasWholePlainString, IsRunOf, is_literal_byte};
 ghost use Rattle.py_lines.specs.Private.FieldText.{HasSimpleCode, HasBracketed, HasCode, HasField, HasPart};
 ghost use Rattle.py_lines.specs.Private.FieldText.{HasQuotedText, HasSpecification, HasText};
 ghost use Rattle.py_lines.specs.Private.FieldText.{is_code_bracket, is_escaped};
@@ -146,6 +146,17 @@ fn part_len(quote: u8, bytes: &[u8]) -> Option<usize>
     }
 }
 
+/// How many bytes of its text a string with fields goes on with, up to a brace or what may end it: none where a field follows another.
+#[inline(always)]
+fn literal_run(quote: u8, bytes: &[u8]) -> usize
+    ensures { IsRunOf (is_literal_byte quote) bytes.now result }
+{
+    if !bytes.is_empty() && is_brace(bytes[0] as char) {
+        return 0;
+    }
+    ByteRun::Literal(quote).len_in(bytes)
+}
+
 /// How many bytes of its text a string with fields goes on with, as far as that is simple: ASCII with no line end and no name in braces,
 /// and fields whose code and specification are so.
 pub fn text_len(quote: u8, bytes: &[u8]) -> usize
@@ -157,7 +168,7 @@ pub fn text_len(quote: u8, bytes: &[u8]) -> usize
             return len;
         };
         len += part;
-        len += ByteRun::Literal(quote).len_in(&bytes[len..]);
+        len += literal_run(quote, &bytes[len..]);
     }
     len
 }
