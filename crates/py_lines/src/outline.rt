@@ -68,8 +68,9 @@ fn string(bytes: &[u8], at: usize) -> Option<Passed>
     }
 }
 
-/// Passes the comment, the join or the string that begins at this byte.
-#[inline(always)]
+/// Passes the comment, the join or the string that begins at this byte. Most are passed by the marks alone: it is apart from the loop over
+/// them, so that this one stays small.
+#[inline(never)]
 pub fn piece(bytes: &[u8], class: Class, at: usize) -> Option<Passed>
     requires within { at < length bytes.now }
     requires class { is_of_class class (slice_index bytes.now at) ≡ true }

@@ -1,10 +1,11 @@
 //! Bytes of a line that are passed over at once, from one that isn't plain to the next.
 
-ghost use Rattle.std.specs.Prelude.{◌≡◌, ℕ, ◌+◌, ◌<◌, ◌≤◌, ◌^◌, Bool, false, true, IsTrue, drop, length, slice_index};
+ghost use Rattle.std.specs.Prelude.{◌≡◌, ℕ, ◌+◌, ◌<◌, ◌≤◌, ◌^◌, Bool, false, true, IsTrue, List, drop, length, slice_index};
 ghost use Rattle.py_lines.specs.Character.{is_hash, is_quote};
 ghost use Rattle.py_lines.specs.Private.Marks.{HasMarks, is_of_class};
-ghost use Rattle.py_lines.specs.Private.Outline.{BeginsOuterEnd, closes_itself};
-ghost use Rattle.py_lines.specs.Private.Passing.{IsMet, PassesMarked, PassesSpecial, nothing_passed, passed_to};
+ghost use Rattle.py_lines.specs.Private.Outline.{closes_itself};
+ghost use Rattle.py_lines.specs.Private.Passing.{IsLineEndAt, IsMet, PassesMarked, PassesSpecial};
+ghost use Rattle.py_lines.specs.Private.Passing.{nothing_passed, passed_to};
 ghost use Rattle.py_lines.specs.declared.passing.Special.TheVariants.{Unpassed};
 
 use crate::brackets::Brackets;
@@ -87,19 +88,25 @@ impl Passing {
         }
     }
 
-    /// Passes the line end of so many bytes at this byte, where the bytes after it are marked. After CR alone the scan has a piece
-    /// open.
+    /// Passes the line end of so many bytes at this byte, where the bytes after it are marked. Whether LF is the last of them has to be
+    /// told: after CR alone the scan has a piece open.
     #[inline(always)]
-    fn pass_line_end(&mut self, brackets: &Brackets, bytes: &[u8], at: usize, len: usize) -> Special
-        requires within { at < length bytes.now }
-        requires ends { BeginsOuterEnd (drop at bytes.now) len }
-        requires marked { HasMarks bytes.now (at + len) self.old.marks }
+    fn pass_line_end(
+        &mut self,
+        brackets: &Brackets,
+        at: usize,
+        len: usize,
+        by_feed: bool,
+    ) -> Special
+        requires some { 0 < len }
+        requires fits { at + len < 2 ^ 64 }
         requires few { self.old.all.line_ends ≤ at }
         ensures passed { result ≡ Unpassed → ⊥ }
-        ensures passes { (place : ℕ)
-            → PassesSpecial bytes.now at place self.old brackets.now result self.new brackets.now }
+        ensures passes { (bytes : List ℕ) (place : ℕ)
+            → IsLineEndAt bytes at len by_feed → HasMarks bytes (at + len) self.old.marks
+            → PassesSpecial bytes at place self.old brackets.now result self.new brackets.now }
     {
-        self.pass_to(at + len, 1, bytes[at + len - 1] == b'\n');
+        self.pass_to(at + len, 1, by_feed);
         if brackets.is_empty() {
             Special::LineEnd(len)
         } else {
@@ -120,7 +127,8 @@ impl Passing {
             return Special::Unpassed;
         };
         self.marks.pass(bytes, at + len);
-        self.pass_line_end(brackets, bytes, at, len)
+        let by_feed = bytes[at + len - 1] == b'\n';
+        self.pass_line_end(brackets, at, len, by_feed)
     }
 
     /// Passes the bracket at this byte, if it may stand there.
@@ -245,7 +253,7 @@ impl Passing {
             self.new brackets.new }
     {
         match Class::of(bytes[at]) {
-            Class::LineFeed => self.pass_line_end(brackets, bytes, at, 1),
+            Class::LineFeed => self.pass_line_end(brackets, at, 1, true),
             Class::Return => self.pass_return(brackets, bytes, at),
             Class::Opening => {
                 let met = brackets.open(bytes[at] as char, place);

@@ -1,5 +1,5 @@
 -- Bytes of a line that are passed over at one that isn't plain: what that comes to, wherever in a line they stand.
-use Rattle.std.specs.Prelude.{◌≡◌, ℕ, ◌+◌, ◌<◌, ◌≤◌, Bool, true, false, if◌then◌else◌, List, ◌++◌, length, take, drop, encode_utf8_all}
+use Rattle.std.specs.Prelude.{◌≡◌, ℕ, ◌+◌, ◌-◌, ◌<◌, ◌≤◌, ◌==◌, Bool, true, false, if◌then◌else◌, List, ◌++◌, length, take, drop, slice_index, encode_utf8_all}
 use Rattle.py_lines.specs.LogicalLine.{byte_len}
 use Rattle.py_lines.specs.declared.brackets.Brackets.{Brackets}
 use Rattle.py_lines.specs.declared.marks.Marks.{Marks}
@@ -48,6 +48,12 @@ pub record PassesSo (bytes : List ℕ) (at place : ℕ) (all closed : Passed) (b
   pub kept : closes ≡ false → c ≡ b
   pub is : new ≡ passed_to (record { all = all; closed = closed; marks = new.marks }) (at + len) more closes
   pub marked : HasMarks bytes (at + len) new.marks
+
+-- a line end of so many bytes stands there, of which LF is the last or not
+pub record IsLineEndAt (bytes : List ℕ) (at len : ℕ) (by_feed : Bool) : Type 0 where
+  pub within : at < length bytes
+  pub ends : BeginsOuterEnd (drop at bytes) len
+  pub feed : by_feed ≡ (slice_index bytes (at + len - 1) == 10)
 
 -- a line end of so many bytes was passed, which ends the line
 pub record EndsLineSo (bytes : List ℕ) (at : ℕ) (all : Passed) (b : Brackets) (len : ℕ) (new : Passing) (c : Brackets) : Type 0 where
