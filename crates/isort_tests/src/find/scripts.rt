@@ -237,7 +237,8 @@ static FAULT_SCRIPTS: &[Script] = &[
     Script(
         ALL,
         &[
-            Act::Feed(b"x = 1\nimport"),
+            // The tokens of the first line are read, so that memory for them is asked for before a byte was taken.
+            Act::Feed(b"from_\nimport"),
             Act::Ready,
             Act::Finish,
             Act::Finish,
