@@ -223,8 +223,8 @@ module _ (scan : FieldScan) (place : ℕ) (initial : Mode) (read : List ℕ) (n 
   run_unreturned [] u goes = ap (ends is_return) (append-nil read) ∙ on.unreturned
   run_unreturned (c ∷ cs) u goes = ends-run read (c ∷ cs) tt (string_no_break depth on.state (c ∷ cs) u goes)
 
-  over_run : (run : List ℕ) (len : ℕ) → byte_len run ≡ len → (u : FieldScanned) → GoesThrough 100 on.state run u → Follows scan 0 u → IsInFields scan (place + len) initial (read ++ run) n st
-  over_run run len size u through follows =
+  over_run : (new : FieldScan) (run : List ℕ) (len : ℕ) → byte_len run ≡ len → (u : FieldScanned) → GoesThrough 100 on.state run u → Follows new 0 u → IsInFields new (place + len) initial (read ++ run) n st
+  over_run new run len size u through follows =
       let goes = goes_lower depth 100 on.state run u shallow through in
       let ran = string_run on.done on.held run on.state u on.steps goes in
       record {
@@ -289,17 +289,17 @@ module _ (first scan : FieldScan) (place : ℕ) (bytes : List ℕ) (len feeds : 
       let here : len + 0 ≡ len = omega arith in
       taken_one (drop len bytes) (omega (arith, within, length-drop len bytes)) ∙ ap (λ (c : ℕ). c ∷ []) (later bytes len 0 ∙ ap (λ (k : ℕ). slice_index bytes k) here)
 
-  pub held_on : (k : ℕ) → HoldsField scan 100 (take (length bytes - len) (drop len bytes)) k → PassesPart bytes (len + k) feeds (IsInFields first place) (IsInFields scan (place + (len + k)))
-  held_on k found =
-      let is : HoldsField scan 100 (drop len bytes) k = subst (λ (t : List ℕ). HoldsField scan 100 t k) (rest_is bytes len) found in
+  pub held_on : (new : FieldScan) (k : ℕ) → HoldsField scan 100 (place + len) (take (length bytes - len) (drop len bytes)) k new → PassesPart bytes (len + k) feeds (IsInFields first place) (IsInFields new (place + (len + k)))
+  held_on new k found =
+      let is : HoldsField scan 100 (place + len) (drop len bytes) k new = subst (λ (t : List ℕ). HoldsField scan 100 (place + len) t k new) (rest_is bytes len) found in
       let run : List ℕ = encode_utf8_all is.run in
       let spell : take k (drop len bytes) ≡ run = ap (take k) (sym is.spell) ∙ ap (λ (j : ℕ). take j (run ++ drop k (drop len bytes))) (sym is.size) ∙ take-append_seam run (drop k (drop len bytes)) in
       let room : k ≤ length (drop len bytes) = omega (arith, is.size, ap length is.spell, length-append run (drop k (drop len bytes))) in
       let further : (place + len) + k ≡ place + (len + k) = omega arith in
       after bytes len feeds k 0 feeds (omega arith) read
       (still (drop len bytes) is.run k room (sym spell) (λ initial r n st on.
-      let (u, goes, follows) = is.stay 0 on.state on.follows (inside scan (place + len) initial r n st on) in
-      subst (λ (j : ℕ). IsInFields scan j initial (r ++ is.run) n st) further (over_run scan (place + len) initial r n st on is.run k is.size u goes follows)))
+      let (u, goes, follows) = is.stay 0 on.held on.state on.steps (omega (arith, on.at)) on.follows (inside scan (place + len) initial r n st on) in
+      subst (λ (j : ℕ). IsInFields new j initial (r ++ is.run) n st) further (over_run scan (place + len) initial r n st on new is.run k is.size u goes follows)))
 
   pub pushed_on : (new : FieldScan) → len < length bytes → slice_index bytes len < 128 → (slice_index bytes len ≡ 13 → ⊥) → PushesField scan (slice_index bytes len) (place + len) 100 progress.Going new → PassesPart bytes (len + 1) (feeds + bool_byte (slice_index bytes len == 10)) (IsInFields first place) (IsInFields new (place + (len + 1)))
   pushed_on new within low other pushes =

@@ -14,7 +14,9 @@ use crate::field_mode::{At, FieldMode, FieldMove};
 use crate::frames::{Frame, Frames, OpenField};
 use crate::host::{Region, StringWithFields};
 use crate::mode::{Mode, Start};
+use crate::run::ByteRun;
 use crate::scan::LineFault;
+use crate::whole_pieces::last_operator_end;
 use crate::whole_strings::text_len;
 
 /// What a character came to in a string with fields.
@@ -54,7 +56,9 @@ impl FieldScan {
     ghost use Rattle.py_lines.specs.Private.FieldScan.{PushesField, RefusesField, StandsInText, TakesMove};
     ghost use Rattle.py_lines.specs.Private.FieldScan.{ended_in, freed_at, waiting_field};
     ghost use Rattle.py_lines.specs.Private.Frames.{InField, IsInnermostFrame};
+    ghost use Rattle.py_lines.specs.declared.mode.Mode.TheVariants.{Free};
     ghost use Rattle.py_lines.specs.declared.mode.Start.TheVariants.{Operator};
+    ghost use Rattle.py_lines.specs.declared.field_mode.FieldMode.TheVariants.{Code};
     ghost use Rattle.py_lines.specs.declared.frames.Frame.{Frame};
 
     /// Of no string.
@@ -362,8 +366,8 @@ impl FieldScan {
     }
 
     /// How many bytes of ASCII leave all of the open piece as it is except its text, and end no line.
-    fn keep(&self, depth: usize, bytes: &[u8]) -> usize
-        ensures { HoldsField self.now depth bytes.now result }
+    fn keep(&self, bytes: &[u8]) -> usize
+        ensures { (depth place : ℕ) → HoldsField self.now depth place bytes.now result self.now }
     {
         let mut len = 0;
         while len < bytes.len() && self.mode.keeps(bytes[len]) {
@@ -384,14 +388,36 @@ impl FieldScan {
         }
     }
 
-    /// How many bytes of ASCII leave the scan as it is, and end no line, where so many brackets are open round the string: those
-    /// that leave all of the open piece as it is except its text, or simple text with whole fields.
-    pub fn hold(&self, depth: usize, bytes: &[u8]) -> usize
-        ensures { HoldsField self.now depth bytes.now result }
+    /// Takes words, spaces and signs of a field's code up to the last sign, where no piece is open, and answers how many bytes they
+    /// have. The first stands at this byte.
+    fn take_code(&mut self, place: usize, bytes: &[u8]) -> usize
+        requires bytes { place + length bytes.now < 2 ^ 64 }
+        requires code { self.old.mode ≡ Code Free }
+        ensures holds { (depth : ℕ) → HoldsField self.old depth place bytes.now result self.new }
+        ensures placed { IsInPlace self.old → IsInPlace self.new }
     {
+        let code = &bytes[..ByteRun::Code.len_in(bytes)];
+        let len = last_operator_end(code);
+        if len > 0 {
+            self.free(place + len);
+        }
+        len
+    }
+
+    /// Takes bytes of ASCII that open and close nothing and end no line, where so many brackets are open round the string, and answers how
+    /// many they are: code where no piece is open, simple text with whole fields, or what leaves all of the open piece as it is except
+    /// its text. The first stands at this byte.
+    pub fn hold(&mut self, depth: usize, place: usize, bytes: &[u8]) -> usize
+        requires bytes { place + length bytes.now < 2 ^ 64 }
+        ensures holds { HoldsField self.old depth place bytes.now result self.new }
+        ensures placed { IsInPlace self.old → IsInPlace self.new }
+    {
+        if matches!(self.mode, FieldMode::Code(Mode::Free)) {
+            return self.take_code(place, bytes);
+        }
         match self.open_text(depth) {
             Some(quote) => text_len(quote, bytes),
-            None => self.keep(depth, bytes),
+            None => self.keep(bytes),
         }
     }
 

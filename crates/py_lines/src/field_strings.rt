@@ -22,7 +22,7 @@ fn rest_of_string(scan: &mut FieldScan, place: usize, bytes: &[u8]) -> Option<Pa
     let mut len = 0;
     let mut line_ends = 0;
     'characters: loop {
-        len += scan.hold(MAX_DEPTH_AROUND_STRING, &bytes[len..]);
+        len += scan.hold(MAX_DEPTH_AROUND_STRING, place + len, &bytes[len..]);
         if len >= bytes.len() || bytes[len] >= 128 || bytes[len] == b'\r' {
             return None;
         }

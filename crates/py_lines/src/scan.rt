@@ -372,13 +372,14 @@ impl Scan {
         })
     }
 
-    /// How many bytes of whole characters leave the open piece as it is, and end no line.
-    fn run_len(&self, bytes: &[u8]) -> usize
-        requires quote { HasAsciiQuote self.now.piece.mode }
-        ensures { HeldIn self.now bytes.now result }
+    /// How many bytes of whole characters leave the open piece as it is, and end no line. In a string with fields they are taken there.
+    fn hold_run(&mut self, bytes: &[u8]) -> usize
+        requires bytes { self.old.stop + length bytes.now < 2 ^ 64 }
+        requires quote { HasAsciiQuote self.old.piece.mode }
+        ensures { HeldIn self.old bytes.now result self.new }
     {
         if matches!(self.piece.mode, Mode::Fielded) {
-            self.fields.hold(self.brackets.len(), bytes)
+            self.fields.hold(self.brackets.len(), self.stop, bytes)
         } else {
             characters_in(self.piece.mode, bytes)
         }
@@ -390,7 +391,7 @@ impl Scan {
         requires quote { HasAsciiQuote self.old.piece.mode }
         ensures { HoldsRun self.old bytes.now result.now self.new }
     {
-        let len = self.run_len(bytes);
+        let len = self.hold_run(bytes);
         if len > 0 {
             self.stop += len;
             self.count.after_return = false;

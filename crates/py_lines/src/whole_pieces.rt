@@ -21,7 +21,7 @@ pub enum Left<'s> {
 
 /// How many plain bytes there are up to the last operator, and with it.
 #[inline(always)]
-fn last_operator_end(plain: &[u8]) -> usize
+pub fn last_operator_end(plain: &[u8]) -> usize
     ensures { IsOperatorEnd plain.now result }
 {
     let mut len = plain.len();

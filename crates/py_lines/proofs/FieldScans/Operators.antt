@@ -1,5 +1,5 @@
 -- An operator in the code of a field: a bracket opens or closes, the field ends, or its specification begins.
-use Rattle.std.proofs.Common.{◌≡◌, ℕ, ◌+◌, ◌<◌, Bool, true, false, not, ◌||◌, ◌==◌, Option, None, Some, List, [], ◌∷◌, ◌++◌, length, nat_lt, refl, sym, ap, ◌∙◌, subst, arith, append-nil}
+use Rattle.std.proofs.Common.{◌≡◌, ℕ, ◌+◌, ◌<◌, Bool, true, false, not, ◌||◌, ◌&&◌, ◌==◌, Option, None, Some, List, [], ◌∷◌, ◌++◌, length, nat_lt, refl, sym, ap, ◌∙◌, subst, arith, append-nil}
 use Rattle.std.specs.Prelude.{if◌then◌else◌}
 use Rattle.std.specs.Str.{byte}
 use Rattle.std.proofs.lemmas.Bool.{both_ways, lt-ltb, ltb-true, false_from_ne_true}
@@ -26,7 +26,9 @@ use Rattle.py_lines.proofs.Pieces.PieceLists.{piece}
 use Rattle.py_lines.proofs.Pieces.OpenBrackets.{closing-not-opening}
 use Rattle.py_lines.proofs.FieldScans.Frames.{frames-length, frames_alike, InList, list_of, innermost_field, bracket_opened, bracket_closed, operator_alike}
 use Rattle.py_lines.proofs.FieldScans.Steps.{follows_free, going, no_room, no_step, some_level}
-use Rattle.py_lines.proofs.FieldScans.Taking.{Broken, broken, piece_after, no_opening}
+use Rattle.py_lines.proofs.FieldMachine.ListBrackets.{others_keep}
+use Rattle.py_lines.proofs.FieldMachine.PieceRuns.{operator_stays}
+use Rattle.py_lines.proofs.FieldScans.Taking.{Broken, broken, piece_after, no_opening, one_operator}
 
 -- what an operator does in the machine
 pub opened_is : (l : Level) (ls : List Level) (done : List Piece) (openers : List ℕ) (c : ℕ) → is_opening c ≡ true → field_operator (l ∷ ls) done openers c ≡ Some (field_fresh (l ∷ ls) (done ++ piece operator (c ∷ []) ∷ []) (c ∷ openers))
@@ -147,6 +149,14 @@ module _ (old : FieldScan) (base depth : ℕ) (l : Level) (ls : List Level) (don
         follow = subst (FramesFollow base (l ∷ ls) (Closed ++ piece operator (c ∷ []) ∷ []) openers) (sym same) (frames_alike base (l ∷ ls) Closed (Closed ++ piece operator (c ∷ []) ∷ []) openers old.frames (operator_alike Closed c opens closes) b.ready.follow);
         at = piece_after base place (l ∷ ls) Closed operator c one b.ready.at;
       })
+
+  -- a sign that is no `:` is taken, whatever is open
+  pub passes_sign : is_opening c ≡ false → is_closing c ≡ false → c == byte ":" ≡ false → ComesTo base depth T c old progress.Going (freed_at old (place + 1))
+  passes_sign opens closes colon =
+      takes (freed_at old (place + 1)) (field_fresh (l ∷ ls) (Closed ++ piece operator (c ∷ []) ∷ []) openers)
+      (operator_stays (l ∷ ls) Closed openers openers c (others_keep openers c opens closes) (ap (λ b. b && (length openers == 0)) colon))
+      (no_opening (depth + frames T) c opens) (λ none. absurd (some_level l ls none))
+      (passes old (one_operator c starts_with) refl opens closes)
 
 -- inside brackets, of which the innermost is known
 module _ (old : FieldScan) (base depth : ℕ) (l : Level) (ls : List Level) (done : List Piece) (o : ℕ) (os : List ℕ) (m : FieldMode) (held : List ℕ) (c place : ℕ) (follow : Follows old base (field_state (l ∷ ls) done (o ∷ os) m held)) (inside : IsInString (field_state (l ∷ ls) done (o ∷ os) m held)) (at : place ≡ base + here (field_state (l ∷ ls) done (o ∷ os) m held)) (is : field_move m held c ≡ breaks) (starts_with : start_of c ≡ starts.Operator) where

@@ -25,7 +25,8 @@ use Rattle.py_lines.specs.Private.Machine.{move_of, short_move, long_move, spell
 use Rattle.py_lines.specs.Private.FieldMachine.{body, between, grows, Level, FieldScanned, field_state, field_move, field_moved, body_move, between_move, levels_open}
 use Rattle.py_lines.specs.Private.FieldScan.{region_in, mode_from, code_mode, code_move, code_moved, meets_field, stays_code, stays_field, keeps_byte, HoldsCode, Follows, GoesThrough, HoldsField, StandsInText}
 use Rattle.py_lines.specs.Private.FieldText.{HasText}
-use Rattle.py_lines.specs.Private.ScanMachine.{host_in, meet_of}
+use Rattle.py_lines.specs.LogicalLine.{byte_len}
+use Rattle.py_lines.specs.Private.ScanMachine.{host_in, meet_of, string_state, IsInString}
 use Rattle.py_lines.proofs.FieldSoundness.PlainPieces.{MoveHolds, move_holds}
 use Rattle.py_lines.proofs.FieldScans.Moves.{meets}
 use Rattle.py_lines.proofs.FieldScans.Frames.{frames-length}
@@ -157,7 +158,7 @@ low_scalars (c ∷ cs) all = let parts = and_parts (nat_lt c 128) (list_all (λ 
     scalar : nat_lt c 128 ≡ true → IsScalar c
     scalar is = grind (arith, nat_tests)
 
-all_pass : (passes : ℕ → Bool) (cs : List ℕ) → ((i : ℕ) → i < length cs → passes (slice_index cs i) ≡ true) → list_all passes cs ≡ true
+pub all_pass : (passes : ℕ → Bool) (cs : List ℕ) → ((i : ℕ) → i < length cs → passes (slice_index cs i) ≡ true) → list_all passes cs ≡ true
 all_pass passes [] each = refl
 all_pass passes (c ∷ cs) each = and_from (passes c) (list_all passes cs) (each 0 (omega arith)) (all_pass passes cs (λ i less. each (suc i) (omega (arith, less))))
 
@@ -175,24 +176,31 @@ low_ascii (c ∷ cs) all = let parts = and_parts (nat_lt c 128) (list_all (λ d.
     under is = grind (arith, nat_tests)
 
 -- they are held, if the scan follows over them
-holds_ascii : (scan : FieldScan) (depth : ℕ) (bytes : List ℕ) (n : ℕ) → n ≤ length bytes → list_all (λ c. nat_lt c 128) (take n bytes) ≡ true → ((base : ℕ) (t : FieldScanned) → Follows scan base t → (u : FieldScanned) × GoesThrough depth t (take n bytes) u × Follows scan base u) → HoldsField scan depth bytes n
-holds_ascii scan depth bytes n within low follows =
+pub holds_ascii : (old new : FieldScan) (depth place : ℕ) (bytes : List ℕ) (n : ℕ) → n ≤ length bytes → list_all (λ c. nat_lt c 128) (take n bytes) ≡ true → (n ≡ 0 → new ≡ old)
+    → ((base : ℕ) (held : List ℕ) (t : FieldScanned) → string_state held ≡ Some t → place ≡ base + byte_len held → Follows old base t → IsInString t → (u : FieldScanned) × GoesThrough depth t (take n bytes) u × Follows new base u)
+    → HoldsField old depth place bytes n new
+holds_ascii old new depth place bytes n within low none follows =
     let same : encode_utf8_all (take n bytes) ≡ take n bytes = encodes-IsAscii (take n bytes) (low_ascii (take n bytes) low) in
     record {
       run = take n bytes;
       spell = ap (λ (t : List ℕ). t ++ drop n bytes) same ∙ take-append-drop n bytes;
       scalars = low_scalars (take n bytes) low;
       size = ap length same ∙ length-take-le n bytes within;
-      stay = λ base t on inside. follows base t on;
+      none = none;
+      stay = follows;
     }
 
-pub holds_field : (scan : FieldScan) (depth : ℕ) (bytes : List ℕ) (n : ℕ) → n ≤ length bytes → ((i : ℕ) → i < n → keeps_byte scan.mode (slice_index bytes i) ≡ true) → HoldsField scan depth bytes n
-holds_field scan depth bytes n within each =
+-- a scan that stays as it is
+still_holds : (scan : FieldScan) (depth place : ℕ) (bytes : List ℕ) (n : ℕ) → n ≤ length bytes → list_all (λ c. nat_lt c 128) (take n bytes) ≡ true → ((base : ℕ) (t : FieldScanned) → Follows scan base t → (u : FieldScanned) × GoesThrough depth t (take n bytes) u × Follows scan base u) → HoldsField scan depth place bytes n scan
+still_holds scan depth place bytes n within low follows = holds_ascii scan scan depth place bytes n within low (λ nothing. refl) (λ base held t steps at on inside. follows base t on)
+
+pub holds_field : (scan : FieldScan) (depth place : ℕ) (bytes : List ℕ) (n : ℕ) → n ≤ length bytes → ((i : ℕ) → i < n → keeps_byte scan.mode (slice_index bytes i) ≡ true) → HoldsField scan depth place bytes n scan
+holds_field scan depth place bytes n within each =
     let size : length (take n bytes) ≡ n = length-take-le n bytes within in
     let all : list_all (keeps_byte scan.mode) (take n bytes) ≡ true = all_pass (keeps_byte scan.mode) (take n bytes) (λ i less.
     let short : i < n = omega (arith, less, size) in
     subst (λ (b : ℕ). keeps_byte scan.mode b ≡ true) (sym (get_or-take n bytes i 0 short)) (each i short)) in
-    holds_ascii scan depth bytes n within (all_low scan.mode (take n bytes) all) (λ base t follows. let (goes, on) = follows_run scan base depth t (take n bytes) all follows in (with_text t (take n bytes), goes, on))
+    still_holds scan depth place bytes n within (all_low scan.mode (take n bytes) all) (λ base t follows. let (goes, on) = follows_run scan base depth t (take n bytes) all follows in (with_text t (take n bytes), goes, on))
 
 -- text of which the machine knows where it leads
 pub goes_low : (depth : ℕ) (t : FieldScanned) (run : List ℕ) (u : FieldScanned) → GoesThrough depth t run u → list_all (λ c. nat_lt c 128) run ≡ true
@@ -226,6 +234,6 @@ text_follows scan base depth quote bytes n t h mode same quotes room text follow
       subst (Follows scan base) (sym ends) (record { mode = own.mode; holds = tt; no_list = own.no_list; waits = own.waits; full = λ w. absurd (cc); start = own.start; frames = own.frames }),
     )
 
-pub holds_text : (scan : FieldScan) (depth quote : ℕ) (bytes : List ℕ) (n : ℕ) → StandsInText scan depth (Some quote) → HasText quote bytes n → HoldsField scan depth bytes n
-holds_text scan depth quote bytes n (h, mode, same, quotes, room) text =
-    holds_ascii scan depth bytes n text.0 (text_low quote bytes n quotes text) (λ base t follows. text_follows scan base depth quote bytes n t h mode same quotes room text follows)
+pub holds_text : (scan : FieldScan) (depth place quote : ℕ) (bytes : List ℕ) (n : ℕ) → StandsInText scan depth (Some quote) → HasText quote bytes n → HoldsField scan depth place bytes n scan
+holds_text scan depth place quote bytes n (h, mode, same, quotes, room) text =
+    still_holds scan depth place bytes n text.0 (text_low quote bytes n quotes text) (λ base t follows. text_follows scan base depth quote bytes n t h mode same quotes room text follows)

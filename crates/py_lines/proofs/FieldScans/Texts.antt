@@ -269,14 +269,14 @@ opening-not-word : (c : ℕ) → is_opening c ≡ true → is_ascii_word c ≡ f
 unfolding is_opening is_ascii_word
 opening-not-word c h = none_of is_ascii_word (40 ∷ 91 ∷ 123 ∷ []) c refl h
 
-operator-not-word : (c : ℕ) → is_operator c ≡ true → is_ascii_word c ≡ false
+pub operator-not-word : (c : ℕ) → is_operator c ≡ true → is_ascii_word c ≡ false
 unfolding is_operator is_ascii_word
 operator-not-word c h = none_of is_ascii_word (codes "+-*/%@&|^~<>=!()[]{},:.;") c refl h
 
 word_no_space : (c : ℕ) → is_ascii_word c ≡ true → is_space c ≡ false
 word_no_space c h = excluded is_ascii_word is_space c (space-not-word c) h
 
-word_no_break : (c : ℕ) → is_ascii_word c ≡ true → is_break c ≡ false
+pub word_no_break : (c : ℕ) → is_ascii_word c ≡ true → is_break c ≡ false
 word_no_break c h = excluded is_ascii_word is_break c (break-not-word c) h
 
 word_opens_none : (c : ℕ) → is_ascii_word c ≡ true → is_opening c ≡ false
@@ -288,7 +288,7 @@ unfolding has_room_at
 free_room n c none = rw none refl
 
 -- what a character does to a word, to space, and where no piece is open: it begins such a piece, or goes on in one
-abbrev BeginsOrGrows : (Mode → Bool) → ℕ → Mode → List ℕ → Type 0
+abbrev pub BeginsOrGrows : (Mode → Bool) → ℕ → Mode → List ℕ → Type 0
 BeginsOrGrows passes c m held = (field_move (plain m) held c ≡ breaks) ⊎ ((n : Mode) × (field_move (plain m) held c ≡ grows (plain n)) × (passes n ≡ true))
 
 piece_leads : (passes : Mode → Bool) (os : List ℕ) (quote c : ℕ) (begun : Mode) → c < 128 → is_break c ≡ false → is_opening c ≡ false → start_of c ≡ starts.Open begun → passes begun ≡ true → ((m : Mode) (held : List ℕ) → is_code_mode m ≡ true → BeginsOrGrows passes c m held) → Leads quote (InCode os) (c ∷ []) (StandsInCode passes os)
@@ -298,51 +298,52 @@ piece_leads passes os quote c begun low none opens_none opens simple each =
     (λ move. code_opens quote outer l depth front done os held passes m begun c low none move (free_room _ c opens_none) opens simple)
     (λ (n, move, more). code_grows quote outer l depth front done os held passes m n c low none move more) (each m held code))
 
-word_leads : (os : List ℕ) (quote c : ℕ) → is_ascii_word c ≡ true → Leads quote (InCode os) (c ∷ []) (InCode os)
+-- in a word
+word_character : (c : ℕ) → is_ascii_word c ≡ true → is_word_character c ≡ true
+word_character c h = word_byte_continues c (word_byte_low c h) ∙ h
+
+pub word_starts : (c : ℕ) → is_ascii_word c ≡ true → start_of c ≡ starts.Open (modes.Word (first_spelling c))
+word_starts c h = start-word c (word_byte_starts c (word_byte_low c h) ∙ h)
+
+pub word_moves : (c : ℕ) → is_ascii_word c ≡ true → (m : Mode) (held : List ℕ) → is_code_mode m ≡ true → BeginsOrGrows is_code_mode c m held
 unfolding move_of
-word_leads os quote c h = piece_leads is_code_mode os quote c (modes.Word (first_spelling c)) low (word_no_break c h) (word_opens_none c h) (start-word c (word_byte_starts c low ∙ h)) refl each
-  where
-    low : c < 128
-    low = word_byte_low c h
+word_moves c h modes.Free held simple = inl (plain_move_is modes.Free held c refl (word_no_quote c (word_character c h)))
+word_moves c h modes.Space held simple = inl (plain_move_is modes.Space held c refl (word_no_quote c (word_character c h)) ∙ rw (word_no_space c h) refl)
+word_moves c h (modes.Word s) held simple = inr (modes.Word (spelling_with s c), plain_move_is (modes.Word s) held c refl (word_no_quote c (word_character c h)) ∙ rw (word_character c h) refl, refl)
+word_moves c h m held simple = absurd (both_ways _ refl simple)
 
-    word : is_word_character c ≡ true
-    word = word_byte_continues c low ∙ h
-
-    each : (m : Mode) (held : List ℕ) → is_code_mode m ≡ true → BeginsOrGrows is_code_mode c m held
-    each modes.Free held simple = inl (plain_move_is modes.Free held c refl (word_no_quote c word))
-    each modes.Space held simple = inl (plain_move_is modes.Space held c refl (word_no_quote c word) ∙ rw (word_no_space c h) refl)
-    each (modes.Word s) held simple = inr (modes.Word (spelling_with s c), plain_move_is (modes.Word s) held c refl (word_no_quote c word) ∙ rw word refl, refl)
-    each m held simple = absurd (both_ways _ refl simple)
+word_leads : (os : List ℕ) (quote c : ℕ) → is_ascii_word c ≡ true → Leads quote (InCode os) (c ∷ []) (InCode os)
+word_leads os quote c h = piece_leads is_code_mode os quote c (modes.Word (first_spelling c)) (word_byte_low c h) (word_no_break c h) (word_opens_none c h) (word_starts c h) refl (word_moves c h)
 
 -- a space
 space_no_word : (c : ℕ) → is_space c ≡ true → is_word_character c ≡ false
 space_no_word c h = word_byte_continues c (space_low c h) ∙ space-not-word c h
 
-space_others : (c : ℕ) → is_space c ≡ true → (is_quote c ≡ false) × (is_break c ≡ false) × (is_opening c ≡ false)
+pub space_others : (c : ℕ) → is_space c ≡ true → (is_quote c ≡ false) × (is_break c ≡ false) × (is_opening c ≡ false)
 unfolding is_space is_quote is_break is_opening
 space_others c h = (none_of is_quote (32 ∷ 9 ∷ 12 ∷ []) c refl h, none_of is_break (32 ∷ 9 ∷ 12 ∷ []) c refl h, none_of is_opening (32 ∷ 9 ∷ 12 ∷ []) c refl h)
 
-space_leads : (os : List ℕ) (quote c : ℕ) → is_space c ≡ true → Leads quote (InCode os) (c ∷ []) (AtCode os)
+pub space_moves : (c : ℕ) → is_space c ≡ true → (m : Mode) (held : List ℕ) → is_code_mode m ≡ true → BeginsOrGrows is_apart_mode c m held
 unfolding move_of
-space_leads os quote c h = let others = space_others c h in piece_leads is_apart_mode os quote c modes.Space (space_low c h) others.1 others.2 (start-space c h) refl (each others.0)
-  where
-    each : is_quote c ≡ false → (m : Mode) (held : List ℕ) → is_code_mode m ≡ true → BeginsOrGrows is_apart_mode c m held
-    each none modes.Free held simple = inl (plain_move_is modes.Free held c refl none)
-    each none modes.Space held simple = inr (modes.Space, plain_move_is modes.Space held c refl none ∙ rw h refl, refl)
-    each none (modes.Word s) held simple =
-        let neither : is_prefix_spelling s && is_quote c ≡ false = and_right (is_prefix_spelling s) _ none in
-        inl (plain_move_is (modes.Word s) held c refl none ∙ rw (space_no_word c h, neither) refl)
-    each none m held simple = absurd (both_ways _ refl simple)
+space_moves c h modes.Free held simple = inl (plain_move_is modes.Free held c refl (space_others c h).0)
+space_moves c h modes.Space held simple = inr (modes.Space, plain_move_is modes.Space held c refl (space_others c h).0 ∙ rw h refl, refl)
+space_moves c h (modes.Word s) held simple =
+    let neither : is_prefix_spelling s && is_quote c ≡ false = and_right (is_prefix_spelling s) _ (space_others c h).0 in
+    inl (plain_move_is (modes.Word s) held c refl (space_others c h).0 ∙ rw (space_no_word c h, neither) refl)
+space_moves c h m held simple = absurd (both_ways _ refl simple)
+
+space_leads : (os : List ℕ) (quote c : ℕ) → is_space c ≡ true → Leads quote (InCode os) (c ∷ []) (AtCode os)
+space_leads os quote c h = let others = space_others c h in piece_leads is_apart_mode os quote c modes.Space (space_low c h) others.1 others.2 (start-space c h) refl (space_moves c h)
 
 -- an operator
 operator_no_word : (c : ℕ) → is_operator c ≡ true → is_word_character c ≡ false
 operator_no_word c h = word_byte_continues c (operator_ascii c h) ∙ operator-not-word c h
 
-operator_others : (c : ℕ) → is_operator c ≡ true → (is_space c ≡ false) × (is_quote c ≡ false) × (is_break c ≡ false)
+pub operator_others : (c : ℕ) → is_operator c ≡ true → (is_space c ≡ false) × (is_quote c ≡ false) × (is_break c ≡ false)
 unfolding is_operator is_space is_quote is_break
 operator_others c h = (none_of is_space (codes "+-*/%@&|^~<>=!()[]{},:.;") c refl h, none_of is_quote (codes "+-*/%@&|^~<>=!()[]{},:.;") c refl h, none_of is_break (codes "+-*/%@&|^~<>=!()[]{},:.;") c refl h)
 
-operator_breaks : (m : Mode) (held : List ℕ) (c : ℕ) → is_code_mode m ≡ true → is_operator c ≡ true → field_move (plain m) held c ≡ breaks
+pub operator_breaks : (m : Mode) (held : List ℕ) (c : ℕ) → is_code_mode m ≡ true → is_operator c ≡ true → field_move (plain m) held c ≡ breaks
 operator_breaks m held c simple h = let others = operator_others c h in no_more m held c simple (operator_no_word c h) others.0 others.1
 
 operator_leads : (os after : List ℕ) (quote c : ℕ) → is_operator c ≡ true → openers_with os c ≡ Some after → (c == 58) && (length os == 0) ≡ false → ((n : ℕ) → n ≤ 101 → has_room_at (n + length os) c breaks ≡ true) → Leads quote (InCode os) (c ∷ []) (AtCode after)
@@ -382,7 +383,7 @@ sign_among c h =
     (λ others. ⊎_elim (λ first. each_of P (from 32 1) c (refl, (refl, tt)) (range_of 32 1 c first)) (λ equals. each_of P (61 ∷ []) c (refl, tt) (ap (λ b. b || false) equals)) (or_cases (is_between 32 33 c) (c == 61) others))
     (or_cases (is_between 42 47 c) (is_between 32 33 c || (c == 61)) h)
 
-sign_cases : (P : Type 0) (c : ℕ) → is_code_sign c ≡ true → (is_space c ≡ true → P) → (is_operator c ≡ true → is_opening c ≡ false → is_closing c ≡ false → c == 58 ≡ false → P) → P
+pub sign_cases : (P : Type 0) (c : ℕ) → is_code_sign c ≡ true → (is_space c ≡ true → P) → (is_operator c ≡ true → is_opening c ≡ false → is_closing c ≡ false → c == 58 ≡ false → P) → P
 unfolding is_space is_operator is_opening is_closing
 sign_cases P c h space sign =
     ⊎_elim (λ is. space (ap (λ b. b || is_one_of (9 ∷ 12 ∷ []) c) is))
@@ -393,7 +394,7 @@ sign_cases P c h space sign =
     among d k = each_of (λ x. is_operator x ≡ true) (codes "!=*+,-./") d (refl, (refl, (refl, (refl, (refl, (refl, (refl, (refl, tt)))))))) k
 
 -- a place where no word is open is one where a word may be
-apart_code : (m : Mode) → is_apart_mode m ≡ true → is_code_mode m ≡ true
+pub apart_code : (m : Mode) → is_apart_mode m ≡ true → is_code_mode m ≡ true
 apart_code modes.Free h = refl
 apart_code modes.Space h = refl
 apart_code m h = absurd (both_ways _ refl h)

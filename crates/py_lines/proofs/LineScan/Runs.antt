@@ -18,7 +18,8 @@ use Rattle.py_lines.specs.declared.mode.Move.TheVariants as moves
 use Rattle.py_lines.specs.declared.scan.Scan.{Scan}
 use Rattle.py_lines.specs.Private.Machine.{Scanned, move_of, short_move, long_move, spelling_with, IsFull}
 use Rattle.py_lines.specs.Private.ScanMachine.{HoldsOpen, IsScanSound, fielded_move, meet_of, move_in, scan_steps, string_state, move_at}
-use Rattle.py_lines.specs.Private.Scan.{Counts, FieldsFollow, Tallies, IsStacked, depth_of, IsUnderWay, line_start, stack_of, counts_after, Takes}
+use Rattle.py_lines.specs.declared.field_scan.FieldScan.{FieldScan}
+use Rattle.py_lines.specs.Private.Scan.{Counts, FieldsFollow, Tallies, IsStacked, depth_of, with_field_scan, IsUnderWay, line_start, stack_of, counts_after, Takes}
 use Rattle.py_lines.specs.Balance.{depth_through}
 use Rattle.py_lines.specs.Private.FieldMachine.{FieldScanned}
 use Rattle.py_lines.specs.Private.FieldScan.{GoesThrough, HoldsField}
@@ -27,7 +28,7 @@ use Rattle.unicode_ident.proofs.IdentLemmas.{is_xid_continue-ascii, is_xid_start
 use Rattle.py_lines.proofs.Text.CharacterTests.{none_of, excluded}
 use Rattle.py_lines.proofs.LineScan.Increments.{line_ends-step}
 use Rattle.py_lines.proofs.LineScan.LineCount.{ends-last}
-use Rattle.py_lines.proofs.LineScan.StringSteps.{in_string, string_more}
+use Rattle.py_lines.proofs.LineScan.StringSteps.{here_at, in_string, string_more}
 use Rattle.py_lines.proofs.LineScan.LineSteps.{sound_steps, under_way}
 use Rattle.py_lines.specs.declared.scan.Progress.TheVariants as progress
 use Rattle.py_lines.proofs.Text.Utf8Prefixes.{all_scalars-append, scalars_more, spell_more}
@@ -158,7 +159,7 @@ sound_quote (modes.Long q) done held holds = quote_ascii q holds.0.opens
 sound_quote m done held holds = tt
 
 -- what the first n bytes hold
-pub held_in : (scan : Scan) (text : List ℕ) (n : ℕ) → (prefix : IsUtf8 (take n text)) → HasAsciiQuote scan.piece.mode → (scan.piece.mode ≡ modes.Fielded → ⊥) → n ≤ length text → ((i : ℕ) → i < n → stays scan.piece.mode (slice_index text i) ≡ true) → HeldIn scan text n
+pub held_in : (scan : Scan) (text : List ℕ) (n : ℕ) → (prefix : IsUtf8 (take n text)) → HasAsciiQuote scan.piece.mode → (scan.piece.mode ≡ modes.Fielded → ⊥) → n ≤ length text → ((i : ℕ) → i < n → stays scan.piece.mode (slice_index text i) ≡ true) → HeldIn scan text n scan
 held_in scan text n prefix quote other within each =
     let m = scan.piece.mode in
     let size : length (take n text) ≡ n = length-take-le n text within in
@@ -167,22 +168,26 @@ held_in scan text n prefix quote other within each =
       spell = ap (λ t. t ++ drop n text) prefix.1.1 ∙ take-append-drop n text;
       scalars = prefix.1.0;
       size = ap length prefix.1.1 ∙ size;
+      none = λ nothing. refl;
+      same = refl;
       stay = stay_in scan m prefix.0 other (characters_stay m prefix.0 quote (λ i less.
           let short : i < n = omega (arith, less, ap length prefix.1.1, size) in
           subst (λ (t : List ℕ). stays m (slice_index t i) ≡ true) (sym prefix.1.1) (subst (λ (b : ℕ). stays m b ≡ true) (sym (get_or-take n text i 0 short)) (each i short))));
     }
   where
-    stay_in : (scan : Scan) (m : Mode) (run : List ℕ) → (m ≡ modes.Fielded → ⊥) → list_all (stays m) run ≡ true → Stay m scan run
+    stay_in : (scan : Scan) (m : Mode) (run : List ℕ) → (m ≡ modes.Fielded → ⊥) → list_all (stays m) run ≡ true → Stay m scan scan.fields run
     stay_in scan modes.Fielded run other all = absurd (other refl)
     stay_in scan m run other all = all
 
-pub string_held : (scan : Scan) (text : List ℕ) (n : ℕ) → scan.piece.mode ≡ modes.Fielded → HoldsField scan.fields (depth_of scan.brackets) text n → HeldIn scan text n
-string_held scan text n here held = record {
+pub string_held : (old : Scan) (fields : FieldScan) (text : List ℕ) (n : ℕ) → old.piece.mode ≡ modes.Fielded → HoldsField old.fields (depth_of old.brackets) old.stop text n fields → HeldIn old text n (with_field_scan old fields)
+string_held old fields text n here held = record {
   run = held.run;
   spell = held.spell;
   scalars = held.scalars;
   size = held.size;
-  stay = subst (λ (m : Mode). Stay m scan held.run) (sym here) (λ t follows inside. held.stay scan.piece.start t follows inside);
+  none = λ nothing. ap (with_field_scan old) (held.none nothing);
+  same = refl;
+  stay = subst (λ (m : Mode). Stay m old fields held.run) (sym here) (λ text t steps stop follows inside. held.stay old.piece.start text t steps stop follows inside);
 }
 
 full_from : (run : List ℕ) → 0 < byte_len run → IsFull run
@@ -194,14 +199,18 @@ none_from [] none = refl
 none_from (c ∷ cs) none = absurd (omega (arith, none, length-append (encode_utf8 c) (encode_utf8_all cs), length-encode c, len_utf8_bounds c))
 
 -- a run was read, or none
-pub holds_run : (old new : Scan) (text : List ℕ) (n : ℕ) → HeldIn old text n → ((0 < n) × (new ≡ with_bytes old n)) ⊎ ((n ≤ 0) × (new ≡ old)) → HoldsRun old text (drop n text) new
-holds_run old new text n held how = record {
+pub holds_run : (old mid new : Scan) (text : List ℕ) (n : ℕ) → HeldIn old text n mid → ((0 < n) × (new ≡ with_bytes mid n)) ⊎ ((n ≤ 0) × (new ≡ mid)) → HoldsRun old text (drop n text) new
+holds_run old mid new text n held how = record {
   run = held.run;
   spell = held.spell;
   scalars = held.scalars;
-  stay = held.stay;
-  reads = ⊎_elim (λ some. inr (full_from held.run (omega (arith, held.size, some.0)), some.1 ∙ ap (with_bytes old) (sym held.size))) (λ none. inl (none_from held.run (omega (arith, held.size, none.0)), none.1)) how;
+  stay = subst (λ fields. Stay old.piece.mode old fields held.run) (sym fields_are) held.stay;
+  reads = ⊎_elim (λ some. inr (full_from held.run (omega (arith, held.size, some.0)), some.1 ∙ ap (with_bytes mid) (sym held.size) ∙ ap (λ scan. with_bytes scan (byte_len held.run)) (held.same ∙ ap (with_field_scan old) (sym fields_are))))
+      (λ none. inl (none_from held.run (omega (arith, held.size, none.0)), none.1 ∙ held.none (omega (arith, none.0)))) how;
 }
+  where
+    fields_are : new.fields ≡ mid.fields
+    fields_are = ⊎_elim (λ some. ap (λ (scan : Scan). scan.fields) some.1) (λ none. ap (λ (scan : Scan). scan.fields) none.1) how
 
 -- no line ends in a run
 pub counts_none : (after : Bool) (c : ℕ) → is_break c ≡ false → counts_after after c ≡ 0
@@ -238,8 +247,8 @@ all_no_break m (c ∷ cs) all =
     and_from (not (is_break c)) (list_all (λ d. not (is_break d)) cs) (ap not (stays-no_break m c parts.0)) (all_no_break m cs parts.1)
 
 -- the scan keeps count over a run
-pub counts_run : (old : Scan) (s : Scanned) (run : List ℕ) → list_all (λ d. not (is_break d)) run ≡ true → IsFull run → Counts old s → Counts (with_bytes old (byte_len run)) (scanned s.done s.mode (s.held ++ run))
-counts_run old s run all full counts =
+pub counts_run : (old : Scan) (fields : FieldScan) (s : Scanned) (run : List ℕ) → list_all (λ d. not (is_break d)) run ≡ true → IsFull run → Counts old s → Counts (with_bytes (with_field_scan old fields) (byte_len run)) (scanned s.done s.mode (s.held ++ run))
+counts_run old fields s run all full counts =
     let longer : (spelled s.done ++ s.held) ++ run ≡ spelled s.done ++ (s.held ++ run) = append_assoc (spelled s.done) s.held run in
     record {
       mode = counts.mode;
@@ -263,19 +272,20 @@ string_no_break depth t [] u goes = refl
 string_no_break depth t (c ∷ cs) u (low, none, move, next, step, others) = and_from (not (is_break c)) (list_all (λ d. not (is_break d)) cs) (ap not none) (string_no_break depth next cs u others)
 
 -- what a run comes to, in each mode
-record RunsOn (old : Scan) (s : Scanned) (run : List ℕ) : Type 0 where
+record RunsOn (old : Scan) (fields : FieldScan) (s : Scanned) (run : List ℕ) : Type 0 where
   steps : scan_steps (Some s) run ≡ Some (scanned s.done s.mode (s.held ++ run))
   none : list_all (λ d. not (is_break d)) run ≡ true
-  fields : FieldsFollow (with_bytes old (byte_len run)) s.mode (s.held ++ run)
+  follows : FieldsFollow (with_bytes (with_field_scan old fields) (byte_len run)) s.mode (s.held ++ run)
 
-runs_on : (old : Scan) (done : List Piece) (m : Mode) (held read run : List ℕ) → IsScanSound (scanned done m held) read → Tallies old (scanned done m held) → IsStacked old (scanned done m held) → Stay m old run → RunsOn old (scanned done m held) run
-runs_on old done modes.Fielded held read run sound tallies stacked stay =
+runs_on : (old : Scan) (fields : FieldScan) (done : List Piece) (m : Mode) (held read run : List ℕ) → IsScanSound (scanned done m held) read → Tallies old (scanned done m held) → IsStacked old (scanned done m held) → Stay m old fields run → RunsOn old fields (scanned done m held) run
+runs_on old fields done modes.Fielded held read run sound tallies stacked stay =
     let i = in_string old done held read sound tallies in
-    let (u, through, follows) = stay i.state i.stands.follows i.stands.inside in
+    let stop = i.stands.stop ∙ ap (λ n. old.piece.start + n) (here_at held i.state i.steps) in
+    let (u, through, follows) = stay held i.state i.steps stop i.stands.follows i.stands.inside in
     let goes = subst (λ d. GoesThrough d i.state run u) (sym (stands done (stack_of old.brackets) stacked).depth) through in
     let ran = string_run done held run i.state u i.steps goes in
-    record { steps = ran.0; none = string_no_break (depth_through 0 done) i.state run u goes; fields = (u, ran.1, follows) }
-runs_on old done m held read run sound tallies stacked stay = record { steps = held_run done m held run stay; none = all_no_break m run stay; fields = tt }
+    record { steps = ran.0; none = string_no_break (depth_through 0 done) i.state run u goes; follows = (u, ran.1, follows) }
+runs_on old fields done m held read run sound tallies stacked stay = record { steps = held_run done m held run stay; none = all_no_break m run stay; follows = tt }
 
 -- and follows the machine
 pub way_held : (m : Mode) (old new : Scan) (read text rest : List ℕ) (way : IsUnderWay m old read) → IsScanSound (line_start m) [] → (holds : HoldsRun old text rest new) → IsUnderWay m new (read ++ holds.run)
@@ -290,12 +300,12 @@ way_held m old new read text rest way start holds =
     })
     (λ some.
     let s = way.state in
-    let stay : Stay s.mode old holds.run = subst (λ (n : Mode). Stay n old holds.run) way.tallies.counts.mode holds.stay in
-    let on = runs_on old s.done s.mode s.held read holds.run (sound_steps m read s start way.steps) way.tallies way.stacked stay in
+    let stay : Stay s.mode old new.fields holds.run = subst (λ (n : Mode). Stay n old new.fields holds.run) way.tallies.counts.mode holds.stay in
+    let on = runs_on old new.fields s.done s.mode s.held read holds.run (sound_steps m read s start way.steps) way.tallies way.stacked stay in
     record {
       state = scanned s.done s.mode (s.held ++ holds.run);
       steps = steps_by-append move_at (Some (line_start m)) read holds.run ∙ ap (λ o. scan_steps o holds.run) way.steps ∙ on.steps;
-      tallies = subst (λ (n : Scan). Tallies n (scanned s.done s.mode (s.held ++ holds.run))) (sym some.1) (record { counts = counts_run old s holds.run on.none some.0 way.tallies.counts; fields = on.fields });
+      tallies = subst (λ (n : Scan). Tallies n (scanned s.done s.mode (s.held ++ holds.run))) (sym some.1) (record { counts = counts_run old new.fields s holds.run on.none some.0 way.tallies.counts; fields = on.follows });
       stacked = way.stacked ∙ ap (λ (n : Scan). Some (stack_of n.brackets)) (sym some.1);
       one_line = way.one_line;
     }) holds.reads

@@ -34,7 +34,7 @@ use Rattle.py_lines.specs.Private.Machine.{Bracket, brackets_of, Holds}
 use Rattle.py_lines.specs.Private.FieldMachine as spots
 use Rattle.py_lines.specs.Private.FieldMachine.{between, after_one, after_two, after_slash, after_return, after_name, after_brace, plain, opened, empty, body, grows, closes, breaks, begins_code, opens_field, ends_field, refused, long_host, between_move, body_move, Level, FieldScanned, field_state, field_move, field_step, before, levels_open, frames, is_after_brace}
 use Rattle.py_lines.specs.Private.FieldFaults.{is_waiting, here, piece_start, cause_in, cause_place, unfinished_literal, unfinished_in, unfinished_place}
-use Rattle.py_lines.specs.Private.ScanMachine.{host_in, meet_of, fielded_move, IsInString}
+use Rattle.py_lines.specs.Private.ScanMachine.{host_in, meet_of, string_state, fielded_move, IsInString}
 
 -- what the code's words are in the machine's
 abbrev pub region_in : Region → Place
@@ -189,14 +189,16 @@ GoesThrough depth t (c ∷ cs) u =
     (c < 128) × (is_break c ≡ false) × (fielded_move depth (Some t) c ≡ moves.Grows modes.Fielded)
     × (next : FieldScanned) × (field_step t c ≡ Some next) × GoesThrough depth next cs u
 
--- so the machine goes through the first bytes, so many of them, and the scan follows without a change
-pub record HoldsField (scan : FieldScan) (depth : ℕ) (bytes : List ℕ) (len : ℕ) : Type 0 where
+-- the machine goes through the first bytes of these, so many of them, wherever it stands in a string before the byte `place`, and the
+-- scan follows
+pub record HoldsField (old : FieldScan) (depth place : ℕ) (bytes : List ℕ) (len : ℕ) (new : FieldScan) : Type 0 where
   pub run : List ℕ
   pub spell : encode_utf8_all run ++ drop len bytes ≡ bytes
   pub scalars : all_scalars run ≡ true
   pub size : byte_len run ≡ len
-  pub stay : (base : ℕ) (t : FieldScanned) → Follows scan base t → IsInString t
-      → (u : FieldScanned) × GoesThrough depth t run u × Follows scan base u
+  pub none : len ≡ 0 → new ≡ old
+  pub stay : (base : ℕ) (held : List ℕ) (t : FieldScanned) → string_state held ≡ Some t → place ≡ base + byte_len held → Follows old base t
+      → IsInString t → (u : FieldScanned) × GoesThrough depth t run u × Follows new base u
 
 -- wherever the scan follows, the machine stands between two parts of the literal part of a string of this quote, and at most a
 -- hundred brackets and fields are open

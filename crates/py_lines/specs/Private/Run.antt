@@ -6,10 +6,11 @@ use Rattle.std.specs.List.{count_by, list_all, prefix_len}
 use Rattle.py_lines.specs.Character.{is_one_of, is_brace, is_space, is_break, is_hash, is_backslash, is_quote}
 use Rattle.py_lines.specs.LogicalLine.{byte_len}
 use Rattle.py_lines.specs.Private.Machine.{IsFull, first_spelling, spelling_on}
-use Rattle.py_lines.specs.Private.ScanMachine.{IsInString, IsScanSound}
+use Rattle.py_lines.specs.Private.ScanMachine.{string_state, IsInString, IsScanSound}
 use Rattle.py_lines.specs.Private.FieldMachine.{FieldScanned}
 use Rattle.py_lines.specs.Private.FieldScan.{Follows, GoesThrough}
-use Rattle.py_lines.specs.Private.Scan.{depth_of, IsUnderWay, line_start}
+use Rattle.py_lines.specs.Private.Scan.{depth_of, with_field_scan, IsUnderWay, line_start}
+use Rattle.py_lines.specs.declared.field_scan.FieldScan.{FieldScan}
 use Rattle.py_lines.specs.declared.mode.Spelling.{Spelling}
 use Rattle.py_lines.specs.declared.mode.Spelling.TheVariants as spellings
 use Rattle.py_lines.specs.declared.mode.Mode.{Mode}
@@ -136,28 +137,31 @@ with_bytes old len = record old { stop = old.stop + len; count = record { line =
 abbrev pub with_lines : Scan → List ℕ → Scan
 with_lines old run = record old { stop = old.stop + length run; count = record old.count { line = old.count.line + count_by is_feed run } }
 
--- these characters leave the open piece as it is, and end no line
-abbrev pub Stay : Mode → Scan → List ℕ → Type 0
-Stay modes.Fielded scan run =
-    (t : FieldScanned) → Follows scan.fields scan.piece.start t → IsInString t
-    → (u : FieldScanned) × GoesThrough (depth_of scan.brackets) t run u × Follows scan.fields scan.piece.start u
-Stay m scan run = list_all (stays m) run ≡ true
+-- These characters leave the open piece as it is, and end no line. In a string with fields its scan comes so far.
+abbrev pub Stay : Mode → Scan → FieldScan → List ℕ → Type 0
+Stay modes.Fielded old fields run =
+    (held : List ℕ) (t : FieldScanned) → string_state held ≡ Some t → old.stop ≡ old.piece.start + byte_len held
+    → Follows old.fields old.piece.start t → IsInString t
+    → (u : FieldScanned) × GoesThrough (depth_of old.brackets) t run u × Follows fields old.piece.start u
+Stay m old fields run = list_all (stays m) run ≡ true
 
 -- the first bytes are such characters, so many of them
-pub record HeldIn (scan : Scan) (text : List ℕ) (n : ℕ) : Type 0 where
+pub record HeldIn (old : Scan) (text : List ℕ) (n : ℕ) (new : Scan) : Type 0 where
   pub run : List ℕ
   pub spell : encode_utf8_all run ++ drop n text ≡ text
   pub scalars : all_scalars run ≡ true
   pub size : byte_len run ≡ n
-  pub stay : Stay scan.piece.mode scan run
+  pub none : n ≡ 0 → new ≡ old
+  pub stay : Stay old.piece.mode old new.fields run
+  pub same : new ≡ with_field_scan old new.fields
 
 -- some characters that the text begins with, and that leave the open piece as it is, were read; or none
 pub record HoldsRun (old : Scan) (text rest : List ℕ) (new : Scan) : Type 0 where
   pub run : List ℕ
   pub spell : encode_utf8_all run ++ rest ≡ text
   pub scalars : all_scalars run ≡ true
-  pub stay : Stay old.piece.mode old run
-  pub reads : ((run ≡ []) × (new ≡ old)) ⊎ (IsFull run × (new ≡ with_bytes old (byte_len run)))
+  pub stay : Stay old.piece.mode old new.fields run
+  pub reads : ((run ≡ []) × (new ≡ old)) ⊎ (IsFull run × (new ≡ with_bytes (with_field_scan old new.fields) (byte_len run)))
 
 -- bytes of an open string of three quotes were read, with which the text begins
 pub record ReadsLongText (old : Scan) (text rest : List ℕ) (new : Scan) : Type 0 where

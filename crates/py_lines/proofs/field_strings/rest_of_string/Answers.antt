@@ -11,20 +11,20 @@ pub returns-in-Closed : goal.returns-in-Closed
 returns-in-Closed c =
     let bytes = c.args.bytes.now in
     let i = c.characters.invariant in
-    let held = held_on c.args.scan.now c.characters.scan c.args.place bytes c.characters.len c.characters.line_ends i.part c.hold-len.result c.hold-len.ensures in
+    let held = held_on c.args.scan.now c.characters.scan c.args.place bytes c.characters.len c.characters.line_ends i.part c.hold-len.new.self c.hold-len.result c.hold-len.ensures.holds in
     let at = c.characters.len + c.hold-len.result in
-    closed_on c.args.scan.now c.characters.scan c.args.place bytes at c.characters.line_ends held c.push.new.self (omega (arith, c.if-len-bytes.false)) (omega (arith, c.if-bytes-len-ge128.false)) (omega (arith, i.few))
-    (subst (λ (p : FieldProgress). PushesField c.characters.scan (slice_index bytes at) (c.args.place + at) 100 p c.push.new.self) c.in-Closed.is c.push.ensures.takes)
+    closed_on c.args.scan.now c.hold-len.new.self c.args.place bytes at c.characters.line_ends held c.push.new.self (omega (arith, c.if-len-bytes.false)) (omega (arith, c.if-bytes-len-ge128.false)) (omega (arith, i.few))
+    (subst (λ (p : FieldProgress). PushesField c.hold-len.new.self (slice_index bytes at) (c.args.place + at) 100 p c.push.new.self) c.in-Closed.is c.push.ensures.takes)
 
 pub characters-preserved : goal.characters-preserved
 characters-preserved c =
     let bytes = c.args.bytes.now in
     let i = c.characters.invariant in
-    let held = held_on c.args.scan.now c.characters.scan c.args.place bytes c.characters.len c.characters.line_ends i.part c.hold-len.result c.hold-len.ensures in
+    let held = held_on c.args.scan.now c.characters.scan c.args.place bytes c.characters.len c.characters.line_ends i.part c.hold-len.new.self c.hold-len.result c.hold-len.ensures.holds in
     let at = c.characters.len + c.hold-len.result in
     record {
-      part = pushed_on c.args.scan.now c.characters.scan c.args.place bytes at c.characters.line_ends held c.push.new.self (omega (arith, c.if-len-bytes.false)) (omega (arith, c.if-bytes-len-ge128.false)) c.if-bytes-len-eq13.false
-          (subst (λ (p : FieldProgress). PushesField c.characters.scan (slice_index bytes at) (c.args.place + at) 100 p c.push.new.self) c.in-Going.is c.push.ensures.takes);
+      part = pushed_on c.args.scan.now c.hold-len.new.self c.args.place bytes at c.characters.line_ends held c.push.new.self (omega (arith, c.if-len-bytes.false)) (omega (arith, c.if-bytes-len-ge128.false)) c.if-bytes-len-eq13.false
+          (subst (λ (p : FieldProgress). PushesField c.hold-len.new.self (slice_index bytes at) (c.args.place + at) 100 p c.push.new.self) c.in-Going.is c.push.ensures.takes);
       few = omega (arith, i.few, few_more (slice_index bytes at == 10));
       placed = c.push.ensures.placed;
     }

@@ -3,6 +3,6 @@ use Rattle.py_lines.specs.Private.FieldScan.{StandsInText}
 use Rattle.py_lines.proofs.FieldScans.Runs.{holds_text}
 use Rattle.py_lines.proofs.field_scan.FieldScan.hold.Goals as goal
 
-pub returns-in-Some : goal.returns-in-Some
-returns-in-Some c =
-    holds_text c.args.self.now c.args.depth c.in-Some.quote c.args.bytes.now c.text_len.result (subst (λ (o : Option ℕ). StandsInText c.args.self.now c.args.depth o) c.in-Some.is c.open_text.ensures) c.text_len.ensures
+pub returns-in-Some-clause-holds : goal.returns-in-Some-clause-holds
+returns-in-Some-clause-holds c =
+    holds_text c.args.self.now c.args.depth c.args.place c.in-Some.quote c.args.bytes.now c.text_len.result (subst (λ (o : Option ℕ). StandsInText c.args.self.now c.args.depth o) c.in-Some.is c.open_text.ensures) c.text_len.ensures

@@ -3,13 +3,14 @@ use Rattle.py_lines.specs.Private.FieldScan.{HoldsField}
 use Rattle.std.proofs.lemmas.Bool.{both_ways}
 use Rattle.py_lines.specs.declared.mode.Mode.TheVariants as modes
 use Rattle.py_lines.proofs.LineScan.Runs.{held_in, string_held}
-use Rattle.py_lines.proofs.scan.Scan.run_len.Goals.{in-Fielded, in_default}
-use Rattle.py_lines.proofs.scan.Scan.run_len.Goals as goal
+use Rattle.py_lines.proofs.scan.Scan.hold_run.Goals.{in-Fielded, in_default}
+use Rattle.py_lines.proofs.scan.Scan.hold_run.Goals as goal
 
 pub returns-then-matches : goal.returns-then-matches
 returns-then-matches c =
-    let here : c.args.self.now.piece.mode ≡ modes.Fielded = elim c.match-matches.branch [ in-Fielded w ↦ w.in-Fielded.is | in_default w ↦ absurd (both_ways c.match-matches.matches w.matches-is c.if-matches.true) ] in
-    string_held c.args.self.now c.args.bytes.now c.hold.result here (subst (λ (n : ℕ). HoldsField c.args.self.now.fields n c.args.bytes.now c.hold.result) c.len.ensures c.hold.ensures)
+    let old = c.args.self.now in
+    let here : old.piece.mode ≡ modes.Fielded = elim c.match-matches.branch [ in-Fielded w ↦ w.in-Fielded.is | in_default w ↦ absurd (both_ways c.match-matches.matches w.matches-is c.if-matches.true) ] in
+    string_held old c.hold.new.self c.args.bytes.now c.hold.result here (subst (λ (n : ℕ). HoldsField old.fields n old.stop c.args.bytes.now c.hold.result c.hold.new.self) c.len.ensures c.hold.ensures.holds)
 
 pub returns-else-matches : goal.returns-else-matches
 returns-else-matches c =
