@@ -252,11 +252,8 @@ impl Passing {
         ensures { PassesSpecial bytes.now at place self.old brackets.old result
             self.new brackets.new }
     {
-        // Most of these bytes are line feeds and brackets.
-        if bytes[at] == b'\n' {
-            return self.pass_line_end(brackets, at, 1, true);
-        }
         match Class::of(bytes[at]) {
+            Class::LineFeed => self.pass_line_end(brackets, at, 1, true),
             Class::Return => self.pass_return(brackets, bytes, at),
             Class::Opening => {
                 let met = brackets.open(bytes[at] as char, place);

@@ -1,13 +1,14 @@
 use Rattle.std.proofs.Common.{◌≡◌, ◌+◌, ◌-◌, ◌==◌, ℕ, true, ap, arith, slice_index, sym, ◌∙◌}
+use Rattle.py_lines.proofs.Text.CharacterTests.{feed_is}
 use Rattle.py_lines.proofs.SimpleLines.Lines.{feed_ends}
 use Rattle.py_lines.proofs.SimpleLines.Passing.{closed, opened}
 use Rattle.py_lines.proofs.passing.Passing.pass.Goals as goal
 
-pub returns-then-bytes-at-eq10 : goal.returns-then-bytes-at-eq10
-returns-then-bytes-at-eq10 c =
+pub returns-in-LineFeed : goal.returns-in-LineFeed
+returns-in-LineFeed c =
     let bytes = c.args.bytes.now in
     let at = c.args.at in
-    let feeds = c.if-bytes-at-eq10.true in
+    let feeds = feed_is _ c.in-LineFeed.ensures in
     let here : at + 1 - 1 ≡ at = omega arith in
     let last : slice_index bytes (at + 1 - 1) == 10 ≡ true = ap (λ (k : ℕ). slice_index bytes k == 10) here ∙ ap (λ (b : ℕ). b == 10) feeds in
     c.pass_line_end.ensures.passes bytes c.args.place
