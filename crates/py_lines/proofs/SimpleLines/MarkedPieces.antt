@@ -1,5 +1,5 @@
 -- Pieces of ASCII whose end the marks show: the bytes up to there are those of the piece.
-use Rattle.std.proofs.Common.{◌≡◌, ℕ, ◌+◌, ◌-◌, ◌<◌, ◌≤◌, Bool, true, false, not, ◌||◌, ◌==◌, Some, List, ◌++◌, lit<, length, take, drop, slice_index, refl, sym, ap, ◌∙◌, subst, arith, eqb-true, inl, inr, ◌⊎◌, length-drop}
+use Rattle.std.proofs.Common.{◌≡◌, ℕ, ◌+◌, ◌-◌, ◌<◌, ◌≤◌, Bool, true, false, not, ◌||◌, ◌==◌, Option, None, Some, List, ◌++◌, lit<, length, take, drop, slice_index, refl, sym, ap, ◌∙◌, subst, arith, eqb-true, inl, inr, ◌⊎◌, length-drop}
 use Rattle.std.specs.Prelude.{codes}
 use Rattle.std.proofs.lemmas.Bool.{and_from, both_ways, cases_order, eq-eqb, false_from_ne_true, or_cases}
 use Rattle.std.proofs.lemmas.List.{drop-drop}
@@ -59,9 +59,10 @@ unfolding is_break
 break_low c h = each_of (λ b. b < 128) (codes "\n\r") c (lit< tt, (lit< tt, tt)) h
 
 -- a piece with which the bytes from there on begin
-first_piece : (bytes : List ℕ) (at len : ℕ) → at + len ≤ length bytes → PassesFirst (drop at bytes) (Some (record { len = len; line_ends = 0 })) → PassesPiece bytes at (Some (record { len = len; line_ends = 0 }))
-first_piece bytes at len room first = (
-  room,
+pub first_piece : (bytes : List ℕ) (at : ℕ) (piece : Option Passed) → at ≤ length bytes → PassesFirst (drop at bytes) piece → PassesPiece bytes at piece
+first_piece bytes at None here first = tt
+first_piece bytes at (Some p) here first = (
+  omega (arith, here, first.part.within, length-drop at bytes),
   record {
     some = first.some;
     few = first.few;
@@ -69,7 +70,7 @@ first_piece bytes at len room first = (
       within = first.part.within;
       run = first.part.run;
       spell = first.part.spell;
-      leads = λ m read n st on. subst (λ (t : List ℕ). StandsClosed (closes_itself (drop at bytes) len) t m (read ++ first.part.run) (n + 0) st) (drop-drop len at bytes) (first.part.leads m read n st on.2);
+      leads = λ m read n st on. subst (λ (t : List ℕ). StandsClosed (closes_itself (drop at bytes) p.len) t m (read ++ first.part.run) (n + p.line_ends) st) (drop-drop p.len at bytes) (first.part.leads m read n st on.2);
     };
   },
 )
@@ -133,7 +134,7 @@ module _ (bytes : List ℕ) (at end : ℕ) (further : at < end) (within : end < 
       let whole = ascii_comment (drop 1 rest) k run (omega (arith, further, within, length-drop at bytes, length-drop 1 rest)) low in
       let first = comment_passed rest k (omega (arith, further, within, length-drop at bytes)) (ap is_hash first_is ∙ hash) (subst (λ (t : List ℕ). IsWholeComment t (Some k)) (sym (rest_is rest 1)) whole) in
       let size : 1 + k ≡ end - at = omega (arith, further) in
-      first_piece bytes at (end - at) (omega (arith, further, within)) (subst (λ (n : ℕ). PassesFirst rest (Some (record { len = n; line_ends = 0 }))) size first)
+      first_piece bytes at (Some (record { len = end - at; line_ends = 0 })) (omega (arith, further, within)) (subst (λ (n : ℕ). PassesFirst rest (Some (record { len = n; line_ends = 0 }))) size first)
     where
       last : slice_index (drop 1 rest) (end - at - 1) ≡ slice_index bytes end
       last =
