@@ -30,7 +30,7 @@ use Rattle.py_lines.proofs.Readers.EndAnswers.{end_return, line_at_text_end, lin
 use Rattle.py_lines.proofs.Feeds.Known.{IsKnown, is_known}
 use Rattle.py_lines.proofs.Feeds.Ended.{ended_bytes, ended_unfinished, ended_line}
 use Rattle.py_lines.proofs.Feeds.Loops.{fails_keep}
-use Rattle.py_lines.proofs.Feeds.Steps.{open_sound, open_stop, open_size, within_held}
+use Rattle.py_lines.proofs.Feeds.Steps.{open_stands, open_stop, open_size, within_held}
 use Rattle.py_lines.proofs.Feeds.ReadyLines.{holds_line}
 
 module _ (f : Feed) (read rest : List ℕ) (o : IsOpen f read rest) where
@@ -101,7 +101,7 @@ module _ (f : Feed) (read rest : List ℕ) (o : IsOpen f read rest) where
   plain_line : rest ≡ [] → 0 < length f.held.items → is_returned f.state.scan ≡ false → IsUnfinished f.state.scan None → IsLastScan 0
   plain_line none some not_yet unfinished =
       let (final, empty) = finished f.state.scan unfinished in
-      line_at_text_end (first_mode f.state.place) f.state.scan read o.way (open_sound f read rest o) (ap is_final (sym o.way.tallies.counts.mode) ∙ final) (open_yet not_yet) empty (read_some none some)
+      line_at_text_end (first_mode f.state.place) f.state.scan read o.way (open_stands f read rest o) (ap is_final (sym o.way.tallies.counts.mode) ∙ final) (open_yet not_yet) empty (read_some none some)
 
   -- CR closes it
   returned_parts : is_returned f.state.scan ≡ true → (is_return_mode f.state.scan.piece.mode ≡ true) × (stack_of f.state.scan.brackets ≡ [])
@@ -116,7 +116,7 @@ module _ (f : Feed) (read rest : List ℕ) (o : IsOpen f read rest) where
   returned_line : rest ≡ [] → 0 < length f.held.items → is_returned f.state.scan ≡ true → IsLastScan 1
   returned_line none some returned =
       let (mode, empty) = returned_parts returned in
-      line_at_return (first_mode f.state.place) f.state.scan read o.way (open_sound f read rest o) mode empty (read_some none some)
+      line_at_return (first_mode f.state.place) f.state.scan read o.way (open_stands f read rest o) mode empty (read_some none some)
 
   -- it is ready
   last_line : (end_len : ℕ) → rest ≡ [] → 0 < length f.held.items → is_final f.state.scan.piece.mode ≡ true

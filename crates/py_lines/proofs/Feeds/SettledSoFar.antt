@@ -58,7 +58,7 @@ module _ (text : List ℕ) (place line : ℕ) (lines : List LogicalLine) (read r
   pub settled_open : (s : Scanned) (st : List Bracket) → GoesTo (line_start (first_mode place)) read s st → EndsNoLine 0 s.done → StartsWithNoChar rest → 0 < length (encode_utf8_all read ++ rest) → MayGetFeed s.mode st rest → IsSettled (of.bytes text place line lines read rest k) lines
   settled_open s st goes one_line bad some last =
       let j = of.joins text place line lines read rest k s st goes in
-      let sound = sound_steps (first_mode place) read s (begun_sound place) goes.run in
+      let sound = sound_steps (first_mode place) read s (begun_sound place) goes.run goes.stack in
       let good : EndsForGood k.base (read ++ rest) = (k.ended, λ none. absurd (omega (arith, some, nothing_known read rest none))) in
       record {
         characters = spelled k.base ++ read;

@@ -11,19 +11,23 @@ use Rattle.py_lines.specs.Piece.{begins}
 use Rattle.py_lines.specs.LogicalLine.{byte_len}
 use Rattle.py_lines.specs.declared.feed.Feed.{Feed}
 use Rattle.py_lines.specs.Private.ScanMachine.{IsScanSound}
-use Rattle.py_lines.specs.Private.Scan.{is_return_mode, is_returned, freed, EndsWhole}
+use Rattle.py_lines.specs.Private.Scan.{is_return_mode, is_returned, freed, stack_of, EndsWhole}
 use Rattle.py_lines.specs.Private.LineState.{first_mode}
 use Rattle.py_lines.specs.Private.Feed.{IsOpen, IsEnded}
 use Rattle.py_lines.proofs.Text.Utf8Prefixes.{all_scalars-parts}
 use Rattle.py_lines.proofs.LogicalLines.Cuts.{byte_len-append}
-use Rattle.py_lines.proofs.LineScan.LineSteps.{sound_steps, returned, way_stop}
+use Rattle.py_lines.proofs.ScanMachine.Soundness.{StandsSound, stands_sound}
+use Rattle.py_lines.proofs.LineScan.LineSteps.{returned, way_stop}
 use Rattle.py_lines.proofs.LineScan.LineStops.{return_ends}
 use Rattle.py_lines.proofs.LineScan.TextSteps.{begun_sound}
 use Rattle.py_lines.proofs.Readers.LineAnswers.{Within}
 
 module _ (f : Feed) (read rest : List ℕ) (o : IsOpen f read rest) where
+  pub open_stands : StandsSound o.way.state read
+  open_stands = stands_sound (first_mode f.state.place) read o.way.state (stack_of f.state.scan.brackets) (begun_sound f.state.place) (record { run = o.way.steps; stack = o.way.stacked })
+
   pub open_sound : IsScanSound o.way.state read
-  open_sound = sound_steps (first_mode f.state.place) read o.way.state (begun_sound f.state.place) o.way.steps
+  open_sound = open_stands.scan
 
   pub open_stop : f.state.scan.stop ≡ byte_len read
   open_stop = way_stop (first_mode f.state.place) f.state.scan read o.way (begun_sound f.state.place)

@@ -52,7 +52,7 @@ word_no_quote s held (first, others, is, opens, all, so) =
     ap (list_any is_quote) is ∙ or_from _ _ (false_from_ne_true _ (λ quotes. both_ways _ (quote-not-start first quotes) opens)) (word_quotes others all)
 
 -- a string that the machine without fields begins is none with fields
-abbrev pub QuotedSo : List ℕ → ℕ → Move → Type 0
+abbrev QuotedSo : List ℕ → ℕ → Move → Type 0
 QuotedSo held c (moves.Grows n) = class_of n ≡ string → BeginsPlain (held ++ c ∷ [])
 QuotedSo held c other = Unit {0}
 
@@ -62,7 +62,7 @@ goes_on held c moves.Closes is = tt
 goes_on held c moves.Breaks is = tt
 goes_on held c moves.Refused is = tt
 
-pub quoted_so : (m : Mode) (held : List ℕ) (c : ℕ) → Holds m [] held → (class_of m ≡ string → BeginsPlain held) → begins_host m held c ≡ false → QuotedSo held c (move_of m c)
+quoted_so : (m : Mode) (held : List ℕ) (c : ℕ) → Holds m [] held → (class_of m ≡ string → BeginsPlain held) → begins_host m held c ≡ false → QuotedSo held c (move_of m c)
 unfolding move_of
 quoted_so modes.Start held c holds own other = cond_both (is_mark c) _ _ (λ (v : Move). QuotedSo held c v) (λ h. tt) (λ h. tt)
 quoted_so modes.Free held c holds own other = tt
@@ -86,12 +86,12 @@ quoted_so modes.Return held c holds own other = cond_both (is_line_feed c) _ _ (
 quoted_so m held c holds own other = goes_on held c (move_of m c) (own refl)
 
 -- no character closes a word, nor what stands after no piece
-abbrev pub ClosesSo : Mode → Move → Type 0
+abbrev ClosesSo : Mode → Move → Type 0
 ClosesSo modes.Free moves.Closes = ⊥
 ClosesSo (modes.Word s) moves.Closes = ⊥
 ClosesSo m v = Unit {0}
 
-pub closes_so : (m : Mode) (c : ℕ) → ClosesSo m (move_of m c)
+closes_so : (m : Mode) (c : ℕ) → ClosesSo m (move_of m c)
 unfolding move_of
 closes_so modes.Free c = tt
 closes_so (modes.Word s) c =
@@ -99,7 +99,7 @@ closes_so (modes.Word s) c =
     cond_both (is_word_character c) _ _ P (λ h. tt) (λ h. cond_both (is_prefix_spelling s && is_quote c) _ _ P (λ k. tt) (λ k. tt))
 closes_so m c = tt
 
-pub closes_class : (m : Mode) → ClosesSo m moves.Closes → (class_of m ≡ operator → ⊥) × (class_of m ≡ word → ⊥)
+closes_class : (m : Mode) → ClosesSo m moves.Closes → (class_of m ≡ operator → ⊥) × (class_of m ≡ word → ⊥)
 closes_class modes.Free so = absurd so
 closes_class (modes.Word s) so = absurd so
 closes_class m so = (λ h. absurd (cc), λ h. absurd (cc))
@@ -110,7 +110,7 @@ plain_text word text rest one two = two refl
 plain_text string text rest one two = one refl
 plain_text other text rest one two = tt
 
-pub word_host : (m : Mode) (held : List ℕ) (c : ℕ) → begins_host m held c ≡ false → class_of m ≡ word → is_field_prefix held && is_quote c ≡ false
+word_host : (m : Mode) (held : List ℕ) (c : ℕ) → begins_host m held c ≡ false → class_of m ≡ word → is_field_prefix held && is_quote c ≡ false
 word_host (modes.Word s) held c h at = h
 word_host m held c h at = absurd (cc)
 

@@ -139,9 +139,9 @@ prefix_read modes.Return done held before prefix others body last sound spell is
 prefix_read m done held before prefix others body last sound spell is class =
     part_before prefix others body last done (piece (class_of m) held) (held ++ []) is class (sym spell) (no_line_end (class_of m) refl) (sound.fit [])
 
-pub prefix_fits : (before : List ℕ) (s : Scanned) (prefix others : List Piece) → scan_steps (Some text_start) before ≡ Some s → pieces_at s ≡ prefix ++ others → EndsLine prefix → AreReadBefore prefix []
-prefix_fits before s prefix others steps pieces (inl none) = subst (λ l. AreReadBefore l []) (sym none) tt
-prefix_fits before s prefix others steps pieces (inr (body, last, is, class, deep)) = prefix_read s.mode s.done s.held before prefix others body last (sound_at before s steps) pieces is class
+prefix_fits : (before : List ℕ) (s : Scanned) (st : List Bracket) (prefix others : List Piece) → RunsTo before s st → pieces_at s ≡ prefix ++ others → EndsLine prefix → AreReadBefore prefix []
+prefix_fits before s st prefix others steps pieces (inl none) = subst (λ l. AreReadBefore l []) (sym none) tt
+prefix_fits before s st prefix others steps pieces (inr (body, last, is, class, deep)) = prefix_read s.mode s.done s.held before prefix others body last (sound_at before s st steps) pieces is class
 
 -- no string before that line end opens anything too deep
 last_one : (k others : List Piece) (p last : Piece) → p ∷ [] ≡ k ++ last ∷ others → k ≡ []
@@ -204,13 +204,13 @@ no_longer before later characters s prefix others steps spell dead pieces ended 
 pub prefix_reading : (before : List ℕ) (s : Scanned) (st : List Bracket) (prefix others : List Piece) → RunsTo before s st → pieces_at s ≡ prefix ++ others → EndsLine prefix → IsBalancedReading prefix (spelled prefix)
 prefix_reading before s st prefix others steps pieces ended =
     let stack = stack_closed s.mode s.done s.held st steps.stack in
-    let level = fits_reading prefix (prefix_stack prefix others st (ap brackets_of (sym pieces) ∙ stack) ended) (prefix_strings s before prefix others (sound_at before s steps.run) pieces ended) in
-    record { reads = record { spell = refl; fit = prefix_fits before s prefix others steps.run pieces ended }; balanced = level.0; shallow = level.1 }
+    let level = fits_reading prefix (prefix_stack prefix others st (ap brackets_of (sym pieces) ∙ stack) ended) (prefix_strings s before prefix others (sound_at before s st steps) pieces ended) in
+    record { reads = record { spell = refl; fit = prefix_fits before s st prefix others steps pieces ended }; balanced = level.0; shallow = level.1 }
 
 -- the prefix of a text that isn't read further
 pub prefix_is : (before later characters : List ℕ) (s : Scanned) (st : List Bracket) (prefix others : List Piece) → RunsTo before s st → before ++ later ≡ characters → ((c : ℕ) (after : List ℕ) → later ≡ c ∷ after → ¬ (IsLive (before ++ c ∷ []))) → pieces_at s ≡ prefix ++ others → EndsLine prefix → EndsNoLine 0 others → IsReadPrefix prefix characters
 prefix_is before later characters s st prefix others steps spell dead pieces ended none =
-    let sound = sound_at before s steps.run in
+    let sound = sound_at before s st steps in
     let read : spelled (pieces_at s) ≡ before = closed_spells s.mode s.done s.held sound.holds ∙ sound.spell in
     let cut : spelled prefix ++ (spelled others ++ later) ≡ characters =
     sym (append_assoc (spelled prefix) (spelled others) later) ∙ ap (λ t. t ++ later) (sym (spelled-append prefix others) ∙ ap spelled (sym pieces) ∙ read) ∙ spell in

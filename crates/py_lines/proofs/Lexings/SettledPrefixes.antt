@@ -52,7 +52,7 @@ settled_at characters tail s st base others rest steps pieces good yet spell =
     }
   where
     whole : spelled (pieces_at s) ≡ characters
-    whole = closed_spells s.mode s.done s.held (sound_at characters s steps.run).holds ∙ (sound_at characters s steps.run).spell
+    whole = closed_spells s.mode s.done s.held (sound_at characters s st steps).holds ∙ (sound_at characters s st steps).spell
 
     -- a rival that ends with the CR ends with the known bytes, so not for good
     at_return : (rivals : List Piece) (after : List ℕ) (body : List Piece) (last line : Piece) (text : List ℕ) → spelled rivals ++ after ≡ characters → rivals ≡ body ++ last ∷ [] → IsBalancedReading rivals (spelled rivals) → last.class ≡ line_end → (after ++ tail ≡ [] → ends is_return (spelled rivals) ≡ false) → pieces_at s ≡ body ++ line ∷ [] → line ≡ piece line_end text → text ≡ 13 ∷ [] → tail ≡ [] → ⊥

@@ -14,20 +14,20 @@ use Rattle.py_lines.specs.declared.mode.Mode.TheVariants as modes
 use Rattle.py_lines.specs.declared.scan.Progress.TheVariants as progress
 use Rattle.py_lines.specs.declared.scan.Scan.{Scan}
 use Rattle.py_lines.specs.declared.scan.Stop.TheVariants as stops
-use Rattle.py_lines.specs.Private.Machine.{Scanned, fresh}
+use Rattle.py_lines.specs.Private.Machine.{Scanned, fresh, Bracket, brackets_of}
 use Rattle.py_lines.specs.Private.ScanMachine.{IsScanSound, scan_step, scan_steps, move_at}
 use Rattle.py_lines.specs.Private.Scan.{Tallies, IsStacked, Takes, freed, line_start, stack_of, none_open, is_returned, is_return_mode, EndsNoLine, EndsWhole, IsUnderWay, IsAtLineEnd, StopsIn}
 use Rattle.py_lines.proofs.Pieces.PieceLists.{piece, spelled-push, AreReadBefore-push, follows_any}
 use Rattle.py_lines.proofs.Text.CharacterTests.{feed_is, return_is}
 use Rattle.py_lines.proofs.Machine.PieceSteps.{scanned, steps_by-append}
-use Rattle.py_lines.proofs.ScanMachine.Soundness.{SoundIf, run_sound}
-use Rattle.py_lines.proofs.LineScan.PieceEnd.{closes_shut}
+use Rattle.py_lines.proofs.ScanMachine.Soundness.{stands_sound}
+use Rattle.py_lines.proofs.LineScan.PieceEnd.{no_class_bracket, closes_shut}
 use Rattle.py_lines.proofs.LineScan.NextCharacter.{one_return, none_level, none_stack}
 use Rattle.py_lines.proofs.Lexings.LineEnds.{line_string}
 
 -- where the machine has come, it is sound
-pub sound_steps : (m : Mode) (read : List ℕ) (s : Scanned) → IsScanSound (line_start m) [] → scan_steps (Some (line_start m)) read ≡ Some s → IsScanSound s read
-sound_steps m read s start steps = subst (λ o. SoundIf o read) steps (run_sound (line_start m) [] read start)
+pub sound_steps : {st : List Bracket} (m : Mode) (read : List ℕ) (s : Scanned) → IsScanSound (line_start m) [] → scan_steps (Some (line_start m)) read ≡ Some s → brackets_of s.done ≡ Some st → IsScanSound s read
+sound_steps {st = st} m read s start steps stack = (stands_sound m read s st start (record { run = steps; stack = stack })).scan
 
 -- one character more
 pub steps_push : (from : Scanned) (read : List ℕ) (s : Scanned) (c : ℕ) → scan_steps (Some from) read ≡ Some s → scan_steps (Some from) (read ++ c ∷ []) ≡ scan_step s c
@@ -51,7 +51,7 @@ under_way m old new read c way takes = record {
 pub at_line_end : (m : Mode) (old new : Scan) (read rest : List ℕ) (c len : ℕ) (way : IsUnderWay m old read) → IsScanSound (line_start m) [] → Takes old way.state c (progress.LineEnded len) new → IsAtLineEnd m new (read ++ c ∷ []) rest len
 at_line_end m old new read rest c len way start takes =
     let ended = takes.0 in
-    let sound = sound_steps m (read ++ c ∷ []) (fresh (ended.body ++ ended.last ∷ [])) start (steps_push (line_start m) read way.state c way.steps ∙ ended.goes) in
+    let sound = sound_steps m (read ++ c ∷ []) (fresh (ended.body ++ ended.last ∷ [])) start (steps_push (line_start m) read way.state c way.steps ∙ ended.goes) (no_class_bracket ended.body ended.last ended.are.class ended.are.paired) in
     record {
       body = ended.body;
       last = ended.last;
@@ -101,7 +101,7 @@ returned_as m old read rest s steps sound tallies stacked none n is returns empt
 
 pub returned : (m : Mode) (old : Scan) (read rest : List ℕ) (way : IsUnderWay m old read) → IsScanSound (line_start m) [] → is_return_mode old.piece.mode ≡ true → none_open (stack_of old.brackets) ≡ true → ((after : List ℕ) → encode_utf8_all after ≡ rest → begins is_line_feed after ≡ false) → IsAtLineEnd m (freed old) read rest 1
 returned m old read rest way start returns empty follows =
-    returned_as m old read rest way.state way.steps (sound_steps m read way.state start way.steps) way.tallies way.stacked way.one_line old.piece.mode way.tallies.counts.mode returns empty follows
+    returned_as m old read rest way.state way.steps (sound_steps m read way.state start way.steps way.stacked) way.tallies way.stacked way.one_line old.piece.mode way.tallies.counts.mode returns empty follows
 
 -- what follows begins with another character, or is nothing
 pub follows_nothing : (rest after : List ℕ) → rest ≡ [] → encode_utf8_all after ≡ rest → begins is_line_feed after ≡ false
@@ -123,7 +123,7 @@ follows_whole read after more tail beyond (inr (b, others, is, other)) spell is_
 
 -- where the scan of a line under way stands
 pub way_stop : (m : Mode) (scan : Scan) (read : List ℕ) (way : IsUnderWay m scan read) → IsScanSound (line_start m) [] → scan.stop ≡ byte_len read
-way_stop m scan read way start = way.tallies.counts.stop ∙ ap byte_len (sound_steps m read way.state start way.steps).spell
+way_stop m scan read way start = way.tallies.counts.stop ∙ ap byte_len (sound_steps m read way.state start way.steps way.stacked).spell
 
 pub way_here : (m : Mode) (scan : Scan) (read : List ℕ) (way : IsUnderWay m scan read) → IsScanSound (line_start m) [] → scan.count.line ≡ scan.line + line_ends read
-way_here m scan read way start = way.tallies.counts.here ∙ ap (λ t. scan.line + line_ends t) (sound_steps m read way.state start way.steps).spell
+way_here m scan read way start = way.tallies.counts.here ∙ ap (λ t. scan.line + line_ends t) (sound_steps m read way.state start way.steps way.stacked).spell

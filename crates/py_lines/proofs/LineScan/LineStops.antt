@@ -104,7 +104,7 @@ goes_placed old text new rest (m, line, whole, start, r) goes fielded =
     let o = goes m line whole start r in
     let way = o.way in
     fields_placed new way.state.done way.state.mode way.state.held o.read (sym way.tallies.counts.mode ∙ fielded)
-    (sound_steps m o.read way.state start way.steps) way.tallies
+    (sound_steps m o.read way.state start way.steps way.stacked) way.tallies
 
 -- a line that its line end has closed ends in LF, where LF may follow it
 pub feed_last : (m : Mode) (scan : Scan) (read : List ℕ) (len : ℕ) → IsAtLineEnd m scan read (encode_utf8_all (10 ∷ [])) len
@@ -169,7 +169,7 @@ module _ (first : Scan) (text : List ℕ) (old : Scan) (before : List ℕ) (goes
         s = o.way.state
 
         sound : IsScanSound s o.read
-        sound = sound_steps m o.read s start o.way.steps
+        sound = sound_steps m o.read s start o.way.steps o.way.stacked
 
         go : (b : Bool) → is_free old.piece.mode ≡ b → Takes old s c p new
         go true free =
@@ -230,7 +230,7 @@ module _ (first : Scan) (text : List ℕ) (old : Scan) (before : List ℕ) (goes
         stops = (
           (λ after apart.
               let returns =
-              return_ends o.way.state o.read (sound_steps m o.read o.way.state start o.way.steps)
+              return_ends o.way.state o.read (sound_steps m o.read o.way.state start o.way.steps o.way.stacked)
               (ap is_return_mode (sym o.way.tallies.counts.mode) ∙ parts.0) in
               returned m old o.read (encode_utf8_all after) o.way start parts.0 parts.1
               (λ a spells. ap (begins is_line_feed) (encodes_same a after spells) ∙ apart returns)),

@@ -131,7 +131,7 @@ reached_long m at text old new mid rest r start (inl (same, still)) =
     subst (λ (scan : Scan). Reached m at text scan rest) (sym still) (subst (λ (t : List ℕ). Reached m at text old t) (sym same) r)
 reached_long m at text old new mid rest r start (inr reads) =
     let way = r.way in
-    let sound = sound_steps m r.read way.state start way.steps in
+    let sound = sound_steps m r.read way.state start way.steps way.stacked in
     let quote = long_quote way.state.mode way.state.done way.state.held reads.quote sound.holds (sym way.tallies.counts.mode ∙ reads.here) in
     let chars = long_characters reads.quote quote reads.run reads.all in
     record {

@@ -301,7 +301,7 @@ way_held m old new read text rest way start holds =
     (λ some.
     let s = way.state in
     let stay : Stay s.mode old new.fields holds.run = subst (λ (n : Mode). Stay n old new.fields holds.run) way.tallies.counts.mode holds.stay in
-    let on = runs_on old new.fields s.done s.mode s.held read holds.run (sound_steps m read s start way.steps) way.tallies way.stacked stay in
+    let on = runs_on old new.fields s.done s.mode s.held read holds.run (sound_steps m read s start way.steps way.stacked) way.tallies way.stacked stay in
     record {
       state = scanned s.done s.mode (s.held ++ holds.run);
       steps = steps_by-append move_at (Some (line_start m)) read holds.run ∙ ap (λ o. scan_steps o holds.run) way.steps ∙ on.steps;
@@ -322,7 +322,7 @@ reached_run m at text old new mid rest r start holds = record {
 
 -- the mode's quote is one byte on the way
 pub way_quote : (m : Mode) (scan : Scan) (read : List ℕ) (way : IsUnderWay m scan read) → IsScanSound (line_start m) [] → HasAsciiQuote scan.piece.mode
-way_quote m scan read way start = subst HasAsciiQuote (sym way.tallies.counts.mode) (sound_quote way.state.mode way.state.done way.state.held (sound_steps m read way.state start way.steps).holds)
+way_quote m scan read way start = subst HasAsciiQuote (sym way.tallies.counts.mode) (sound_quote way.state.mode way.state.done way.state.held (sound_steps m read way.state start way.steps way.stacked).holds)
 
 -- and over a character
 pub reached_character : (m : Mode) (at : ℕ) (text : List ℕ) (old new : Scan) (before rest : List ℕ) (c : ℕ) (r : Reached m at text old before) → IsScalar c → before ≡ encode_utf8 c ++ rest → Takes old r.way.state c progress.Going new → Reached m at text new rest

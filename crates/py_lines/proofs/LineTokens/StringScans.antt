@@ -15,7 +15,7 @@ use Rattle.py_lines.specs.declared.mode.Move.TheVariants as moves
 use Rattle.py_lines.specs.declared.scan.Progress.{Progress}
 use Rattle.py_lines.specs.declared.scan.Progress.TheVariants as progress
 use Rattle.py_lines.specs.declared.scan.Scan.{Scan}
-use Rattle.py_lines.specs.Private.Machine.{Scanned, fresh, move_of}
+use Rattle.py_lines.specs.Private.Machine.{Scanned, fresh, move_of, Bracket, brackets_of}
 use Rattle.py_lines.specs.Private.ScanMachine.{IsScanSound, meet_of, scan_step}
 use Rattle.py_lines.specs.Private.Scan.{Tallies, IsStacked, Takes, is_returned, is_return_mode, none_open, stack_if, stack_of, line_start}
 use Rattle.py_lines.specs.Private.FieldScan.{IsInPlace}
@@ -28,6 +28,7 @@ use Rattle.py_lines.proofs.ScanMachine.Follows.{some_is}
 use Rattle.py_lines.proofs.Lexings.SettledOrder.{piece_some}
 use Rattle.py_lines.proofs.LogicalLines.Cuts.{byte_len-append}
 use Rattle.py_lines.proofs.LineScan.LineSteps.{steps_push}
+use Rattle.py_lines.proofs.LineScan.PieceEnd.{no_class_bracket}
 use Rattle.py_lines.proofs.LineScan.NextCharacter.{takes_broken}
 use Rattle.py_lines.proofs.LineScan.LineStops.{Stands, stands_reached}
 use Rattle.py_lines.proofs.LineScan.LineStops.{TakesTo}
@@ -94,10 +95,10 @@ some_read [] s steps other =
 some_read (c ∷ cs) s steps other = omega arith
 
 -- what is counted where the machine has come
-counted : (new : Scan) (s : Scanned) (read text : List ℕ) → Tallies new s → ComesTo read s → new.line ≡ 1 → read ≡ text
+counted : (new : Scan) (s : Scanned) (read text : List ℕ) → Tallies new s → IsScanSound s read → new.line ≡ 1 → read ≡ text
     → HasPassed text new
-counted new s read text tallies steps line is =
-    let spell : spelled s.done ++ s.held ≡ text = (sound_from read s steps).spell ∙ is in
+counted new s read text tallies sound line is =
+    let spell : spelled s.done ++ s.held ≡ text = sound.spell ∙ is in
     record {
       stop = tallies.counts.stop ∙ ap byte_len spell;
       line = tallies.counts.here ∙ ap (λ (n : ℕ). n + line_ends (spelled s.done ++ s.held)) line ∙ ap (λ t. 1 + line_ends t) spell;
@@ -128,7 +129,7 @@ module _ {bytes : List ℕ} {scan : Scan} {rest : List ℕ} (at : InFirst bytes 
   tallies = at.reached.way.tallies
 
   sound : IsScanSound s read
-  sound = sound_from read s steps
+  sound = sound_from read s steps at.reached.way.stacked
 
   none : s.done ≡ []
   none = none_done s.done (s.held ++ []) (sound.fit []) (sym tallies.counts.start ∙ at.first)
@@ -155,7 +156,7 @@ module _ {bytes : List ℕ} {scan : Scan} {rest : List ℕ} (at : InFirst bytes 
         let nothing : rest ≡ [] = text_none rest (y, (fine.1, spells)) bad in
         let whole = ap (λ t. read ++ t) (encodes_same y [] (spells ∙ nothing)) in
         let same = whole_at_end text b.more b.after b.passes read s (cut ∙ whole) steps none in
-        counted scan s read text tallies steps at.reached.line same
+        counted scan s read text tallies sound at.reached.line same
 
     next_is : (c : ℕ) → BeginsWith rest c → (y : List ℕ) × (text ++ b.more ≡ read ++ c ∷ y)
     next_is c next =
@@ -171,7 +172,7 @@ module _ {bytes : List ℕ} {scan : Scan} {rest : List ℕ} (at : InFirst bytes 
         let some = some_read read s steps (ap is_free (sym tallies.counts.mode) ∙ other) in
         let ends = ap (λ m. meet_of m c) (sym tallies.counts.mode) ∙ breaks in
         let same = whole_before text b.more b.after b.passes read y c s cut steps none some ends in
-        counted scan s read text tallies steps at.reached.line same
+        counted scan s read text tallies sound at.reached.line same
 
   -- a character that doesn't, and what it comes to
   module _ {c : ℕ} {p : Progress} {new : Scan} (next : BeginsWith rest c)
@@ -198,12 +199,12 @@ module _ {bytes : List ℕ} {scan : Scan} {rest : List ℕ} (at : InFirst bytes 
           let (y, cut) = next_is b c next in
           not_refused text b.more b.after b.passes b.some read y c s cut steps none on_there refused
 
-      ends_with : (t : Scanned) → scan_step s c ≡ Some t → is_free t.mode ≡ true → Tallies new t → new.line ≡ scan.line → HasPassed text new
-      ends_with t goes free tallied line =
+      ends_with : (t : Scanned) (st : List Bracket) → brackets_of t.done ≡ Some st → scan_step s c ≡ Some t → is_free t.mode ≡ true → Tallies new t → new.line ≡ scan.line → HasPassed text new
+      ends_with t st stack goes free tallied line =
           let (y, cut) = next_is b c next in
           let whole = whole_with text b.more b.after b.passes b.some read y c s cut steps none on_there t goes free in
           let further = steps_push (line_start modes.Free) read s c steps ∙ goes in
-          counted new t (read ++ c ∷ []) text tallied further (line ∙ at.reached.line) whole
+          counted new t (read ++ c ∷ []) text tallied (sound_from (read ++ c ∷ []) t further stack) (line ∙ at.reached.line) whole
 
       -- it ends the string, where no piece is open after it
       pub passed_with : is_free new.piece.mode ≡ true → HasPassed text new
@@ -212,8 +213,8 @@ module _ {bytes : List ℕ} {scan : Scan} {rest : List ℕ} (at : InFirst bytes 
           by : (q : Progress) → Takes scan s c q new → HasPassed text new
           by progress.Going (taken, line) =
               let closed_now = ap is_free (sym taken.tallies.counts.mode) ∙ free in
-              ends_with taken.next taken.goes closed_now taken.tallies line
-          by (progress.LineEnded len) (end, line) = ends_with (fresh (end.body ++ end.last ∷ [])) end.goes refl end.tallies line
+              ends_with taken.next (stack_of new.brackets) taken.stacked taken.goes closed_now taken.tallies line
+          by (progress.LineEnded len) (end, line) = ends_with (fresh (end.body ++ end.last ∷ [])) [] (no_class_bracket end.body end.last end.are.class end.are.paired) end.goes refl end.tallies line
           by progress.Refused (refused, same) = absurd (never refused)
 
       -- any other goes on in it

@@ -8,7 +8,7 @@ use Rattle.py_lines.specs.Fields.{AreReadBefore, InClass, ShallowFields}
 use Rattle.py_lines.specs.declared.mode.Mode.{Mode}
 use Rattle.py_lines.specs.declared.mode.Mode.TheVariants as modes
 use Rattle.py_lines.specs.declared.mode.Move.TheVariants as moves
-use Rattle.py_lines.specs.Private.Machine.{Scanned, fresh, text_start, class_of, closed, started, move_of, start_of, brackets_of}
+use Rattle.py_lines.specs.Private.Machine.{Scanned, fresh, text_start, class_of, closed, started, move_of, start_of, Bracket, brackets_of}
 use Rattle.py_lines.specs.Private.ScanMachine.{HoldsOpen, IsScanSound, StringsFit, meet_of, move_at, scan_step, scan_steps}
 use Rattle.py_lines.specs.Private.Scan.{line_start, stack_if}
 use Rattle.py_lines.specs.Private.Run.{is_free}
@@ -33,8 +33,8 @@ abbrev pub ComesTo : List ℕ → Scanned → Type 0
 ComesTo read s = scan_steps (Some (line_start modes.Free)) read ≡ Some s
 
 -- it is sound there
-pub sound_from : (read : List ℕ) (s : Scanned) → ComesTo read s → IsScanSound s read
-sound_from read s steps = sound_steps modes.Free read s (begun_sound 1) steps
+pub sound_from : {st : List Bracket} (read : List ℕ) (s : Scanned) → ComesTo read s → brackets_of s.done ≡ Some st → IsScanSound s read
+sound_from read s steps stack = sound_steps modes.Free read s (begun_sound 1) steps stack
 
 -- over two texts
 then_on : (a b : List ℕ) (s : Scanned) → ComesTo a s → scan_steps (Some s) b ≡ scan_steps (Some (line_start modes.Free)) (a ++ b)
@@ -109,7 +109,7 @@ holds_all m done held read holds some none spell =
 
 all_held : (s : Scanned) (read : List ℕ) → ComesTo read s → 0 < length read → s.done ≡ [] → HoldsAll s.mode s.done s.held read
 all_held s read steps some none =
-    let sound = sound_from read s steps in
+    let sound = sound_from read s steps (ap brackets_of none) in
     holds_all s.mode s.done s.held read sound.holds some none (ap (λ (l : List Piece). spelled l ++ s.held) (sym none) ∙ sound.spell)
 
 -- where one piece is found and it is open, none is closed
@@ -129,11 +129,20 @@ module _ (text x after : List ℕ) (passes : PassesString text (x ++ after)) whe
   steps_on : (read z : List ℕ) (s : Scanned) → text ≡ read ++ z → ComesTo read s → scan_steps (Some s) z ≡ Some passes.to
   steps_on read z s is steps = then_on read z s steps ∙ ap (scan_steps (Some (line_start modes.Free))) (sym is) ∙ passes.steps
 
-  -- before its end nothing is closed
+  -- up to its end the machine is sound
+  stack_there : (s : Scanned) (z : List ℕ) → scan_steps (Some s) z ≡ Some passes.to → (st : List Bracket) × (brackets_of s.done ≡ Some st)
+  stack_there s z goes =
+      let found = found_from s z passes.to goes in
+      stack_before s.done found.0 [] (ap brackets_of (sym found.1 ∙ passes.pieces_are) ∙ keeps [] (piece string text) [] refl refl refl)
+
+  sound_before : (read z : List ℕ) (s : Scanned) → text ≡ read ++ z → ComesTo read s → IsScanSound s read
+  sound_before read z s is steps = sound_from read s steps (stack_there s z (steps_on read z s is steps)).1
+
+  -- before it nothing is closed
   open_before : (read more : List ℕ) (d : ℕ) (s : Scanned) → text ≡ read ++ d ∷ more → ComesTo read s → s.done ≡ []
   open_before read more d s is steps =
       let found = found_from s (d ∷ more) passes.to (steps_on read (d ∷ more) s is steps) in
-      go s.done found.0 (sym found.1 ∙ passes.pieces_are) (sound_from read s steps).spell
+      go s.done found.0 (sym found.1 ∙ passes.pieces_are) (sound_before read (d ∷ more) s is steps).spell
     where
       go : (ps qs : List Piece) → ps ++ qs ≡ piece string text ∷ [] → spelled ps ++ s.held ≡ read → ps ≡ []
       go [] qs are spell = refl
@@ -259,7 +268,7 @@ module _ (text x after : List ℕ) (passes : PassesString text (x ++ after)) whe
           go [] is =
               let whole : read ++ c ∷ [] ≡ text = sym (append-nil _) ∙ sym is in
               let same = some_is next passes.to (sym further ∙ ap (scan_steps (Some (line_start modes.Free))) whole ∙ passes.steps) in
-              let holds = (sound_from (read ++ c ∷ []) next further).holds in
+              let holds = (sound_before (read ++ c ∷ []) [] next is further).holds in
               open_alone (piece string text) next.mode next.done next.held holds other (ap pieces_at same ∙ passes.pieces_are)
           go (d ∷ z) is = open_before (read ++ c ∷ []) z d next is further
 
@@ -274,8 +283,6 @@ module _ (text x after : List ℕ) (passes : PassesString text (x ++ after)) whe
             let stuck : None ≡ Some passes.to = goes in
             cc
         go z (Some next) goes refused =
-            let found = found_from next z passes.to goes in
-            let all = ap brackets_of (sym found.1 ∙ passes.pieces_are) ∙ keeps [] (piece string text) [] refl refl refl in
-            let stack = stack_before next.done found.0 [] all in
+            let stack = stack_there next z goes in
             let clash : None ≡ Some stack.0 = sym refused ∙ stack.1 in
             cc

@@ -181,7 +181,7 @@ plain_taken bytes n p quotes plain some has =
     = subst (λ (b : Bool). Passes rest p (StringBegins (slice_index rest 0)) (StringEnds b after)) (lt-ltb 2 p.len some) has in
     let whole = word ++ is.part.run in
     let ended = is.part.leads start word 0 [] (begins_after (slice_index rest 0) word quote plain) in
-    let text_is : ended.text ≡ whole = sym (append-nil _ ∙ append-nil _) ∙ (sound_from whole _ ended.come.steps).spell in
+    let text_is : ended.text ≡ whole = sym (append-nil _ ∙ append-nil _) ∙ (sound_from whole _ ended.come.steps ended.come.stacked).spell in
     let encodes : encode_utf8_all whole ≡ word ++ take p.len rest
     = encodes-append word is.part.run ∙ ap (λ t. t ++ encode_utf8_all is.part.run) (word_low word plain)
     ∙ ap (λ t. word ++ t) is.part.spell in

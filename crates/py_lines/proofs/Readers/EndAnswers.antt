@@ -35,13 +35,13 @@ use Rattle.py_lines.proofs.Machine.PieceSteps.{scanned, pieces_at}
 use Rattle.py_lines.proofs.Pieces.OpenBrackets.{stands}
 use Rattle.py_lines.proofs.Machine.LiveTexts.{stack_closed}
 use Rattle.py_lines.proofs.ScanMachine.Advance.{RunsTo}
-use Rattle.py_lines.proofs.ScanMachine.Soundness.{end_sound, ends_sound}
+use Rattle.py_lines.proofs.ScanMachine.Soundness.{StandsSound, stands_sound, end_sound, ends_sound}
 use Rattle.py_lines.proofs.Lexings.LinePrefix.{closed_spells}
 use Rattle.py_lines.proofs.Lexings.Answers.{refused_at_end, refused_at_bytes}
 use Rattle.py_lines.proofs.LogicalLines.Cuts.{byte_len-append, one_line, last_part, line_depth}
 use Rattle.py_lines.proofs.LineScan.LineCount.{line_ends-bytes}
 use Rattle.py_lines.proofs.LineScan.NextCharacter.{closed_one_line, one_return}
-use Rattle.py_lines.proofs.LineScan.LineSteps.{sound_steps, way_stop}
+use Rattle.py_lines.proofs.LineScan.LineSteps.{way_stop}
 use Rattle.py_lines.proofs.Lexings.GivenLines.{IsEnded}
 use Rattle.py_lines.proofs.Readers.LineAnswers.{IsScannedLine, Within, all_within, continues, end_len-push}
 use Rattle.py_lines.proofs.Readers.LineFaults.{unfinished_fault, unfinished_within}
@@ -75,32 +75,32 @@ end_fault_as fault kind offset characters others same at spell is =
     subst (λ t. IsEndFault fault.kind t [] fault.offset) spell (subst (λ k. IsEndFault k characters [] fault.offset) (sym same) (subst (λ o. IsEndFault kind characters [] o) at is))
 
 -- the text's last line: its pieces, with the open one, are one line
-line_at_close : (m : Mode) (scan : Scan) (read : List ℕ) (way : IsUnderWay m scan read) → IsScanSound way.state read → is_final way.state.mode ≡ true → stack_of scan.brackets ≡ [] → 0 < byte_len read → (end_len : ℕ) → cut 0 (pieces_at way.state) ≡ pieces_at way.state ∷ [] → end_len ≡ end_len_of (pieces_at way.state) → IsScannedLine (line_start m) scan read end_len (pieces_at way.state)
+line_at_close : (m : Mode) (scan : Scan) (read : List ℕ) (way : IsUnderWay m scan read) → StandsSound way.state read → is_final way.state.mode ≡ true → stack_of scan.brackets ≡ [] → 0 < byte_len read → (end_len : ℕ) → cut 0 (pieces_at way.state) ≡ pieces_at way.state ∷ [] → end_len ≡ end_len_of (pieces_at way.state) → IsScannedLine (line_start m) scan read end_len (pieces_at way.state)
 line_at_close m scan read way sound final empty some end_len whole ends =
     let s = way.state in
-    let ended = end_sound s.done s.mode s.held read sound final in
+    let ended = end_sound s read sound final in
     record {
       line = record {
         to = s;
         steps = way.steps;
-        spell = closed_spells s.mode s.done s.held sound.holds ∙ sound.spell;
+        spell = ended.spell;
         whole = whole;
         stacked = stack_closed s.mode s.done s.held (stack_of scan.brackets) way.stacked ∙ ap (λ l. Some l) empty;
         strings = ended.strings;
         some = some;
       };
-      stop = way.tallies.counts.stop ∙ ap byte_len sound.spell;
-      here = way.tallies.counts.here ∙ ap (λ l. scan.line + line_ends l) sound.spell;
+      stop = way.tallies.counts.stop ∙ ap byte_len sound.scan.spell;
+      here = way.tallies.counts.here ∙ ap (λ l. scan.line + line_ends l) sound.scan.spell;
       ends = ends;
       after = [];
       fit = ended.fit;
     }
 
 -- no line end closes it
-pub line_at_text_end : (m : Mode) (scan : Scan) (read : List ℕ) (way : IsUnderWay m scan read) → IsScanSound way.state read → is_final way.state.mode ≡ true → (way.state.mode ≡ modes.Return → none_open (stack_of scan.brackets) ≡ false) → stack_of scan.brackets ≡ [] → 0 < byte_len read → IsScannedLine (line_start m) scan read 0 (pieces_at way.state)
+pub line_at_text_end : (m : Mode) (scan : Scan) (read : List ℕ) (way : IsUnderWay m scan read) → StandsSound way.state read → is_final way.state.mode ≡ true → (way.state.mode ≡ modes.Return → none_open (stack_of scan.brackets) ≡ false) → stack_of scan.brackets ≡ [] → 0 < byte_len read → IsScannedLine (line_start m) scan read 0 (pieces_at way.state)
 line_at_text_end m scan read way sound final open_yet empty some =
     let s = way.state in
-    let spell : spelled (pieces_at s) ≡ read = closed_spells s.mode s.done s.held sound.holds ∙ sound.spell in
+    let spell : spelled (pieces_at s) ≡ read = closed_spells s.mode s.done s.held sound.scan.holds ∙ sound.scan.spell in
     let none = closed_one_line s.mode s.done s.held (stack_of scan.brackets) way.stacked way.one_line open_yet in
     let stacked : brackets_of (pieces_at s) ≡ Some [] = stack_closed s.mode s.done s.held (stack_of scan.brackets) way.stacked ∙ ap (λ l. Some l) empty in
     line_at_close m scan read way sound final empty some 0 (one_or (pieces_at s) none (λ e. omega (arith, some, ap byte_len (sym spell ∙ ap spelled e)))) (sym (end_len-none 0 (pieces_at s) none (stands (pieces_at s) [] stacked).depth))
@@ -114,10 +114,10 @@ pub returned_final : (m : Mode) → is_return_mode m ≡ true → is_final m ≡
 returned_final modes.Return returned = refl
 returned_final m returned = absurd (both_ways _ refl returned)
 
-pub line_at_return : (m : Mode) (scan : Scan) (read : List ℕ) (way : IsUnderWay m scan read) → IsScanSound way.state read → is_return_mode scan.piece.mode ≡ true → stack_of scan.brackets ≡ [] → 0 < byte_len read → IsScannedLine (line_start m) scan read 1 (pieces_at way.state)
+pub line_at_return : (m : Mode) (scan : Scan) (read : List ℕ) (way : IsUnderWay m scan read) → StandsSound way.state read → is_return_mode scan.piece.mode ≡ true → stack_of scan.brackets ≡ [] → 0 < byte_len read → IsScannedLine (line_start m) scan read 1 (pieces_at way.state)
 line_at_return m scan read way sound returned empty some =
     let s = way.state in
-    let both = return_pieces s.mode s.done s.held read sound (ap is_return_mode (sym way.tallies.counts.mode) ∙ returned) way.one_line (stands s.done [] (way.stacked ∙ ap (λ l. Some l) empty)).depth in
+    let both = return_pieces s.mode s.done s.held read sound.scan (ap is_return_mode (sym way.tallies.counts.mode) ∙ returned) way.one_line (stands s.done [] (way.stacked ∙ ap (λ l. Some l) empty)).depth in
     line_at_close m scan read way sound (returned_final s.mode (ap is_return_mode (sym way.tallies.counts.mode) ∙ returned)) empty some 1 both.0 both.1
 
 module _ (old : Source) (has : HasScanned old stops.TextEnd) where
@@ -187,8 +187,10 @@ module _ (old : Source) (has : HasScanned old stops.TextEnd) where
       (line_of_fault old stops.TextEnd has lines given line_fault.kind line_fault.place at.keeps.fault at.keeps.at (end_within full line_fault is_line_fault))))
 
   -- the last line
-  way_sound : IsScanSound has.scans.stops.0.state has.scans.read
-  way_sound = sound_steps (first_mode old.state.place) has.scans.read has.scans.stops.0.state (start_sound old stops.TextEnd has) has.scans.stops.0.steps
+  way_sound : StandsSound has.scans.stops.0.state has.scans.read
+  way_sound =
+      let way = has.scans.stops.0 in
+      stands_sound (first_mode old.state.place) has.scans.read way.state (stack_of old.state.scan.brackets) (start_sound old stops.TextEnd has) (record { run = way.steps; stack = way.stacked })
 
   pub last_line : is_final has.scans.stops.0.state.mode ≡ true → stack_of old.state.scan.brackets ≡ [] → length old.bytes.now ≤ length old.characters.now → IsScannedLine (line_start (first_mode old.state.place)) old.state.scan has.scans.read 0 (pieces_at has.scans.stops.0.state)
   last_line final empty full = line_at_text_end (first_mode old.state.place) old.state.scan has.scans.read has.scans.stops.0 way_sound final open_yet empty (some_text full)
@@ -200,10 +202,10 @@ module _ (old : Source) (has : HasScanned old stops.TextEnd) where
       continues old new stops.TextEnd has 0 (pieces_at s) (last_line final empty full) gives
       (λ lines sit.
       let j = joins old stops.TextEnd has lines sit.given way in
-      let ended = ends_sound (spelled (here old stops.TextEnd has lines sit.given).given.first.pieces ++ has.scans.read) j.state j.steps.run (ap (λ (t : Scanned). is_final t.mode) (j.same (some_text full)).0 ∙ final) in
+      let ended = ends_sound (spelled (here old stops.TextEnd has lines sit.given).given.first.pieces ++ has.scans.read) j.state j.st j.steps (ap (λ (t : Scanned). is_final t.mode) (j.same (some_text full)).0 ∙ final) in
       let fit = AreReadBefore-second (here old stops.TextEnd has lines sit.given).given.first.pieces (pieces_at s) [] (subst (λ l. AreReadBefore l []) j.pieces ended.fit) in
       subst (AreReadBefore (pieces_at s)) (sym (all_taken sit.after has.scans.rest sit.follow has.scans.stops.1)) fit)
       (λ lines sit. IsEnded.by_text (λ i. all_taken sit.after has.scans.rest sit.follow has.scans.stops.1 i ++ (sit.tail_is ∙ drop_all (length old.characters.now) old.bytes.now full) i))
 
   pub few_lines_text : old.state.scan.count.line ≤ old.state.place + old.state.scan.stop + 1
-  few_lines_text = omega (arith, stop_size, has.scans.stops.0.tallies.counts.here, ap line_ends way_sound.spell, line_ends-bytes has.scans.read, has.line, old.few_lines)
+  few_lines_text = omega (arith, stop_size, has.scans.stops.0.tallies.counts.here, ap line_ends way_sound.scan.spell, line_ends-bytes has.scans.read, has.line, old.few_lines)

@@ -105,7 +105,7 @@ fielded_or m = inr (λ h. cc)
 -- a line under way, after pieces that end a line
 module _ (n : ℕ) (base : List Piece) (level : brackets_of base ≡ Some []) (strings : StringsFit 0 base) (is : Base n base) (scan : Scan) (read : List ℕ) (way : IsUnderWay (first_mode n) scan read) where
   sound : IsScanSound way.state read
-  sound = sound_steps (first_mode n) read way.state (begun_sound n) way.steps
+  sound = sound_steps (first_mode n) read way.state (begun_sound n) way.steps way.stacked
 
   string_in : way.state.mode ≡ modes.Fielded → InString scan way.state.held
   string_in fielded =

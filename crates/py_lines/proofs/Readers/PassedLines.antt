@@ -32,7 +32,7 @@ use Rattle.py_lines.proofs.LineScan.LineSteps.{follows_whole, returned_fit, soun
 use Rattle.py_lines.proofs.LineScan.PieceEnd.{no_class_bracket}
 use Rattle.py_lines.proofs.LineScan.TextSteps.{begun_sound}
 use Rattle.py_lines.proofs.LogicalLines.Cuts.{one_line}
-use Rattle.py_lines.proofs.SimpleLines.Tails.{return_returns}
+use Rattle.py_lines.proofs.SimpleLines.Tails.{ended_stack, return_returns}
 use Rattle.py_lines.proofs.SimpleLines.Lines.{lines_few, lines_scalars}
 use Rattle.py_lines.proofs.Readers.LineAnswers.{IsReadLine, continues_as}
 
@@ -46,7 +46,7 @@ pub passed_line : (read : List ℕ) (n : ℕ) (after : List ℕ) (line : IsWhole
 passed_line read n after line = by line.ended
   where
     sound : IsScanSound line.state read
-    sound = sound_steps modes.Free read line.state (begun_sound 1) line.steps
+    sound = sound_steps modes.Free read line.state (begun_sound 1) line.steps (ended_stack line.state line.body line.last line.are line.ended)
 
     by : IsEndedBy line.state line.body line.last → IsPassedLine read (line.body ++ line.last ∷ [])
     by (inl is) =

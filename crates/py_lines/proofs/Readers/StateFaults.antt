@@ -6,7 +6,7 @@ use Rattle.std.proofs.lemmas.Bool.{both_ways, cond_both, and_parts}
 use Rattle.std.proofs.lemmas.Str.{length-le-encodes}
 use Rattle.py_lines.specs.Character.{is_backslash, is_return, is_line_feed, is_break}
 use Rattle.py_lines.specs.Piece.{string, Piece, spelled}
-use Rattle.py_lines.specs.Balance.{is_opening, is_closing}
+use Rattle.py_lines.specs.Balance.{is_opening, is_closing, depth_through}
 use Rattle.py_lines.specs.LogicalLine.{byte_len}
 use Rattle.py_lines.specs.Faults.{Cause, brace_too_deep, breaks_string, breaks_join, closes_wrong, opens_too_deep, ends_specification, begins_nothing, kind_of_cause, Unfinished, open_brace, open_short, open_long, open_join, open_bracket, open_inside, kind_of_unfinished, IsCharacterFault, IsEndFault, BreaksString, InShortSpecification}
 use Rattle.py_lines.specs.OpenFields.{InOpenShort}
@@ -509,8 +509,8 @@ module _ (read : List ℕ) (s : Scanned) (st : List Bracket) (t : FieldScanned) 
 -- a string with fields that holds something
 held_inside : (s : Scanned) (st : List Bracket) (t u : FieldScanned) → IsTied t s st → s.mode ≡ modes.Fielded → string_state s.held ≡ Some u → IsInside s st t u
 held_inside s st t u tied fielded at =
-    let own : Own modes.Fielded s.held = subst (λ m. Own m s.held) fielded tied.own in
-    let same : own.state ≡ u = some_is own.state u (sym own.steps ∙ at) in
+    let own : Own modes.Fielded (depth_through 0 s.done) s.held = subst (λ m. Own m (depth_through 0 s.done) s.held) fielded tied.own in
+    let same : own.state ≡ u = some_is own.state u (sym own.goes.steps ∙ at) in
     let whole : rebased s.done (openers_of st) u ≡ t = some_is _ t (sym (ap (rebased_if s.done (openers_of st)) at) ∙ ap (λ m. flat m s.done (openers_of st) s.held) (sym fielded) ∙ tied.flat_is) in
     is_inside s st t u (sym whole) (sym same ∙ own.bare ∙ ap (rebased [] []) same) (subst IsInString same own.inside)
 

@@ -18,8 +18,8 @@ use Rattle.py_lines.specs.declared.mode.Move.TheVariants as moves
 use Rattle.py_lines.specs.declared.mode.Start.{Start}
 use Rattle.py_lines.specs.declared.mode.Start.TheVariants as starts
 use Rattle.py_lines.specs.Private.Machine.{Scanned, fresh, class_of, closed, started, moved, move_of, short_move, long_move, start_of, Holds, is_prefix_spelling, first_spelling, spelling_with, Bracket, brackets_after, brackets_of}
-use Rattle.py_lines.specs.Private.FieldMachine.{between, after_slash, after_brace, FieldMode, plain, opened, empty, body, FieldMove, grows, closes, breaks, refused, Level, FieldScanned, field_state, field_fresh, field_text_start, begins_host, host_of, long_host, plain_move, field_move, field_moved, field_step, field_steps_from, field_started, field_closed, openers_with, after_operator, levels_open, frames, has_room, has_room_at, between_move, body_move}
-use Rattle.py_lines.specs.Private.ScanMachine.{is_field_spelling, is_raw_spelling, host_in, quote_move, opened_move, meet_of, string_state, move_in, move_at, scan_step, IsInString}
+use Rattle.py_lines.specs.Private.FieldMachine.{between, after_slash, after_brace, FieldMode, plain, opened, empty, body, FieldMove, grows, closes, breaks, refused, Level, FieldScanned, field_state, field_fresh, field_text_start, begins_host, host_of, long_host, plain_move, field_move, field_moved, field_step, field_started, field_closed, openers_with, after_operator, levels_open, frames, has_room, has_room_at, between_move, body_move}
+use Rattle.py_lines.specs.Private.ScanMachine.{is_field_spelling, is_raw_spelling, host_in, quote_move, opened_move, meet_of, string_state, have_room_in, move_in, move_at, scan_step, IsInString}
 use Rattle.py_lines.proofs.Pieces.PieceLists.{piece}
 use Rattle.py_lines.proofs.Pieces.OpenBrackets.{stack_push}
 use Rattle.py_lines.specs.LogicalLine.{byte_len}
@@ -29,13 +29,13 @@ use Rattle.py_lines.proofs.Machine.Starts.{StartsSo, starts_so, start-operator}
 use Rattle.py_lines.proofs.Text.CharacterTests.{excluded, quote-not-word, slash-not-break}
 use Rattle.py_lines.proofs.Machine.Spellings.{spelling_on-push}
 use Rattle.py_lines.proofs.Machine.OpenStrings.{start-not-mark}
-use Rattle.py_lines.proofs.FieldMachine.Runs.{NoLimit, steps_of}
-use Rattle.py_lines.proofs.FieldSoundness.LiveTexts.{steps-append}
+use Rattle.py_lines.proofs.FieldMachine.Runs.{steps_of}
 use Rattle.py_lines.proofs.FieldMachine.PieceRuns.{opening_operator, word_goes}
 use Rattle.py_lines.proofs.FieldMachine.PlainSteps.{plain_moves, is_word_mode, NoWord, no_word}
 use Rattle.py_lines.proofs.ScanMachine.Spellings.{word_tells, other_begins}
 use Rattle.py_lines.proofs.ScanMachine.Advance.{kept, kept_if}
 use Rattle.py_lines.proofs.ScanMachine.Rebased.{rebased, rebased_if}
+use Rattle.py_lines.proofs.ScanMachine.Rooms.{RoomFrom, goes_room, GoesAlone, alone_grows}
 use Rattle.py_lines.proofs.ScanMachine.BodyMoves.{IsBodyMode}
 
 -- the openers of the brackets that are open
@@ -62,25 +62,25 @@ is_fielded_mode modes.Fielded = true
 is_fielded_mode other = false
 
 -- such a string, open and by itself
-pub record IsAlone (held : List ℕ) : Type 0 where
+pub record IsAlone (depth : ℕ) (held : List ℕ) : Type 0 where
   pub state : FieldScanned
-  pub steps : string_state held ≡ Some state
+  pub goes : GoesAlone depth held state
   pub inside : IsInString state
   pub bare : state ≡ rebased [] [] state
 
--- what the text of the open piece says by itself
-abbrev pub Own : Mode → List ℕ → Type 0
-Own (modes.Word s) held = Holds (modes.Word s) [] held
-Own (modes.FieldOpened h) held = (string_state held ≡ Some (field_state [] [] [] (opened (host_in h)) held)) × (h.is_long ≡ false)
-Own (modes.FieldEmpty h) held = string_state held ≡ Some (field_state [] [] [] (empty (host_in h)) held)
-Own modes.Fielded held = IsAlone held
-Own other held = Unit {0}
+-- what the text of the open piece says by itself, at this depth of brackets
+abbrev pub Own : Mode → ℕ → List ℕ → Type 0
+Own (modes.Word s) depth held = Holds (modes.Word s) [] held
+Own (modes.FieldOpened h) depth held = GoesAlone depth held (field_state [] [] [] (opened (host_in h)) held) × (h.is_long ≡ false)
+Own (modes.FieldEmpty h) depth held = GoesAlone depth held (field_state [] [] [] (empty (host_in h)) held)
+Own modes.Fielded depth held = IsAlone depth held
+Own other depth held = Unit {0}
 
 -- the states of the two machines belong together
 pub record IsTied (t : FieldScanned) (s : Scanned) (st : List Bracket) : Type 0 where
   pub stack : brackets_of s.done ≡ Some st
   pub flat_is : flat s.mode s.done (openers_of st) s.held ≡ Some t
-  pub own : Own s.mode s.held
+  pub own : Own s.mode (depth_through 0 s.done) s.held
 
 -- a state, if there is room for what led to it
 abbrev pub roomy : Bool → Option FieldScanned → Option FieldScanned
@@ -107,12 +107,12 @@ plain_flat (modes.FieldEmpty h) done os held other = absurd (both_ways _ other r
 plain_flat modes.Fielded done os held other = absurd (both_ways _ other refl)
 plain_flat m done os held other = refl
 
-pub plain_own : (m : Mode) (held : List ℕ) → is_fielded_mode m ≡ false → is_word_mode m ≡ false → Own m held
-plain_own (modes.Word s) held other word = absurd (both_ways _ word refl)
-plain_own (modes.FieldOpened h) held other word = absurd (both_ways _ other refl)
-plain_own (modes.FieldEmpty h) held other word = absurd (both_ways _ other refl)
-plain_own modes.Fielded held other word = absurd (both_ways _ other refl)
-plain_own m held other word = tt
+pub plain_own : (m : Mode) (depth : ℕ) (held : List ℕ) → is_fielded_mode m ≡ false → is_word_mode m ≡ false → Own m depth held
+plain_own (modes.Word s) depth held other word = absurd (both_ways _ word refl)
+plain_own (modes.FieldOpened h) depth held other word = absurd (both_ways _ other refl)
+plain_own (modes.FieldEmpty h) depth held other word = absurd (both_ways _ other refl)
+plain_own modes.Fielded depth held other word = absurd (both_ways _ other refl)
+plain_own m depth held other word = tt
 
 pub plain_meets : (m : Mode) (depth : ℕ) (held : List ℕ) (c : ℕ) → is_fielded_mode m ≡ false → is_word_mode m ≡ false → move_in m depth held c ≡ move_of m c
 unfolding meet_of
@@ -126,7 +126,7 @@ pub no_host : (m : Mode) (held : List ℕ) (c : ℕ) → is_word_mode m ≡ fals
 no_host (modes.Word s) held c word = absurd (both_ways _ word refl)
 no_host m held c word = refl
 
-tied_plain : (n : Mode) (done : List Piece) (st : List Bracket) (held : List ℕ) → is_fielded_mode n ≡ false → Own n held → brackets_of done ≡ Some st → IsTied (field_state [] done (openers_of st) (plain n) held) (scanned done n held) st
+tied_plain : (n : Mode) (done : List Piece) (st : List Bracket) (held : List ℕ) → is_fielded_mode n ≡ false → Own n (depth_through 0 done) held → brackets_of done ≡ Some st → IsTied (field_state [] done (openers_of st) (plain n) held) (scanned done n held) st
 tied_plain n done st held other own stack = record { stack = stack; flat_is = plain_flat n done (openers_of st) held other; own = own }
 
 -- a piece that is closed
@@ -222,7 +222,7 @@ started_with done st c (starts.Open n) is stack so =
     subst (λ b. Alike (kept_if (Some (scanned done n (c ∷ [])))) (roomy (not b || nat_lt (length (openers_of st)) 200) (Some (field_state [] done (openers_of st) (plain n) (c ∷ []))))) (sym (opens_no c (starts.Open n) is (λ e. cc)))
     (alike_kept (scanned done n (c ∷ [])) (field_state [] done (openers_of st) (plain n) (c ∷ [])) st (tied_plain n done st (c ∷ []) (begun_plain n so).0 (begun_plain n so).1 stack))
   where
-    begun_plain : (m : Mode) → StartsSo c (starts.Open m) → (is_fielded_mode m ≡ false) × Own m (c ∷ [])
+    begun_plain : (m : Mode) → StartsSo c (starts.Open m) → (is_fielded_mode m ≡ false) × Own m (depth_through 0 done) (c ∷ [])
     begun_plain modes.Space s = (refl, tt)
     begun_plain (modes.Word w) s = (refl, (c, [], refl, s.0, refl, s.1))
     begun_plain modes.Comment s = (refl, tt)
@@ -309,7 +309,7 @@ unfolding has_room_at
 room_closes depth c = refl
 
 -- both machines take the same move of the machine without fields, in a list of the outermost text
-plain_moved : (m : Mode) (done : List Piece) (held : List ℕ) (st : List Bracket) (c : ℕ) (v : Move) → move_of m c ≡ v → brackets_of done ≡ Some st → ((n : Mode) → v ≡ moves.Grows n → Own n (held ++ c ∷ [])) → Alike (kept_if (moved (scanned done m held) c v)) (roomy (has_room_at (frames (field_state [] done (openers_of st) (plain m) held)) c (plain_move v)) (field_moved (field_state [] done (openers_of st) (plain m) held) c (plain_move v)))
+plain_moved : (m : Mode) (done : List Piece) (held : List ℕ) (st : List Bracket) (c : ℕ) (v : Move) → move_of m c ≡ v → brackets_of done ≡ Some st → ((n : Mode) → v ≡ moves.Grows n → Own n (depth_through 0 done) (held ++ c ∷ [])) → Alike (kept_if (moved (scanned done m held) c v)) (roomy (has_room_at (frames (field_state [] done (openers_of st) (plain m) held)) c (plain_move v)) (field_moved (field_state [] done (openers_of st) (plain m) held) c (plain_move v)))
 plain_moved m done held st c (moves.Grows n) is stack own =
     let t : FieldScanned = field_state [] done (openers_of st) (plain m) held in
     subst (λ (b : Bool). Alike (kept_if (Some (scanned done n (held ++ c ∷ [])))) (roomy b (Some (field_state [] done (openers_of st) (plain n) (held ++ c ∷ []))))) (sym (room_grows (frames t) c (plain n)))
@@ -336,7 +336,7 @@ by_moves s t c v w one two alike =
 pub plain_steps : (m : Mode) (done : List Piece) (held : List ℕ) (st : List Bracket) (c : ℕ) → is_fielded_mode m ≡ false → is_word_mode m ≡ false → brackets_of done ≡ Some st → StepsAlike (scanned done m held) (field_state [] done (openers_of st) (plain m) held) c
 plain_steps m done held st c other word stack =
     by_moves (scanned done m held) (field_state [] done (openers_of st) (plain m) held) c (move_of m c) (plain_move (move_of m c)) (plain_meets m (depth_through 0 done) held c other word) (plain_moves m held c (no_host m held c word))
-    (plain_moved m done held st c (move_of m c) refl stack (λ n is. plain_own n (held ++ c ∷ []) (subst NoField is (grows_plain m c)) (subst NoWord is (no_word m c word)).1))
+    (plain_moved m done held st c (move_of m c) refl stack (λ n is. plain_own n (depth_through 0 done) (held ++ c ∷ []) (subst NoField is (grows_plain m c)) (subst NoWord is (no_word m c word)).1))
 
 -- a word that goes on
 pub word_on : (s : Spelling) (held : List ℕ) (c : ℕ) → Holds (modes.Word s) [] held → is_word_character c ≡ true → Holds (modes.Word (spelling_with s c)) [] (held ++ c ∷ [])
@@ -354,14 +354,13 @@ unfolding field_move move_of
 start_stops a h = rw h
 
 -- its text, by itself
-word_state : (s : Spelling) (held : List ℕ) → Holds (modes.Word s) [] held → string_state held ≡ Some (field_state [] [] [] (plain (modes.Word s)) held)
-word_state s held (first, others, is, opens, run, spells) =
-    let at = word_goes NoLimit field_text_start first others [] opens run (start_stops first (start-not-mark first opens)) in
-    ap string_state is ∙ steps_of NoLimit field_text_start _ (first ∷ others) at ∙ ap (λ x. Some (field_state [] [] [] (plain (modes.Word x)) (first ∷ others))) (sym spells) ∙ ap (λ t. Some (field_state [] [] [] (plain (modes.Word s)) t)) (sym is)
-
--- one character more of a text by itself
-pub state_more : (held : List ℕ) (c : ℕ) (t : FieldScanned) (m : FieldMode) → string_state held ≡ Some t → field_move t.mode t.held c ≡ grows m → string_state (held ++ c ∷ []) ≡ Some (field_state t.outer t.done t.openers m (t.held ++ c ∷ []))
-state_more held c t m steps move = steps-append (Some field_text_start) held (c ∷ []) ∙ ap (λ o. field_steps_from o (c ∷ [])) steps ∙ ap (λ v. field_steps_from (field_moved t c v) []) move
+word_alone : (s : Spelling) (depth : ℕ) (held : List ℕ) → Holds (modes.Word s) [] held → GoesAlone depth held (field_state [] [] [] (plain (modes.Word s)) held)
+word_alone s depth held (first, others, is, opens, run, spells) =
+    let at = word_goes (RoomFrom depth) field_text_start first others [] opens run (start_stops first (start-not-mark first opens)) in
+    record {
+      steps = ap string_state is ∙ steps_of (RoomFrom depth) field_text_start _ (first ∷ others) at ∙ ap (λ x. Some (field_state [] [] [] (plain (modes.Word x)) (first ∷ others))) (sym spells) ∙ ap (λ t. Some (field_state [] [] [] (plain (modes.Word s)) t)) (sym is);
+      room = ap (have_room_in depth (Some field_text_start)) is ∙ goes_room depth field_text_start _ (first ∷ others) at;
+    }
 
 pub host_moves : (s : Spelling) (held : List ℕ) (c : ℕ) → is_field_prefix held ≡ true → is_quote c ≡ true → field_move (plain (modes.Word s)) held c ≡ grows (opened (host_of held c))
 unfolding field_move
@@ -383,7 +382,7 @@ module _ (s : Spelling) (done : List Piece) (held : List ℕ) (st : List Bracket
   S = scanned done (modes.Word s) held
 
   -- where the machine without fields says what happens
-  word_plain : (v : Move) → move_of (modes.Word s) c ≡ v → move_at S c ≡ v → begins_host (modes.Word s) held c ≡ false → ((n : Mode) → v ≡ moves.Grows n → Own n (held ++ c ∷ [])) → StepsAlike S T c
+  word_plain : (v : Move) → move_of (modes.Word s) c ≡ v → move_at S c ≡ v → begins_host (modes.Word s) held c ≡ false → ((n : Mode) → v ≡ moves.Grows n → Own n (depth_through 0 done) (held ++ c ∷ [])) → StepsAlike S T c
   word_plain v is at none more = by_moves S T c v (plain_move v) at (plain_moves (modes.Word s) held c none ∙ ap plain_move is) (plain_moved (modes.Word s) done held st c v is stack more)
 
   in_word : is_word_character c ≡ true → StepsAlike S T c
@@ -391,7 +390,7 @@ module _ (s : Spelling) (done : List Piece) (held : List ℕ) (st : List Bracket
   in_word passes =
       let n : Mode = modes.Word (spelling_with s c) in
       word_plain (moves.Grows n) (rw passes) (rw passes) (and_right _ _ (excluded is_word_character is_quote c (quote-not-word c) passes))
-      (λ m is. subst (λ (x : Mode). Own x (held ++ c ∷ [])) (grown_is n m is) (word_on s held c own passes))
+      (λ m is. subst (λ (x : Mode). Own x (depth_through 0 done) (held ++ c ∷ [])) (grown_is n m is) (word_on s held c own passes))
     where
       grown_is : (a b : Mode) → moves.Grows a ≡ moves.Grows b → a ≡ b
       grown_is a b h = cc
@@ -408,7 +407,7 @@ module _ (s : Spelling) (done : List Piece) (held : List ℕ) (st : List Bracket
       none = ap (λ b. b && is_quote c) (tells.0 ∙ plain_word)
 
       go : (b : Bool) → is_prefix_spelling s ≡ b → StepsAlike S T c
-      go true prefix = word_plain (moves.Grows (modes.Opened c)) (rw (other, prefix, quotes)) (rw (other, quotes, plain_word, other_begins s plain_word, prefix)) none (λ n is. subst (λ (x : Mode). Own x (held ++ c ∷ [])) (opened_is n is) tt)
+      go true prefix = word_plain (moves.Grows (modes.Opened c)) (rw (other, prefix, quotes)) (rw (other, quotes, plain_word, other_begins s plain_word, prefix)) none (λ n is. subst (λ (x : Mode). Own x (depth_through 0 done) (held ++ c ∷ [])) (opened_is n is) tt)
         where
           opened_is : (n : Mode) → moves.Grows (modes.Opened c) ≡ moves.Grows n → modes.Opened c ≡ n
           opened_is n h = cc
@@ -423,7 +422,7 @@ module _ (s : Spelling) (done : List Piece) (held : List ℕ) (st : List Bracket
       by_moves S T c (moves.Grows (modes.FieldOpened h)) (grows (opened (host_in h))) (rw (other, quotes, field)) move
       (subst (λ (b : Bool). Alike (kept_if (Some (scanned done (modes.FieldOpened h) (held ++ c ∷ [])))) (roomy b (Some (field_state [] done (openers_of st) (opened (host_in h)) (held ++ c ∷ []))))) (sym (room_grows (frames T) c (opened (host_in h))))
       (alike_kept (scanned done (modes.FieldOpened h) (held ++ c ∷ [])) (field_state [] done (openers_of st) (opened (host_in h)) (held ++ c ∷ [])) st
-      (record { stack = stack; flat_is = refl; own = (state_more held c (field_state [] [] [] (plain (modes.Word s)) held) (opened (host_in h)) (word_state s held own) move, refl) })))
+      (record { stack = stack; flat_is = refl; own = (alone_grows (depth_through 0 done) held c _ (opened (host_in h)) (word_alone s (depth_through 0 done) held own) move, refl) })))
 
   pub word_steps : StepsAlike S T c
   word_steps =
@@ -432,11 +431,11 @@ module _ (s : Spelling) (done : List Piece) (held : List ℕ) (st : List Bracket
       (cases_Bool (is_word_character c))
 
 -- one quote of a string with fields
-pub quote_again : (host : Host) (held : List ℕ) (c : ℕ) → c == host.quote ≡ true → field_move (opened host) held c ≡ grows (empty host)
+quote_again : (host : Host) (held : List ℕ) (c : ℕ) → c == host.quote ≡ true → field_move (opened host) held c ≡ grows (empty host)
 unfolding field_move
 quote_again host held c is = rw is
 
-pub first_move : (host : Host) (held : List ℕ) (c : ℕ) → c == host.quote ≡ false → field_move (opened host) held c ≡ between_move host literal false between c
+first_move : (host : Host) (held : List ℕ) (c : ℕ) → c == host.quote ≡ false → field_move (opened host) held c ≡ between_move host literal false between c
 unfolding field_move body_move
 first_move host held c is = rw is
 
@@ -460,14 +459,14 @@ first_grows host c other unbroken = go (is_backslash c) (c == byte "{") (c == by
     go false false false h k l = record { mode = body host literal false between; is = rw (other, h, unbroken, k, l); stays = (host, literal, false, between, refl) }
 
 -- a string that has just got some text
-tied_begun : (done : List Piece) (held : List ℕ) (st : List Bracket) (m : FieldMode) → brackets_of done ≡ Some st → string_state held ≡ Some (field_state [] [] [] m held) → IsBodyMode m → IsTied (field_state [] done (openers_of st) m held) (scanned done modes.Fielded held) st
-tied_begun done held st m stack steps stays = record {
+tied_begun : (done : List Piece) (held : List ℕ) (st : List Bracket) (m : FieldMode) → brackets_of done ≡ Some st → GoesAlone (depth_through 0 done) held (field_state [] [] [] m held) → IsBodyMode m → IsTied (field_state [] done (openers_of st) m held) (scanned done modes.Fielded held) st
+tied_begun done held st m stack goes stays = record {
   stack = stack;
-  flat_is = ap (rebased_if done (openers_of st)) steps;
-  own = record { state = field_state [] [] [] m held; steps = steps; inside = λ is. stays; bare = refl };
+  flat_is = ap (rebased_if done (openers_of st)) goes.steps;
+  own = record { state = field_state [] [] [] m held; goes = goes; inside = λ is. stays; bare = refl };
 }
 
-module _ (h : StringWithFields) (done : List Piece) (held : List ℕ) (st : List Bracket) (c : ℕ) (own : Own (modes.FieldOpened h) held) (stack : brackets_of done ≡ Some st) where
+module _ (h : StringWithFields) (done : List Piece) (held : List ℕ) (st : List Bracket) (c : ℕ) (own : Own (modes.FieldOpened h) (depth_through 0 done) held) (stack : brackets_of done ≡ Some st) where
   abbrev SO : Scanned
   SO = scanned done (modes.FieldOpened h) held
 
@@ -481,7 +480,7 @@ module _ (h : StringWithFields) (done : List Piece) (held : List ℕ) (st : List
       by_moves SO TO c (moves.Grows (modes.FieldEmpty h)) (grows (empty (host_in h))) (rw is) move
       (subst (λ (b : Bool). Alike (kept_if (Some (scanned done (modes.FieldEmpty h) (held ++ c ∷ [])))) (roomy b (Some (field_state [] done (openers_of st) (empty (host_in h)) (held ++ c ∷ []))))) (sym (room_grows (frames TO) c (empty (host_in h))))
       (alike_kept (scanned done (modes.FieldEmpty h) (held ++ c ∷ [])) (field_state [] done (openers_of st) (empty (host_in h)) (held ++ c ∷ [])) st
-      (record { stack = stack; flat_is = refl; own = state_more held c (field_state [] [] [] (opened (host_in h)) held) (empty (host_in h)) own.0 move })))
+      (record { stack = stack; flat_is = refl; own = alone_grows (depth_through 0 done) held c _ (empty (host_in h)) own.0 move })))
   opened_steps_go false true is break =
       by_moves SO TO c moves.Refused refused (rw (is, break)) (first_move (host_in h) held c is ∙ break_refused (host_in h) c own.1 is break) (none_alike (has_room_at (frames TO) c refused))
   opened_steps_go false false is break =
@@ -490,7 +489,7 @@ module _ (h : StringWithFields) (done : List Piece) (held : List ℕ) (st : List
       by_moves SO TO c (moves.Grows modes.Fielded) (grows first.mode) (rw (is, break)) move
       (subst (λ (b : Bool). Alike (kept_if (Some (scanned done modes.Fielded (held ++ c ∷ [])))) (roomy b (Some (field_state [] done (openers_of st) first.mode (held ++ c ∷ []))))) (sym (room_grows (frames TO) c first.mode))
       (alike_kept (scanned done modes.Fielded (held ++ c ∷ [])) (field_state [] done (openers_of st) first.mode (held ++ c ∷ [])) st
-      (tied_begun done (held ++ c ∷ []) st first.mode stack (state_more held c (field_state [] [] [] (opened (host_in h)) held) first.mode own.0 move) first.stays)))
+      (tied_begun done (held ++ c ∷ []) st first.mode stack (alone_grows (depth_through 0 done) held c _ first.mode own.0 move) first.stays)))
 
   pub opened_steps : StepsAlike SO TO c
   opened_steps = opened_steps_go (c == h.quote) (is_break c) refl refl
@@ -504,7 +503,7 @@ pub empty_breaks : (host : Host) (held : List ℕ) (c : ℕ) → c == host.quote
 unfolding field_move
 empty_breaks host held c is = rw is
 
-module _ (h : StringWithFields) (done : List Piece) (held : List ℕ) (st : List Bracket) (c : ℕ) (own : Own (modes.FieldEmpty h) held) (stack : brackets_of done ≡ Some st) where
+module _ (h : StringWithFields) (done : List Piece) (held : List ℕ) (st : List Bracket) (c : ℕ) (own : Own (modes.FieldEmpty h) (depth_through 0 done) held) (stack : brackets_of done ≡ Some st) where
   abbrev SE : Scanned
   SE = scanned done (modes.FieldEmpty h) held
 
@@ -519,7 +518,7 @@ module _ (h : StringWithFields) (done : List Piece) (held : List ℕ) (st : List
       by_moves SE TE c (moves.Grows modes.Fielded) (grows m) (rw is) move
       (subst (λ (b : Bool). Alike (kept_if (Some (scanned done modes.Fielded (held ++ c ∷ [])))) (roomy b (Some (field_state [] done (openers_of st) m (held ++ c ∷ []))))) (sym (room_grows (frames TE) c m))
       (alike_kept (scanned done modes.Fielded (held ++ c ∷ [])) (field_state [] done (openers_of st) m (held ++ c ∷ [])) st
-      (tied_begun done (held ++ c ∷ []) st m stack (state_more held c (field_state [] [] [] (empty (host_in h)) held) m own move) (long_host (host_in h), literal, false, between, refl))))
+      (tied_begun done (held ++ c ∷ []) st m stack (alone_grows (depth_through 0 done) held c _ m own move) (long_host (host_in h), literal, false, between, refl))))
   empty_steps_go false is = by_moves SE TE c moves.Breaks breaks (rw is) (empty_breaks (host_in h) held c is) (broken SE TE st c refl refl refl stack)
 
   pub empty_steps : StepsAlike SE TE c

@@ -3,7 +3,7 @@
 use Rattle.std.proofs.Common.{◌≡◌, ℕ, Bool, true, false, Option, None, Some, List, [], ◌∷◌, refl, sym, ap, ◌∙◌, subst}
 use Rattle.std.proofs.lemmas.Bool.{both_ways, and_parts, and_from}
 use Rattle.py_lines.specs.Piece.{Piece}
-use Rattle.py_lines.specs.Balance.{IsShallowPlain, depth_after}
+use Rattle.py_lines.specs.Balance.{IsShallowPlain, depth_after, depth_through}
 use Rattle.py_lines.specs.Fields.{IsShallow}
 use Rattle.py_lines.specs.Reading.{IsBalancedReading}
 use Rattle.py_lines.specs.Faults.{IsLive}
@@ -125,13 +125,13 @@ ends_outside m done held st t is final = outside_as _ t _ st is (record { outsid
 body_open : (t : FieldScanned) → IsBodyMode t.mode → may_end t.mode ≡ true → ⊥
 body_open t (host, place, named, at, is) ends = both_ways _ (ap may_end is) ends
 
-pub final_outside : (m : Mode) (done : List Piece) (held : List ℕ) (st : List Bracket) (t : FieldScanned) → flat m done (openers_of st) held ≡ Some t → Own m held → t.outer ≡ [] → may_end t.mode ≡ true → IsOutside t (record { done = done; mode = m; held = held }) st
+pub final_outside : (m : Mode) (done : List Piece) (held : List ℕ) (st : List Bracket) (t : FieldScanned) → flat m done (openers_of st) held ≡ Some t → Own m (depth_through 0 done) held → t.outer ≡ [] → may_end t.mode ≡ true → IsOutside t (record { done = done; mode = m; held = held }) st
 final_outside (modes.FieldOpened h) done held st t is own none ends = absurd (both_ways _ refl (ap (λ (x : FieldScanned). may_end x.mode) (some_is _ t is) ∙ ends))
 final_outside (modes.FieldEmpty h) done held st t is own none ends = outside_as _ t _ st is (record { outside = refl; openers = refl; ends = refl; pieces = refl })
 final_outside modes.Fielded done held st t is own none ends = absurd (go own.state.outer refl)
   where
     whole : rebased done (openers_of st) own.state ≡ t
-    whole = some_is _ t (sym (ap (rebased_if done (openers_of st)) own.steps) ∙ is)
+    whole = some_is _ t (sym (ap (rebased_if done (openers_of st)) own.goes.steps) ∙ is)
 
     deep : (l : Level) (ls : List Level) → (rebased_in done (openers_of st) (l ∷ ls) own.state.done own.state.openers own.state.mode own.state.held).outer ≡ [] → ⊥
     deep l [] h = cc

@@ -5,7 +5,7 @@ use Rattle.std.specs.Prelude.{if◌then◌else◌}
 use Rattle.std.proofs.lemmas.Bool.{cond_both, cases_Bool, and_right}
 use Rattle.py_lines.specs.Character.{is_mark, is_word_character, is_quote}
 use Rattle.py_lines.specs.Piece.{Class, mark, space, word, string, operator, comment, join, line_end, Piece, begins, spelled}
-use Rattle.py_lines.specs.Balance.{is_opening, is_closing, closing_of}
+use Rattle.py_lines.specs.Balance.{is_opening, is_closing, closing_of, depth_through}
 use Rattle.py_lines.specs.Fields.{AreReadBefore, Fields, ShallowFields}
 use Rattle.py_lines.specs.FieldStrings.{is_field_prefix, Host, literal}
 use Rattle.py_lines.specs.LogicalLine.{first_or_zero, byte_len}
@@ -212,7 +212,7 @@ stops_with m done held st t u rest is own stops = subst (λ (x : FieldScanned). 
 abbrev in_string : List Piece → List ℕ → FieldScanned → List Level → FieldScanned
 in_string done os x outer = rebased_in done os outer x.done x.openers x.mode x.held
 
-stops_at : (m : Mode) (done : List Piece) (held : List ℕ) (st : List Bracket) (t : FieldScanned) (c : ℕ) (cs : List ℕ) → flat m done (openers_of st) held ≡ Some t → Own m held → t.outer ≡ [] → StopsAt t.mode t.held (c ∷ cs) → StopsAlike t m done held (c ∷ cs)
+stops_at : (m : Mode) (done : List Piece) (held : List ℕ) (st : List Bracket) (t : FieldScanned) (c : ℕ) (cs : List ℕ) → flat m done (openers_of st) held ≡ Some t → Own m (depth_through 0 done) held → t.outer ≡ [] → StopsAt t.mode t.held (c ∷ cs) → StopsAlike t m done held (c ∷ cs)
 unfolding meet_of
 stops_at (modes.Word s) done held st t c cs is own none stops =
     stops_with (modes.Word s) done held st t _ (c ∷ cs) (some_is _ t is) (λ h. record { stops = word_stops s held c own h; pieces = refl }) stops
@@ -223,7 +223,7 @@ stops_at (modes.FieldEmpty k) done held st t c cs is own none stops =
 stops_at modes.Fielded done held st t c cs is own none stops = absurd (go own.state.outer refl)
   where
     whole : rebased done (openers_of st) own.state ≡ t
-    whole = some_is _ t (sym (ap (rebased_if done (openers_of st)) own.steps) ∙ is)
+    whole = some_is _ t (sym (ap (rebased_if done (openers_of st)) own.goes.steps) ∙ is)
 
     deep : (l : Level) (ls : List Level) → (in_string done (openers_of st) own.state (l ∷ ls)).outer ≡ [] → ⊥
     deep l [] h = cc
@@ -236,7 +236,7 @@ stops_at modes.Fielded done held st t c cs is own none stops = absurd (go own.st
     go (l ∷ ls) at = deep l ls (ap (λ (x : List Level). (in_string done (openers_of st) own.state x).outer) (sym at) ∙ ap (λ (x : FieldScanned). x.outer) whole ∙ none)
 stops_at m done held st t c cs is own none stops = stops_with m done held st t _ (c ∷ cs) (some_is _ t is) (λ h. record { stops = breaks_plain m held c refl h; pieces = refl }) stops
 
-stops_alike : (rest : List ℕ) (m : Mode) (done : List Piece) (held : List ℕ) (st : List Bracket) (t : FieldScanned) → flat m done (openers_of st) held ≡ Some t → Own m held → t.outer ≡ [] → StopsAt t.mode t.held rest → StopsAlike t m done held rest
+stops_alike : (rest : List ℕ) (m : Mode) (done : List Piece) (held : List ℕ) (st : List Bracket) (t : FieldScanned) → flat m done (openers_of st) held ≡ Some t → Own m (depth_through 0 done) held → t.outer ≡ [] → StopsAt t.mode t.held rest → StopsAlike t m done held rest
 stops_alike [] m done held st t is own none stops =
     let at = final_outside m done held st t is own none stops in
     record { stops = sym at.ends ∙ stops; pieces = at.pieces }

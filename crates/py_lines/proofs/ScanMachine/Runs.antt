@@ -9,16 +9,16 @@ use Rattle.py_lines.specs.declared.mode.Mode.TheVariants as modes
 use Rattle.py_lines.specs.declared.mode.Move.{Move}
 use Rattle.py_lines.specs.declared.mode.Move.TheVariants as moves
 use Rattle.py_lines.specs.Private.Machine.{Scanned, fresh, moved, Bracket, brackets_of}
-use Rattle.py_lines.specs.Private.FieldMachine.{FieldMode, FieldMove, grows, closes, breaks, begins_code, opens_field, ends_field, refused, Level, FieldScanned, field_state, field_fresh, field_text_start, field_class_of, field_move, field_moved, field_step, field_steps_from, frames, has_room, has_room_at, text_place, before}
-use Rattle.py_lines.specs.Private.ScanMachine.{string_state, string_move, has_room_in, fielded_move, move_at, IsInString}
+use Rattle.py_lines.specs.Private.FieldMachine.{FieldMode, FieldMove, grows, closes, breaks, begins_code, opens_field, ends_field, refused, Level, FieldScanned, field_state, field_fresh, field_text_start, field_class_of, field_move, field_moved, field_step, frames, has_room, has_room_at, text_place, before}
+use Rattle.py_lines.specs.Private.ScanMachine.{string_move, has_room_in, fielded_move, move_at, IsInString}
 use Rattle.py_lines.proofs.Pieces.PieceLists.{piece}
 use Rattle.py_lines.proofs.Pieces.OpenBrackets.{stands}
 use Rattle.py_lines.proofs.Machine.PieceSteps.{scanned}
 use Rattle.py_lines.proofs.FieldSoundness.HostSteps.{sound_at}
 use Rattle.py_lines.proofs.FieldSoundness.WholeTexts.{no_limit, any_rooms}
-use Rattle.py_lines.proofs.FieldSoundness.LiveTexts.{steps-append}
 use Rattle.py_lines.proofs.ScanMachine.Advance.{kept_if, advance, goes}
 use Rattle.py_lines.proofs.ScanMachine.Rebased.{rebased, rebased_in, rebased_if, IsInner, step_alike, frames_more}
+use Rattle.py_lines.proofs.ScanMachine.Rooms.{GoesAlone, alone_more}
 use Rattle.py_lines.proofs.ScanMachine.BodyMoves.{IsBodyMode, StaysBody, body_stays, KeepsString, moved_inside, InStringIf}
 use Rattle.py_lines.proofs.ScanMachine.Follows.{openers_of, openers-length, flat, IsAlone, Own, IsTied, roomy, Alike, alike_kept, some_is, tied_fresh, StepsAlike, plain_steps, word_steps, opened_steps, empty_steps}
 
@@ -48,11 +48,11 @@ stays_fielded [] ends_field n inner = refl
 stays_fielded [] refused n inner = refl
 stays_fielded (l ∷ ls) v n inner = refl
 
-before_none : (p : Place) → before p [] ≡ []
+pub before_none : (p : Place) → before p [] ≡ []
 before_none literal = refl
 before_none specification = refl
 
-module _ (done : List Piece) (held : List ℕ) (st : List Bracket) (c : ℕ) (stack : brackets_of done ≡ Some st) (t : FieldScanned) (steps : string_state held ≡ Some t) (inside : IsInString t) (bare : t ≡ rebased [] [] t) where
+module _ (done : List Piece) (held : List ℕ) (st : List Bracket) (c : ℕ) (stack : brackets_of done ≡ Some st) (t : FieldScanned) (alone : GoesAlone (depth_through 0 done) held t) (inside : IsInString t) (bare : t ≡ rebased [] [] t) where
   abbrev S : Scanned
   S = scanned done modes.Fielded held
 
@@ -74,7 +74,7 @@ module _ (done : List Piece) (held : List ℕ) (st : List Bracket) (c : ℕ) (st
       ∙ ap (λ (n : ℕ). has_room_at n c v) (frames_more done os t ∙ ap (λ (x : FieldScanned). length os + frames x) (sym bare) ∙ ap (λ (n : ℕ). n + frames t) (sym deep))
 
   scan_move : (b : Bool) → has_room_in (depth_through 0 done) t c ≡ b → move_at S c ≡ (if b then string_move t.outer v (field_step t c) else moves.Refused)
-  scan_move b room = ap (λ (o : Option FieldScanned). fielded_move (depth_through 0 done) o c) steps ∙ ap (λ (x : Bool). if x then string_move t.outer v (field_step t c) else moves.Refused) room
+  scan_move b room = ap (λ (o : Option FieldScanned). fielded_move (depth_through 0 done) o c) alone.steps ∙ ap (λ (x : Bool). if x then string_move t.outer v (field_step t c) else moves.Refused) room
 
   -- both moves are known
   both : (w : Move) (b : Bool) (o : Option FieldScanned) → move_at S c ≡ w → has_room T c ≡ b → field_step T c ≡ o → Alike (kept_if (moved S c w)) (roomy b o) → StepsAlike S T c
@@ -103,8 +103,8 @@ module _ (done : List Piece) (held : List ℕ) (st : List Bracket) (c : ℕ) (st
       field : field_step T c ≡ rebased_if done os (field_step t c)
       field = step_alike done os t c (inner_at done os t.outer v inner)
 
-      alone : field_step t c ≡ rebased_if [] [] (field_step t c)
-      alone = ap (λ (x : FieldScanned). field_step x c) bare ∙ step_alike [] [] t c inner
+      bare_step : field_step t c ≡ rebased_if [] [] (field_step t c)
+      bare_step = ap (λ (x : FieldScanned). field_step x c) bare ∙ step_alike [] [] t c inner
 
       still : InStringIf (field_step t c)
       still = moved_inside t.outer t.done t.openers t.mode t.held c v stays
@@ -113,15 +113,15 @@ module _ (done : List Piece) (held : List ℕ) (st : List Bracket) (c : ℕ) (st
       by None is =
           both moves.Refused true None (scan_move true room ∙ ap (string_move t.outer v) is ∙ stays_refused t.outer v inner) (room_same ∙ room) (field ∙ ap (rebased_if done os) is) tt
       by (Some n) is =
-          let more : string_state (held ++ c ∷ []) ≡ Some n = steps-append (Some field_text_start) held (c ∷ []) ∙ ap (λ o. field_steps_from o (c ∷ [])) steps ∙ ap (λ o. field_steps_from o []) is in
-          let own : IsAlone (held ++ c ∷ []) = record { state = n; steps = more; inside = subst InStringIf is still; bare = some_is n (rebased [] [] n) (sym is ∙ alone ∙ ap (rebased_if [] []) is) } in
+          let more = alone_more (depth_through 0 done) held c t n alone room is in
+          let own : IsAlone (depth_through 0 done) (held ++ c ∷ []) = record { state = n; goes = more; inside = subst InStringIf is still; bare = some_is n (rebased [] [] n) (sym is ∙ bare_step ∙ ap (rebased_if [] []) is) } in
           both (moves.Grows modes.Fielded) true (Some (rebased done os n)) (scan_move true room ∙ ap (string_move t.outer v) is ∙ stays_fielded t.outer v n inner) (room_same ∙ room) (field ∙ ap (rebased_if done os) is)
-          (alike_kept (scanned done modes.Fielded (held ++ c ∷ [])) (rebased done os n) st (record { stack = stack; flat_is = ap (rebased_if done os) more; own = own }))
+          (alike_kept (scanned done modes.Fielded (held ++ c ∷ [])) (rebased done os n) st (record { stack = stack; flat_is = ap (rebased_if done os) more.steps; own = own }))
 
   -- a state with no field open
   outside_is : t.outer ≡ [] → t.held ≡ held
   outside_is none =
-      let sound = sound_at no_limit held t (any_rooms (Some field_text_start) held) steps in
+      let sound = sound_at no_limit held t (any_rooms (Some field_text_start) held) alone.steps in
       let nothing : t.done ≡ [] = ap (λ (x : FieldScanned). x.done) bare ∙ ap (λ (l : List Level). (rebased_in [] [] l t.done t.openers t.mode t.held).done) none in
       sym (ap (λ (l : List Level). before (text_place t.mode) l ++ (spelled t.done ++ t.held)) none ∙ ap (λ x. x ++ (spelled t.done ++ t.held)) (before_none (text_place t.mode)) ∙ ap (λ (l : List Piece). spelled l ++ t.held) nothing) ∙ sound.spell
 
@@ -167,13 +167,13 @@ module _ (done : List Piece) (held : List ℕ) (st : List Bracket) (c : ℕ) (st
       go false room = no_room room
 
 -- one character, wherever the two machines stand together
-tied_mode : (m : Mode) (done : List Piece) (held : List ℕ) (st : List Bracket) (t : FieldScanned) (c : ℕ) → brackets_of done ≡ Some st → flat m done (openers_of st) held ≡ Some t → Own m held → StepsAlike (scanned done m held) t c
+tied_mode : (m : Mode) (done : List Piece) (held : List ℕ) (st : List Bracket) (t : FieldScanned) (c : ℕ) → brackets_of done ≡ Some st → flat m done (openers_of st) held ≡ Some t → Own m (depth_through 0 done) held → StepsAlike (scanned done m held) t c
 tied_mode (modes.Word s) done held st t c stack is own = subst (λ x. StepsAlike (scanned done (modes.Word s) held) x c) (some_is _ t is) (word_steps s done held st c own stack)
 tied_mode (modes.FieldOpened h) done held st t c stack is own = subst (λ x. StepsAlike (scanned done (modes.FieldOpened h) held) x c) (some_is _ t is) (opened_steps h done held st c own stack)
 tied_mode (modes.FieldEmpty h) done held st t c stack is own = subst (λ x. StepsAlike (scanned done (modes.FieldEmpty h) held) x c) (some_is _ t is) (empty_steps h done held st c own stack)
 tied_mode modes.Fielded done held st t c stack is own =
-    subst (λ x. StepsAlike (scanned done modes.Fielded held) x c) (some_is (rebased done (openers_of st) own.state) t (sym (ap (rebased_if done (openers_of st)) own.steps) ∙ is))
-    (fielded_steps done held st c stack own.state own.steps own.inside own.bare)
+    subst (λ x. StepsAlike (scanned done modes.Fielded held) x c) (some_is (rebased done (openers_of st) own.state) t (sym (ap (rebased_if done (openers_of st)) own.goes.steps) ∙ is))
+    (fielded_steps done held st c stack own.state own.goes own.inside own.bare)
 tied_mode m done held st t c stack is own = subst (λ x. StepsAlike (scanned done m held) x c) (some_is _ t is) (plain_steps m done held st c refl refl stack)
 
 pub tied_step : (t : FieldScanned) (s : Scanned) (st : List Bracket) (c : ℕ) → IsTied t s st → StepsAlike s t c

@@ -11,12 +11,14 @@ use Rattle.py_lines.specs.Fields.{AreReadBefore, InClass, MayPrecede}
 use Rattle.py_lines.specs.declared.mode.Mode.{Mode}
 use Rattle.py_lines.specs.declared.mode.Mode.TheVariants as modes
 use Rattle.py_lines.specs.declared.mode.Spelling.{Spelling}
-use Rattle.py_lines.specs.Private.Machine.{Scanned, fresh, Bracket}
+use Rattle.py_lines.specs.Private.Machine.{Scanned, fresh, Bracket, brackets_of}
 use Rattle.py_lines.specs.Private.ScanMachine.{IsScanSound}
+use Rattle.py_lines.specs.Private.Scan.{AreLine}
 use Rattle.py_lines.specs.Private.Run.{is_ascii_word}
 use Rattle.py_lines.specs.Private.FieldText.{is_apart_mode}
-use Rattle.py_lines.specs.Private.Outline.{GoesOnAfter, HasCome, IsFreeAfter, IsTail, StandsBefore, StandsClosed, tail_of, tail_on, tail_with}
+use Rattle.py_lines.specs.Private.Outline.{GoesOnAfter, HasCome, IsEndedBy, IsFreeAfter, IsTail, StandsBefore, StandsClosed, tail_of, tail_on, tail_with}
 use Rattle.py_lines.proofs.LineScan.LineCount.{ends-last}
+use Rattle.py_lines.proofs.LineScan.PieceEnd.{no_class_bracket}
 use Rattle.py_lines.proofs.LineScan.LineSteps.{sound_steps}
 use Rattle.py_lines.proofs.LineScan.Runs.{break-return, word_byte_continues}
 use Rattle.py_lines.proofs.LineScan.AsciiRuns.{operator-no_break, quote-no_break}
@@ -24,7 +26,12 @@ use Rattle.py_lines.proofs.Text.CharacterTests.{feed_from, none_of, the_one}
 
 -- where the machine has come, it is sound
 pub come_sound : (m : Mode) (read : List ℕ) (n : ℕ) (st : List Bracket) (s : Scanned) → HasCome m read n st s → IsScanSound s read
-come_sound m read n st s come = sound_steps m read s come.start come.steps
+come_sound m read n st s come = sound_steps m read s come.start come.steps come.stacked
+
+-- the brackets are closed where a line has ended
+pub ended_stack : {len : ℕ} (s : Scanned) (body : List Piece) (last : Piece) → AreLine body last len → IsEndedBy s body last → brackets_of s.done ≡ Some []
+ended_stack s body last are (inl is) = ap (λ (t : Scanned). brackets_of t.done) is ∙ no_class_bracket body last are.class are.paired
+ended_stack s body last are (inr (is, same)) = ap (λ (t : Scanned). brackets_of t.done) is ∙ are.paired
 
 -- the word that a text ends with
 pub tail_on-append : (t : Option Spelling) (xs ys : List ℕ) → tail_on t (xs ++ ys) ≡ tail_on (tail_on t xs) ys

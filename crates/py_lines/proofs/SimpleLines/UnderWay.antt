@@ -21,7 +21,7 @@ use Rattle.py_lines.proofs.LineScan.LineSteps.{returned_fit, sound_steps}
 use Rattle.py_lines.proofs.LineScan.LineCount.{ends-last}
 use Rattle.py_lines.proofs.Lexings.LineEnds.{line_string}
 use Rattle.py_lines.proofs.SimpleLines.Code.{ends_so, operator_closes, operator_ends, tail-encoded}
-use Rattle.py_lines.proofs.SimpleLines.Tails.{come_sound, free_tail, return_returns, tail_on-append}
+use Rattle.py_lines.proofs.SimpleLines.Tails.{come_sound, ended_stack, free_tail, return_returns, tail_on-append}
 
 -- a machine that stands in no piece holds nothing
 free_at : (m : Mode) (read : List ℕ) (st : List Bracket) (done : List Piece) (mode : Mode) (held : List ℕ) → mode ≡ modes.Free → IsScanSound (scanned done mode held) read → IsScanSound (line_start m) [] → scan_steps (Some (line_start m)) read ≡ Some (scanned done mode held)
@@ -42,7 +42,7 @@ free_at m read st done mode held is sound start steps stacked one_line scalars =
 pub way_free : (m : Mode) (scan : Scan) (read : List ℕ) → IsScanSound (line_start m) [] → all_scalars read ≡ true → IsUnderWay m scan read → scan.piece.mode ≡ modes.Free → IsFreeAfter m read (line_ends read) (stack_of scan.brackets)
 way_free m scan read start scalars way free =
     let s = way.state in
-    free_at m read (stack_of scan.brackets) s.done s.mode s.held (sym way.tallies.counts.mode ∙ free) (sound_steps m read s start way.steps) start way.steps way.stacked way.one_line scalars
+    free_at m read (stack_of scan.brackets) s.done s.mode s.held (sym way.tallies.counts.mode ∙ free) (sound_steps m read s start way.steps way.stacked) start way.steps way.stacked way.one_line scalars
 
 -- where a scan is set in no piece after closed ones, it keeps count of them
 tallies_closed : (scan : Scan) (done : List Piece) (read : List ℕ) (n : ℕ) → spelled done ++ [] ≡ read → line_ends read ≡ n → ends is_return read ≡ false → scan.piece.mode ≡ modes.Free → scan.piece.start ≡ byte_len read → scan.stop ≡ byte_len read
@@ -79,7 +79,7 @@ pub line_before : (m : Mode) (read : List ℕ) (n : ℕ) (after : List ℕ) (sca
     → (line : IsLine m read n after) → scan.piece.mode ≡ modes.Free → scan.piece.start ≡ byte_len read → scan.stop ≡ byte_len read
     → scan.count.line ≡ scan.line + n → scan.count.after_return ≡ ends is_return read → IsLineBefore m scan read line.len
 line_before m read n after scan begun line mode start stop here returned more apart =
-    by line.state (sound_steps m read line.state begun line.steps) line.steps line.last line.are line.ended
+    by line.state (sound_steps m read line.state begun line.steps (ended_stack line.state line.body line.last line.are line.ended)) line.steps line.last line.are line.ended
   where
     set : (s : Scanned) (last : Piece) → scan_steps (Some (line_start m)) read ≡ Some s → AreLine line.body last line.len
         → spelled (line.body ++ last ∷ []) ≡ read
