@@ -34,9 +34,9 @@ use Rattle.py_lines.proofs.Faults.CauseAt.{cause_fits, break_fits}
 use Rattle.py_lines.proofs.Faults.UnfinishedAt.{StandsThere, unfinished_fits}
 use Rattle.py_lines.proofs.ScanMachine.Steps.{meets}
 use Rattle.py_lines.proofs.ScanMachine.Advance.{RunsTo, kept, kept_if, advance}
-use Rattle.py_lines.proofs.ScanMachine.Rebased.{rebased, rebased_in, rebased_if, based, frames_more}
+use Rattle.py_lines.proofs.ScanMachine.Rebased.{rebased, rebased_in, rebased_if, based, mode_based, none_based, frames_more}
 use Rattle.py_lines.proofs.ScanMachine.Follows.{openers_of, openers-length, flat, Own, IsTied, Alike, roomy, some_is}
-use Rattle.py_lines.proofs.ScanMachine.Runs.{tied_step}
+use Rattle.py_lines.proofs.ScanMachine.Runs.{before_none, tied_step}
 use Rattle.py_lines.proofs.ScanMachine.LiveTexts.{comes_along}
 
 none_some : {A : Type 0} {a : A} → None ≡ Some a → ⊥
@@ -132,11 +132,6 @@ shifted_by t u n false false false false true quotes last first brace field = la
 shifted_by t u n false false false false false true last first brace field = field refl
 shifted_by t u n false false false false false false last first brace field = last
 
--- no text stands before no list
-no_list : (p : Place) → before p [] ≡ []
-no_list literal = refl
-no_list specification = refl
-
 abbrev front_of : List Level → List ℕ
 front_of [] = []
 front_of (l ∷ ls) = l.front
@@ -145,26 +140,22 @@ front_of (l ∷ ls) = l.front
 -- their brackets outermost.
 module _ (done : List Piece) (os : List ℕ) where
   text_based : (p : Place) (l : Level) (ls : List Level) → before p (based done os l ls) ≡ spelled done ++ before p (based [] [] l ls)
-  text_based literal l [] = ap (λ x. x ++ (spelled done ++ l.front)) (no_list l.place) ∙ ap (λ x. spelled done ++ (x ++ l.front)) (sym (no_list l.place))
-  text_based specification l [] = ap (λ x. x ++ spelled done) (no_list l.place) ∙ sym (append-nil (spelled done)) ∙ ap (λ x. spelled done ++ (x ++ [])) (sym (no_list l.place))
+  text_based literal l [] = ap (λ x. x ++ (spelled done ++ l.front)) (before_none l.place) ∙ ap (λ x. spelled done ++ (x ++ l.front)) (sym (before_none l.place))
+  text_based specification l [] = ap (λ x. x ++ spelled done) (before_none l.place) ∙ sym (append-nil (spelled done)) ∙ ap (λ x. spelled done ++ (x ++ [])) (sym (before_none l.place))
   text_based literal l (k ∷ ks) = ap (λ x. x ++ (spelled l.done ++ l.front)) (text_based l.place k ks) ∙ append_assoc (spelled done) (before l.place (based [] [] k ks)) (spelled l.done ++ l.front)
   text_based specification l (k ∷ ks) = ap (λ x. x ++ spelled l.done) (text_based l.place k ks) ∙ append_assoc (spelled done) (before l.place (based [] [] k ks)) (spelled l.done)
-
-  mode_based : (outer : List Level) (ps : List Piece) (bs : List ℕ) (m : FieldMode) (held : List ℕ) → (rebased_in done os outer ps bs m held).mode ≡ m
-  mode_based [] ps bs m held = refl
-  mode_based (l ∷ ls) ps bs m held = refl
 
   held_based : (outer : List Level) (ps : List Piece) (bs : List ℕ) (m : FieldMode) (held : List ℕ) → (rebased_in done os outer ps bs m held).held ≡ held
   held_based [] ps bs m held = refl
   held_based (l ∷ ls) ps bs m held = refl
 
   start_based : (outer : List Level) (ps : List Piece) (bs : List ℕ) (m : FieldMode) (held : List ℕ) → piece_start (rebased_in done os outer ps bs m held) ≡ byte_len (spelled done) + piece_start (rebased_in [] [] outer ps bs m held)
-  start_based [] ps bs m held = ap byte_len (ap (λ x. x ++ spelled done) (no_list (text_place m)) ∙ sym (append-nil (spelled done)) ∙ ap (λ x. spelled done ++ (x ++ [])) (sym (no_list (text_place m)))) ∙ byte_len-append (spelled done) (before (text_place m) [] ++ [])
+  start_based [] ps bs m held = ap byte_len (ap (λ x. x ++ spelled done) (before_none (text_place m)) ∙ sym (append-nil (spelled done)) ∙ ap (λ x. spelled done ++ (x ++ [])) (sym (before_none (text_place m)))) ∙ byte_len-append (spelled done) (before (text_place m) [] ++ [])
   start_based (l ∷ ls) ps bs m held =
       ap byte_len (ap (λ x. x ++ spelled ps) (text_based (text_place m) l ls) ∙ append_assoc (spelled done) (before (text_place m) (based [] [] l ls)) (spelled ps)) ∙ byte_len-append (spelled done) (before (text_place m) (based [] [] l ls) ++ spelled ps)
 
   here_based : (outer : List Level) (ps : List Piece) (bs : List ℕ) (m : FieldMode) (held : List ℕ) → here (rebased_in done os outer ps bs m held) ≡ byte_len (spelled done) + here (rebased_in [] [] outer ps bs m held)
-  here_based [] ps bs m held = ap byte_len (ap (λ x. x ++ (spelled done ++ held)) (no_list (text_place m)) ∙ ap (λ x. spelled done ++ (x ++ held)) (sym (no_list (text_place m)))) ∙ byte_len-append (spelled done) (before (text_place m) [] ++ held)
+  here_based [] ps bs m held = ap byte_len (ap (λ x. x ++ (spelled done ++ held)) (before_none (text_place m)) ∙ ap (λ x. spelled done ++ (x ++ held)) (sym (before_none (text_place m)))) ∙ byte_len-append (spelled done) (before (text_place m) [] ++ held)
   here_based (l ∷ ls) ps bs m held =
       ap byte_len (ap (λ x. x ++ (spelled ps ++ held)) (text_based (text_place m) l ls) ∙ append_assoc (spelled done) (before (text_place m) (based [] [] l ls)) (spelled ps ++ held)) ∙ byte_len-append (spelled done) (before (text_place m) (based [] [] l ls) ++ (spelled ps ++ held))
 
@@ -175,11 +166,6 @@ module _ (done : List Piece) (os : List ℕ) where
   outer_based : (outer : List Level) (ps : List Piece) (bs : List ℕ) (m : FieldMode) (held : List ℕ) → outer ≡ [] → (rebased_in done os outer ps bs m held).outer ≡ []
   outer_based [] ps bs m held none = refl
   outer_based (l ∷ ls) ps bs m held none = absurd (cc)
-
-  none_based : (outer : List Level) (ps : List Piece) (bs : List ℕ) (m : FieldMode) (held : List ℕ) → (rebased_in done os outer ps bs m held).outer ≡ [] → outer ≡ []
-  none_based [] ps bs m held none = refl
-  none_based (l ∷ []) ps bs m held none = absurd (cc)
-  none_based (l ∷ k ∷ ks) ps bs m held none = absurd (cc)
 
   front_based : (outer : List Level) (ps : List Piece) (bs : List ℕ) (m : FieldMode) (held : List ℕ) (a : Level) (more : List Level) → (rebased_in done os outer ps bs m held).outer ≡ a ∷ more → (b : Level) × (others : List Level) × (outer ≡ b ∷ others) × (b.front ≡ a.front)
   front_based [] ps bs m held a more is = absurd (cc)
@@ -324,7 +310,7 @@ module _ (read : List ℕ) (s : Scanned) (st : List Bracket) (t : FieldScanned) 
     stuck_by true (Some u) room step alike = absurd alike
 
     stuck : IsStuck t c
-    stuck = stuck_by (has_room t c) (field_step t c) refl refl (subst (λ o. Alike o (roomy (has_room t c) (field_step t c))) refused (tied_step t s st c tied))
+    stuck = stuck_by (has_room t c) (field_step t c) refl refl (subst (λ o. Alike o (roomy (has_room t c) (field_step t c))) refused (tied_step t s st c tied).alike)
 
     fault : IsCharacterFault (kind_of_cause (cause_in (frames t) t.mode c)) (read ++ c ∷ after) (cause_place t (cause_in (frames t) t.mode c))
     fault = cause_fits t read c after steps room stuck
@@ -365,7 +351,7 @@ module _ (read : List ℕ) (s : Scanned) (st : List Bracket) (t : FieldScanned) 
       break_is false true one two = absurd (short_stops two one)
 
       start_is : piece_start t ≡ byte_len (spelled s.done)
-      start_is = ap (λ l. byte_len (before (text_place t.mode) l ++ spelled t.done)) flat_is.outside ∙ ap (λ x. byte_len (x ++ spelled t.done)) (no_list (text_place t.mode)) ∙ ap (λ l. byte_len (spelled l)) flat_is.done_is
+      start_is = ap (λ l. byte_len (before (text_place t.mode) l ++ spelled t.done)) flat_is.outside ∙ ap (λ x. byte_len (x ++ spelled t.done)) (before_none (text_place t.mode)) ∙ ap (λ l. byte_len (spelled l)) flat_is.done_is
 
       cause_is : cause_in (frames t) t.mode c ≡ cause_by false (in_short s.mode) (is_after_backslash s.mode) (is_closing c) (is_opening c) false
       unfolding cause_by
@@ -439,7 +425,7 @@ module _ (read : List ℕ) (s : Scanned) (st : List Bracket) (t : FieldScanned) 
     flat_end = is_flat s.mode s.done (openers_of st) s.held t other tied.flat_is
 
     begun_is : piece_start t ≡ byte_len (spelled s.done)
-    begun_is = ap (λ l. byte_len (before (text_place t.mode) l ++ spelled t.done)) flat_end.outside ∙ ap (λ x. byte_len (x ++ spelled t.done)) (no_list (text_place t.mode)) ∙ ap (λ l. byte_len (spelled l)) flat_end.done_is
+    begun_is = ap (λ l. byte_len (before (text_place t.mode) l ++ spelled t.done)) flat_end.outside ∙ ap (λ x. byte_len (x ++ spelled t.done)) (before_none (text_place t.mode)) ∙ ap (λ l. byte_len (spelled l)) flat_end.done_is
 
     what_is : unfinished_at t ≡ (if in_short s.mode then Some open_short else (if in_long s.mode then Some open_long else (if is_after_backslash s.mode then Some open_join else unfinished_code [] (openers_of st))))
     what_is = ap (λ l. unfinished_in l t.openers t.mode) flat_end.outside ∙ ap (λ l. unfinished_in [] l t.mode) flat_end.openers_is ∙ flat_end.unfinished

@@ -18,12 +18,12 @@ use Rattle.py_lines.specs.declared.mode.Move.TheVariants as moves
 use Rattle.py_lines.specs.declared.mode.Start.{Start}
 use Rattle.py_lines.specs.declared.mode.Start.TheVariants as starts
 use Rattle.py_lines.specs.Private.Machine.{Scanned, fresh, class_of, closed, started, moved, move_of, short_move, long_move, start_of, Holds, is_prefix_spelling, first_spelling, spelling_with, Bracket, brackets_after, brackets_of}
-use Rattle.py_lines.specs.Private.FieldMachine.{between, after_slash, after_brace, FieldMode, plain, opened, empty, body, FieldMove, grows, closes, breaks, refused, Level, FieldScanned, field_state, field_fresh, field_text_start, begins_host, host_of, long_host, plain_move, field_move, field_moved, field_step, field_started, field_closed, openers_with, after_operator, levels_open, frames, has_room, has_room_at, between_move, body_move}
-use Rattle.py_lines.specs.Private.ScanMachine.{is_field_spelling, is_raw_spelling, host_in, quote_move, opened_move, meet_of, string_state, have_room_in, move_in, move_at, scan_step, IsInString}
+use Rattle.py_lines.specs.Private.FieldMachine.{between, after_slash, after_brace, FieldMode, plain, opened, empty, body, FieldMove, grows, closes, breaks, refused, Level, FieldScanned, field_state, field_fresh, field_text_start, begins_host, host_of, long_host, plain_move, field_move, field_moved, field_step, field_started, field_closed, field_pieces, openers_with, after_operator, levels_open, frames, has_room, has_room_at, between_move, body_move}
+use Rattle.py_lines.specs.Private.ScanMachine.{is_field_spelling, is_raw_spelling, host_in, quote_move, opened_move, meet_of, string_state, have_room_in, move_at, scan_step, IsInString}
 use Rattle.py_lines.proofs.Pieces.PieceLists.{piece}
 use Rattle.py_lines.proofs.Pieces.OpenBrackets.{stack_push}
 use Rattle.py_lines.specs.LogicalLine.{byte_len}
-use Rattle.py_lines.proofs.Machine.PieceSteps.{scanned}
+use Rattle.py_lines.proofs.Machine.PieceSteps.{scanned, pieces_at}
 use Rattle.py_lines.proofs.Machine.LiveTexts.{keeps, stack_closed}
 use Rattle.py_lines.proofs.Machine.Starts.{StartsSo, starts_so, start-operator}
 use Rattle.py_lines.proofs.Text.CharacterTests.{excluded, quote-not-word, slash-not-break}
@@ -33,6 +33,7 @@ use Rattle.py_lines.proofs.FieldMachine.Runs.{steps_of}
 use Rattle.py_lines.proofs.FieldMachine.PieceRuns.{opening_operator, word_goes}
 use Rattle.py_lines.proofs.FieldMachine.PlainSteps.{plain_moves, is_word_mode, NoWord, no_word}
 use Rattle.py_lines.proofs.ScanMachine.Spellings.{word_tells, other_begins}
+use Rattle.py_lines.proofs.ScanMachine.Steps.{meets}
 use Rattle.py_lines.proofs.ScanMachine.Advance.{kept, kept_if}
 use Rattle.py_lines.proofs.ScanMachine.Rebased.{rebased, rebased_if}
 use Rattle.py_lines.proofs.ScanMachine.Rooms.{RoomFrom, goes_room, GoesAlone, alone_grows}
@@ -114,13 +115,13 @@ plain_own (modes.FieldEmpty h) depth held other word = absurd (both_ways _ other
 plain_own modes.Fielded depth held other word = absurd (both_ways _ other refl)
 plain_own m depth held other word = tt
 
-pub plain_meets : (m : Mode) (depth : ℕ) (held : List ℕ) (c : ℕ) → is_fielded_mode m ≡ false → is_word_mode m ≡ false → move_in m depth held c ≡ move_of m c
+plain_meets : (m : Mode) (c : ℕ) → is_fielded_mode m ≡ false → is_word_mode m ≡ false → meet_of m c ≡ move_of m c
 unfolding meet_of
-plain_meets (modes.Word s) depth held c other word = absurd (both_ways _ word refl)
-plain_meets (modes.FieldOpened h) depth held c other word = absurd (both_ways _ other refl)
-plain_meets (modes.FieldEmpty h) depth held c other word = absurd (both_ways _ other refl)
-plain_meets modes.Fielded depth held c other word = absurd (both_ways _ other refl)
-plain_meets m depth held c other word = refl
+plain_meets (modes.Word s) c other word = absurd (both_ways _ word refl)
+plain_meets (modes.FieldOpened h) c other word = absurd (both_ways _ other refl)
+plain_meets (modes.FieldEmpty h) c other word = absurd (both_ways _ other refl)
+plain_meets modes.Fielded c other word = absurd (both_ways _ other refl)
+plain_meets m c other word = refl
 
 pub no_host : (m : Mode) (held : List ℕ) (c : ℕ) → is_word_mode m ≡ false → begins_host m held c ≡ false
 no_host (modes.Word s) held c word = absurd (both_ways _ word refl)
@@ -323,19 +324,33 @@ plain_moved m done held st c moves.Closes is stack own =
 plain_moved m done held st c moves.Breaks is stack own = broken (scanned done m held) (field_state [] done (openers_of st) (plain m) held) st c refl refl refl stack
 plain_moved m done held st c moves.Refused is stack own = none_alike (has_room_at (frames (field_state [] done (openers_of st) (plain m) held)) c refused)
 
--- one character, where the moves of both machines are known
-abbrev pub StepsAlike : Scanned → FieldScanned → ℕ → Type 0
-StepsAlike s t c = Alike (kept_if (scan_step s c)) (roomy (has_room t c) (field_step t c))
+-- where the machine with fields ends a piece before a character, in no field, so does the other
+abbrev pub EndsAlike : Scanned → FieldScanned → ℕ → FieldMove → Type 0
+EndsAlike s t c w = w ≡ breaks → (meet_of s.mode c ≡ moves.Breaks) × (field_pieces t ≡ pieces_at s)
 
-by_moves : (s : Scanned) (t : FieldScanned) (c : ℕ) (v : Move) (w : FieldMove) → move_at s c ≡ v → field_move t.mode t.held c ≡ w → Alike (kept_if (moved s c v)) (roomy (has_room_at (frames t) c w) (field_moved t c w)) → StepsAlike s t c
-by_moves s t c v w one two alike =
-    subst (λ (x : Move). Alike (kept_if (moved s c x)) (roomy (has_room_at (frames t) c (field_move t.mode t.held c)) (field_moved t c (field_move t.mode t.held c)))) (sym one)
-    (subst (λ (x : FieldMove). Alike (kept_if (moved s c v)) (roomy (has_room_at (frames t) c x) (field_moved t c x))) (sym two) alike)
+-- one character
+pub record StepsAlike (s : Scanned) (t : FieldScanned) (c : ℕ) : Type 0 where
+  pub alike : Alike (kept_if (scan_step s c)) (roomy (has_room t c) (field_step t c))
+  pub ends : t.outer ≡ [] → EndsAlike s t c (field_move t.mode t.held c)
+
+-- where the moves of both machines are known
+by_moves : (s : Scanned) (t : FieldScanned) (c : ℕ) (v : Move) (w : FieldMove) → move_at s c ≡ v → field_move t.mode t.held c ≡ w → EndsAlike s t c w → Alike (kept_if (moved s c v)) (roomy (has_room_at (frames t) c w) (field_moved t c w)) → StepsAlike s t c
+by_moves s t c v w one two ends alike = record {
+  alike = subst (λ (x : Move). Alike (kept_if (moved s c x)) (roomy (has_room_at (frames t) c (field_move t.mode t.held c)) (field_moved t c (field_move t.mode t.held c)))) (sym one)
+      (subst (λ (x : FieldMove). Alike (kept_if (moved s c v)) (roomy (has_room_at (frames t) c x) (field_moved t c x))) (sym two) alike);
+  ends = λ outside h. ends (sym two ∙ h);
+}
+
+breaks_as : (v : Move) → plain_move v ≡ breaks → v ≡ moves.Breaks
+breaks_as moves.Breaks h = refl
+breaks_as (moves.Grows m) h = absurd (cc)
+breaks_as moves.Closes h = absurd (cc)
+breaks_as moves.Refused h = absurd (cc)
 
 -- where no word and no string with fields is open
 pub plain_steps : (m : Mode) (done : List Piece) (held : List ℕ) (st : List Bracket) (c : ℕ) → is_fielded_mode m ≡ false → is_word_mode m ≡ false → brackets_of done ≡ Some st → StepsAlike (scanned done m held) (field_state [] done (openers_of st) (plain m) held) c
 plain_steps m done held st c other word stack =
-    by_moves (scanned done m held) (field_state [] done (openers_of st) (plain m) held) c (move_of m c) (plain_move (move_of m c)) (plain_meets m (depth_through 0 done) held c other word) (plain_moves m held c (no_host m held c word))
+    by_moves (scanned done m held) (field_state [] done (openers_of st) (plain m) held) c (move_of m c) (plain_move (move_of m c)) (meets m (depth_through 0 done) held c (λ h. both_ways _ other (ap is_fielded_mode h)) ∙ plain_meets m c other word) (plain_moves m held c (no_host m held c word)) (λ h. (plain_meets m c other word ∙ breaks_as (move_of m c) h, refl))
     (plain_moved m done held st c (move_of m c) refl stack (λ n is. plain_own n (depth_through 0 done) (held ++ c ∷ []) (subst NoField is (grows_plain m c)) (subst NoWord is (no_word m c word)).1))
 
 -- a word that goes on
@@ -383,7 +398,7 @@ module _ (s : Spelling) (done : List Piece) (held : List ℕ) (st : List Bracket
 
   -- where the machine without fields says what happens
   word_plain : (v : Move) → move_of (modes.Word s) c ≡ v → move_at S c ≡ v → begins_host (modes.Word s) held c ≡ false → ((n : Mode) → v ≡ moves.Grows n → Own n (depth_through 0 done) (held ++ c ∷ [])) → StepsAlike S T c
-  word_plain v is at none more = by_moves S T c v (plain_move v) at (plain_moves (modes.Word s) held c none ∙ ap plain_move is) (plain_moved (modes.Word s) done held st c v is stack more)
+  word_plain v is at none more = by_moves S T c v (plain_move v) at (plain_moves (modes.Word s) held c none ∙ ap plain_move is) (λ h. (at ∙ breaks_as v h, refl)) (plain_moved (modes.Word s) done held st c v is stack more)
 
   in_word : is_word_character c ≡ true → StepsAlike S T c
   unfolding meet_of move_of
@@ -419,7 +434,7 @@ module _ (s : Spelling) (done : List Piece) (held : List ℕ) (st : List Bracket
       let h : StringWithFields = record { quote = c; is_long = false; is_raw = is_raw_spelling s } in
       let host : host_in h ≡ host_of held c = ap (λ (b : Bool). record { quote = c; is_long = false; is_raw = b }) (sym (tells.1 field)) in
       let move : field_move (plain (modes.Word s)) held c ≡ grows (opened (host_in h)) = host_moves s held c (tells.0 ∙ field) quotes ∙ ap (λ (x : Host). grows (opened x)) (sym host) in
-      by_moves S T c (moves.Grows (modes.FieldOpened h)) (grows (opened (host_in h))) (rw (other, quotes, field)) move
+      by_moves S T c (moves.Grows (modes.FieldOpened h)) (grows (opened (host_in h))) (rw (other, quotes, field)) move (λ k. absurd (cc))
       (subst (λ (b : Bool). Alike (kept_if (Some (scanned done (modes.FieldOpened h) (held ++ c ∷ [])))) (roomy b (Some (field_state [] done (openers_of st) (opened (host_in h)) (held ++ c ∷ []))))) (sym (room_grows (frames T) c (opened (host_in h))))
       (alike_kept (scanned done (modes.FieldOpened h) (held ++ c ∷ [])) (field_state [] done (openers_of st) (opened (host_in h)) (held ++ c ∷ [])) st
       (record { stack = stack; flat_is = refl; own = (alone_grows (depth_through 0 done) held c _ (opened (host_in h)) (word_alone s (depth_through 0 done) held own) move, refl) })))
@@ -477,16 +492,16 @@ module _ (h : StringWithFields) (done : List Piece) (held : List ℕ) (st : List
   unfolding meet_of opened_move
   opened_steps_go true ends_line is break =
       let move = quote_again (host_in h) held c is in
-      by_moves SO TO c (moves.Grows (modes.FieldEmpty h)) (grows (empty (host_in h))) (rw is) move
+      by_moves SO TO c (moves.Grows (modes.FieldEmpty h)) (grows (empty (host_in h))) (rw is) move (λ k. absurd (cc))
       (subst (λ (b : Bool). Alike (kept_if (Some (scanned done (modes.FieldEmpty h) (held ++ c ∷ [])))) (roomy b (Some (field_state [] done (openers_of st) (empty (host_in h)) (held ++ c ∷ []))))) (sym (room_grows (frames TO) c (empty (host_in h))))
       (alike_kept (scanned done (modes.FieldEmpty h) (held ++ c ∷ [])) (field_state [] done (openers_of st) (empty (host_in h)) (held ++ c ∷ [])) st
       (record { stack = stack; flat_is = refl; own = alone_grows (depth_through 0 done) held c _ (empty (host_in h)) own.0 move })))
   opened_steps_go false true is break =
-      by_moves SO TO c moves.Refused refused (rw (is, break)) (first_move (host_in h) held c is ∙ break_refused (host_in h) c own.1 is break) (none_alike (has_room_at (frames TO) c refused))
+      by_moves SO TO c moves.Refused refused (rw (is, break)) (first_move (host_in h) held c is ∙ break_refused (host_in h) c own.1 is break) (λ k. absurd (cc)) (none_alike (has_room_at (frames TO) c refused))
   opened_steps_go false false is break =
       let first = first_grows (host_in h) c is break in
       let move = first_move (host_in h) held c is ∙ first.is in
-      by_moves SO TO c (moves.Grows modes.Fielded) (grows first.mode) (rw (is, break)) move
+      by_moves SO TO c (moves.Grows modes.Fielded) (grows first.mode) (rw (is, break)) move (λ k. absurd (cc))
       (subst (λ (b : Bool). Alike (kept_if (Some (scanned done modes.Fielded (held ++ c ∷ [])))) (roomy b (Some (field_state [] done (openers_of st) first.mode (held ++ c ∷ []))))) (sym (room_grows (frames TO) c first.mode))
       (alike_kept (scanned done modes.Fielded (held ++ c ∷ [])) (field_state [] done (openers_of st) first.mode (held ++ c ∷ [])) st
       (tied_begun done (held ++ c ∷ []) st first.mode stack (alone_grows (depth_through 0 done) held c _ first.mode own.0 move) first.stays)))
@@ -515,11 +530,11 @@ module _ (h : StringWithFields) (done : List Piece) (held : List ℕ) (st : List
   empty_steps_go true is =
       let m : FieldMode = body (long_host (host_in h)) literal false between in
       let move = third_quote (host_in h) held c is in
-      by_moves SE TE c (moves.Grows modes.Fielded) (grows m) (rw is) move
+      by_moves SE TE c (moves.Grows modes.Fielded) (grows m) (rw is) move (λ k. absurd (cc))
       (subst (λ (b : Bool). Alike (kept_if (Some (scanned done modes.Fielded (held ++ c ∷ [])))) (roomy b (Some (field_state [] done (openers_of st) m (held ++ c ∷ []))))) (sym (room_grows (frames TE) c m))
       (alike_kept (scanned done modes.Fielded (held ++ c ∷ [])) (field_state [] done (openers_of st) m (held ++ c ∷ [])) st
       (tied_begun done (held ++ c ∷ []) st m stack (alone_grows (depth_through 0 done) held c _ m own move) (long_host (host_in h), literal, false, between, refl))))
-  empty_steps_go false is = by_moves SE TE c moves.Breaks breaks (rw is) (empty_breaks (host_in h) held c is) (broken SE TE st c refl refl refl stack)
+  empty_steps_go false is = by_moves SE TE c moves.Breaks breaks (rw is) (empty_breaks (host_in h) held c is) (λ k. (rw is, refl)) (broken SE TE st c refl refl refl stack)
 
   pub empty_steps : StepsAlike SE TE c
   empty_steps = empty_steps_go (c == h.quote) refl

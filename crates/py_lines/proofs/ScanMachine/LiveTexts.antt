@@ -10,13 +10,13 @@ use Rattle.py_lines.specs.Faults.{IsLive}
 use Rattle.py_lines.specs.declared.mode.Mode.{Mode}
 use Rattle.py_lines.specs.declared.mode.Mode.TheVariants as modes
 use Rattle.py_lines.specs.Private.Machine.{Scanned, text_start, is_final, Bracket, brackets_of}
-use Rattle.py_lines.specs.Private.FieldMachine.{Level, FieldScanned, field_text_start, field_step, field_steps_from, field_pieces, has_room, have_room, may_end}
+use Rattle.py_lines.specs.Private.FieldMachine.{FieldScanned, field_text_start, field_step, field_steps_from, field_pieces, has_room, have_room, may_end}
 use Rattle.py_lines.specs.Private.ScanMachine.{scan_steps, StringsFit}
 use Rattle.py_lines.proofs.Machine.PieceSteps.{pieces_at}
 use Rattle.py_lines.proofs.FieldSoundness.WholeTexts.{final_is_reading}
 use Rattle.py_lines.proofs.FieldSoundness.LiveTexts.{live_goes, goes_live}
 use Rattle.py_lines.proofs.ScanMachine.Advance.{goes, RunsTo, goes_from, goes_to}
-use Rattle.py_lines.proofs.ScanMachine.Rebased.{rebased, rebased_in, rebased_if}
+use Rattle.py_lines.proofs.ScanMachine.Rebased.{rebased, rebased_if, mode_based, none_based}
 use Rattle.py_lines.proofs.ScanMachine.BodyMoves.{IsBodyMode}
 use Rattle.py_lines.proofs.ScanMachine.Follows.{openers_of, flat, Own, IsTied, roomy, Alike, some_is}
 use Rattle.py_lines.proofs.ScanMachine.Runs.{roomy_steps, tied_runs}
@@ -128,20 +128,12 @@ body_open t (host, place, named, at, is) ends = both_ways _ (ap may_end is) ends
 pub final_outside : (m : Mode) (done : List Piece) (held : List ℕ) (st : List Bracket) (t : FieldScanned) → flat m done (openers_of st) held ≡ Some t → Own m (depth_through 0 done) held → t.outer ≡ [] → may_end t.mode ≡ true → IsOutside t (record { done = done; mode = m; held = held }) st
 final_outside (modes.FieldOpened h) done held st t is own none ends = absurd (both_ways _ refl (ap (λ (x : FieldScanned). may_end x.mode) (some_is _ t is) ∙ ends))
 final_outside (modes.FieldEmpty h) done held st t is own none ends = outside_as _ t _ st is (record { outside = refl; openers = refl; ends = refl; pieces = refl })
-final_outside modes.Fielded done held st t is own none ends = absurd (go own.state.outer refl)
-  where
-    whole : rebased done (openers_of st) own.state ≡ t
-    whole = some_is _ t (sym (ap (rebased_if done (openers_of st)) own.goes.steps) ∙ is)
-
-    deep : (l : Level) (ls : List Level) → (rebased_in done (openers_of st) (l ∷ ls) own.state.done own.state.openers own.state.mode own.state.held).outer ≡ [] → ⊥
-    deep l [] h = cc
-    deep l (k ∷ ks) h = cc
-
-    go : (outer : List Level) → own.state.outer ≡ outer → ⊥
-    go [] at =
-        let mode : own.state.mode ≡ t.mode = ap (λ (x : List Level). (rebased_in done (openers_of st) x own.state.done own.state.openers own.state.mode own.state.held).mode) (sym at) ∙ ap (λ (x : FieldScanned). x.mode) whole in
-        body_open own.state (own.inside at) (ap may_end mode ∙ ends)
-    go (l ∷ ls) at = deep l ls (ap (λ (x : List Level). (rebased_in done (openers_of st) x own.state.done own.state.openers own.state.mode own.state.held).outer) (sym at) ∙ ap (λ (x : FieldScanned). x.outer) whole ∙ none)
+final_outside modes.Fielded done held st t is own none ends =
+    let x : FieldScanned = own.state in
+    let whole : rebased done (openers_of st) x ≡ t = some_is _ t (sym (ap (rebased_if done (openers_of st)) own.goes.steps) ∙ is) in
+    let mode : x.mode ≡ t.mode = sym (mode_based done (openers_of st) x.outer x.done x.openers x.mode x.held) ∙ ap (λ (u : FieldScanned). u.mode) whole in
+    let outside : x.outer ≡ [] = none_based done (openers_of st) x.outer x.done x.openers x.mode x.held (ap (λ (u : FieldScanned). u.outer) whole ∙ none) in
+    absurd (body_open x (own.inside outside) (ap may_end mode ∙ ends))
 final_outside m done held st t is own none ends = outside_as _ t _ st is (record { outside = refl; openers = refl; ends = refl; pieces = refl })
 
 -- a run to an end at which no bracket is open is a reading

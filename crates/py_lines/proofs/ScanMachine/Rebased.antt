@@ -28,6 +28,16 @@ module _ (done : List Piece) (os : List ℕ) where
   rebased_if None = None
   rebased_if (Some t) = Some (rebased t)
 
+  -- its mode is the same, and it stands in no field where the other doesn't
+  pub mode_based : (outer : List Level) (ps : List Piece) (bs : List ℕ) (m : FieldMode) (held : List ℕ) → (rebased_in outer ps bs m held).mode ≡ m
+  mode_based [] ps bs m held = refl
+  mode_based (l ∷ ls) ps bs m held = refl
+
+  pub none_based : (outer : List Level) (ps : List Piece) (bs : List ℕ) (m : FieldMode) (held : List ℕ) → (rebased_in outer ps bs m held).outer ≡ [] → outer ≡ []
+  none_based [] ps bs m held none = refl
+  none_based (l ∷ []) ps bs m held none = absurd (cc)
+  none_based (l ∷ k ∷ ks) ps bs m held none = absurd (cc)
+
   if_alike : (b : Bool) (x y u v : Option FieldScanned) → x ≡ rebased_if u → y ≡ rebased_if v → (if b then x else y) ≡ rebased_if (if b then u else v)
   if_alike true x y u v first second = first
   if_alike false x y u v first second = second

@@ -17,7 +17,7 @@ use Rattle.py_lines.proofs.Machine.PieceSteps.{scanned}
 use Rattle.py_lines.proofs.FieldSoundness.HostSteps.{sound_at}
 use Rattle.py_lines.proofs.FieldSoundness.WholeTexts.{no_limit, any_rooms}
 use Rattle.py_lines.proofs.ScanMachine.Advance.{kept_if, advance, goes}
-use Rattle.py_lines.proofs.ScanMachine.Rebased.{rebased, rebased_in, rebased_if, IsInner, step_alike, frames_more}
+use Rattle.py_lines.proofs.ScanMachine.Rebased.{rebased, rebased_in, rebased_if, none_based, IsInner, step_alike, frames_more}
 use Rattle.py_lines.proofs.ScanMachine.Rooms.{GoesAlone, alone_more}
 use Rattle.py_lines.proofs.ScanMachine.BodyMoves.{IsBodyMode, StaysBody, body_stays, KeepsString, moved_inside, InStringIf}
 use Rattle.py_lines.proofs.ScanMachine.Follows.{openers_of, openers-length, flat, IsAlone, Own, IsTied, roomy, Alike, alike_kept, some_is, tied_fresh, StepsAlike, plain_steps, word_steps, opened_steps, empty_steps}
@@ -68,9 +68,15 @@ module _ (done : List Piece) (held : List ℕ) (st : List Bracket) (c : ℕ) (st
   deep : depth_through 0 done ≡ length os
   deep = (stands done st stack).depth ∙ sym (openers-length st)
 
+  body_at : IsBodyMode t.mode → StaysBody v
+  body_at (host, place, named, at, is) = subst (λ (m : FieldMode). StaysBody (field_move m t.held c)) (sym is) (body_stays host place named at t.held c)
+
+  same_move : field_move T.mode T.held c ≡ v
+  same_move = same_mode done os t.outer t.done t.openers t.mode t.held c
+
   room_same : has_room T c ≡ has_room_in (depth_through 0 done) t c
   room_same =
-      ap (has_room_at (frames T) c) (same_mode done os t.outer t.done t.openers t.mode t.held c)
+      ap (has_room_at (frames T) c) same_move
       ∙ ap (λ (n : ℕ). has_room_at n c v) (frames_more done os t ∙ ap (λ (x : FieldScanned). length os + frames x) (sym bare) ∙ ap (λ (n : ℕ). n + frames t) (sym deep))
 
   scan_move : (b : Bool) → has_room_in (depth_through 0 done) t c ≡ b → move_at S c ≡ (if b then string_move t.outer v (field_step t c) else moves.Refused)
@@ -78,10 +84,12 @@ module _ (done : List Piece) (held : List ℕ) (st : List Bracket) (c : ℕ) (st
 
   -- both moves are known
   both : (w : Move) (b : Bool) (o : Option FieldScanned) → move_at S c ≡ w → has_room T c ≡ b → field_step T c ≡ o → Alike (kept_if (moved S c w)) (roomy b o) → StepsAlike S T c
-  both w b o one two three alike =
-      subst (λ (x : Move). Alike (kept_if (moved S c x)) (roomy (has_room T c) (field_step T c))) (sym one)
-      (subst (λ (x : Bool). Alike (kept_if (moved S c w)) (roomy x (field_step T c))) (sym two)
-      (subst (λ (x : Option FieldScanned). Alike (kept_if (moved S c w)) (roomy b x)) (sym three) alike))
+  both w b o one two three alike = record {
+    alike = subst (λ (x : Move). Alike (kept_if (moved S c x)) (roomy (has_room T c) (field_step T c))) (sym one)
+        (subst (λ (x : Bool). Alike (kept_if (moved S c w)) (roomy x (field_step T c))) (sym two)
+        (subst (λ (x : Option FieldScanned). Alike (kept_if (moved S c w)) (roomy b x)) (sym three) alike));
+    ends = λ outside h. absurd (subst StaysBody (sym same_move ∙ h) (body_at (inside (none_based done os t.outer t.done t.openers t.mode t.held outside))));
+  }
 
   no_room : has_room_in (depth_through 0 done) t c ≡ false → StepsAlike S T c
   no_room room = both moves.Refused false (field_step T c) (scan_move false room) (room_same ∙ room) refl tt
@@ -137,9 +145,6 @@ module _ (done : List Piece) (held : List ℕ) (st : List Bracket) (c : ℕ) (st
       both moves.Closes true (Some (field_fresh [] (done ++ p ∷ []) os)) (scan_move true room ∙ ap (λ (l : List Level). string_move l v (field_step t c)) none ∙ ap (λ (w : FieldMove). string_move [] w (field_step t c)) is) (room_same ∙ room) field
       (alike_kept (fresh (done ++ p ∷ [])) (field_fresh [] (done ++ p ∷ []) os) st (tied_fresh done p st refl refl stack))
 
-  body_at : IsBodyMode t.mode → StaysBody v
-  body_at (host, place, named, at, is) = subst (λ (m : FieldMode). StaysBody (field_move m t.held c)) (sym is) (body_stays host place named at t.held c)
-
   fielded_in : has_room_in (depth_through 0 done) t c ≡ true → (outer : List Level) → t.outer ≡ outer → (w : FieldMove) → v ≡ w → StepsAlike S T c
   fielded_in room (l ∷ ls) is w move = goes_on room (subst (λ x. IsInner [] [] x v) (sym is) tt) (subst (λ x. KeepsString x v) (sym is) tt)
   fielded_in room [] is w move = by w move (subst StaysBody move (body_at (inside is)))
@@ -190,4 +195,4 @@ tied_runs cs None None alike = tt
 tied_runs cs None (Some t) alike = absurd alike
 tied_runs cs (Some s) None alike = absurd alike
 tied_runs [] (Some s) (Some t) alike = alike
-tied_runs (c ∷ cs) (Some s) (Some t) (st, tied) = tied_runs cs (advance s c) (roomy (has_room t c) (field_step t c)) (tied_step t s st c tied)
+tied_runs (c ∷ cs) (Some s) (Some t) (st, tied) = tied_runs cs (advance s c) (roomy (has_room t c) (field_step t c)) (tied_step t s st c tied).alike

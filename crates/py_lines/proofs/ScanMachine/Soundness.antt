@@ -132,7 +132,7 @@ module _ (s : Scanned) (read : List ℕ) (c : ℕ) (sound : IsScanSound s read) 
 run_sound : (cs : List ℕ) (s : Scanned) (read : List ℕ) → StandsSound s read → (u : Scanned) → goes (Some s) cs ≡ Some u → StandsSound u (read ++ cs)
 run_sound [] s read sound u is = subst (λ (x : Scanned). StandsSound x (read ++ [])) (some_is s u is) (subst (StandsSound s) (sym (append-nil read)) sound)
 run_sound (c ∷ cs) s read sound u is =
-    go (advance s c) (roomy (has_room t c) (field_step t c)) (tied_step t s sound.brackets c sound.tied) (field (has_room t c) refl) (kept_stays s c (scan_step s c) (moved_stays s c (move_at s c))) is
+    go (advance s c) (roomy (has_room t c) (field_step t c)) (tied_step t s sound.brackets c sound.tied).alike (field (has_room t c) refl) (kept_stays s c (scan_step s c) (moved_stays s c (move_at s c))) is
     (λ n next to. subst (StandsSound u) (append_assoc read (c ∷ []) cs) (run_sound cs n (read ++ c ∷ []) next u to))
   where
     t : FieldScanned
