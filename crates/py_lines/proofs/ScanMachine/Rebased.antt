@@ -9,6 +9,7 @@ use Rattle.py_lines.specs.declared.mode.Start.{Start}
 use Rattle.py_lines.specs.declared.mode.Start.TheVariants as starts
 use Rattle.py_lines.specs.Private.Machine.{start_of}
 use Rattle.py_lines.specs.Private.FieldMachine.{between, FieldMode, body, FieldMove, grows, closes, breaks, begins_code, opens_field, ends_field, refused, Level, FieldScanned, field_state, field_move, field_moved, field_step, field_started, field_operator, field_closed, code_operator, after_operator, openers_with, opened_level, field_ended, levels_open, frames}
+use Rattle.py_lines.proofs.ScanMachine.BodyMoves.{KeepsString}
 
 module _ (done : List Piece) (os : List ℕ) where
   -- the levels, with these pieces and brackets before the outermost string
@@ -65,32 +66,20 @@ module _ (done : List Piece) (os : List ℕ) where
   started_alike l ls ps bs c starts.Nothing = refl
 
   -- moves other than those that end the outermost string
-  abbrev pub IsInner : List Level → FieldMove → Type 0
-  IsInner [] closes = ⊥
-  IsInner [] breaks = ⊥
-  IsInner outer move = Unit {0}
+  pub moved_alike : (outer : List Level) (ps : List Piece) (bs : List ℕ) (m : FieldMode) (held : List ℕ) (c : ℕ) (v : FieldMove) → KeepsString outer v → field_moved (rebased_in outer ps bs m held) c v ≡ rebased_if (field_moved (field_state outer ps bs m held) c v)
+  moved_alike [] ps bs m held c closes keeps = absurd keeps
+  moved_alike [] ps bs m held c breaks keeps = absurd keeps
+  moved_alike [] ps bs m held c (begins_code host) keeps = started_alike (opened_level (field_state [] ps bs m held) host literal held) [] [] [] c (start_of c)
+  moved_alike (l ∷ ls) ps bs m held c breaks keeps = started_alike l ls (field_closed m ps held) bs c (start_of c)
+  moved_alike (l ∷ ls) ps bs m held c (begins_code host) keeps = started_alike (opened_level (field_state (l ∷ ls) ps bs m held) host literal held) (l ∷ ls) [] [] c (start_of c)
+  moved_alike (l ∷ []) ps bs m held c ends_field keeps = refl
+  moved_alike (l ∷ k ∷ ks) ps bs m held c ends_field keeps = refl
+  moved_alike outer ps bs m held c v keeps = refl
 
-  pub moved_alike : (outer : List Level) (ps : List Piece) (bs : List ℕ) (m : FieldMode) (held : List ℕ) (c : ℕ) (v : FieldMove) → IsInner outer v → field_moved (rebased_in outer ps bs m held) c v ≡ rebased_if (field_moved (field_state outer ps bs m held) c v)
-  moved_alike [] ps bs m held c (grows n) inner = refl
-  moved_alike [] ps bs m held c closes inner = absurd inner
-  moved_alike [] ps bs m held c breaks inner = absurd inner
-  moved_alike [] ps bs m held c (begins_code host) inner = started_alike (opened_level (field_state [] ps bs m held) host literal held) [] [] [] c (start_of c)
-  moved_alike [] ps bs m held c (opens_field host) inner = refl
-  moved_alike [] ps bs m held c ends_field inner = refl
-  moved_alike [] ps bs m held c refused inner = refl
-  moved_alike (l ∷ ls) ps bs m held c (grows n) inner = refl
-  moved_alike (l ∷ ls) ps bs m held c closes inner = refl
-  moved_alike (l ∷ ls) ps bs m held c breaks inner = started_alike l ls (field_closed m ps held) bs c (start_of c)
-  moved_alike (l ∷ ls) ps bs m held c (begins_code host) inner = started_alike (opened_level (field_state (l ∷ ls) ps bs m held) host literal held) (l ∷ ls) [] [] c (start_of c)
-  moved_alike (l ∷ ls) ps bs m held c (opens_field host) inner = refl
-  moved_alike (l ∷ []) ps bs m held c ends_field inner = refl
-  moved_alike (l ∷ k ∷ ks) ps bs m held c ends_field inner = refl
-  moved_alike (l ∷ ls) ps bs m held c refused inner = refl
-
-  pub step_alike : (t : FieldScanned) (c : ℕ) → IsInner t.outer (field_move t.mode t.held c) → field_step (rebased t) c ≡ rebased_if (field_step t c)
-  step_alike t c inner = go t.outer inner
+  pub step_alike : (t : FieldScanned) (c : ℕ) → KeepsString t.outer (field_move t.mode t.held c) → field_step (rebased t) c ≡ rebased_if (field_step t c)
+  step_alike t c keeps = go t.outer keeps
     where
-      go : (outer : List Level) → IsInner outer (field_move t.mode t.held c) → field_step (rebased_in outer t.done t.openers t.mode t.held) c ≡ rebased_if (field_step (field_state outer t.done t.openers t.mode t.held) c)
+      go : (outer : List Level) → KeepsString outer (field_move t.mode t.held c) → field_step (rebased_in outer t.done t.openers t.mode t.held) c ≡ rebased_if (field_step (field_state outer t.done t.openers t.mode t.held) c)
       go [] h = moved_alike [] t.done t.openers t.mode t.held c (field_move t.mode t.held c) h
       go (l ∷ ls) h = moved_alike (l ∷ ls) t.done t.openers t.mode t.held c (field_move t.mode t.held c) h
 

@@ -1,5 +1,5 @@
 -- In a string with fields the two machines go alike too, so they do through every text.
-use Rattle.std.proofs.Common.{◌≡◌, ℕ, ◌+◌, Bool, true, false, Option, None, Some, List, [], ◌∷◌, ◌++◌, length, refl, sym, ap, ◌∙◌, subst}
+use Rattle.std.proofs.Common.{◌≡◌, ℕ, ◌+◌, Bool, true, false, Option, None, Some, List, [], ◌∷◌, ◌++◌, length, inl, inr, ◌⊎◌, ⊎_elim, refl, sym, ap, ◌∙◌, subst}
 use Rattle.std.specs.Prelude.{if◌then◌else◌}
 use Rattle.py_lines.specs.Piece.{string, Piece, spelled}
 use Rattle.py_lines.specs.Balance.{depth_through}
@@ -17,7 +17,7 @@ use Rattle.py_lines.proofs.Machine.PieceSteps.{scanned}
 use Rattle.py_lines.proofs.FieldSoundness.HostSteps.{sound_at}
 use Rattle.py_lines.proofs.FieldSoundness.WholeTexts.{no_limit, any_rooms}
 use Rattle.py_lines.proofs.ScanMachine.Advance.{kept_if, advance, goes}
-use Rattle.py_lines.proofs.ScanMachine.Rebased.{rebased, rebased_in, rebased_if, none_based, IsInner, step_alike, frames_more}
+use Rattle.py_lines.proofs.ScanMachine.Rebased.{rebased, rebased_in, rebased_if, none_based, step_alike, frames_more}
 use Rattle.py_lines.proofs.ScanMachine.Rooms.{GoesAlone, alone_more}
 use Rattle.py_lines.proofs.ScanMachine.BodyMoves.{IsBodyMode, StaysBody, body_stays, KeepsString, moved_inside, InStringIf}
 use Rattle.py_lines.proofs.ScanMachine.Follows.{openers_of, openers-length, flat, IsAlone, Own, IsTied, roomy, Alike, alike_kept, some_is, tied_fresh, StepsAlike, plain_steps, word_steps, opened_steps, empty_steps}
@@ -28,25 +28,23 @@ same_mode done os [] ps bs m held c = refl
 same_mode done os (l ∷ ls) ps bs m held c = refl
 
 -- what comes of a move that does not end the string
-stays_refused : (outer : List Level) (v : FieldMove) → IsInner [] [] outer v → string_move outer v None ≡ moves.Refused
-stays_refused [] (grows m) inner = refl
-stays_refused [] closes inner = absurd inner
-stays_refused [] breaks inner = absurd inner
-stays_refused [] (begins_code host) inner = refl
-stays_refused [] (opens_field host) inner = refl
-stays_refused [] ends_field inner = refl
-stays_refused [] refused inner = refl
-stays_refused (l ∷ ls) v inner = refl
+abbrev goes_or_not : Option FieldScanned → Move
+goes_or_not None = moves.Refused
+goes_or_not (Some n) = moves.Grows modes.Fielded
 
-stays_fielded : (outer : List Level) (v : FieldMove) (n : FieldScanned) → IsInner [] [] outer v → string_move outer v (Some n) ≡ moves.Grows modes.Fielded
-stays_fielded [] (grows m) n inner = refl
-stays_fielded [] closes n inner = absurd inner
-stays_fielded [] breaks n inner = absurd inner
-stays_fielded [] (begins_code host) n inner = refl
-stays_fielded [] (opens_field host) n inner = refl
-stays_fielded [] ends_field n inner = refl
-stays_fielded [] refused n inner = refl
-stays_fielded (l ∷ ls) v n inner = refl
+string_stays : (outer : List Level) (v : FieldMove) (o : Option FieldScanned) → KeepsString outer v → string_move outer v o ≡ goes_or_not o
+string_stays [] closes o keeps = absurd keeps
+string_stays [] breaks o keeps = absurd keeps
+string_stays outer v None keeps = refl
+string_stays outer v (Some n) keeps = refl
+
+-- a move in the body ends the string or does not
+ends_or_stays : (outer : List Level) (v : FieldMove) → (outer ≡ [] → StaysBody v) → ((outer ≡ []) × (v ≡ closes)) ⊎ KeepsString outer v
+ends_or_stays (l ∷ ls) v stays = inr tt
+ends_or_stays [] (grows m) stays = inr (stays refl)
+ends_or_stays [] closes stays = inl (refl, refl)
+ends_or_stays [] breaks stays = absurd (stays refl)
+ends_or_stays [] v stays = inr tt
 
 pub before_none : (p : Place) → before p [] ≡ []
 before_none literal = refl
@@ -95,35 +93,25 @@ module _ (done : List Piece) (held : List ℕ) (st : List Bracket) (c : ℕ) (st
   no_room room = both moves.Refused false (field_step T c) (scan_move false room) (room_same ∙ room) refl tt
 
   -- the string goes on, or refuses the character
-  goes_on : has_room_in (depth_through 0 done) t c ≡ true → IsInner [] [] t.outer v → KeepsString t.outer v → StepsAlike S T c
-  goes_on room inner stays = by (field_step t c) refl
+  goes_on : has_room_in (depth_through 0 done) t c ≡ true → KeepsString t.outer v → StepsAlike S T c
+  goes_on room keeps = by (field_step t c) refl
     where
-      inner_at : (ds : List Piece) (bs : List ℕ) (outer : List Level) (w : FieldMove) → IsInner [] [] outer w → IsInner ds bs outer w
-      inner_at ds bs [] (grows m) h = tt
-      inner_at ds bs [] closes h = h
-      inner_at ds bs [] breaks h = h
-      inner_at ds bs [] (begins_code host) h = tt
-      inner_at ds bs [] (opens_field host) h = tt
-      inner_at ds bs [] ends_field h = tt
-      inner_at ds bs [] refused h = tt
-      inner_at ds bs (l ∷ ls) w h = tt
-
       field : field_step T c ≡ rebased_if done os (field_step t c)
-      field = step_alike done os t c (inner_at done os t.outer v inner)
+      field = step_alike done os t c keeps
 
       bare_step : field_step t c ≡ rebased_if [] [] (field_step t c)
-      bare_step = ap (λ (x : FieldScanned). field_step x c) bare ∙ step_alike [] [] t c inner
+      bare_step = ap (λ (x : FieldScanned). field_step x c) bare ∙ step_alike [] [] t c keeps
 
       still : InStringIf (field_step t c)
-      still = moved_inside t.outer t.done t.openers t.mode t.held c v stays
+      still = moved_inside t.outer t.done t.openers t.mode t.held c v keeps
 
       by : (o : Option FieldScanned) → field_step t c ≡ o → StepsAlike S T c
       by None is =
-          both moves.Refused true None (scan_move true room ∙ ap (string_move t.outer v) is ∙ stays_refused t.outer v inner) (room_same ∙ room) (field ∙ ap (rebased_if done os) is) tt
+          both moves.Refused true None (scan_move true room ∙ ap (string_move t.outer v) is ∙ string_stays t.outer v None keeps) (room_same ∙ room) (field ∙ ap (rebased_if done os) is) tt
       by (Some n) is =
           let more = alone_more (depth_through 0 done) held c t n alone room is in
           let own : IsAlone (depth_through 0 done) (held ++ c ∷ []) = record { state = n; goes = more; inside = subst InStringIf is still; bare = some_is n (rebased [] [] n) (sym is ∙ bare_step ∙ ap (rebased_if [] []) is) } in
-          both (moves.Grows modes.Fielded) true (Some (rebased done os n)) (scan_move true room ∙ ap (string_move t.outer v) is ∙ stays_fielded t.outer v n inner) (room_same ∙ room) (field ∙ ap (rebased_if done os) is)
+          both (moves.Grows modes.Fielded) true (Some (rebased done os n)) (scan_move true room ∙ ap (string_move t.outer v) is ∙ string_stays t.outer v (Some n) keeps) (room_same ∙ room) (field ∙ ap (rebased_if done os) is)
           (alike_kept (scanned done modes.Fielded (held ++ c ∷ [])) (rebased done os n) st (record { stack = stack; flat_is = ap (rebased_if done os) more.steps; own = own }))
 
   -- a state with no field open
@@ -145,30 +133,11 @@ module _ (done : List Piece) (held : List ℕ) (st : List Bracket) (c : ℕ) (st
       both moves.Closes true (Some (field_fresh [] (done ++ p ∷ []) os)) (scan_move true room ∙ ap (λ (l : List Level). string_move l v (field_step t c)) none ∙ ap (λ (w : FieldMove). string_move [] w (field_step t c)) is) (room_same ∙ room) field
       (alike_kept (fresh (done ++ p ∷ [])) (field_fresh [] (done ++ p ∷ []) os) st (tied_fresh done p st refl refl stack))
 
-  fielded_in : has_room_in (depth_through 0 done) t c ≡ true → (outer : List Level) → t.outer ≡ outer → (w : FieldMove) → v ≡ w → StepsAlike S T c
-  fielded_in room (l ∷ ls) is w move = goes_on room (subst (λ x. IsInner [] [] x v) (sym is) tt) (subst (λ x. KeepsString x v) (sym is) tt)
-  fielded_in room [] is w move = by w move (subst StaysBody move (body_at (inside is)))
-    where
-      inner : (x : FieldMove) → v ≡ x → IsInner [] [] [] x → IsInner [] [] t.outer v
-      inner x same h = subst (λ l. IsInner [] [] l v) (sym is) (subst (IsInner [] [] []) (sym same) h)
-
-      stays : (x : FieldMove) → v ≡ x → KeepsString [] x → KeepsString t.outer v
-      stays x same h = subst (λ l. KeepsString l v) (sym is) (subst (KeepsString []) (sym same) h)
-
-      by : (x : FieldMove) → v ≡ x → StaysBody x → StepsAlike S T c
-      by (grows m) same h = goes_on room (inner (grows m) same tt) (stays (grows m) same h)
-      by closes same h = closing room is same (inside is)
-      by breaks same h = absurd h
-      by (begins_code host) same h = goes_on room (inner (begins_code host) same tt) (stays (begins_code host) same tt)
-      by (opens_field host) same h = goes_on room (inner (opens_field host) same tt) (stays (opens_field host) same tt)
-      by ends_field same h = goes_on room (inner ends_field same tt) (stays ends_field same tt)
-      by refused same h = goes_on room (inner refused same tt) (stays refused same tt)
-
   fielded_steps : StepsAlike S T c
   fielded_steps = go (has_room_in (depth_through 0 done) t c) refl
     where
       go : (b : Bool) → has_room_in (depth_through 0 done) t c ≡ b → StepsAlike S T c
-      go true room = fielded_in room t.outer refl v refl
+      go true room = ⊎_elim (λ (ends : (t.outer ≡ []) × (v ≡ closes)). closing room ends.0 ends.1 (inside ends.0)) (λ keeps. goes_on room keeps) (ends_or_stays t.outer v (λ none. body_at (inside none)))
       go false room = no_room room
 
 -- one character, wherever the two machines stand together
