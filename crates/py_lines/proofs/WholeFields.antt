@@ -45,7 +45,7 @@ use Rattle.py_lines.proofs.FieldScans.Runs.{goes_low}
 use Rattle.py_lines.proofs.FieldScans.TextLengths.{later, rest_is}
 use Rattle.py_lines.proofs.LineScan.Increments.{EndsNoLine-push}
 use Rattle.py_lines.proofs.LineScan.LineCount.{byte_len-one, ends-last}
-use Rattle.py_lines.proofs.LineScan.LineSteps.{steps_push}
+use Rattle.py_lines.proofs.ScanMachine.Advance.{steps_push}
 use Rattle.py_lines.proofs.LineScan.Runs.{break-return, ends-run, quote_ascii, string_no_break, string_run}
 use Rattle.py_lines.proofs.LineScan.AsciiRuns.{is_low, is_low_from, low_encodes, low_is, quote-no_break}
 use Rattle.py_lines.proofs.LineScan.StringOpenings.{opened_as_body}

@@ -23,7 +23,7 @@ use Rattle.py_lines.proofs.LineScan.TextSteps.{begun_sound}
 use Rattle.py_lines.proofs.Readers.LineAnswers.{Within}
 
 module _ (f : Feed) (read rest : List ℕ) (o : IsOpen f read rest) where
-  pub open_stands : StandsSound o.way.state read
+  pub open_stands : StandsSound (first_mode f.state.place) read o.way.state (stack_of f.state.scan.brackets)
   open_stands = stands_sound (first_mode f.state.place) read o.way.state (stack_of f.state.scan.brackets) (begun_sound f.state.place) (record { run = o.way.steps; stack = o.way.stacked })
 
   pub open_sound : IsScanSound o.way.state read

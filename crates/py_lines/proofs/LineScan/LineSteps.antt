@@ -1,5 +1,5 @@
 -- The scan of a line's characters, one after another.
-use Rattle.std.proofs.Common.{◌≡◌, ℕ, ◌+◌, inl, inr, true, false, not, ◌&&◌, Option, None, Some, List, [], ◌∷◌, ◌++◌, refl, sym, ap, ◌∙◌, subst, append-nil, arith}
+use Rattle.std.proofs.Common.{◌≡◌, ℕ, ◌+◌, inl, inr, true, false, not, ◌&&◌, Some, List, [], ◌∷◌, ◌++◌, refl, sym, ap, ◌∙◌, subst, append-nil, arith}
 use Rattle.std.specs.Prelude.{encode_utf8, encode_utf8_all}
 use Rattle.std.specs.Char.{IsScalar}
 use Rattle.std.proofs.lemmas.Bool.{both_ways, and_right, false_from_ne_true}
@@ -15,11 +15,12 @@ use Rattle.py_lines.specs.declared.scan.Progress.TheVariants as progress
 use Rattle.py_lines.specs.declared.scan.Scan.{Scan}
 use Rattle.py_lines.specs.declared.scan.Stop.TheVariants as stops
 use Rattle.py_lines.specs.Private.Machine.{Scanned, fresh, Bracket, brackets_of}
-use Rattle.py_lines.specs.Private.ScanMachine.{IsScanSound, scan_step, scan_steps, move_at}
+use Rattle.py_lines.specs.Private.ScanMachine.{IsScanSound, scan_steps}
 use Rattle.py_lines.specs.Private.Scan.{Tallies, IsStacked, Takes, freed, line_start, stack_of, none_open, is_returned, is_return_mode, EndsNoLine, EndsWhole, IsUnderWay, IsAtLineEnd, StopsIn}
 use Rattle.py_lines.proofs.Pieces.PieceLists.{piece, spelled-push, AreReadBefore-push, follows_any}
 use Rattle.py_lines.proofs.Text.CharacterTests.{feed_is, return_is}
-use Rattle.py_lines.proofs.Machine.PieceSteps.{scanned, steps_by-append}
+use Rattle.py_lines.proofs.Machine.PieceSteps.{scanned}
+use Rattle.py_lines.proofs.ScanMachine.Advance.{steps_push}
 use Rattle.py_lines.proofs.ScanMachine.Soundness.{stands_sound}
 use Rattle.py_lines.proofs.LineScan.PieceEnd.{no_class_bracket, closes_shut}
 use Rattle.py_lines.proofs.LineScan.NextCharacter.{one_return, none_level, none_stack}
@@ -28,14 +29,6 @@ use Rattle.py_lines.proofs.Lexings.LineEnds.{line_string}
 -- where the machine has come, it is sound
 pub sound_steps : {st : List Bracket} (m : Mode) (read : List ℕ) (s : Scanned) → IsScanSound (line_start m) [] → scan_steps (Some (line_start m)) read ≡ Some s → brackets_of s.done ≡ Some st → IsScanSound s read
 sound_steps {st = st} m read s start steps stack = (stands_sound m read s st start (record { run = steps; stack = stack })).scan
-
--- one character more
-pub steps_push : (from : Scanned) (read : List ℕ) (s : Scanned) (c : ℕ) → scan_steps (Some from) read ≡ Some s → scan_steps (Some from) (read ++ c ∷ []) ≡ scan_step s c
-steps_push from read s c steps = steps_by-append move_at (Some from) read (c ∷ []) ∙ ap (λ o. scan_steps o (c ∷ [])) steps ∙ whole (scan_step s c)
-  where
-    whole : (o : Option Scanned) → scan_steps o [] ≡ o
-    whole None = refl
-    whole (Some t) = refl
 
 -- a character that was taken, and ended no line
 pub under_way : (m : Mode) (old new : Scan) (read : List ℕ) (c : ℕ) (way : IsUnderWay m old read) → Takes old way.state c progress.Going new → IsUnderWay m new (read ++ c ∷ [])

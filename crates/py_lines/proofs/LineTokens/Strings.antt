@@ -18,13 +18,13 @@ use Rattle.py_lines.proofs.Fields.Nesting.{string_map}
 use Rattle.py_lines.proofs.Machine.FinishedPieces.{GrowsIf, closed_grows, started_grows}
 use Rattle.py_lines.proofs.Machine.LiveTexts.{keeps}
 use Rattle.py_lines.proofs.Machine.PieceSteps.{pieces_at, steps_by-append}
-use Rattle.py_lines.proofs.ScanMachine.Advance.{run_grows}
+use Rattle.py_lines.proofs.ScanMachine.Advance.{run_grows, steps_push}
 use Rattle.py_lines.proofs.ScanMachine.Follows.{some_is}
 use Rattle.py_lines.proofs.ScanMachine.Reaching.{reach}
 use Rattle.py_lines.proofs.ScanMachine.Rooms.{fields_less}
 use Rattle.py_lines.proofs.ScanMachine.Steps.{StopsBefore, begun, stops-free}
 use Rattle.py_lines.proofs.Text.Splits.{Either, either}
-use Rattle.py_lines.proofs.LineScan.LineSteps.{sound_steps, steps_push}
+use Rattle.py_lines.proofs.LineScan.LineSteps.{sound_steps}
 use Rattle.py_lines.proofs.LineScan.TextSteps.{begun_sound}
 use Rattle.py_lines.proofs.LineTokens.FirstCharacters.{begins_so, unmarked_first}
 

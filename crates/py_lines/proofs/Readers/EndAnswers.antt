@@ -75,10 +75,10 @@ end_fault_as fault kind offset characters others same at spell is =
     subst (λ t. IsEndFault fault.kind t [] fault.offset) spell (subst (λ k. IsEndFault k characters [] fault.offset) (sym same) (subst (λ o. IsEndFault kind characters [] o) at is))
 
 -- the text's last line: its pieces, with the open one, are one line
-line_at_close : (m : Mode) (scan : Scan) (read : List ℕ) (way : IsUnderWay m scan read) → StandsSound way.state read → is_final way.state.mode ≡ true → stack_of scan.brackets ≡ [] → 0 < byte_len read → (end_len : ℕ) → cut 0 (pieces_at way.state) ≡ pieces_at way.state ∷ [] → end_len ≡ end_len_of (pieces_at way.state) → IsScannedLine (line_start m) scan read end_len (pieces_at way.state)
+line_at_close : (m : Mode) (scan : Scan) (read : List ℕ) (way : IsUnderWay m scan read) → StandsSound m read way.state (stack_of scan.brackets) → is_final way.state.mode ≡ true → stack_of scan.brackets ≡ [] → 0 < byte_len read → (end_len : ℕ) → cut 0 (pieces_at way.state) ≡ pieces_at way.state ∷ [] → end_len ≡ end_len_of (pieces_at way.state) → IsScannedLine (line_start m) scan read end_len (pieces_at way.state)
 line_at_close m scan read way sound final empty some end_len whole ends =
     let s = way.state in
-    let ended = end_sound s read sound final in
+    let ended = end_sound m read s (stack_of scan.brackets) sound final in
     record {
       line = record {
         to = s;
@@ -97,7 +97,7 @@ line_at_close m scan read way sound final empty some end_len whole ends =
     }
 
 -- no line end closes it
-pub line_at_text_end : (m : Mode) (scan : Scan) (read : List ℕ) (way : IsUnderWay m scan read) → StandsSound way.state read → is_final way.state.mode ≡ true → (way.state.mode ≡ modes.Return → none_open (stack_of scan.brackets) ≡ false) → stack_of scan.brackets ≡ [] → 0 < byte_len read → IsScannedLine (line_start m) scan read 0 (pieces_at way.state)
+pub line_at_text_end : (m : Mode) (scan : Scan) (read : List ℕ) (way : IsUnderWay m scan read) → StandsSound m read way.state (stack_of scan.brackets) → is_final way.state.mode ≡ true → (way.state.mode ≡ modes.Return → none_open (stack_of scan.brackets) ≡ false) → stack_of scan.brackets ≡ [] → 0 < byte_len read → IsScannedLine (line_start m) scan read 0 (pieces_at way.state)
 line_at_text_end m scan read way sound final open_yet empty some =
     let s = way.state in
     let spell : spelled (pieces_at s) ≡ read = closed_spells s.mode s.done s.held sound.scan.holds ∙ sound.scan.spell in
@@ -114,7 +114,7 @@ pub returned_final : (m : Mode) → is_return_mode m ≡ true → is_final m ≡
 returned_final modes.Return returned = refl
 returned_final m returned = absurd (both_ways _ refl returned)
 
-pub line_at_return : (m : Mode) (scan : Scan) (read : List ℕ) (way : IsUnderWay m scan read) → StandsSound way.state read → is_return_mode scan.piece.mode ≡ true → stack_of scan.brackets ≡ [] → 0 < byte_len read → IsScannedLine (line_start m) scan read 1 (pieces_at way.state)
+pub line_at_return : (m : Mode) (scan : Scan) (read : List ℕ) (way : IsUnderWay m scan read) → StandsSound m read way.state (stack_of scan.brackets) → is_return_mode scan.piece.mode ≡ true → stack_of scan.brackets ≡ [] → 0 < byte_len read → IsScannedLine (line_start m) scan read 1 (pieces_at way.state)
 line_at_return m scan read way sound returned empty some =
     let s = way.state in
     let both = return_pieces s.mode s.done s.held read sound.scan (ap is_return_mode (sym way.tallies.counts.mode) ∙ returned) way.one_line (stands s.done [] (way.stacked ∙ ap (λ l. Some l) empty)).depth in
@@ -187,7 +187,7 @@ module _ (old : Source) (has : HasScanned old stops.TextEnd) where
       (line_of_fault old stops.TextEnd has lines given line_fault.kind line_fault.place at.keeps.fault at.keeps.at (end_within full line_fault is_line_fault))))
 
   -- the last line
-  way_sound : StandsSound has.scans.stops.0.state has.scans.read
+  way_sound : StandsSound (first_mode old.state.place) has.scans.read has.scans.stops.0.state (stack_of old.state.scan.brackets)
   way_sound =
       let way = has.scans.stops.0 in
       stands_sound (first_mode old.state.place) has.scans.read way.state (stack_of old.state.scan.brackets) (start_sound old stops.TextEnd has) (record { run = way.steps; stack = way.stacked })

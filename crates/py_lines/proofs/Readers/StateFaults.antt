@@ -37,7 +37,7 @@ use Rattle.py_lines.proofs.ScanMachine.Advance.{RunsTo, kept, kept_if, advance}
 use Rattle.py_lines.proofs.ScanMachine.Rebased.{rebased, rebased_in, rebased_if, based, mode_based, none_based, frames_more}
 use Rattle.py_lines.proofs.ScanMachine.Follows.{openers_of, openers-length, flat, Own, IsTied, Alike, roomy, some_is}
 use Rattle.py_lines.proofs.ScanMachine.Runs.{before_none, tied_step}
-use Rattle.py_lines.proofs.ScanMachine.LiveTexts.{comes_along}
+use Rattle.py_lines.proofs.ScanMachine.Soundness.{comes_along}
 
 none_some : {A : Type 0} {a : A} → None ≡ Some a → ⊥
 none_some h = cc

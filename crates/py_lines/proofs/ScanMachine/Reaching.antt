@@ -1,15 +1,19 @@
 -- The scanning machine goes through every list of pieces that is read before what follows, and finds those pieces, where their brackets and
 -- the fields of their strings are not too deep.
-use Rattle.std.proofs.Common.{◌≡◌, ℕ, false, Some, List, [], ◌∷◌, refl, sym, ap, ◌∙◌}
+use Rattle.std.proofs.Common.{◌≡◌, ℕ, true, false, Some, List, [], ◌∷◌, refl, sym, ap, ◌∙◌}
+use Rattle.std.proofs.lemmas.Bool.{both_ways}
 use Rattle.py_lines.specs.Character.{is_mark}
 use Rattle.py_lines.specs.Piece.{Piece, begins, spelled}
+use Rattle.py_lines.specs.Balance.{depth_through}
 use Rattle.py_lines.specs.Fields.{AreReadBefore, Fields, ShallowFields}
 use Rattle.py_lines.specs.LogicalLine.{first_or_zero}
+use Rattle.py_lines.specs.declared.mode.Mode.{Mode}
 use Rattle.py_lines.specs.declared.mode.Mode.TheVariants as modes
-use Rattle.py_lines.specs.Private.Machine.{Scanned, text_start, move_of, Bracket, brackets_of}
-use Rattle.py_lines.specs.Private.FieldMachine.{FieldScanned, field_state, field_text_start, field_pieces, openers_through}
+use Rattle.py_lines.specs.Private.Machine.{Scanned, text_start, closed, move_of, is_final, Bracket, brackets_of}
+use Rattle.py_lines.specs.Private.FieldMachine.{FieldScanned, field_state, field_text_start, field_pieces, openers_through, may_end}
 use Rattle.py_lines.specs.Private.ScanMachine.{meet_of, move_at, StringsFit}
 use Rattle.py_lines.proofs.Pieces.OpenBrackets.{StandsAt, level, inside, stands}
+use Rattle.py_lines.proofs.Pieces.ShallowPieces.{shallow_both}
 use Rattle.py_lines.proofs.Machine.PieceSteps.{pieces_at}
 use Rattle.py_lines.proofs.Machine.ReadingSteps.{ReachesBy}
 use Rattle.py_lines.proofs.FieldMachine.Runs.{BelowLimit, StopsAt, steps_of, room_of}
@@ -17,9 +21,11 @@ use Rattle.py_lines.proofs.FieldMachine.ListBrackets.{openers_through-append, op
 use Rattle.py_lines.proofs.FieldMachine.Nesting.{passed_shallow, begin_shallow, shallow_run}
 use Rattle.py_lines.proofs.FieldMachine.Completeness.{FieldReaches, reached}
 use Rattle.py_lines.proofs.ScanMachine.Steps.{StopsBefore}
-use Rattle.py_lines.proofs.ScanMachine.Follows.{openers_of, IsTied}
+use Rattle.py_lines.proofs.ScanMachine.Rebased.{rebased, rebased_if, mode_based, none_based}
+use Rattle.py_lines.proofs.ScanMachine.Follows.{openers_of, flat, Own, IsTied, some_is}
 use Rattle.py_lines.proofs.ScanMachine.Runs.{tied_step}
-use Rattle.py_lines.proofs.ScanMachine.LiveTexts.{goes_along, final_outside, shallow_both}
+use Rattle.py_lines.proofs.ScanMachine.Soundness.{start_tied}
+use Rattle.py_lines.proofs.ScanMachine.LiveTexts.{goes_along}
 
 -- the brackets that are open after pieces, in both machines
 stack_openers : (ps : List Piece) (st : List Bracket) → StandsAt st ps → openers_through (Some []) ps ≡ Some (openers_of st)
@@ -33,11 +39,21 @@ stack_openers ps st (inside _ _ b others outer inner a is spell out opens kind p
     ∙ ap (λ (o : ℕ). Some (o ∷ openers_of others)) (sym kind)
     ∙ ap (λ (bs : List Bracket). Some (openers_of bs)) (sym is)
 
--- where the machine with fields may stop before the rest, in no field, the other may, and has found the same
+-- where the machine with fields may end, in no field, the other may, and has found the same
+final_alike : (m : Mode) (done : List Piece) (held os : List ℕ) (t : FieldScanned) → flat m done os held ≡ Some t → Own m (depth_through 0 done) held → t.outer ≡ [] → may_end t.mode ≡ true → (is_final m ≡ true) × (field_pieces t ≡ closed m done held)
+final_alike (modes.FieldOpened h) done held os t is own none ends = absurd (both_ways _ refl (ap (λ (x : FieldScanned). may_end x.mode) (some_is _ t is) ∙ ends))
+final_alike (modes.FieldEmpty h) done held os t is own none ends = (refl, ap field_pieces (sym (some_is _ t is)))
+final_alike modes.Fielded done held os t is own none ends =
+    let x : FieldScanned = own.state in
+    let whole : rebased done os x ≡ t = some_is _ t (sym (ap (rebased_if done os) own.goes.steps) ∙ is) in
+    let (host, place, named, at, body_mode) = own.inside (none_based done os x.outer x.done x.openers x.mode x.held (ap (λ (u : FieldScanned). u.outer) whole ∙ none)) in
+    let mode : x.mode ≡ t.mode = sym (mode_based done os x.outer x.done x.openers x.mode x.held) ∙ ap (λ (u : FieldScanned). u.mode) whole in
+    absurd (both_ways _ (ap may_end (sym mode ∙ body_mode)) ends)
+final_alike m done held os t is own none ends = (ap (λ (x : FieldScanned). may_end x.mode) (some_is _ t is) ∙ ends, ap field_pieces (sym (some_is _ t is)))
+
+-- so before any rest
 stops_alike : (rest : List ℕ) (t : FieldScanned) (s : Scanned) (st : List Bracket) → IsTied t s st → t.outer ≡ [] → StopsAt t.mode t.held rest → StopsBefore s.mode rest × (field_pieces t ≡ pieces_at s)
-stops_alike [] t s st tied none stops =
-    let at = final_outside s.mode s.done s.held st t tied.flat_is tied.own none stops in
-    (sym at.ends ∙ stops, at.pieces)
+stops_alike [] t s st tied none stops = final_alike s.mode s.done s.held (openers_of st) t tied.flat_is tied.own none stops
 stops_alike (c ∷ cs) t s st tied none stops = (tied_step t s st c tied).ends none stops
 
 -- the machine goes through a text from its start, finds these pieces, and may stop before the rest
@@ -53,7 +69,7 @@ stops_start (c ∷ cs) h = rw h
 reach_by : (pieces : List Piece) (os rest : List ℕ) (found : FieldReaches BelowLimit (spelled pieces) pieces os rest) → StopsAt found.mode found.held rest → Reaches (spelled pieces) pieces rest
 reach_by pieces os rest found stops =
     let t : FieldScanned = field_state [] found.done os found.mode found.held in
-    let along = goes_along (spelled pieces) t (steps_of BelowLimit field_text_start t (spelled pieces) found.goes) (room_of field_text_start t (spelled pieces) found.goes) in
+    let along = goes_along (spelled pieces) text_start [] field_text_start t start_tied (steps_of BelowLimit field_text_start t (spelled pieces) found.goes) (room_of field_text_start t (spelled pieces) found.goes) in
     let alike = stops_alike rest t along.state along.brackets along.tied refl stops in
     record { to = along.state; steps = along.goes.run; pieces_are = sym alike.1 ∙ found.pieces_are; stops = λ begin. alike.0 }
 

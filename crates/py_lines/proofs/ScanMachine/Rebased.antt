@@ -8,7 +8,7 @@ use Rattle.py_lines.specs.FieldStrings.{literal, specification}
 use Rattle.py_lines.specs.declared.mode.Start.{Start}
 use Rattle.py_lines.specs.declared.mode.Start.TheVariants as starts
 use Rattle.py_lines.specs.Private.Machine.{start_of}
-use Rattle.py_lines.specs.Private.FieldMachine.{between, FieldMode, body, FieldMove, grows, closes, breaks, begins_code, opens_field, ends_field, refused, Level, FieldScanned, field_state, field_move, field_moved, field_step, field_started, field_operator, field_closed, code_operator, after_operator, openers_with, opened_level, field_ended, levels_open, frames}
+use Rattle.py_lines.specs.Private.FieldMachine.{between, FieldMode, body, FieldMove, closes, breaks, begins_code, ends_field, Level, FieldScanned, field_state, field_move, field_moved, field_step, field_started, field_operator, field_closed, code_operator, after_operator, openers_with, opened_level, field_ended, levels_open, frames}
 use Rattle.py_lines.proofs.ScanMachine.BodyMoves.{KeepsString}
 
 module _ (done : List Piece) (os : List ℕ) where

@@ -9,14 +9,14 @@ use Rattle.py_lines.specs.declared.mode.Mode.TheVariants as modes
 use Rattle.py_lines.specs.declared.mode.Move.{Move}
 use Rattle.py_lines.specs.declared.mode.Move.TheVariants as moves
 use Rattle.py_lines.specs.Private.Machine.{Scanned, fresh, moved, Bracket, brackets_of}
-use Rattle.py_lines.specs.Private.FieldMachine.{FieldMode, FieldMove, grows, closes, breaks, begins_code, opens_field, ends_field, refused, Level, FieldScanned, field_state, field_fresh, field_text_start, field_class_of, field_move, field_moved, field_step, frames, has_room, has_room_at, text_place, before}
+use Rattle.py_lines.specs.Private.FieldMachine.{FieldMode, FieldMove, grows, closes, breaks, Level, FieldScanned, field_state, field_fresh, field_text_start, field_class_of, field_move, field_moved, field_step, frames, has_room, has_room_at, text_place, before}
 use Rattle.py_lines.specs.Private.ScanMachine.{string_move, has_room_in, fielded_move, move_at, IsInString}
 use Rattle.py_lines.proofs.Pieces.PieceLists.{piece}
 use Rattle.py_lines.proofs.Pieces.OpenBrackets.{stands}
 use Rattle.py_lines.proofs.Machine.PieceSteps.{scanned}
 use Rattle.py_lines.proofs.FieldSoundness.HostSteps.{sound_at}
 use Rattle.py_lines.proofs.FieldSoundness.WholeTexts.{no_limit, any_rooms}
-use Rattle.py_lines.proofs.ScanMachine.Advance.{kept_if, advance, goes}
+use Rattle.py_lines.proofs.ScanMachine.Advance.{kept_if}
 use Rattle.py_lines.proofs.ScanMachine.Rebased.{rebased, rebased_in, rebased_if, none_based, step_alike, frames_more}
 use Rattle.py_lines.proofs.ScanMachine.Rooms.{GoesAlone, alone_more}
 use Rattle.py_lines.proofs.ScanMachine.BodyMoves.{IsBodyMode, StaysBody, body_stays, KeepsString, moved_inside, InStringIf}
@@ -152,16 +152,3 @@ tied_mode m done held st t c stack is own = subst (λ x. StepsAlike (scanned don
 
 pub tied_step : (t : FieldScanned) (s : Scanned) (st : List Bracket) (c : ℕ) → IsTied t s st → StepsAlike s t c
 tied_step t s st c tied = tied_mode s.mode s.done s.held st t c tied.stack tied.flat_is tied.own
-
--- characters, one after another, while each has room
-abbrev pub roomy_steps : Option FieldScanned → List ℕ → Option FieldScanned
-roomy_steps None cs = None
-roomy_steps (Some t) [] = Some t
-roomy_steps (Some t) (c ∷ cs) = roomy_steps (roomy (has_room t c) (field_step t c)) cs
-
-pub tied_runs : (cs : List ℕ) (o : Option Scanned) (p : Option FieldScanned) → Alike o p → Alike (goes o cs) (roomy_steps p cs)
-tied_runs cs None None alike = tt
-tied_runs cs None (Some t) alike = absurd alike
-tied_runs cs (Some s) None alike = absurd alike
-tied_runs [] (Some s) (Some t) alike = alike
-tied_runs (c ∷ cs) (Some s) (Some t) (st, tied) = tied_runs cs (advance s c) (roomy (has_room t c) (field_step t c)) (tied_step t s st c tied).alike

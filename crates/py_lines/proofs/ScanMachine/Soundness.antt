@@ -1,7 +1,7 @@
 -- Where the scanning machine has come from a line's start, the machine with fields stands with it, and tells what is sound: the pieces that were
 -- found spell what was read, and are read before whatever follows; no string among them opens a bracket or a field at depth 200.
 use Rattle.std.proofs.Common.{◌≡◌, ℕ, Bool, true, false, Option, None, Some, List, [], ◌∷◌, ◌++◌, refl, sym, ap, ◌∙◌, subst, append_assoc, append-nil}
-use Rattle.std.proofs.lemmas.Bool.{both_ways}
+use Rattle.std.proofs.lemmas.Bool.{and_from, both_ways}
 use Rattle.py_lines.specs.Piece.{Piece, spelled}
 use Rattle.py_lines.specs.Balance.{depth_through}
 use Rattle.py_lines.specs.Fields.{AreReadBefore}
@@ -12,8 +12,8 @@ use Rattle.py_lines.specs.declared.mode.Move.TheVariants as moves
 use Rattle.py_lines.specs.declared.mode.Start.{Start}
 use Rattle.py_lines.specs.declared.mode.Start.TheVariants as starts
 use Rattle.py_lines.specs.Private.Machine.{Scanned, text_start, closed, started, moved, start_of, is_final, Bracket, brackets_of}
-use Rattle.py_lines.specs.Private.FieldMachine.{FieldMode, plain, opened, empty, Level, FieldScanned, field_state, field_text_start, field_step, frames, has_room, text_place}
-use Rattle.py_lines.specs.Private.ScanMachine.{host_in, move_at, scan_step, IsBare, HoldsOpen, StringsFit, IsScanSound}
+use Rattle.py_lines.specs.Private.FieldMachine.{FieldMode, plain, opened, empty, Level, FieldScanned, field_state, field_text_start, field_step, field_steps_from, frames, has_room, have_room, text_place}
+use Rattle.py_lines.specs.Private.ScanMachine.{host_in, move_at, scan_step, scan_steps, IsBare, HoldsOpen, StringsFit, IsScanSound}
 use Rattle.py_lines.specs.Private.Scan.{line_start}
 use Rattle.py_lines.proofs.Pieces.ShallowPieces.{strings_shallow}
 use Rattle.py_lines.proofs.Machine.Starts.{StartsSo, starts_so}
@@ -23,16 +23,22 @@ use Rattle.py_lines.proofs.FieldSoundness.Lists.{FieldSoundIf}
 use Rattle.py_lines.proofs.FieldSoundness.HostSteps as field_soundness
 use Rattle.py_lines.proofs.FieldSoundness.ListEnds.{EndsList, list_ends}
 use Rattle.py_lines.proofs.FieldSoundness.WholeTexts.{two_hundred, room_at}
-use Rattle.py_lines.proofs.ScanMachine.Advance.{kept, kept_if, advance, goes, GoesTo, RunsTo, goes_from}
+use Rattle.py_lines.proofs.FieldSoundness.LiveTexts.{steps-append, room-append}
+use Rattle.py_lines.proofs.ScanMachine.Advance.{kept, kept_if, GoesTo, RunsTo, stack_at}
 use Rattle.py_lines.proofs.ScanMachine.Rebased.{based, rebased_in}
 use Rattle.py_lines.proofs.ScanMachine.Follows.{openers_of, flat, Own, IsTied, roomy, Alike, some_is}
 use Rattle.py_lines.proofs.ScanMachine.Runs.{before_none, tied_step}
 
--- the two machines stand together where these characters were read
-pub record StandsSound (s : Scanned) (read : List ℕ) : Type 0 where
+-- the machine with fields where a line begins in this mode
+abbrev pub field_start : Mode → FieldScanned
+field_start m = field_state [] [] [] (plain m) []
+
+-- both machines have come to states that belong together, and are sound there
+pub record StandsSound (m : Mode) (read : List ℕ) (s : Scanned) (st : List Bracket) : Type 0 where
   pub state : FieldScanned
-  pub brackets : List Bracket
-  pub tied : IsTied state s brackets
+  pub steps : field_steps_from (Some (field_start m)) read ≡ Some state
+  pub room : have_room (Some (field_start m)) read ≡ true
+  pub tied : IsTied state s st
   pub field : IsFieldSound two_hundred state read
   pub scan : IsScanSound s read
 
@@ -53,14 +59,6 @@ moved_stays s c (moves.Grows m) = λ is. (refl, refl)
 moved_stays s c moves.Closes = λ is. absurd (cc)
 moved_stays s c moves.Breaks = started_stays s (closed s.mode s.done s.held) c (start_of c) (starts_so c)
 moved_stays s c moves.Refused = tt
-
-kept_stays : (s : Scanned) (c : ℕ) (o : Option Scanned) → Stays s c o → Stays s c (kept_if o)
-kept_stays s c None stays = tt
-kept_stays s c (Some n) stays = go (brackets_of n.done)
-  where
-    go : (b : Option (List Bracket)) → Stays s c (kept n b)
-    go None = tt
-    go (Some st) = stays
 
 -- a string alone has nothing before it
 level_bare : (l : Level) (ls : List Level) (ps : List Piece) (os : List ℕ) → IsBare (based [] [] l ls) ps os
@@ -129,36 +127,55 @@ module _ (s : Scanned) (read : List ℕ) (c : ℕ) (sound : IsScanSound s read) 
       sound_as m (plain m) done os held all flat_field (open_of m done held flat_field.mode flat_field.start)
 
 -- characters, one after another
-run_sound : (cs : List ℕ) (s : Scanned) (read : List ℕ) → StandsSound s read → (u : Scanned) → goes (Some s) cs ≡ Some u → StandsSound u (read ++ cs)
-run_sound [] s read sound u is = subst (λ (x : Scanned). StandsSound x (read ++ [])) (some_is s u is) (subst (StandsSound s) (sym (append-nil read)) sound)
-run_sound (c ∷ cs) s read sound u is =
-    go (advance s c) (roomy (has_room t c) (field_step t c)) (tied_step t s sound.brackets c sound.tied).alike (field (has_room t c) refl) (kept_stays s c (scan_step s c) (moved_stays s c (move_at s c))) is
-    (λ n next to. subst (StandsSound u) (append_assoc read (c ∷ []) cs) (run_sound cs n (read ++ c ∷ []) next u to))
+run_sound : (m : Mode) (cs : List ℕ) (s : Scanned) (read : List ℕ) (st : List Bracket) → StandsSound m read s st → (u : Scanned) (last : List Bracket) → GoesTo s cs u last → StandsSound m (read ++ cs) u last
+run_sound m [] s read st here u last to =
+    let same : s ≡ u = some_is s u to.run in
+    let stack : st ≡ last = some_is st last (sym here.tied.stack ∙ ap (λ (x : Scanned). brackets_of x.done) same ∙ to.stack) in
+    subst (λ x. StandsSound m x u last) (sym (append-nil read)) (subst (StandsSound m read u) stack (subst (λ (x : Scanned). StandsSound m read x st) same here))
+run_sound m (c ∷ cs) s read st here u last to =
+    go (scan_step s c) (tied_step t s st c here.tied).alike (moved_stays s c (move_at s c)) to.run
+    (λ n first next run. subst (λ x. StandsSound m x u last) (append_assoc read (c ∷ []) cs) (run_sound m cs n (read ++ c ∷ []) first next u last (record { run = run; stack = to.stack })))
   where
     t : FieldScanned
-    t = sound.state
+    t = here.state
 
-    field : (b : Bool) → has_room t c ≡ b → FieldSoundIf two_hundred (roomy b (field_step t c)) (read ++ c ∷ [])
-    field true room = field_soundness.step_sound two_hundred t.outer t.done t.openers t.mode t.held read c sound.field (room_at (frames t) c _ room)
-    field false room = tt
-
-    go : (o : Option Scanned) (p : Option FieldScanned) → Alike o p → FieldSoundIf two_hundred p (read ++ c ∷ []) → Stays s c o → goes o cs ≡ Some u
-        → ((n : Scanned) → StandsSound n (read ++ c ∷ []) → goes (Some n) cs ≡ Some u → StandsSound u (read ++ c ∷ cs)) → StandsSound u (read ++ c ∷ cs)
-    go None p alike next stays to later = let stuck : None ≡ Some u = to in absurd (cc)
-    go (Some n) None alike next stays to later = absurd alike
-    go (Some n) (Some f) (st, tied) next stays to later =
-        later n (record { state = f; brackets = st; tied = tied; field = next; scan = next_sound s read c sound.scan n.mode n.done n.held (openers_of st) f stays tied.flat_is tied.own next }) to
+    go : (o : Option Scanned) → Alike (kept_if o) (roomy (has_room t c) (field_step t c)) → Stays s c o → scan_steps o cs ≡ Some u
+        → ((n : Scanned) (first : List Bracket) → StandsSound m (read ++ c ∷ []) n first → scan_steps (Some n) cs ≡ Some u → StandsSound m (read ++ c ∷ cs) u last) → StandsSound m (read ++ c ∷ cs) u last
+    go None alike stays run later = let stuck : None ≡ Some u = run in absurd (cc)
+    go (Some n) alike stays run later =
+        let before = stack_at {s = n} {t = u} {cs = cs} {st = last} (record { run = run; stack = to.stack }) in
+        by (has_room t c) (field_step t c) refl refl (subst (λ b. Alike (kept n b) (roomy (has_room t c) (field_step t c))) before.1 alike)
+      where
+        by : (b : Bool) (p : Option FieldScanned) → has_room t c ≡ b → field_step t c ≡ p → Alike (Some n) (roomy b p) → StandsSound m (read ++ c ∷ cs) u last
+        by false p room is tie = absurd tie
+        by true None room is tie = absurd tie
+        by true (Some f) room is (first, tied) =
+            let next = field_soundness.step_sound two_hundred t.outer t.done t.openers t.mode t.held read c here.field (room_at (frames t) c _ room) in
+            let field : IsFieldSound two_hundred f (read ++ c ∷ []) = subst (λ o. FieldSoundIf two_hundred o (read ++ c ∷ [])) is next in
+            let here_next : StandsSound m (read ++ c ∷ []) n first = record {
+              state = f;
+              steps = steps-append (Some (field_start m)) read (c ∷ []) ∙ ap (λ o. field_steps_from o (c ∷ [])) here.steps ∙ ap (λ o. field_steps_from o []) is;
+              room = room-append (Some (field_start m)) read (c ∷ []) t here.steps here.room (and_from _ _ room (ap (λ o. have_room o []) is));
+              tied = tied;
+              field = field;
+              scan = next_sound s read c here.scan n.mode n.done n.held (openers_of first) f stays tied.flat_is tied.own field;
+            } in
+            later n first here_next run
 
 -- nothing is read at a line's start, so it is the text's or that of a line after it
 not_empty : (xs : List ℕ) (y : ℕ) (ys : List ℕ) → [] ≡ xs ++ y ∷ ys → ⊥
 not_empty [] y ys h = cc
 not_empty (x ∷ xs) y ys h = cc
 
-start_sound : (m : Mode) → HoldsOpen m [] [] → IsScanSound (line_start m) [] → StandsSound (line_start m) []
-start_sound modes.Start holds start = record { state = field_text_start; brackets = []; tied = record { stack = refl; flat_is = refl; own = tt }; field = field_soundness.start_is_sound two_hundred; scan = start }
+pub start_tied : IsTied field_text_start text_start []
+start_tied = record { stack = refl; flat_is = refl; own = tt }
+
+start_sound : (m : Mode) → HoldsOpen m [] [] → IsScanSound (line_start m) [] → StandsSound m [] (line_start m) []
+start_sound modes.Start holds start = record { state = field_text_start; steps = refl; room = refl; tied = start_tied; field = field_soundness.start_is_sound two_hundred; scan = start }
 start_sound modes.Free holds start = record {
-  state = field_state [] [] [] (plain modes.Free) [];
-  brackets = [];
+  state = field_start modes.Free;
+  steps = refl;
+  room = refl;
   tied = record { stack = refl; flat_is = refl; own = tt };
   field = record { spell = refl; mode = (refl, λ at. absurd (cc)); list = (field_soundness.start_is_sound two_hundred).list; levels = tt; start = tt };
   scan = start;
@@ -175,14 +192,18 @@ start_sound modes.Fielded holds start = let is = some_is field_text_start holds.
 start_sound string_mode holds start = absurd (not_empty holds.1.prefix holds.1.quote holds.1.body holds.1.spell)
 
 -- where the machine goes to from a line's start is sound
-pub stands_sound : (m : Mode) (cs : List ℕ) (s : Scanned) (st : List Bracket) → IsScanSound (line_start m) [] → GoesTo (line_start m) cs s st → StandsSound s cs
-stands_sound m cs s st start to = run_sound cs (line_start m) [] (start_sound m start.holds start) s (goes_from cs (line_start m) s st to)
+pub stands_sound : (m : Mode) (cs : List ℕ) (s : Scanned) (st : List Bracket) → IsScanSound (line_start m) [] → GoesTo (line_start m) cs s st → StandsSound m cs s st
+stands_sound m cs s st start to = run_sound m cs (line_start m) [] [] (start_sound m start.holds start) s st to
 
+-- and from the text's
 pub start_is_sound : IsScanSound text_start []
 start_is_sound = record { spell = refl; holds = (refl, refl); fit = λ more. tt; strings = tt }
 
+pub comes_along : (cs : List ℕ) (s : Scanned) (st : List Bracket) → RunsTo cs s st → StandsSound modes.Start cs s st
+comes_along cs s st to = stands_sound modes.Start cs s st start_is_sound to
+
 pub sound_at : (cs : List ℕ) (s : Scanned) (st : List Bracket) → RunsTo cs s st → IsScanSound s cs
-sound_at cs s st to = (stands_sound modes.Start cs s st start_is_sound to).scan
+sound_at cs s st to = (comes_along cs s st to).scan
 
 -- where the text may end, the pieces, the open one with them, are read to the text's end
 pub record EndsSound (s : Scanned) (read : List ℕ) : Type 0 where
@@ -203,8 +224,8 @@ ends_in m done os held read t is field may =
     let own = field_as t (field_state [] done os (plain m) held) read is field in
     ends_as m done os held read (list_ends two_hundred [] done os (plain m) held read own may) own.spell
 
-pub end_sound : (s : Scanned) (read : List ℕ) → StandsSound s read → is_final s.mode ≡ true → EndsSound s read
-end_sound s read sound may = ends_in s.mode s.done (openers_of sound.brackets) s.held read sound.state sound.tied.flat_is sound.field may
+pub end_sound : (m : Mode) (read : List ℕ) (s : Scanned) (st : List Bracket) → StandsSound m read s st → is_final s.mode ≡ true → EndsSound s read
+end_sound m read s st here may = ends_in s.mode s.done (openers_of st) s.held read here.state here.tied.flat_is here.field may
 
 pub ends_sound : (cs : List ℕ) (s : Scanned) (st : List Bracket) → RunsTo cs s st → is_final s.mode ≡ true → EndsSound s cs
-ends_sound cs s st to may = end_sound s cs (stands_sound modes.Start cs s st start_is_sound to) may
+ends_sound cs s st to may = end_sound modes.Start cs s st (comes_along cs s st to) may

@@ -29,7 +29,7 @@ use Rattle.py_lines.proofs.ScanMachine.Steps.{breaks_in}
 use Rattle.py_lines.proofs.LineScan.BracketStack.{keeps_at}
 use Rattle.py_lines.proofs.LineScan.Increments.{EndsNoLine-push, line_ends-step, stack_push}
 use Rattle.py_lines.proofs.LineScan.LineCount.{ends-last}
-use Rattle.py_lines.proofs.LineScan.LineSteps.{steps_push}
+use Rattle.py_lines.proofs.ScanMachine.Advance.{steps_push}
 use Rattle.py_lines.proofs.LineScan.NextCharacter.{closed_one_line, depth_none, none_level}
 use Rattle.py_lines.proofs.LineScan.PieceEnd.{closed_text}
 use Rattle.py_lines.proofs.LineScan.Runs.{break_low, ends-run, line_ends-run, space_low, word_byte_continues, word_byte_low}

@@ -18,7 +18,7 @@ use Rattle.py_lines.proofs.Machine.LiveTexts.{keeps}
 use Rattle.py_lines.proofs.Machine.PieceSteps.{scanned}
 use Rattle.py_lines.proofs.Machine.Starts.{start-slash}
 use Rattle.py_lines.proofs.LineScan.Increments.{EndsNoLine-push}
-use Rattle.py_lines.proofs.LineScan.LineSteps.{steps_push}
+use Rattle.py_lines.proofs.ScanMachine.Advance.{steps_push}
 use Rattle.py_lines.proofs.LineScan.Runs.{word_byte_continues}
 use Rattle.py_lines.proofs.LineScan.AsciiRuns.{is_low, low_encodes, low_is}
 use Rattle.py_lines.proofs.Text.CharacterTests.{feed_is, the_one}
