@@ -17,7 +17,7 @@ use Rattle.py_lines.specs.declared.mode.Move.{Move}
 use Rattle.py_lines.specs.declared.mode.Move.TheVariants as moves
 use Rattle.py_lines.specs.declared.mode.Start.{Start}
 use Rattle.py_lines.specs.declared.mode.Start.TheVariants as starts
-use Rattle.py_lines.specs.Private.Machine.{Scanned, fresh, class_of, closed, started, moved, move_of, short_move, long_move, start_of, Holds, is_prefix_spelling, first_spelling, spelling_with, Bracket, brackets_after, brackets_of}
+use Rattle.py_lines.specs.Private.Machine.{Scanned, fresh, class_of, closed, started, moved, move_of, short_move, long_move, start_of, Holds, is_prefix_spelling, first_spelling, spelling_with, Bracket, closed_by, opened_by, brackets_after, brackets_of}
 use Rattle.py_lines.specs.Private.FieldMachine.{between, after_slash, after_brace, FieldMode, plain, opened, empty, body, FieldMove, grows, closes, breaks, refused, Level, FieldScanned, field_state, field_fresh, field_text_start, begins_host, host_of, long_host, plain_move, field_move, field_moved, field_step, field_started, field_closed, field_pieces, openers_with, after_operator, levels_open, frames, has_room, has_room_at, between_move, body_move}
 use Rattle.py_lines.specs.Private.ScanMachine.{is_field_spelling, is_raw_spelling, host_in, quote_move, opened_move, meet_of, string_state, have_room_in, move_at, scan_step, IsInString}
 use Rattle.py_lines.proofs.Pieces.PieceLists.{piece}
@@ -142,86 +142,67 @@ opens_no c x is other = go (is_opening c) refl
     go false h = h
     go true h = absurd (other (sym is ∙ start-operator c (opening_operator c h)))
 
+-- what both machines come to, where there is room for it
+alike_if : (b : Bool) (u : Scanned) (x : FieldScanned) (st : List Bracket) → b ≡ true → IsTied x u st → Alike (kept_if (Some u)) (roomy b (Some x))
+alike_if b u x st room tied = subst (λ (r : Bool). Alike (kept_if (Some u)) (roomy r (Some x))) (sym room) (alike_kept u x st tied)
+
+each_pair : (F : Bool → Bool → Type 0) → ((b : Bool) → F true b) → F false true → F false false → (a b : Bool) → F a b
+each_pair F one two three true b = one b
+each_pair F one two three false true = two
+each_pair F one two three false false = three
+
 -- an operator meets the brackets of both machines alike
-met : (done : List Piece) (st next : List Bracket) (c : ℕ) → brackets_of (done ++ piece operator (c ∷ []) ∷ []) ≡ Some next → Alike (Some (fresh (done ++ piece operator (c ∷ []) ∷ []))) (Some (field_fresh [] (done ++ piece operator (c ∷ []) ∷ []) (openers_of next)))
-met done st next c stack = (next, record { stack = stack; flat_is = refl; own = tt })
+module _ (done : List Piece) (c : ℕ) where
+  abbrev met : List Piece
+  met = done ++ piece operator (c ∷ []) ∷ []
 
-operator_alike : (done : List Piece) (st : List Bracket) (c : ℕ) → brackets_of done ≡ Some st → Alike (kept_if (Some (fresh (done ++ piece operator (c ∷ []) ∷ [])))) (roomy (not (is_opening c) || nat_lt (length (openers_of st)) 200) (after_operator [] done c (openers_with (openers_of st) c)))
-unfolding brackets_after openers_with
-operator_alike done st c stack = go (is_opening c) (is_closing c) refl refl
-  where
-    p : Piece
-    p = piece operator (c ∷ [])
+  abbrev top : Bracket
+  top = record { opener = c; place = byte_len (spelled done) }
 
-    u : Scanned
-    u = fresh (done ++ p ∷ [])
+  abbrev Meets : Option (List Bracket) → Option FieldScanned → Type 0
+  Meets next o = ((st : List Bracket) → next ≡ Some st → brackets_of met ≡ Some st) → Alike (kept (fresh met) next) o
 
-    at : brackets_of (done ++ p ∷ []) ≡ brackets_after st (byte_len (spelled done)) p
-    at = stack_push done p st stack
+  meets_some : (st : List Bracket) → Meets (Some st) (Some (field_fresh [] met (openers_of st)))
+  meets_some st is = (st, record { stack = is st refl; flat_is = refl; own = tt })
 
-    -- with the brackets that come of it
-    by : (next : Option (List Bracket)) (o : Option FieldScanned) → brackets_after st (byte_len (spelled done)) p ≡ next → Alike (kept u next) o → Alike (kept_if (Some u)) o
-    by next o is alike = subst (λ b. Alike (kept u b) o) (sym (at ∙ is)) alike
+  meets_roomy : (b : Bool) (st : List Bracket) → Meets (if b then Some st else None) (roomy b (Some (field_fresh [] met (openers_of st))))
+  meets_roomy true st = meets_some st
+  meets_roomy false st = λ is. tt
 
-    opening : (room : Bool) → nat_lt (length st) 200 ≡ room → is_opening c ≡ true → Alike (kept_if (Some u)) (roomy room (Some (field_fresh [] (done ++ p ∷ []) (c ∷ openers_of st))))
-    opening true room opens =
-        let next : brackets_after st (byte_len (spelled done)) p ≡ Some (record { opener = c; place = byte_len (spelled done) } ∷ st) = rw (opens, room) in
-        by _ _ next (met done st (record { opener = c; place = byte_len (spelled done) } ∷ st) c (at ∙ next))
-    opening false room opens =
-        let next : brackets_after st (byte_len (spelled done)) p ≡ None = rw (opens, room) in
-        by _ _ next tt
+  meets_closed : (b : Bool) (st : List Bracket) → Meets (if b then Some st else None) (after_operator [] done c (if b then Some (openers_of st) else None))
+  meets_closed true st = meets_some st
+  meets_closed false st = λ is. tt
 
-    opened_with : (bs : List ℕ) → is_opening c ≡ true → openers_with bs c ≡ Some (c ∷ bs)
-    opened_with [] opens = rw opens
-    opened_with (b ∷ bs) opens = rw opens
+  operator_meets : (st : List Bracket) → Meets (brackets_after st (byte_len (spelled done)) (piece operator (c ∷ []))) (roomy (not (is_opening c) || nat_lt (length (openers_of st)) 200) (after_operator [] done c (openers_with (openers_of st) c)))
+  unfolding brackets_after openers_with
+  operator_meets [] =
+      each_pair (λ opens shuts. Meets (if opens then Some (top ∷ []) else (if shuts then None else Some [])) (roomy (not opens || true) (after_operator [] done c (if opens then Some (c ∷ []) else (if shuts then None else Some [])))))
+      (λ shuts. meets_some (top ∷ [])) (λ is. tt) (meets_some []) (is_opening c) (is_closing c)
+  operator_meets (b ∷ bs) =
+      let st : List Bracket = b ∷ bs in
+      let os : List ℕ = openers_of st in
+      let shut : Option (List ℕ) = if c == closing_of b.opener then Some (openers_of bs) else None in
+      each_pair (λ opens shuts. Meets (if opens then opened_by c (byte_len (spelled done)) st else (if shuts then closed_by c st else Some st)) (roomy (not opens || nat_lt (length os) 200) (after_operator [] done c (if opens then Some (c ∷ os) else (if shuts then shut else Some os)))))
+      (λ shuts. subst (λ n. Meets (opened_by c (byte_len (spelled done)) st) (roomy (nat_lt n 200) (Some (field_fresh [] met (c ∷ os))))) (sym (openers-length st)) (meets_roomy (nat_lt (length st) 200) (top ∷ st)))
+      (meets_closed (c == closing_of b.opener) bs) (meets_some st) (is_opening c) (is_closing c)
 
-    kept_with : (bs : List ℕ) → is_opening c ≡ false → is_closing c ≡ false → openers_with bs c ≡ Some bs
-    kept_with [] opens shuts = rw (opens, shuts)
-    kept_with (b ∷ bs) opens shuts = rw (opens, shuts)
-
-    closing : (bs : List Bracket) → bs ≡ st → is_opening c ≡ false → is_closing c ≡ true → Alike (kept_if (Some u)) (after_operator [] done c (openers_with (openers_of bs) c))
-    closing [] is opens shuts =
-        let next : brackets_after st (byte_len (spelled done)) p ≡ None = ap (λ b. brackets_after b (byte_len (spelled done)) p) (sym is) ∙ rw (opens, shuts) in
-        let none : openers_with [] c ≡ None = rw (opens, shuts) in
-        subst (λ o. Alike (kept_if (Some u)) (after_operator [] done c o)) (sym none) (by None None next tt)
-    closing (b ∷ bs) is opens shuts = pick (c == closing_of b.opener) refl
-      where
-        first : (x : Bool) → c == closing_of b.opener ≡ x → brackets_after st (byte_len (spelled done)) p ≡ (if x then Some bs else None)
-        first x same = ap (λ l. brackets_after l (byte_len (spelled done)) p) (sym is) ∙ rw (opens, shuts, same)
-
-        second : (x : Bool) → c == closing_of b.opener ≡ x → openers_with (b.opener ∷ openers_of bs) c ≡ (if x then Some (openers_of bs) else None)
-        second x same = rw (opens, shuts, same)
-
-        pick : (x : Bool) → c == closing_of b.opener ≡ x → Alike (kept_if (Some u)) (after_operator [] done c (openers_with (b.opener ∷ openers_of bs) c))
-        pick true same = subst (λ o. Alike (kept_if (Some u)) (after_operator [] done c o)) (sym (second true same)) (by (Some bs) _ (first true same) (met done st bs c (at ∙ first true same)))
-        pick false same = subst (λ o. Alike (kept_if (Some u)) (after_operator [] done c o)) (sym (second false same)) (by None None (first false same) tt)
-
-    go : (opens shuts : Bool) → is_opening c ≡ opens → is_closing c ≡ shuts → Alike (kept_if (Some u)) (roomy (not (is_opening c) || nat_lt (length (openers_of st)) 200) (after_operator [] done c (openers_with (openers_of st) c)))
-    go true shuts opens closing_is =
-        subst (λ b. Alike (kept_if (Some u)) (roomy (not b || nat_lt (length (openers_of st)) 200) (after_operator [] done c (openers_with (openers_of st) c)))) (sym opens)
-        (subst (λ o. Alike (kept_if (Some u)) (roomy (nat_lt (length (openers_of st)) 200) (after_operator [] done c o))) (sym (opened_with (openers_of st) opens))
-        (subst (λ n. Alike (kept_if (Some u)) (roomy (nat_lt n 200) (Some (field_fresh [] (done ++ p ∷ []) (c ∷ openers_of st))))) (sym (openers-length st)) (opening (nat_lt (length st) 200) refl opens)))
-    go false true opens closing_is =
-        subst (λ b. Alike (kept_if (Some u)) (roomy (not b || nat_lt (length (openers_of st)) 200) (after_operator [] done c (openers_with (openers_of st) c)))) (sym opens) (closing st refl opens closing_is)
-    go false false opens closing_is =
-        let next : brackets_after st (byte_len (spelled done)) p ≡ Some st = rw (opens, closing_is) in
-        subst (λ b. Alike (kept_if (Some u)) (roomy (not b || nat_lt (length (openers_of st)) 200) (after_operator [] done c (openers_with (openers_of st) c)))) (sym opens)
-        (subst (λ o. Alike (kept_if (Some u)) (after_operator [] done c o)) (sym (kept_with (openers_of st) opens closing_is)) (by (Some st) _ next (met done st st c (at ∙ next))))
+  operator_alike : (st : List Bracket) → brackets_of done ≡ Some st → Alike (kept_if (Some (fresh met))) (roomy (not (is_opening c) || nat_lt (length (openers_of st)) 200) (after_operator [] done c (openers_with (openers_of st) c)))
+  operator_alike st stack =
+      let at = stack_push done (piece operator (c ∷ [])) st stack in
+      subst (λ next. Alike (kept (fresh met) next) (roomy (not (is_opening c) || nat_lt (length (openers_of st)) 200) (after_operator [] done c (openers_with (openers_of st) c)))) (sym at) (operator_meets st (λ next is. at ∙ is))
 
 -- a character that begins a piece, after pieces with these brackets open
 started_with : (done : List Piece) (st : List Bracket) (c : ℕ) (x : Start) → start_of c ≡ x → brackets_of done ≡ Some st → StartsSo c x → Alike (kept_if (started done c x)) (roomy (not (is_opening c) || nat_lt (length (openers_of st)) 200) (field_started [] done (openers_of st) c x))
-started_with done st c starts.Operator is stack so = operator_alike done st c stack
+started_with done st c starts.Operator is stack so = operator_alike done c st stack
 started_with done st c starts.LineEnd is stack so =
-    subst (λ b. Alike (kept_if (Some (fresh (done ++ piece line_end (c ∷ []) ∷ [])))) (roomy (not b || nat_lt (length (openers_of st)) 200) (Some (field_fresh [] (done ++ piece line_end (c ∷ []) ∷ []) (openers_of st))))) (sym (opens_no c starts.LineEnd is (λ e. cc)))
-    (alike_kept (fresh (done ++ piece line_end (c ∷ []) ∷ [])) (field_fresh [] (done ++ piece line_end (c ∷ []) ∷ []) (openers_of st)) st (tied_fresh done (piece line_end (c ∷ [])) st refl refl stack))
+    alike_if _ _ _ st (ap (λ b. not b || nat_lt (length (openers_of st)) 200) (opens_no c starts.LineEnd is (λ e. cc))) (tied_fresh done (piece line_end (c ∷ [])) st refl refl stack)
 started_with done st c starts.Nothing is stack so = nothing_there (not (is_opening c) || nat_lt (length (openers_of st)) 200)
   where
     nothing_there : (b : Bool) → Alike None (roomy b None)
     nothing_there true = tt
     nothing_there false = tt
 started_with done st c (starts.Open n) is stack so =
-    subst (λ b. Alike (kept_if (Some (scanned done n (c ∷ [])))) (roomy (not b || nat_lt (length (openers_of st)) 200) (Some (field_state [] done (openers_of st) (plain n) (c ∷ []))))) (sym (opens_no c (starts.Open n) is (λ e. cc)))
-    (alike_kept (scanned done n (c ∷ [])) (field_state [] done (openers_of st) (plain n) (c ∷ [])) st (tied_plain n done st (c ∷ []) (begun_plain n so).0 (begun_plain n so).1 stack))
+    alike_if _ _ _ st (ap (λ b. not b || nat_lt (length (openers_of st)) 200) (opens_no c (starts.Open n) is (λ e. cc))) (tied_plain n done st (c ∷ []) (begun_plain n so).0 (begun_plain n so).1 stack)
   where
     begun_plain : (m : Mode) → StartsSo c (starts.Open m) → (is_fielded_mode m ≡ false) × Own m (depth_through 0 done) (c ∷ [])
     begun_plain modes.Space s = (refl, tt)
@@ -311,16 +292,10 @@ room_closes depth c = refl
 
 -- both machines take the same move of the machine without fields, in a list of the outermost text
 plain_moved : (m : Mode) (done : List Piece) (held : List ℕ) (st : List Bracket) (c : ℕ) (v : Move) → move_of m c ≡ v → brackets_of done ≡ Some st → ((n : Mode) → v ≡ moves.Grows n → Own n (depth_through 0 done) (held ++ c ∷ [])) → Alike (kept_if (moved (scanned done m held) c v)) (roomy (has_room_at (frames (field_state [] done (openers_of st) (plain m) held)) c (plain_move v)) (field_moved (field_state [] done (openers_of st) (plain m) held) c (plain_move v)))
-plain_moved m done held st c (moves.Grows n) is stack own =
-    let t : FieldScanned = field_state [] done (openers_of st) (plain m) held in
-    subst (λ (b : Bool). Alike (kept_if (Some (scanned done n (held ++ c ∷ [])))) (roomy b (Some (field_state [] done (openers_of st) (plain n) (held ++ c ∷ []))))) (sym (room_grows (frames t) c (plain n)))
-    (alike_kept (scanned done n (held ++ c ∷ [])) (field_state [] done (openers_of st) (plain n) (held ++ c ∷ [])) st (tied_plain n done st (held ++ c ∷ []) (subst NoField is (grows_plain m c)) (own n refl) stack))
+plain_moved m done held st c (moves.Grows n) is stack own = alike_if _ _ _ st (room_grows _ c (plain n)) (tied_plain n done st (held ++ c ∷ []) (subst NoField is (grows_plain m c)) (own n refl) stack)
 plain_moved m done held st c moves.Closes is stack own =
-    let t : FieldScanned = field_state [] done (openers_of st) (plain m) held in
-    let p : Piece = piece (class_of m) (held ++ c ∷ []) in
     let neutral = closing_neutral m (held ++ c ∷ []) c is in
-    subst (λ (b : Bool). Alike (kept_if (Some (fresh (done ++ p ∷ [])))) (roomy b (Some (field_fresh [] (done ++ p ∷ []) (openers_of st))))) (sym (room_closes (frames t) c))
-    (alike_kept (fresh (done ++ p ∷ [])) (field_fresh [] (done ++ p ∷ []) (openers_of st)) st (tied_fresh done p st neutral.0 neutral.1 stack))
+    alike_if _ _ _ st (room_closes _ c) (tied_fresh done (piece (class_of m) (held ++ c ∷ [])) st neutral.0 neutral.1 stack)
 plain_moved m done held st c moves.Breaks is stack own = broken (scanned done m held) (field_state [] done (openers_of st) (plain m) held) st c refl refl refl stack
 plain_moved m done held st c moves.Refused is stack own = none_alike (has_room_at (frames (field_state [] done (openers_of st) (plain m) held)) c refused)
 
@@ -435,9 +410,8 @@ module _ (s : Spelling) (done : List Piece) (held : List ℕ) (st : List Bracket
       let host : host_in h ≡ host_of held c = ap (λ (b : Bool). record { quote = c; is_long = false; is_raw = b }) (sym (tells.1 field)) in
       let move : field_move (plain (modes.Word s)) held c ≡ grows (opened (host_in h)) = host_moves s held c (tells.0 ∙ field) quotes ∙ ap (λ (x : Host). grows (opened x)) (sym host) in
       by_moves S T c (moves.Grows (modes.FieldOpened h)) (grows (opened (host_in h))) (rw (other, quotes, field)) move (λ k. absurd (cc))
-      (subst (λ (b : Bool). Alike (kept_if (Some (scanned done (modes.FieldOpened h) (held ++ c ∷ [])))) (roomy b (Some (field_state [] done (openers_of st) (opened (host_in h)) (held ++ c ∷ []))))) (sym (room_grows (frames T) c (opened (host_in h))))
-      (alike_kept (scanned done (modes.FieldOpened h) (held ++ c ∷ [])) (field_state [] done (openers_of st) (opened (host_in h)) (held ++ c ∷ [])) st
-      (record { stack = stack; flat_is = refl; own = (alone_grows (depth_through 0 done) held c _ (opened (host_in h)) (word_alone s (depth_through 0 done) held own) move, refl) })))
+      (alike_if _ _ _ st (room_grows (frames T) c (opened (host_in h)))
+      (record { stack = stack; flat_is = refl; own = (alone_grows (depth_through 0 done) held c _ (opened (host_in h)) (word_alone s (depth_through 0 done) held own) move, refl) }))
 
   pub word_steps : StepsAlike S T c
   word_steps =
@@ -493,18 +467,16 @@ module _ (h : StringWithFields) (done : List Piece) (held : List ℕ) (st : List
   opened_steps_go true ends_line is break =
       let move = quote_again (host_in h) held c is in
       by_moves SO TO c (moves.Grows (modes.FieldEmpty h)) (grows (empty (host_in h))) (rw is) move (λ k. absurd (cc))
-      (subst (λ (b : Bool). Alike (kept_if (Some (scanned done (modes.FieldEmpty h) (held ++ c ∷ [])))) (roomy b (Some (field_state [] done (openers_of st) (empty (host_in h)) (held ++ c ∷ []))))) (sym (room_grows (frames TO) c (empty (host_in h))))
-      (alike_kept (scanned done (modes.FieldEmpty h) (held ++ c ∷ [])) (field_state [] done (openers_of st) (empty (host_in h)) (held ++ c ∷ [])) st
-      (record { stack = stack; flat_is = refl; own = alone_grows (depth_through 0 done) held c _ (empty (host_in h)) own.0 move })))
+      (alike_if _ _ _ st (room_grows (frames TO) c (empty (host_in h)))
+      (record { stack = stack; flat_is = refl; own = alone_grows (depth_through 0 done) held c _ (empty (host_in h)) own.0 move }))
   opened_steps_go false true is break =
       by_moves SO TO c moves.Refused refused (rw (is, break)) (first_move (host_in h) held c is ∙ break_refused (host_in h) c own.1 is break) (λ k. absurd (cc)) (none_alike (has_room_at (frames TO) c refused))
   opened_steps_go false false is break =
       let first = first_grows (host_in h) c is break in
       let move = first_move (host_in h) held c is ∙ first.is in
       by_moves SO TO c (moves.Grows modes.Fielded) (grows first.mode) (rw (is, break)) move (λ k. absurd (cc))
-      (subst (λ (b : Bool). Alike (kept_if (Some (scanned done modes.Fielded (held ++ c ∷ [])))) (roomy b (Some (field_state [] done (openers_of st) first.mode (held ++ c ∷ []))))) (sym (room_grows (frames TO) c first.mode))
-      (alike_kept (scanned done modes.Fielded (held ++ c ∷ [])) (field_state [] done (openers_of st) first.mode (held ++ c ∷ [])) st
-      (tied_begun done (held ++ c ∷ []) st first.mode stack (alone_grows (depth_through 0 done) held c _ first.mode own.0 move) first.stays)))
+      (alike_if _ _ _ st (room_grows (frames TO) c first.mode)
+      (tied_begun done (held ++ c ∷ []) st first.mode stack (alone_grows (depth_through 0 done) held c _ first.mode own.0 move) first.stays))
 
   pub opened_steps : StepsAlike SO TO c
   opened_steps = opened_steps_go (c == h.quote) (is_break c) refl refl
@@ -531,9 +503,8 @@ module _ (h : StringWithFields) (done : List Piece) (held : List ℕ) (st : List
       let m : FieldMode = body (long_host (host_in h)) literal false between in
       let move = third_quote (host_in h) held c is in
       by_moves SE TE c (moves.Grows modes.Fielded) (grows m) (rw is) move (λ k. absurd (cc))
-      (subst (λ (b : Bool). Alike (kept_if (Some (scanned done modes.Fielded (held ++ c ∷ [])))) (roomy b (Some (field_state [] done (openers_of st) m (held ++ c ∷ []))))) (sym (room_grows (frames TE) c m))
-      (alike_kept (scanned done modes.Fielded (held ++ c ∷ [])) (field_state [] done (openers_of st) m (held ++ c ∷ [])) st
-      (tied_begun done (held ++ c ∷ []) st m stack (alone_grows (depth_through 0 done) held c _ m own move) (long_host (host_in h), literal, false, between, refl))))
+      (alike_if _ _ _ st (room_grows (frames TE) c m)
+      (tied_begun done (held ++ c ∷ []) st m stack (alone_grows (depth_through 0 done) held c _ m own move) (long_host (host_in h), literal, false, between, refl)))
   empty_steps_go false is = by_moves SE TE c moves.Breaks breaks (rw is) (empty_breaks (host_in h) held c is) (λ k. (rw is, refl)) (broken SE TE st c refl refl refl stack)
 
   pub empty_steps : StepsAlike SE TE c
