@@ -1,7 +1,7 @@
 -- A string with fields whose text is simple is taken whole.
 use Rattle.std.proofs.Common.{◌≡◌, ℕ, ◌+◌, ◌≤◌, Bool, true, false, ◌==◌, Some, List, [], ◌∷◌, ◌++◌, refl, sym, ap, ◌∙◌, subst}
-use Rattle.std.proofs.lemmas.Bool.{eq-eqb, eqb-true}
-use Rattle.py_lines.specs.Character.{is_quote, is_break}
+use Rattle.std.proofs.lemmas.Bool.{and_parts, eq-eqb, eqb-true}
+use Rattle.py_lines.specs.Character.{is_word_start, is_word_character, is_quote, is_break}
 use Rattle.py_lines.specs.Piece.{string, Piece}
 use Rattle.py_lines.specs.Balance.{depth_through}
 use Rattle.py_lines.specs.FieldStrings.{is_field_prefix, Host, literal}
@@ -9,7 +9,7 @@ use Rattle.py_lines.specs.declared.host.StringWithFields.{StringWithFields}
 use Rattle.py_lines.specs.declared.mode.Spelling.{Spelling}
 use Rattle.py_lines.specs.declared.mode.Mode.TheVariants as modes
 use Rattle.py_lines.specs.declared.mode.Move.TheVariants as moves
-use Rattle.py_lines.specs.Private.Machine.{fresh, moved, first_spelling, spelling_on}
+use Rattle.py_lines.specs.Private.Machine.{fresh, moved, Holds, first_spelling, spelling_on}
 use Rattle.py_lines.specs.Private.FieldMachine as spots
 use Rattle.py_lines.specs.Private.FieldMachine.{between, body, closes, FieldScanned, field_state, field_text_start, field_move, body_move, between_move, host_of, frames}
 use Rattle.py_lines.specs.Private.FieldScan.{GoesThrough}
@@ -18,9 +18,9 @@ use Rattle.py_lines.specs.Private.ScanMachine.{fielded_move, host_in, is_field_s
 use Rattle.py_lines.proofs.Pieces.PieceLists.{piece}
 use Rattle.py_lines.proofs.Text.CharacterTests.{quote-not-word}
 use Rattle.py_lines.proofs.Machine.PieceSteps.{scanned, steps_by-append, grown_by}
-use Rattle.py_lines.proofs.FieldMachine.Runs.{NoLimit, steps_of}
-use Rattle.py_lines.proofs.ScanMachine.Follows.{room_closes}
-use Rattle.py_lines.proofs.ScanMachine.Rooms.{alone_opens}
+use Rattle.py_lines.proofs.Fields.Prefixes.{field_letters}
+use Rattle.py_lines.proofs.ScanMachine.Follows.{word_alone, host_moves, room_closes}
+use Rattle.py_lines.proofs.ScanMachine.Rooms.{alone_grows}
 use Rattle.py_lines.proofs.ScanMachine.Spellings.{word_tells}
 use Rattle.py_lines.proofs.FieldScans.Steps.{comes_closed}
 use Rattle.py_lines.proofs.LineScan.Runs.{string_run}
@@ -69,8 +69,10 @@ module _ (done : List Piece) (few : depth_through 0 done ≤ 100) (c : ℕ) (cs 
   opened_state : string_state opening ≡ Some (field_state [] [] [] (spots.opened (host_in h)) opening)
   opened_state =
       let host : host_of prefix q ≡ host_in h = ap (λ (b : Bool). record { quote = q; is_long = false; is_raw = b }) ((word_tells c cs).1 field) in
-      steps_of NoLimit field_text_start (field_state [] [] [] (spots.opened (host_of prefix q)) opening) opening (alone_opens NoLimit prefix q begun quotes)
-      ∙ ap (λ (x : Host). Some (field_state [] [] [] (spots.opened x) opening)) host
+      let letters = field_letters prefix begun in
+      let first : letters.first ≡ c = cc in
+      let word : Holds (modes.Word s) [] prefix = (c, cs, refl, subst (λ (x : ℕ). is_word_start x ≡ true) first letters.starts, (and_parts (is_word_character c) _ letters.all).1, refl) in
+      (alone_grows 0 prefix q _ (spots.opened (host_in h)) (word_alone s 0 prefix word) (host_moves s prefix q begun quotes ∙ ap (λ (x : Host). spots.grows (spots.opened x)) host)).steps
 
   -- its text, after which the machine is in its body
   module _ (d : ℕ) (ds : List ℕ) (u : FieldScanned) (through : GoesThrough (depth_through 0 done) (at_body (host_in h) opening) (d ∷ ds) u) (end : InText [] (record { done = []; openers = []; host = host_in h; place = literal; front = [] }) u) where

@@ -344,7 +344,7 @@ unfolding field_move move_of
 start_stops a h = rw h
 
 -- its text, by itself
-word_alone : (s : Spelling) (depth : ℕ) (held : List ℕ) → Holds (modes.Word s) [] held → GoesAlone depth held (field_state [] [] [] (plain (modes.Word s)) held)
+pub word_alone : (s : Spelling) (depth : ℕ) (held : List ℕ) → Holds (modes.Word s) [] held → GoesAlone depth held (field_state [] [] [] (plain (modes.Word s)) held)
 word_alone s depth held (first, others, is, opens, run, spells) =
     let at = word_goes (RoomFrom depth) field_text_start first others [] opens run (start_stops first (start-not-mark first opens)) in
     record {

@@ -1,22 +1,16 @@
 -- Strings with fields that stand at some depth of brackets: what may stand in them, and the room that their characters have.
-use Rattle.std.proofs.Common.{◌≡◌, ℕ, suc, ◌+◌, ◌-◌, ◌<◌, ◌≤◌, Bool, true, false, Option, None, Some, List, [], ◌∷◌, ◌++◌, refl, ap, ◌∙◌, subst, arith}
+use Rattle.std.proofs.Common.{◌≡◌, ℕ, suc, ◌+◌, ◌-◌, ◌<◌, ◌≤◌, Bool, true, false, Option, None, Some, List, [], ◌∷◌, ◌++◌, refl, ap, ◌∙◌, arith}
 use Rattle.std.specs.Prelude.{zero, if◌then◌else◌}
-use Rattle.std.proofs.lemmas.Bool.{and_parts, and_from, both_ways}
-use Rattle.py_lines.specs.Character.{is_word_start, is_quote}
+use Rattle.std.proofs.lemmas.Bool.{and_parts, and_from}
 use Rattle.py_lines.specs.Piece.{Piece}
 use Rattle.py_lines.specs.Balance.{is_opener, is_closer, depth_after}
 use Rattle.py_lines.specs.Fields.{IsShallowWith, ShallowWithin, ShallowFields, Fields}
-use Rattle.py_lines.specs.FieldStrings.{is_field_prefix, Host}
-use Rattle.py_lines.specs.declared.mode.Mode.TheVariants as modes
-use Rattle.py_lines.specs.Private.Machine.{move_of}
-use Rattle.py_lines.specs.Private.FieldMachine.{FieldMode, plain, opened, FieldMove, grows, begins_code, FieldScanned, field_state, field_text_start, host_of, field_move, field_moved, field_step, field_steps_from, frames, has_room_at}
+use Rattle.py_lines.specs.FieldStrings.{Host}
+use Rattle.py_lines.specs.Private.FieldMachine.{FieldMode, FieldMove, grows, begins_code, FieldScanned, field_state, field_text_start, field_move, field_moved, field_step, field_steps_from, frames, has_room_at}
 use Rattle.py_lines.specs.Private.ScanMachine.{string_state, has_room_in, have_room_in}
-use Rattle.py_lines.proofs.Machine.OpenStrings.{start-not-mark}
 use Rattle.py_lines.proofs.Fields.Nesting.{Within, field_map, string_map}
-use Rattle.py_lines.proofs.Fields.Prefixes.{field_letters}
 use Rattle.py_lines.proofs.FieldMachine.Runs.{HasRoomFor, Goes, StopsAt}
 use Rattle.py_lines.proofs.FieldMachine.Runs as runs_of
-use Rattle.py_lines.proofs.FieldMachine.StringRuns.{prefix_goes}
 use Rattle.py_lines.proofs.FieldSoundness.LiveTexts.{steps-append}
 
 -- what is shallow at some depth is so at any smaller one
@@ -86,18 +80,3 @@ alone_more depth held c t n goes room is = record {
 pub alone_grows : (depth : ℕ) (held : List ℕ) (c : ℕ) (t : FieldScanned) (m : FieldMode) → GoesAlone depth held t → field_move t.mode t.held c ≡ grows m → GoesAlone depth (held ++ c ∷ []) (field_state t.outer t.done t.openers m (t.held ++ c ∷ []))
 unfolding has_room_at
 alone_grows depth held c t m goes move = alone_more depth held c t _ goes (ap (has_room_at (depth + frames t) c) move) (ap (field_moved t c) move)
-
--- the prefix and the first quote of a string, alone
-start_stops : (prefix after : List ℕ) (q : ℕ) → is_field_prefix prefix ≡ true → StopsAt (plain modes.Start) [] (prefix ++ q ∷ after)
-unfolding field_move move_of
-start_stops [] after q is = absurd (both_ways _ refl is)
-start_stops (a ∷ bs) after q is =
-    let letters = field_letters (a ∷ bs) is in
-    let same : letters.first ≡ a = head letters.is in
-    rw (start-not-mark a (subst (λ (x : ℕ). is_word_start x ≡ true) same letters.starts))
-  where
-    head : {x y : ℕ} {xs ys : List ℕ} → x ∷ xs ≡ y ∷ ys → y ≡ x
-    head h = cc
-
-pub alone_opens : (Room : ℕ → Type 0) (prefix : List ℕ) (q : ℕ) → is_field_prefix prefix ≡ true → is_quote q ≡ true → Goes Room field_text_start (prefix ++ q ∷ []) (field_state [] [] [] (opened (host_of prefix q)) (prefix ++ q ∷ []))
-alone_opens Room prefix q is quotes = prefix_goes Room field_text_start prefix q [] is quotes (start_stops prefix [] q is)
