@@ -41,7 +41,7 @@ goes_both {s = s} {xs = xs} {ys = ys} one two = record { run = steps_by-append m
 -- where the machine comes through, its brackets with it
 stack_at : {s t : Scanned} {cs : List ℕ} {st : List Bracket} → PlainGoesTo s cs t st → (first : List Bracket) × (brackets_of s.done ≡ Some first)
 stack_at {s = s} {t = t} {cs = cs} {st = st} to =
-    let grown : GrowsIf s.done (Some t) = subst (GrowsIf s.done) to.run (run_grows cs (Some s) s.done ([], sym (append-nil s.done))) in
+    let grown : GrowsIf s.done (Some t) = subst (GrowsIf s.done) to.run (run_grows move_from cs (Some s) s.done ([], sym (append-nil s.done))) in
     stack_before s.done grown.0 st (ap brackets_of (sym grown.1) ∙ to.stack)
 
 goes_before : {u : Scanned} {st : List Bracket} (xs ys : List ℕ) → PlainRunsTo (xs ++ ys) u st → (t : Scanned) × (first : List Bracket) × PlainRunsTo xs t first

@@ -56,7 +56,7 @@ longer p q s t r u c x one two is rest =
     sym (ap (λ (v : Move). steps_from (moved state c v) x) (one.3 c (x ++ u) rest))
     ∙ sym (ap (λ o. steps_from o (c ∷ x)) one.1) ∙ sym (steps_by-append move_from (Some text_start) s (c ∷ x))
     ∙ ap (steps_from (Some text_start)) (sym is) ∙ two.1 in
-    let grown : GrowsIf done (Some end) = subst (GrowsIf done) runs (run_grows x (started done c (start_of c)) done (started_grows done done [] c (start_of c) (sym (append-nil done)))) in
+    let grown : GrowsIf done (Some end) = subst (GrowsIf done) runs (run_grows move_from x (started done c (start_of c)) done (started_grows done done [] c (start_of c) (sym (append-nil done)))) in
     let whole = closed_grows end.mode end.done end.held in
     heads p q (grown.0 ++ whole.0)
     (ap (λ l. l ++ (grown.0 ++ whole.0)) (sym one.2) ∙ sym (append_assoc done grown.0 whole.0) ∙ ap (λ l. l ++ whole.0) (sym grown.1) ∙ sym whole.1 ∙ two.2)

@@ -17,17 +17,17 @@ use Rattle.py_lines.specs.declared.mode.Mode.TheVariants as modes
 use Rattle.py_lines.specs.declared.mode.Move.{Move}
 use Rattle.py_lines.specs.declared.mode.Start.{Start}
 use Rattle.py_lines.specs.Private.Machine.{Scanned, fresh, text_start, class_of, closed, started, moved, move_of, start_of, Bracket, brackets_of}
-use Rattle.py_lines.specs.Private.ScanMachine.{meet_of, scan_steps, IsScanSound, StringFits, StringsFit}
+use Rattle.py_lines.specs.Private.ScanMachine.{meet_of, move_at, scan_steps, IsScanSound, StringFits, StringsFit}
 use Rattle.py_lines.proofs.Text.Splits.{Either, either}
 use Rattle.py_lines.proofs.Text.CharacterTests.{return_is}
 use Rattle.py_lines.proofs.Pieces.PieceLists.{piece, spelled-append, AreReadBefore-push, AreReadBefore-first, follows_any}
 use Rattle.py_lines.proofs.Machine.PieceSteps.{scanned, pieces_at}
-use Rattle.py_lines.proofs.Machine.FinishedPieces.{GrowsIf, closed_grows, started_grows}
+use Rattle.py_lines.proofs.Machine.FinishedPieces.{GrowsIf, closed_grows, started_grows, run_grows}
 use Rattle.py_lines.proofs.Machine.LiveTexts.{stack_closed}
 use Rattle.py_lines.proofs.Pieces.OpenBrackets.{stack-from_balanced, depth_through-append, EachAtDepth-parts}
 use Rattle.py_lines.proofs.Pieces.ShallowPieces.{brackets_shallow, strings_shallow, fits_reading}
 use Rattle.py_lines.proofs.FieldSoundness.LiveTexts.{live_before}
-use Rattle.py_lines.proofs.ScanMachine.Advance.{RunsTo, run_grows, run_before}
+use Rattle.py_lines.proofs.ScanMachine.Advance.{RunsTo, run_before}
 pub use Rattle.py_lines.proofs.ScanMachine.LiveTexts.{same_state}
 use Rattle.py_lines.proofs.ScanMachine.Soundness.{sound_at}
 use Rattle.py_lines.proofs.ScanMachine.Reaching.{Reaches, reach}
@@ -60,7 +60,7 @@ started_on all c st = started_grows all all [] c st (sym (append-nil all))
 -- after a state, what grows from its finished pieces
 stays_done : (body : List Piece) (last : Piece) (done : List Piece) (x : List ℕ) (o : Option Scanned) (s : Scanned) → last.class ≡ line_end → done ≡ body ++ last ∷ [] → GrowsIf done o → scan_steps o x ≡ Some s → Stays body last (pieces_at s)
 stays_done body last done x o s class is grows steps =
-    let later : GrowsIf done (Some s) = subst (GrowsIf done) steps (run_grows x o done grows) in
+    let later : GrowsIf done (Some s) = subst (GrowsIf done) steps (run_grows move_at x o done grows) in
     let open_piece = closed_grows s.mode s.done s.held in
     stays_as body last (pieces_at s) (later.0 ++ open_piece.0) class
     (open_piece.1 ∙ ap (λ l. l ++ open_piece.0) later.1 ∙ append_assoc done later.0 open_piece.0 ∙ ap (λ l. l ++ (later.0 ++ open_piece.0)) is)

@@ -15,10 +15,10 @@ use Rattle.py_lines.specs.Private.Run.{is_free}
 use Rattle.py_lines.proofs.Pieces.PieceLists.{piece, AreReadBefore-first}
 use Rattle.py_lines.proofs.Pieces.OpenBrackets.{stack_before}
 use Rattle.py_lines.proofs.Fields.Nesting.{string_map}
-use Rattle.py_lines.proofs.Machine.FinishedPieces.{GrowsIf, closed_grows, started_grows}
+use Rattle.py_lines.proofs.Machine.FinishedPieces.{GrowsIf, closed_grows, started_grows, run_grows}
 use Rattle.py_lines.proofs.Machine.LiveTexts.{keeps}
 use Rattle.py_lines.proofs.Machine.PieceSteps.{pieces_at, steps_by-append}
-use Rattle.py_lines.proofs.ScanMachine.Advance.{run_grows, steps_push}
+use Rattle.py_lines.proofs.ScanMachine.Advance.{steps_push}
 use Rattle.py_lines.proofs.ScanMachine.Follows.{some_is}
 use Rattle.py_lines.proofs.ScanMachine.Reaching.{reach}
 use Rattle.py_lines.proofs.ScanMachine.Rooms.{fields_less}
@@ -43,7 +43,7 @@ then_on a b s steps = ap (λ o. scan_steps o b) (sym steps) ∙ sym (steps_by-ap
 -- finished pieces stay, and are among those that are found
 kept_on : (done : List Piece) (o : Option Scanned) (cs : List ℕ) (t : Scanned) → GrowsIf done o → scan_steps o cs ≡ Some t
     → (ps : List Piece) × (t.done ≡ done ++ ps)
-kept_on done o cs t grows steps = subst (GrowsIf done) steps (run_grows cs o done grows)
+kept_on done o cs t grows steps = subst (GrowsIf done) steps (run_grows move_at cs o done grows)
 
 found_on : (done : List Piece) (o : Option Scanned) (cs : List ℕ) (t : Scanned) → GrowsIf done o → scan_steps o cs ≡ Some t
     → (ps : List Piece) × (pieces_at t ≡ done ++ ps)

@@ -7,7 +7,7 @@ use Rattle.py_lines.specs.declared.mode.Move.{Move}
 use Rattle.py_lines.specs.declared.mode.Move.TheVariants as moves
 use Rattle.py_lines.specs.declared.mode.Start.{Start}
 use Rattle.py_lines.specs.declared.mode.Start.TheVariants as starts
-use Rattle.py_lines.specs.Private.Machine.{Scanned, class_of, closed, started, moved, step, steps_from, move_of, start_of}
+use Rattle.py_lines.specs.Private.Machine.{Scanned, class_of, closed, started, moved, steps_by, start_of}
 use Rattle.py_lines.proofs.Pieces.PieceLists.{piece}
 
 abbrev pub GrowsIf : List Piece → Option Scanned → Type 0
@@ -37,7 +37,8 @@ pub grows_on : (done : List Piece) (s : Scanned) (o : Option Scanned) → GrowsI
 grows_on done s None first second = tt
 grows_on done s (Some t) first second = (first.0 ++ second.0, second.1 ∙ ap (λ l. l ++ second.0) first.1 ∙ append_assoc done first.0 second.0)
 
-pub run_grows : (cs : List ℕ) (o : Option Scanned) (done : List Piece) → GrowsIf done o → GrowsIf done (steps_from o cs)
-run_grows cs None done grows = tt
-run_grows [] (Some s) done grows = grows
-run_grows (c ∷ cs) (Some s) done grows = run_grows cs (step s c) done (grows_on done s (step s c) grows (moved_grows s c (move_of s.mode c)))
+-- whatever each character does
+pub run_grows : (move : Scanned → ℕ → Move) (cs : List ℕ) (o : Option Scanned) (done : List Piece) → GrowsIf done o → GrowsIf done (steps_by move o cs)
+run_grows move cs None done grows = tt
+run_grows move [] (Some s) done grows = grows
+run_grows move (c ∷ cs) (Some s) done grows = run_grows move cs (moved s c (move s c)) done (grows_on done s (moved s c (move s c)) grows (moved_grows s c (move s c)))

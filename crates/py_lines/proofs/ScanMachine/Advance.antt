@@ -1,10 +1,9 @@
 -- A character and what it does to the open brackets, in one step: the machine, its stack with it.
 use Rattle.std.proofs.Common.{◌≡◌, ℕ, Option, None, Some, List, [], ◌∷◌, ◌++◌, refl, sym, ap, ◌∙◌, subst, append-nil}
-use Rattle.py_lines.specs.Piece.{Piece}
 use Rattle.py_lines.specs.Private.Machine.{Scanned, text_start, Bracket, brackets_of}
 use Rattle.py_lines.specs.Private.ScanMachine.{move_at, scan_step, scan_steps}
 use Rattle.py_lines.proofs.Pieces.OpenBrackets.{stack_before}
-use Rattle.py_lines.proofs.Machine.FinishedPieces.{GrowsIf, grows_on, moved_grows}
+use Rattle.py_lines.proofs.Machine.FinishedPieces.{GrowsIf, run_grows}
 use Rattle.py_lines.proofs.Machine.PieceSteps.{steps_by-append}
 
 -- a state whose brackets pair, as far as they go
@@ -29,16 +28,10 @@ pub record GoesTo (from : Scanned) (characters : List ℕ) (to : Scanned) (brack
 abbrev pub RunsTo : List ℕ → Scanned → List Bracket → Type 0
 RunsTo characters to brackets = GoesTo text_start characters to brackets
 
--- finished pieces stay
-pub run_grows : (cs : List ℕ) (o : Option Scanned) (done : List Piece) → GrowsIf done o → GrowsIf done (scan_steps o cs)
-run_grows cs None done grows = tt
-run_grows [] (Some s) done grows = grows
-run_grows (c ∷ cs) (Some s) done grows = run_grows cs (scan_step s c) done (grows_on done s (scan_step s c) grows (moved_grows s c (move_at s c)))
-
--- so their brackets pair, as far as they go
+-- finished pieces stay, so their brackets pair, as far as they go
 pub stack_at : {s t : Scanned} {cs : List ℕ} {st : List Bracket} → GoesTo s cs t st → (first : List Bracket) × (brackets_of s.done ≡ Some first)
 stack_at {s = s} {t = t} {cs = cs} {st = st} to =
-    let grown : GrowsIf s.done (Some t) = subst (GrowsIf s.done) to.run (run_grows cs (Some s) s.done ([], sym (append-nil s.done))) in
+    let grown : GrowsIf s.done (Some t) = subst (GrowsIf s.done) to.run (run_grows move_at cs (Some s) s.done ([], sym (append-nil s.done))) in
     stack_before s.done grown.0 st (ap brackets_of (sym grown.1) ∙ to.stack)
 
 -- where the machine comes through

@@ -102,33 +102,15 @@ pub some_is : {A : Type 0} (a b : A) → Some a ≡ Some b → a ≡ b
 some_is a b h = cc
 
 -- modes without fields
-plain_flat : (m : Mode) (done : List Piece) (os held : List ℕ) → is_fielded_mode m ≡ false → flat m done os held ≡ Some (field_state [] done os (plain m) held)
-plain_flat (modes.FieldOpened h) done os held other = absurd (both_ways _ other refl)
-plain_flat (modes.FieldEmpty h) done os held other = absurd (both_ways _ other refl)
-plain_flat modes.Fielded done os held other = absurd (both_ways _ other refl)
-plain_flat m done os held other = refl
-
-pub plain_own : (m : Mode) (depth : ℕ) (held : List ℕ) → is_fielded_mode m ≡ false → is_word_mode m ≡ false → Own m depth held
-plain_own (modes.Word s) depth held other word = absurd (both_ways _ word refl)
-plain_own (modes.FieldOpened h) depth held other word = absurd (both_ways _ other refl)
-plain_own (modes.FieldEmpty h) depth held other word = absurd (both_ways _ other refl)
-plain_own modes.Fielded depth held other word = absurd (both_ways _ other refl)
-plain_own m depth held other word = tt
-
-plain_meets : (m : Mode) (c : ℕ) → is_fielded_mode m ≡ false → is_word_mode m ≡ false → meet_of m c ≡ move_of m c
-unfolding meet_of
-plain_meets (modes.Word s) c other word = absurd (both_ways _ word refl)
-plain_meets (modes.FieldOpened h) c other word = absurd (both_ways _ other refl)
-plain_meets (modes.FieldEmpty h) c other word = absurd (both_ways _ other refl)
-plain_meets modes.Fielded c other word = absurd (both_ways _ other refl)
-plain_meets m c other word = refl
-
-pub no_host : (m : Mode) (held : List ℕ) (c : ℕ) → is_word_mode m ≡ false → begins_host m held c ≡ false
-no_host (modes.Word s) held c word = absurd (both_ways _ word refl)
-no_host m held c word = refl
+plain_mode : (m : Mode) (done : List Piece) (os : List ℕ) (depth : ℕ) (held : List ℕ) → is_fielded_mode m ≡ false → (flat m done os held ≡ Some (field_state [] done os (plain m) held)) × (is_word_mode m ≡ false → Own m depth held)
+plain_mode (modes.FieldOpened h) done os depth held other = absurd (both_ways _ other refl)
+plain_mode (modes.FieldEmpty h) done os depth held other = absurd (both_ways _ other refl)
+plain_mode modes.Fielded done os depth held other = absurd (both_ways _ other refl)
+plain_mode (modes.Word s) done os depth held other = (refl, λ word. absurd (both_ways _ word refl))
+plain_mode m done os depth held other = (refl, λ word. tt)
 
 tied_plain : (n : Mode) (done : List Piece) (st : List Bracket) (held : List ℕ) → is_fielded_mode n ≡ false → Own n (depth_through 0 done) held → brackets_of done ≡ Some st → IsTied (field_state [] done (openers_of st) (plain n) held) (scanned done n held) st
-tied_plain n done st held other own stack = record { stack = stack; flat_is = plain_flat n done (openers_of st) held other; own = own }
+tied_plain n done st held other own stack = record { stack = stack; flat_is = (plain_mode n done (openers_of st) 0 held other).0; own = own }
 
 -- a piece that is closed
 pub tied_fresh : (done : List Piece) (p : Piece) (st : List Bracket) → is_opener p ≡ false → is_closer p ≡ false → brackets_of done ≡ Some st → IsTied (field_fresh [] (done ++ p ∷ []) (openers_of st)) (fresh (done ++ p ∷ [])) st
@@ -323,10 +305,10 @@ breaks_as moves.Closes h = absurd (cc)
 breaks_as moves.Refused h = absurd (cc)
 
 -- where no word and no string with fields is open
-pub plain_steps : (m : Mode) (done : List Piece) (held : List ℕ) (st : List Bracket) (c : ℕ) → is_fielded_mode m ≡ false → is_word_mode m ≡ false → brackets_of done ≡ Some st → StepsAlike (scanned done m held) (field_state [] done (openers_of st) (plain m) held) c
-plain_steps m done held st c other word stack =
-    by_moves (scanned done m held) (field_state [] done (openers_of st) (plain m) held) c (move_of m c) (plain_move (move_of m c)) (meets m (depth_through 0 done) held c (λ h. both_ways _ other (ap is_fielded_mode h)) ∙ plain_meets m c other word) (plain_moves m held c (no_host m held c word)) (λ h. (plain_meets m c other word ∙ breaks_as (move_of m c) h, refl))
-    (plain_moved m done held st c (move_of m c) refl stack (λ n is. plain_own n (depth_through 0 done) (held ++ c ∷ []) (subst NoField is (grows_plain m c)) (subst NoWord is (no_word m c word)).1))
+pub plain_steps : (m : Mode) (done : List Piece) (held : List ℕ) (st : List Bracket) (c : ℕ) → is_word_mode m ≡ false → move_at (scanned done m held) c ≡ meet_of m c → meet_of m c ≡ move_of m c → begins_host m held c ≡ false → brackets_of done ≡ Some st → StepsAlike (scanned done m held) (field_state [] done (openers_of st) (plain m) held) c
+plain_steps m done held st c word at meets other stack =
+    by_moves (scanned done m held) (field_state [] done (openers_of st) (plain m) held) c (move_of m c) (plain_move (move_of m c)) (at ∙ meets) (plain_moves m held c other) (λ h. (meets ∙ breaks_as (move_of m c) h, refl))
+    (plain_moved m done held st c (move_of m c) refl stack (λ n is. (plain_mode n done (openers_of st) (depth_through 0 done) (held ++ c ∷ []) (subst NoField is (grows_plain m c))).1 (subst NoWord is (no_word m c word)).1))
 
 -- a word that goes on
 pub word_on : (s : Spelling) (held : List ℕ) (c : ℕ) → Holds (modes.Word s) [] held → is_word_character c ≡ true → Holds (modes.Word (spelling_with s c)) [] (held ++ c ∷ [])

@@ -10,7 +10,7 @@ use Rattle.py_lines.specs.declared.mode.Move.{Move}
 use Rattle.py_lines.specs.declared.mode.Move.TheVariants as moves
 use Rattle.py_lines.specs.Private.Machine.{Scanned, fresh, moved, Bracket, brackets_of}
 use Rattle.py_lines.specs.Private.FieldMachine.{FieldMode, FieldMove, grows, closes, breaks, Level, FieldScanned, field_state, field_fresh, field_text_start, field_class_of, field_move, field_moved, field_step, frames, has_room, has_room_at, text_place, before}
-use Rattle.py_lines.specs.Private.ScanMachine.{string_move, has_room_in, fielded_move, move_at, IsInString}
+use Rattle.py_lines.specs.Private.ScanMachine.{meet_of, string_move, has_room_in, fielded_move, move_at, IsInString}
 use Rattle.py_lines.proofs.Pieces.PieceLists.{piece}
 use Rattle.py_lines.proofs.Pieces.OpenBrackets.{stands}
 use Rattle.py_lines.proofs.Machine.PieceSteps.{scanned}
@@ -142,13 +142,14 @@ module _ (done : List Piece) (held : List ℕ) (st : List Bracket) (c : ℕ) (st
 
 -- one character, wherever the two machines stand together
 tied_mode : (m : Mode) (done : List Piece) (held : List ℕ) (st : List Bracket) (t : FieldScanned) (c : ℕ) → brackets_of done ≡ Some st → flat m done (openers_of st) held ≡ Some t → Own m (depth_through 0 done) held → StepsAlike (scanned done m held) t c
+unfolding meet_of
 tied_mode (modes.Word s) done held st t c stack is own = subst (λ x. StepsAlike (scanned done (modes.Word s) held) x c) (some_is _ t is) (word_steps s done held st c own stack)
 tied_mode (modes.FieldOpened h) done held st t c stack is own = subst (λ x. StepsAlike (scanned done (modes.FieldOpened h) held) x c) (some_is _ t is) (opened_steps h done held st c own stack)
 tied_mode (modes.FieldEmpty h) done held st t c stack is own = subst (λ x. StepsAlike (scanned done (modes.FieldEmpty h) held) x c) (some_is _ t is) (empty_steps h done held st c own stack)
 tied_mode modes.Fielded done held st t c stack is own =
     subst (λ x. StepsAlike (scanned done modes.Fielded held) x c) (some_is (rebased done (openers_of st) own.state) t (sym (ap (rebased_if done (openers_of st)) own.goes.steps) ∙ is))
     (fielded_steps done held st c stack own.state own.goes own.inside own.bare)
-tied_mode m done held st t c stack is own = subst (λ x. StepsAlike (scanned done m held) x c) (some_is _ t is) (plain_steps m done held st c refl refl stack)
+tied_mode m done held st t c stack is own = subst (λ x. StepsAlike (scanned done m held) x c) (some_is _ t is) (plain_steps m done held st c refl refl refl refl stack)
 
 pub tied_step : (t : FieldScanned) (s : Scanned) (st : List Bracket) (c : ℕ) → IsTied t s st → StepsAlike s t c
 tied_step t s st c tied = tied_mode s.mode s.done s.held st t c tied.stack tied.flat_is tied.own
