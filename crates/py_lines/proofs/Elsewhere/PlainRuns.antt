@@ -19,16 +19,15 @@ use Rattle.py_lines.specs.Private.Machine.{Scanned, fresh, text_start, class_of,
 use Rattle.py_lines.proofs.Pieces.PieceLists.{piece}
 use Rattle.py_lines.proofs.Pieces.OpenBrackets.{through-append, closer_pops, balanced-from_stack, stack-from_balanced, stack_before}
 use Rattle.py_lines.proofs.Machine.Starts.{start-operator}
-use Rattle.py_lines.proofs.Machine.PieceSteps.{scanned, pieces_at, steps_by-append, closes}
+use Rattle.py_lines.proofs.Machine.PieceSteps.{scanned, pieces_at, steps_by-append, run_before, closes}
 use Rattle.py_lines.proofs.Machine.ReadingSteps.{reach}
 use Rattle.py_lines.proofs.Machine.Soundness.{SoundIf, step_sound, end_sound}
-use Rattle.py_lines.proofs.Machine.FinishedPieces.{GrowsIf, closed_grows, run_grows}
+use Rattle.py_lines.proofs.Machine.FinishedPieces.{GoesBy, stack_at, closed_grows}
 use Rattle.py_lines.proofs.Machine.LiveTexts.{keeps, stack_closed, IsReady, ready-start, ready-free, ready-space, ready-word, ready-empty, ready-join, ready-return, closing-operator, quote-scalar, inside-closes, opened-grows, escape-grows, returned-closes, long-grows, long-one-grows, long-two-closes, long-escape-grows, slash-closes, comment-breaks, feed-starts, closing_of-closing, closing-scalar, scalars-append}
 
 -- from one state, the machine goes over these characters to another, with these brackets open
-pub record PlainGoesTo (from : Scanned) (characters : List ℕ) (to : Scanned) (brackets : List Bracket) : Type 0 where
-  pub run : steps_from (Some from) characters ≡ Some to
-  pub stack : brackets_of to.done ≡ Some brackets
+abbrev pub PlainGoesTo : Scanned → List ℕ → Scanned → List Bracket → Type 0
+PlainGoesTo from characters to brackets = GoesBy move_from from characters to brackets
 
 -- from the text's start
 abbrev pub PlainRunsTo : List ℕ → Scanned → List Bracket → Type 0
@@ -39,24 +38,11 @@ goes_both : {s t u : Scanned} {xs ys : List ℕ} {first st : List Bracket} → P
 goes_both {s = s} {xs = xs} {ys = ys} one two = record { run = steps_by-append move_from (Some s) xs ys ∙ ap (λ o. steps_from o ys) one.run ∙ two.run; stack = two.stack }
 
 -- where the machine comes through, its brackets with it
-stack_at : {s t : Scanned} {cs : List ℕ} {st : List Bracket} → PlainGoesTo s cs t st → (first : List Bracket) × (brackets_of s.done ≡ Some first)
-stack_at {s = s} {t = t} {cs = cs} {st = st} to =
-    let grown : GrowsIf s.done (Some t) = subst (GrowsIf s.done) to.run (run_grows move_from cs (Some s) s.done ([], sym (append-nil s.done))) in
-    stack_before s.done grown.0 st (ap brackets_of (sym grown.1) ∙ to.stack)
-
 goes_before : {u : Scanned} {st : List Bracket} (xs ys : List ℕ) → PlainRunsTo (xs ++ ys) u st → (t : Scanned) × (first : List Bracket) × PlainRunsTo xs t first
-goes_before {u = u} {st = st} xs ys to = go (steps_from (Some text_start) xs) refl
-  where
-    apart : (o : Option Scanned) → steps_from (Some text_start) xs ≡ o → steps_from o ys ≡ Some u
-    apart o is = ap (λ x. steps_from x ys) (sym is) ∙ sym (steps_by-append move_from (Some text_start) xs ys) ∙ to.run
-
-    go : (o : Option Scanned) → steps_from (Some text_start) xs ≡ o → (t : Scanned) × (first : List Bracket) × PlainRunsTo xs t first
-    go None is =
-        let stuck : None ≡ Some u = apart None is in
-        absurd (cc)
-    go (Some t) is =
-        let stack = stack_at {s = t} {t = u} {cs = ys} {st = st} (record { run = apart (Some t) is; stack = to.stack }) in
-        (t, stack.0, record { run = is; stack = stack.1 })
+goes_before {u = u} {st = st} xs ys to =
+    let through = run_before move_from (Some text_start) xs ys u to.run in
+    let stack = stack_at {move = move_from} {s = through.0} {t = u} {cs = ys} {st = st} (record { run = through.2; stack = to.stack }) in
+    (through.0, stack.0, record { run = through.1; stack = stack.1 })
 
 -- what a reading comes to
 record ReadRun (pieces : List Piece) (cs : List ℕ) : Type 0 where

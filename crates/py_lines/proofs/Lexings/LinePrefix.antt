@@ -21,13 +21,13 @@ use Rattle.py_lines.specs.Private.ScanMachine.{meet_of, move_at, scan_steps, IsS
 use Rattle.py_lines.proofs.Text.Splits.{Either, either}
 use Rattle.py_lines.proofs.Text.CharacterTests.{return_is}
 use Rattle.py_lines.proofs.Pieces.PieceLists.{piece, spelled-append, AreReadBefore-push, AreReadBefore-first, follows_any}
-use Rattle.py_lines.proofs.Machine.PieceSteps.{scanned, pieces_at}
+use Rattle.py_lines.proofs.Machine.PieceSteps.{scanned, pieces_at, run_before}
 use Rattle.py_lines.proofs.Machine.FinishedPieces.{GrowsIf, closed_grows, started_grows, run_grows}
 use Rattle.py_lines.proofs.Machine.LiveTexts.{stack_closed}
 use Rattle.py_lines.proofs.Pieces.OpenBrackets.{stack-from_balanced, depth_through-append, EachAtDepth-parts}
 use Rattle.py_lines.proofs.Pieces.ShallowPieces.{brackets_shallow, strings_shallow, fits_reading}
 use Rattle.py_lines.proofs.FieldSoundness.LiveTexts.{live_before}
-use Rattle.py_lines.proofs.ScanMachine.Advance.{RunsTo, run_before}
+use Rattle.py_lines.proofs.ScanMachine.Advance.{RunsTo}
 pub use Rattle.py_lines.proofs.ScanMachine.LiveTexts.{same_state}
 use Rattle.py_lines.proofs.ScanMachine.Soundness.{sound_at}
 use Rattle.py_lines.proofs.ScanMachine.Reaching.{Reaches, reach}
@@ -195,7 +195,7 @@ no_longer before later characters s prefix others steps spell dead pieces ended 
         absurd (dead c rest two (live_before (before ++ c ∷ []) k live))
     go (Either.shorter k one) =
         let found = reach_reading rivals reading in
-        let through = run_before (Some text_start) (spelled rivals) k s (ap (scan_steps (Some text_start)) (sym one) ∙ steps) in
+        let through = run_before move_at (Some text_start) (spelled rivals) k s (ap (scan_steps (Some text_start)) (sym one) ∙ steps) in
         let same = same_state (spelled rivals) through.0 found.to through.1 found.steps in
         let run : scan_steps (Some found.to) k ≡ Some s = ap (λ (t : Scanned). scan_steps (Some t) k) (sym same) ∙ through.2 in
         within prefix others rivals body last (pieces_at s) pieces ended none is deep (line_stays found.to.mode found.to.done found.to.held k s body last run (found.pieces_are ∙ is) class)

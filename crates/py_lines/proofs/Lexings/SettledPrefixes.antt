@@ -10,11 +10,11 @@ use Rattle.py_lines.specs.Fields.{InClass, AreReadBefore}
 use Rattle.py_lines.specs.Reading.{IsBalancedReading}
 use Rattle.py_lines.specs.Settled.{EndsForGood, IsSettledPrefix}
 use Rattle.py_lines.specs.Private.Machine.{Scanned, text_start, Bracket}
-use Rattle.py_lines.specs.Private.ScanMachine.{scan_steps}
+use Rattle.py_lines.specs.Private.ScanMachine.{move_at, scan_steps}
 use Rattle.py_lines.proofs.Pieces.PieceLists.{piece, spelled-append, AreReadBefore-second}
 use Rattle.py_lines.proofs.Pieces.OpenBrackets.{depth_through-append}
-use Rattle.py_lines.proofs.Machine.PieceSteps.{pieces_at}
-use Rattle.py_lines.proofs.ScanMachine.Advance.{RunsTo, run_before}
+use Rattle.py_lines.proofs.Machine.PieceSteps.{pieces_at, run_before}
+use Rattle.py_lines.proofs.ScanMachine.Advance.{RunsTo}
 use Rattle.py_lines.proofs.ScanMachine.Soundness.{sound_at}
 use Rattle.py_lines.proofs.Lexings.LinePrefix.{EndsNoLine, Stays, Split, split, closed_spells, depth_prefix, prefix_reading, length_line, line_first, line_stays, no_end_in, same_state, reach_reading, within}
 use Rattle.py_lines.proofs.Lexings.SettledLines.{ends-append, ends-line}
@@ -96,7 +96,7 @@ settled_at characters tail s st base others rest steps pieces good yet spell =
         omega arith
     longest rivals after spells reading (inr (body, last, is, class, deep), settles) =
         let found = reach_reading rivals reading in
-        let through = run_before (Some text_start) (spelled rivals) after s (ap (scan_steps (Some text_start)) spells ∙ steps.run) in
+        let through = run_before move_at (Some text_start) (spelled rivals) after s (ap (scan_steps (Some text_start)) spells ∙ steps.run) in
         let same = same_state (spelled rivals) through.0 found.to through.1 found.steps in
         let run : scan_steps (Some found.to) after ≡ Some s = ap (λ (t : Scanned). scan_steps (Some t) after) (sym same) ∙ through.2 in
         bounded rivals after body last spells is reading class deep settles (line_stays found.to.mode found.to.done found.to.held after s body last run (found.pieces_are ∙ is) class) yet

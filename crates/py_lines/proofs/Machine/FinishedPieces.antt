@@ -1,5 +1,5 @@
 -- Finished pieces stay where the machine goes on.
-use Rattle.std.proofs.Common.{◌≡◌, ℕ, Option, None, Some, List, [], ◌∷◌, ◌++◌, refl, sym, ap, ◌∙◌, append_assoc, append-nil}
+use Rattle.std.proofs.Common.{◌≡◌, ℕ, Option, None, Some, List, [], ◌∷◌, ◌++◌, refl, sym, ap, ◌∙◌, subst, append_assoc, append-nil}
 use Rattle.py_lines.specs.Piece.{operator, line_end, Piece}
 use Rattle.py_lines.specs.declared.mode.Mode.{Mode}
 use Rattle.py_lines.specs.declared.mode.Mode.TheVariants as modes
@@ -7,8 +7,9 @@ use Rattle.py_lines.specs.declared.mode.Move.{Move}
 use Rattle.py_lines.specs.declared.mode.Move.TheVariants as moves
 use Rattle.py_lines.specs.declared.mode.Start.{Start}
 use Rattle.py_lines.specs.declared.mode.Start.TheVariants as starts
-use Rattle.py_lines.specs.Private.Machine.{Scanned, class_of, closed, started, moved, steps_by, start_of}
+use Rattle.py_lines.specs.Private.Machine.{Scanned, class_of, closed, started, moved, steps_by, start_of, Bracket, brackets_of}
 use Rattle.py_lines.proofs.Pieces.PieceLists.{piece}
+use Rattle.py_lines.proofs.Pieces.OpenBrackets.{stack_before}
 
 abbrev pub GrowsIf : List Piece → Option Scanned → Type 0
 GrowsIf done None = Unit {0}
@@ -42,3 +43,14 @@ pub run_grows : (move : Scanned → ℕ → Move) (cs : List ℕ) (o : Option Sc
 run_grows move cs None done grows = tt
 run_grows move [] (Some s) done grows = grows
 run_grows move (c ∷ cs) (Some s) done grows = run_grows move cs (moved s c (move s c)) done (grows_on done s (moved s c (move s c)) grows (moved_grows s c (move s c)))
+
+-- from one state, a machine goes over these characters to another, with these brackets open
+pub record GoesBy (move : Scanned → ℕ → Move) (from : Scanned) (characters : List ℕ) (to : Scanned) (brackets : List Bracket) : Type 0 where
+  pub run : steps_by move (Some from) characters ≡ Some to
+  pub stack : brackets_of to.done ≡ Some brackets
+
+-- the brackets paired before, as far as they went
+pub stack_at : {move : Scanned → ℕ → Move} {s t : Scanned} {cs : List ℕ} {st : List Bracket} → GoesBy move s cs t st → (first : List Bracket) × (brackets_of s.done ≡ Some first)
+stack_at {move = move} {s = s} {t = t} {cs = cs} {st = st} to =
+    let grown : GrowsIf s.done (Some t) = subst (GrowsIf s.done) to.run (run_grows move cs (Some s) s.done ([], sym (append-nil s.done))) in
+    stack_before s.done grown.0 st (ap brackets_of (sym grown.1) ∙ to.stack)

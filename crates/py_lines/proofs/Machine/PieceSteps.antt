@@ -53,6 +53,12 @@ module _ (move : Scanned → ℕ → Move) where
   steps_by-append (Some s) [] b = refl
   steps_by-append (Some s) (c ∷ a) b = steps_by-append (moved s c (move s c)) a b
 
+  -- where the machine comes through
+  pub run_before : (from : Option Scanned) (a b : List ℕ) (s : Scanned) → steps_by move from (a ++ b) ≡ Some s → (t : Scanned) × (steps_by move from a ≡ Some t) × (steps_by move (Some t) b ≡ Some s)
+  run_before None a b s steps = let stuck : None ≡ Some s = steps in absurd (cc)
+  run_before (Some t) [] b s steps = (t, refl, steps)
+  run_before (Some t) (c ∷ a) b s steps = run_before (moved t c (move t c)) a b s steps
+
   -- a new piece begins where the open one ends
   pub begun_by : (from : Scanned) (c : ℕ) (cs : List ℕ) (s : Start) → move from c ≡ moves.Breaks → start_of c ≡ s → steps_by move (Some from) (c ∷ cs) ≡ steps_by move (started (pieces_at from) c s) cs
   begun_by from c cs s breaks starts_as = ap (λ (v : Move). steps_by move (moved from c v) cs) breaks ∙ ap (λ o. steps_by move (started (pieces_at from) c o) cs) starts_as

@@ -1,9 +1,8 @@
 -- A character and what it does to the open brackets, in one step: the machine, its stack with it.
-use Rattle.std.proofs.Common.{◌≡◌, ℕ, Option, None, Some, List, [], ◌∷◌, ◌++◌, refl, sym, ap, ◌∙◌, subst, append-nil}
+use Rattle.std.proofs.Common.{◌≡◌, ℕ, Option, None, Some, List, [], ◌∷◌, ◌++◌, refl, sym, ap, ◌∙◌}
 use Rattle.py_lines.specs.Private.Machine.{Scanned, text_start, Bracket, brackets_of}
 use Rattle.py_lines.specs.Private.ScanMachine.{move_at, scan_step, scan_steps}
-use Rattle.py_lines.proofs.Pieces.OpenBrackets.{stack_before}
-use Rattle.py_lines.proofs.Machine.FinishedPieces.{GrowsIf, run_grows}
+use Rattle.py_lines.proofs.Machine.FinishedPieces.{GoesBy}
 use Rattle.py_lines.proofs.Machine.PieceSteps.{steps_by-append}
 
 -- a state whose brackets pair, as far as they go
@@ -20,29 +19,12 @@ abbrev pub advance : Scanned → ℕ → Option Scanned
 advance s c = kept_if (scan_step s c)
 
 -- from one state, the machine goes over these characters to another, with these brackets open
-pub record GoesTo (from : Scanned) (characters : List ℕ) (to : Scanned) (brackets : List Bracket) : Type 0 where
-  pub run : scan_steps (Some from) characters ≡ Some to
-  pub stack : brackets_of to.done ≡ Some brackets
+abbrev pub GoesTo : Scanned → List ℕ → Scanned → List Bracket → Type 0
+GoesTo from characters to brackets = GoesBy move_at from characters to brackets
 
 -- from the text's start
 abbrev pub RunsTo : List ℕ → Scanned → List Bracket → Type 0
 RunsTo characters to brackets = GoesTo text_start characters to brackets
-
--- finished pieces stay, so their brackets pair, as far as they go
-pub stack_at : {s t : Scanned} {cs : List ℕ} {st : List Bracket} → GoesTo s cs t st → (first : List Bracket) × (brackets_of s.done ≡ Some first)
-stack_at {s = s} {t = t} {cs = cs} {st = st} to =
-    let grown : GrowsIf s.done (Some t) = subst (GrowsIf s.done) to.run (run_grows move_at cs (Some s) s.done ([], sym (append-nil s.done))) in
-    stack_before s.done grown.0 st (ap brackets_of (sym grown.1) ∙ to.stack)
-
--- where the machine comes through
-pub run_before : (from : Option Scanned) (xs ys : List ℕ) (s : Scanned) → scan_steps from (xs ++ ys) ≡ Some s → (t : Scanned) × (scan_steps from xs ≡ Some t) × (scan_steps (Some t) ys ≡ Some s)
-run_before from xs ys s steps = go (scan_steps from xs) refl
-  where
-    go : (o : Option Scanned) → scan_steps from xs ≡ o → (t : Scanned) × (scan_steps from xs ≡ Some t) × (scan_steps (Some t) ys ≡ Some s)
-    go None is =
-        let stuck : None ≡ Some s = sym (ap (λ x. scan_steps x ys) is) ∙ sym (steps_by-append move_at from xs ys) ∙ steps in
-        absurd (cc)
-    go (Some t) is = (t, is, sym (ap (λ x. scan_steps x ys) is) ∙ sym (steps_by-append move_at from xs ys) ∙ steps)
 
 -- one character more
 pub steps_push : (from : Scanned) (read : List ℕ) (s : Scanned) (c : ℕ) → scan_steps (Some from) read ≡ Some s → scan_steps (Some from) (read ++ c ∷ []) ≡ scan_step s c

@@ -17,6 +17,7 @@ use Rattle.py_lines.specs.Private.ScanMachine.{host_in, move_at, scan_step, scan
 use Rattle.py_lines.specs.Private.Scan.{line_start}
 use Rattle.py_lines.proofs.Pieces.ShallowPieces.{strings_shallow}
 use Rattle.py_lines.proofs.Machine.Starts.{StartsSo, starts_so}
+use Rattle.py_lines.proofs.Machine.FinishedPieces.{stack_at}
 use Rattle.py_lines.proofs.Machine.PieceSteps.{scanned, pieces_at}
 use Rattle.py_lines.proofs.FieldSoundness.Holds.{HoldsMode, AtStart, IsFieldSound}
 use Rattle.py_lines.proofs.FieldSoundness.Lists.{FieldSoundIf}
@@ -24,7 +25,7 @@ use Rattle.py_lines.proofs.FieldSoundness.HostSteps as field_soundness
 use Rattle.py_lines.proofs.FieldSoundness.ListEnds.{EndsList, list_ends}
 use Rattle.py_lines.proofs.FieldSoundness.WholeTexts.{two_hundred, room_at}
 use Rattle.py_lines.proofs.FieldSoundness.LiveTexts.{steps-append, room-append}
-use Rattle.py_lines.proofs.ScanMachine.Advance.{kept, kept_if, GoesTo, RunsTo, stack_at}
+use Rattle.py_lines.proofs.ScanMachine.Advance.{kept, kept_if, GoesTo, RunsTo}
 use Rattle.py_lines.proofs.ScanMachine.Rebased.{based, rebased_in}
 use Rattle.py_lines.proofs.ScanMachine.Follows.{openers_of, flat, Own, IsTied, roomy, Alike, some_is}
 use Rattle.py_lines.proofs.ScanMachine.Runs.{before_none, tied_step}
@@ -143,7 +144,7 @@ run_sound m (c ∷ cs) s read st here u last to =
         → ((n : Scanned) (first : List Bracket) → StandsSound m (read ++ c ∷ []) n first → scan_steps (Some n) cs ≡ Some u → StandsSound m (read ++ c ∷ cs) u last) → StandsSound m (read ++ c ∷ cs) u last
     go None alike stays run later = let stuck : None ≡ Some u = run in absurd (cc)
     go (Some n) alike stays run later =
-        let before = stack_at {s = n} {t = u} {cs = cs} {st = last} (record { run = run; stack = to.stack }) in
+        let before = stack_at {move = move_at} {s = n} {t = u} {cs = cs} {st = last} (record { run = run; stack = to.stack }) in
         by (has_room t c) (field_step t c) refl refl (subst (λ b. Alike (kept n b) (roomy (has_room t c) (field_step t c))) before.1 alike)
       where
         by : (b : Bool) (p : Option FieldScanned) → has_room t c ≡ b → field_step t c ≡ p → Alike (Some n) (roomy b p) → StandsSound m (read ++ c ∷ cs) u last
