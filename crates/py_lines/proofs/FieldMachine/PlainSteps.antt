@@ -24,6 +24,13 @@ abbrev pub is_word_mode : Mode → Bool
 is_word_mode (modes.Word s) = true
 is_word_mode other = false
 
+-- whether a string with fields is open
+abbrev pub is_fielded_mode : Mode → Bool
+is_fielded_mode (modes.FieldOpened h) = true
+is_fielded_mode (modes.FieldEmpty h) = true
+is_fielded_mode modes.Fielded = true
+is_fielded_mode other = false
+
 -- whether a piece is open, as a number
 abbrev pub one_open : Mode → ℕ
 one_open modes.Start = 0
@@ -44,58 +51,58 @@ one_at_most modes.Start = omega arith
 one_at_most modes.Free = omega arith
 one_at_most m = omega arith
 
--- where a piece grows that is no word, a piece is open after it that is no word
+-- where a piece grows that is no word, a piece is open after it that is no word and no string with fields
 abbrev pub NoWord : Move → Type 0
-NoWord (moves.Grows n) = (one_open n ≡ 1) × (is_word_mode n ≡ false)
+NoWord (moves.Grows n) = (one_open n ≡ 1) × (is_word_mode n ≡ false) × (is_fielded_mode n ≡ false)
 NoWord other = Unit {0}
 
 no_word-short : (q c : ℕ) → NoWord (short_move q c)
 unfolding short_move
-no_word-short q c = cond_both (is_backslash c) _ _ NoWord (λ h. (refl, refl)) (λ h. cond_both (is_break c) moves.Refused _ NoWord (λ k. tt) (λ k. (refl, refl)))
+no_word-short q c = cond_both (is_backslash c) _ _ NoWord (λ h. (refl, refl, refl)) (λ h. cond_both (is_break c) moves.Refused _ NoWord (λ k. tt) (λ k. (refl, refl, refl)))
 
 no_word-long : (q c : ℕ) → NoWord (long_move q c)
 unfolding long_move
-no_word-long q c = cond_both (is_backslash c) _ _ NoWord (λ h. (refl, refl)) (λ h. (refl, refl))
+no_word-long q c = cond_both (is_backslash c) _ _ NoWord (λ h. (refl, refl, refl)) (λ h. (refl, refl, refl))
 
 pub no_word : (m : Mode) (c : ℕ) → is_word_mode m ≡ false → NoWord (move_of m c)
 unfolding move_of
 no_word modes.Start c h = cond_both (is_mark c) moves.Closes moves.Breaks NoWord (λ k. tt) (λ k. tt)
 no_word modes.Free c h = tt
-no_word modes.Space c h = cond_both (is_space c) _ moves.Breaks NoWord (λ k. (refl, refl)) (λ k. tt)
+no_word modes.Space c h = cond_both (is_space c) _ moves.Breaks NoWord (λ k. (refl, refl, refl)) (λ k. tt)
 no_word (modes.Word s) c h = absurd (both_ways _ h refl)
-no_word modes.Comment c h = cond_both (is_break c) moves.Breaks _ NoWord (λ k. tt) (λ k. (refl, refl))
-no_word (modes.Opened q) c h = cond_both (c == q) _ _ NoWord (λ k. (refl, refl)) (λ k. no_word-short q c)
+no_word modes.Comment c h = cond_both (is_break c) moves.Breaks _ NoWord (λ k. tt) (λ k. (refl, refl, refl))
+no_word (modes.Opened q) c h = cond_both (c == q) _ _ NoWord (λ k. (refl, refl, refl)) (λ k. no_word-short q c)
 no_word (modes.Inside q) c h = cond_both (c == q) moves.Closes _ NoWord (λ k. tt) (λ k. no_word-short q c)
-no_word (modes.Escape q) c h = cond_both (is_return c) _ _ NoWord (λ k. (refl, refl)) (λ k. (refl, refl))
+no_word (modes.Escape q) c h = cond_both (is_return c) _ _ NoWord (λ k. (refl, refl, refl)) (λ k. (refl, refl, refl))
 no_word (modes.EscapeReturn q) c h =
-    cond_both (is_line_feed c) _ _ NoWord (λ k. (refl, refl)) (λ k. cond_both (c == q) moves.Closes _ NoWord (λ l. tt) (λ l. no_word-short q c))
-no_word (modes.Empty q) c h = cond_both (c == q) _ moves.Breaks NoWord (λ k. (refl, refl)) (λ k. tt)
-no_word (modes.Long q) c h = cond_both (c == q) _ _ NoWord (λ k. (refl, refl)) (λ k. no_word-long q c)
-no_word (modes.LongOne q) c h = cond_both (c == q) _ _ NoWord (λ k. (refl, refl)) (λ k. no_word-long q c)
+    cond_both (is_line_feed c) _ _ NoWord (λ k. (refl, refl, refl)) (λ k. cond_both (c == q) moves.Closes _ NoWord (λ l. tt) (λ l. no_word-short q c))
+no_word (modes.Empty q) c h = cond_both (c == q) _ moves.Breaks NoWord (λ k. (refl, refl, refl)) (λ k. tt)
+no_word (modes.Long q) c h = cond_both (c == q) _ _ NoWord (λ k. (refl, refl, refl)) (λ k. no_word-long q c)
+no_word (modes.LongOne q) c h = cond_both (c == q) _ _ NoWord (λ k. (refl, refl, refl)) (λ k. no_word-long q c)
 no_word (modes.LongTwo q) c h = cond_both (c == q) moves.Closes _ NoWord (λ k. tt) (λ k. no_word-long q c)
-no_word (modes.LongEscape q) c h = (refl, refl)
+no_word (modes.LongEscape q) c h = (refl, refl, refl)
 no_word (modes.FieldOpened f) c h = tt
 no_word (modes.FieldEmpty f) c h = tt
 no_word modes.Fielded c h = tt
-no_word modes.Backslash c h = cond_both (is_line_feed c) moves.Closes _ NoWord (λ k. tt) (λ k. cond_both (is_return c) _ moves.Refused NoWord (λ l. (refl, refl)) (λ l. tt))
+no_word modes.Backslash c h = cond_both (is_line_feed c) moves.Closes _ NoWord (λ k. tt) (λ k. cond_both (is_return c) _ moves.Refused NoWord (λ l. (refl, refl, refl)) (λ l. tt))
 no_word modes.JoinReturn c h = cond_both (is_line_feed c) moves.Closes moves.Breaks NoWord (λ k. tt) (λ k. tt)
 no_word modes.Return c h = cond_both (is_line_feed c) moves.Closes moves.Breaks NoWord (λ k. tt) (λ k. tt)
 
--- where any piece grows, a piece is open after it
-abbrev IsOpenAfter : Move → Type 0
-IsOpenAfter (moves.Grows n) = one_open n ≡ 1
+-- where any piece grows, a piece is open after it that is no string with fields
+abbrev pub IsOpenAfter : Move → Type 0
+IsOpenAfter (moves.Grows n) = (one_open n ≡ 1) × (is_fielded_mode n ≡ false)
 IsOpenAfter other = Unit {0}
 
 is_open : (v : Move) → NoWord v → IsOpenAfter v
-is_open (moves.Grows n) h = h.0
+is_open (moves.Grows n) h = (h.0, h.2)
 is_open moves.Closes h = tt
 is_open moves.Breaks h = tt
 is_open moves.Refused h = tt
 
-open_after : (m : Mode) (c : ℕ) → IsOpenAfter (move_of m c)
+pub open_after : (m : Mode) (c : ℕ) → IsOpenAfter (move_of m c)
 unfolding move_of
 open_after (modes.Word s) c =
-    cond_both (is_word_character c) _ _ IsOpenAfter (λ h. refl) (λ h. cond_both (is_prefix_spelling s && is_quote c) _ moves.Breaks IsOpenAfter (λ k. refl) (λ k. tt))
+    cond_both (is_word_character c) _ _ IsOpenAfter (λ h. (refl, refl)) (λ h. cond_both (is_prefix_spelling s && is_quote c) _ moves.Breaks IsOpenAfter (λ k. (refl, refl)) (λ k. tt))
 open_after m c = is_open (move_of m c) (no_word m c refl)
 
 -- a character that begins a piece opens one
@@ -129,7 +136,7 @@ Sized s moves.Breaks t = size s < size t
 Sized s other t = size s ≤ size t
 
 moved_size : (s : Scanned) (c : ℕ) (v : Move) (t : Scanned) → IsOpenAfter v → moved s c v ≡ Some t → Sized s v t
-moved_size s c (moves.Grows m) t one is = subst (λ x. size s ≤ size x) (some_is (scanned s.done m (s.held ++ c ∷ [])) t is) (omega (arith, one, one_at_most s.mode))
+moved_size s c (moves.Grows m) t one is = subst (λ x. size s ≤ size x) (some_is (scanned s.done m (s.held ++ c ∷ [])) t is) (omega (arith, one.0, one_at_most s.mode))
 moved_size s c moves.Closes t one is =
     subst (λ x. size s ≤ size x) (some_is _ t is) (omega (arith, one_at_most s.mode, length-append s.done (piece (class_of s.mode) (s.held ++ c ∷ []) ∷ [])))
 moved_size s c moves.Breaks t one is =
@@ -201,7 +208,7 @@ follows Room outer openers (c ∷ cs) s t quiet is few = go (λ u q i f. follows
 
     go : Others → (v : Move) → move_of s.mode c ≡ v → Goes Room (lifted outer openers s) (c ∷ cs) (lifted outer openers t)
     go others (moves.Grows m) so =
-        let one : one_open m ≡ 1 = subst IsOpenAfter so (open_after s.mode c) in
+        let one : one_open m ≡ 1 = (subst IsOpenAfter so (open_after s.mode c)).0 in
         goes-grows Room (lifted outer openers s) (lifted outer openers t) (plain m) c cs (at (moves.Grows m) so)
         (others (scanned s.done m (s.held ++ c ∷ [])) (still_quiet s.mode m c cs so quiet) (by (moves.Grows m) so) (omega (arith, few, one, one_at_most s.mode)))
     go others moves.Closes so =

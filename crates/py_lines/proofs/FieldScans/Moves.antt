@@ -26,7 +26,8 @@ use Rattle.py_lines.proofs.Machine.Starts as begun
 use Rattle.py_lines.proofs.FieldSoundness.PlainPieces.{MoveHolds, move_holds, StartHolds, start_holds}
 use Rattle.py_lines.proofs.ScanMachine.Spellings.{Tells, word_tells, other_begins}
 use Rattle.py_lines.proofs.ScanMachine.BodyMoves.{IsBodyMode}
-use Rattle.py_lines.proofs.ScanMachine.Follows.{is_fielded_mode, NoField, grows_plain, host_moves, closing_neutral}
+use Rattle.py_lines.proofs.FieldMachine.PlainSteps.{is_fielded_mode, IsOpenAfter, open_after}
+use Rattle.py_lines.proofs.ScanMachine.Follows.{host_moves, closing_neutral}
 
 -- a move of the machine without fields is the same in the code's words
 code_plain : (m : Mode) → is_fielded_mode m ≡ false → code_mode m ≡ plain m
@@ -34,8 +35,8 @@ code_plain (modes.FieldOpened h) other = absurd (both_ways _ other refl)
 code_plain (modes.FieldEmpty h) other = absurd (both_ways _ other refl)
 code_plain m other = refl
 
-as_plain : (v : Move) → NoField v → code_moved v ≡ plain_move v
-as_plain (moves.Grows m) other = ap grows (code_plain m other)
+as_plain : (v : Move) → IsOpenAfter v → code_moved v ≡ plain_move v
+as_plain (moves.Grows m) one = ap grows (code_plain m one.1)
 as_plain moves.Closes other = refl
 as_plain moves.Breaks other = refl
 as_plain moves.Refused other = refl
@@ -95,7 +96,7 @@ meets (field_modes.Body h region named at) held c holds = refl
 meets (field_modes.Code (modes.Word s)) held c holds = word_meets s held c holds
 meets (field_modes.Code (modes.FieldOpened h)) held c holds = refl
 meets (field_modes.Code (modes.FieldEmpty h)) held c holds = refl
-meets (field_modes.Code m) held c holds = as_plain (move_of m c) (grows_plain m c)
+meets (field_modes.Code m) held c holds = as_plain (move_of m c) (open_after m c)
 
 -- what a move of a string's body leaves open
 abbrev pub BodyMoved : Host → Place → Bool → At → ℕ → FieldMove → Type 0

@@ -4,8 +4,8 @@ use Rattle.std.proofs.Common.{◌≡◌, ℕ, ◌+◌, Bool, true, false, not, �
 use Rattle.std.specs.Prelude.{if◌then◌else◌}
 use Rattle.std.specs.Str.{byte}
 use Rattle.std.specs.List.{list_all, list_any}
-use Rattle.std.proofs.lemmas.Bool.{cond_both, cases_Bool, both_ways, and_right, and_parts, and_from}
-use Rattle.py_lines.specs.Character.{is_mark, is_space, is_word_character, is_quote, is_line_feed, is_return, is_break, is_backslash, is_r}
+use Rattle.std.proofs.lemmas.Bool.{cases_Bool, both_ways, and_right, and_parts, and_from}
+use Rattle.py_lines.specs.Character.{is_mark, is_word_character, is_quote, is_break, is_backslash, is_r}
 use Rattle.py_lines.specs.Piece.{operator, line_end, Piece, spelled}
 use Rattle.py_lines.specs.Balance.{is_opening, is_closing, closing_of, is_opener, is_closer, depth_through}
 use Rattle.py_lines.specs.FieldStrings.{is_field_prefix, Host, literal}
@@ -17,7 +17,7 @@ use Rattle.py_lines.specs.declared.mode.Move.{Move}
 use Rattle.py_lines.specs.declared.mode.Move.TheVariants as moves
 use Rattle.py_lines.specs.declared.mode.Start.{Start}
 use Rattle.py_lines.specs.declared.mode.Start.TheVariants as starts
-use Rattle.py_lines.specs.Private.Machine.{Scanned, fresh, class_of, closed, started, moved, move_of, short_move, long_move, start_of, Holds, is_prefix_spelling, first_spelling, spelling_with, Bracket, closed_by, opened_by, brackets_after, brackets_of}
+use Rattle.py_lines.specs.Private.Machine.{Scanned, fresh, class_of, closed, started, moved, move_of, start_of, Holds, is_prefix_spelling, first_spelling, spelling_with, Bracket, closed_by, opened_by, brackets_after, brackets_of}
 use Rattle.py_lines.specs.Private.FieldMachine.{between, after_slash, after_brace, FieldMode, plain, opened, empty, body, FieldMove, grows, closes, breaks, refused, Level, FieldScanned, field_state, field_fresh, field_text_start, begins_host, host_of, long_host, plain_move, field_move, field_moved, field_step, field_started, field_closed, field_pieces, openers_with, after_operator, levels_open, frames, has_room, has_room_at, between_move, body_move}
 use Rattle.py_lines.specs.Private.ScanMachine.{is_field_spelling, is_raw_spelling, host_in, quote_move, opened_move, meet_of, string_state, have_room_in, move_at, scan_step, IsInString}
 use Rattle.py_lines.proofs.Pieces.PieceLists.{piece}
@@ -31,7 +31,7 @@ use Rattle.py_lines.proofs.Machine.Spellings.{spelling_on-push}
 use Rattle.py_lines.proofs.Machine.OpenStrings.{start-not-mark}
 use Rattle.py_lines.proofs.FieldMachine.Runs.{steps_of}
 use Rattle.py_lines.proofs.FieldMachine.PieceRuns.{opening_operator, word_goes}
-use Rattle.py_lines.proofs.FieldMachine.PlainSteps.{plain_moves, is_word_mode, NoWord, no_word}
+use Rattle.py_lines.proofs.FieldMachine.PlainSteps.{plain_moves, is_word_mode, is_fielded_mode, NoWord, no_word, IsOpenAfter, open_after}
 use Rattle.py_lines.proofs.ScanMachine.Spellings.{word_tells, other_begins}
 use Rattle.py_lines.proofs.ScanMachine.Steps.{meets}
 use Rattle.py_lines.proofs.ScanMachine.Advance.{kept, kept_if}
@@ -55,14 +55,7 @@ flat (modes.FieldEmpty h) done os held = Some (field_state [] done os (empty (ho
 flat modes.Fielded done os held = rebased_if done os (string_state held)
 flat m done os held = Some (field_state [] done os (plain m) held)
 
--- whether a string with fields is open
-abbrev pub is_fielded_mode : Mode → Bool
-is_fielded_mode (modes.FieldOpened h) = true
-is_fielded_mode (modes.FieldEmpty h) = true
-is_fielded_mode modes.Fielded = true
-is_fielded_mode other = false
-
--- such a string, open and by itself
+-- a string with fields, open and by itself
 pub record IsAlone (depth : ℕ) (held : List ℕ) : Type 0 where
   pub state : FieldScanned
   pub goes : GoesAlone depth held state
@@ -217,11 +210,6 @@ pub none_alike : (b : Bool) → Alike None (roomy b None)
 none_alike true = tt
 none_alike false = tt
 
--- what the machine without fields does, where no word is open
-abbrev pub NoField : Move → Type 0
-NoField (moves.Grows n) = is_fielded_mode n ≡ false
-NoField other = Unit {0}
-
 free_never : (c : ℕ) → move_of modes.Free c ≡ moves.Closes → ⊥
 unfolding move_of
 free_never c h = cc
@@ -229,40 +217,6 @@ free_never c h = cc
 pub closing_neutral : (m : Mode) (text : List ℕ) (c : ℕ) → move_of m c ≡ moves.Closes → (is_opener (piece (class_of m) text) ≡ false) × (is_closer (piece (class_of m) text) ≡ false)
 closing_neutral modes.Free text c h = absurd (free_never c h)
 closing_neutral m text c h = (refl, refl)
-
--- the modes that a move of the machine without fields leads to
-short_plain : (q c : ℕ) → NoField (short_move q c)
-unfolding short_move
-short_plain q c = cond_both (is_backslash c) _ _ NoField (λ h. refl) (λ h. cond_both (is_break c) moves.Refused (moves.Grows (modes.Inside q)) NoField (λ k. tt) (λ k. refl))
-
-long_plain : (q c : ℕ) → NoField (long_move q c)
-unfolding long_move
-long_plain q c = cond_both (is_backslash c) (moves.Grows (modes.LongEscape q)) (moves.Grows (modes.Long q)) NoField (λ h. refl) (λ h. refl)
-
-pub grows_plain : (m : Mode) (c : ℕ) → NoField (move_of m c)
-unfolding move_of
-grows_plain modes.Start c = cond_both (is_mark c) moves.Closes moves.Breaks NoField (λ k. tt) (λ k. tt)
-grows_plain modes.Free c = tt
-grows_plain modes.Space c = cond_both (is_space c) (moves.Grows modes.Space) moves.Breaks NoField (λ k. refl) (λ k. tt)
-grows_plain (modes.Word s) c =
-    cond_both (is_word_character c) (moves.Grows (modes.Word (spelling_with s c))) _ NoField (λ h. refl) (λ h. cond_both (is_prefix_spelling s && is_quote c) (moves.Grows (modes.Opened c)) moves.Breaks NoField (λ k. refl) (λ k. tt))
-grows_plain modes.Comment c = cond_both (is_break c) moves.Breaks (moves.Grows modes.Comment) NoField (λ k. tt) (λ k. refl)
-grows_plain (modes.Opened q) c = cond_both (c == q) (moves.Grows (modes.Empty q)) (short_move q c) NoField (λ k. refl) (λ k. short_plain q c)
-grows_plain (modes.Inside q) c = cond_both (c == q) moves.Closes (short_move q c) NoField (λ k. tt) (λ k. short_plain q c)
-grows_plain (modes.Escape q) c = cond_both (is_return c) (moves.Grows (modes.EscapeReturn q)) (moves.Grows (modes.Inside q)) NoField (λ k. refl) (λ k. refl)
-grows_plain (modes.EscapeReturn q) c =
-    cond_both (is_line_feed c) (moves.Grows (modes.Inside q)) _ NoField (λ k. refl) (λ k. cond_both (c == q) moves.Closes (short_move q c) NoField (λ l. tt) (λ l. short_plain q c))
-grows_plain (modes.Empty q) c = cond_both (c == q) (moves.Grows (modes.Long q)) moves.Breaks NoField (λ k. refl) (λ k. tt)
-grows_plain (modes.Long q) c = cond_both (c == q) (moves.Grows (modes.LongOne q)) (long_move q c) NoField (λ k. refl) (λ k. long_plain q c)
-grows_plain (modes.LongOne q) c = cond_both (c == q) (moves.Grows (modes.LongTwo q)) (long_move q c) NoField (λ k. refl) (λ k. long_plain q c)
-grows_plain (modes.LongTwo q) c = cond_both (c == q) moves.Closes (long_move q c) NoField (λ k. tt) (λ k. long_plain q c)
-grows_plain (modes.LongEscape q) c = refl
-grows_plain (modes.FieldOpened h) c = tt
-grows_plain (modes.FieldEmpty h) c = tt
-grows_plain modes.Fielded c = tt
-grows_plain modes.Backslash c = cond_both (is_line_feed c) moves.Closes _ NoField (λ k. tt) (λ k. cond_both (is_return c) (moves.Grows modes.JoinReturn) moves.Refused NoField (λ l. refl) (λ l. tt))
-grows_plain modes.JoinReturn c = cond_both (is_line_feed c) moves.Closes moves.Breaks NoField (λ k. tt) (λ k. tt)
-grows_plain modes.Return c = cond_both (is_line_feed c) moves.Closes moves.Breaks NoField (λ k. tt) (λ k. tt)
 
 pub room_grows : (depth c : ℕ) (n : FieldMode) → has_room_at depth c (grows n) ≡ true
 unfolding has_room_at
@@ -274,7 +228,7 @@ room_closes depth c = refl
 
 -- both machines take the same move of the machine without fields, in a list of the outermost text
 plain_moved : (m : Mode) (done : List Piece) (held : List ℕ) (st : List Bracket) (c : ℕ) (v : Move) → move_of m c ≡ v → brackets_of done ≡ Some st → ((n : Mode) → v ≡ moves.Grows n → Own n (depth_through 0 done) (held ++ c ∷ [])) → Alike (kept_if (moved (scanned done m held) c v)) (roomy (has_room_at (frames (field_state [] done (openers_of st) (plain m) held)) c (plain_move v)) (field_moved (field_state [] done (openers_of st) (plain m) held) c (plain_move v)))
-plain_moved m done held st c (moves.Grows n) is stack own = alike_if _ _ _ st (room_grows _ c (plain n)) (tied_plain n done st (held ++ c ∷ []) (subst NoField is (grows_plain m c)) (own n refl) stack)
+plain_moved m done held st c (moves.Grows n) is stack own = alike_if _ _ _ st (room_grows _ c (plain n)) (tied_plain n done st (held ++ c ∷ []) (subst IsOpenAfter is (open_after m c)).1 (own n refl) stack)
 plain_moved m done held st c moves.Closes is stack own =
     let neutral = closing_neutral m (held ++ c ∷ []) c is in
     alike_if _ _ _ st (room_closes _ c) (tied_fresh done (piece (class_of m) (held ++ c ∷ [])) st neutral.0 neutral.1 stack)
@@ -308,7 +262,7 @@ breaks_as moves.Refused h = absurd (cc)
 pub plain_steps : (m : Mode) (done : List Piece) (held : List ℕ) (st : List Bracket) (c : ℕ) → is_word_mode m ≡ false → move_at (scanned done m held) c ≡ meet_of m c → meet_of m c ≡ move_of m c → begins_host m held c ≡ false → brackets_of done ≡ Some st → StepsAlike (scanned done m held) (field_state [] done (openers_of st) (plain m) held) c
 plain_steps m done held st c word at meets other stack =
     by_moves (scanned done m held) (field_state [] done (openers_of st) (plain m) held) c (move_of m c) (plain_move (move_of m c)) (at ∙ meets) (plain_moves m held c other) (λ h. (meets ∙ breaks_as (move_of m c) h, refl))
-    (plain_moved m done held st c (move_of m c) refl stack (λ n is. (plain_mode n done (openers_of st) (depth_through 0 done) (held ++ c ∷ []) (subst NoField is (grows_plain m c))).1 (subst NoWord is (no_word m c word)).1))
+    (plain_moved m done held st c (move_of m c) refl stack (λ n is. (plain_mode n done (openers_of st) (depth_through 0 done) (held ++ c ∷ []) (subst IsOpenAfter is (open_after m c)).1).1 (subst NoWord is (no_word m c word)).1))
 
 -- a word that goes on
 pub word_on : (s : Spelling) (held : List ℕ) (c : ℕ) → Holds (modes.Word s) [] held → is_word_character c ≡ true → Holds (modes.Word (spelling_with s c)) [] (held ++ c ∷ [])
