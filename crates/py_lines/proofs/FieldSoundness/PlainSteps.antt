@@ -2,7 +2,7 @@
 use Rattle.std.proofs.Common.{◌≡◌, ℕ, ◌+◌, Bool, true, false, ◌&&◌, List, [], ◌∷◌, ◌++◌, length, refl, sym, ap, ◌∙◌, subst, inl, inr, ◌⊎◌, append_assoc, append-nil}
 use Rattle.std.specs.List.{list_any}
 use Rattle.std.proofs.lemmas.Bool.{cond_both, and_parts, both_ways, or_from, false_from_ne_true}
-use Rattle.py_lines.specs.Character.{is_mark, is_space, is_word_character, is_quote, is_line_feed, is_return, is_break}
+use Rattle.py_lines.specs.Character.{is_word_character, is_quote}
 use Rattle.py_lines.specs.Piece.{Class, word, string, operator, Piece, begins, is_mark_class, spelled}
 use Rattle.py_lines.specs.PieceGrammar.{InPlainClass, InClassIn, MayPrecedePlain, AreReadPlain}
 use Rattle.py_lines.specs.Balance.{is_opening, depth_through}
@@ -22,6 +22,7 @@ use Rattle.py_lines.proofs.Pieces.PieceLists.{piece, spelled-push}
 use Rattle.py_lines.proofs.Text.CharacterTests.{quote-not-start}
 use Rattle.py_lines.proofs.Fields.Prefixes.{word_quotes}
 use Rattle.py_lines.proofs.FieldMachine.Runs.{HasRoomFor}
+use Rattle.py_lines.proofs.FieldMachine.PlainSteps.{NoWord, no_word}
 use Rattle.py_lines.proofs.FieldSoundness.PlainPieces.{begins_plain-more, IsPlainText, plain_class, plain_precede, BreaksBefore, MoveHolds, move_holds}
 use Rattle.py_lines.proofs.FieldSoundness.Holds.{Limit, HoldsMode, HoldsList, HoldsLevels, AtStart, IsFieldSound}
 use Rattle.py_lines.proofs.FieldSoundness.Lists.{FieldSoundIf, list_more, levels_more, adds_neutral, list_push, levels_push, fresh_sound}
@@ -56,17 +57,14 @@ abbrev QuotedSo : List ℕ → ℕ → Move → Type 0
 QuotedSo held c (moves.Grows n) = class_of n ≡ string → BeginsPlain (held ++ c ∷ [])
 QuotedSo held c other = Unit {0}
 
-goes_on : (held : List ℕ) (c : ℕ) (v : Move) → BeginsPlain held → QuotedSo held c v
-goes_on held c (moves.Grows n) is = λ at. begins_plain-more held c is
-goes_on held c moves.Closes is = tt
-goes_on held c moves.Breaks is = tt
-goes_on held c moves.Refused is = tt
+keeps_class : (class : Class) (held : List ℕ) (c : ℕ) (v : Move) → NoWord class v → (class ≡ string → BeginsPlain held) → QuotedSo held c v
+keeps_class class held c (moves.Grows n) same own = λ at. begins_plain-more held c (own (sym same.3 ∙ at))
+keeps_class class held c moves.Closes same own = tt
+keeps_class class held c moves.Breaks same own = tt
+keeps_class class held c moves.Refused same own = tt
 
 quoted_so : (m : Mode) (held : List ℕ) (c : ℕ) → Holds m [] held → (class_of m ≡ string → BeginsPlain held) → begins_host m held c ≡ false → QuotedSo held c (move_of m c)
 unfolding move_of
-quoted_so modes.Start held c holds own other = cond_both (is_mark c) _ _ (λ (v : Move). QuotedSo held c v) (λ h. tt) (λ h. tt)
-quoted_so modes.Free held c holds own other = tt
-quoted_so modes.Space held c holds own other = cond_both (is_space c) _ _ (λ (v : Move). QuotedSo held c v) (λ h at. absurd (cc)) (λ h. tt)
 quoted_so (modes.Word s) held c holds own other =
     let P : Move → Type 0 = λ v. QuotedSo held c v in
     cond_both (is_word_character c) _ _ P (λ h at. absurd (cc))
@@ -77,13 +75,7 @@ quoted_so (modes.Word s) held c holds own other =
     first_false : (a b : Bool) → a && b ≡ false → b ≡ true → a ≡ false
     first_false true b h k = absurd (both_ways _ h k)
     first_false false b h k = refl
-quoted_so modes.Comment held c holds own other = cond_both (is_break c) _ _ (λ (v : Move). QuotedSo held c v) (λ h. tt) (λ h at. absurd (cc))
-quoted_so modes.Backslash held c holds own other =
-    let P : Move → Type 0 = λ v. QuotedSo held c v in
-    cond_both (is_line_feed c) _ _ P (λ h. tt) (λ h. cond_both (is_return c) _ _ P (λ k at. absurd (cc)) (λ k. tt))
-quoted_so modes.JoinReturn held c holds own other = cond_both (is_line_feed c) _ _ (λ (v : Move). QuotedSo held c v) (λ h. tt) (λ h. tt)
-quoted_so modes.Return held c holds own other = cond_both (is_line_feed c) _ _ (λ (v : Move). QuotedSo held c v) (λ h. tt) (λ h. tt)
-quoted_so m held c holds own other = goes_on held c (move_of m c) (own refl)
+quoted_so m held c holds own other = keeps_class (class_of m) held c (move_of m c) (no_word m c refl) own
 
 -- no character closes a word, nor what stands after no piece
 abbrev ClosesSo : Mode → Move → Type 0
