@@ -18,7 +18,7 @@ use Rattle.py_lines.specs.declared.mode.Move.TheVariants as moves
 use Rattle.py_lines.specs.declared.mode.Start.{Start}
 use Rattle.py_lines.specs.declared.mode.Start.TheVariants as starts
 use Rattle.py_lines.specs.Private.Machine.{Scanned, fresh, class_of, closed, started, moved, move_of, start_of, Holds, is_prefix_spelling, first_spelling, spelling_with, Bracket, closed_by, opened_by, brackets_after, brackets_of}
-use Rattle.py_lines.specs.Private.FieldMachine.{between, after_slash, after_brace, FieldMode, plain, opened, empty, body, FieldMove, grows, closes, breaks, refused, Level, FieldScanned, field_state, field_fresh, field_text_start, begins_host, host_of, long_host, plain_move, field_move, field_moved, field_step, field_started, field_closed, field_pieces, openers_with, after_operator, levels_open, frames, has_room, has_room_at, between_move, body_move}
+use Rattle.py_lines.specs.Private.FieldMachine.{between, after_slash, after_brace, FieldMode, plain, opened, empty, body, FieldMove, grows, closes, breaks, refused, FieldScanned, field_state, field_fresh, field_text_start, begins_host, host_of, long_host, plain_move, field_move, field_moved, field_step, field_started, field_pieces, openers_with, after_operator, frames, has_room, has_room_at, between_move, body_move}
 use Rattle.py_lines.specs.Private.ScanMachine.{is_field_spelling, is_raw_spelling, host_in, quote_move, opened_move, meet_of, string_state, have_room_in, move_at, scan_step, IsInString}
 use Rattle.py_lines.proofs.Pieces.PieceLists.{piece}
 use Rattle.py_lines.proofs.Pieces.OpenBrackets.{stack_push}
@@ -188,23 +188,12 @@ started_with done st c (starts.Open n) is stack so =
     begun_plain modes.Backslash s = (refl, tt)
     begun_plain m s = absurd s
 
--- a character breaks the open piece in both machines
-pub room_breaks : (depth c : ℕ) (n : ℕ) → depth ≡ n → has_room_at depth c breaks ≡ (not (is_opening c) || nat_lt n 200)
+-- a character begins a piece in both machines, after what was open
+broken : (done : List Piece) (st : List Bracket) (c : ℕ) → brackets_of done ≡ Some st → Alike (kept_if (started done c (start_of c))) (roomy (has_room_at (length (openers_of st) + 0) c breaks) (field_started [] done (openers_of st) c (start_of c)))
 unfolding has_room_at
-room_breaks depth c n is = ap (λ (d : ℕ). not (is_opening c) || nat_lt d 200) is
-
-broken : (s : Scanned) (t : FieldScanned) (st : List Bracket) (c : ℕ) → t.outer ≡ [] → t.openers ≡ openers_of st → field_closed t.mode t.done t.held ≡ closed s.mode s.done s.held → brackets_of s.done ≡ Some st → Alike (kept_if (moved s c moves.Breaks)) (roomy (has_room_at (frames t) c breaks) (field_moved t c breaks))
-broken s t st c outside openers pieces stack =
-    let done : List Piece = closed s.mode s.done s.held in
-    let begun = started_with done st c (start_of c) refl (stack_closed s.mode s.done s.held st stack) (starts_so c) in
-    let deep : frames t ≡ length (openers_of st) = ap (λ (l : List Level). length t.openers + levels_open l) outside ∙ ap (λ (l : List ℕ). length l + 0) openers ∙ omega arith in
-    let room = room_breaks (frames t) c (length (openers_of st)) deep in
-    let same : field_started t.outer (field_closed t.mode t.done t.held) t.openers c (start_of c) ≡ field_started [] done (openers_of st) c (start_of c)
-    = ap (λ (l : List Level). field_started l (field_closed t.mode t.done t.held) t.openers c (start_of c)) outside
-    ∙ ap (λ (l : List Piece). field_started [] l t.openers c (start_of c)) pieces
-    ∙ ap (λ (l : List ℕ). field_started [] done l c (start_of c)) openers in
-    subst (λ (o : Option FieldScanned). Alike (kept_if (started done c (start_of c))) (roomy (has_room_at (frames t) c breaks) o)) (sym same)
-    (subst (λ (b : Bool). Alike (kept_if (started done c (start_of c))) (roomy b (field_started [] done (openers_of st) c (start_of c)))) (sym room) begun)
+broken done st c stack =
+    let deep : length (openers_of st) ≡ length (openers_of st) + 0 = omega arith in
+    subst (λ (n : ℕ). Alike (kept_if (started done c (start_of c))) (roomy (not (is_opening c) || nat_lt n 200) (field_started [] done (openers_of st) c (start_of c)))) deep (started_with done st c (start_of c) refl stack (starts_so c))
 
 pub none_alike : (b : Bool) → Alike None (roomy b None)
 none_alike true = tt
@@ -232,7 +221,7 @@ plain_moved m done held st c (moves.Grows n) is stack own = alike_if _ _ _ st (r
 plain_moved m done held st c moves.Closes is stack own =
     let neutral = closing_neutral m (held ++ c ∷ []) c is in
     alike_if _ _ _ st (room_closes _ c) (tied_fresh done (piece (class_of m) (held ++ c ∷ [])) st neutral.0 neutral.1 stack)
-plain_moved m done held st c moves.Breaks is stack own = broken (scanned done m held) (field_state [] done (openers_of st) (plain m) held) st c refl refl refl stack
+plain_moved m done held st c moves.Breaks is stack own = broken (closed m done held) st c (stack_closed m done held st stack)
 plain_moved m done held st c moves.Refused is stack own = none_alike (has_room_at (frames (field_state [] done (openers_of st) (plain m) held)) c refused)
 
 -- where the machine with fields ends a piece before a character, in no field, so does the other
@@ -251,6 +240,9 @@ by_moves s t c v w one two ends alike = record {
       (subst (λ (x : FieldMove). Alike (kept_if (moved s c v)) (roomy (has_room_at (frames t) c x) (field_moved t c x))) (sym two) alike);
   ends = λ outside h. ends (sym two ∙ h);
 }
+
+grows_to : (s : Scanned) (t : FieldScanned) (st : List Bracket) (c : ℕ) (m : Mode) (n : FieldMode) → move_at s c ≡ moves.Grows m → field_move t.mode t.held c ≡ grows n → IsTied (field_state t.outer t.done t.openers n (t.held ++ c ∷ [])) (scanned s.done m (s.held ++ c ∷ [])) st → StepsAlike s t c
+grows_to s t st c m n one two tied = by_moves s t c (moves.Grows m) (grows n) one two (λ k. absurd (cc)) (alike_if _ _ _ st (room_grows (frames t) c n) tied)
 
 breaks_as : (v : Move) → plain_move v ≡ breaks → v ≡ moves.Breaks
 breaks_as moves.Breaks h = refl
@@ -345,9 +337,8 @@ module _ (s : Spelling) (done : List Piece) (held : List ℕ) (st : List Bracket
       let h : StringWithFields = record { quote = c; is_long = false; is_raw = is_raw_spelling s } in
       let host : host_in h ≡ host_of held c = ap (λ (b : Bool). record { quote = c; is_long = false; is_raw = b }) (sym (tells.1 field)) in
       let move : field_move (plain (modes.Word s)) held c ≡ grows (opened (host_in h)) = host_moves s held c (tells.0 ∙ field) quotes ∙ ap (λ (x : Host). grows (opened x)) (sym host) in
-      by_moves S T c (moves.Grows (modes.FieldOpened h)) (grows (opened (host_in h))) (rw (other, quotes, field)) move (λ k. absurd (cc))
-      (alike_if _ _ _ st (room_grows (frames T) c (opened (host_in h)))
-      (record { stack = stack; flat_is = refl; own = (alone_grows (depth_through 0 done) held c _ (opened (host_in h)) (word_alone s (depth_through 0 done) held own) move, refl) }))
+      grows_to S T st c (modes.FieldOpened h) (opened (host_in h)) (rw (other, quotes, field)) move
+      (record { stack = stack; flat_is = refl; own = (alone_grows (depth_through 0 done) held c _ (opened (host_in h)) (word_alone s (depth_through 0 done) held own) move, refl) })
 
   pub word_steps : StepsAlike S T c
   word_steps =
@@ -356,14 +347,6 @@ module _ (s : Spelling) (done : List Piece) (held : List ℕ) (st : List Bracket
       (cases_Bool (is_word_character c))
 
 -- one quote of a string with fields
-quote_again : (host : Host) (held : List ℕ) (c : ℕ) → c == host.quote ≡ true → field_move (opened host) held c ≡ grows (empty host)
-unfolding field_move
-quote_again host held c is = rw is
-
-first_move : (host : Host) (held : List ℕ) (c : ℕ) → c == host.quote ≡ false → field_move (opened host) held c ≡ between_move host literal false between c
-unfolding field_move body_move
-first_move host held c is = rw is
-
 break_refused : (host : Host) (c : ℕ) → host.is_long ≡ false → c == host.quote ≡ false → is_break c ≡ true → between_move host literal false between c ≡ refused
 unfolding between_move
 break_refused host c short other breaks_line = rw (other, slash-not-break c breaks_line, breaks_line, short)
@@ -399,33 +382,22 @@ module _ (h : StringWithFields) (done : List Piece) (held : List ℕ) (st : List
   TO = field_state [] done (openers_of st) (opened (host_in h)) held
 
   opened_steps_go : (same ends_line : Bool) → c == h.quote ≡ same → is_break c ≡ ends_line → StepsAlike SO TO c
-  unfolding meet_of opened_move
+  unfolding meet_of opened_move field_move body_move
   opened_steps_go true ends_line is break =
-      let move = quote_again (host_in h) held c is in
-      by_moves SO TO c (moves.Grows (modes.FieldEmpty h)) (grows (empty (host_in h))) (rw is) move (λ k. absurd (cc))
-      (alike_if _ _ _ st (room_grows (frames TO) c (empty (host_in h)))
-      (record { stack = stack; flat_is = refl; own = alone_grows (depth_through 0 done) held c _ (empty (host_in h)) own.0 move }))
+      let move : field_move (opened (host_in h)) held c ≡ grows (empty (host_in h)) = rw is in
+      grows_to SO TO st c (modes.FieldEmpty h) (empty (host_in h)) (rw is) move (record { stack = stack; flat_is = refl; own = alone_grows (depth_through 0 done) held c _ (empty (host_in h)) own.0 move })
   opened_steps_go false true is break =
-      by_moves SO TO c moves.Refused refused (rw (is, break)) (first_move (host_in h) held c is ∙ break_refused (host_in h) c own.1 is break) (λ k. absurd (cc)) (none_alike (has_room_at (frames TO) c refused))
+      let move : field_move (opened (host_in h)) held c ≡ refused = rw is (break_refused (host_in h) c own.1 is break) in
+      by_moves SO TO c moves.Refused refused (rw (is, break)) move (λ k. absurd (cc)) (none_alike (has_room_at (frames TO) c refused))
   opened_steps_go false false is break =
       let first = first_grows (host_in h) c is break in
-      let move = first_move (host_in h) held c is ∙ first.is in
-      by_moves SO TO c (moves.Grows modes.Fielded) (grows first.mode) (rw (is, break)) move (λ k. absurd (cc))
-      (alike_if _ _ _ st (room_grows (frames TO) c first.mode)
-      (tied_begun done (held ++ c ∷ []) st first.mode stack (alone_grows (depth_through 0 done) held c _ first.mode own.0 move) first.stays))
+      let move : field_move (opened (host_in h)) held c ≡ grows first.mode = rw is first.is in
+      grows_to SO TO st c modes.Fielded first.mode (rw (is, break)) move (tied_begun done (held ++ c ∷ []) st first.mode stack (alone_grows (depth_through 0 done) held c _ first.mode own.0 move) first.stays)
 
   pub opened_steps : StepsAlike SO TO c
   opened_steps = opened_steps_go (c == h.quote) (is_break c) refl refl
 
 -- two quotes
-pub third_quote : (host : Host) (held : List ℕ) (c : ℕ) → c == host.quote ≡ true → field_move (empty host) held c ≡ grows (body (long_host host) literal false between)
-unfolding field_move
-third_quote host held c is = rw is
-
-pub empty_breaks : (host : Host) (held : List ℕ) (c : ℕ) → c == host.quote ≡ false → field_move (empty host) held c ≡ breaks
-unfolding field_move
-empty_breaks host held c is = rw is
-
 module _ (h : StringWithFields) (done : List Piece) (held : List ℕ) (st : List Bracket) (c : ℕ) (own : Own (modes.FieldEmpty h) (depth_through 0 done) held) (stack : brackets_of done ≡ Some st) where
   abbrev SE : Scanned
   SE = scanned done (modes.FieldEmpty h) held
@@ -434,14 +406,12 @@ module _ (h : StringWithFields) (done : List Piece) (held : List ℕ) (st : List
   TE = field_state [] done (openers_of st) (empty (host_in h)) held
 
   empty_steps_go : (same : Bool) → c == h.quote ≡ same → StepsAlike SE TE c
-  unfolding meet_of
+  unfolding meet_of field_move
   empty_steps_go true is =
       let m : FieldMode = body (long_host (host_in h)) literal false between in
-      let move = third_quote (host_in h) held c is in
-      by_moves SE TE c (moves.Grows modes.Fielded) (grows m) (rw is) move (λ k. absurd (cc))
-      (alike_if _ _ _ st (room_grows (frames TE) c m)
-      (tied_begun done (held ++ c ∷ []) st m stack (alone_grows (depth_through 0 done) held c _ m own move) (long_host (host_in h), literal, false, between, refl)))
-  empty_steps_go false is = by_moves SE TE c moves.Breaks breaks (rw is) (empty_breaks (host_in h) held c is) (λ k. (rw is, refl)) (broken SE TE st c refl refl refl stack)
+      let move : field_move (empty (host_in h)) held c ≡ grows m = rw is in
+      grows_to SE TE st c modes.Fielded m (rw is) move (tied_begun done (held ++ c ∷ []) st m stack (alone_grows (depth_through 0 done) held c _ m own move) (long_host (host_in h), literal, false, between, refl))
+  empty_steps_go false is = by_moves SE TE c moves.Breaks breaks (rw is) (rw is) (λ k. (rw is, refl)) (broken (closed (modes.FieldEmpty h) done held) st c (stack_closed (modes.FieldEmpty h) done held st stack))
 
   pub empty_steps : StepsAlike SE TE c
   empty_steps = empty_steps_go (c == h.quote) refl
