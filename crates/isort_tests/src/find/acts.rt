@@ -259,27 +259,49 @@ fn tell_state(finder: &Fed, out: &mut String) {
     let _ = writeln!(out, "{}, {fed}, {held}", readiness(finder));
 }
 
-/// A piece fed once: how many bytes were taken, or the fault. Whether it has none.
-fn tell_feed(finder: &mut Fed, piece: &[u8], out: &mut String) -> bool {
+/// A piece fed once: how many bytes were taken, or the fault. What is left of the piece, if it has none.
+fn tell_feed<'p>(finder: &mut Fed, piece: &'p [u8], out: &mut String) -> Option<&'p [u8]> {
     match finder.feed(piece) {
         Ok(taken) => {
             let _ = writeln!(out, "took {taken}");
-            true
+            piece.get(taken..)
         }
         Err(error) => {
             tell_error(error, out);
-            false
+            None
         }
     }
 }
 
-/// Each piece fed once, the state, the imports that are ready, and the state after them; or the fault.
+/// A piece fed once, the state, the imports that are ready, and the state after them; or the fault. What is left of the piece, if it
+/// has none.
+fn tell_step<'p>(
+    alloc: Global,
+    finder: &mut Fed,
+    piece: &'p [u8],
+    out: &mut String,
+) -> Option<&'p [u8]> {
+    let rest = tell_feed(finder, piece, out)?;
+    tell_state(finder, out);
+    tell_ready(alloc, finder, out);
+    tell_state(finder, out);
+    Some(rest)
+}
+
+/// Each of these pieces fed once.
 fn tell_steps(alloc: Global, finder: &mut Fed, pieces: &[&[u8]], out: &mut String) {
     for piece in pieces {
-        if tell_feed(finder, piece, out) {
-            tell_state(finder, out);
-            tell_ready(alloc, finder, out);
-            tell_state(finder, out);
+        tell_step(alloc, finder, piece, out);
+    }
+}
+
+/// A piece fed by as many calls as it takes, or up to a fault.
+fn tell_calls(alloc: Global, finder: &mut Fed, piece: &[u8], out: &mut String) {
+    let mut rest = piece;
+    for _ in 0..=piece.len() {
+        match tell_step(alloc, finder, rest, out) {
+            Some(left) if !left.is_empty() => rest = left,
+            _ => return,
         }
     }
 }
@@ -325,6 +347,8 @@ pub(crate) enum Act<'t> {
     Piece(&'t [u8]),
     /// Feeds each of these pieces once, and tells that, the state, the imports that are ready, and the state after them.
     Steps(&'t [&'t [u8]]),
+    /// Feeds a piece by as many calls as it takes, and tells the same of each call.
+    Calls(&'t [u8]),
     /// Feeds two pieces whole, and ends the text, up to a fault.
     Text(&'t [u8], &'t [u8]),
     /// Feeds this text byte by byte, and ends it, up to a fault. It stops before each byte, and goes on from there.
@@ -472,6 +496,7 @@ fn tell_act(alloc: Global, finder: &mut Fed, act: Act<'_>, out: &mut String) {
             tell_piece(alloc, finder, piece, out);
         }
         Act::Steps(pieces) => tell_steps(alloc, finder, pieces, out),
+        Act::Calls(piece) => tell_calls(alloc, finder, piece, out),
         Act::Text(first, second) => tell_text(alloc, finder, first, second, out),
         Act::Next(times) => tell_some(alloc, finder, times, out),
         Act::Ready => tell_readiness(finder, out),

@@ -1,9 +1,9 @@
 //! What finders of pieces tell step by step, with what is done with them.
-use crate::find::acts::{Act, tells};
+use crate::find::acts::{Act, tell_acts, tells};
 use isort_find::FindOptions;
 use std::alloc::Global;
 use std::test::Fail;
-use test_harness::cases::{Case, each_holds_again};
+use test_harness::cases::{Case, each_holds, each_holds_again, was_refused};
 use test_harness::options::{ALL, MODULES, TOP};
 
 /// Options, what is done with a finder, and what it tells.
@@ -365,4 +365,43 @@ fn follows_scripts(rt: HostRuntime) -> Result<(), Fail> {
         ],
     )?;
     each_holds_again(alloc, &[("FAULTS", FAULTS)])
+}
+
+/// A piece that is fed after `import z` and LF, what is told of it, and what is told instead where a growth was refused for its last
+/// line: the lines before it were taken, and that line is taken by the next call.
+struct Halted(&'static [u8], &'static str, &'static str);
+
+impl Case for Halted {
+    fn holds(&self, alloc: Global) -> bool {
+        let acts = [Act::Piece(b"import z\n"), Act::Calls(self.0), Act::Stop];
+        let told = tell_acts(alloc, ALL, &acts);
+        told.as_str() == self.1 || told.as_str() == self.2 && was_refused(alloc)
+    }
+}
+
+/// What is told where no growth was refused for the last line.
+const AT_ONCE: &str =
+    "1 import z\ntook 21\nready, 30, 15\n3 import a\n3 import b\n3 import c\nnone, 30, 0\nat 30, 4\n";
+
+/// What is told where the first of two lines was taken, which ends with LF.
+const LINE_BY_LINE: &str = "1 import z\ntook 6\nready, 15, 0\nnone, 15, 0\n\
+    took 15\nready, 30, 15\n3 import a\n3 import b\n3 import c\nnone, 30, 0\nat 30, 4\n";
+
+/// The last line has more tokens than `import z`, so that memory for them is asked for.
+static HALTED: &[Halted] = &[
+    Halted(b"from_\nimport a, b, c\n", AT_ONCE, LINE_BY_LINE),
+    // The first line is passed over.
+    Halted(b"x = 1\nimport a, b, c\n", AT_ONCE, LINE_BY_LINE),
+    // After CR one byte of the last line was taken.
+    Halted(
+        b"from_\rimport a, b, c\n",
+        AT_ONCE,
+        "1 import z\ntook 7\nready, 16, 1\nnone, 16, 1\n\
+         took 14\nready, 30, 15\n3 import a\n3 import b\n3 import c\nnone, 30, 0\nat 30, 4\n",
+    ),
+];
+
+#[test]
+fn halts_before_a_line_without_memory(rt: HostRuntime) -> Result<(), Fail> {
+    each_holds(rt.alloc(), &[("HALTED", HALTED)])
 }
