@@ -1,6 +1,6 @@
 //! Where texts come from.
 use crate::messages::told_as;
-use isort_cmd::{RunError, STANDARD_INPUT};
+use isort_cmd::{LIST_CHUNK, RunError, STANDARD_INPUT};
 use std::fs::File;
 use std::io::{self, Read, Stdin};
 
@@ -30,6 +30,8 @@ impl Read for Input {
 pub(crate) struct Inputs {
     /// Whether standard input was named before.
     is_standard_taken: bool,
+    /// What each text that is listed is read into.
+    pub(crate) buffer: [u8; LIST_CHUNK],
 }
 
 impl Inputs {
@@ -37,6 +39,7 @@ impl Inputs {
     pub(crate) fn new() -> Inputs {
         Inputs {
             is_standard_taken: false,
+            buffer: [0; LIST_CHUNK],
         }
     }
 

@@ -71,6 +71,7 @@ fn list(
         path,
         options,
         MAX_BYTES,
+        &mut inputs.buffer,
     );
     written_out(writer, listed.map(|()| Outcome::Same))
 }

@@ -24,7 +24,7 @@ pub use isort_find::{FindOptions, ImportKey};
 pub use isort_settings::{Profile, Settings, SettingsError};
 pub use isort_sort::{Last, Metered, Outcome};
 pub use job::{Action, Job, STANDARD_INPUT, Task};
-pub use listing::identify;
+pub use listing::{LIST_CHUNK, identify};
 pub use message::{OUT_OF_MEMORY, fault_text, settings_text};
 pub use read::read_text;
 pub use reporting::report;

@@ -20,7 +20,7 @@ use std::alloc::Global;
 use std::io::{Read, Write};
 
 /// How many bytes a listing asks a read for, which answers with fewer where no more have come.
-const LIST_CHUNK: usize = 32768;
+pub const LIST_CHUNK: usize = 32768;
 
 /// Looks at the byte that may be held after the last logical line: it may decide a fault.
 fn look_at_held(finder: &mut PieceFinder) -> Result<(), RunError>
@@ -123,6 +123,7 @@ impl Listing<'_> {
         reader: &mut Metered<R>,
         writer: &mut Metered<W>,
         max: u64,
+        buffer: &mut [u8; LIST_CHUNK],
     ) -> Result<(), RunError>
         requires reader_fine { last_of reader.old ≡ Last.Fine }
         requires writer_fine { last_of writer.old ≡ Last.Fine }
@@ -134,9 +135,8 @@ impl Listing<'_> {
             (R.remaining (inner_of reader.new)) (listing_state W.contents self.new writer.new) }
         ensures reader { EndsReading result (last_of reader.new) }
     {
-        let mut buffer = [0u8; LIST_CHUNK];
         'chunks: loop {
-            let count = read_chunk(reader, &mut buffer)?;
+            let count = read_chunk(reader, buffer)?;
             if count == 0 {
                 return Ok(());
             }
@@ -171,6 +171,7 @@ impl Listing<'_> {
         reader: &mut Metered<R>,
         writer: &mut Metered<W>,
         max: u64,
+        buffer: &mut [u8; LIST_CHUNK],
     ) -> Result<(), RunError>
         requires reader_fine { last_of reader.old ≡ Last.Fine }
         requires writer_fine { last_of writer.old ≡ Last.Fine }
@@ -183,7 +184,7 @@ impl Listing<'_> {
             (last_of reader.new) (last_of writer.new) }
     {
         settled_found_is_final();
-        self.list_chunks(reader, writer, max)?;
+        self.list_chunks(reader, writer, max, buffer)?;
         self.list_end(writer)
     }
 }
@@ -191,7 +192,8 @@ impl Listing<'_> {
 /// Lists the imports of a Python text: reads `reader` to its end in chunks, and writes to `writer` one line for each
 /// import that is found, as soon as its logical line is whole: `path:line `, `indented ` where that line is, the
 /// statement, and a line feed. Lines count from 1. Before it reads on it flushes what it has written. It keeps the text
-/// of one logical line, and of what was read at most 32768 bytes more.
+/// of one logical line, and of what was read at most 32768 bytes more. It reads into `buffer`, whatever stands there: one
+/// serves for many texts.
 ///
 /// `options` says which imports are found: with a key in `unique` the first under each key, and with `top_only` those
 /// before the first function or class, after which no fault counts. `max` is how many bytes the text may have.
@@ -215,6 +217,7 @@ pub fn identify<R: Read, W: Write>(
     path: &str,
     options: FindOptions,
     max: u64,
+    buffer: &mut [u8; LIST_CHUNK],
 ) -> Result<(), RunError>
     requires reader_fine { last_of reader.old ≡ Last.Fine }
     requires writer_fine { last_of writer.old ≡ Last.Fine }
@@ -245,5 +248,5 @@ pub fn identify<R: Read, W: Write>(
         path,
         line: String::new(alloc),
     };
-    listing.list(reader, writer, max)
+    listing.list(reader, writer, max, buffer)
 }

@@ -2,7 +2,7 @@
 ghost use Rattle.std.specs.Prelude.{◌≡◌};
 ghost use Rattle.isort_sort.specs.Metered.{last_of};
 
-use isort_cmd::{Last, Metered, RunError, identify, sort_run};
+use isort_cmd::{LIST_CHUNK, Last, Metered, RunError, identify, sort_run};
 use isort_settings::Settings;
 use std::alloc::Global;
 use std::io;
@@ -32,7 +32,10 @@ fn run<R: Read>(
     requires writer_fine { last_of writer.old ≡ Last.Fine }
 {
     match task {
-        Task::Identify => identify(alloc, reader, writer, "-", ALL, 1000),
+        Task::Identify => {
+            let mut buffer = [0u8; LIST_CHUNK];
+            identify(alloc, reader, writer, "-", ALL, 1000, &mut buffer)
+        }
         Task::Sort => match sort_run(alloc, reader, writer, settings, 1000) {
             Ok(_) => Ok(()),
             Err(error) => Err(error),

@@ -76,6 +76,7 @@ impl Listing<'_> {
         let mut reader = Device::new(alloc, self.text.0, self.text.1, self.troubles.0);
         let mut writer = Device::new(alloc, b"", self.most, self.troubles.1);
         let max = u64::from(self.asked.1);
+        let mut buffer = [0u8; LIST_CHUNK];
         let got = identify(
             alloc,
             &mut reader,
@@ -83,6 +84,7 @@ impl Listing<'_> {
             self.path,
             self.asked.0,
             max,
+            &mut buffer,
         );
         let lasts = (reader.last(), writer.last());
         let (reader, writer) = (reader.into_inner(), writer.into_inner());
@@ -245,7 +247,8 @@ static ASKED: &[Listed] = &[
     Listed(b"a = 1\n", (ALL, 6), "", End::Fine),
 ];
 
-/// A text, how its listing ends, and the lines of it and of another text, which is listed to the same writer.
+/// A text, how its listing ends, and the lines of it and of another text, which is listed to the same writer and read into the same
+/// buffer.
 struct Followed(&'static [u8], End, &'static str);
 
 impl Case for Followed {
@@ -253,10 +256,11 @@ impl Case for Followed {
         let mut reader = Metered::new(self.0);
         let mut other = Metered::new(b"import b".as_slice());
         let mut writer = Metered::new(Vec::new(alloc));
-        let got = identify(alloc, &mut reader, &mut writer, "a", ALL, 20);
+        let mut buffer = [0u8; LIST_CHUNK];
+        let got = identify(alloc, &mut reader, &mut writer, "a", ALL, 20, &mut buffer);
         got == self.1.answer()
             && got != Err(RunError::Write)
-            && identify(alloc, &mut other, &mut writer, "b", ALL, 20).is_ok()
+            && identify(alloc, &mut other, &mut writer, "b", ALL, 20, &mut buffer).is_ok()
             && writer.into_inner().as_slice() == self.2.as_bytes()
     }
 }

@@ -8,7 +8,7 @@ use Rattle.isort_cmd.proofs.listing.Listing.list_chunks.Goals as goal
 pub chunks-init : goal.chunks-init
 chunks-init g c = record {
   reader_fine = c.requires.reader_fine;
-  room = refl;
+  room = c.told-buffer;
   takes = takes_nothing _ c.args.max _ c.requires.writer_fine (Consumes-nil _) c.requires.fresh;
 }
 
