@@ -36,7 +36,8 @@ pub struct LineState {
 impl LineState {
     ghost use Rattle.py_lines.specs.Token.{EachLiesIn};
     ghost use Rattle.py_lines.specs.UnitLine.{line_in};
-    ghost use Rattle.py_lines.specs.Private.LineState.{BeginsAnew, IsEndLineFault, KeepsFault, BeginsAt, first_mode, passed, read_line, with_tokens};
+    ghost use Rattle.py_lines.specs.Private.LineState.{BeginsAnew, BeginsAt, IsEndLineFault, KeepsFault};
+    ghost use Rattle.py_lines.specs.Private.LineState.{first_mode, passed, read_line, with_tokens};
     ghost use Rattle.py_lines.specs.Private.LineTokens.{HoldsTokens, IsLineText};
 
     /// At this byte of a text, which is on this line. Nothing of the next line is read.
