@@ -21,7 +21,7 @@ use crate::pyproject;
 use crate::section::Section;
 use crate::section_order::SectionOrder;
 use crate::table_sections::{Listed, TableSections};
-use crate::value::{read_count, read_modules, read_section, read_whole, within};
+use crate::value::{read_count, read_modules, read_section, read_whole};
 use std::alloc::Global;
 use std::cmp::Ordering;
 use toml::{Table, Value};
@@ -428,11 +428,10 @@ impl Settings {
         let Some(number) = value.as_integer() else {
             return Err(SettingsError::BadValue(Key::MultiLineOutput));
         };
-        let Some(mode) = within(number, MODES) else {
-            return Err(SettingsError::UnsupportedMode);
-        };
-        self.multi_line_output = mode;
-        Ok(())
+        match u32::try_from(number) {
+            Ok(mode) => self.set_mode(mode),
+            Err(_) => Err(SettingsError::UnsupportedMode),
+        }
     }
 
     /// Changes the line length, or refuses one outside 1 to 10000.
