@@ -1,13 +1,15 @@
 -- The names that `sections` lists, one after another.
-use Rattle.std.proofs.Common.{◌≡◌, ◌↔◌, ℕ, ◌+◌, ◌<◌, Bool, true, false, not, ◌||◌, cond, IsTrue, List, [], ◌∷◌, ◌++◌, map, length, take, get_or, Option, Some, None, bytes_eq, option_map, unwrap_or, Bor, string_bytes, String, Global, refl, sym, ◌∙◌, ap, arith}
+use Rattle.std.proofs.Common.{◌≡◌, ◌↔◌, ℕ, ◌+◌, ◌-◌, ◌<◌, Bool, true, false, not, ◌&&◌, ◌||◌, cond, IsTrue, List, [], ◌∷◌, ◌++◌, map, length, take, drop, get_or, Option, Some, None, bytes_eq, option_map, unwrap_or, Bor, string_bytes, String, Global, refl, sym, ◌∙◌, ap, arith}
 use Rattle.std.proofs.lemmas.Bool.{false_from_ne_true}
-use Rattle.std.proofs.lemmas.List.{get_or-map, length-map, map-append, take_more}
+use Rattle.std.proofs.lemmas.List.{drop_more, get_or-map, length-drop, length-map, map-append, take_all, take_more}
 use Rattle.std.proofs.lemmas.List.Elements.{filter_map-append}
 use Rattle.std.proofs.lemmas.Option.{slice_get-get_or, slice_get_past, unwrap_or-slice_get}
 use Rattle.std.proofs.lemmas.Slice.Eq.{bytes_eq-Decides}
 use Rattle.std.specs.List.{list_any, filter_map, cons_option, position, prefix_len, slice_get}
 use Rattle.std.specs.Slice.{IsItemAt}
+use Rattle.std.specs.Str.{str_eq_ignore_ascii_case}
 use Rattle.isort_settings.specs.declared.section.Section.{Section}
+use Rattle.isort_settings.specs.SectionNames.{are_apart}
 
 -- an answer that says whether two texts are equal
 pub says_equal : (b : Bool) (xs ys : List ℕ) → IsTrue b ↔ (xs ≡ ys) → b ≡ bytes_eq xs ys
@@ -27,6 +29,25 @@ pub bytes_more : (names : List (String Global)) (i : ℕ) (name : String Global)
     → map string_bytes (take (i + 1) names) ≡ map string_bytes (take i names) ++ string_bytes name ∷ []
 bytes_more names i name within at =
     ap (map string_bytes) (take_more names i name within ∙ ap (λ x. take i names ++ x ∷ []) (sym at)) ∙ map-append string_bytes (take i names) (name ∷ [])
+
+-- names from a place on are apart where the name there is apart from those after it, and those are apart
+pub apart_more : (names : List (String Global)) (i : ℕ) (name : String Global) (text : List ℕ) (apart : Bool) → i < length names → name ≡ get_or names i name → text ≡ string_bytes name
+    → apart ≡ not (list_any (λ other. str_eq_ignore_ascii_case other text) (map string_bytes (take (length names - (i + 1)) (drop (i + 1) names))))
+    → are_apart (map string_bytes (drop i names)) ≡ (apart && are_apart (map string_bytes (drop (i + 1) names)))
+apart_more names i name text apart within at same is =
+    let after = drop (i + 1) names in
+    ap (λ ns. are_apart (map string_bytes ns)) (drop_more names i name within ∙ ap (λ n. n ∷ after) (sym at))
+    ∙ ap (λ b. b && are_apart (map string_bytes after))
+    (ap (λ t. not (list_any (λ other. str_eq_ignore_ascii_case other t) (map string_bytes after))) (sym same)
+    ∙ ap (λ ns. not (list_any (λ other. str_eq_ignore_ascii_case other text) (map string_bytes ns))) (sym (take_all (length names - (i + 1)) after (omega (arith, length-drop (i + 1) names))))
+    ∙ sym is)
+
+-- what the bytes of the names give, with a name more
+pub mapped_more : {Y : Type 0} (f : List ℕ → Y) (names : List (String Global)) (i : ℕ) (name : String Global) (text : List ℕ) (so_far new : List Y) (y : Y) → i < length names → name ≡ get_or names i name
+    → text ≡ string_bytes name → y ≡ f text → so_far ≡ map f (map string_bytes (take i names)) → new ≡ so_far ++ y ∷ [] → new ≡ map f (map string_bytes (take (i + 1) names))
+mapped_more f names i name text so_far new y within at same is before put =
+    put ∙ ap (λ ys. ys ++ y ∷ []) before ∙ ap (λ z. map f (map string_bytes (take i names)) ++ z ∷ []) (is ∙ ap f same)
+    ∙ sym (map-append f (map string_bytes (take i names)) (string_bytes name ∷ [])) ∙ ap (map f) (sym (bytes_more names i name within at))
 
 -- the place of a text is that among the bytes of the entries
 prefix-map : (p : List ℕ → Bool) (names : List (String Global)) → prefix_len p (map string_bytes names) ≡ prefix_len (λ n. p (string_bytes n)) names

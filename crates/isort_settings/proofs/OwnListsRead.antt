@@ -21,18 +21,6 @@ use Rattle.isort_settings.proofs.Refusals.{first_refused-append}
 abbrev list_or_none : Members → List ℕ → List (List ℕ)
 list_or_none ms name = result_unwrap_or (own_list ms name) []
 
--- a list more
-pub lists_more : (ms : Members) (names : List (String Global)) (i : ℕ) (name : String Global) (text : List ℕ) (lists new : List (Vec (String Global) Global))
-    → i < length names → name ≡ get_or names i name → text ≡ string_bytes name → modules_of_lists new ≡ modules_of_lists lists ++ result_unwrap_or (own_list ms text) [] ∷ []
-    → modules_of_lists lists ≡ map (λ n. result_unwrap_or (own_list ms n) []) (map string_bytes (take i names))
-    → modules_of_lists new ≡ map (λ n. result_unwrap_or (own_list ms n) []) (map string_bytes (take (i + 1) names))
-lists_more ms names i name text lists new within at same put so_far =
-    put
-    ∙ ap (λ ts. ts ++ list_or_none ms text ∷ []) so_far
-    ∙ ap (λ t. map (list_or_none ms) (map string_bytes (take i names)) ++ list_or_none ms t ∷ []) same
-    ∙ sym (map-append (list_or_none ms) (map string_bytes (take i names)) (string_bytes name ∷ []))
-    ∙ ap (map (list_or_none ms)) (sym (bytes_more names i name within at))
-
 -- the first refused key, with one list more
 pub refused_more : (ms : Members) (names : List (String Global)) (i : ℕ) (name : String Global) (text : List ℕ) (bad new : Option SettingKey)
     → i < length names → name ≡ get_or names i name → text ≡ string_bytes name

@@ -6,7 +6,8 @@ use Rattle.toml.specs.View.{table_view}
 use Rattle.isort_settings.specs.OwnLists.{modules_of_lists}
 use Rattle.isort_settings.specs.TableSections.{own_list, first_refused}
 use Rattle.isort_settings.specs.TableSections.Steps.{lists_refused}
-use Rattle.isort_settings.proofs.OwnListsRead.{lists_more, refused_more}
+use Rattle.isort_settings.proofs.Names.{mapped_more}
+use Rattle.isort_settings.proofs.OwnListsRead.{refused_more}
 use Rattle.isort_settings.proofs.table_sections.ListsRead.read.Goals as goal
 
 pub loop-name-init : goal.loop-name-init
@@ -18,7 +19,7 @@ loop-name-preserved c =
     let within = c.loop-name-test.true in
     let same = c.as_str.ensures.value in
     record {
-      lists = lists_more ms c.args.names.now c.loop-name.name-index c.name-item.result _ _ _ within c.name-item.is same c.in_ok-add.ensures.list c.loop-name.invariant.lists;
+      lists = mapped_more (λ name. result_unwrap_or (own_list ms name) []) c.args.names.now c.loop-name.name-index c.name-item.result _ _ _ _ within c.name-item.is same refl c.loop-name.invariant.lists c.in_ok-add.ensures.list;
       refused = refused_more ms c.args.names.now c.loop-name.name-index c.name-item.result _ _ _ within c.name-item.is same c.in_ok-add.ensures.refused c.loop-name.invariant.refused;
     }
 
