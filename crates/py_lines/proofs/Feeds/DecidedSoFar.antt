@@ -1,118 +1,168 @@
 -- Which faults the known bytes decide: where the machine refuses a character, and where no bytes complete a character.
-use Rattle.std.proofs.Common.{◌≡◌, ℕ, ◌+◌, false, not, ◌&&◌, Some, None, List, [], ◌∷◌, ◌++◌, refl, sym, ap, ◌∙◌, subst, ⊎_elim, inl, inr, append_assoc, append-nil, arith}
-use Rattle.std.specs.Str.{StartsWithNoChar}
+use Rattle.std.proofs.Common.{◌≡◌, ℕ, ◌+◌, ◌<◌, ◌≤◌, false, true, not, ◌&&◌, Some, None, List, [], ◌∷◌, ◌++◌, length, take, drop, refl, sym, ap, ◌∙◌, subst, ⊎_elim, inl, inr, append_assoc, append-nil, arith, length-append}
+use Rattle.std.specs.Prelude.{encode_utf8, encode_utf8_all}
+use Rattle.std.specs.Char.{IsScalar}
+use Rattle.std.specs.Str.{StartsWithNoChar, all_scalars}
+use Rattle.std.proofs.lemmas.Bool.{both_ways, cond_both}
+use Rattle.std.proofs.lemmas.List.{take-append-drop}
+use Rattle.std.proofs.lemmas.Str.{length-le-encodes}
 use Rattle.py_lines.specs.Character.{is_line_feed}
-use Rattle.py_lines.specs.Piece.{spelled}
+use Rattle.py_lines.specs.Piece.{line_end, Piece, spelled}
 use Rattle.py_lines.specs.Fields.{AreReadBefore}
 use Rattle.py_lines.specs.Reading.{Decodes}
-use Rattle.py_lines.specs.Faults.{IsLive, IsLexicalFault}
+use Rattle.py_lines.specs.Faults.{IsCharacterFault, IsLive, IsLexicalFault}
 use Rattle.py_lines.specs.Lexed.{IsLexed, IsLexedToFault}
 use Rattle.py_lines.specs.Settled.{IsHopeless, Decides}
-use Rattle.py_lines.specs.LogicalLine.{LogicalLine, byte_len, line_ends}
+use Rattle.py_lines.specs.Given.{AreFirstLines}
+use Rattle.py_lines.specs.LogicalLine.{LogicalLine, byte_len}
+use Rattle.py_lines.specs.ScannerState.{GoesOnWith}
 use Rattle.py_lines.specs.declared.fault.Fault.{Fault}
 use Rattle.py_lines.specs.declared.fault.FaultKind.{FaultKind}
 use Rattle.py_lines.specs.declared.fault.FaultKind.TheVariants as faults
+use Rattle.py_lines.specs.declared.line_state.LineState.{LineState}
+use Rattle.py_lines.specs.declared.mode.Mode.{Mode}
 use Rattle.py_lines.specs.declared.mode.Mode.TheVariants as modes
+use Rattle.py_lines.specs.declared.mode.Move.{Move}
 use Rattle.py_lines.specs.declared.scan.LineFault.{LineFault}
 use Rattle.py_lines.specs.declared.scan.Scan.{Scan}
-use Rattle.py_lines.specs.Private.Machine.{Scanned, Bracket}
-use Rattle.py_lines.specs.Private.ScanMachine.{scan_step}
-use Rattle.py_lines.specs.Private.Scan.{EndsNoLine, line_start, IsUnderWay, none_open, is_return_mode, stack_of, stack_if, IsRefusal}
-use Rattle.py_lines.specs.Private.LineState.{first_mode}
-use Rattle.py_lines.proofs.Text.Utf8Prefixes.{nothing_bad}
-use Rattle.py_lines.proofs.Machine.PieceSteps.{pieces_at}
+use Rattle.py_lines.specs.Private.Machine.{Scanned, Bracket, brackets_of, moved, move_of}
+use Rattle.py_lines.specs.Private.ScanMachine.{meet_of, scan_step}
+use Rattle.py_lines.specs.Private.Scan.{line_start, IsNotEnded, IsUnderWay, is_returned, none_open, is_return_mode, stack_of, stack_if, IsRefusal}
+use Rattle.py_lines.specs.Private.LineState.{IsFaultAfter, first_mode}
+use Rattle.py_lines.proofs.Text.Utf8Prefixes.{nothing_bad, scalars_more, spell_more}
+use Rattle.py_lines.proofs.Text.Decoding.{decoded}
+use Rattle.py_lines.proofs.Pieces.PieceLists.{piece}
+use Rattle.py_lines.proofs.Machine.LiveTexts.{keeps}
+use Rattle.py_lines.proofs.Machine.PieceSteps.{scanned, pieces_at}
 use Rattle.py_lines.proofs.ScanMachine.Advance.{GoesTo}
 use Rattle.py_lines.proofs.ScanMachine.LiveTexts.{runs_live}
 use Rattle.py_lines.proofs.Faults.Verdict.{not_live}
 use Rattle.py_lines.proofs.Lexings.Answers.{IsLineOf, HasPrefix, refused_at_character, refused_at_bytes}
+use Rattle.py_lines.proofs.Lexings.DecidedFaults.{decided_lexing}
 use Rattle.py_lines.proofs.Lexings.GivenLines.{base_lines}
-use Rattle.py_lines.proofs.Text.Decoding.{decoded}
 use Rattle.py_lines.proofs.LogicalLines.Cuts.{byte_len-append}
+use Rattle.py_lines.proofs.LineScan.LineSteps.{way_stop}
 use Rattle.py_lines.proofs.LineScan.NextCharacter.{closed_one_line}
-use Rattle.py_lines.proofs.LineScan.TextSteps.{base_of, way_goes, Joined, joined, dead_at}
-use Rattle.py_lines.proofs.Readers.LineFaults.{refused_fault}
-use Rattle.py_lines.proofs.Readers.FaultAnswers.{open_return, fault_as}
-use Rattle.py_lines.proofs.Readers.LineAnswers.{Within}
+use Rattle.py_lines.proofs.LineScan.TextSteps.{base_of, begun_sound, way_goes, Joined, joined, dead_at}
+use Rattle.py_lines.proofs.Readers.LineFaults.{Within, refused_fault}
 use Rattle.py_lines.proofs.Feeds.Known as of
-use Rattle.py_lines.proofs.Feeds.Known.{IsKnown}
+use Rattle.py_lines.proofs.Feeds.Known.{IsKnown, goes_with_first, is_known}
 
-module _ (text : List ℕ) (place line : ℕ) (lines : List LogicalLine) (read rest : List ℕ) (k : IsKnown text place line lines read rest) where
+-- a CR that was read last ends no line inside brackets
+end_return : (m : Mode) (st : List Bracket) → is_return_mode m && none_open st ≡ false → m ≡ modes.Return → none_open st ≡ false
+end_return modes.Return st not_yet is = not_yet
+end_return m st not_yet is = absurd (cc)
+
+pub way_open : (m : Mode) (scan : Scan) (read : List ℕ) (way : IsUnderWay m scan read) → is_returned scan ≡ false → way.state.mode ≡ modes.Return → none_open (stack_of scan.brackets) ≡ false
+way_open m scan read way not_yet = end_return way.state.mode (stack_of scan.brackets) (ap (λ (n : Mode). is_return_mode n && none_open (stack_of scan.brackets)) (sym way.tallies.counts.mode) ∙ not_yet)
+
+-- a CR that a line ends with isn't refused its next character
+open_return : (m : Mode) (done : List Piece) (held : List ℕ) (c : ℕ) (st : List Bracket) → brackets_of done ≡ Some st → stack_if (scan_step (scanned done m held) c) ≡ None → (is_return_mode m && none_open st) && not (is_line_feed c) ≡ false → m ≡ modes.Return → none_open st ≡ false
+unfolding meet_of move_of
+open_return modes.Return done held c (b ∷ bs) stacked refuses not_yet is = refl
+open_return modes.Return done held c [] stacked refuses not_yet is =
+    absurd (cond_both (is_line_feed c) _ _ (λ (v : Move). stack_if (moved (scanned done modes.Return held) c v) ≡ None → ⊥)
+    (λ feeds none. let clash : Some [] ≡ None = sym (keeps done (piece line_end (held ++ c ∷ [])) [] refl refl stacked) ∙ none in cc)
+    (λ other none. both_ways _ not_yet (ap not other)) refuses)
+open_return m done held c st stacked refuses not_yet is = absurd (cc)
+
+-- the known bytes decide nothing where the machine has gone through them and more may complete those that are left
+pub undecided : (text : List ℕ) (place line : ℕ) (lines : List LogicalLine) (read rest : List ℕ) (k : IsKnown text place line lines read rest) (s : Scanned) (st : List Bracket) → GoesTo (line_start (first_mode place)) read s st → StartsWithNoChar rest → ¬ (IsHopeless rest) → (fault : Fault) → ¬ (Decides (of.bytes text place line lines read rest k) fault)
+undecided text place line lines read rest k s st goes bad more fault d =
+    let j = of.joins text place line lines read rest k s st goes in
+    let same = decoded (of.bytes text place line lines read rest k) (spelled k.base ++ read) d.characters rest d.tail (of.decodes text place line lines read rest k bad) d.decodes in
+    ⊎_elim
+    (λ dies. not_live d.characters fault.kind fault.offset dies (subst IsLive same.0 (runs_live (spelled k.base ++ read) j.state j.st j.steps)))
+    (λ stays. more (subst IsHopeless (sym same.1) stays.1))
+    d.stays
+
+module _ (text : List ℕ) (state : LineState) (lines : List LogicalLine) (read rest : List ℕ) (k : IsKnown text state.place state.line lines read rest) where
   -- the line of a fault in what was read
-  pub line_after : (kind : FaultKind) (offset : ℕ) (prefix later : List ℕ) (fault : Fault) → prefix ++ later ≡ read → offset ≡ byte_len prefix → fault.offset ≡ place + offset → fault.line ≡ line + line_ends prefix → (characters after : List ℕ) → (spelled k.base ++ read) ++ after ≡ characters → IsLineOf fault characters
-  line_after kind offset prefix later fault split size at number characters after spell = record {
-    prefix = spelled k.base ++ prefix;
-    rest = later ++ after;
-    spell = append_assoc (spelled k.base) prefix (later ++ after) ∙ ap (λ t. spelled k.base ++ t) (sym (append_assoc prefix later after) ∙ ap (λ t. t ++ after) split) ∙ sym (append_assoc (spelled k.base) read after) ∙ spell;
-    place = omega (arith, at, size, k.here, byte_len-append (spelled k.base) prefix);
-    line = omega (arith, number, k.number, base_lines k.base prefix (later ++ k.more) (subst (AreReadBefore k.base) (ap (λ t. t ++ k.more) (sym split) ∙ append_assoc prefix later k.more) k.fit));
+  pub line_after : (kind : FaultKind) (offset : ℕ) (fault : Fault) (w : Within read offset) → IsFaultAfter state kind offset (encode_utf8_all w.prefix) fault → IsLineOf fault (spelled k.base ++ read)
+  line_after kind offset fault w at = record {
+    prefix = spelled k.base ++ w.prefix;
+    rest = w.later;
+    spell = append_assoc (spelled k.base) w.prefix w.later ∙ ap (λ t. spelled k.base ++ t) w.split;
+    place = omega (arith, at.place, w.size, k.here, byte_len-append (spelled k.base) w.prefix);
+    line = omega (arith, at.line w.prefix refl, k.number, base_lines k.base w.prefix (w.later ++ k.more) (subst (AreReadBefore k.base) (ap (λ t. t ++ k.more) (sym w.split) ∙ append_assoc w.prefix w.later k.more) k.fit));
   }
 
-  pub prefix_of : (s : Scanned) (st : List Bracket) (goes : GoesTo (line_start (first_mode place)) read s st) → EndsNoLine 0 s.done → (s.mode ≡ modes.Return → none_open st ≡ false) → HasPrefix (of.joins text place line lines read rest k s st goes).state k.base
-  prefix_of s st goes one_line open_yet = record {
-    others = pieces_at s;
-    spell = (of.joins text place line lines read rest k s st goes).pieces;
-    ended = k.ended;
-    none = closed_one_line s.mode s.done s.held st goes.stack one_line open_yet;
-  }
+  module _ (way : IsUnderWay (first_mode state.place) state.scan read) (not_yet : is_returned state.scan ≡ false) where
+    -- the machine over the whole text so far, in which the lines given end a line
+    abbrev pub joined_here : Joined k.base read way.state (stack_of state.scan.brackets) k.more
+    joined_here = of.joins text state.place state.line lines read rest k way.state (stack_of state.scan.brackets) (way_goes way)
 
-  -- no bytes complete those that are left
-  pub decided_bytes : (s : Scanned) (st : List Bracket) → GoesTo (line_start (first_mode place)) read s st → EndsNoLine 0 s.done → (s.mode ≡ modes.Return → none_open st ≡ false) → (d : ℕ) (ds : List ℕ) → rest ≡ d ∷ ds → IsHopeless rest → (fault : Fault) → fault.kind ≡ faults.BadUtf8 → fault.offset ≡ place + byte_len read → fault.line ≡ line + line_ends read → Decides (of.bytes text place line lines read rest k) fault × IsLexed (of.bytes text place line lines read rest k) lines (Some fault)
-  decided_bytes s st goes one_line open_yet d ds is hopeless fault kind at number =
-      let j = of.joins text place line lines read rest k s st goes in
-      let characters = spelled k.base ++ read in
-      let bad : StartsWithNoChar rest = subst StartsWithNoChar (append-nil rest) (hopeless []) in
-      let decodes : Decodes (of.bytes text place line lines read rest k) characters (d ∷ ds) = subst (λ t. Decodes (of.bytes text place line lines read rest k) characters t) is (of.decodes text place line lines read rest k bad) in
-      let lexed = refused_at_bytes (of.bytes text place line lines read rest k) characters d ds j.state j.st k.base fault decodes j.steps (prefix_of s st goes one_line open_yet) kind
-      (omega (arith, at, k.here, byte_len-append (spelled k.base) read))
-      (line_after faults.BadUtf8 (byte_len read) read [] fault (append-nil read) refl at number characters [] (append-nil _)) in (
-        record {
-          characters = lexed.characters;
-          tail = lexed.tail;
-          decodes = lexed.decodes;
-          refused = lexed.refused;
-          stays = (let same = decoded (of.bytes text place line lines read rest k) characters lexed.characters (d ∷ ds) lexed.tail decodes lexed.decodes in inr (kind, subst IsHopeless (is ∙ same.1) hopeless));
-        },
-        subst (λ l. IsLexedToFault (of.bytes text place line lines read rest k) l fault) (sym k.cut) lexed,
-      )
+    pub prefix_of : HasPrefix joined_here.state k.base
+    prefix_of = record {
+      others = pieces_at way.state;
+      spell = joined_here.pieces;
+      ended = k.ended;
+      none = closed_one_line way.state.mode way.state.done way.state.held (stack_of state.scan.brackets) way.stacked way.one_line (way_open (first_mode state.place) state.scan read way not_yet);
+    }
 
-  -- the known bytes decide nothing where the machine has gone through them and more may complete those that are left
-  pub undecided : (s : Scanned) (st : List Bracket) → GoesTo (line_start (first_mode place)) read s st → StartsWithNoChar rest → ¬ (IsHopeless rest) → (fault : Fault) → ¬ (Decides (of.bytes text place line lines read rest k) fault)
-  undecided s st goes bad more fault d =
-      let j = of.joins text place line lines read rest k s st goes in
-      let same = decoded (of.bytes text place line lines read rest k) (spelled k.base ++ read) d.characters rest d.tail (of.decodes text place line lines read rest k bad) d.decodes in
-      ⊎_elim
-      (λ dies. not_live d.characters fault.kind fault.offset dies (subst IsLive same.0 (runs_live (spelled k.base ++ read) j.state j.st j.steps)))
-      (λ stays. more (subst IsHopeless (sym same.1) stays.1))
-      d.stays
+    -- bytes that begin no character are left
+    module _ (some : 0 < length rest) (fault : Fault) (at : IsFaultAfter state faults.BadUtf8 state.scan.stop (encode_utf8_all read) fault) where
+      pub refused_bytes : StartsWithNoChar rest → IsLexedToFault (of.bytes text state.place state.line lines read rest k) lines fault
+      refused_bytes bad = go rest refl
+        where
+          stop : state.scan.stop ≡ byte_len read
+          stop = way_stop (first_mode state.place) state.scan read way (begun_sound state.place)
+
+          go : (left : List ℕ) → rest ≡ left → IsLexedToFault (of.bytes text state.place state.line lines read rest k) lines fault
+          go [] none = absurd (omega (arith, some, ap length none))
+          go (d ∷ ds) is =
+              let known = of.bytes text state.place state.line lines read rest k in
+              let decodes = subst (λ t. Decodes known (spelled k.base ++ read) t) is (of.decodes text state.place state.line lines read rest k bad) in
+              subst (λ l. IsLexedToFault known l fault) (sym k.cut)
+              (refused_at_bytes known (spelled k.base ++ read) d ds joined_here.state joined_here.st k.base fault decodes joined_here.steps prefix_of at.is
+              (omega (arith, at.place, stop, k.here, byte_len-append (spelled k.base) read))
+              (line_after faults.BadUtf8 state.scan.stop fault (record { prefix = read; later = []; split = append-nil read; size = stop }) at))
+
+      -- no bytes complete them
+      pub decided_bytes : IsHopeless rest → Decides (of.bytes text state.place state.line lines read rest k) fault × IsLexed (of.bytes text state.place state.line lines read rest k) lines (Some fault)
+      decided_bytes hopeless =
+          let bad : StartsWithNoChar rest = subst StartsWithNoChar (append-nil rest) (hopeless []) in
+          let lexed = refused_bytes bad in
+          let same = decoded (of.bytes text state.place state.line lines read rest k) (spelled k.base ++ read) lexed.characters rest lexed.tail (of.decodes text state.place state.line lines read rest k bad) lexed.decodes in (
+            record {
+              characters = lexed.characters;
+              tail = lexed.tail;
+              decodes = lexed.decodes;
+              refused = lexed.refused;
+              stays = inr (at.is, subst IsHopeless same.1 hopeless);
+            },
+            lexed,
+          )
+
+-- the fault as it is kept
+fault_as : (fault : Fault) (kind : FaultKind) (offset : ℕ) (characters others : List ℕ) → fault.kind ≡ kind → offset ≡ fault.offset → characters ≡ others → IsCharacterFault kind characters offset → IsCharacterFault fault.kind others fault.offset
+fault_as fault kind offset characters others same at spell is =
+    subst (λ t. IsCharacterFault fault.kind t fault.offset) spell (subst (λ k. IsCharacterFault k characters fault.offset) (sym same) (subst (λ o. IsCharacterFault kind characters o) at is))
 
 -- the next character is refused
-module _ (text : List ℕ) (place line : ℕ) (lines : List LogicalLine) (read : List ℕ) (c : ℕ) (k : IsKnown text place line lines (read ++ c ∷ []) []) where
+module _ (text : List ℕ) (state : LineState) (lines : List LogicalLine) (read : List ℕ) (c : ℕ) (k : IsKnown text state.place state.line lines (read ++ c ∷ []) []) where
   abbrev all_known : List ℕ
-  all_known = of.bytes text place line lines (read ++ c ∷ []) [] k
+  all_known = of.bytes text state.place state.line lines (read ++ c ∷ []) [] k
 
-  before_fit : AreReadBefore k.base (read ++ c ∷ k.more)
-  before_fit = subst (AreReadBefore k.base) (append_assoc read (c ∷ []) k.more) k.fit
-
-  joins_before : (s : Scanned) (st : List Bracket) → GoesTo (line_start (first_mode place)) read s st → Joined k.base read s st (c ∷ k.more)
-  joins_before s st goes = joined place k.base (c ∷ k.more) (of.level text place line lines (read ++ c ∷ []) [] k) (of.strings text place line lines (read ++ c ∷ []) [] k) read s st before_fit (base_of place k.base (read ++ c ∷ k.more) before_fit k.ended k.here) goes
-
-  pub decided_character : (scan : Scan) (way : IsUnderWay (first_mode place) scan read) → stack_if (scan_step way.state c) ≡ None → (is_return_mode way.state.mode && none_open (stack_of scan.brackets)) && not (is_line_feed c) ≡ false → (line_fault : LineFault) → IsRefusal scan c line_fault → (fault : Fault) → fault.kind ≡ line_fault.kind → fault.offset ≡ place + line_fault.place → (w : Within read line_fault.place) → fault.line ≡ line + line_ends w.prefix → Decides all_known fault × IsLexed all_known lines (Some fault)
-  decided_character scan way refuses not_yet line_fault is_line_fault fault kind at w number =
+  decided_character : (way : IsUnderWay (first_mode state.place) state.scan read) → stack_if (scan_step way.state c) ≡ None → IsNotEnded state.scan c → (line_fault : LineFault) → IsRefusal state.scan c line_fault → (fault : Fault) (w : Within read line_fault.place) → IsFaultAfter state line_fault.kind line_fault.place (encode_utf8_all w.prefix) fault → Decides all_known fault × IsLexed all_known lines (Some fault)
+  decided_character way refuses not_yet line_fault is_line_fault fault w at =
       let s = way.state in
-      let st = stack_of scan.brackets in
-      let goes = way_goes way in
-      let j = joins_before s st goes in
-      let level = of.level text place line lines (read ++ c ∷ []) [] k in
+      let st = stack_of state.scan.brackets in
+      let level = of.level text state.place state.line lines (read ++ c ∷ []) [] k in
+      let strings = of.strings text state.place state.line lines (read ++ c ∷ []) [] k in
+      let fit : AreReadBefore k.base (read ++ c ∷ k.more) = subst (AreReadBefore k.base) (append_assoc read (c ∷ []) k.more) k.fit in
+      let base = base_of state.place k.base (read ++ c ∷ k.more) fit k.ended k.here in
+      let j = joined state.place k.base (c ∷ k.more) level strings read s st fit base (way_goes way) in
       let characters = spelled k.base ++ (read ++ c ∷ []) in
       let spell : (spelled k.base ++ read) ++ c ∷ [] ≡ characters = append_assoc (spelled k.base) read (c ∷ []) in
-      let decodes : Decodes all_known characters [] = of.decodes text place line lines (read ++ c ∷ []) [] k nothing_bad in
-      let dead = dead_at k.base read (c ∷ k.more) k.more s st c j level refl refuses in
-      let open_yet = open_return s.mode s.done s.held c st goes.stack refuses not_yet in
-      let prefix : HasPrefix j.state k.base = record { others = pieces_at s; spell = j.pieces; ended = k.ended; none = closed_one_line s.mode s.done s.held st goes.stack way.one_line open_yet } in
-      let found = refused_fault place k.base level (of.strings text place line lines (read ++ c ∷ []) [] k) (base_of place k.base (read ++ c ∷ k.more) before_fit k.ended k.here) scan read way c [] (alone read before_fit) refuses line_fault is_line_fault in
-      let is = fault_as fault line_fault.kind (byte_len (spelled k.base) + line_fault.place) _ _ kind (ap (λ (n : ℕ). n + line_fault.place) (sym k.here) ∙ sym at) spell found in
-      let lexed = refused_at_character all_known characters [] (spelled k.base ++ read) [] c j.state j.st k.base fault decodes spell j.steps dead prefix is
-      (line_after text place line lines (read ++ c ∷ []) [] k fault.kind line_fault.place w.prefix (w.later ++ c ∷ []) fault (sym (append_assoc w.prefix w.later (c ∷ [])) ∙ ap (λ t. t ++ c ∷ []) w.split) w.size at number characters [] (append-nil _)) in (
+      let decodes : Decodes all_known characters [] = of.decodes text state.place state.line lines (read ++ c ∷ []) [] k nothing_bad in
+      let open_yet = open_return s.mode s.done s.held c st way.stacked refuses (ap (λ (m : Mode). (is_return_mode m && none_open st) && not (is_line_feed c)) (sym way.tallies.counts.mode) ∙ not_yet) in
+      let prefix : HasPrefix j.state k.base = record { others = pieces_at s; spell = j.pieces; ended = k.ended; none = closed_one_line s.mode s.done s.held st way.stacked way.one_line open_yet } in
+      let found = refused_fault state.place k.base level strings base state.scan read way c [] (alone read fit) refuses line_fault is_line_fault in
+      let is = fault_as fault line_fault.kind (byte_len (spelled k.base) + line_fault.place) _ _ at.is (ap (λ (n : ℕ). n + line_fault.place) (sym k.here) ∙ sym at.place) spell found in
+      let longer : Within (read ++ c ∷ []) line_fault.place = record { prefix = w.prefix; later = w.later ++ c ∷ []; split = sym (append_assoc w.prefix w.later (c ∷ [])) ∙ ap (λ t. t ++ c ∷ []) w.split; size = w.size } in
+      let lexed = refused_at_character all_known characters [] (spelled k.base ++ read) [] c j.state j.st k.base fault decodes spell j.steps (dead_at k.base read (c ∷ k.more) k.more s st c j level refl refuses) prefix is
+      (line_after text state lines (read ++ c ∷ []) [] k line_fault.kind line_fault.place fault longer at) in (
         record {
           characters = characters;
           tail = [];
@@ -127,3 +177,41 @@ module _ (text : List ℕ) (place line : ℕ) (lines : List LogicalLine) (read :
       alone : (xs : List ℕ) → AreReadBefore k.base (xs ++ c ∷ k.more) → AreReadBefore k.base (xs ++ c ∷ [])
       alone [] fit = of.read_then k.base c [] k.more [] fit
       alone (x ∷ xs) fit = of.read_then k.base x xs (c ∷ k.more) (c ∷ []) fit
+
+-- a fault that so many bytes after the lines given decide, and that the text has after these lines
+pub record IsDecidedAt (text : List ℕ) (place : ℕ) (lines : List LogicalLine) (most : ℕ) (fault : Fault) : Type 0 where
+  pub n : ℕ
+  pub within : n ≤ most
+  pub decided : Decides (take (place + n) text) fault
+  pub lexed : IsLexed text lines (Some fault)
+
+decided_whole : (text : List ℕ) (place : ℕ) (lines : List LogicalLine) (n most : ℕ) (fault : Fault) → n ≤ most → Decides (take (place + n) text) fault × IsLexed (take (place + n) text) lines (Some fault) → IsDecidedAt text place lines most fault
+decided_whole text place lines n most fault within both = record {
+  n = n;
+  within = within;
+  decided = both.0;
+  lexed = subst (λ t. IsLexed t lines (Some fault)) (take-append-drop (place + n) text) (decided_lexing (take (place + n) text) (drop (place + n) text) fault lines both.0 both.1);
+}
+
+-- what the text goes on with after the lines given begins with these characters
+module _ (text : List ℕ) (state : LineState) (lines : List LogicalLine) (held read rest : List ℕ) (first : AreFirstLines text state.place state.line lines) (goes : GoesOnWith text state.place held) (scalars : all_scalars read ≡ true) (spell : encode_utf8_all read ++ rest ≡ held)
+    (way : IsUnderWay (first_mode state.place) state.scan read) where
+  -- the next one is refused
+  pub by_character : (c : ℕ) (after : List ℕ) → IsScalar c → rest ≡ encode_utf8 c ++ after → stack_if (scan_step way.state c) ≡ None → IsNotEnded state.scan c → (line_fault : LineFault) → IsRefusal state.scan c line_fault → (fault : Fault) (w : Within read line_fault.place) → IsFaultAfter state line_fault.kind line_fault.place (encode_utf8_all w.prefix) fault → IsDecidedAt text state.place lines (length held) fault
+  by_character c after scalar is refuses not_yet line_fault is_line_fault fault w at =
+      let more = read ++ c ∷ [] in
+      let all : encode_utf8_all more ++ after ≡ held = spell_more read after held c (ap (λ t. encode_utf8_all read ++ t) (sym is) ∙ spell) in
+      let goes_more : GoesOnWith text state.place (encode_utf8_all more ++ []) = subst (GoesOnWith text state.place) (sym (append-nil (encode_utf8_all more))) (goes_with_first text state.place (encode_utf8_all more) after (subst (GoesOnWith text state.place) (sym all) goes)) in
+      let size : length (encode_utf8_all more ++ []) ≡ byte_len more = ap length (append-nil (encode_utf8_all more)) in
+      let some : 0 < length (encode_utf8_all more ++ []) = omega (arith, size, length-le-encodes more, length-append read (c ∷ [])) in
+      let k = is_known text state.place state.line lines more [] first (scalars_more read c scalars scalar) goes_more some in
+      decided_whole text state.place lines (length (encode_utf8_all more ++ [])) (length held) fault (omega (arith, size, ap length all, length-append (encode_utf8_all more) after))
+      (decided_character text state lines read c k way refuses not_yet line_fault is_line_fault fault w at)
+
+  -- nothing completes the bytes that are left
+  pub by_bytes : is_returned state.scan ≡ false → 0 < length rest → IsHopeless rest → (fault : Fault) → IsFaultAfter state faults.BadUtf8 state.scan.stop (encode_utf8_all read) fault → IsDecidedAt text state.place lines (length held) fault
+  by_bytes not_yet some hopeless fault at =
+      let more : 0 < length (encode_utf8_all read ++ rest) = omega (arith, length-append (encode_utf8_all read) rest, some) in
+      let k = is_known text state.place state.line lines read rest first scalars (subst (GoesOnWith text state.place) (sym spell) goes) more in
+      decided_whole text state.place lines (length (encode_utf8_all read ++ rest)) (length held) fault (omega (arith, ap length spell))
+      (decided_bytes text state lines read rest k way not_yet some fault at hopeless)

@@ -1,33 +1,28 @@
 -- The text ends with what is held: its last line, or the fault that stands there.
-use Rattle.std.proofs.Common.{◌≡◌, ℕ, ◌+◌, ◌<◌, ◌≤◌, true, false, ◌&&◌, None, Some, Ok, Err, List, [], ◌∷◌, ◌++◌, length, take, refl, sym}
+use Rattle.std.proofs.Common.{◌≡◌, ℕ, ◌+◌, ◌<◌, ◌≤◌, true, false, None, Some, Ok, Err, List, [], ◌∷◌, ◌++◌, length, refl, sym}
 use Rattle.std.proofs.Common.{ap, ◌∙◌, subst, append-nil, arith}
 use Rattle.std.specs.Prelude.{encode_utf8_all}
-use Rattle.std.specs.Str.{StartsWithNoChar}
 use Rattle.std.proofs.lemmas.Bool.{both_ways, and_parts, false_from_ne_true}
 use Rattle.std.proofs.lemmas.List.{nil_from_length}
 use Rattle.py_lines.specs.LogicalLine.{LogicalLine, byte_len}
 use Rattle.py_lines.specs.Lexed.{IsLexed}
 use Rattle.py_lines.specs.ScannerState.{GoesOnWith}
-use Rattle.py_lines.specs.declared.fault.Fault.{Fault}
+use Rattle.py_lines.specs.declared.fault.FaultKind.{FaultKind}
 use Rattle.py_lines.specs.declared.fault.FaultKind.TheVariants.{BadUtf8}
 use Rattle.py_lines.specs.declared.fault.LexError.{LexError}
-use Rattle.py_lines.specs.declared.fault.LexError.TheVariants as lex
 use Rattle.py_lines.specs.declared.feed.Feed.{Feed}
 use Rattle.py_lines.specs.declared.line_state.LineState.{LineState}
-use Rattle.py_lines.specs.declared.mode.Mode.{Mode}
-use Rattle.py_lines.specs.declared.mode.Mode.TheVariants as modes
 use Rattle.py_lines.specs.declared.scan.LineFault.{LineFault}
 use Rattle.py_lines.specs.Private.Machine.{Bracket, is_final}
 use Rattle.py_lines.specs.Private.Scan.{is_returned, is_return_mode, none_open, stack_of, line_start, IsUnfinished}
-use Rattle.py_lines.specs.Private.LineState.{first_mode}
-use Rattle.py_lines.specs.Private.Feed.{IsOpen, IsPartOfCharacter, FailsAt, EndsWith, IsLastLine, HasEndFault, EndsHeld}
+use Rattle.py_lines.specs.Private.LineState.{IsFaultAfter, first_mode}
+use Rattle.py_lines.specs.Private.Feed.{IsOpen, IsPartOfCharacter, FailsAt, EndsWith, IsLastLine, EndsHeld}
 use Rattle.py_lines.proofs.Machine.PieceSteps.{pieces_at}
-use Rattle.py_lines.proofs.ScanMachine.Advance.{GoesTo}
-use Rattle.py_lines.proofs.LineScan.TextSteps.{way_goes}
 use Rattle.py_lines.proofs.Readers.LineAnswers.{IsScannedLine, Within}
 use Rattle.py_lines.proofs.Readers.LineFaults.{finished, unfinished_within}
-use Rattle.py_lines.proofs.Readers.EndAnswers.{end_return, line_at_text_end, line_at_return, returned_final}
+use Rattle.py_lines.proofs.Readers.EndAnswers.{line_at_text_end, line_at_return, returned_final}
 use Rattle.py_lines.proofs.Feeds.Known.{IsKnown, is_known}
+use Rattle.py_lines.proofs.Feeds.DecidedSoFar.{way_open}
 use Rattle.py_lines.proofs.Feeds.Ended.{ended_bytes, ended_unfinished, ended_line}
 use Rattle.py_lines.proofs.Feeds.Loops.{fails_keep}
 use Rattle.py_lines.proofs.Feeds.Steps.{open_stands, open_stop, open_size, within_held}
@@ -41,32 +36,26 @@ module _ (f : Feed) (read rest : List ℕ) (o : IsOpen f read rest) where
   whole_at : (text : List ℕ) (lines : List LogicalLine) → EndsWith f text lines → length text ≡ f.state.place + length (encode_utf8_all read ++ rest)
   whole_at text lines ends = ends.whole ∙ ap (λ l. f.state.place + length l) (sym o.spell)
 
-  open_yet : is_returned f.state.scan ≡ false → o.way.state.mode ≡ modes.Return → none_open (stack_of f.state.scan.brackets) ≡ false
-  open_yet not_yet = end_return o.way.state.mode (stack_of f.state.scan.brackets) (ap (λ (m : Mode). is_return_mode m && none_open (stack_of f.state.scan.brackets)) (sym o.way.tallies.counts.mode) ∙ not_yet)
+  -- the fault that the text has there is kept
+  end_fault : (new : Feed) (kind : FaultKind) (offset : ℕ) (error : LexError) (fails : FailsAt f kind offset error new) → f.ready ≡ None
+      → ((text : List ℕ) (lines : List LogicalLine) → EndsWith f text lines → IsLexed text lines (Some fails.keeps.fault)) → EndsHeld f (Err error) new
+  end_fault new kind offset error fails not_ready lexed = subst (λ (e : LexError). EndsHeld f (Err e) new) (sym fails.keeps.error_is) (record {
+    text = fails_keep f new kind offset error fails;
+    none_ready = ap (λ (g : Feed). g.ready) fails.same ∙ not_ready;
+    kept = ap (λ (s : LineState). s.fault) fails.keeps.same;
+    lexed = lexed;
+  })
+
+  fault_in : (new : Feed) (kind : FaultKind) (offset : ℕ) (error : LexError) (fails : FailsAt f kind offset error new) (w : Within read offset) → IsFaultAfter f.state kind offset (encode_utf8_all w.prefix) fails.keeps.fault
+  fault_in new kind offset error fails w = subst (λ b. IsFaultAfter f.state kind offset b fails.keeps.fault) (within_held f read rest o offset w).1 fails.keeps.at
 
   -- bytes that begin no character are left
-  pub ends_in_bytes : (new : Feed) (fault : Fault) → StartsWithNoChar rest → 0 < length rest → is_returned f.state.scan ≡ false → FailsAt f BadUtf8 f.state.scan.stop (lex.Fault fault) new → f.ready ≡ None → HasEndFault f fault new
-  ends_in_bytes new fault bad some not_yet fails not_ready = record {
-    text = fails_keep f new _ _ _ fails;
-    none_ready = ap (λ (g : Feed). g.ready) fails.same ∙ not_ready;
-    kept = ap (λ (s : LineState). s.fault) fails.keeps.same ∙ ap Some (sym same);
-    lexed = λ text lines ends. go text lines ends rest refl;
-  }
-    where
-      same : fault ≡ fails.keeps.fault
-      same = (let x = fails.keeps.error_is in cc)
-
-      go : (text : List ℕ) (lines : List LogicalLine) → EndsWith f text lines → (ds : List ℕ) → rest ≡ ds → IsLexed text lines (Some fault)
-      go text lines ends [] is = absurd (omega (arith, some, ap length is))
-      go text lines ends (d ∷ ds) is =
-          let k = known_at text lines ends (omega (arith, some, open_size f read rest o)) in
-          let stop = open_stop f read rest o in
-          let w : Within read f.state.scan.stop = record { prefix = read; later = []; split = append-nil read; size = stop } in
-          let taken : take f.state.scan.stop f.held.items ≡ encode_utf8_all read = (within_held f read rest o f.state.scan.stop w).1 in
-          ended_bytes text f.state.place f.state.line lines read rest k (whole_at text lines ends) o.way.state (stack_of f.state.scan.brackets) (way_goes o.way) o.way.one_line (open_yet not_yet) d ds is bad fault
-          (ap (λ (x : Fault). x.kind) same ∙ fails.keeps.at.is)
-          (ap (λ (x : Fault). x.offset) same ∙ fails.keeps.at.place ∙ ap (λ (n : ℕ). f.state.place + n) stop)
-          (ap (λ (x : Fault). x.line) same ∙ fails.keeps.at.line read (sym taken))
+  pub ends_in_bytes : (new : Feed) (error : LexError) → IsPartOfCharacter f rest → 0 < length rest → FailsAt f BadUtf8 f.state.scan.stop error new → f.ready ≡ None → EndsHeld f (Err error) new
+  ends_in_bytes new error part some fails not_ready = end_fault new BadUtf8 f.state.scan.stop error fails not_ready (λ text lines ends.
+      let k = known_at text lines ends (omega (arith, some, open_size f read rest o)) in
+      let not_yet = false_from_ne_true _ (λ returned. omega (arith, some, ap length (part.last returned))) in
+      let w : Within read f.state.scan.stop = record { prefix = read; later = []; split = append-nil read; size = open_stop f read rest o } in
+      ended_bytes text f.state lines read rest k (whole_at text lines ends) o.way not_yet some fails.keeps.fault (fault_in new BadUtf8 f.state.scan.stop error fails w) part.none)
 
   read_some : rest ≡ [] → 0 < length f.held.items → 0 < byte_len read
   read_some none some = omega (arith, some, open_size f read rest o, ap length none)
@@ -75,23 +64,10 @@ module _ (f : Feed) (read rest : List ℕ) (o : IsOpen f read rest) where
   open_line_fault_within none some line_fault is = unfinished_within f.state.place f.state.scan read o.way (read_some none some) line_fault is
 
   -- something is open
-  pub ends_open : (new : Feed) (fault : Fault) (line_fault : LineFault) → rest ≡ [] → 0 < length f.held.items → is_returned f.state.scan ≡ false → IsUnfinished f.state.scan (Some line_fault) → FailsAt f line_fault.kind line_fault.place (lex.Fault fault) new → f.ready ≡ None → HasEndFault f fault new
-  ends_open new fault line_fault none some not_yet is_line_fault fails not_ready =
-      let same : fault ≡ fails.keeps.fault = (let x = fails.keeps.error_is in cc) in
-      record {
-        text = fails_keep f new _ _ _ fails;
-        none_ready = ap (λ (g : Feed). g.ready) fails.same ∙ not_ready;
-        kept = ap (λ (s : LineState). s.fault) fails.keeps.same ∙ ap Some (sym same);
-        lexed = λ text lines ends.
-            let k = known_at text lines ends some in
-            let w = open_line_fault_within none some line_fault is_line_fault in
-            let taken : take line_fault.place f.held.items ≡ encode_utf8_all w.prefix = (within_held f read rest o line_fault.place w).1 in
-            ended_unfinished text f.state.place f.state.line lines read rest k (whole_at text lines ends) none f.state.scan o.way (open_yet not_yet) (read_some none some) line_fault is_line_fault fault
-            (ap (λ (x : Fault). x.kind) same ∙ fails.keeps.at.is)
-            (ap (λ (x : Fault). x.offset) same ∙ fails.keeps.at.place)
-            w
-            (ap (λ (x : Fault). x.line) same ∙ fails.keeps.at.line w.prefix (sym taken));
-      }
+  pub ends_open : (new : Feed) (error : LexError) (line_fault : LineFault) → rest ≡ [] → 0 < length f.held.items → is_returned f.state.scan ≡ false → IsUnfinished f.state.scan (Some line_fault) → FailsAt f line_fault.kind line_fault.place error new → f.ready ≡ None → EndsHeld f (Err error) new
+  ends_open new error line_fault none some not_yet unfinished fails not_ready = end_fault new line_fault.kind line_fault.place error fails not_ready (λ text lines ends.
+      let w = open_line_fault_within none some line_fault unfinished in
+      ended_unfinished text f.state lines read rest (known_at text lines ends some) (whole_at text lines ends) o.way not_yet none (read_some none some) line_fault unfinished fails.keeps.fault w (fault_in new line_fault.kind line_fault.place error fails w))
 
   -- what the scan says of the last line
   abbrev pub IsLastScan : ℕ → Type 0
@@ -101,7 +77,7 @@ module _ (f : Feed) (read rest : List ℕ) (o : IsOpen f read rest) where
   plain_line : rest ≡ [] → 0 < length f.held.items → is_returned f.state.scan ≡ false → IsUnfinished f.state.scan None → IsLastScan 0
   plain_line none some not_yet unfinished =
       let (final, empty) = finished f.state.scan unfinished in
-      line_at_text_end (first_mode f.state.place) f.state.scan read o.way (open_stands f read rest o) (ap is_final (sym o.way.tallies.counts.mode) ∙ final) (open_yet not_yet) empty (read_some none some)
+      line_at_text_end (first_mode f.state.place) f.state.scan read o.way (open_stands f read rest o) (ap is_final (sym o.way.tallies.counts.mode) ∙ final) (way_open (first_mode f.state.place) f.state.scan read o.way not_yet) empty (read_some none some)
 
   -- CR closes it
   returned_parts : is_returned f.state.scan ≡ true → (is_return_mode f.state.scan.piece.mode ≡ true) × (stack_of f.state.scan.brackets ≡ [])
@@ -130,25 +106,13 @@ module _ (f : Feed) (read rest : List ℕ) (o : IsOpen f read rest) where
     all = line.stop ∙ sym (ap length (append-nil (encode_utf8_all read))) ∙ ap (λ t. length (encode_utf8_all read ++ t)) (sym none)
         ∙ ap length o.spell;
     lexed = λ text lines ends.
-        let k = known_at text lines ends some in
-        ended_line text f.state.place f.state.line lines read rest k (whole_at text lines ends) none o.way.state
-        (subst (GoesTo (line_start (first_mode f.state.place)) read o.way.state) empty (way_goes o.way))
+        ended_line text f.state lines read rest (known_at text lines ends some) (whole_at text lines ends) o.way none empty
         (ap is_final (sym o.way.tallies.counts.mode) ∙ final) line.line.some line.line.whole;
   }
 
   -- what these come to
   pub all_scanned : length f.held.items ≤ f.state.scan.stop → rest ≡ []
   all_scanned full = nil_from_length rest (omega (arith, full, open_stop f read rest o, open_size f read rest o))
-
-  pub ends_so_bytes : (new : Feed) (error : LexError) → IsPartOfCharacter f rest → 0 < length rest → FailsAt f BadUtf8 f.state.scan.stop error new → f.ready ≡ None → EndsHeld f (Err error) new
-  ends_so_bytes new error part some fails not_ready =
-      subst (λ (e : LexError). EndsHeld f (Err e) new) (sym fails.keeps.error_is)
-      (ends_in_bytes new fails.keeps.fault part.none some (false_from_ne_true _ (λ returned. omega (arith, some, ap length (part.last returned)))) (subst (λ (e : LexError). FailsAt f BadUtf8 f.state.scan.stop e new) fails.keeps.error_is fails) not_ready)
-
-  pub ends_so_open : (new : Feed) (error : LexError) (line_fault : LineFault) → rest ≡ [] → 0 < length f.held.items → is_returned f.state.scan ≡ false → IsUnfinished f.state.scan (Some line_fault) → FailsAt f line_fault.kind line_fault.place error new → f.ready ≡ None → EndsHeld f (Err error) new
-  ends_so_open new error line_fault none some not_yet unfinished fails not_ready =
-      subst (λ (e : LexError). EndsHeld f (Err e) new) (sym fails.keeps.error_is)
-      (ends_open new fails.keeps.fault line_fault none some not_yet unfinished (subst (λ (e : LexError). FailsAt f line_fault.kind line_fault.place e new) fails.keeps.error_is fails) not_ready)
 
   pub ends_so_plain : rest ≡ [] → 0 < length f.held.items → is_returned f.state.scan ≡ false → IsUnfinished f.state.scan None
       → EndsHeld f (Ok tt) (record f { ready = Some 0 })

@@ -23,10 +23,11 @@ use Rattle.py_lines.specs.Private.Feed.{KeepsText, HasRoom, HoldsMore, IsScanned
 use Rattle.py_lines.specs.Private.Feed.{TakesSome, FailsPiece, TakesSo, StandsSo, IsSoundFeed, WaitsSo, line_held, DropsLine, HasReadTokens}
 use Rattle.py_lines.specs.Private.Feed.{HoldsLine, LetsGo, ReadsTokens}
 use Rattle.py_lines.proofs.Lexings.DecidedFaults.{decided_more}
+use Rattle.py_lines.proofs.Feeds.Known.{goes_with_first}
 use Rattle.py_lines.proofs.Feeds.ReadyLines.{IsLineOfText, ended_holds, ended_line_of, held_text, line_read, ready_as, some_is, with_line}
 use Rattle.py_lines.proofs.Feeds.Loops.{begun_open}
 use Rattle.py_lines.proofs.Feeds.ReleasedHeld.{released_sound, releases}
-use Rattle.py_lines.proofs.Feeds.FailedHeld.{goes_with_first, failed_held, failed_keeps}
+use Rattle.py_lines.proofs.Feeds.FailedHeld.{failed_held, failed_keeps}
 use Rattle.py_lines.proofs.Feeds.FedHeld.{goes_joined, settled_scanned, undecided_fed, never_before, settled_fed, whole_fed}
 
 -- the same facts at a scanner that stands at the same place

@@ -1,9 +1,8 @@
 -- The bytes of a text that are known: those of the lines given, characters after them, and a part of a character.
 use Rattle.std.proofs.Common.{◌≡◌, ℕ, ◌+◌, ◌<◌, true, Some, List, [], ◌∷◌, ◌++◌, length, take, drop, refl, sym, ap, ◌∙◌, subst, ⊎_elim, append_assoc, arith, length-append}
-use Rattle.std.proofs.lemmas.List.{length-take}
 use Rattle.std.specs.Prelude.{encode_utf8_all}
 use Rattle.std.specs.Str.{all_scalars, StartsWithNoChar}
-use Rattle.std.proofs.lemmas.List.{take-append-drop}
+use Rattle.std.proofs.lemmas.List.{length-take, take-append-drop, take-take}
 use Rattle.std.proofs.lemmas.Str.{encodes-append}
 use Rattle.std.proofs.Math.Seq.{take-add, take-append_seam, drop-append_seam}
 use Rattle.py_lines.specs.Piece.{Piece, spelled}
@@ -24,6 +23,13 @@ use Rattle.py_lines.proofs.Pieces.ShallowPieces.{brackets_shallow, strings_shall
 use Rattle.py_lines.proofs.Fields.OneReading.{read_before}
 use Rattle.py_lines.proofs.ScanMachine.Advance.{GoesTo}
 use Rattle.py_lines.proofs.LineScan.TextSteps.{Base, base_of, Joined, joined}
+
+-- some of the bytes that the text goes on with
+pub goes_with_first : (text : List ℕ) (place : ℕ) (first later : List ℕ) → GoesOnWith text place (first ++ later) → GoesOnWith text place first
+goes_with_first text place first later goes =
+    sym (take-take (length first) (length (first ++ later)) (drop place text) (omega (arith, length-append first later)))
+    ∙ ap (take (length first)) goes
+    ∙ take-append_seam first later
 
 -- the lines given, the characters read after them and the bytes left, which are all that is known of the text
 pub record IsKnown (text : List ℕ) (place line : ℕ) (lines : List LogicalLine) (read rest : List ℕ) : Type 0 where

@@ -5,7 +5,6 @@ use Rattle.std.specs.Global.{Vec}
 use Rattle.std.proofs.lemmas.Bool.{both_ways, false_from_ne_true}
 use Rattle.std.proofs.lemmas.List.{drop_more, length-drop, length-take-le, length-take}
 use Rattle.std.proofs.lemmas.Str.{encodes-append, length-le-encodes}
-use Rattle.std.proofs.Math.Seq.{take-append_seam}
 use Rattle.py_lines.specs.Character.{is_return}
 use Rattle.py_lines.specs.Piece.{Piece, ends, spelled}
 use Rattle.py_lines.specs.LogicalLine.{LogicalLine, byte_len, first_or_zero, line_of}
@@ -29,7 +28,7 @@ use Rattle.py_lines.proofs.LineScan.LineSteps.{follows_whole}
 use Rattle.py_lines.proofs.Text.CharacterTests.{return_is}
 use Rattle.py_lines.proofs.Readers.LineAnswers.{IsReadLine}
 use Rattle.py_lines.proofs.Readers.PassedLines.{passed_line, take_slice, whole_read}
-use Rattle.py_lines.proofs.Feeds.Known.{IsKnown, is_known}
+use Rattle.py_lines.proofs.Feeds.Known.{IsKnown, goes_with_first, is_known}
 use Rattle.py_lines.proofs.Feeds.LastBytes.{ends-encoded}
 use Rattle.py_lines.proofs.Feeds.SettledSoFar.{Follow, IsNextLine, settled_ready}
 use Rattle.py_lines.proofs.Feeds.Released.{released}
@@ -121,13 +120,6 @@ module _ (text : List ℕ) (place line : ℕ) (given : List LogicalLine) (first 
         subst (λ (m : ℕ). IsSettled (take m text) (given ++ line_of place line pieces ∷ [])) sizes settled,
       )
 
--- the first of the bytes that the text goes on with
-goes_first : (text : List ℕ) (place : ℕ) (first later : List ℕ) → GoesOnWith text place (first ++ later) → GoesOnWith text place first
-goes_first text place first later goes =
-    sym (take_slice (drop place text) (length first) (length (first ++ later)) (omega (arith, ap length goes, length-append first later)))
-    ∙ ap (take (length first)) goes
-    ∙ take-append_seam first later
-
 -- what is known after the last of some lines is known after all of them
 last_exact : (read line later more : List ℕ) → read ≡ line ++ later → 0 < length later → EndsExactly read more → EndsExactly later more
 last_exact read line [] more is some exact = absurd (omega (arith, some))
@@ -151,7 +143,7 @@ lines_settled t (u ∷ texts) text place line given read more n after are first 
     let split : GoesOnWith text place (own_bytes ++ (later_bytes ++ more)) = subst (GoesOnWith text place) (ap (λ b. b ++ more) spell ∙ append_assoc own_bytes later_bytes more) goes in
     let some : 0 < length are.later = omega (arith, ap length are.lines.spell, length-append u are.lines.later, are.lines.some) in
     let own = shown t (later_bytes ++ more) (same_first t later_bytes after more (omega (arith, some, length-le-encodes are.later)) are.whole.whole) in
-    let near : GoesOnWith text place (own_bytes ++ own.more) = goes_first text place (own_bytes ++ own.more) own.unseen (subst (GoesOnWith text place) (ap (λ b. own_bytes ++ b) own.spell ∙ sym (append_assoc own_bytes own.more own.unseen)) split) in
+    let near : GoesOnWith text place (own_bytes ++ own.more) = goes_with_first text place (own_bytes ++ own.more) own.unseen (subst (GoesOnWith text place) (ap (λ b. own_bytes ++ b) own.spell ∙ sym (append_assoc own_bytes own.more own.unseen)) split) in
     let one = line_settled text place line given first t own.more are.own are.some near own.exact (later_bytes ++ after) are.whole in
     let here = line_of place line (are.whole.body ++ are.whole.last ∷ []) in
     let others = lines_settled u texts text (place + byte_len t) (line + are.own) (given ++ here ∷ []) are.later more are.more after are.lines one.0 (goes_after text place own_bytes (later_bytes ++ more) split) (last_exact read t are.later more are.spell some exact) in

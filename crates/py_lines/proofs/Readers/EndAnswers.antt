@@ -1,59 +1,51 @@
 -- The text's end: its last line, or the fault that stands there.
-use Rattle.std.proofs.Common.{◌≡◌, ℕ, ◌+◌, ◌<◌, ◌≤◌, Bool, true, false, ◌&&◌, Some, List, [], ◌∷◌, ◌++◌, length, refl, sym, ap, ◌∙◌, subst, append-nil, arith, length-append, length-drop}
+use Rattle.std.proofs.Common.{◌≡◌, ℕ, ◌+◌, ◌-◌, ◌<◌, ◌≤◌, Bool, true, false, Some, List, [], ◌∷◌, ◌++◌, length, refl, sym, ap, ◌∙◌, subst, append-nil, arith, length-append, length-drop}
 use Rattle.std.specs.Prelude.{encode_utf8_all, if◌then◌else◌}
+use Rattle.std.specs.Str.{StartsWithNoChar}
 use Rattle.std.proofs.lemmas.Bool.{both_ways, and_from, eq-eqb}
 use Rattle.std.proofs.lemmas.List.{drop_all, nil_from_length}
 use Rattle.std.proofs.lemmas.Str.{length-le-encodes}
 use Rattle.py_lines.specs.Piece.{Piece, line_end, spelled}
 use Rattle.py_lines.specs.Balance.{depth_after, depth_through}
 use Rattle.py_lines.specs.Fields.{AreReadBefore}
-use Rattle.py_lines.specs.Reading.{Decodes}
-use Rattle.py_lines.specs.Faults.{IsEndFault}
-use Rattle.py_lines.specs.Lexed.{IsLexedToFault}
-use Rattle.py_lines.specs.LogicalLine.{LogicalLine, byte_len, line_ends, cut, end_len_of, is_line_end_class}
-use Rattle.py_lines.specs.Reader.{HasGiven, Continues, Fails}
+use Rattle.py_lines.specs.LogicalLine.{byte_len, line_ends, cut, end_len_of, is_line_end_class}
+use Rattle.py_lines.specs.Reader.{Continues, Fails}
 use Rattle.py_lines.specs.Token.{EachLiesIn}
-use Rattle.py_lines.specs.declared.fault.Fault.{Fault}
-use Rattle.py_lines.specs.declared.fault.FaultKind.{FaultKind}
 use Rattle.py_lines.specs.declared.fault.FaultKind.TheVariants.{BadUtf8}
 use Rattle.py_lines.specs.declared.fault.LexError.{LexError}
 use Rattle.py_lines.specs.declared.mode.Mode.{Mode}
 use Rattle.py_lines.specs.declared.mode.Mode.TheVariants as modes
 use Rattle.py_lines.specs.declared.scan.Scan.{Scan}
-use Rattle.py_lines.specs.declared.scan.Stop.{Stop}
 use Rattle.py_lines.specs.declared.scan.Stop.TheVariants as stops
 use Rattle.py_lines.specs.declared.source.Source.{Source}
 use Rattle.py_lines.specs.declared.scan.LineFault.{LineFault}
-use Rattle.py_lines.specs.Private.Machine.{Scanned, closed, is_final, Bracket, brackets_of}
+use Rattle.py_lines.specs.Private.Machine.{closed, is_final, brackets_of}
 use Rattle.py_lines.specs.Private.ScanMachine.{IsScanSound}
 use Rattle.py_lines.specs.Private.Scan.{IsUnderWay, line_start, EndsNoLine, none_open, is_return_mode, stack_of, IsUnfinished}
 use Rattle.py_lines.specs.Reader.View.{reader_of}
 use Rattle.py_lines.specs.Private.LineState.{first_mode}
 use Rattle.py_lines.specs.Private.Source.{line_of_source, HasScanned, GivesTokens, FailsAfter}
-use Rattle.py_lines.proofs.Pieces.PieceLists.{piece, AreReadBefore-second}
+use Rattle.py_lines.proofs.Pieces.PieceLists.{piece}
 use Rattle.py_lines.proofs.Machine.PieceSteps.{scanned, pieces_at}
 use Rattle.py_lines.proofs.Pieces.OpenBrackets.{stands}
 use Rattle.py_lines.proofs.Machine.LiveTexts.{stack_closed}
-use Rattle.py_lines.proofs.ScanMachine.Advance.{RunsTo}
-use Rattle.py_lines.proofs.ScanMachine.Soundness.{StandsSound, stands_sound, end_sound, ends_sound}
+use Rattle.py_lines.proofs.ScanMachine.Soundness.{StandsSound, stands_sound, end_sound}
 use Rattle.py_lines.proofs.Lexings.LinePrefix.{closed_spells}
-use Rattle.py_lines.proofs.Lexings.Answers.{refused_at_end, refused_at_bytes}
-use Rattle.py_lines.proofs.LogicalLines.Cuts.{byte_len-append, one_line, last_part, line_depth}
+use Rattle.py_lines.proofs.LogicalLines.Cuts.{one_line, last_part, line_depth}
 use Rattle.py_lines.proofs.LineScan.LineCount.{line_ends-bytes}
 use Rattle.py_lines.proofs.LineScan.NextCharacter.{closed_one_line, one_return}
 use Rattle.py_lines.proofs.LineScan.LineSteps.{way_stop}
+use Rattle.py_lines.proofs.LineScan.TextSteps.{begun_sound}
 use Rattle.py_lines.proofs.Lexings.GivenLines.{IsEnded}
-use Rattle.py_lines.proofs.Readers.LineAnswers.{IsScannedLine, Within, all_within, continues, end_len-push}
-use Rattle.py_lines.proofs.Readers.LineFaults.{unfinished_fault, unfinished_within}
-use Rattle.py_lines.proofs.Readers.FaultAnswers.{fails, here, base_fit, level, strings, begins, start_sound, joins, whole, line_of_fault, has_prefix}
+use Rattle.py_lines.proofs.Feeds.DecidedSoFar.{way_open}
+use Rattle.py_lines.proofs.Feeds.Ended.{ended_bytes, ended_unfinished}
+use Rattle.py_lines.proofs.Readers.LineAnswers.{IsScannedLine, Within, continues, end_len-push}
+use Rattle.py_lines.proofs.Readers.LineFaults.{unfinished_within}
+use Rattle.py_lines.proofs.Readers.FaultAnswers.{fails, fault_in, known, left, tail, whole}
 
 -- nothing follows the characters that the scan took
-pub all_taken : (cs : List ℕ) (rest : List ℕ) → encode_utf8_all cs ≡ rest → rest ≡ [] → cs ≡ []
+all_taken : (cs : List ℕ) (rest : List ℕ) → encode_utf8_all cs ≡ rest → rest ≡ [] → cs ≡ []
 all_taken cs rest is none = nil_from_length cs (omega (arith, length-le-encodes cs, ap length (is ∙ none)))
-
-pub end_return : (m : Mode) (st : List Bracket) → is_return_mode m && none_open st ≡ false → m ≡ modes.Return → none_open st ≡ false
-end_return modes.Return st not_yet is = not_yet
-end_return m st not_yet is = absurd (cc)
 
 -- a line whose last brackets are closed ends with no line end, if it has none
 end_len-none : (d : ℕ) (ps : List Piece) → EndsNoLine d ps → depth_through d ps ≡ 0 → end_len_of ps ≡ 0
@@ -68,11 +60,6 @@ end_len-none d (p ∷ q ∷ ps) none deep = end_len-none (depth_after d p) (q �
 one_or : (ps : List Piece) → EndsNoLine 0 ps → (ps ≡ [] → ⊥) → cut 0 ps ≡ ps ∷ []
 one_or [] none some = absurd (some refl)
 one_or (p ∷ ps) none some = last_part p ps none
-
--- the fault as the reader keeps it
-pub end_fault_as : (fault : Fault) (kind : FaultKind) (offset : ℕ) (characters others : List ℕ) → fault.kind ≡ kind → offset ≡ fault.offset → characters ≡ others → IsEndFault kind characters [] offset → IsEndFault fault.kind others [] fault.offset
-end_fault_as fault kind offset characters others same at spell is =
-    subst (λ t. IsEndFault fault.kind t [] fault.offset) spell (subst (λ k. IsEndFault k characters [] fault.offset) (sym same) (subst (λ o. IsEndFault kind characters [] o) at is))
 
 -- the text's last line: its pieces, with the open one, are one line
 line_at_close : (m : Mode) (scan : Scan) (read : List ℕ) (way : IsUnderWay m scan read) → StandsSound m read way.state (stack_of scan.brackets) → is_final way.state.mode ≡ true → stack_of scan.brackets ≡ [] → 0 < byte_len read → (end_len : ℕ) → cut 0 (pieces_at way.state) ≡ pieces_at way.state ∷ [] → end_len ≡ end_len_of (pieces_at way.state) → IsScannedLine (line_start m) scan read end_len (pieces_at way.state)
@@ -121,90 +108,50 @@ line_at_return m scan read way sound returned empty some =
     line_at_close m scan read way sound (returned_final s.mode (ap is_return_mode (sym way.tallies.counts.mode) ∙ returned)) empty some 1 both.0 both.1
 
 module _ (old : Source) (has : HasScanned old stops.TextEnd) where
-  stop : Stop
-  stop = stops.TextEnd
-
-  open_yet : has.scans.stops.0.state.mode ≡ modes.Return → none_open (stack_of old.state.scan.brackets) ≡ false
-  open_yet = end_return has.scans.stops.0.state.mode (stack_of old.state.scan.brackets) (ap (λ (m : Mode). is_return_mode m && none_open (stack_of old.state.scan.brackets)) (sym has.scans.stops.0.tallies.counts.mode) ∙ has.scans.stops.2)
-
   pub stop_size : old.state.scan.stop ≡ byte_len has.scans.read
-  stop_size = way_stop (first_mode old.state.place) old.state.scan has.scans.read has.scans.stops.0 (start_sound old stops.TextEnd has)
+  stop_size = way_stop (first_mode old.state.place) old.state.scan has.scans.read has.scans.stops.0 (begun_sound old.state.place)
 
   some_text : length old.bytes.now ≤ length old.characters.now → 0 < byte_len has.scans.read
   some_text full = omega (arith, ap length has.scans.spell, length-append (encode_utf8_all has.scans.read) has.scans.rest, ap length has.scans.stops.1, length-drop old.state.place old.characters.now, has.more, full)
 
-  nothing_after : (lines : List LogicalLine) (given : HasGiven (reader_of old) lines) → (here old stops.TextEnd has lines given).after ≡ []
-  nothing_after lines given = all_taken (here old stops.TextEnd has lines given).after has.scans.rest (here old stops.TextEnd has lines given).follow has.scans.stops.1
-
-  all_read : (lines : List LogicalLine) (given : HasGiven (reader_of old) lines) → spelled (here old stops.TextEnd has lines given).given.first.pieces ++ has.scans.read ≡ (here old stops.TextEnd has lines given).given.first.characters
-  all_read lines given =
-      let s = here old stops.TextEnd has lines given in
-      sym (append-nil _) ∙ ap (λ t. (spelled s.given.first.pieces ++ has.scans.read) ++ t) (sym (nothing_after lines given)) ∙ whole old stops.TextEnd has lines given
-
-  runs_all : (lines : List LogicalLine) (given : HasGiven (reader_of old) lines) → RunsTo (here old stops.TextEnd has lines given).given.first.characters (joins old stops.TextEnd has lines given has.scans.stops.0).state (joins old stops.TextEnd has lines given has.scans.stops.0).st
-  runs_all lines given =
-      let j = joins old stops.TextEnd has lines given has.scans.stops.0 in
-      subst (λ t. RunsTo t j.state j.st) (all_read lines given) j.steps
+  left_size : length (left old stops.TextEnd has) ≡ length old.bytes.now - length old.characters.now
+  left_size = length-append has.scans.rest (tail old stops.TextEnd has) ∙ omega (arith, ap length has.scans.stops.1, length-drop (length old.characters.now) old.bytes.now)
 
   -- bytes that begin no character
   pub fails_at_bytes : (new : Source) (error : LexError) (at : FailsAfter old BadUtf8 old.state.scan.stop error new) → length old.characters.now < length old.bytes.now → Fails (reader_of old) at.keeps.fault (reader_of new)
-  fails_at_bytes new error at more =
-      fails old new BadUtf8 old.state.scan.stop error at has.no_fault has.more (λ lines given. go lines given (here old stops.TextEnd has lines given).given.first.tail refl)
-    where
-      go : (lines : List LogicalLine) (given : HasGiven (reader_of old) lines) (t : List ℕ) → (here old stops.TextEnd has lines given).given.first.tail ≡ t → IsLexedToFault old.bytes.now lines at.keeps.fault
-      go lines given [] none = absurd (omega (arith, ap length (sym (here old stops.TextEnd has lines given).tail_is ∙ none), length-drop (length old.characters.now) old.bytes.now, more))
-      go lines given (d ∷ ds) is =
-          let s = here old stops.TextEnd has lines given in
-          let way = has.scans.stops.0 in
-          let j = joins old stops.TextEnd has lines given way in
-          subst (λ l. IsLexedToFault old.bytes.now l at.keeps.fault) (sym s.given.first.cut)
-          (refused_at_bytes old.bytes.now s.given.first.characters d ds j.state j.st s.given.first.pieces at.keeps.fault (subst (λ t. Decodes old.bytes.now s.given.first.characters t) is s.given.first.decodes) (runs_all lines given)
-          (has_prefix old stops.TextEnd has lines given way open_yet) at.keeps.at.is
-          (omega (arith, at.keeps.at.place, s.given.first.here, stop_size, ap byte_len (all_read lines given), byte_len-append (spelled s.given.first.pieces) has.scans.read))
-          (line_of_fault old stops.TextEnd has lines given BadUtf8 old.state.scan.stop at.keeps.fault at.keeps.at (all_within has.scans.read old.state.scan.stop stop_size)))
+  fails_at_bytes new error at more = fails old new BadUtf8 old.state.scan.stop error at has.no_fault has.more (λ lines given.
+      let read = has.scans.read in
+      let w : Within read old.state.scan.stop = record { prefix = read; later = []; split = append-nil read; size = stop_size } in
+      let bad : StartsWithNoChar (left old stops.TextEnd has) = subst (λ r. StartsWithNoChar (r ++ tail old stops.TextEnd has)) (sym has.scans.stops.1) old.bad in
+      ended_bytes old.bytes.now old.state lines read (left old stops.TextEnd has) (known old stops.TextEnd has lines given) (whole old stops.TextEnd has) has.scans.stops.0 has.scans.stops.2 (omega (arith, left_size, more))
+      at.keeps.fault (fault_in old stops.TextEnd has new BadUtf8 old.state.scan.stop error at w) bad)
 
   pub end_within : length old.bytes.now ≤ length old.characters.now → (line_fault : LineFault) → IsUnfinished old.state.scan (Some line_fault) → Within has.scans.read line_fault.place
   end_within full line_fault is = unfinished_within old.state.place old.state.scan has.scans.read has.scans.stops.0 (some_text full) line_fault is
 
-  no_tail : (lines : List LogicalLine) (given : HasGiven (reader_of old) lines) → length old.bytes.now ≤ length old.characters.now → (here old stops.TextEnd has lines given).given.first.tail ≡ []
-  no_tail lines given full = (here old stops.TextEnd has lines given).tail_is ∙ drop_all (length old.characters.now) old.bytes.now full
-
   -- the text's end where it may not end
   pub fails_at_end : (new : Source) (line_fault : LineFault) (error : LexError) (at : FailsAfter old line_fault.kind line_fault.place error new) → IsUnfinished old.state.scan (Some line_fault) → length old.bytes.now ≤ length old.characters.now → Fails (reader_of old) at.keeps.fault (reader_of new)
-  fails_at_end new line_fault error at is_line_fault full =
-      fails old new line_fault.kind line_fault.place error at has.no_fault has.more (λ lines given.
-      let s = here old stops.TextEnd has lines given in
-      let base = s.given.first.pieces in
-      let way = has.scans.stops.0 in
-      let j = joins old stops.TextEnd has lines given way in
-      let fit = subst (λ t. AreReadBefore base (has.scans.read ++ t)) (nothing_after lines given) (base_fit old stops.TextEnd has lines given) in
-      let fault = unfinished_fault old.state.place base (level old stops.TextEnd has lines given) (strings old stops.TextEnd has lines given) (begins old stops.TextEnd has lines given) old.state.scan has.scans.read way fit (some_text full) line_fault is_line_fault in
-      let place : byte_len (spelled base) + line_fault.place ≡ at.keeps.fault.offset = ap (λ n. n + line_fault.place) (sym s.given.first.here) ∙ sym at.keeps.at.place in
-      subst (λ l. IsLexedToFault old.bytes.now l at.keeps.fault) (sym s.given.first.cut)
-      (refused_at_end old.bytes.now s.given.first.characters j.state j.st base at.keeps.fault (subst (λ t. Decodes old.bytes.now s.given.first.characters t) (no_tail lines given full) s.given.first.decodes) (runs_all lines given)
-      (has_prefix old stops.TextEnd has lines given way open_yet)
-      (end_fault_as at.keeps.fault line_fault.kind (byte_len (spelled base) + line_fault.place) _ _ at.keeps.at.is place (all_read lines given) fault)
-      (line_of_fault old stops.TextEnd has lines given line_fault.kind line_fault.place at.keeps.fault at.keeps.at (end_within full line_fault is_line_fault))))
+  fails_at_end new line_fault error at is_line_fault full = fails old new line_fault.kind line_fault.place error at has.no_fault has.more (λ lines given.
+      let w = end_within full line_fault is_line_fault in
+      let none = nil_from_length (left old stops.TextEnd has) (omega (arith, left_size, full)) in
+      ended_unfinished old.bytes.now old.state lines has.scans.read (left old stops.TextEnd has) (known old stops.TextEnd has lines given) (whole old stops.TextEnd has) has.scans.stops.0 has.scans.stops.2 none (some_text full)
+      line_fault is_line_fault at.keeps.fault w (fault_in old stops.TextEnd has new line_fault.kind line_fault.place error at w))
 
   -- the last line
   way_sound : StandsSound (first_mode old.state.place) has.scans.read has.scans.stops.0.state (stack_of old.state.scan.brackets)
   way_sound =
       let way = has.scans.stops.0 in
-      stands_sound (first_mode old.state.place) has.scans.read way.state (stack_of old.state.scan.brackets) (start_sound old stops.TextEnd has) (record { run = way.steps; stack = way.stacked })
+      stands_sound (first_mode old.state.place) has.scans.read way.state (stack_of old.state.scan.brackets) (begun_sound old.state.place) (record { run = way.steps; stack = way.stacked })
 
   pub last_line : is_final has.scans.stops.0.state.mode ≡ true → stack_of old.state.scan.brackets ≡ [] → length old.bytes.now ≤ length old.characters.now → IsScannedLine (line_start (first_mode old.state.place)) old.state.scan has.scans.read 0 (pieces_at has.scans.stops.0.state)
-  last_line final empty full = line_at_text_end (first_mode old.state.place) old.state.scan has.scans.read has.scans.stops.0 way_sound final open_yet empty (some_text full)
+  last_line final empty full = line_at_text_end (first_mode old.state.place) old.state.scan has.scans.read has.scans.stops.0 way_sound final
+      (way_open (first_mode old.state.place) old.state.scan has.scans.read has.scans.stops.0 has.scans.stops.2) empty (some_text full)
 
   pub continues_text : (new : Source) → is_final has.scans.stops.0.state.mode ≡ true → stack_of old.state.scan.brackets ≡ [] → length old.bytes.now ≤ length old.characters.now → GivesTokens old 0 new → Continues (reader_of old) (line_of_source new) (reader_of new) × EachLiesIn (line_of_source new).text new.state.tokens.tokens.items
   continues_text new final empty full gives =
-      let way = has.scans.stops.0 in
-      let s = way.state in
+      let s = has.scans.stops.0.state in
       continues old new stops.TextEnd has 0 (pieces_at s) (last_line final empty full) gives
-      (λ lines sit.
-      let j = joins old stops.TextEnd has lines sit.given way in
-      let ended = ends_sound (spelled (here old stops.TextEnd has lines sit.given).given.first.pieces ++ has.scans.read) j.state j.st j.steps (ap (λ (t : Scanned). is_final t.mode) (j.same (some_text full)).0 ∙ final) in
-      let fit = AreReadBefore-second (here old stops.TextEnd has lines sit.given).given.first.pieces (pieces_at s) [] (subst (λ l. AreReadBefore l []) j.pieces ended.fit) in
-      subst (AreReadBefore (pieces_at s)) (sym (all_taken sit.after has.scans.rest sit.follow has.scans.stops.1)) fit)
+      (λ lines sit. subst (AreReadBefore (pieces_at s)) (sym (all_taken sit.after has.scans.rest sit.follow has.scans.stops.1)) (end_sound (first_mode old.state.place) has.scans.read s (stack_of old.state.scan.brackets) way_sound final).fit)
       (λ lines sit. IsEnded.by_text (λ i. all_taken sit.after has.scans.rest sit.follow has.scans.stops.1 i ++ (sit.tail_is ∙ drop_all (length old.characters.now) old.bytes.now full) i))
 
   pub few_lines_text : old.state.scan.count.line ≤ old.state.place + old.state.scan.stop + 1

@@ -1,46 +1,32 @@
--- A text that the machine doesn't go through, or may not stop at the end of, has the fault that the reader names.
-use Rattle.std.proofs.Common.{◌≡◌, ℕ, ◌+◌, ◌<◌, false, not, ◌&&◌, None, Some, List, [], ◌∷◌, ◌++◌, length, take, drop, refl, sym, ap, ◌∙◌, subst, append_assoc, arith}
-use Rattle.std.specs.Prelude.{encode_utf8_all}
+-- A text that the machine doesn't go through has the fault that the reader names.
+use Rattle.std.proofs.Common.{◌≡◌, ℕ, ◌+◌, ◌<◌, None, Some, List, [], ◌∷◌, ◌++◌, length, take, drop, refl, sym, ap, ◌∙◌, subst, append_assoc, append-nil, arith, length-drop}
+use Rattle.std.specs.Prelude.{encode_utf8, encode_utf8_all}
 use Rattle.std.specs.Borrow.{Bor}
-use Rattle.std.proofs.lemmas.Bool.{both_ways, cond_both}
+use Rattle.std.specs.Char.{IsScalar}
+use Rattle.std.specs.Str.{all_scalars}
+use Rattle.std.proofs.lemmas.Bool.{and_parts}
+use Rattle.std.proofs.lemmas.List.{drop-append-le, take_all, take-append-drop}
 use Rattle.std.proofs.lemmas.Str.{encodes_same}
 use Rattle.std.proofs.Math.Seq.{take-append_seam}
-use Rattle.py_lines.specs.Character.{is_line_feed}
-use Rattle.py_lines.specs.Piece.{line_end, Piece, spelled}
-use Rattle.py_lines.specs.Fields.{AreReadBefore}
-use Rattle.py_lines.specs.Faults.{IsCharacterFault}
-use Rattle.py_lines.specs.Lexed.{IsLexed, IsLexedToFault}
-use Rattle.py_lines.specs.LogicalLine.{LogicalLine, byte_len}
+use Rattle.py_lines.specs.Lexed.{IsLexed}
+use Rattle.py_lines.specs.LogicalLine.{LogicalLine}
 use Rattle.py_lines.specs.Reader.{HasGiven, Fails}
-use Rattle.py_lines.specs.declared.fault.Fault.{Fault}
+use Rattle.py_lines.specs.Reader.View.{reader_of}
+use Rattle.py_lines.specs.ScannerState.{GoesOnWith}
 use Rattle.py_lines.specs.declared.fault.FaultKind.{FaultKind}
 use Rattle.py_lines.specs.declared.fault.LexError.{LexError}
 use Rattle.py_lines.specs.declared.line_state.LineState.{LineState}
-use Rattle.py_lines.specs.declared.mode.Mode.{Mode}
-use Rattle.py_lines.specs.declared.mode.Mode.TheVariants as modes
-use Rattle.py_lines.specs.declared.mode.Move.{Move}
+use Rattle.py_lines.specs.declared.scan.LineFault.{LineFault}
 use Rattle.py_lines.specs.declared.scan.Stop.{Stop}
 use Rattle.py_lines.specs.declared.scan.Stop.TheVariants as stops
 use Rattle.py_lines.specs.declared.source.Source.{Source}
-use Rattle.py_lines.specs.Private.Machine.{moved, move_of, Bracket, brackets_of}
-use Rattle.py_lines.specs.Private.ScanMachine.{meet_of, scan_step, StringsFit, IsScanSound}
-use Rattle.py_lines.specs.declared.scan.LineFault.{LineFault}
-use Rattle.py_lines.specs.Private.Scan.{line_start, IsUnderWay, none_open, is_return_mode, stack_of, stack_if, IsRefusal}
-use Rattle.py_lines.specs.Reader.View.{reader_of}
-use Rattle.py_lines.specs.Private.LineState.{IsFaultAfter, first_mode}
+use Rattle.py_lines.specs.Private.LineState.{IsFaultAfter}
+use Rattle.py_lines.specs.Private.Scan.{IsRefusal}
 use Rattle.py_lines.specs.Private.Source.{HasScanned, FailsAfter}
-use Rattle.py_lines.proofs.Pieces.PieceLists.{piece}
-use Rattle.py_lines.proofs.Machine.PieceSteps.{scanned, pieces_at}
-use Rattle.py_lines.proofs.Machine.LiveTexts.{keeps}
-use Rattle.py_lines.proofs.Pieces.OpenBrackets.{stack-from_balanced}
-use Rattle.py_lines.proofs.Pieces.ShallowPieces.{brackets_shallow, strings_shallow}
-use Rattle.py_lines.proofs.Lexings.Answers.{IsLineOf, HasPrefix, refused_at_character}
-use Rattle.py_lines.proofs.LogicalLines.Cuts.{byte_len-append}
-use Rattle.py_lines.proofs.LineScan.NextCharacter.{closed_one_line}
-use Rattle.py_lines.proofs.LineScan.TextSteps.{begun_sound, Base, base_of, way_goes, Joined, joined, dead_at}
-use Rattle.py_lines.proofs.Lexings.GivenLines.{Situation, base_lines}
-use Rattle.py_lines.proofs.Readers.LineFaults.{refused_fault, refused_within}
-use Rattle.py_lines.proofs.Readers.LineAnswers.{situation, Within, prefix_spells}
+use Rattle.py_lines.proofs.Feeds.Known.{IsKnown, is_known}
+use Rattle.py_lines.proofs.Feeds.DecidedSoFar.{by_character}
+use Rattle.py_lines.proofs.Readers.LineFaults.{Within, refused_within}
+use Rattle.py_lines.proofs.Readers.LineAnswers.{prefix_spells, rest_text}
 
 -- the reader failed
 pub fails : (old new : Source) (kind : FaultKind) (offset : ℕ) (error : LexError) (at : FailsAfter old kind offset error new) → old.state.fault ≡ None → old.state.place < length old.bytes.now → ((lines : List LogicalLine) → HasGiven (reader_of old) lines → IsLexed old.bytes.now lines (Some at.keeps.fault)) → Fails (reader_of old) at.keeps.fault (reader_of new)
@@ -54,78 +40,40 @@ fails old new kind offset error at no_fault left all = record {
   kept = ap (λ (s : LineState). s.fault) at.keeps.same;
 }
 
--- a CR that a line ends with isn't refused its next character
-pub open_return : (m : Mode) (done : List Piece) (held : List ℕ) (c : ℕ) (st : List Bracket) → brackets_of done ≡ Some st → stack_if (scan_step (scanned done m held) c) ≡ None → (is_return_mode m && none_open st) && not (is_line_feed c) ≡ false → m ≡ modes.Return → none_open st ≡ false
-unfolding meet_of move_of
-open_return modes.Return done held c (b ∷ bs) stacked refuses not_yet is = refl
-open_return modes.Return done held c [] stacked refuses not_yet is =
-    absurd (cond_both (is_line_feed c) _ _ (λ (v : Move). stack_if (moved (scanned done modes.Return held) c v) ≡ None → ⊥)
-    (λ feeds none. let clash : Some [] ≡ None = sym (keeps done (piece line_end (held ++ c ∷ [])) [] refl refl stacked) ∙ none in cc)
-    (λ other none. both_ways _ not_yet (ap not other)) refuses)
-open_return m done held c st stacked refuses not_yet is = absurd (cc)
-
 module _ (old : Source) (stop : Stop) (has : HasScanned old stop) where
-  pub start_sound : IsScanSound (line_start (first_mode old.state.place)) []
-  start_sound = begun_sound old.state.place
+  -- the bytes that begin no character, and what comes after the characters that were read
+  abbrev pub tail : List ℕ
+  tail = drop (length old.characters.now) old.bytes.now
 
-  abbrev pub here : (lines : List LogicalLine) → HasGiven (reader_of old) lines → Situation (reader_of old) old.characters.now lines has.scans.read has.scans.rest
-  here lines given = situation old stop lines has given
+  abbrev pub left : List ℕ
+  left = has.scans.rest ++ tail
 
-  pub base_fit : (lines : List LogicalLine) (given : HasGiven (reader_of old) lines) → AreReadBefore (here lines given).given.first.pieces (has.scans.read ++ (here lines given).after)
-  base_fit lines given = subst (AreReadBefore (here lines given).given.first.pieces) (here lines given).split (here lines given).given.first.fit
+  all_spell : encode_utf8_all has.scans.read ++ left ≡ drop old.state.place old.bytes.now
+  all_spell =
+      let whole : old.characters.now ++ tail ≡ old.bytes.now = ap (λ t. t ++ tail) old.prefix ∙ take-append-drop (length old.characters.now) old.bytes.now in
+      sym (append_assoc (encode_utf8_all has.scans.read) has.scans.rest tail)
+      ∙ ap (λ t. t ++ tail) has.scans.spell
+      ∙ sym (drop-append-le old.state.place old.characters.now tail old.within)
+      ∙ ap (drop old.state.place) whole
 
-  pub level : (lines : List LogicalLine) (given : HasGiven (reader_of old) lines) → brackets_of (here lines given).given.first.pieces ≡ Some []
-  level lines given = stack-from_balanced (here lines given).given.first.pieces (here lines given).given.first.balanced (brackets_shallow 0 (here lines given).given.first.pieces (here lines given).given.first.shallow)
+  goes : GoesOnWith old.bytes.now old.state.place (drop old.state.place old.bytes.now)
+  goes = take_all (length (drop old.state.place old.bytes.now)) (drop old.state.place old.bytes.now) (omega arith)
 
-  pub strings : (lines : List LogicalLine) (given : HasGiven (reader_of old) lines) → StringsFit 0 (here lines given).given.first.pieces
-  strings lines given = strings_shallow 0 (here lines given).given.first.pieces (here lines given).given.first.shallow
+  -- all of the text is known
+  pub known : (lines : List LogicalLine) → HasGiven (reader_of old) lines → IsKnown old.bytes.now old.state.place old.state.line lines has.scans.read left
+  known lines given = is_known old.bytes.now old.state.place old.state.line lines has.scans.read left given.first has.scans.scalars (subst (GoesOnWith old.bytes.now old.state.place) (sym all_spell) goes)
+      (omega (arith, ap length all_spell, length-drop old.state.place old.bytes.now, has.more))
 
-  -- where the line begins
-  pub begins : (lines : List LogicalLine) (given : HasGiven (reader_of old) lines) → Base old.state.place (here lines given).given.first.pieces
-  begins lines given =
-      let s = here lines given in
-      base_of old.state.place s.given.first.pieces (has.scans.read ++ s.after) (base_fit lines given) s.ends s.given.first.here
+  pub whole : length old.bytes.now ≡ old.state.place + length (encode_utf8_all has.scans.read ++ left)
+  whole = omega (arith, ap length all_spell, length-drop old.state.place old.bytes.now, has.more)
 
-  -- the machine over the whole text so far
-  pub joins : (lines : List LogicalLine) (given : HasGiven (reader_of old) lines) (way : IsUnderWay (first_mode old.state.place) old.state.scan has.scans.read) → Joined (here lines given).given.first.pieces has.scans.read way.state (stack_of old.state.scan.brackets) (here lines given).after
-  joins lines given way =
-      let s = here lines given in
-      joined old.state.place s.given.first.pieces s.after (level lines given) (strings lines given) has.scans.read way.state (stack_of old.state.scan.brackets) (base_fit lines given) (begins lines given) (way_goes way)
-
-  pub whole : (lines : List LogicalLine) (given : HasGiven (reader_of old) lines) → (spelled (here lines given).given.first.pieces ++ has.scans.read) ++ (here lines given).after ≡ (here lines given).given.first.characters
-  whole lines given =
-      let s = here lines given in
-      append_assoc (spelled s.given.first.pieces) has.scans.read s.after ∙ ap (λ t. spelled s.given.first.pieces ++ t) (sym s.split) ∙ s.given.first.spell
-
-  -- the line of a place in the line that was being read
-  pub line_of_fault : (lines : List LogicalLine) (given : HasGiven (reader_of old) lines) (kind : FaultKind) (offset : ℕ) (fault : Fault) → IsFaultAfter old.state kind offset (take offset (drop old.state.place old.characters.now)) fault → Within has.scans.read offset → IsLineOf fault (here lines given).given.first.characters
-  line_of_fault lines given kind offset fault at w =
-      let s = here lines given in
-      let base = s.given.first.pieces in
-      let taken : encode_utf8_all w.prefix ≡ take offset (drop old.state.place old.characters.now)
-      = sym (ap (take offset) (sym (prefix_spells old stop has offset w)) ∙ ap (λ (n : ℕ). take n (encode_utf8_all w.prefix ++ (encode_utf8_all w.later ++ has.scans.rest))) w.size ∙ take-append_seam (encode_utf8_all w.prefix) (encode_utf8_all w.later ++ has.scans.rest)) in
-      let split : w.prefix ++ (w.later ++ s.after) ≡ has.scans.read ++ s.after = sym (append_assoc w.prefix w.later s.after) ∙ ap (λ t. t ++ s.after) w.split in
-      record {
-        prefix = spelled base ++ w.prefix;
-        rest = w.later ++ s.after;
-        spell = append_assoc (spelled base) w.prefix (w.later ++ s.after) ∙ ap (λ t. spelled base ++ t) split ∙ sym (append_assoc (spelled base) has.scans.read s.after) ∙ whole lines given;
-        place = omega (arith, at.place, w.size, s.given.first.here, byte_len-append (spelled base) w.prefix);
-        line = omega (arith, at.line w.prefix taken, s.given.first.number, base_lines base w.prefix (w.later ++ s.after) (subst (AreReadBefore base) (sym split) (base_fit lines given)));
-      }
-
-  -- the lines given are the prefix
-  pub has_prefix : (lines : List LogicalLine) (given : HasGiven (reader_of old) lines) (way : IsUnderWay (first_mode old.state.place) old.state.scan has.scans.read) → (way.state.mode ≡ modes.Return → none_open (stack_of old.state.scan.brackets) ≡ false) → HasPrefix (joins lines given way).state (here lines given).given.first.pieces
-  has_prefix lines given way open_yet = record {
-    others = pieces_at way.state;
-    spell = (joins lines given way).pieces;
-    ended = (here lines given).ends;
-    none = closed_one_line way.state.mode way.state.done way.state.held (stack_of old.state.scan.brackets) way.stacked way.one_line open_yet;
-  }
-
--- the fault as the reader keeps it
-pub fault_as : (fault : Fault) (kind : FaultKind) (offset : ℕ) (characters others : List ℕ) → fault.kind ≡ kind → offset ≡ fault.offset → characters ≡ others → IsCharacterFault kind characters offset → IsCharacterFault fault.kind others fault.offset
-fault_as fault kind offset characters others same at spell is =
-    subst (λ t. IsCharacterFault fault.kind t fault.offset) spell (subst (λ k. IsCharacterFault k characters fault.offset) (sym same) (subst (λ o. IsCharacterFault kind characters o) at is))
+  -- the fault as the reader keeps it
+  pub fault_in : (new : Source) (kind : FaultKind) (offset : ℕ) (error : LexError) (at : FailsAfter old kind offset error new) (w : Within has.scans.read offset) → IsFaultAfter old.state kind offset (encode_utf8_all w.prefix) at.keeps.fault
+  fault_in new kind offset error at w =
+      let later = encode_utf8_all w.later ++ has.scans.rest in
+      let taken : take offset (drop old.state.place old.characters.now) ≡ encode_utf8_all w.prefix
+      = ap (take offset) (sym (prefix_spells old stop has offset w)) ∙ ap (λ (n : ℕ). take n (encode_utf8_all w.prefix ++ later)) w.size ∙ take-append_seam (encode_utf8_all w.prefix) later in
+      subst (λ b. IsFaultAfter old.state kind offset b at.keeps.fault) taken at.keeps.at
 
 -- the next character was refused
 pub refused_place_within : (old : Source) (c : ℕ) (has : HasScanned old (stops.Refused c)) (line_fault : LineFault) → IsRefusal old.state.scan c line_fault → Within has.scans.read line_fault.place
@@ -134,20 +82,13 @@ refused_place_within old c has line_fault is = refused_within old.state.place ol
 pub fails_at_character : (old new : Source) (c : ℕ) (line_fault : LineFault) (error : LexError) (has : HasScanned old (stops.Refused c)) (at : FailsAfter old line_fault.kind line_fault.place error new) → IsRefusal old.state.scan c line_fault → Fails (reader_of old) at.keeps.fault (reader_of new)
 fails_at_character old new c line_fault error has at is_line_fault =
     let stop : Stop = stops.Refused c in
-    let way = has.scans.stops.0 in
+    let read = has.scans.read in
     let more = has.scans.stops.1 in
+    let w = refused_place_within old c has line_fault is_line_fault in
+    let next = rest_text old stop has _ (record { prefix = read; later = []; split = append-nil read; size = refl }) in
+    let follows : next.0 ≡ c ∷ more = encodes_same next.0 (c ∷ more) (next.1.1 ∙ has.scans.stops.2) in
+    let scalar : IsScalar c = (and_parts _ _ (ap all_scalars (sym follows) ∙ next.1.0)).0 in
+    let spell : left old stop has ≡ encode_utf8 c ++ (encode_utf8_all more ++ tail old stop has) = ap (λ t. t ++ tail old stop has) has.scans.stops.2 ∙ append_assoc (encode_utf8 c) (encode_utf8_all more) (tail old stop has) in
     fails old new line_fault.kind line_fault.place error at has.no_fault has.more (λ lines given.
-    let s = situation old stop lines has given in
-    let base = s.given.first.pieces in
-    let j = joins old stop has lines given way in
-    let follows : s.after ≡ c ∷ more = encodes_same s.after (c ∷ more) (s.follow ∙ has.scans.stops.2) in
-    let open_yet = open_return way.state.mode way.state.done way.state.held c (stack_of old.state.scan.brackets) way.stacked has.scans.stops.3 (ap (λ (m : Mode). (is_return_mode m && none_open (stack_of old.state.scan.brackets)) && not (is_line_feed c)) (sym way.tallies.counts.mode) ∙ has.scans.stops.4) in
-    let spell = ap (λ t. (spelled base ++ has.scans.read) ++ t) (sym follows) ∙ whole old stop has lines given in
-    let fault = refused_fault old.state.place base (level old stop has lines given) (strings old stop has lines given) (begins old stop has lines given) old.state.scan has.scans.read way c more (subst (λ t. AreReadBefore base (has.scans.read ++ t)) follows (base_fit old stop has lines given)) has.scans.stops.3 line_fault is_line_fault in
-    let place : byte_len (spelled base) + line_fault.place ≡ at.keeps.fault.offset = ap (λ n. n + line_fault.place) (sym s.given.first.here) ∙ sym at.keeps.at.place in
-    subst (λ l. IsLexedToFault old.bytes.now l at.keeps.fault) (sym s.given.first.cut)
-    (refused_at_character old.bytes.now s.given.first.characters s.given.first.tail (spelled base ++ has.scans.read) more c j.state j.st base at.keeps.fault s.given.first.decodes spell j.steps
-    (dead_at base has.scans.read s.after more way.state (stack_of old.state.scan.brackets) c j (level old stop has lines given) follows has.scans.stops.3)
-    (has_prefix old stop has lines given way open_yet)
-    (fault_as at.keeps.fault line_fault.kind (byte_len (spelled base) + line_fault.place) _ _ at.keeps.at.is place spell fault)
-    (line_of_fault old stop has lines given line_fault.kind line_fault.place at.keeps.fault at.keeps.at (refused_place_within old c has line_fault is_line_fault))))
+    (by_character old.bytes.now old.state lines (drop old.state.place old.bytes.now) read (left old stop has) given.first (goes old stop has) has.scans.scalars (all_spell old stop has) has.scans.stops.0
+    c (encode_utf8_all more ++ tail old stop has) scalar spell has.scans.stops.3 has.scans.stops.4 line_fault is_line_fault at.keeps.fault w (fault_in old stop has new line_fault.kind line_fault.place error at w)).lexed)

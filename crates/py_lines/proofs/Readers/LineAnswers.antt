@@ -71,15 +71,11 @@ line_text m scan read end_len u scalars line = record {
   strings = line.line.strings;
 }
 
--- where the scan stopped, given the lines so far
-pub situation : (s : Source) (stop : Stop) (lines : List LogicalLine) (has : HasScanned s stop) → HasGiven (reader_of s) lines → Situation (reader_of s) s.characters.now lines has.scans.read has.scans.rest
-situation s stop lines has given = situate (reader_of s) s.characters.now lines has.scans.read has.scans.rest given (IsUtf8-had _ s.text) s.prefix s.bad has.more has.scans.spell
-
 -- what follows a place in the scanned line is text, and the place is a boundary
 pub prefix_spells : (s : Source) (stop : Stop) (has : HasScanned s stop) (offset : ℕ) (w : Within has.scans.read offset) → encode_utf8_all w.prefix ++ (encode_utf8_all w.later ++ has.scans.rest) ≡ drop s.state.place s.characters.now
 prefix_spells s stop has offset w = sym (append_assoc (encode_utf8_all w.prefix) (encode_utf8_all w.later) has.scans.rest) ∙ ap (λ t. t ++ has.scans.rest) (sym (encodes-append w.prefix w.later) ∙ ap encode_utf8_all w.split) ∙ has.scans.spell
 
-rest_text : (s : Source) (stop : Stop) (has : HasScanned s stop) (offset : ℕ) (w : Within has.scans.read offset) → IsUtf8 (encode_utf8_all w.later ++ has.scans.rest)
+pub rest_text : (s : Source) (stop : Stop) (has : HasScanned s stop) (offset : ℕ) (w : Within has.scans.read offset) → IsUtf8 (encode_utf8_all w.later ++ has.scans.rest)
 rest_text s stop has offset w =
     let utf8 = IsUtf8-drop s.characters.now s.state.place (IsUtf8-had _ s.text) s.boundary in
     let next = prefix_chars w.prefix utf8.0 (encode_utf8_all w.later ++ has.scans.rest) (utf8.1.1 ∙ sym (prefix_spells s stop has offset w)) in

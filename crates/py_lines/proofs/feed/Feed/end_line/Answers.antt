@@ -8,7 +8,7 @@ use Rattle.py_lines.specs.Private.LineState.{IsEndLineFault}
 use Rattle.py_lines.specs.Private.Scan.{is_returned}
 use Rattle.py_lines.proofs.Readers.LineAnswers.{Within, all_within}
 use Rattle.py_lines.proofs.Feeds.Steps.{open_stop, open_size, within_held}
-use Rattle.py_lines.proofs.Feeds.EndedHeld.{all_scanned, ends_so_bytes, ends_so_open, ends_so_plain, ends_so_returned}
+use Rattle.py_lines.proofs.Feeds.EndedHeld.{all_scanned, ends_in_bytes, ends_open, ends_so_plain, ends_so_returned}
 use Rattle.py_lines.proofs.Feeds.EndedHeld.{open_line_fault_within}
 use Rattle.py_lines.proofs.feed.Feed.end_line.Goals as goal
 
@@ -19,9 +19,9 @@ line_fault_within f read after o some held all line_fault (inr (none, unfinished
 line_fault_fails : (f : Feed) (read after : List ℕ) (o : IsOpen f read after) → IsPartOfCharacter f after → 0 < length f.held.items → is_returned f.state.scan ≡ false → f.ready ≡ None → (held : ℕ) → held ≡ length f.held.items → (line_fault : LineFault) → IsEndLineFault f.state.scan (held - f.state.scan.stop) (Some line_fault) → (error : LexError) (new : Feed) → FailsAt f line_fault.kind line_fault.place error new → EndsHeld f (Err error) new
 line_fault_fails f read after o part some not_yet not_ready held all line_fault (inl (more, kind, place)) error new at =
     let moved = subst (λ (k : FaultKind). FailsAt f k f.state.scan.stop error new) kind (subst (λ (n : ℕ). FailsAt f line_fault.kind n error new) place at) in
-    ends_so_bytes f read after o new error part (omega (arith, all, more, open_size f read after o, open_stop f read after o)) moved not_ready
+    ends_in_bytes f read after o new error part (omega (arith, all, more, open_size f read after o, open_stop f read after o)) moved not_ready
 line_fault_fails f read after o part some not_yet not_ready held all line_fault (inr (none, unfinished)) error new at =
-    ends_so_open f read after o new error line_fault (all_scanned f read after o (omega (arith, all, none))) some not_yet unfinished at not_ready
+    ends_open f read after o new error line_fault (all_scanned f read after o (omega (arith, all, none))) some not_yet unfinished at not_ready
 
 pub returns-then-is_returned : goal.returns-then-is_returned
 returns-then-is_returned c =
