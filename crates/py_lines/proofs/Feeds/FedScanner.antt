@@ -24,7 +24,7 @@ use Rattle.py_lines.specs.Private.Feed.{TakesSome, FailsPiece, TakesSo, StandsSo
 use Rattle.py_lines.specs.Private.Feed.{HoldsLine, LetsGo, ReadsTokens}
 use Rattle.py_lines.proofs.Lexings.DecidedFaults.{decided_more}
 use Rattle.py_lines.proofs.Feeds.Known.{goes_with_first}
-use Rattle.py_lines.proofs.Feeds.ReadyLines.{IsLineOfText, ended_holds, ended_line_of, held_text, line_read, ready_as, some_is, with_line}
+use Rattle.py_lines.proofs.Feeds.ReadyLines.{IsLineOfText, ended_holds, ended_line_of, held_text, read_ready, some_is, with_line}
 use Rattle.py_lines.proofs.Feeds.Loops.{begun_open}
 use Rattle.py_lines.proofs.Feeds.ReleasedHeld.{released_sound, releases}
 use Rattle.py_lines.proofs.Feeds.FailedHeld.{failed_held, failed_keeps}
@@ -111,44 +111,43 @@ module _ (old new : Feed) (piece : List ℕ) (n : ℕ) (t : TakesSome old piece 
         settled_of text lines old c.mid c.more.place held (settled_old (omega (arith, some, ap length held))))
         (cases_lt 0 c.before))
 
-  settled_so : (r : Option ℕ) (line : Option LogicalLine) → IsSeen new r line → StopsTaking old piece n r new → 0 < length new.held.items
-      → IsSettled (take (new.state.place + length new.held.items) text) (lines ++ ready_lines line)
-  settled_so None line is (mid, same, scanned, opens) some =
-      subst (λ x. IsSettled (take (new.state.place + length new.held.items) text) (lines ++ ready_lines x)) (sym is)
-      (open_settled mid same scanned some)
-  settled_so (Some len) line (l, is, of) (e, last) some =
-      subst (λ x. IsSettled (take (new.state.place + length new.held.items) text) (lines ++ ready_lines x)) (sym is) (⊎_elim
-      (λ later. let c = last later in settled_fed text new c.mid lines len l of c.ended c.ends first_new goes_new (chunk_goes len c)
-      (chunk_settled len c))
+  -- what is so of the line that a caller sees ready
+  abbrev StandsFed : Option LogicalLine → Type 0
+  StandsFed line =
+      (0 < length new.held.items → IsSettled (take (new.state.place + length new.held.items) text) (lines ++ ready_lines line))
+      × HoldsReady new.held.items line
+      × (line ≡ None → (fault : Fault) → ¬ (Decides (take (new.state.place + length new.held.items) text) fault))
+
+  stands_fed : (r : Option ℕ) (line : Option LogicalLine) → IsSeen new r line → StopsTaking old piece n r new → StandsFed line
+  stands_fed None line is (mid, same, scanned, opens) = subst StandsFed (sym is) (
+    open_settled mid same scanned,
+    tt,
+    λ none fault d. undecided_fed text mid lines (open_first mid same) (open_goes mid same) scanned fault
+        (subst (λ (m : ℕ). Decides (take (m + length mid.held.items) text) fault) same.place (subst (λ l. Decides (take (new.state.place + length l) text) fault) (same.held ∙ append-nil mid.held.items) d)),
+  )
+  stands_fed (Some len) line (l, is, of) (e, last) = subst StandsFed (sym is) (⊎_elim
+      (λ later.
+      let c = last later in (
+        λ some. settled_fed text new c.mid lines len l of c.ended c.ends first_new goes_new (chunk_goes len c) (chunk_settled len c),
+        whole_fed text new c.mid lines len l of c.ended c.ends first_new goes_new (chunk_goes len c) (chunk_settled len c),
+        λ none. absurd (cc),
+      ))
       (λ none. absurd (never_none len e (omega (arith, none))))
       (cases_lt 0 n))
-
-  whole_so : (r : Option ℕ) (line : Option LogicalLine) → IsSeen new r line → StopsTaking old piece n r new → HoldsReady new.held.items line
-  whole_so None line is stops = subst (HoldsReady new.held.items) (sym is) tt
-  whole_so (Some len) line (l, is, of) (e, last) = subst (HoldsReady new.held.items) (sym is) (⊎_elim
-      (λ later. let c = last later in whole_fed text new c.mid lines len l of c.ended c.ends first_new goes_new (chunk_goes len c)
-      (chunk_settled len c))
-      (λ none. absurd (never_none len e (omega (arith, none))))
-      (cases_lt 0 n))
-
-  undecided_so : (r : Option ℕ) (line : Option LogicalLine) → IsSeen new r line → line ≡ None → StopsTaking old piece n r new
-      → (fault : Fault) → ¬ (Decides (take (new.state.place + length new.held.items) text) fault)
-  undecided_so None line is none (mid, same, scanned, opens) fault d =
-      undecided_fed text mid lines (open_first mid same) (open_goes mid same) scanned fault
-      (subst (λ (m : ℕ). Decides (take (m + length mid.held.items) text) fault) same.place (subst (λ l. Decides (take (new.state.place + length l) text) fault) (same.held ∙ append-nil mid.held.items) d))
-  undecided_so (Some len) line (l, is, of) none stops fault d = absurd (let h = sym is ∙ none in cc)
 
   scans_so : (line : Option LogicalLine) → IsSeen new new.ready line → old.state.fault ≡ None → IsScanning (with_line new line) text lines
-  scans_so line is fault = record {
-    first = first_new;
-    held = goes_new;
-    settled = settled_so new.ready line is t.stops;
-    whole = whole_so new.ready line is t.stops;
-    open_yet = t.more.ended ∙ s.open_yet;
-    no_fault = t.fault ∙ fault;
-  }
+  scans_so line is fault =
+      let stands = stands_fed new.ready line is t.stops in
+      record {
+        first = first_new;
+        held = goes_new;
+        settled = stands.0;
+        whole = stands.1;
+        open_yet = t.more.ended ∙ s.open_yet;
+        no_fault = t.fault ∙ fault;
+      }
 
-no_line : (old : Feed) (r : Option ℕ) (u : LogicalLine) → r ≡ None → ready_of old r ≡ Some u → ⊥
+pub no_line : (old : Feed) (r : Option ℕ) (u : LogicalLine) → r ≡ None → ready_of old r ≡ Some u → ⊥
 no_line old None u none is = absurd (cc)
 no_line old (Some n) u none is = absurd (cc)
 
@@ -158,7 +157,7 @@ takes_bytes : (old new : Feed) (piece : List ℕ) (n : ℕ) → old.state.fault 
 takes_bytes old new piece n fault t line is = record {
   within = t.within;
   scans = λ text lines s go. scans_so old new piece n t text lines s go line is fault;
-  undecided = λ text lines s go none fault. undecided_so old new piece n t text lines s go new.ready line is none t.stops fault;
+  undecided = λ text lines s go. (stands_fed old new piece n t text lines s go new.ready line is t.stops).2;
   some = λ zero. inl (t.some zero);
   waits = λ u seen. absurd (no_line old old.ready u t.not_ready seen);
   held = t.more.held;
@@ -167,6 +166,17 @@ takes_bytes old new piece n fault t line is = record {
   fault = fault;
   open_yet = t.more.ended;
   no_fault = t.fault ∙ fault;
+}
+
+-- so they were where lines are released at once, if none was
+pub naming_same : (word other : List ℕ) (old new : ScannerState) (piece : List ℕ) (n : ℕ) → TakesBytes old piece n new
+    → ((line : LogicalLine) → new.ready ≡ Some line → (old.ready ≡ Some line) ⊎ ¬ (LacksBoth word other line.text)) → TakesNaming word other old piece n new
+naming_same word other old new piece n t kept = record {
+  mid = new;
+  takes = t;
+  same = inl refl;
+  kept = kept;
+  waits = λ line is. (t.waits line is).1;
 }
 
 -- where a line is ready, no byte is taken
@@ -285,143 +295,105 @@ pub feeds_at_once : (f : Feed) (piece : List ℕ) (error : LexError) → WaitsSo
 feeds_at_once f piece (lex.Fault fault) was = meets_again f piece fault was
 feeds_at_once f piece lex.Memory none = absurd none
 
--- what the bytes come to in the end, without a line
-module _ (old new : Feed) (piece : List ℕ) (sound : IsSoundFeed old)
-    (fits : old.state.place + length old.held.items + length piece ≤ 2 ^ 62) (no_fault : old.state.fault ≡ None) where
-  pub fed_error : old.ready ≡ None → (error : LexError) → TakesSo old piece (Err error) new
-      → Feeds (scanning_of old) piece (Err error) (scanning_of new) × IsSoundFeed new
-  fed_error not_ready (lex.Fault f) p =
-      let keeps = failed_keeps p.mid new f p.fails in
-      let held = ap (λ (v : Vec ℕ). v.items) keeps.0.held in (
-        meets_fault old new piece f no_fault p,
-        sound_more old new (take p.n piece) sound (omega (arith, fits, length-take-le p.n piece p.within, p.within))
-            (record {
-              held = held ∙ p.more.held;
-              place = keeps.0.place ∙ p.more.place;
-              line = keeps.0.line
-                  ∙ p.more.line;
-              ended = keeps.0.ended ∙ p.more.ended;
-            })
-            (subst (λ o. StandsSo o new) (sym keeps.1) (λ none. absurd (let h = sym keeps.2 ∙ none in cc))),
-      )
-  fed_error not_ready lex.Memory u = (runs_short old new no_fault not_ready u, sound_unchanged old new sound u)
-
-  module _ (n : ℕ) (t : TakesSome old piece n new) where
-    pub fed_room : HasRoom new 0
-    fed_room = room_more old new (take n piece) sound (omega (arith, fits, length-take-le n piece t.within, t.within)) t.more
-
-    pub fed_open : new.ready ≡ None → TakesBytes (scanning_of old) piece n (scanning_of new) × IsSoundFeed new
-    fed_open none = (
-      takes_bytes old new piece n no_fault t (ready_of new new.ready) (subst (λ r. IsSeen new r (ready_of new r)) (sym none) refl),
-      record { room = fed_room; state = subst (λ r. StandsSo r new) (sym none) (opens new.ready none t.stops) },
+-- an error of taking bytes
+pub fed_error : (old new : Feed) (piece : List ℕ) (error : LexError) → IsSoundFeed old
+    → old.state.place + length old.held.items + length piece ≤ 2 ^ 62 → old.state.fault ≡ None → old.ready ≡ None
+    → TakesSo old piece (Err error) new → Feeds (scanning_of old) piece (Err error) (scanning_of new) × IsSoundFeed new
+fed_error old new piece (lex.Fault f) sound fits no_fault not_ready p =
+    let keeps = failed_keeps p.mid new f p.fails in
+    let more : HoldsMore old (take p.n piece) new = record {
+      held = ap (λ (v : Vec ℕ). v.items) keeps.0.held ∙ p.more.held;
+      place = keeps.0.place ∙ p.more.place;
+      line = keeps.0.line ∙ p.more.line;
+      ended = keeps.0.ended ∙ p.more.ended;
+    } in (
+      meets_fault old new piece f no_fault p,
+      sound_more old new (take p.n piece) sound (omega (arith, fits, length-take-le p.n piece p.within, p.within)) more
+          (subst (λ o. StandsSo o new) (sym keeps.1) (λ none. absurd (let h = sym keeps.2 ∙ none in cc))),
     )
+fed_error old new piece lex.Memory sound fits no_fault not_ready u = (runs_short old new no_fault not_ready u, sound_unchanged old new sound u)
+
+-- what the bytes taken come to in the end
+module _ {old new : Feed} {piece : List ℕ} {n : ℕ} (sound : IsSoundFeed old)
+    (fits : old.state.place + length old.held.items + length piece ≤ 2 ^ 62) (no_fault : old.state.fault ≡ None) (t : TakesSome old piece n new) where
+  pub fed_room : HasRoom new 0
+  fed_room = room_more old new (take n piece) sound (omega (arith, fits, length-take-le n piece t.within, t.within)) t.more
+
+  -- without a line
+  pub fed_open : new.ready ≡ None → TakesBytes (scanning_of old) piece n (scanning_of new) × IsSoundFeed new
+  fed_open none = (
+    takes_bytes old new piece n no_fault t (ready_of new new.ready) (subst (λ r. IsSeen new r (ready_of new r)) (sym none) refl),
+    record { room = fed_room; state = subst (λ r. StandsSo r new) (sym none) (λ open_yet. (subst (λ r. StopsTaking old piece n r new) none t.stops).3) },
+  )
+
+  -- with the line that has ended
+  module _ (some : is_some new.ready ≡ true) where
+    abbrev end_len : ℕ
+    end_len = (some_is new.ready some).0
+
+    abbrev ready : new.ready ≡ Some end_len
+    ready = (some_is new.ready some).1
+
+    abbrev ends_here : EndsLineHeld end_len new
+    ends_here = (subst (λ r. StopsTaking old piece n r new) ready t.stops).0
+
+    abbrev pub fed_holds : HoldsLine new end_len
+    fed_holds = ended_holds new end_len ends_here
+
+    abbrev line_here : LogicalLine
+    line_here = line_held new end_len fed_holds
+
+    fed_line : TakesBytes (scanning_of old) piece n (with_line new (Some line_here))
+    fed_line = takes_bytes old new piece n no_fault t (Some line_here)
+        (subst (λ r. IsSeen new r (Some line_here)) (sym ready) (line_here, refl, ended_line_of new end_len ends_here))
+
+    -- once its tokens are read
+    pub fed_read : {now : Feed} → HasReadTokens new now → TakesBytes (scanning_of old) piece n (scanning_of now) × IsSoundFeed now
+    fed_read {now} read =
+        let seen = read_ready new end_len fed_holds now.state read.tokens new.ended ready fed_room in
+        subst (λ (x : Feed). TakesBytes (scanning_of old) piece n (scanning_of x) × IsSoundFeed x) (sym read.same)
+        (subst (TakesBytes (scanning_of old) piece n) (sym seen.0) fed_line, seen.1)
+
+    -- where one of the words stands in it
+    pub fed_named : {now : Feed} (word other : List ℕ) → ¬ (LacksBoth word other (take new.state.scan.stop new.held.items)) → HasReadTokens new now
+        → TakesNaming word other (scanning_of old) piece n (scanning_of now) × IsSoundFeed now
+    fed_named {now} word other has read =
+        let both = fed_read read in (
+          naming_same word other (scanning_of old) (scanning_of now) piece n both.0
+              (λ line is. inr (subst (λ l. ¬ (LacksBoth word other l)) (sym (text line is)) has)),
+          both.1,
+        )
       where
-        opens : (r : Option ℕ) → r ≡ None → StopsTaking old piece n r new → StandsSo None new
-        opens None is stops = λ no_fault. stops.3
-        opens (Some m) is stops = absurd (cc)
+        text : (line : LogicalLine) → ready_of now now.ready ≡ Some line → line.text ≡ take new.state.scan.stop new.held.items
+        text line is =
+            let at : now.ready ≡ Some end_len = ap (λ (x : Feed). x.ready) read.same ∙ ready in
+            let same : Some (line_of_feed now end_len) ≡ Some line = sym (ap (ready_of now) at) ∙ is in
+            let one : line_of_feed now end_len ≡ line = (cc) in
+            sym (ap (λ (l : LogicalLine). l.text) one) ∙ ap (λ (x : Feed). take x.state.scan.stop x.held.items) read.same
 
-    -- with the line that has ended
-    fed_ends : (end_len : ℕ) → new.ready ≡ Some end_len → EndsLineHeld end_len new
-    fed_ends end_len is = (subst (λ r. StopsTaking old piece n r new) is t.stops).0
+    -- where none does, and it is released
+    pub fed_released : {now : Feed} (word other : List ℕ) → LacksBoth word other (take new.state.scan.stop new.held.items) → LetsGo new now
+        → TakesNaming word other (scanning_of old) piece n (scanning_of now) × IsSoundFeed now
+    fed_released {now} word other lacks go = (
+      record {
+        mid = with_line new (Some line_here);
+        takes = fed_line;
+        same = inr (line_here, refl, subst (LacksBoth word other) (sym (held_text new end_len fed_holds)) lacks, releases new now end_len fed_holds go);
+        kept = λ line is. absurd (no_line now now.ready line go.ready is);
+        waits = λ line is. absurd (no_line old old.ready line t.not_ready is);
+      },
+      released_sound new now end_len fed_holds go fed_room,
+    )
 
-    module _ (some : is_some new.ready ≡ true) where
-      abbrev end_len : ℕ
-      end_len = (some_is new.ready some).0
+    -- where there is no memory for the tokens
+    pub fed_short : {now : Feed} (error : LexError) (held : ℕ) → held ≡ length old.held.items → ReadsTokens new held (Err error) now
+        → Feeds (scanning_of old) piece (Err error) (scanning_of now) × IsSoundFeed now
+    fed_short (lex.Fault f) held size never = absurd never
+    fed_short {now} lex.Memory held size drops =
+        let u = dropped old new now (take n piece) held t.more t.fault size drops in
+        (runs_short old now no_fault t.not_ready u, sound_unchanged old now sound u)
 
-      ready : new.ready ≡ Some end_len
-      ready = (some_is new.ready some).1
-
-      pub ends_here : EndsLineHeld end_len new
-      ends_here = fed_ends end_len ready
-
-      abbrev pub fed_holds : HoldsLine new end_len
-      fed_holds = ended_holds new end_len ends_here
-
-      abbrev line_here : LogicalLine
-      line_here = line_held new end_len fed_holds
-
-      fed_line : TakesBytes (scanning_of old) piece n (with_line new (Some line_here))
-      fed_line = takes_bytes old new piece n no_fault t (Some line_here)
-          (subst (λ r. IsSeen new r (Some line_here)) (sym ready) (line_here, refl, ended_line_of new end_len ends_here))
-
-      -- once its tokens are read
-      pub fed_read : (now : Feed) → HasReadTokens new now → TakesBytes (scanning_of old) piece n (scanning_of now) × IsSoundFeed now
-      fed_read now read =
-          let g : Feed = record new { state = with_tokens new.state now.state } in
-          let seen : scanning_of g ≡ with_line new (Some line_here)
-          = ap (with_line new) (ap (ready_of g) ready ∙ ap Some (line_read new end_len fed_holds now.state read.tokens)) in
-          let room : HasRoom g 0 = record { fits = fed_room.fits; few_lines = fed_room.few_lines } in
-          let stands = ready_as new end_len fed_holds now.state new.ended (line_read new end_len fed_holds now.state read.tokens) in
-          subst (λ (x : Feed). TakesBytes (scanning_of old) piece n (scanning_of x) × IsSoundFeed x) (sym read.same) (
-            subst (TakesBytes (scanning_of old) piece n) (sym seen) fed_line,
-            record
-                { room = room; state = subst (λ r. StandsSo r g) (sym ready) stands },
-          )
-
-      -- where one of the words stands in it
-      pub fed_named : (now : Feed) (word other : List ℕ) → ¬ (LacksBoth word other (take new.state.scan.stop new.held.items))
-          → HasReadTokens new now → TakesNaming word other (scanning_of old) piece n (scanning_of now) × IsSoundFeed now
-      fed_named now word other has read =
-          let both = fed_read now read in (
-            record {
-              mid = scanning_of now;
-              takes = both.0;
-              same = inl refl;
-              kept = λ line is. inr
-                  (subst (λ l. ¬ (LacksBoth word other l)) (sym (text line is)) has);
-              waits = λ line is. absurd (let none = ap (ready_of old) t.not_ready in let h = sym none ∙ is in cc);
-            },
-            both.1,
-          )
-        where
-          text : (line : LogicalLine) → ready_of now now.ready ≡ Some line → line.text ≡ take new.state.scan.stop new.held.items
-          text line is =
-              let at : now.ready ≡ Some end_len = ap (λ (x : Feed). x.ready) read.same ∙ ready in
-              let same : Some (line_of_feed now end_len) ≡ Some line = sym (ap (ready_of now) at) ∙ is in
-              let one : line_of_feed now end_len ≡ line = (cc) in
-              sym (ap (λ (l : LogicalLine). l.text) one) ∙ ap (λ (x : Feed). take x.state.scan.stop x.held.items) read.same
-
-      -- where none does, and it is released
-      pub fed_released : (now : Feed) (word other : List ℕ) → LacksBoth word other (take new.state.scan.stop new.held.items)
-          → LetsGo new now
-          → TakesNaming word other (scanning_of old) piece n (scanning_of now) × IsSoundFeed now
-      fed_released now word other lacks go = (
-        record {
-          mid = with_line new (Some line_here);
-          takes = fed_line;
-          same = inr (
-            line_here,
-            refl,
-            subst (LacksBoth word other) (sym (held_text new end_len fed_holds)) lacks,
-            releases new now end_len
-                fed_holds go,
-          );
-          kept = λ line is. absurd (let none = ap (ready_of now) go.ready in let h = sym none ∙ is in cc);
-          waits = λ line is. absurd (let none = ap (ready_of old) t.not_ready in let h = sym none ∙ is in cc);
-        },
-        released_sound new now end_len fed_holds go fed_room,
-      )
-
-      -- where there is no memory for the tokens
-      pub fed_short : (now : Feed) (error : LexError) (held : ℕ) → held ≡ length old.held.items → ReadsTokens new held (Err error) now
-          → Feeds (scanning_of old) piece (Err error) (scanning_of now) × IsSoundFeed now
-      fed_short now (lex.Fault f) held size never = absurd never
-      fed_short now lex.Memory held size drops =
-          let u = dropped old new now (take n piece) held t.more t.fault size drops in
-          (runs_short old now no_fault t.not_ready u, sound_unchanged old now sound u)
-
--- what is answered where bytes were taken is what is answered where lines are released at once, if none has got ready
-pub naming_open : (word other : List ℕ) (old new : ScannerState) (piece : List ℕ) (n : ℕ) → TakesBytes old piece n new
-    → (old.ready ≡ new.ready) ⊎ (new.ready ≡ None) → TakesNaming word other old piece n new
-naming_open word other old new piece n t which = record {
-  mid = new;
-  takes = t;
-  same = inl refl;
-  kept = λ line is. ⊎_elim (λ same. inl (same ∙ is)) (λ none. absurd (let h = sym none ∙ is in cc)) which;
-  waits = λ line is. (t.waits line is).1;
-}
-
--- an error is the same in both
+-- an error is the same where lines are released at once
 pub naming_error : (word other : List ℕ) (old new : ScannerState) (piece : List ℕ) (error : LexError)
     → Feeds old piece (Err error) new → FeedsNaming word other old piece (Err error) new
 naming_error word other old new piece (lex.Fault f) feeds = feeds

@@ -23,7 +23,8 @@ use Rattle.py_lines.specs.Private.Feed.{line_held}
 use Rattle.py_lines.proofs.Feeds.Known.{is_known}
 use Rattle.py_lines.proofs.Feeds.SettledSoFar.{ended_before}
 use Rattle.py_lines.proofs.Feeds.Ended.{ended_empty}
-use Rattle.py_lines.proofs.Feeds.ReadyLines.{ended_holds, held_text, line_read, ready_as, some_is, with_line}
+use Rattle.py_lines.proofs.Feeds.Loops.{keeps_on}
+use Rattle.py_lines.proofs.Feeds.ReadyLines.{ended_holds, held_text, read_ready, some_is, with_line}
 use Rattle.py_lines.proofs.Feeds.FedScanner.{dropped, runs_short, sound_unchanged}
 use Rattle.py_lines.proofs.Feeds.NextHeld.{next_pieces, next_line, next_some}
 use Rattle.py_lines.proofs.Feeds.FailedHeld.{failed_held, failed_keeps}
@@ -108,13 +109,10 @@ ends_before_scan old mid text lines keeps e =
       whole = e.whole ∙ ap (λ (n : ℕ). n + length old.held.items) (sym keeps.place) ∙ ap (λ (l : List ℕ). mid.state.place + length l) (sym held);
     }
 
-kept_on : (old mid new : Feed) → KeepsText old mid → KeepsText mid new → KeepsText old new
-kept_on old mid new one two = record { held = two.held ∙ one.held; place = two.place ∙ one.place; line = two.line ∙ one.line; ended = two.ended ∙ one.ended }
-
 -- the scan has left a line open, which ends there
 pub text_ended : (old mid new : Feed) (result : Result (Unit {0}) LexError) → old.ready ≡ None → mid.ready ≡ None → KeepsText old mid → mid.state.fault ≡ old.state.fault → EndsHeld mid result new → EndsText old result new
 text_ended old mid new (Ok done) not_ready none keeps fault e = record {
-  text = kept_on old mid new keeps e.text;
+  text = keeps_on old mid new keeps e.text;
   fault = e.fault ∙ fault;
   line = Some (line_held new e.end_len e.holds);
   holds = subst (λ (r : Option ℕ). HoldsSo new r (Some (line_held new e.end_len e.holds))) (sym e.is_ready) (e.holds, refl);
@@ -124,7 +122,7 @@ text_ended old mid new (Ok done) not_ready none keeps fault e = record {
       (e.lexed text lines (ends_before_scan old mid text lines keeps ends), all);
 }
 text_ended old mid new (Err (lex.Fault f)) not_ready none keeps fault e = record {
-  text = kept_on old mid new keeps e.text;
+  text = keeps_on old mid new keeps e.text;
   none_ready = e.none_ready;
   kept = e.kept;
   lexed = λ text lines ends. e.lexed text lines (ends_before_scan old mid text lines keeps ends);
@@ -142,11 +140,7 @@ room_kept old mid keeps room = record {
 abbrev pub ended_now : Feed → Feed
 ended_now f = record f { ended = true }
 
-same_ready : (ready : Option ℕ) (f : Feed) → ready_of f ready ≡ ready_of (ended_now f) ready
-same_ready None f = refl
-same_ready (Some n) f = refl
-
-pub finish_now : (old f : Feed) → old.state.fault ≡ None → (e : HasEndedText old f)
+finish_now : (old f : Feed) → old.state.fault ≡ None → (e : HasEndedText old f)
     → EndsScan (scanning_of old) (with_line (ended_now f) e.line)
 finish_now old f no_fault e =
     let held = items_kept old f e.text in
@@ -169,7 +163,7 @@ finish_now old f no_fault e =
       no_fault = e.fault ∙ no_fault;
     }
 
-module _ (old f : Feed) (sound : IsSoundFeed old) (no_fault : old.state.fault ≡ None) (e : HasEndedText old f) where
+module _ {old f : Feed} (sound : IsSoundFeed old) (no_fault : old.state.fault ≡ None) (e : HasEndedText old f) where
   pub last_room : HasRoom f 0
   last_room = room_kept old f e.text sound.room
 
@@ -181,61 +175,36 @@ module _ (old f : Feed) (sound : IsSoundFeed old) (no_fault : old.state.fault �
             (finish_now old f no_fault e),
         record {
           room = record { fits = last_room.fits; few_lines = last_room.few_lines };
-          state = subst (λ r. StandsSo r (ended_now f))
-              (sym none) (λ fault. still at.1 fault);
+          state = subst (λ r. StandsSo r (ended_now f)) (sym none) (λ fault.
+              let o = at.1 fault in
+              (o.0, o.1, record { scalars = o.2.scalars; spell = o.2.spell; way = o.2.way; number = o.2.number }));
         },
       )
-    where
-      still : (f.state.fault ≡ None → IsHeldOpen f) → f.state.fault ≡ None → IsHeldOpen (ended_now f)
-      still opens fault =
-          let o = opens fault in
-          (o.0, o.1, record { scalars = o.2.scalars; spell = o.2.spell; way = o.2.way; number = o.2.number })
 
   -- the text's last line is
-  last_holds : (end_len : ℕ) → f.ready ≡ Some end_len → (h : HoldsLine f end_len) × (e.line ≡ Some (line_held f end_len h))
-  last_holds end_len ready = subst (λ r. HoldsSo f r e.line) ready e.holds
-
   module _ (some : is_some f.ready ≡ true) where
     abbrev end_len : ℕ
     end_len = (some_is f.ready some).0
 
-    ready : f.ready ≡ Some end_len
-    ready = (some_is f.ready some).1
+    abbrev last : (h : HoldsLine f end_len) × (e.line ≡ Some (line_held f end_len h))
+    last = subst (λ r. HoldsSo f r e.line) (some_is f.ready some).1 e.holds
 
-    pub last_here : HoldsLine f end_len
-    last_here = (last_holds end_len ready).0
+    abbrev pub last_here : HoldsLine f end_len
+    last_here = last.0
 
     -- once its tokens are read
-    pub finish_read : (new : Feed) → HasReadTokens f new → EndsScan (scanning_of old) (scanning_of (ended_now new)) × IsSoundFeed
-        (ended_now new)
-    unfolding last_here
-    finish_read new read =
-        let g : Feed = record f { state = with_tokens f.state new.state } in
-        let line = line_read f end_len last_here new.state read.tokens in
-        let seen : e.line ≡ ready_of (ended_now g) g.ready = (last_holds end_len ready).1 ∙ sym (ap (ready_of g) ready ∙ ap Some line)
-        ∙ same_ready g.ready g in
-        let stands = ready_as f end_len last_here new.state true line in
-        subst (λ (x : Feed). EndsScan (scanning_of old) (scanning_of (ended_now x)) × IsSoundFeed (ended_now x)) (sym read.same) (
-          subst (λ r. EndsScan (scanning_of old) (with_line (ended_now f) r)) seen (finish_now old f no_fault e),
-          record {
-            room = record { fits = last_room.fits; few_lines = last_room.few_lines };
-            state = subst (λ r. StandsSo r (ended_now g))
-                (sym ready) stands;
-          },
-        )
+    pub finish_read : {new : Feed} → HasReadTokens f new → EndsScan (scanning_of old) (scanning_of (ended_now new)) × IsSoundFeed (ended_now new)
+    finish_read {new} read =
+        let seen = read_ready f end_len last_here new.state read.tokens true (some_is f.ready some).1 last_room in
+        subst (λ (x : Feed). EndsScan (scanning_of old) (scanning_of (ended_now x)) × IsSoundFeed (ended_now x)) (sym read.same)
+        (subst (EndsScan (scanning_of old)) (ap (with_line (ended_now f)) last.1 ∙ sym seen.0) (finish_now old f no_fault e), seen.1)
 
     -- where there is no memory for them
-    pub finish_short : (new : Feed) (error : LexError) (all : ℕ) → old.ready ≡ None → all ≡ length f.held.items
-        → ReadsTokens f all (Err error) new
+    pub finish_short : {new : Feed} (error : LexError) (all : ℕ) → old.ready ≡ None → all ≡ length f.held.items → ReadsTokens f all (Err error) new
         → Finishes (scanning_of old) (Err error) (scanning_of new) × IsSoundFeed new
-    finish_short new (lex.Fault x) all not_ready size never = absurd never
-    finish_short new lex.Memory all not_ready size drops =
+    finish_short (lex.Fault x) all not_ready size never = absurd never
+    finish_short {new} lex.Memory all not_ready size drops =
         let held = items_kept old f e.text in
-        let more : HoldsMore old [] f = record {
-          held = held ∙ sym (append-nil old.held.items);
-          place = e.text.place;
-          line = e.text.line;
-          ended = e.text.ended;
-        } in
+        let more : HoldsMore old [] f = record { held = held ∙ sym (append-nil old.held.items); place = e.text.place; line = e.text.line; ended = e.text.ended } in
         let u = dropped old f new [] all more e.fault (size ∙ ap length held) drops in
         (runs_short old new no_fault not_ready u, sound_unchanged old new sound u)

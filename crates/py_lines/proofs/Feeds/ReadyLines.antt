@@ -16,7 +16,7 @@ use Rattle.py_lines.specs.declared.line_state.LineState.{LineState}
 use Rattle.py_lines.specs.Private.Scan.{line_start}
 use Rattle.py_lines.specs.Private.LineState.{first_mode, with_tokens}
 use Rattle.py_lines.specs.Private.LineTokens.{AreLineText, HoldsTokens, IsLineText}
-use Rattle.py_lines.specs.Private.Feed.{EndsLineHeld, HoldsLine, IsEnded, IsReady, line_held}
+use Rattle.py_lines.specs.Private.Feed.{EndsLineHeld, HasRoom, HoldsLine, IsEnded, IsReady, IsSoundFeed, StandsSo, line_held}
 use Rattle.py_lines.proofs.Fields.OneReading.{one_fielded_reading}
 use Rattle.py_lines.proofs.Lexings.LineEnds.{read-alone}
 use Rattle.py_lines.proofs.LogicalLines.TokenPlaces.{tokens_lie}
@@ -76,6 +76,10 @@ ended_line_of f end_len e body last class text =
     let at = e.ended.at [] (λ returned. refl) in
     ap (line_of f.state.place f.state.line) (same_pieces _ at.body body at.last last at.are.class class (ended_holds f end_len e).text text)
 
+-- the scanner as its callers see it, with this line ready
+abbrev pub with_line : Feed → Option LogicalLine → ScannerState
+with_line f line = record (scanning_of f) { ready = line }
+
 module _ (f : Feed) (end_len : ℕ) (h : HoldsLine f end_len) where
   -- its text
   pub held_text : (line_held f end_len h).text ≡ take f.state.scan.stop f.held.items
@@ -90,9 +94,12 @@ module _ (f : Feed) (end_len : ℕ) (h : HoldsLine f end_len) where
   pub held_line_text : IsLineText (take f.state.scan.stop f.held.items)
   held_line_text = (h.pieces, h.text)
 
-  -- once its tokens are read
-  module _ (state : LineState) (tokens : HoldsTokens (take f.state.scan.stop f.held.items) f.state.line state.tokens) where
-    pub line_read : line_of_feed (record f { state = with_tokens f.state state }) end_len ≡ line_held f end_len h
+  -- once its tokens are read it is ready, whether the text has ended or not
+  module _ (state : LineState) (tokens : HoldsTokens (take f.state.scan.stop f.held.items) f.state.line state.tokens) (ended : Bool) where
+    abbrev pub with_read : Feed
+    with_read = record f { state = with_tokens f.state state; ended = ended }
+
+    line_read : line_of_feed with_read end_len ≡ line_held f end_len h
     line_read =
         let are = tokens h.pieces h.text in
         let text = sym h.text.spell in
@@ -108,35 +115,31 @@ module _ (f : Feed) (end_len : ℕ) (h : HoldsLine f end_len) where
           offset = f.state.place;
           line = number i;
           indent = indent i;
-          end_len =
-              ends i;
+          end_len = ends i;
         }
 
-  -- it is ready then, whether the text has ended or not
-  pub ready_as : (state : LineState) (ended : Bool) → line_of_feed (record f { state = with_tokens f.state state; ended = ended }) end_len ≡
-      line_held f end_len h
-      → IsReady (record f { state = with_tokens f.state state; ended = ended }) end_len
-  ready_as state ended is = record {
-    holds = record {
-      read = h.read;
-      rest = h.rest;
-      pieces = h.pieces;
-      scalars = h.scalars;
-      spell = h.spell;
-      spells = h.spells;
-      text = h.text;
-      number = h.number;
-      ends = h.ends;
-      stop = h.stop;
-      here = h.here;
-      some = h.some;
-    };
-    line_is = is;
-  }
-
--- the scanner as its callers see it, with this line ready
-abbrev pub with_line : Feed → Option LogicalLine → ScannerState
-with_line f line = record (scanning_of f) { ready = line }
+    pub read_ready : f.ready ≡ Some end_len → HasRoom f 0 → (scanning_of with_read ≡ with_line (record f { ended = ended }) (Some (line_held f end_len h))) × IsSoundFeed with_read
+    read_ready ready room =
+        let holds : HoldsLine with_read end_len = record {
+          read = h.read;
+          rest = h.rest;
+          pieces = h.pieces;
+          scalars = h.scalars;
+          spell = h.spell;
+          spells = h.spells;
+          text = h.text;
+          number = h.number;
+          ends = h.ends;
+          stop = h.stop;
+          here = h.here;
+          some = h.some;
+        } in (
+          ap (with_line (record f { ended = ended })) (ap (ready_of with_read) ready ∙ ap Some line_read),
+          record {
+            room = record { fits = room.fits; few_lines = room.few_lines };
+            state = subst (λ r. StandsSo r with_read) (sym ready) (record { holds = holds; line_is = line_read });
+          },
+        )
 
 pub ready_seen : (f : Feed) (end_len : ℕ) → f.ready ≡ Some end_len → (r : IsReady f end_len)
     → scanning_of f ≡ with_line f (Some (line_held f end_len r.holds))
