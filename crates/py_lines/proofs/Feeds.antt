@@ -6,12 +6,9 @@ pub mod Released
 pub mod Ended
 pub mod Steps
 pub mod Loops
-pub mod Begun
 pub mod Characters
 pub mod ReadyLines
 pub mod LastBytes
-pub mod Needles
-pub mod NextHeld
 pub mod Chunks
 pub mod FailedHeld
 pub mod EndedHeld
@@ -19,5 +16,4 @@ pub mod GivenBack
 pub mod FedHeld
 pub mod FedScanner
 pub mod FinishedHeld
-pub mod ReleasedHeld
 pub mod PassedLines

@@ -3,5 +3,4 @@ pub mod StateFaults
 pub mod LineFaults
 pub mod LineAnswers
 pub mod PassedLines
-pub mod FaultAnswers
 pub mod EndAnswers

@@ -17,21 +17,19 @@ use Rattle.py_lines.specs.declared.fault.Fault.{Fault}
 use Rattle.py_lines.specs.declared.fault.LexError.{LexError}
 use Rattle.py_lines.specs.declared.fault.LexError.TheVariants as lex
 use Rattle.py_lines.specs.declared.feed.Feed.{Feed}
-use Rattle.py_lines.specs.declared.line_state.LineState.{LineState}
-use Rattle.py_lines.specs.Private.LineState.{with_tokens}
 use Rattle.py_lines.specs.Private.Feed.{KeepsText, HasRoom, HoldsMore, IsScanned, IsUnchanged, EndsLineHeld, IsLastChunk, StopsTaking}
 use Rattle.py_lines.specs.Private.Feed.{TakesSome, FailsPiece, TakesSo, StandsSo, IsSoundFeed, WaitsSo, line_held, DropsLine, HasReadTokens}
 use Rattle.py_lines.specs.Private.Feed.{HoldsLine, LetsGo, ReadsTokens}
 use Rattle.py_lines.proofs.Lexings.DecidedFaults.{decided_more}
 use Rattle.py_lines.proofs.Feeds.Known.{goes_with_first}
 use Rattle.py_lines.proofs.Feeds.ReadyLines.{IsLineOfText, ended_holds, ended_line_of, held_text, read_ready, some_is, with_line}
-use Rattle.py_lines.proofs.Feeds.Loops.{begun_open}
-use Rattle.py_lines.proofs.Feeds.ReleasedHeld.{released_sound, releases}
+use Rattle.py_lines.proofs.Feeds.Loops.{begun_unchanged}
+use Rattle.py_lines.proofs.Feeds.Released.{released_sound, releases}
 use Rattle.py_lines.proofs.Feeds.FailedHeld.{failed_held, failed_keeps}
 use Rattle.py_lines.proofs.Feeds.FedHeld.{goes_joined, settled_scanned, undecided_fed, never_before, settled_fed, whole_fed}
 
 -- the same facts at a scanner that stands at the same place
-first_at : (text : List ℕ) (lines : List LogicalLine) (old new : Feed) → new.state.place ≡ old.state.place → new.state.line ≡ old.state.line → AreFirstLines text old.state.place old.state.line lines → AreFirstLines text new.state.place new.state.line lines
+pub first_at : (text : List ℕ) (lines : List LogicalLine) (old new : Feed) → new.state.place ≡ old.state.place → new.state.line ≡ old.state.line → AreFirstLines text old.state.place old.state.line lines → AreFirstLines text new.state.place new.state.line lines
 first_at text lines old new place line first = subst (λ (n : ℕ). AreFirstLines text n new.state.line lines) (sym place) (subst (λ (n : ℕ). AreFirstLines text old.state.place n lines) (sym line) first)
 
 goes_at : (text : List ℕ) (old new : Feed) (held : List ℕ) → new.state.place ≡ old.state.place → new.held.items ≡ held → GoesOnWith text old.state.place held → GoesOnWith text new.state.place new.held.items
@@ -39,6 +37,17 @@ goes_at text old new held place is goes = subst (λ (n : ℕ). GoesOnWith text n
 
 settled_of : (text : List ℕ) (lines : List LogicalLine) (old new : Feed) → new.state.place ≡ old.state.place → new.held.items ≡ old.held.items → IsSettled (take (old.state.place + length old.held.items) text) lines → IsSettled (take (new.state.place + length new.held.items) text) lines
 settled_of text lines old new place held settled = subst (λ (n : ℕ). IsSettled (take (n + length new.held.items) text) lines) (sym place) (subst (λ l. IsSettled (take (old.state.place + length l) text) lines) (sym held) settled)
+
+-- the lines given are settled where none is ready
+settled_held : (text : List ℕ) (lines : List LogicalLine) (old : Feed) → old.ready ≡ None → IsScanning (scanning_of old) text lines → 0 < length old.held.items → IsSettled (take (old.state.place + length old.held.items) text) lines
+settled_held text lines old not_ready s some = subst (IsSettled (take (old.state.place + length old.held.items) text)) (ap (λ r. lines ++ ready_lines (ready_of old r)) not_ready ∙ append-nil lines) (s.settled some)
+
+-- so no line had ended in what was held
+pub none_ended : (text : List ℕ) (lines : List LogicalLine) (old new : Feed) (len : ℕ) → old.ready ≡ None → IsScanning (scanning_of old) text lines → new.state.place ≡ old.state.place → new.state.line ≡ old.state.line → new.held.items ≡ old.held.items → EndsLineHeld len new → ⊥
+none_ended text lines old new len not_ready s place line held e =
+    never_before text new old lines len e.all e.after e.after e.ended (e.ended.spell ∙ held) e.whole (first_at text lines old new place line s.first)
+    (subst (λ (m : ℕ). GoesOnWith text m old.held.items) (sym place) s.held)
+    (λ some. subst (λ (m : ℕ). IsSettled (take (m + length old.held.items) text) lines) (sym place) (settled_held text lines old not_ready s some))
 
 -- the line that a caller sees ready, if one has ended
 abbrev IsSeen : Feed → Option ℕ → Option LogicalLine → Type 0
@@ -53,20 +62,14 @@ room_more old new bytes s fits more = record {
 }
 
 module _ (old new : Feed) (piece : List ℕ) (n : ℕ) (t : TakesSome old piece n new) (text : List ℕ) (lines : List LogicalLine) (s : IsScanning (scanning_of old) text lines) (go : GoesOnWith text (fed_of (scanning_of old)) (take n piece)) where
-  first_old : AreFirstLines text old.state.place old.state.line lines
-  first_old = s.first
-
   goes_all : GoesOnWith text old.state.place (old.held.items ++ take n piece)
   goes_all = goes_joined text old.state.place old.held.items (take n piece) s.held go
 
   first_new : AreFirstLines text new.state.place new.state.line lines
-  first_new = first_at text lines old new t.more.place t.more.line first_old
+  first_new = first_at text lines old new t.more.place t.more.line s.first
 
   goes_new : GoesOnWith text new.state.place new.held.items
   goes_new = goes_at text old new (old.held.items ++ take n piece) t.more.place t.more.held goes_all
-
-  settled_old : 0 < length old.held.items → IsSettled (take (old.state.place + length old.held.items) text) lines
-  settled_old some = subst (IsSettled (take (old.state.place + length old.held.items) text)) (ap (λ r. lines ++ ready_lines (ready_of old r)) t.not_ready ∙ append-nil lines) (s.settled some)
 
   -- no line is ready
   open_first : (mid : Feed) → HoldsMore mid [] new → AreFirstLines text mid.state.place mid.state.line lines
@@ -81,11 +84,8 @@ module _ (old new : Feed) (piece : List ℕ) (n : ℕ) (t : TakesSome old piece 
 
   -- a line is ready: bytes were taken
   never_none : (len : ℕ) → EndsLineHeld len new → n ≡ 0 → ⊥
-  never_none len e zero =
-      let held : new.held.items ≡ old.held.items = t.more.held ∙ ap (λ (m : ℕ). old.held.items ++ take m piece) zero ∙ append-nil old.held.items in
-      never_before text new old lines len e.all e.after e.after e.ended (e.ended.spell ∙ held) e.whole first_new
-      (subst (λ (m : ℕ). GoesOnWith text m old.held.items) (sym t.more.place) s.held)
-      (λ some. subst (λ (m : ℕ). IsSettled (take (m + length old.held.items) text) lines) (sym t.more.place) (settled_old some))
+  never_none len e zero = none_ended text lines old new len t.not_ready s t.more.place t.more.line
+      (t.more.held ∙ ap (λ (m : ℕ). old.held.items ++ take m piece) zero ∙ append-nil old.held.items) e
 
   module _ (len : ℕ) (c : IsLastChunk old piece n len new) where
     chunk_held : new.held.items ≡ c.mid.held.items ++ take c.len (drop c.before piece)
@@ -108,7 +108,7 @@ module _ (old new : Feed) (piece : List ℕ) (n : ℕ) (t : TakesSome old piece 
         (λ none.
         let zero : c.before ≡ 0 = omega (arith, none) in
         let held : c.mid.held.items ≡ old.held.items = c.more.held ∙ ap (λ (m : ℕ). old.held.items ++ take m piece) zero ∙ append-nil old.held.items in
-        settled_of text lines old c.mid c.more.place held (settled_old (omega (arith, some, ap length held))))
+        settled_of text lines old c.mid c.more.place held (settled_held text lines old t.not_ready s (omega (arith, some, ap length held))))
         (cases_lt 0 c.before))
 
   -- what is so of the line that a caller sees ready
@@ -277,17 +277,7 @@ pub dropped : (old mid new : Feed) (bytes : List ℕ) (before : ℕ) → HoldsMo
 dropped old mid new bytes before more fault size d =
     let held : new.held.items ≡ old.held.items
     = d.held ∙ ap (take before) more.held ∙ ap (λ (n : ℕ). take n (old.held.items ++ bytes)) size ∙ take-append_seam old.held.items bytes in
-    record {
-      same = record {
-        held = held ∙ sym (append-nil old.held.items);
-        place = ap (λ (s : LineState). s.place) d.begins.same ∙ more.place;
-        line = ap (λ (s : LineState). s.line) d.begins.same ∙ more.line;
-        ended = ap (λ (f : Feed). f.ended) d.same ∙ more.ended;
-      };
-      ready = ap (λ (f : Feed). f.ready) d.same;
-      fault = ap (λ (s : LineState). s.fault) d.begins.same ∙ fault;
-      opens = ([], new.held.items, begun_open mid.state new d.begins);
-    }
+    begun_unchanged old new mid.state (ap (λ (f : Feed). f.ready) d.same) (ap (λ (f : Feed). f.ended) d.same ∙ more.ended) held more.place more.line fault d.begins
 
 -- what is answered before bytes are taken
 pub feeds_at_once : (f : Feed) (piece : List ℕ) (error : LexError) → WaitsSo f (Err error)

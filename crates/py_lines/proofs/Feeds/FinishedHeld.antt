@@ -1,40 +1,26 @@
 -- The text's end, as a caller of the scanner sees it.
-use Rattle.std.proofs.Common.{◌≡◌, ℕ, ◌+◌, ◌<◌, true, false, Option, None, Some, Result, Ok, Err, List, [], ◌++◌, length, take, drop, refl, sym, ap, ◌∙◌, subst, inl, inr, append-nil, arith, length-append, length-drop}
-use Rattle.std.specs.Prelude.{encode_utf8_all, is_some}
+use Rattle.std.proofs.Common.{◌≡◌, ℕ, ◌+◌, true, Option, None, Some, Result, Ok, Err, List, [], length, drop, refl, sym, ap, ◌∙◌, subst, append-nil, arith, length-drop}
+use Rattle.std.specs.Prelude.{is_some}
 use Rattle.std.specs.Global.{Vec}
-use Rattle.std.proofs.lemmas.Bool.{both_ways}
 use Rattle.std.proofs.lemmas.List.{take_all}
-use Rattle.py_lines.specs.Character.{is_return}
-use Rattle.py_lines.specs.Piece.{ends}
 use Rattle.py_lines.specs.LogicalLine.{LogicalLine}
 use Rattle.py_lines.specs.Lexed.{IsLexed}
-use Rattle.py_lines.specs.Settled.{IsSettled}
-use Rattle.py_lines.specs.Given.{AreFirstLines}
-use Rattle.py_lines.specs.ScannerState.{GoesOnWith, IsScanning, EndsScan, Finishes, ready_lines}
+use Rattle.py_lines.specs.ScannerState.{GoesOnWith, EndsScan, Finishes}
 use Rattle.py_lines.specs.ScannerState.View.{ready_of, scanning_of}
 use Rattle.py_lines.specs.declared.fault.LexError.{LexError}
 use Rattle.py_lines.specs.declared.fault.LexError.TheVariants as lex
 use Rattle.py_lines.specs.declared.feed.Feed.{Feed}
-use Rattle.py_lines.specs.Private.LineState.{with_tokens}
-use Rattle.py_lines.specs.Private.Scan.{EndsWhole}
 use Rattle.py_lines.specs.Private.Feed.{KeepsText, IsScanned, ScansHeld, EndsLineHeld, EndsHeld, EndsWith, HasRoom, HoldsSo, HasEndedText}
-use Rattle.py_lines.specs.Private.Feed.{EndsText, HasReadTokens, HoldsLine, HoldsMore, IsHeldOpen, IsSoundFeed, ReadsTokens, StandsSo}
+use Rattle.py_lines.specs.Private.Feed.{EndsText, HasReadTokens, HoldsLine, HoldsMore, IsSoundFeed, ReadsTokens, StandsSo}
 use Rattle.py_lines.specs.Private.Feed.{line_held}
-use Rattle.py_lines.proofs.Feeds.Known.{is_known}
-use Rattle.py_lines.proofs.Feeds.SettledSoFar.{ended_before}
 use Rattle.py_lines.proofs.Feeds.Ended.{ended_empty}
 use Rattle.py_lines.proofs.Feeds.Loops.{keeps_on}
 use Rattle.py_lines.proofs.Feeds.ReadyLines.{ended_holds, held_text, read_ready, some_is, with_line}
-use Rattle.py_lines.proofs.Feeds.FedScanner.{dropped, runs_short, sound_unchanged}
-use Rattle.py_lines.proofs.Feeds.NextHeld.{next_pieces, next_line, next_some}
+use Rattle.py_lines.proofs.Feeds.FedScanner.{dropped, first_at, none_ended, runs_short, sound_unchanged}
 use Rattle.py_lines.proofs.Feeds.FailedHeld.{failed_held, failed_keeps}
 
 items_kept : (old new : Feed) → KeepsText old new → new.held.items ≡ old.held.items
 items_kept old new keeps = ap (λ (v : Vec ℕ). v.items) keeps.held
-
--- the lines released are the text's first, and so they were before a scan
-first_kept : (old mid : Feed) (text : List ℕ) (lines : List LogicalLine) → KeepsText old mid → AreFirstLines text old.state.place old.state.line lines → AreFirstLines text mid.state.place mid.state.line lines
-first_kept old mid text lines keeps first = subst (λ (n : ℕ). AreFirstLines text n mid.state.line lines) (sym keeps.place) (subst (λ (n : ℕ). AreFirstLines text old.state.place n lines) (sym keeps.line) first)
 
 -- a fault of the scan
 pub text_fault : (old new : Feed) (error : LexError) → ScansHeld old (Err error) new → EndsText old (Err error) new
@@ -43,38 +29,18 @@ text_fault old new (lex.Fault f) fails =
     record { text = keeps.0; none_ready = keeps.1; kept = keeps.2; lexed = λ text lines ends. (failed_held old new f fails text lines ends.first ends.held).lexed }
 text_fault old new lex.Memory none = absurd none
 
-no_return : (read rest text : List ℕ) → text ≡ read → EndsWhole read rest → rest ≡ [] → ends is_return text ≡ false
-no_return read rest text is (inl feed) none = ap (ends is_return) is ∙ feed
-no_return read rest text is (inr (b, more, some, other)) none = absurd (omega (arith, ap length (sym some ∙ none)))
-
--- no line had ended in what was held
-none_ended : (old mid : Feed) (end_len : ℕ) (text : List ℕ) (lines : List LogicalLine) → KeepsText old mid → old.ready ≡ None → IsScanning (scanning_of old) text lines → EndsLineHeld end_len mid → ⊥
-none_ended old mid end_len text lines keeps not_ready scanning e =
-    let bytes = encode_utf8_all e.all ++ e.after in
-    let held : bytes ≡ old.held.items = e.ended.spell ∙ items_kept old mid keeps in
-    let some : 0 < length bytes = omega (arith, (ended_holds mid end_len e).some, length-append (encode_utf8_all e.all) e.after) in
-    let first_mid : AreFirstLines text mid.state.place mid.state.line lines = first_kept old mid text lines keeps scanning.first in
-    let goes : GoesOnWith text mid.state.place bytes = subst (λ (n : ℕ). GoesOnWith text n bytes) (sym keeps.place) (subst (GoesOnWith text old.state.place) (sym held) scanning.held) in
-    let k = is_known text mid.state.place mid.state.line lines e.all e.after first_mid e.ended.scalars goes some in
-    let known : take (mid.state.place + length bytes) text ≡ take (old.state.place + length old.held.items) text = ap (λ (n : ℕ). take (n + length bytes) text) keeps.place ∙ ap (λ l. take (old.state.place + length l) text) held in
-    let settled : IsSettled (take (old.state.place + length old.held.items) text) lines = subst (IsSettled (take (old.state.place + length old.held.items) text)) (append-nil lines) (subst (λ r. IsSettled (take (old.state.place + length old.held.items) text) (lines ++ ready_lines (ready_of old r))) not_ready (scanning.settled (omega (arith, some, ap length held)))) in
-    let next = next_line text mid lines end_len e.all e.after e.ended e.whole k in
-    ended_before text mid.state.place mid.state.line lines e.all e.after k (next_pieces text mid lines end_len e.all e.after e.ended e.whole k) next
-    (subst (λ t. IsSettled t lines) (sym known) settled)
-    (no_return e.all e.after _ next.spell e.whole)
-    (next_some text mid lines end_len e.all e.after e.ended e.whole k)
-
 -- the scan has left no line open: none had ended, so nothing is held
-pub text_ready : (old mid : Feed) (end_len : ℕ) → old.ready ≡ None → mid.ready ≡ Some end_len → KeepsText old mid → mid.state.fault ≡ old.state.fault → IsScanned mid.ready mid → EndsText old (Ok tt) mid
-text_ready old mid end_len not_ready ready keeps fault scanned =
-    let e : EndsLineHeld end_len mid = subst (λ r. IsScanned r mid) ready scanned in
-    let h = ended_holds mid end_len e in
+pub text_left : (old mid : Feed) → is_some mid.ready ≡ true → old.ready ≡ None → KeepsText old mid → mid.state.fault ≡ old.state.fault → IsScanned mid.ready mid → EndsText old (Ok tt) mid
+text_left old mid some not_ready keeps fault scanned =
+    let r = some_is mid.ready some in
+    let e : EndsLineHeld r.0 mid = subst (λ o. IsScanned o mid) r.1 scanned in
+    let h = ended_holds mid r.0 e in
     record {
       text = keeps;
       fault = fault;
-      line = Some (line_held mid end_len h);
-      holds = subst (λ r. HoldsSo mid r (Some (line_held mid end_len h))) (sym ready) (h, refl);
-      lexed = λ text lines scanning whole. absurd (none_ended old mid end_len text lines keeps not_ready scanning e);
+      line = Some (line_held mid r.0 h);
+      holds = subst (λ o. HoldsSo mid o (Some (line_held mid r.0 h))) (sym r.1) (h, refl);
+      lexed = λ text lines scanning whole. absurd (none_ended text lines old mid r.0 not_ready scanning keeps.place keeps.line (items_kept old mid keeps) e);
     }
 
 pub text_empty : (old mid : Feed) → mid.held.items ≡ [] → mid.ready ≡ None → KeepsText old mid → mid.state.fault ≡ old.state.fault → IsScanned mid.ready mid → EndsText old (Ok tt) mid
@@ -92,19 +58,12 @@ text_empty old mid none not_ready keeps fault scanned =
           (subst (λ l. IsLexed text l None) (sym (append-nil lines)) lexed, tt);
     }
 
-pub text_left : (old mid : Feed) → is_some mid.ready ≡ true → old.ready ≡ None → KeepsText old mid → mid.state.fault ≡ old.state.fault → IsScanned mid.ready mid → EndsText old (Ok tt) mid
-text_left old mid some not_ready keeps fault scanned = go mid.ready refl
-  where
-    go : (ready : Option ℕ) → mid.ready ≡ ready → EndsText old (Ok tt) mid
-    go None is = absurd (both_ways _ (ap is_some is) some)
-    go (Some n) is = text_ready old mid n not_ready is keeps fault scanned
-
 -- what ends with what a scan has kept ends with what was held before it
 ends_before_scan : (old mid : Feed) (text : List ℕ) (lines : List LogicalLine) → KeepsText old mid → EndsWith old text lines → EndsWith mid text lines
 ends_before_scan old mid text lines keeps e =
     let held = items_kept old mid keeps in
     record {
-      first = first_kept old mid text lines keeps e.first;
+      first = first_at text lines old mid keeps.place keeps.line e.first;
       held = subst (GoesOnWith text mid.state.place) (sym held) (subst (λ (n : ℕ). GoesOnWith text n old.held.items) (sym keeps.place) e.held);
       whole = e.whole ∙ ap (λ (n : ℕ). n + length old.held.items) (sym keeps.place) ∙ ap (λ (l : List ℕ). mid.state.place + length l) (sym held);
     }
@@ -149,7 +108,7 @@ finish_now old f no_fault e =
           let lexed = e.lexed text lines scanning whole in
           let from_there : drop old.state.place text ≡ old.held.items = sym (take_all (length old.held.items) (drop old.state.place text) (omega (arith, whole, length-drop old.state.place text))) ∙ scanning.held in
           record {
-            first = first_kept old f text lines e.text scanning.first;
+            first = first_at text lines old f e.text.place e.text.line scanning.first;
             lexed = lexed.0;
             held = held ∙ sym from_there ∙ ap (λ (n : ℕ). drop n text) (sym e.text.place);
             whole = lexed.1;

@@ -1,5 +1,5 @@
 -- What stays held where a line is ready.
-use Rattle.std.proofs.Common.{◌≡◌, ℕ, zero, suc, ◌+◌, ◌-◌, ◌<◌, ◌≤◌, ◌⊎◌, true, false, None, Some, List, [], ◌∷◌, ◌++◌, length, take, refl}
+use Rattle.std.proofs.Common.{◌≡◌, ℕ, zero, suc, ◌+◌, ◌-◌, ◌<◌, ◌≤◌, ◌⊎◌, true, false, Some, List, [], ◌∷◌, ◌++◌, length, take, refl}
 use Rattle.std.proofs.Common.{sym, ap, ◌∙◌, subst, ⊎_elim, inl, inr, append-nil, arith, length-append}
 use Rattle.std.specs.Prelude.{encode_utf8_all, is_some, max}
 use Rattle.std.specs.Global.{Vec}
@@ -17,10 +17,9 @@ use Rattle.py_lines.specs.Private.LineState.{first_mode}
 use Rattle.py_lines.specs.Private.Scan.{EndsWhole, IsLineBefore, line_start}
 use Rattle.py_lines.specs.declared.scan.Stop.TheVariants as stops
 use Rattle.py_lines.specs.ScannerState.{EndsExactly}
-use Rattle.py_lines.specs.Private.Feed.{HasScannedNext, IsEnded, IsScanned, IsUnchanged, EndsLineHeld, HadEnded, EndsAfter, Restarts}
+use Rattle.py_lines.specs.Private.Feed.{HasScannedNext, IsEnded, IsScanned, EndsLineHeld, HadEnded, EndsAfter}
 use Rattle.py_lines.specs.Private.Feed.{whole_end, GivesBack, TakesOf}
 use Rattle.py_lines.proofs.Feeds.Chunks.{none_is}
-use Rattle.py_lines.proofs.Feeds.Loops.{begun_open, restarts_fault, restarts_keep, restarts_ready}
 use Rattle.py_lines.proofs.Feeds.ReadyLines.{some_is}
 use Rattle.py_lines.proofs.Readers.LineAnswers.{IsScannedLine, line_at_end}
 
@@ -203,16 +202,3 @@ module _ (old : Feed) (chunk : List ℕ) (end_len n : ℕ) (s : HasScannedNext o
           inl (taken_exactly mode old.state.scan chunk t.read t.rest end_len t.spell t.stops.0 t.stops.1 n is),
         );
       }
-
--- the memory for a scan was refused: what was held before is held again, and its scan begins anew
-pub refused_unchanged : (f : Feed) (longer shorter : Vec ℕ) (new : Feed) → f.ready ≡ None → shorter.items ≡ f.held.items → Restarts (record f { held = longer }) new → IsUnchanged f (record new { held = shorter })
-refused_unchanged f longer shorter new not_ready items restarts =
-    let mid : Feed = record f { held = longer } in
-    let keeps = restarts_keep mid new restarts in
-    let open_anew = begun_open f.state new restarts.begins in
-    record {
-      same = record { held = items ∙ sym (append-nil f.held.items); place = keeps.place; line = keeps.line; ended = keeps.ended };
-      ready = restarts_ready mid new restarts ∙ not_ready;
-      fault = restarts_fault mid new restarts;
-      opens = ([], shorter.items, record { scalars = refl; spell = refl; way = open_anew.way; number = open_anew.number });
-    }

@@ -1,5 +1,5 @@
 -- What a scan of what is held comes to.
-use Rattle.std.proofs.Common.{◌≡◌, ℕ, false, None, Some, Ok, Err, List, [], length, refl, sym, ap, ◌∙◌, subst, arith}
+use Rattle.std.proofs.Common.{◌≡◌, ℕ, false, None, Some, Ok, Err, List, [], length, refl, sym, ap, ◌∙◌, subst, append-nil, arith}
 use Rattle.std.specs.Str.{StartsWithNoChar}
 use Rattle.std.proofs.lemmas.Bool.{both_ways}
 use Rattle.std.proofs.lemmas.List.{nil_from_length}
@@ -14,7 +14,7 @@ use Rattle.py_lines.specs.declared.scan.Stop.TheVariants as stops
 use Rattle.py_lines.specs.declared.scan.LineFault.{LineFault}
 use Rattle.py_lines.specs.Private.Scan.{EndsWhole, IsUnderWay, line_start, is_returned, IsRefusal}
 use Rattle.py_lines.specs.Private.LineState.{BeginsAnew, first_mode}
-use Rattle.py_lines.specs.Private.Feed.{KeepsText, Restarts, IsEnded, IsOpen, IsPartOfCharacter, FailsAt, FailsNext, StopsHeld, IsScanned}
+use Rattle.py_lines.specs.Private.Feed.{KeepsText, IsEnded, IsOpen, IsPartOfCharacter, FailsAt, FailsNext, StopsHeld, IsScanned, IsUnchanged}
 use Rattle.py_lines.specs.Private.Feed.{ScansHeld}
 use Rattle.py_lines.proofs.Text.Utf8Prefixes.{nothing_bad}
 use Rattle.py_lines.proofs.Text.Incomplete.{part_none}
@@ -39,22 +39,7 @@ fails_keep old new kind offset error fails = record {
   ended = ap (λ (f : Feed). f.ended) fails.same;
 }
 
--- and so does a scan that was begun anew
-pub restarts_keep : (old new : Feed) → Restarts old new → KeepsText old new
-restarts_keep old new r = record {
-  held = ap (λ (f : Feed). f.held) r.same;
-  place = ap (λ (s : LineState). s.place) r.begins.same;
-  line = ap (λ (s : LineState). s.line) r.begins.same;
-  ended = ap (λ (f : Feed). f.ended) r.same;
-}
-
-pub restarts_fault : (old new : Feed) → Restarts old new → new.state.fault ≡ old.state.fault
-restarts_fault old new r = ap (λ (s : LineState). s.fault) r.begins.same
-
-pub restarts_ready : (old new : Feed) → Restarts old new → new.ready ≡ old.ready
-restarts_ready old new r = ap (λ (f : Feed). f.ready) r.same
-
--- it is that of a line of which nothing was read
+-- the scan that was begun anew is that of a line of which nothing was read
 pub begun_open : (was : LineState) (new : Feed) → BeginsAnew was new.state → IsOpen new [] new.held.items
 begun_open was new b = record {
   scalars = refl;
@@ -62,6 +47,20 @@ begun_open was new b = record {
   way = subst (λ (n : ℕ). IsUnderWay (first_mode n) new.state.scan []) (sym (ap (λ (s : LineState). s.place) b.same))
       (record { state = line_start (first_mode was.place); steps = refl; tallies = b.tallies; stacked = b.stacked; one_line = tt });
   number = b.number ∙ sym (ap (λ (s : LineState). s.line) b.same);
+}
+
+-- nothing that a caller sees has changed then
+pub begun_unchanged : (old new : Feed) (was : LineState) → new.ready ≡ None → new.ended ≡ old.ended → new.held.items ≡ old.held.items → was.place ≡ old.state.place → was.line ≡ old.state.line → was.fault ≡ old.state.fault → BeginsAnew was new.state → IsUnchanged old new
+begun_unchanged old new was ready ended items place line fault begins = record {
+  same = record {
+    held = items ∙ sym (append-nil old.held.items);
+    place = ap (λ (s : LineState). s.place) begins.same ∙ place;
+    line = ap (λ (s : LineState). s.line) begins.same ∙ line;
+    ended = ended;
+  };
+  ready = ready;
+  fault = ap (λ (s : LineState). s.fault) begins.same ∙ fault;
+  opens = ([], new.held.items, begun_open was new begins);
 }
 
 -- all was scanned

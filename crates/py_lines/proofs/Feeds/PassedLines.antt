@@ -16,7 +16,7 @@ use Rattle.py_lines.specs.declared.feed.Feed.{Feed}
 use Rattle.py_lines.specs.declared.line_state.LineState.{LineState}
 use Rattle.py_lines.specs.declared.plain_strings.Passed.{Passed}
 use Rattle.py_lines.specs.declared.scan.Scan.{Scan}
-use Rattle.py_lines.specs.Private.Feed.{IsSoundFeed, StandsSo}
+use Rattle.py_lines.specs.Private.Feed.{IsSoundFeed, IsUnchanged, StandsSo}
 use Rattle.py_lines.specs.Private.LineState.{BeginsAnew, first_mode}
 use Rattle.py_lines.specs.Private.Scan.{EndsWhole, line_start}
 use Rattle.py_lines.specs.Private.Outline.{AreWholeLines, BeginWithLines, IsWholeLine}
@@ -31,9 +31,9 @@ use Rattle.py_lines.proofs.Readers.PassedLines.{passed_line, take_slice, whole_r
 use Rattle.py_lines.proofs.Feeds.Known.{IsKnown, goes_with_first, is_known}
 use Rattle.py_lines.proofs.Feeds.LastBytes.{ends-encoded}
 use Rattle.py_lines.proofs.Feeds.SettledSoFar.{Follow, IsNextLine, settled_ready}
-use Rattle.py_lines.proofs.Feeds.Released.{released}
-use Rattle.py_lines.proofs.Feeds.ReleasedHeld.{goes_after}
-use Rattle.py_lines.proofs.Feeds.Loops.{begun_open}
+use Rattle.py_lines.proofs.Feeds.Released.{goes_after, released}
+use Rattle.py_lines.proofs.Feeds.Loops.{begun_open, begun_unchanged}
+use Rattle.py_lines.proofs.Feeds.FedScanner.{runs_short, sound_unchanged}
 
 -- the logical lines of the lines that were found, from this byte and line of a text on
 abbrev lines_at : (texts : List (List ℕ)) (place line : ℕ) (read : List ℕ) (n : ℕ) (after : List ℕ) → AreWholeLines texts read n after → List LogicalLine
@@ -231,8 +231,8 @@ none_ready f None seen = refl
 none_ready f (Some n) seen = absurd (cc)
 
 -- nothing was passed over
-pub passes_none : (old new : ScannerState) (bytes : List ℕ) (before : ℕ) → new ≡ old → PassesPieceLines old bytes before 0 new
-passes_none old new bytes before same = record {
+passes_none : (old new : ScannerState) (bytes : List ℕ) (before : ℕ) → new ≡ old → PassesPieceLines old bytes before 0 new
+passes_none old new bytes before same = subst (λ (s : ScannerState). PassesPieceLines old bytes before 0 s) (sym same) (record {
   lines = [];
   texts = refl;
   ends = omega arith;
@@ -240,40 +240,24 @@ passes_none old new bytes before same = record {
   began = λ more. absurd (omega (arith, more));
   held = λ more. absurd (omega (arith, more));
   scans = λ more. absurd (omega (arith, more));
-  place = ap (λ (s : ScannerState). s.place) same ∙ omega arith;
-  others = same ∙ (λ i. record old { place = ap (λ (s : ScannerState). s.place) (sym same) i; line = ap (λ (s : ScannerState). s.line) (sym same) i; held = ap (λ (s : ScannerState). s.held) (sym same) i });
-  same = λ none. same;
-}
+  place = omega arith;
+  others = refl;
+  same = λ none. refl;
+})
 
 -- where no line is passed over the scan of the next one begins anew
 module _ (f : Feed) (held : Vec ℕ) (state : LineState) (scan : Scan) (stands : StandsAtLine (scanning_of f)) (kept : held.items ≡ f.held.items) (anew : BeginsAnew (record f.state { scan = scan }) state) where
   abbrev begun : Feed
   begun = record f { state = state; held = held }
 
-  none_ready_yet : f.ready ≡ None
-  none_ready_yet = none_ready f f.ready stands.ready
-
-  same_view : scanning_of begun ≡ scanning_of f
-  same_view =
-      let ready : ready_of begun f.ready ≡ ready_of f f.ready = ap (ready_of begun) none_ready_yet ∙ sym stands.ready in
-      let same = anew.same in
-      λ i. record { place = (same i).place; line = (same i).line; held = kept i; ready = ready i; ended = f.ended; fault = (same i).fault }
+  unchanged : IsUnchanged f begun
+  unchanged = begun_unchanged f begun (record f.state { scan = scan }) (none_ready f f.ready stands.ready) refl kept refl refl refl anew
 
   pub begun_none : (bytes : List ℕ) (before : ℕ) → PassesPieceLines (scanning_of f) bytes before 0 (scanning_of begun)
-  begun_none bytes before = passes_none (scanning_of f) (scanning_of begun) bytes before same_view
+  begun_none bytes before = passes_none (scanning_of f) (scanning_of begun) bytes before (runs_short f begun stands.no_fault (none_ready f f.ready stands.ready) unchanged).same
 
   pub begun_sound_feed : IsSoundFeed f → IsSoundFeed begun
-  begun_sound_feed sound =
-      let place = ap (λ (s : LineState). s.place) anew.same in
-      let line = ap (λ (s : LineState). s.line) anew.same in
-      record {
-        room = record {
-          fits = omega (arith, place, ap length kept, sound.room.fits);
-          few_lines = omega (arith, place, line, sound.room.few_lines);
-        };
-        state = subst (λ x. StandsSo x begun) (sym none_ready_yet)
-            (λ no_fault. ([], held.items, begun_open (record f.state { scan = scan }) begun anew));
-      }
+  begun_sound_feed sound = sound_unchanged f begun sound unchanged
 
 -- the lines that the code has found in the first of these bytes, after which the scan of the next line begins
 module _ (f : Feed) (bytes : List ℕ) (before stop : ℕ) (p : Passed) (stands : StandsAtLine (scanning_of f)) (began : take (length f.held.items) bytes ≡ f.held.items) (stop_is : stop ≡ min before (length bytes)) (found : BeginWithLines (take stop bytes) p) (some : 0 < p.len) where

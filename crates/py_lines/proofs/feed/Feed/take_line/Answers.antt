@@ -4,7 +4,8 @@ use Rattle.py_lines.specs.declared.fault.LexError.{LexError}
 use Rattle.py_lines.specs.declared.feed.Feed.{Feed}
 use Rattle.py_lines.specs.Private.Feed.{TakesChunk}
 use Rattle.py_lines.specs.Private.LineState.{first_mode}
-use Rattle.py_lines.proofs.Feeds.GivenBack.{end_within, line_ended, line_taken, refused_unchanged}
+use Rattle.py_lines.proofs.Feeds.GivenBack.{end_within, line_ended, line_taken}
+use Rattle.py_lines.proofs.Feeds.Loops.{begun_unchanged}
 use Rattle.py_lines.proofs.feed.Feed.take_line.Goals as goal
 
 pub whole_end-len-requires : goal.whole_end-len-requires
@@ -29,6 +30,6 @@ returns c =
 pub returns-in-Err : goal.returns-in-Err
 returns-in-Err c =
     let f = c.args.self.now in
-    let new : Feed = record f { state = c.restart.new.self } in
-    subst (λ (e : LexError). TakesChunk f c.args.chunk.now (Err e) (record new { held = c.hold_first.new.held })) (sym c.into.ensures)
-    (refused_unchanged f f.held c.hold_first.new.held new c.requires.not_ready c.in-Err.ensures.err (record { same = refl; begins = c.restart.ensures }))
+    let new : Feed = record f { state = c.restart.new.self; held = c.hold_first.new.held } in
+    subst (λ (e : LexError). TakesChunk f c.args.chunk.now (Err e) new) (sym c.into.ensures)
+    (begun_unchanged f new f.state c.requires.not_ready refl c.in-Err.ensures.err refl refl refl c.restart.ensures)

@@ -7,7 +7,7 @@ use Rattle.py_lines.specs.Private.Feed.{KeepsText, TakesChunk}
 use Rattle.py_lines.proofs.Feeds.Characters.{stops_held}
 use Rattle.std.proofs.lemmas.Result.{err_from_is_err_and}
 use Rattle.py_lines.proofs.Feeds.Chunks.{chunk_fault}
-use Rattle.py_lines.proofs.Feeds.GivenBack.{refused_unchanged}
+use Rattle.py_lines.proofs.Feeds.Loops.{begun_unchanged}
 use Rattle.py_lines.proofs.feed.Feed.take_scanned.Goals as goal
 
 pub meet-requires : goal.meet-requires
@@ -26,10 +26,9 @@ meet-requires c =
 pub returns-in-Err : goal.returns-in-Err
 returns-in-Err c =
     let f = c.args.self.now in
-    let held = c.extend_from_slice.new.self in
-    let new : Feed = record f { state = c.restart.new.self } in
-    subst (λ (e : LexError). TakesChunk f c.args.chunk.now (Err e) (record new { held = held })) (sym c.into.ensures)
-    (refused_unchanged f f.held held new c.requires.not_ready c.in-Err.ensures.items (record { same = refl; begins = c.restart.ensures }))
+    let new : Feed = record f { state = c.restart.new.self; held = c.extend_from_slice.new.self } in
+    subst (λ (e : LexError). TakesChunk f c.args.chunk.now (Err e) new) (sym c.into.ensures)
+    (begun_unchanged f new f.state c.requires.not_ready refl c.in-Err.ensures.items refl refl refl c.restart.ensures)
 
 pub returns-in_err-meet : goal.returns-in_err-meet
 returns-in_err-meet c =

@@ -1,4 +1,4 @@
-use Rattle.py_lines.proofs.Feeds.ReleasedHeld.{release_seen}
+use Rattle.py_lines.proofs.Feeds.Released.{release_seen}
 use Rattle.py_lines.proofs.scanner.Scanner.release.Goals as goal
 
 pub invariant_of-self : goal.invariant_of-self
