@@ -1,12 +1,12 @@
 -- Lines that a scanner passed over are the next ones of each text that goes on with them.
-use Rattle.std.proofs.Common.{take-suc, ◌≡◌, ℕ, suc, ◌+◌, ◌-◌, ◌<◌, ◌≤◌, ◌^◌, ⊎_elim, inl, inr, Bool, true, false, Option, None, Some, List, [], ◌∷◌, ◌++◌, length, take, drop, slice_index, refl, sym, ap, ◌∙◌, subst, append_assoc, append-nil, arith, length-append}
+use Rattle.std.proofs.Common.{take-suc, ◌≡◌, ℕ, suc, ◌+◌, ◌-◌, ◌<◌, ◌≤◌, ◌^◌, ⊎_elim, inl, inr, true, Option, None, Some, List, [], ◌∷◌, ◌++◌, length, take, drop, slice_index, refl, sym, ap, ◌∙◌, subst, append_assoc, append-nil, arith, length-append}
 use Rattle.std.specs.Prelude.{encode_utf8_all, flat_map, min}
 use Rattle.std.specs.Global.{Vec}
 use Rattle.std.proofs.lemmas.Bool.{both_ways, false_from_ne_true}
 use Rattle.std.proofs.lemmas.List.{drop_more, length-drop, length-take-le, length-take}
 use Rattle.std.proofs.lemmas.Str.{encodes-append, length-le-encodes}
 use Rattle.py_lines.specs.Character.{is_return}
-use Rattle.py_lines.specs.Piece.{Piece, ends, spelled}
+use Rattle.py_lines.specs.Piece.{ends}
 use Rattle.py_lines.specs.LogicalLine.{LogicalLine, byte_len, first_or_zero, line_of}
 use Rattle.py_lines.specs.Settled.{IsSettled}
 use Rattle.py_lines.specs.Given.{AreFirstLines}
@@ -17,108 +17,26 @@ use Rattle.py_lines.specs.declared.line_state.LineState.{LineState}
 use Rattle.py_lines.specs.declared.plain_strings.Passed.{Passed}
 use Rattle.py_lines.specs.declared.scan.Scan.{Scan}
 use Rattle.py_lines.specs.Private.Feed.{IsSoundFeed, IsUnchanged, StandsSo}
-use Rattle.py_lines.specs.Private.LineState.{BeginsAnew, first_mode}
-use Rattle.py_lines.specs.Private.Scan.{EndsWhole, line_start}
-use Rattle.py_lines.specs.Private.Outline.{AreWholeLines, BeginWithLines, IsWholeLine}
+use Rattle.py_lines.specs.Private.LineState.{BeginsAnew}
+use Rattle.py_lines.specs.Private.Scan.{EndsWhole}
+use Rattle.py_lines.specs.Private.Outline.{AreWholeLines, BeginWithLines}
 use Rattle.py_lines.proofs.SimpleLines.Tails.{return_returns}
 use Rattle.py_lines.proofs.SimpleLines.Lines.{lines_few}
 use Rattle.py_lines.proofs.Lexings.SettledFits.{ends-append}
 use Rattle.py_lines.proofs.LineScan.LineCount.{ends-last}
-use Rattle.py_lines.proofs.LineScan.LineSteps.{follows_whole}
 use Rattle.py_lines.proofs.Text.CharacterTests.{return_is}
-use Rattle.py_lines.proofs.Readers.LineAnswers.{IsReadLine}
-use Rattle.py_lines.proofs.Readers.PassedLines.{passed_line, take_slice, whole_read}
-use Rattle.py_lines.proofs.Feeds.Known.{IsKnown, goes_with_first, is_known}
+use Rattle.py_lines.proofs.Readers.PassedLines.{AreSettledAt, line_settled, lines_at, lines_spell, shown, take_slice}
+use Rattle.py_lines.proofs.Feeds.Known.{goes_with_first}
 use Rattle.py_lines.proofs.Feeds.LastBytes.{ends-encoded}
-use Rattle.py_lines.proofs.Feeds.SettledSoFar.{Follow, IsNextLine, settled_ready}
-use Rattle.py_lines.proofs.Feeds.Released.{goes_after, released}
+use Rattle.py_lines.proofs.Feeds.Released.{goes_after}
 use Rattle.py_lines.proofs.Feeds.Loops.{begun_open, begun_unchanged}
 use Rattle.py_lines.proofs.Feeds.FedScanner.{runs_short, sound_unchanged}
-
--- the logical lines of the lines that were found, from this byte and line of a text on
-abbrev lines_at : (texts : List (List ℕ)) (place line : ℕ) (read : List ℕ) (n : ℕ) (after : List ℕ) → AreWholeLines texts read n after → List LogicalLine
-lines_at [] place line read n after are = []
-lines_at (t ∷ texts) place line read n after are = line_of place line (are.whole.body ++ are.whole.last ∷ []) ∷ lines_at texts (place + byte_len t) (line + are.own) are.later are.more after are.lines
-
--- what they spell
-lines_spell : (texts : List (List ℕ)) (place line : ℕ) (read : List ℕ) (n : ℕ) (after : List ℕ) (are : AreWholeLines texts read n after) → flat_map (λ (l : LogicalLine). l.text) (lines_at texts place line read n after are) ≡ encode_utf8_all read
-lines_spell [] place line read n after are = ap encode_utf8_all (sym are.0)
-lines_spell (t ∷ texts) place line read n after are =
-    let others = flat_map (λ (l : LogicalLine). l.text) (lines_at texts (place + byte_len t) (line + are.own) are.later are.more after are.lines) in
-    ap (λ u. u ++ others) (ap encode_utf8_all (passed_line t are.own (encode_utf8_all are.later ++ after) are.whole).spell)
-    ∙ ap (λ u. encode_utf8_all t ++ u) (lines_spell texts (place + byte_len t) (line + are.own) are.later are.more after are.lines)
-    ∙ sym (ap encode_utf8_all are.spell ∙ encodes-append t are.later)
-
--- after a line these bytes are known, which show that it has ended, and then come these
-record IsShown (line following : List ℕ) : Type 0 where
-  more : List ℕ
-  unseen : List ℕ
-  exact : EndsExactly line more
-  spell : following ≡ more ++ unseen
-
-shown : (line following : List ℕ) → EndsWhole line following → IsShown line following
-shown line following whole = by (ends is_return line) refl whole
-  where
-    by : (b : Bool) → ends is_return line ≡ b → EndsWhole line following → IsShown line following
-    by false other ended = record { more = []; unseen = following; exact = inl (other, refl); spell = refl }
-    by true is (inl feed) = absurd (both_ways _ feed is)
-    by true is (inr (b, others, spell, other)) = record { more = b ∷ []; unseen = others; exact = inr (is, (b, refl, other)); spell = spell }
 
 -- which bytes come after the first of those that follow is no matter
 same_first : (line xs others more : List ℕ) → 0 < length xs → EndsWhole line (xs ++ others) → EndsWhole line (xs ++ more)
 same_first line [] others more some whole = absurd (omega (arith, some))
 same_first line (x ∷ xs) others more some (inl feed) = inl feed
 same_first line (x ∷ xs) others more some (inr (b, rest, is, other)) = inr (x, xs ++ more, refl, λ feeds. other (ap first_or_zero (sym is) ∙ feeds))
-
-exactly_whole : (line more : List ℕ) → EndsExactly line more → EndsWhole line more
-exactly_whole line more (inl (feed, none)) = inl feed
-exactly_whole line more (inr (is, (b, one, other))) = inr (b, [], one, other)
-
-follow_of : (u : List Piece) (line more : List ℕ) → spelled u ≡ line → EndsExactly line more → Follow u more
-follow_of u line more spell (inl (feed, none)) = Follow.by_feed none (ap (ends is_return) spell ∙ feed)
-follow_of u line more spell (inr (is, (b, one, other))) = Follow.by_byte b one other
-
--- the bytes of a text up to a place, and so many more, settle these lines, and they are its first
-abbrev AreSettledAt : List ℕ → ℕ → ℕ → ℕ → List LogicalLine → Type 0
-AreSettledAt text place line known lines = AreFirstLines text place line lines × IsSettled (take (place + known) text) lines
-
--- a line that the text goes on with, and what is known after it
-module _ (text : List ℕ) (place line : ℕ) (given : List LogicalLine) (first : AreFirstLines text place line given) (read more : List ℕ) (n : ℕ) (some : 0 < length read) (goes : GoesOnWith text place (encode_utf8_all read ++ more)) (exact : EndsExactly read more) (after : List ℕ) (whole : IsWholeLine read n after) where
-  abbrev pieces : List Piece
-  pieces = whole.body ++ whole.last ∷ []
-
-  known : IsKnown text place line given read more
-  known = is_known text place line given read more first whole.holds.scalars goes (omega (arith, some, length-le-encodes read, length-append (encode_utf8_all read) more))
-
-  as_line : IsReadLine (line_start (first_mode place)) read pieces
-  as_line = whole_read place read n after some whole
-
-  next : IsNextLine place read known.more pieces
-  next = record {
-    body = whole.body;
-    last = whole.last;
-    is = refl;
-    class = whole.are.class;
-    level = whole.are.level;
-    spell = as_line.spell;
-    fit = (passed_line read n after whole).fit known.more (follows_whole read more known.more known.tail known.beyond (exactly_whole read more exact) known.follow);
-    whole = as_line.whole;
-    stacked = as_line.stacked;
-    strings = as_line.strings;
-    to = as_line.to;
-    steps = as_line.steps;
-  }
-
-  settled : IsSettled (take (place + length (encode_utf8_all read ++ more)) text) (given ++ line_of place line pieces ∷ [])
-  settled = settled_ready text place line given read more known pieces next (follow_of pieces read more as_line.spell exact)
-
-  line_settled : AreSettledAt text (place + byte_len read) (line + n) (length more) (given ++ line_of place line pieces ∷ [])
-  line_settled =
-      let sizes : place + length (encode_utf8_all read ++ more) ≡ place + byte_len read + length more = omega (arith, length-append (encode_utf8_all read) more) in (
-        subst (λ (m : ℕ). AreFirstLines text (place + byte_len read) (line + m) (given ++ line_of place line pieces ∷ [])) whole.holds.count
-            (released text place line given read more known (line_of place line pieces) (ap encode_utf8_all as_line.spell) settled),
-        subst (λ (m : ℕ). IsSettled (take m text) (given ++ line_of place line pieces ∷ [])) sizes settled,
-      )
 
 -- what is known after the last of some lines is known after all of them
 last_exact : (read line later more : List ℕ) → read ≡ line ++ later → 0 < length later → EndsExactly read more → EndsExactly later more

@@ -3,7 +3,7 @@ use Rattle.std.proofs.Common.{◌≡◌, ℕ, ◌+◌, ◌-◌, ◌<◌, ◌≤�
 use Rattle.std.specs.Prelude.{encode_utf8_all, if◌then◌else◌, encode_utf8}
 use Rattle.std.specs.Str.{StartsWithNoChar, all_scalars}
 use Rattle.std.proofs.lemmas.Bool.{both_ways, and_from, eq-eqb, and_parts}
-use Rattle.std.proofs.lemmas.List.{drop_all, nil_from_length, drop-append-le, take_all, take-append-drop}
+use Rattle.std.proofs.lemmas.List.{drop_all, nil_from_length, take_all}
 use Rattle.std.proofs.lemmas.Str.{length-le-encodes, encodes_same}
 use Rattle.py_lines.specs.Piece.{Piece, line_end, spelled}
 use Rattle.py_lines.specs.Balance.{depth_after, depth_through}
@@ -39,7 +39,7 @@ use Rattle.py_lines.proofs.LineScan.TextSteps.{begun_sound}
 use Rattle.py_lines.proofs.Lexings.GivenLines.{IsEnded}
 use Rattle.py_lines.proofs.Feeds.DecidedSoFar.{way_open, by_character}
 use Rattle.py_lines.proofs.Feeds.Ended.{ended_bytes, ended_unfinished}
-use Rattle.py_lines.proofs.Readers.LineAnswers.{IsScannedLine, Within, continues, end_len-push, prefix_spells, rest_text}
+use Rattle.py_lines.proofs.Readers.LineAnswers.{IsScannedLine, Within, continues, end_len-push, prefix_spells, rest_text, text_from}
 use Rattle.py_lines.proofs.Readers.LineFaults.{unfinished_within, Within, refused_within}
 use Rattle.std.specs.Borrow.{Bor}
 use Rattle.std.specs.Char.{IsScalar}
@@ -72,12 +72,7 @@ module _ (old : Source) (stop : Stop) (has : HasScanned old stop) where
   left = has.scans.rest ++ tail
 
   all_spell : encode_utf8_all has.scans.read ++ left ≡ drop old.state.place old.bytes.now
-  all_spell =
-      let whole : old.characters.now ++ tail ≡ old.bytes.now = ap (λ t. t ++ tail) old.prefix ∙ take-append-drop (length old.characters.now) old.bytes.now in
-      sym (append_assoc (encode_utf8_all has.scans.read) has.scans.rest tail)
-      ∙ ap (λ t. t ++ tail) has.scans.spell
-      ∙ sym (drop-append-le old.state.place old.characters.now tail old.within)
-      ∙ ap (drop old.state.place) whole
+  all_spell = sym (append_assoc (encode_utf8_all has.scans.read) has.scans.rest tail) ∙ ap (λ t. t ++ tail) has.scans.spell ∙ text_from old
 
   goes : GoesOnWith old.bytes.now old.state.place (drop old.state.place old.bytes.now)
   goes = take_all (length (drop old.state.place old.bytes.now)) (drop old.state.place old.bytes.now) (omega arith)

@@ -3,14 +3,14 @@ use Rattle.std.proofs.Common.{◌≡◌, ℕ, ◌+◌, ◌-◌, ◌<◌, ◌≤�
 use Rattle.std.specs.Prelude.{encode_utf8_all, IsUtf8}
 use Rattle.std.specs.Str.{all_scalars, IsCharBoundary}
 use Rattle.std.specs.Borrow.{Bor}
-use Rattle.std.proofs.lemmas.List.{take-append-drop}
+use Rattle.std.proofs.lemmas.List.{drop-append-le, take-append-drop}
 use Rattle.std.proofs.lemmas.Str.{length-le-encodes, encodes-append, IsUtf8-drop, IsUtf8-had, IsCharBoundary-from_rest, IsCharBoundary-at_seam}
 use Rattle.std.proofs.Math.Seq.{take-append_seam}
 use Rattle.py_lines.specs.Piece.{Class, line_end, Piece, spelled}
 use Rattle.py_lines.specs.Fields.{InClass, AreReadBefore}
 use Rattle.py_lines.specs.Reading.{Decodes}
 use Rattle.py_lines.specs.LogicalLine.{LogicalLine, cut, byte_len, line_ends, line_of, end_len_of}
-use Rattle.py_lines.specs.Reader.{Reader, HasGiven, Continues, standing_at}
+use Rattle.py_lines.specs.Reader.{HasGiven, Continues, standing_at}
 use Rattle.py_lines.specs.Private.Machine.{Scanned, brackets_of}
 use Rattle.py_lines.specs.Private.ScanMachine.{scan_steps, StringsFit}
 use Rattle.py_lines.specs.declared.line_state.LineState.{LineState}
@@ -71,6 +71,12 @@ line_text m scan read end_len u scalars line = record {
   strings = line.line.strings;
 }
 
+-- the text after the place of the reader: its characters, and then bytes that begin none
+pub text_from : (s : Source) → drop s.state.place s.characters.now ++ drop (length s.characters.now) s.bytes.now ≡ drop s.state.place s.bytes.now
+text_from s =
+    let tail = drop (length s.characters.now) s.bytes.now in
+    sym (drop-append-le s.state.place s.characters.now tail s.within) ∙ ap (drop s.state.place) (ap (λ t. t ++ tail) s.prefix ∙ take-append-drop (length s.characters.now) s.bytes.now)
+
 -- what follows a place in the scanned line is text, and the place is a boundary
 pub prefix_spells : (s : Source) (stop : Stop) (has : HasScanned s stop) (offset : ℕ) (w : Within has.scans.read offset) → encode_utf8_all w.prefix ++ (encode_utf8_all w.later ++ has.scans.rest) ≡ drop s.state.place s.characters.now
 prefix_spells s stop has offset w = sym (append_assoc (encode_utf8_all w.prefix) (encode_utf8_all w.later) has.scans.rest) ∙ ap (λ t. t ++ has.scans.rest) (sym (encodes-append w.prefix w.later) ∙ ap encode_utf8_all w.split) ∙ has.scans.spell
@@ -118,45 +124,35 @@ given_line old new stop has end_len u line gives =
 lie_in_line : (new : Source) (offset number : ℕ) (u : List Piece) → line_of_source new ≡ line_of offset number u → all_scalars (spelled u) ≡ true → EachLiesIn (line_of_source new).text new.state.tokens.tokens.items
 lie_in_line new offset number u is scalars = subst (λ (l : LogicalLine). EachLiesIn l.text l.tokens) (sym is) (tokens_lie number u scalars)
 
--- what a line that was read whole continues
-module _ (old : Source) (new : Reader) (read rest : List ℕ) (u : List Piece) (scalars : all_scalars read ≡ true) (split : encode_utf8_all read ++ rest ≡ drop old.state.place old.characters.now) (more : old.state.place < length old.bytes.now) (no_fault : old.state.fault ≡ None)
-    (line : IsReadLine (line_start (first_mode old.state.place)) read u) (text : new.text ≡ old.bytes.now) (here : new.place ≡ old.state.place + byte_len read) (within : new.place ≤ length new.text) (reached : new.line ≡ old.state.line + line_ends read) (no_new_fault : new.fault ≡ None)
-    (fit : (lines : List LogicalLine) (s : Situation (reader_of old) old.characters.now lines read rest) → AreReadBefore u s.after)
-    (ended : (lines : List LogicalLine) (s : Situation (reader_of old) old.characters.now lines read rest) → IsEnded u (s.after ++ s.given.first.tail ≡ [])) where
-  one_more_given : (lines : List LogicalLine) → HasGiven (reader_of old) lines → HasGiven new (lines ++ line_of old.state.place old.state.line u ∷ [])
-  one_more_given lines given =
-      let s = situate (reader_of old) old.characters.now lines read rest given (IsUtf8-had _ old.text) old.prefix old.bad more split in
-      let base_fit = subst (AreReadBefore s.given.first.pieces) s.split s.given.first.fit in
-      let base = base_of old.state.place s.given.first.pieces (read ++ s.after) base_fit s.ends s.given.first.here in
-      one_more (reader_of old) new old.characters.now lines read rest u s line.spell (fit lines s) (follows_base old.state.place s.given.first.pieces u read s.after line.to base line.spell (fit lines s) line.steps) line.stacked line.strings line.whole (ended lines s) text here reached no_new_fault
-
-  pub continues_as : Continues (reader_of old) (line_of old.state.place old.state.line u) new
-  continues_as =
-      let size : byte_len (spelled u) ≡ byte_len read = ap byte_len line.spell in
-      record {
-        given = one_more_given;
-        begins = λ lines given. given_begin new (lines ++ line_of old.state.place old.state.line u ∷ []) (one_more_given lines given);
-        text = text;
-        place = here ∙ ap (λ (n : ℕ). old.state.place + n) (sym size);
-        some_text = omega (arith, size, line.some);
-        within = within;
-        fault = no_fault;
-        no_fault = no_new_fault;
-      }
-
 -- one more line was given
 pub continues : (old new : Source) (stop : Stop) (has : HasScanned old stop) (end_len : ℕ) (u : List Piece) → IsScannedLine (line_start (first_mode old.state.place)) old.state.scan has.scans.read end_len u → GivesTokens old end_len new
     → ((lines : List LogicalLine) (s : Situation (reader_of old) old.characters.now lines has.scans.read has.scans.rest) → AreReadBefore u s.after)
     → ((lines : List LogicalLine) (s : Situation (reader_of old) old.characters.now lines has.scans.read has.scans.rest) → IsEnded u (s.after ++ s.given.first.tail ≡ []))
     → Continues (reader_of old) (line_of_source new) (reader_of new) × EachLiesIn (line_of_source new).text new.state.tokens.tokens.items
 continues old new stop has end_len u line gives fit ended =
+    let read = has.scans.read in
+    let next = line_of old.state.place old.state.line u in
     let is = given_line old new stop has end_len u line gives in
     let text : new.bytes.now ≡ old.bytes.now = ap (λ (b : Bor (List ℕ)). b.now) gives.bytes in
-    let here : new.state.place ≡ old.state.place + byte_len has.scans.read = ap (λ (s : LineState). s.place) gives.state ∙ ap (λ (n : ℕ). old.state.place + n) line.stop in
+    let here : new.state.place ≡ old.state.place + byte_len read = ap (λ (s : LineState). s.place) gives.state ∙ ap (λ (n : ℕ). old.state.place + n) line.stop in
     let no_fault : new.state.fault ≡ None = ap (λ (s : LineState). s.fault) gives.state ∙ has.no_fault in
-    let reached : new.state.line ≡ old.state.line + line_ends has.scans.read = ap (λ (s : LineState). s.line) gives.state ∙ line.here ∙ ap (λ (n : ℕ). n + line_ends has.scans.read) has.line in
-    let within : new.state.place ≤ length new.bytes.now = omega (arith, new.within, ap length new.prefix, length-take (length new.characters.now) new.bytes.now) in (
-      subst (λ (l : LogicalLine). Continues (reader_of old) l (reader_of new)) (sym is) (continues_as old (reader_of new) has.scans.read has.scans.rest u has.scans.scalars has.scans.spell has.more has.no_fault line.line text here within reached no_fault fit ended),
+    let reached : new.state.line ≡ old.state.line + line_ends read = ap (λ (s : LineState). s.line) gives.state ∙ line.here ∙ ap (λ (n : ℕ). n + line_ends read) has.line in
+    let size : byte_len (spelled u) ≡ byte_len read = ap byte_len line.line.spell in
+    let given : (lines : List LogicalLine) → HasGiven (reader_of old) lines → HasGiven (reader_of new) (lines ++ next ∷ []) = λ lines had.
+    let s = situate (reader_of old) old.characters.now lines read has.scans.rest had (IsUtf8-had _ old.text) old.prefix old.bad has.more has.scans.spell in
+    let base = base_of old.state.place s.given.first.pieces (read ++ s.after) (subst (AreReadBefore s.given.first.pieces) s.split s.given.first.fit) s.ends s.given.first.here in
+    one_more (reader_of old) (reader_of new) old.characters.now lines read has.scans.rest u s line.line.spell (fit lines s) (follows_base old.state.place s.given.first.pieces u read s.after line.line.to base line.line.spell (fit lines s) line.line.steps) line.line.stacked line.line.strings line.line.whole (ended lines s) text here reached no_fault in
+    let goes_on : Continues (reader_of old) next (reader_of new) = record {
+      given = given;
+      begins = λ lines had. given_begin (reader_of new) (lines ++ next ∷ []) (given lines had);
+      text = text;
+      place = here ∙ ap (λ (n : ℕ). old.state.place + n) (sym size);
+      some_text = omega (arith, size, line.line.some);
+      within = omega (arith, new.within, ap length new.prefix, length-take (length new.characters.now) new.bytes.now);
+      fault = has.no_fault;
+      no_fault = no_fault;
+    } in (
+      subst (λ (l : LogicalLine). Continues (reader_of old) l (reader_of new)) (sym is) goes_on,
       lie_in_line new old.state.place old.state.line u is (ap all_scalars line.line.spell ∙ has.scans.scalars),
     )
 

@@ -1,17 +1,17 @@
 -- Lines that were passed over are the text's next.
-use Rattle.std.proofs.Common.{◌≡◌, ℕ, zero, suc, ◌+◌, ◌-◌, ◌<◌, ◌≤◌, inl, inr, true, false, None, Some, List, [], ◌∷◌, ◌++◌, length, take, drop, refl, sym, ap, ◌∙◌, subst, append_assoc, append-nil, arith}
-use Rattle.std.specs.Prelude.{encode_utf8_all, slice_range}
+use Rattle.std.proofs.Common.{◌≡◌, ℕ, zero, suc, ◌+◌, ◌-◌, ◌<◌, ◌≤◌, inl, inr, true, false, None, Some, List, [], ◌∷◌, ◌++◌, length, take, drop, refl, sym, ap, ◌∙◌, subst, append_assoc, append-nil, arith, Bool, length-append}
+use Rattle.std.specs.Prelude.{encode_utf8_all, flat_map}
 use Rattle.std.specs.Str.{all_scalars, IsCharBoundary, IsUtf8}
-use Rattle.std.proofs.lemmas.List.{drop-drop, drop-take, length-append, length-take, length-take-le, length-drop, take-append-drop, take-append-le}
+use Rattle.std.proofs.lemmas.List.{drop-drop, length-append, length-take-le, length-drop, take-append-drop, take-append-le, take_all}
 use Rattle.std.proofs.lemmas.Str.{IsCharBoundary-from_rest, IsCharBoundary-from_take, IsUtf8-drop, IsUtf8-had, encodes-append, length-le-encodes}
 use Rattle.std.proofs.Math.Seq.{drop-append_seam, take-append_seam}
-use Rattle.std.proofs.lemmas.Bool.{cond_both}
+use Rattle.std.proofs.lemmas.Bool.{cond_both, both_ways}
 use Rattle.py_lines.specs.Character.{is_line_feed, is_mark, is_return}
 use Rattle.py_lines.specs.Fields.{AreReadBefore}
 use Rattle.py_lines.specs.Piece.{line_end, Piece, begins, ends, spelled}
 use Rattle.py_lines.specs.LogicalLine.{LogicalLine, byte_len, line_of}
 use Rattle.py_lines.specs.Lines.{PassesUpTo}
-use Rattle.py_lines.specs.Reader.{Reader, PassesLine, PassesLines}
+use Rattle.py_lines.specs.Reader.{Reader, PassesLine, PassesLines, HasGiven}
 use Rattle.py_lines.specs.Reader.View.{reader_of}
 use Rattle.py_lines.specs.declared.mode.Mode.TheVariants as modes
 use Rattle.py_lines.specs.declared.mode.Move.{Move}
@@ -21,20 +21,26 @@ use Rattle.py_lines.specs.declared.source.Source.{Source}
 use Rattle.py_lines.specs.Private.LineState.{first_mode}
 use Rattle.py_lines.specs.Private.Machine.{Scanned, moved, move_of, started}
 use Rattle.py_lines.specs.Private.ScanMachine.{IsScanSound, StringsFit, meet_of, scan_steps}
-use Rattle.py_lines.specs.Private.Scan.{line_start}
+use Rattle.py_lines.specs.Private.Scan.{line_start, EndsWhole}
 use Rattle.py_lines.specs.Private.Outline.{AreWholeLines, BeginWithLines, IsEndedBy, IsWholeLine}
 use Rattle.py_lines.proofs.Pieces.PieceLists.{piece, spelled-push}
 use Rattle.py_lines.proofs.Machine.Starts.{start-mark}
-use Rattle.py_lines.proofs.Lexings.GivenLines.{IsEnded}
 use Rattle.py_lines.proofs.Lexings.LineEnds.{line_string}
-use Rattle.py_lines.proofs.LineScan.LineCount.{ends-last, line_ends-bytes}
+use Rattle.py_lines.proofs.LineScan.LineCount.{ends-last}
 use Rattle.py_lines.proofs.LineScan.LineSteps.{follows_whole, returned_fit, sound_steps}
 use Rattle.py_lines.proofs.LineScan.PieceEnd.{no_class_bracket}
 use Rattle.py_lines.proofs.LineScan.TextSteps.{begun_sound}
 use Rattle.py_lines.proofs.LogicalLines.Cuts.{one_line}
 use Rattle.py_lines.proofs.SimpleLines.Tails.{ended_stack, return_returns}
 use Rattle.py_lines.proofs.SimpleLines.Lines.{lines_few, lines_scalars}
-use Rattle.py_lines.proofs.Readers.LineAnswers.{IsReadLine, continues_as}
+use Rattle.py_lines.proofs.Readers.LineAnswers.{IsReadLine, text_from}
+use Rattle.py_lines.specs.Settled.{IsSettled}
+use Rattle.py_lines.specs.Given.{AreFirstLines}
+use Rattle.py_lines.specs.ScannerState.{EndsExactly, GoesOnWith}
+use Rattle.py_lines.proofs.Feeds.Known.{IsKnown, goes_with_first, is_known}
+use Rattle.py_lines.proofs.Feeds.SettledSoFar.{Follow, IsNextLine, settled_ready}
+use Rattle.py_lines.proofs.Feeds.Released.{released}
+use Rattle.py_lines.proofs.Lexings.FirstLines.{given_begin}
 
 -- the pieces of a line that was passed, and what may follow them
 pub record IsPassedLine (read : List ℕ) (pieces : List Piece) : Type 0 where
@@ -96,15 +102,6 @@ whole_read place read n after some line =
 pub take_slice : (bytes : List ℕ) (n k : ℕ) → n ≤ length (take k bytes) → take n (take k bytes) ≡ take n bytes
 take_slice bytes n k within = sym (take-append-le n (take k bytes) (drop k bytes) within) ∙ ap (take n) (take-append-drop k bytes)
 
--- bytes after a place are those of the text from there on
-place_slice : (text : List ℕ) (place len all : ℕ) → place + len ≤ all → all ≤ length text → take len (drop place (take all text)) ≡ take len (drop place text)
-place_slice text place len all within whole =
-    let more = all - place in
-    let parts : all ≡ place + more = omega (arith, within) in
-    ap (λ (k : ℕ). take len (drop place (take k text))) parts
-    ∙ ap (take len) (drop-take place more text)
-    ∙ take_slice (drop place text) len more (omega (arith, within, whole, parts, length-take-le more (drop place text) (omega (arith, whole, parts, length-drop place text))))
-
 -- a character begins after whole characters
 whole_boundary : (s : Source) (len : ℕ) → s.state.place + len ≤ length s.characters.now → IsUtf8 (take len (drop s.state.place s.characters.now)) → IsCharBoundary s.characters.now (s.state.place + len)
 whole_boundary s len room utf8 =
@@ -113,109 +110,146 @@ whole_boundary s len room utf8 =
     let size : len ≤ length rest = omega (arith, room, length-drop s.state.place s.characters.now) in
     IsCharBoundary-from_rest s.characters.now s.state.place len place (IsCharBoundary-from_take rest len (IsUtf8-drop s.characters.now s.state.place (IsUtf8-had _ s.text) s.boundary) size utf8)
 
--- the reader after so many bytes and line ends
-abbrev pub further : Source → ℕ → ℕ → Reader
-further s len feeds = record { text = s.bytes.now; place = s.state.place + len; line = s.state.line + feeds; fault = s.state.fault }
+-- the logical lines of the lines that were found, from this byte and line of a text on
+abbrev pub lines_at : (texts : List (List ℕ)) (place line : ℕ) (read : List ℕ) (n : ℕ) (after : List ℕ) → AreWholeLines texts read n after → List LogicalLine
+lines_at [] place line read n after are = []
+lines_at (t ∷ texts) place line read n after are = line_of place line (are.whole.body ++ are.whole.last ∷ []) ∷ lines_at texts (place + byte_len t) (line + are.own) are.later are.more after are.lines
 
--- the same as a `Source`
-abbrev source_after : (s : Source) (len feeds : ℕ) → s.state.place + len ≤ length s.characters.now → feeds ≤ len → IsUtf8 (take len (drop s.state.place s.characters.now)) → Source
-source_after s len feeds room few utf8 = record {
-  bytes = s.bytes;
-  characters = s.characters;
-  start = s.state.place;
-  end_len = s.end_len;
-  state = record s.state { place = s.state.place + len; line = s.state.line + feeds };
-  text = s.text;
-  prefix = s.prefix;
-  bad = s.bad;
-  ordered = omega arith;
-  within = room;
-  boundary = whole_boundary s len room utf8;
-  start_boundary = s.boundary;
-  few_lines = omega (arith, few, s.few_lines);
-}
+-- what they spell
+pub lines_spell : (texts : List (List ℕ)) (place line : ℕ) (read : List ℕ) (n : ℕ) (after : List ℕ) (are : AreWholeLines texts read n after) → flat_map (λ (l : LogicalLine). l.text) (lines_at texts place line read n after are) ≡ encode_utf8_all read
+lines_spell [] place line read n after are = ap encode_utf8_all (sym are.0)
+lines_spell (t ∷ texts) place line read n after are =
+    let others = flat_map (λ (l : LogicalLine). l.text) (lines_at texts (place + byte_len t) (line + are.own) are.later are.more after are.lines) in
+    ap (λ u. u ++ others) (ap encode_utf8_all (passed_line t are.own (encode_utf8_all are.later ++ after) are.whole).spell)
+    ∙ ap (λ u. encode_utf8_all t ++ u) (lines_spell texts (place + byte_len t) (line + are.own) are.later are.more after are.lines)
+    ∙ sym (ap encode_utf8_all are.spell ∙ encodes-append t are.later)
 
--- a line whose bytes those after the reader's place begin with
-module _ (s : Source) (no_fault : s.state.fault ≡ None) (read : List ℕ) (n : ℕ) (after beyond : List ℕ) (some : 0 < length read) (room : s.state.place + byte_len read ≤ length s.characters.now)
-    (split : encode_utf8_all read ++ (after ++ beyond) ≡ drop s.state.place s.characters.now) (line : IsWholeLine read n after) where
-  prefix_long : length s.characters.now ≤ length s.bytes.now
-  prefix_long = omega (arith, ap length s.prefix, length-take (length s.characters.now) s.bytes.now)
+-- after a line these bytes are known, which show that it has ended, and then come these
+pub record IsShown (line following : List ℕ) : Type 0 where
+  pub more : List ℕ
+  pub unseen : List ℕ
+  pub exact : EndsExactly line more
+  pub spell : following ≡ more ++ unseen
 
+pub shown : (line following : List ℕ) → EndsWhole line following → IsShown line following
+shown line following whole = by (ends is_return line) refl whole
+  where
+    by : (b : Bool) → ends is_return line ≡ b → EndsWhole line following → IsShown line following
+    by false other ended = record { more = []; unseen = following; exact = inl (other, refl); spell = refl }
+    by true is (inl feed) = absurd (both_ways _ feed is)
+    by true is (inr (b, others, spell, other)) = record { more = b ∷ []; unseen = others; exact = inr (is, (b, refl, other)); spell = spell }
+
+exactly_whole : (line more : List ℕ) → EndsExactly line more → EndsWhole line more
+exactly_whole line more (inl (feed, none)) = inl feed
+exactly_whole line more (inr (is, (b, one, other))) = inr (b, [], one, other)
+
+follow_of : (u : List Piece) (line more : List ℕ) → spelled u ≡ line → EndsExactly line more → Follow u more
+follow_of u line more spell (inl (feed, none)) = Follow.by_feed none (ap (ends is_return) spell ∙ feed)
+follow_of u line more spell (inr (is, (b, one, other))) = Follow.by_byte b one other
+
+-- the bytes of a text up to a place, and so many more, settle these lines, and they are its first
+abbrev pub AreSettledAt : List ℕ → ℕ → ℕ → ℕ → List LogicalLine → Type 0
+AreSettledAt text place line known lines = AreFirstLines text place line lines × IsSettled (take (place + known) text) lines
+
+-- a line that the text goes on with, and what is known after it
+module _ (text : List ℕ) (place line : ℕ) (given : List LogicalLine) (first : AreFirstLines text place line given) (read more : List ℕ) (n : ℕ) (some : 0 < length read) (goes : GoesOnWith text place (encode_utf8_all read ++ more)) (exact : EndsExactly read more) (after : List ℕ) (whole : IsWholeLine read n after) where
   abbrev pieces : List Piece
-  pieces = line.body ++ line.last ∷ []
+  pieces = whole.body ++ whole.last ∷ []
 
-  as_line : IsReadLine (line_start (first_mode s.state.place)) read pieces
-  as_line = whole_read s.state.place read n after some line
+  known : IsKnown text place line given read more
+  known = is_known text place line given read more first whole.holds.scalars goes (omega (arith, some, length-le-encodes read, length-append (encode_utf8_all read) more))
 
-  abbrev pub line_is : LogicalLine
-  line_is = line_of s.state.place s.state.line pieces
+  as_line : IsReadLine (line_start (first_mode place)) read pieces
+  as_line = whole_read place read n after some whole
 
-  pub own_bytes : take (byte_len read) (drop s.state.place s.characters.now) ≡ encode_utf8_all read
-  own_bytes = ap (take (byte_len read)) (sym split) ∙ take-append_seam (encode_utf8_all read) (after ++ beyond)
-
-  text : encode_utf8_all (spelled pieces) ≡ slice_range s.bytes.now s.state.place (s.state.place + byte_len read)
-  text =
-      let long : byte_len read ≡ s.state.place + byte_len read - s.state.place = omega arith in
-      ap encode_utf8_all as_line.spell
-      ∙ sym own_bytes
-      ∙ ap (λ t. take (byte_len read) (drop s.state.place t)) s.prefix
-      ∙ place_slice s.bytes.now s.state.place (byte_len read) (length s.characters.now) room prefix_long
-      ∙ ap (λ (k : ℕ). take k (drop s.state.place s.bytes.now)) long
-
-  pub passes_line : PassesLine (reader_of s) line_is (further s (byte_len read) n)
-  passes_line = record {
-    continues = continues_as s (further s (byte_len read) n) read (after ++ beyond) pieces line.holds.scalars split (omega (arith, some, length-le-encodes read, room, prefix_long)) no_fault as_line refl refl (omega (arith, room, prefix_long)) (ap (λ (k : ℕ). s.state.line + k) (sym line.holds.count)) no_fault
-        (λ lines t. (passed_line read n after line).fit t.after (follows_whole read after t.after [] beyond line.whole (append-nil (encode_utf8_all t.after) ∙ t.follow)))
-        (λ lines t. IsEnded.by_line line.body line.last refl line.are.class line.are.level);
-    text = text;
-    utf8 = (spelled pieces, (ap all_scalars as_line.spell ∙ line.holds.scalars, refl));
+  next : IsNextLine place read known.more pieces
+  next = record {
+    body = whole.body;
+    last = whole.last;
+    is = refl;
+    class = whole.are.class;
+    level = whole.are.level;
+    spell = as_line.spell;
+    fit = (passed_line read n after whole).fit known.more (follows_whole read more known.more known.tail known.beyond (exactly_whole read more exact) known.follow);
+    whole = as_line.whole;
+    stacked = as_line.stacked;
+    strings = as_line.strings;
+    to = as_line.to;
+    steps = as_line.steps;
   }
 
--- lines that they begin with
-pub record PassesAll (s : Source) (len n : ℕ) : Type 0 where
-  pub lines : List LogicalLine
-  pub passes : PassesLines (reader_of s) lines (further s len n)
+  settled : IsSettled (take (place + length (encode_utf8_all read ++ more)) text) (given ++ line_of place line pieces ∷ [])
+  settled = settled_ready text place line given read more known pieces next (follow_of pieces read more as_line.spell exact)
 
-pub passes_all : (texts : List (List ℕ)) (s : Source) (read : List ℕ) (n : ℕ) (after beyond : List ℕ) → s.state.fault ≡ None → s.state.place + byte_len read ≤ length s.characters.now → encode_utf8_all read ++ (after ++ beyond) ≡ drop s.state.place s.characters.now → AreWholeLines texts read n after → PassesAll s (byte_len read) n
-passes_all [] s read n after beyond no_fault room split are =
-    let size : byte_len read ≡ 0 = ap byte_len are.0 in
-    let place : s.state.place + byte_len read ≡ s.state.place = omega (arith, size) in
-    let line : s.state.line + n ≡ s.state.line = omega (arith, are.1) in
+  pub line_settled : AreSettledAt text (place + byte_len read) (line + n) (length more) (given ++ line_of place line pieces ∷ [])
+  line_settled =
+      let sizes : place + length (encode_utf8_all read ++ more) ≡ place + byte_len read + length more = omega (arith, length-append (encode_utf8_all read) more) in (
+        subst (λ (m : ℕ). AreFirstLines text (place + byte_len read) (line + m) (given ++ line_of place line pieces ∷ [])) whole.holds.count
+            (released text place line given read more known (line_of place line pieces) (ap encode_utf8_all as_line.spell) settled),
+        subst (λ (m : ℕ). IsSettled (take m text) (given ++ line_of place line pieces ∷ [])) sizes settled,
+      )
+
+-- the reader after so many bytes and line ends
+abbrev pub further : Reader → ℕ → ℕ → Reader
+further r len feeds = record { text = r.text; place = r.place + len; line = r.line + feeds; fault = r.fault }
+
+-- a line whose bytes those after the reader's place begin with
+passes_line : (r : Reader) → r.fault ≡ None → (read : List ℕ) (n : ℕ) (after beyond : List ℕ) → 0 < length read → encode_utf8_all read ++ (after ++ beyond) ≡ drop r.place r.text → (line : IsWholeLine read n after)
+    → PassesLine r (line_of r.place r.line (line.body ++ line.last ∷ [])) (further r (byte_len read) n)
+passes_line r no_fault read n after beyond some split line =
+    let bytes = encode_utf8_all read in
+    let u = line.body ++ line.last ∷ [] in
+    let new = further r (byte_len read) n in
+    let as_line = whole_read r.place read n after some line in
+    let spell : encode_utf8_all (spelled u) ≡ bytes = ap encode_utf8_all as_line.spell in
+    let own = shown read after line.whole in
+    let parts : (bytes ++ own.more) ++ (own.unseen ++ beyond) ≡ drop r.place r.text
+    = append_assoc bytes own.more (own.unseen ++ beyond) ∙ ap (λ t. bytes ++ t) (sym (append_assoc own.more own.unseen beyond) ∙ ap (λ t. t ++ beyond) (sym own.spell)) ∙ split in
+    let near : GoesOnWith r.text r.place (bytes ++ own.more) = goes_with_first r.text r.place (bytes ++ own.more) (own.unseen ++ beyond) (subst (GoesOnWith r.text r.place) (sym parts) (take_all (length (drop r.place r.text)) (drop r.place r.text) (omega arith))) in
+    let given : (lines : List LogicalLine) → HasGiven r lines → HasGiven new (lines ++ line_of r.place r.line u ∷ [])
+    = λ lines h. record { first = (line_settled r.text r.place r.line lines h.first read own.more n some near own.exact after line).0; no_fault = no_fault } in
+    let long : byte_len read ≡ r.place + byte_len read - r.place = omega arith in
     record {
-      lines = [];
-      passes = λ i. record { text = s.bytes.now; place = place i; line = line i; fault = s.state.fault };
+      continues = record {
+        given = given;
+        begins = λ lines h. given_begin new (lines ++ line_of r.place r.line u ∷ []) (given lines h);
+        text = refl;
+        place = ap (λ t. r.place + length t) (sym spell);
+        some_text = omega (arith, ap length spell, some, length-le-encodes read);
+        within = omega (arith, some, length-le-encodes read, ap length split, length-append bytes (after ++ beyond), length-drop r.place r.text);
+        fault = no_fault;
+        no_fault = no_fault;
+      };
+      text = spell ∙ sym (ap (take (byte_len read)) (sym split) ∙ take-append_seam bytes (after ++ beyond)) ∙ ap (λ (k : ℕ). take k (drop r.place r.text)) long;
+      utf8 = (spelled u, (ap all_scalars as_line.spell ∙ line.holds.scalars, refl));
     }
-passes_all (t ∷ texts) s read n after beyond no_fault room split are =
+
+-- lines that they begin with
+passes_all : (texts : List (List ℕ)) (r : Reader) (read : List ℕ) (n : ℕ) (after beyond : List ℕ) → r.fault ≡ None → encode_utf8_all read ++ (after ++ beyond) ≡ drop r.place r.text → (are : AreWholeLines texts read n after) → PassesLines r (lines_at texts r.place r.line read n after are) (further r (byte_len read) n)
+passes_all [] r read n after beyond no_fault split are =
+    let place : r.place + byte_len read ≡ r.place = omega (arith, ap byte_len are.0) in
+    let line : r.line + n ≡ r.line = omega (arith, are.1) in
+    λ i. record { text = r.text; place = place i; line = line i; fault = r.fault }
+passes_all (t ∷ texts) r read n after beyond no_fault split are =
     let own_bytes = encode_utf8_all t in
     let later_bytes = encode_utf8_all are.later in
     let all : encode_utf8_all read ≡ own_bytes ++ later_bytes = ap encode_utf8_all are.spell ∙ encodes-append t are.later in
-    let sizes : byte_len read ≡ byte_len t + byte_len are.later = ap length all ∙ length-append own_bytes later_bytes in
-    let own_room : s.state.place + byte_len t ≤ length s.characters.now = omega (arith, room, sizes) in
-    let parts : own_bytes ++ ((later_bytes ++ after) ++ beyond) ≡ drop s.state.place s.characters.now =
+    let parts : own_bytes ++ ((later_bytes ++ after) ++ beyond) ≡ drop r.place r.text =
     ap (λ u. own_bytes ++ u) (append_assoc later_bytes after beyond) ∙ sym (append_assoc own_bytes later_bytes (after ++ beyond)) ∙ ap (λ u. u ++ (after ++ beyond)) (sym all) ∙ split in
-    let own : take (byte_len t) (drop s.state.place s.characters.now) ≡ own_bytes = ap (take (byte_len t)) (sym parts) ∙ take-append_seam own_bytes ((later_bytes ++ after) ++ beyond) in
-    let few : are.own ≤ byte_len t = omega (arith, are.whole.holds.count, line_ends-bytes t) in
-    let mid = source_after s (byte_len t) are.own own_room few (t, (are.whole.holds.scalars, sym own)) in
-    let later_split : later_bytes ++ (after ++ beyond) ≡ drop (s.state.place + byte_len t) s.characters.now =
-    sym (append_assoc later_bytes after beyond) ∙ sym (drop-append_seam own_bytes ((later_bytes ++ after) ++ beyond)) ∙ ap (drop (byte_len t)) parts ∙ drop-drop (byte_len t) s.state.place s.characters.now in
-    let others = passes_all texts mid are.later are.more after beyond no_fault (omega (arith, room, sizes)) later_split are.lines in
-    let place : s.state.place + byte_len read ≡ s.state.place + byte_len t + byte_len are.later = omega (arith, sizes) in
-    let line : s.state.line + n ≡ s.state.line + are.own + are.more = omega (arith, are.count) in
-    record {
-      lines = line_is s no_fault t are.own (later_bytes ++ after) beyond are.some own_room parts are.whole ∷ others.lines;
-      passes = (
-        further s (byte_len t) are.own,
-        passes_line s no_fault t are.own (later_bytes ++ after) beyond are.some own_room parts are.whole,
-        subst (λ (r : Reader). PassesLines (further s (byte_len t) are.own) others.lines r) (sym (λ i. record { text = s.bytes.now; place = place i; line = line i; fault = s.state.fault })) others.passes,
-      );
-    }
+    let later_split : later_bytes ++ (after ++ beyond) ≡ drop (r.place + byte_len t) r.text =
+    sym (append_assoc later_bytes after beyond) ∙ sym (drop-append_seam own_bytes ((later_bytes ++ after) ++ beyond)) ∙ ap (drop (byte_len t)) parts ∙ drop-drop (byte_len t) r.place r.text in
+    let mid = further r (byte_len t) are.own in
+    let place : r.place + byte_len read ≡ r.place + byte_len t + byte_len are.later = omega (arith, ap length all, length-append own_bytes later_bytes) in
+    let line : r.line + n ≡ r.line + are.own + are.more = omega (arith, are.count) in (
+      mid,
+      passes_line r no_fault t are.own (later_bytes ++ after) beyond are.some parts are.whole,
+      subst (PassesLines mid (lines_at texts mid.place mid.line are.later are.more after are.lines)) (sym (λ i. record { text = r.text; place = place i; line = line i; fault = r.fault }))
+          (passes_all texts mid are.later are.more after beyond no_fault later_split are.lines),
+    )
 
 -- the lines that the code has found
 module _ (s : Source) (no_fault : s.state.fault ≡ None) (before : ℕ) (ordered : s.state.place < before) (within : before ≤ length s.characters.now)
     (p : Passed) (found : BeginWithLines (take (before - s.state.place) (drop s.state.place s.characters.now)) p) where
-  rest : List ℕ
-  rest = drop s.state.place s.characters.now
-
   read : List ℕ
   read = found.read
 
@@ -246,26 +280,27 @@ module _ (s : Source) (no_fault : s.state.fault ≡ None) (before : ℕ) (ordere
   boundary = whole_boundary s p.len (omega (arith, room, within)) (read, (lines_scalars found.texts read p.line_ends after are, sym spell))
 
   beyond : List ℕ
-  beyond = drop (before - s.state.place) (drop s.state.place s.characters.now)
+  beyond = drop (before - s.state.place) (drop s.state.place s.characters.now) ++ drop (length s.characters.now) s.bytes.now
 
-  split : encode_utf8_all read ++ (after ++ beyond) ≡ drop s.state.place s.characters.now
+  split : encode_utf8_all read ++ (after ++ beyond) ≡ drop s.state.place s.bytes.now
   unfolding read after beyond
   split =
-      let slice = take (before - s.state.place) (drop s.state.place s.characters.now) in
-      sym (append_assoc (encode_utf8_all found.read) (drop p.len slice) (drop (before - s.state.place) (drop s.state.place s.characters.now)))
-      ∙ ap (λ t. (t ++ drop p.len slice) ++ drop (before - s.state.place) (drop s.state.place s.characters.now)) found.spell
-      ∙ ap (λ t. t ++ drop (before - s.state.place) (drop s.state.place s.characters.now)) (take-append-drop p.len slice)
-      ∙ take-append-drop (before - s.state.place) (drop s.state.place s.characters.now)
+      let characters = drop s.state.place s.characters.now in
+      let slice = take (before - s.state.place) characters in
+      let rest = drop (before - s.state.place) characters in
+      let tail = drop (length s.characters.now) s.bytes.now in
+      sym (append_assoc (encode_utf8_all found.read) (drop p.len slice) (rest ++ tail))
+      ∙ ap (λ t. (t ++ drop p.len slice) ++ (rest ++ tail)) found.spell
+      ∙ ap (λ t. t ++ (rest ++ tail)) (take-append-drop p.len slice)
+      ∙ sym (append_assoc slice rest tail)
+      ∙ ap (λ t. t ++ tail) (take-append-drop (before - s.state.place) characters)
+      ∙ text_from s
 
-  all : PassesAll s p.len p.line_ends
-  all =
-      subst (λ (k : ℕ). PassesAll s k p.line_ends) size
-      (passes_all found.texts s read p.line_ends after beyond no_fault (omega (arith, size, room, within)) split are)
-
-  pub passes_up_to : PassesUpTo (reader_of s) before p.len (further s p.len p.line_ends)
+  pub passes_up_to : PassesUpTo (reader_of s) before p.len (further (reader_of s) p.len p.line_ends)
   passes_up_to = record {
-    lines = all.lines;
-    passes = all.passes;
+    lines = lines_at found.texts s.state.place s.state.line read p.line_ends after are;
+    passes = subst (λ (k : ℕ). PassesLines (reader_of s) (lines_at found.texts s.state.place s.state.line read p.line_ends after are) (further (reader_of s) k p.line_ends)) size
+        (passes_all found.texts (reader_of s) read p.line_ends after beyond no_fault split are);
     place = refl;
     within = λ some. room;
     same = λ none.
