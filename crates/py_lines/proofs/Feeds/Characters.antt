@@ -1,5 +1,5 @@
 -- The characters that are held next, which the scan of the line goes on with.
-use Rattle.std.proofs.Common.{◌≡◌, ℕ, Some, List, [], ◌∷◌, ◌++◌, refl, sym, ap, ◌∙◌, subst}
+use Rattle.std.proofs.Common.{◌≡◌, ℕ, Some, List, [], ◌++◌, sym, ap, ◌∙◌, subst}
 use Rattle.std.specs.Prelude.{encode_utf8_all}
 use Rattle.std.specs.Global.{Vec}
 use Rattle.py_lines.specs.declared.feed.Feed.{Feed}
@@ -10,10 +10,7 @@ use Rattle.py_lines.specs.Private.ScanMachine.{scan_steps}
 use Rattle.py_lines.specs.Private.Run.{Reached}
 use Rattle.py_lines.specs.Private.LineState.{first_mode}
 use Rattle.py_lines.specs.Private.Feed.{KeepsText, IsOpen, IsEnded, StopsHeld}
-
-append_nils : (a b : List ℕ) → a ++ b ≡ [] → a ≡ []
-append_nils [] b is = refl
-append_nils (c ∷ cs) b is = absurd (cc)
+use Rattle.py_lines.proofs.Feeds.Known.{both_none}
 
 -- the scan of what is held stands before what is left
 pub reached_held : (f : Feed) (read rest : List ℕ) → IsOpen f read rest → Reached (first_mode f.state.place) f.state.line f.held.items f.state.scan rest
@@ -22,7 +19,7 @@ reached_held f read rest o = record { read = read; way = o.way; spell = o.spell;
 -- and where nothing is held, before the bytes that come next
 pub reached_next : (f : Feed) (read rest chunk : List ℕ) → IsOpen f read rest → f.held.items ≡ [] → Reached (first_mode f.state.place) f.state.line chunk f.state.scan chunk
 reached_next f read rest chunk o none =
-    let bytes : encode_utf8_all read ≡ [] = (append_nils (encode_utf8_all read) rest (o.spell ∙ none)) in
+    let bytes : encode_utf8_all read ≡ [] = (both_none (encode_utf8_all read) rest (o.spell ∙ none)).0 in
     record { read = read; way = o.way; spell = ap (λ t. t ++ chunk) bytes; scalars = o.scalars; line = o.number }
 
 -- where the scan of the characters stops

@@ -18,6 +18,7 @@ use Rattle.py_lines.specs.Private.LineState.{IsFaultAfter}
 use Rattle.py_lines.specs.Private.Feed.{KeepsText, IsOpen, FailsAt, FailsNext, FailsHeld}
 use Rattle.py_lines.proofs.Text.Incomplete.{part_none}
 use Rattle.py_lines.proofs.Readers.LineFaults.{Within, refused_within}
+use Rattle.py_lines.proofs.Feeds.Known.{first_at, goes_at}
 use Rattle.py_lines.proofs.Feeds.DecidedSoFar.{IsDecidedAt, by_bytes, by_character}
 use Rattle.py_lines.proofs.Feeds.Loops.{keeps_on, fails_keep}
 use Rattle.py_lines.proofs.Feeds.Steps.{open_stop, within_held}
@@ -44,11 +45,9 @@ failed_next f new read rest o fault (FailsNext.at_bytes way hopeless not_yet fai
 pub failed_held : (old new : Feed) (fault : Fault) → FailsHeld old (lex.Fault fault) new → (text : List ℕ) (lines : List LogicalLine) → AreFirstLines text old.state.place old.state.line lines → GoesOnWith text old.state.place old.held.items → IsDecidedAt text old.state.place lines (length old.held.items) fault
 failed_held old new fault e text lines first goes =
     let mid = e.mid in
-    let place = e.text.place in
     let held : mid.held.items ≡ old.held.items = ap (λ (v : Vec ℕ). v.items) e.text.held in
-    let first_mid : AreFirstLines text mid.state.place mid.state.line lines = subst (λ (n : ℕ). AreFirstLines text n mid.state.line lines) (sym place) (subst (λ (n : ℕ). AreFirstLines text old.state.place n lines) (sym e.text.line) first) in
-    let goes_mid : GoesOnWith text mid.state.place mid.held.items = subst (λ (n : ℕ). GoesOnWith text n mid.held.items) (sym place) (subst (GoesOnWith text old.state.place) (sym held) goes) in
-    subst (λ (n : ℕ). IsDecidedAt text n lines (length old.held.items) fault) place (subst (λ l. IsDecidedAt text mid.state.place lines (length l) fault) held (failed_next mid new e.read e.rest e.opens fault e.fails text lines first_mid goes_mid))
+    subst (λ (n : ℕ). IsDecidedAt text n lines (length old.held.items) fault) e.text.place (subst (λ l. IsDecidedAt text mid.state.place lines (length l) fault) held
+    (failed_next mid new e.read e.rest e.opens fault e.fails text lines (first_at e.text.place e.text.line first) (goes_at text e.text.place held goes)))
 
 -- what is kept of the state there
 pub failed_keeps : (old new : Feed) (fault : Fault) → FailsHeld old (lex.Fault fault) new → KeepsText old new × (new.ready ≡ None) × (new.state.fault ≡ Some fault)

@@ -1,9 +1,8 @@
 -- What the bytes fed settle and decide, where they were scanned.
-use Rattle.std.proofs.Common.{◌≡◌, ℕ, ◌+◌, ◌<◌, ◌⊎◌, true, false, ◌&&◌, None, Some, List, [], ◌∷◌, ◌++◌, length, take, drop, refl, sym, ap, ◌∙◌, subst, ⊎_elim, inl, inr, append-nil, arith, length-append}
+use Rattle.std.proofs.Common.{◌≡◌, ℕ, ◌+◌, ◌<◌, ◌⊎◌, true, false, ◌&&◌, None, Some, List, [], ◌∷◌, ◌++◌, length, take, refl, sym, ap, ◌∙◌, subst, ⊎_elim, inl, inr, append-nil, arith, length-append}
 use Rattle.std.specs.Prelude.{encode_utf8_all}
 use Rattle.std.proofs.lemmas.Bool.{cases_lt}
-use Rattle.std.proofs.lemmas.List.{drop-drop, take_all}
-use Rattle.std.proofs.Math.Seq.{take-add}
+use Rattle.std.proofs.lemmas.List.{take_all}
 use Rattle.py_lines.specs.Character.{is_return, is_line_feed}
 use Rattle.py_lines.specs.Piece.{ends, spelled, Piece, begins}
 use Rattle.py_lines.specs.LogicalLine.{LogicalLine, line_of}
@@ -27,7 +26,7 @@ use Rattle.py_lines.proofs.Lexings.Existence.{reading_live}
 use Rattle.py_lines.proofs.Faults.Verdict.{not_live}
 use Rattle.py_lines.proofs.Text.Decoding.{decoded}
 use Rattle.py_lines.proofs.LineScan.TextSteps.{way_goes}
-use Rattle.py_lines.proofs.Feeds.Known.{IsKnown, known_after, is_known}
+use Rattle.py_lines.proofs.Feeds.Known.{IsKnown, both_none, known_after, is_known}
 use Rattle.py_lines.proofs.Feeds.SettledSoFar.{MayGetFeed, Follow, settled_open, settled_ready, ended_before, IsNextLine}
 use Rattle.py_lines.proofs.Feeds.DecidedSoFar.{undecided}
 use Rattle.py_lines.proofs.Feeds.ReadyLines.{IsLineOfText, ended_scan, holds_line}
@@ -73,15 +72,6 @@ module _ (text : List ℕ) (f : Feed) (lines : List LogicalLine) (end_len : ℕ)
       go : (cs : List ℕ) → 0 < length (encode_utf8_all cs) → 0 < length cs
       go [] some = some
       go (c ∷ cs) some = omega arith
-
--- bytes that the text goes on with, and then more
-pub goes_joined : (text : List ℕ) (place : ℕ) (a b : List ℕ) → GoesOnWith text place a → GoesOnWith text (place + length a) b → GoesOnWith text place (a ++ b)
-goes_joined text place a b one two =
-    ap (λ (n : ℕ). take n (drop place text)) (length-append a b)
-    ∙ take-add (length a) (length b) (drop place text)
-    ∙ ap (λ t. t ++ take (length b) (drop (length a) (drop place text))) one
-    ∙ ap (λ t. a ++ take (length b) t) (drop-drop (length a) place text)
-    ∙ ap (λ t. a ++ t) two
 
 may_get : (m : Mode) (st : List Bracket) (rest : List ℕ) → (is_return_mode m && none_open st ≡ true → rest ≡ []) → MayGetFeed m st rest
 may_get modes.Return [] rest last = last refl
@@ -160,10 +150,6 @@ module _ (text : List ℕ) (place line : ℕ) (lines : List LogicalLine) (first 
   after_line ends =
       let k = known_after text place line lines [] [] first refl refl ends in
       undecided text place line lines [] [] k (line_start (first_mode place)) [] (record { run = refl; stack = refl }) nothing_bad part_none fault
-
-  both_none : (a b : List ℕ) → a ++ b ≡ [] → (a ≡ []) × (b ≡ [])
-  both_none [] b none = (refl, none)
-  both_none (x ∷ xs) b none = absurd (cc)
 
   after_text : first.rest ++ first.tail ≡ [] → ¬ (Decides (take (place + 0) text) fault)
   after_text nothing d =

@@ -18,23 +18,17 @@ use Rattle.py_lines.specs.declared.fault.LexError.{LexError}
 use Rattle.py_lines.specs.declared.fault.LexError.TheVariants as lex
 use Rattle.py_lines.specs.declared.feed.Feed.{Feed}
 use Rattle.py_lines.specs.Private.Feed.{KeepsText, HasRoom, HoldsMore, IsScanned, IsUnchanged, EndsLineHeld, IsLastChunk, StopsTaking}
-use Rattle.py_lines.specs.Private.Feed.{TakesSome, FailsPiece, TakesSo, StandsSo, IsSoundFeed, WaitsSo, line_held, DropsLine, HasReadTokens}
+use Rattle.py_lines.specs.Private.Feed.{TakesSome, FailsPiece, TakesSo, StandsSo, IsSoundFeed, line_held, DropsLine, HasReadTokens}
 use Rattle.py_lines.specs.Private.Feed.{HoldsLine, LetsGo, ReadsTokens}
 use Rattle.py_lines.proofs.Lexings.DecidedFaults.{decided_more}
-use Rattle.py_lines.proofs.Feeds.Known.{goes_with_first}
+use Rattle.py_lines.proofs.Feeds.Known.{first_at, goes_at, goes_joined, goes_with_first}
 use Rattle.py_lines.proofs.Feeds.ReadyLines.{IsLineOfText, ended_holds, ended_line_of, held_text, read_ready, some_is, with_line}
 use Rattle.py_lines.proofs.Feeds.Loops.{begun_unchanged}
 use Rattle.py_lines.proofs.Feeds.Released.{released_sound, releases}
 use Rattle.py_lines.proofs.Feeds.FailedHeld.{failed_held, failed_keeps}
-use Rattle.py_lines.proofs.Feeds.FedHeld.{goes_joined, settled_scanned, undecided_fed, never_before, settled_fed, whole_fed}
+use Rattle.py_lines.proofs.Feeds.FedHeld.{settled_scanned, undecided_fed, never_before, settled_fed, whole_fed}
 
 -- the same facts at a scanner that stands at the same place
-pub first_at : (text : List ℕ) (lines : List LogicalLine) (old new : Feed) → new.state.place ≡ old.state.place → new.state.line ≡ old.state.line → AreFirstLines text old.state.place old.state.line lines → AreFirstLines text new.state.place new.state.line lines
-first_at text lines old new place line first = subst (λ (n : ℕ). AreFirstLines text n new.state.line lines) (sym place) (subst (λ (n : ℕ). AreFirstLines text old.state.place n lines) (sym line) first)
-
-goes_at : (text : List ℕ) (old new : Feed) (held : List ℕ) → new.state.place ≡ old.state.place → new.held.items ≡ held → GoesOnWith text old.state.place held → GoesOnWith text new.state.place new.held.items
-goes_at text old new held place is goes = subst (λ (n : ℕ). GoesOnWith text n new.held.items) (sym place) (subst (GoesOnWith text old.state.place) (sym is) goes)
-
 settled_of : (text : List ℕ) (lines : List LogicalLine) (old new : Feed) → new.state.place ≡ old.state.place → new.held.items ≡ old.held.items → IsSettled (take (old.state.place + length old.held.items) text) lines → IsSettled (take (new.state.place + length new.held.items) text) lines
 settled_of text lines old new place held settled = subst (λ (n : ℕ). IsSettled (take (n + length new.held.items) text) lines) (sym place) (subst (λ l. IsSettled (take (old.state.place + length l) text) lines) (sym held) settled)
 
@@ -45,8 +39,8 @@ settled_held text lines old not_ready s some = subst (IsSettled (take (old.state
 -- so no line had ended in what was held
 pub none_ended : (text : List ℕ) (lines : List LogicalLine) (old new : Feed) (len : ℕ) → old.ready ≡ None → IsScanning (scanning_of old) text lines → new.state.place ≡ old.state.place → new.state.line ≡ old.state.line → new.held.items ≡ old.held.items → EndsLineHeld len new → ⊥
 none_ended text lines old new len not_ready s place line held e =
-    never_before text new old lines len e.all e.after e.after e.ended (e.ended.spell ∙ held) e.whole (first_at text lines old new place line s.first)
-    (subst (λ (m : ℕ). GoesOnWith text m old.held.items) (sym place) s.held)
+    never_before text new old lines len e.all e.after e.after e.ended (e.ended.spell ∙ held) e.whole (first_at place line s.first)
+    (goes_at text place refl s.held)
     (λ some. subst (λ (m : ℕ). IsSettled (take (m + length old.held.items) text) lines) (sym place) (settled_held text lines old not_ready s some))
 
 -- the line that a caller sees ready, if one has ended
@@ -66,17 +60,17 @@ module _ (old new : Feed) (piece : List ℕ) (n : ℕ) (t : TakesSome old piece 
   goes_all = goes_joined text old.state.place old.held.items (take n piece) s.held go
 
   first_new : AreFirstLines text new.state.place new.state.line lines
-  first_new = first_at text lines old new t.more.place t.more.line s.first
+  first_new = first_at t.more.place t.more.line s.first
 
   goes_new : GoesOnWith text new.state.place new.held.items
-  goes_new = goes_at text old new (old.held.items ++ take n piece) t.more.place t.more.held goes_all
+  goes_new = goes_at text t.more.place t.more.held goes_all
 
   -- no line is ready
   open_first : (mid : Feed) → HoldsMore mid [] new → AreFirstLines text mid.state.place mid.state.line lines
-  open_first mid same = first_at text lines new mid (sym same.place) (sym same.line) first_new
+  open_first mid same = first_at (sym same.place) (sym same.line) first_new
 
   open_goes : (mid : Feed) → HoldsMore mid [] new → GoesOnWith text mid.state.place mid.held.items
-  open_goes mid same = goes_at text new mid new.held.items (sym same.place) (sym (same.held ∙ append-nil mid.held.items)) goes_new
+  open_goes mid same = goes_at text (sym same.place) (sym (same.held ∙ append-nil mid.held.items)) goes_new
 
   open_settled : (mid : Feed) → HoldsMore mid [] new → IsScanned None mid → 0 < length new.held.items → IsSettled (take (new.state.place + length new.held.items) text) (lines ++ [])
   open_settled mid same scanned some = subst (IsSettled (take (new.state.place + length new.held.items) text)) (sym (append-nil lines))
@@ -104,7 +98,7 @@ module _ (old new : Feed) (piece : List ℕ) (n : ℕ) (t : TakesSome old piece 
 
     chunk_settled : 0 < length c.mid.held.items → IsSettled (take (new.state.place + length c.mid.held.items) text) lines
     chunk_settled some = subst (λ (m : ℕ). IsSettled (take (m + length c.mid.held.items) text) lines) chunk_place (⊎_elim
-        (λ later. settled_scanned text c.mid lines (first_at text lines new c.mid chunk_place chunk_line first_new) (subst (λ (m : ℕ). GoesOnWith text m c.mid.held.items) (sym chunk_place) chunk_goes) (c.scanned later) some)
+        (λ later. settled_scanned text c.mid lines (first_at chunk_place chunk_line first_new) (goes_at text chunk_place refl chunk_goes) (c.scanned later) some)
         (λ none.
         let zero : c.before ≡ 0 = omega (arith, none) in
         let held : c.mid.held.items ≡ old.held.items = c.more.held ∙ ap (λ (m : ℕ). old.held.items ++ take m piece) zero ∙ append-nil old.held.items in
@@ -226,26 +220,11 @@ meets_fault old new piece fault none p = record {
     decided text lines s go =
         let part : GoesOnWith text (fed_of (scanning_of old)) (take p.n piece) = goes_with_first text (fed_of (scanning_of old)) (take p.n piece) (drop p.n piece) (subst (GoesOnWith text (fed_of (scanning_of old))) (sym (take-append-drop p.n piece)) go) in
         let all = goes_joined text old.state.place old.held.items (take p.n piece) s.held part in
-        let at = failed_held p.mid new fault p.fails text lines (first_at text lines old p.mid p.more.place p.more.line s.first) (goes_at text old p.mid (old.held.items ++ take p.n piece) p.more.place p.more.held all) in
+        let at = failed_held p.mid new fault p.fails text lines (first_at p.more.place p.more.line s.first) (goes_at text p.more.place p.more.held all) in
         let size : length p.mid.held.items ≡ length old.held.items + p.n = ap length p.more.held ∙ length-append old.held.items (take p.n piece) ∙ ap (λ (m : ℕ). length old.held.items + m) (length-take-le p.n piece p.within) in
         let more : ℕ = length p.mid.held.items - at.n in
         let whole : (p.mid.state.place + at.n) + more ≡ fed_of (scanning_of old) + p.n = omega (arith, at.within, size, p.more.place) in
         (p.n, p.within, subst (λ t. Decides t fault) (sym (take-add (p.mid.state.place + at.n) more text) ∙ ap (λ (m : ℕ). take m text) whole) (decided_more (take (p.mid.state.place + at.n) text) (take more (drop (p.mid.state.place + at.n) text)) fault at.decided), at.lexed)
-
--- where it was met before
-meets_again : (f : Feed) (piece : List ℕ) (fault : Fault) → f.state.fault ≡ Some fault
-    → MeetsFault (scanning_of f) piece fault (scanning_of f)
-meets_again f piece fault was = record {
-  decided = λ text lines s go. absurd (let none = s.no_fault in let h = sym was ∙ none in cc);
-  again = λ first is. (let h = sym was ∙ is in cc);
-  none_ready = λ none. absurd (let h = sym was ∙ none in cc);
-  place = refl;
-  line = refl;
-  fed = omega arith;
-  ready = refl;
-  open_yet = refl;
-  kept = was;
-}
 
 -- where a growth was refused
 pub runs_short : (old new : Feed) → old.state.fault ≡ None → old.ready ≡ None → IsUnchanged old new
@@ -278,12 +257,6 @@ dropped old mid new bytes before more fault size d =
     let held : new.held.items ≡ old.held.items
     = d.held ∙ ap (take before) more.held ∙ ap (λ (n : ℕ). take n (old.held.items ++ bytes)) size ∙ take-append_seam old.held.items bytes in
     begun_unchanged old new mid.state (ap (λ (f : Feed). f.ready) d.same) (ap (λ (f : Feed). f.ended) d.same ∙ more.ended) held more.place more.line fault d.begins
-
--- what is answered before bytes are taken
-pub feeds_at_once : (f : Feed) (piece : List ℕ) (error : LexError) → WaitsSo f (Err error)
-    → Feeds (scanning_of f) piece (Err error) (scanning_of f)
-feeds_at_once f piece (lex.Fault fault) was = meets_again f piece fault was
-feeds_at_once f piece lex.Memory none = absurd none
 
 -- an error of taking bytes
 pub fed_error : (old new : Feed) (piece : List ℕ) (error : LexError) → IsSoundFeed old

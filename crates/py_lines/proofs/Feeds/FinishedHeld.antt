@@ -5,7 +5,7 @@ use Rattle.std.specs.Global.{Vec}
 use Rattle.std.proofs.lemmas.List.{take_all}
 use Rattle.py_lines.specs.LogicalLine.{LogicalLine}
 use Rattle.py_lines.specs.Lexed.{IsLexed}
-use Rattle.py_lines.specs.ScannerState.{GoesOnWith, EndsScan, Finishes}
+use Rattle.py_lines.specs.ScannerState.{EndsScan, Finishes}
 use Rattle.py_lines.specs.ScannerState.View.{ready_of, scanning_of}
 use Rattle.py_lines.specs.declared.fault.LexError.{LexError}
 use Rattle.py_lines.specs.declared.fault.LexError.TheVariants as lex
@@ -13,10 +13,11 @@ use Rattle.py_lines.specs.declared.feed.Feed.{Feed}
 use Rattle.py_lines.specs.Private.Feed.{KeepsText, IsScanned, ScansHeld, EndsLineHeld, EndsHeld, EndsWith, HasRoom, HoldsSo, HasEndedText}
 use Rattle.py_lines.specs.Private.Feed.{EndsText, HasReadTokens, HoldsLine, HoldsMore, IsSoundFeed, ReadsTokens, StandsSo}
 use Rattle.py_lines.specs.Private.Feed.{line_held}
+use Rattle.py_lines.proofs.Feeds.Known.{first_at, goes_at}
 use Rattle.py_lines.proofs.Feeds.Ended.{ended_empty}
 use Rattle.py_lines.proofs.Feeds.Loops.{keeps_on}
 use Rattle.py_lines.proofs.Feeds.ReadyLines.{ended_holds, held_text, read_ready, some_is, with_line}
-use Rattle.py_lines.proofs.Feeds.FedScanner.{dropped, first_at, none_ended, runs_short, sound_unchanged}
+use Rattle.py_lines.proofs.Feeds.FedScanner.{dropped, none_ended, runs_short, sound_unchanged}
 use Rattle.py_lines.proofs.Feeds.FailedHeld.{failed_held, failed_keeps}
 
 items_kept : (old new : Feed) → KeepsText old new → new.held.items ≡ old.held.items
@@ -63,8 +64,8 @@ ends_before_scan : (old mid : Feed) (text : List ℕ) (lines : List LogicalLine)
 ends_before_scan old mid text lines keeps e =
     let held = items_kept old mid keeps in
     record {
-      first = first_at text lines old mid keeps.place keeps.line e.first;
-      held = subst (GoesOnWith text mid.state.place) (sym held) (subst (λ (n : ℕ). GoesOnWith text n old.held.items) (sym keeps.place) e.held);
+      first = first_at keeps.place keeps.line e.first;
+      held = goes_at text keeps.place held e.held;
       whole = e.whole ∙ ap (λ (n : ℕ). n + length old.held.items) (sym keeps.place) ∙ ap (λ (l : List ℕ). mid.state.place + length l) (sym held);
     }
 
@@ -108,7 +109,7 @@ finish_now old f no_fault e =
           let lexed = e.lexed text lines scanning whole in
           let from_there : drop old.state.place text ≡ old.held.items = sym (take_all (length old.held.items) (drop old.state.place text) (omega (arith, whole, length-drop old.state.place text))) ∙ scanning.held in
           record {
-            first = first_at text lines old f e.text.place e.text.line scanning.first;
+            first = first_at e.text.place e.text.line scanning.first;
             lexed = lexed.0;
             held = held ∙ sym from_there ∙ ap (λ (n : ℕ). drop n text) (sym e.text.place);
             whole = lexed.1;

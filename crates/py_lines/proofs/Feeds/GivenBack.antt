@@ -5,7 +5,6 @@ use Rattle.std.specs.Prelude.{encode_utf8_all, is_some, max}
 use Rattle.std.specs.Global.{Vec}
 use Rattle.std.proofs.lemmas.Bool.{both_ways, false_from_ne_true, cond_both, cases_lt}
 use Rattle.std.proofs.lemmas.List.{take_all, length-take-le}
-use Rattle.std.proofs.Math.Nat.{le-max_left, le-max_right}
 use Rattle.std.proofs.Math.Seq.{take-append-add, take-append_seam}
 use Rattle.py_lines.specs.Character.{is_return}
 use Rattle.py_lines.specs.Piece.{ends, spelled}
@@ -28,9 +27,6 @@ whole_taken : (all after : List ℕ) (k : ℕ) → EndsWhole all after → (ends
 whole_taken all after k (inl feed) some = inl feed
 whole_taken all after zero (inr (b, m, is, other)) some = inl (false_from_ne_true _ (λ h. omega (arith, some h)))
 whole_taken all after (suc k) (inr (b, m, is, other)) some = inr (b, take k m, ap (take (suc k)) is, other)
-
-exact_feed : (all after : List ℕ) → ends is_return all ≡ false → EndsExactly all (take 0 after)
-exact_feed all after feed = inl (feed, refl)
 
 exact_return : (all after : List ℕ) → ends is_return all ≡ true → EndsWhole all after → EndsExactly all (take 1 after)
 exact_return all after returned (inl feed) = absurd (both_ways _ feed returned)
@@ -62,7 +58,7 @@ module _ (m : Mode) (scan : Scan) (bytes all after : List ℕ) (end_len : ℕ) (
 
   pub taken_exactly : (n : ℕ) → n ≡ whole_end scan → EndsExactly all (take (n - byte_len all) after)
   taken_exactly n is = ⊎_elim
-      (λ a. let none : 0 ≡ n - byte_len all = omega (arith, is, a.0) in subst (λ (k : ℕ). EndsExactly all (take k after)) none (exact_feed all after a.1))
+      (λ a. let none : 0 ≡ n - byte_len all = omega (arith, is, a.0) in subst (λ (k : ℕ). EndsExactly all (take k after)) none (inl (a.1, refl)))
       (λ b. let one : 1 ≡ n - byte_len all = omega (arith, is, b.0) in subst (λ (k : ℕ). EndsExactly all (take k after)) one (exact_return all after b.1 whole))
       end_is
 
@@ -107,17 +103,14 @@ stop_small f scanned some =
     let e : EndsLineHeld r.0 f = subst (λ o. IsScanned o f) r.1 scanned in
     omega (arith, (line_ended (first_mode f.state.place) f.state.scan f.held.items e.all e.after r.0 e.ended.spell e.ended.at e.whole).stop, ap length e.ended.spell, length-append (encode_utf8_all e.all) e.after)
 
-max_le : (a b c : ℕ) → a ≤ c → b ≤ c → max a b ≤ c
-max_le a b c one two = omega (arith, one, two)
-
 -- a line is ready
 pub gives_line : (f : Feed) (v : Vec ℕ) (before kept : ℕ) → IsScanned f.ready f → is_some f.ready ≡ true → v.items ≡ take kept f.held.items → kept ≡ max (whole_end f.state.scan) (before + 1) → before < length f.held.items → GivesBack f before (record f { held = v })
 gives_line f v before kept scanned some held is more =
     let r = some_is f.ready some in
     let e : EndsLineHeld r.0 f = subst (λ o. IsScanned o f) r.1 scanned in
-    let left : whole_end f.state.scan ≤ kept = omega (arith, is, le-max_left (whole_end f.state.scan) (before + 1)) in
-    let right : before + 1 ≤ kept = omega (arith, is, le-max_right (whole_end f.state.scan) (before + 1)) in
-    let within : kept ≤ length f.held.items = omega (arith, is, max_le (whole_end f.state.scan) (before + 1) (length f.held.items) (end_within (first_mode f.state.place) f.state.scan f.held.items e.all e.after r.0 e.ended.spell e.ended.at e.whole) (omega (arith, more))) in
+    let left : whole_end f.state.scan ≤ kept = omega (arith, is) in
+    let right : before + 1 ≤ kept = omega (arith, is) in
+    let within : kept ≤ length f.held.items = omega (arith, is, end_within (first_mode f.state.place) f.state.scan f.held.items e.all e.after r.0 e.ended.spell e.ended.at e.whole, more) in
     let which : (kept ≡ whole_end f.state.scan) ⊎ (whole_end f.state.scan ≤ before) = ⊎_elim (λ less. inl (omega (arith, is, less))) (λ past. inr past) (cases_lt before (whole_end f.state.scan)) in
     record {
       kept = kept;

@@ -2,7 +2,7 @@
 use Rattle.std.proofs.Common.{◌≡◌, ℕ, ◌+◌, ◌<◌, true, Some, List, [], ◌∷◌, ◌++◌, length, take, drop, refl, sym, ap, ◌∙◌, subst, ⊎_elim, append_assoc, arith, length-append}
 use Rattle.std.specs.Prelude.{encode_utf8_all}
 use Rattle.std.specs.Str.{all_scalars, StartsWithNoChar}
-use Rattle.std.proofs.lemmas.List.{length-take, take-append-drop, take-take}
+use Rattle.std.proofs.lemmas.List.{drop-drop, drop-take, length-take, take-append-drop, take-take}
 use Rattle.std.proofs.lemmas.Str.{encodes-append}
 use Rattle.std.proofs.Math.Seq.{take-add, take-append_seam, drop-append_seam}
 use Rattle.py_lines.specs.Piece.{Piece, spelled}
@@ -24,12 +24,41 @@ use Rattle.py_lines.proofs.Fields.OneReading.{read_before}
 use Rattle.py_lines.proofs.ScanMachine.Advance.{GoesTo}
 use Rattle.py_lines.proofs.LineScan.TextSteps.{Base, base_of, Joined, joined}
 
+pub both_none : (a b : List ℕ) → a ++ b ≡ [] → (a ≡ []) × (b ≡ [])
+both_none [] b none = (refl, none)
+both_none (x ∷ xs) b none = absurd (cc)
+
 -- some of the bytes that the text goes on with
 pub goes_with_first : (text : List ℕ) (place : ℕ) (first later : List ℕ) → GoesOnWith text place (first ++ later) → GoesOnWith text place first
 goes_with_first text place first later goes =
     sym (take-take (length first) (length (first ++ later)) (drop place text) (omega (arith, length-append first later)))
     ∙ ap (take (length first)) goes
     ∙ take-append_seam first later
+
+-- what it goes on with after the first of these bytes
+pub goes_after : (text : List ℕ) (place : ℕ) (first later : List ℕ) → GoesOnWith text place (first ++ later) → GoesOnWith text (place + length first) later
+goes_after text place first later goes =
+    ap (take (length later)) (sym (drop-drop (length first) place text))
+    ∙ sym (drop-take (length first) (length later) (drop place text))
+    ∙ ap (λ (n : ℕ). drop (length first) (take n (drop place text))) (sym (length-append first later))
+    ∙ ap (drop (length first)) goes
+    ∙ drop-append_seam first later
+
+-- bytes that the text goes on with, and then more
+pub goes_joined : (text : List ℕ) (place : ℕ) (a b : List ℕ) → GoesOnWith text place a → GoesOnWith text (place + length a) b → GoesOnWith text place (a ++ b)
+goes_joined text place a b one two =
+    ap (λ (n : ℕ). take n (drop place text)) (length-append a b)
+    ∙ take-add (length a) (length b) (drop place text)
+    ∙ ap (λ t. t ++ take (length b) (drop (length a) (drop place text))) one
+    ∙ ap (λ t. a ++ take (length b) t) (drop-drop (length a) place text)
+    ∙ ap (λ t. a ++ t) two
+
+-- the same from the same place on
+pub goes_at : (text : List ℕ) {place here : ℕ} {held items : List ℕ} → here ≡ place → items ≡ held → GoesOnWith text place held → GoesOnWith text here items
+goes_at text at is goes = rw (at, is) goes
+
+pub first_at : {text : List ℕ} {lines : List LogicalLine} {place here line number : ℕ} → here ≡ place → number ≡ line → AreFirstLines text place line lines → AreFirstLines text here number lines
+first_at at is first = rw (at, is) first
 
 -- the lines given, the characters read after them and the bytes left, which are all that is known of the text
 pub record IsKnown (text : List ℕ) (place line : ℕ) (lines : List LogicalLine) (read rest : List ℕ) : Type 0 where
@@ -79,11 +108,6 @@ known_after text place line lines read rest first fine goes ends =
       follow = on.left;
     }
 
-no_length : (a b : List ℕ) → a ++ b ≡ [] → length (encode_utf8_all a) + length b ≡ 0
-no_length [] [] h = refl
-no_length [] (d ∷ ds) h = absurd (cc)
-no_length (c ∷ cs) b h = absurd (cc)
-
 -- and they do, where bytes follow them
 pub is_known : (text : List ℕ) (place line : ℕ) (lines : List LogicalLine) (read rest : List ℕ) → AreFirstLines text place line lines → all_scalars read ≡ true → GoesOnWith text place (encode_utf8_all read ++ rest) → 0 < length (encode_utf8_all read ++ rest) → IsKnown text place line lines read rest
 is_known text place line lines read rest first fine goes some = known_after text place line lines read rest first fine goes (⊎_elim (λ good. good.0) (λ nothing. absurd (
@@ -92,8 +116,8 @@ is_known text place line lines read rest first fine goes some = known_after text
     let bytes = encode_utf8_all (spelled first.pieces) in
     let whole : text ≡ bytes ++ left = sym first.decodes.spell ∙ ap (λ t. encode_utf8_all t ++ first.tail) (sym first.spell) ∙ ap (λ t. t ++ first.tail) (encodes-append (spelled first.pieces) first.rest) ∙ append_assoc bytes (encode_utf8_all first.rest) first.tail in
     let from_there : drop place text ≡ left = ap (λ (n : ℕ). drop n text) first.here ∙ ap (drop (byte_len (spelled first.pieces))) whole ∙ drop-append_seam bytes left in
-    let none : length left ≡ 0 = length-append (encode_utf8_all first.rest) first.tail ∙ no_length first.rest first.tail nothing in
-    omega (arith, some, none, ap length goes, ap length from_there, length-take (length held) (drop place text)))) first.ended)
+    let none = both_none first.rest first.tail nothing in
+    omega (arith, some, length-append (encode_utf8_all first.rest) first.tail, ap byte_len none.0, ap length none.1, ap length goes, ap length from_there, length-take (length held) (drop place text)))) first.ended)
 
 module _ (text : List ℕ) (place line : ℕ) (lines : List LogicalLine) (read rest : List ℕ) (k : IsKnown text place line lines read rest) where
   abbrev pub bytes : List ℕ

@@ -26,9 +26,8 @@ use Rattle.py_lines.proofs.Lexings.SettledFits.{ends-append}
 use Rattle.py_lines.proofs.LineScan.LineCount.{ends-last}
 use Rattle.py_lines.proofs.Text.CharacterTests.{return_is}
 use Rattle.py_lines.proofs.Readers.PassedLines.{AreSettledAt, line_settled, lines_at, lines_spell, shown, take_slice}
-use Rattle.py_lines.proofs.Feeds.Known.{goes_with_first}
+use Rattle.py_lines.proofs.Feeds.Known.{goes_after, goes_with_first}
 use Rattle.py_lines.proofs.Feeds.LastBytes.{ends-encoded}
-use Rattle.py_lines.proofs.Feeds.Released.{goes_after}
 use Rattle.py_lines.proofs.Feeds.Loops.{begun_open, begun_unchanged}
 use Rattle.py_lines.proofs.Feeds.FedScanner.{runs_short, sound_unchanged}
 

@@ -1,5 +1,5 @@
 -- A settled line is released, or the text's last: the lines before it and this one are the first of the whole text.
-use Rattle.std.proofs.Common.{◌≡◌, ℕ, ◌+◌, List, [], ◌∷◌, ◌++◌, length, take, drop, refl, sym, ap, ◌∙◌, subst, inl, inr, append-nil, arith, ◌<◌, Option, None, Some, append_assoc, length-append}
+use Rattle.std.proofs.Common.{◌≡◌, ℕ, ◌+◌, List, [], ◌∷◌, ◌++◌, length, take, drop, refl, sym, ap, ◌∙◌, subst, inl, inr, append-nil, arith, ◌<◌, Option, None, Some, length-append}
 use Rattle.std.specs.Prelude.{encode_utf8_all, IsSome}
 use Rattle.std.specs.Str.{all_scalars}
 use Rattle.std.proofs.lemmas.List.{take-append-drop, append_cancel_left, drop-drop}
@@ -18,9 +18,9 @@ use Rattle.py_lines.proofs.LogicalLines.NextLine.{texts, texts-append, texts-lin
 use Rattle.py_lines.proofs.Lexings.GivenLines.{base_lines}
 use Rattle.py_lines.proofs.Lexings.SettledLines.{spelled_first, settled_fits, still_ends}
 use Rattle.py_lines.proofs.Feeds.Known as of
-use Rattle.py_lines.proofs.Feeds.Known.{IsKnown, is_known}
+use Rattle.py_lines.proofs.Feeds.Known.{IsKnown, first_at, goes_after, goes_at, is_known}
 use Rattle.std.proofs.lemmas.Bool.{both_ways}
-use Rattle.std.proofs.Math.Seq.{take-append_seam, drop-append_seam}
+use Rattle.std.proofs.Math.Seq.{drop-append_seam}
 use Rattle.py_lines.specs.ScannerState.{ScannerState, GoesOnWith, IsScanning, HasEnded, HoldsReady, HoldsLast, Releases, fed_of, ready_lines}
 use Rattle.py_lines.specs.ScannerState.View.{ready_of, scanning_of}
 use Rattle.py_lines.specs.declared.feed.Feed.{Feed}
@@ -64,9 +64,7 @@ module _ (text : List ℕ) (place line : ℕ) (lines : List LogicalLine) (read r
       let here : byte_len (spelled s.pieces) ≡ place + byte_len read = ap byte_len spells ∙ byte_len-append (spelled k.base) read ∙ ap (λ (m : ℕ). m + byte_len read) (sym k.here) in
       let lines_sum = base_lines k.base read k.more k.fit in
       let lines_here : 1 + line_ends (spelled s.pieces) ≡ line + line_ends read = omega (arith, ap line_ends spells, lines_sum, k.number) in
-      subst (λ t. AreFirstLines t (place + byte_len read) (line + line_ends read) (lines ++ l ∷ [])) (take-append-drop n text)
-      (subst (λ (m : ℕ). AreFirstLines (take n text ++ drop n text) m (line + line_ends read) (lines ++ l ∷ [])) here
-      (subst (λ (m : ℕ). AreFirstLines (take n text ++ drop n text) (byte_len (spelled s.pieces)) m (lines ++ l ∷ [])) lines_here first))
+      subst (λ t. AreFirstLines t (place + byte_len read) (line + line_ends read) (lines ++ l ∷ [])) (take-append-drop n text) (first_at (sym here) (sym lines_here) first)
 
 -- The text's last line is released: the lines before it and this one are the first of the text, up to its end.
 module _ (text : List ℕ) (place line : ℕ) (lines : List LogicalLine) (read : List ℕ) (l : LogicalLine) (same : l.text ≡ encode_utf8_all read) (first : AreFirstLines text place line lines) (all : IsLexedWhole text (lines ++ l ∷ [])) where
@@ -106,13 +104,6 @@ ready_from f sound some = go f.ready refl sound.state some
     go None is stands some = absurd (both_ways _ refl some)
     go (Some n) is stands some = (n, is, stands)
 
--- what the text goes on with after the first of these bytes
-pub goes_after : (text : List ℕ) (place : ℕ) (first later : List ℕ) → GoesOnWith text place (first ++ later) → GoesOnWith text (place + length first) later
-goes_after text place first later goes =
-    let from_there : first ++ (later ++ drop (length (first ++ later)) (drop place text)) ≡ drop place text = sym (append_assoc first later (drop (length (first ++ later)) (drop place text))) ∙ ap (λ t. t ++ drop (length (first ++ later)) (drop place text)) (sym goes) ∙ take-append-drop (length (first ++ later)) (drop place text) in
-    let left : drop (place + length first) text ≡ later ++ drop (length (first ++ later)) (drop place text) = sym (drop-drop (length first) place text) ∙ ap (drop (length first)) (sym from_there) ∙ drop-append_seam first (later ++ drop (length (first ++ later)) (drop place text)) in
-    ap (take (length later)) left ∙ take-append_seam later (drop (length (first ++ later)) (drop place text))
-
 module _ (old new : Feed) (n : ℕ) (r : HoldsLine old n) (go : LetsGo old new) where
   abbrev unit : LogicalLine
   unit = line_held old n r
@@ -133,12 +124,12 @@ module _ (old new : Feed) (n : ℕ) (r : HoldsLine old n) (go : LetsGo old new) 
   none_ready : ready_of new new.ready ≡ None
   none_ready = ap (ready_of new) go.ready
 
+  place_is : new.state.place ≡ old.state.place + byte_len r.read
+  place_is = go.place ∙ ap (λ (m : ℕ). old.state.place + m) r.stop
+
   -- the lines that reach to the end of this line reach to where the scanner stands now
   first_here : (text : List ℕ) (lines : List LogicalLine) → AreFirstLines text (old.state.place + byte_len r.read) (old.state.line + line_ends r.read) lines → AreFirstLines text new.state.place new.state.line lines
-  first_here text lines first =
-      let place : new.state.place ≡ old.state.place + byte_len r.read = go.place ∙ ap (λ (m : ℕ). old.state.place + m) r.stop in
-      let line : new.state.line ≡ old.state.line + line_ends r.read = go.line ∙ r.here in
-      subst (λ (m : ℕ). AreFirstLines text m new.state.line lines) (sym place) (subst (λ (m : ℕ). AreFirstLines text (old.state.place + byte_len r.read) m lines) (sym line) first)
+  first_here text lines first = first_at place_is (go.line ∙ r.here) first
 
   scans_on : (text : List ℕ) (lines : List LogicalLine) → IsScanning (with_line old (Some unit)) text lines
       → IsScanning (scanning_of new) text (lines ++ unit ∷ []) × IsSettled (take (fed_of (scanning_of new)) text) (lines ++ unit ∷ [])
@@ -154,8 +145,7 @@ module _ (old new : Feed) (n : ℕ) (r : HoldsLine old n) (go : LetsGo old new) 
       (λ (m : ℕ). IsSettled (take m text) (lines ++ unit ∷ [])) (sym fed_is) settled_old in
       let first : AreFirstLines text (old.state.place + byte_len r.read) (old.state.line + line_ends r.read) (lines ++ unit ∷ []) =
       released text old.state.place old.state.line lines r.read r.rest k unit text_is settled_known in
-      let place : new.state.place ≡ old.state.place + byte_len r.read = go.place ∙ ap (λ (m : ℕ). old.state.place + m) r.stop in
-      let held : GoesOnWith text new.state.place new.held.items = subst (λ (m : ℕ). GoesOnWith text m new.held.items) (sym place) (subst (GoesOnWith text (old.state.place + byte_len r.read)) (sym rest_is) (goes_after text old.state.place (encode_utf8_all r.read) r.rest goes)) in (
+      let held = goes_at text place_is rest_is (goes_after text old.state.place (encode_utf8_all r.read) r.rest goes) in (
         record {
           first = first_here text (lines ++ unit ∷ []) first;
           held = held;

@@ -36,7 +36,7 @@ use Rattle.py_lines.proofs.LineScan.NextCharacter.{closed_one_line}
 use Rattle.py_lines.proofs.LineScan.LineSteps.{sound_steps}
 use Rattle.py_lines.proofs.LineScan.TextSteps.{begun_sound, follows_base}
 use Rattle.py_lines.proofs.Feeds.Known as of
-use Rattle.py_lines.proofs.Feeds.Known.{IsKnown}
+use Rattle.py_lines.proofs.Feeds.Known.{IsKnown, both_none}
 
 -- a CR that ends the line, unless LF follows, is the last byte known
 abbrev pub MayGetFeed : Mode → List Bracket → List ℕ → Type 0
@@ -48,18 +48,18 @@ ends_none modes.Return done held read rest [] sound stacked one_line last = Ends
 ends_none modes.Return done held read rest (b ∷ bs) sound stacked one_line last = EndsNoneYet.none (closed_one_line modes.Return done held (b ∷ bs) stacked one_line (λ same. refl))
 ends_none m done held read rest st sound stacked one_line last = EndsNoneYet.none (closed_one_line m done held st stacked one_line (λ same. absurd (cc)))
 
-nothing_known : (read rest : List ℕ) → read ++ rest ≡ [] → length (encode_utf8_all read ++ rest) ≡ 0
-nothing_known [] [] h = refl
-nothing_known [] (d ∷ ds) h = absurd (cc)
-nothing_known (c ∷ cs) rest h = absurd (cc)
-
 module _ (text : List ℕ) (place line : ℕ) (lines : List LogicalLine) (read rest : List ℕ) (k : IsKnown text place line lines read rest) where
   -- no line has ended since
   pub settled_open : (s : Scanned) (st : List Bracket) → GoesTo (line_start (first_mode place)) read s st → EndsNoLine 0 s.done → StartsWithNoChar rest → 0 < length (encode_utf8_all read ++ rest) → MayGetFeed s.mode st rest → IsSettled (of.bytes text place line lines read rest k) lines
   settled_open s st goes one_line bad some last =
       let j = of.joins text place line lines read rest k s st goes in
       let sound = sound_steps (first_mode place) read s (begun_sound place) goes.run goes.stack in
-      let good : EndsForGood k.base (read ++ rest) = (k.ended, λ none. absurd (omega (arith, some, nothing_known read rest none))) in
+      let good : EndsForGood k.base (read ++ rest) = (
+        k.ended,
+        λ none.
+            let parts = both_none read rest none in
+            absurd (omega (arith, some, length-append (encode_utf8_all read) rest, ap (λ t. length (encode_utf8_all t)) parts.0, ap length parts.1)),
+      ) in
       record {
         characters = spelled k.base ++ read;
         tail = rest;
@@ -75,10 +75,6 @@ wide_alone b wide = no_char (b ∷ []) (λ g. let t = g.second wide in omega ari
 
 no_feed : (c : ℕ) → (c ≡ 10 → ⊥) → is_line_feed c ≡ false
 no_feed c h = false_from_ne_true _ (λ feeds. h (feed_is c feeds))
-
-nothing_of : (a b c : List ℕ) → encode_utf8_all a ++ b ≡ c → a ++ b ≡ [] → c ≡ []
-nothing_of [] b c is none = sym is ∙ none
-nothing_of (x ∷ xs) b c is none = absurd (cc)
 
 -- bytes after a line that its line end has closed: none, or one that follows a CR and is no LF
 pub data Follow (u : List Piece) (rest : List ℕ) : Type 0 where
@@ -166,7 +162,12 @@ module _ (text : List ℕ) (place line : ℕ) (lines : List LogicalLine) (read r
   ended_before s good some =
       let on = goes_on (spelled k.base ++ read) rest s.characters s.tail k.scalars s.decodes.are s.decodes.bad (sym k.known ∙ sym s.decodes.spell) in
       let spell : spelled (k.base ++ u) ++ on.rest ≡ s.characters = ap (λ t. t ++ on.rest) all_spelled ∙ sym on.split in
-      let ended : EndsForGood (k.base ++ u) (on.rest ++ s.tail) = (ends_line, λ none. last_ends is_return ∙ good (nothing_of on.rest s.tail rest on.left none)) in
+      let ended : EndsForGood (k.base ++ u) (on.rest ++ s.tail) = (
+        ends_line,
+        λ none.
+            let parts = both_none on.rest s.tail none in
+            last_ends is_return ∙ good (sym on.left ∙ ap (λ t. encode_utf8_all t ++ s.tail) parts.0 ∙ parts.1),
+      ) in
       let bound = s.prefix.longest (k.base ++ u) on.rest spell all_reading ended in
       let same : spelled s.pieces ≡ spelled k.base = encodes_same (spelled s.pieces) (spelled k.base) (sym (texts-lines s.pieces) ∙ ap texts (sym s.cut ∙ k.cut) ∙ texts-lines k.base) in
       omega (arith, bound, ap length same, ap length all_spelled, length-append (spelled k.base) read, some)

@@ -21,7 +21,7 @@ use Rattle.py_lines.specs.declared.scan.Stop.TheVariants as stops
 use Rattle.py_lines.specs.declared.source.Source.{Source}
 use Rattle.py_lines.specs.Private.Scan.{IsAtLineEnd, line_start}
 use Rattle.py_lines.specs.Reader.View.{reader_of}
-use Rattle.py_lines.specs.Private.LineState.{first_mode, lent}
+use Rattle.py_lines.specs.Private.LineState.{first_mode}
 use Rattle.py_lines.specs.Private.LineTokens.{AreLineText}
 use Rattle.py_lines.specs.Private.Source.{line_of_source, scanned_text, GivesTokens, HasScanned}
 use Rattle.py_lines.specs.Token.{EachLiesIn}
@@ -56,10 +56,6 @@ pub record IsScannedLine (m : Scanned) (scan : Scan) (read : List ℕ) (end_len 
   pub ends : end_len ≡ end_len_of u
   pub after : List ℕ
   pub fit : AreReadBefore u after
-
--- the same, where the scan was lent
-pub lent_line : (m : Scanned) (scan by : Scan) (read : List ℕ) (end_len : ℕ) (u : List Piece) → IsScannedLine m scan read end_len u → IsScannedLine m (lent scan by) read end_len u
-lent_line m scan by read end_len u line = record { line = line.line; stop = line.stop; here = line.here; ends = line.ends; after = line.after; fit = line.fit }
 
 -- its text alone says what its pieces are
 pub line_text : (m : Scanned) (scan : Scan) (read : List ℕ) (end_len : ℕ) (u : List Piece) → all_scalars read ≡ true → IsScannedLine m scan read end_len u → AreLineText (encode_utf8_all read) u
