@@ -18,16 +18,23 @@ none_is (Some n) h = absurd (cc)
 pub holds_none : (f : Feed) → HoldsMore f [] f
 holds_none f = record { held = sym (append-nil f.held.items); place = refl; line = refl; ended = refl }
 
+-- so many bytes of a piece were taken by chunks; all that is held was scanned, unless none of some was taken yet
+pub record HasTaken (old : Feed) (piece : List ℕ) (taken : ℕ) (mid : Feed) : Type 0 where
+  pub within : taken ≤ length piece
+  pub more : HoldsMore old (take taken piece) mid
+  pub fault : mid.state.fault ≡ old.state.fault
+  pub begun : taken ≡ 0 → 0 < length piece → mid ≡ old
+  pub scanned : (taken ≡ 0 → piece ≡ []) → IsScanned mid.ready mid
+  pub last : (end_len : ℕ) → 0 < taken → mid.ready ≡ Some end_len → IsLastChunk old piece taken end_len mid
+
 -- where bytes of a piece are left and no line is ready, a line is open in what is held
 pub open_next : (old mid : Feed) (piece : List ℕ) (taken : ℕ) → IsSoundFeed old → old.state.fault ≡ None → old.ready ≡ None
-    → mid.ready ≡ None → 0 < length piece → (taken ≡ 0 → 0 < length piece → mid ≡ old)
-    → ((taken ≡ 0 → piece ≡ []) → IsScanned mid.ready mid) → IsHeldOpen mid
-open_next old mid piece zero sound no_fault not_ready none some begun scanned =
-    subst IsHeldOpen (sym (begun refl some)) (subst (λ (r : Option ℕ). StandsSo r old) not_ready sound.state no_fault)
-open_next old mid piece (suc n) sound no_fault not_ready none some begun scanned = go (subst (λ (r : Option ℕ). IsScanned r mid) none (scanned (λ first. absurd (omega (arith, first)))))
-  where
-    go : IsScanned None mid → IsHeldOpen mid
-    go (read, rest, opens, part) = (read, rest, opens)
+    → mid.ready ≡ None → 0 < length piece → HasTaken old piece taken mid → IsHeldOpen mid
+open_next old mid piece zero sound no_fault not_ready none some h =
+    subst IsHeldOpen (sym (h.begun refl some)) (subst (λ (r : Option ℕ). StandsSo r old) not_ready sound.state no_fault)
+open_next old mid piece (suc n) sound no_fault not_ready none some h =
+    let s : IsScanned None mid = subst (λ (r : Option ℕ). IsScanned r mid) none (h.scanned (λ first. absurd (omega (arith, first)))) in
+    (s.0, s.1, s.2)
 
 -- no bytes are fed
 pub none_taken : (old new : Feed) (piece : List ℕ) (error : LexError) → old.ready ≡ None → ScansHeld old (Err error) new
@@ -37,8 +44,7 @@ none_taken old new piece (lex.Fault f) ready fails = record {
   n = 0;
   within = omega arith;
   mid = old;
-  more = holds_none
-      old;
+  more = holds_none old;
   fails = fails;
 }
 none_taken old new piece lex.Memory ready none = absurd none
@@ -76,49 +82,47 @@ after_scanned held None new s = s
 after_scanned held (Some n) new (e, last) = e
 
 -- the bytes taken last
-pub last_chunk : (old mid new : Feed) (piece : List ℕ) (taken len end_len : ℕ) → HoldsMore old (take taken piece) mid → mid.ready ≡ None → ((taken ≡ 0 → piece ≡ []) → IsScanned mid.ready mid) → EndsAfter mid.held.items new.ready new → new.ready ≡ Some end_len → IsLastChunk old piece (taken + len) end_len new
-last_chunk old mid new piece taken len end_len more ready scanned stops is =
+pub last_chunk : (old mid new : Feed) (piece : List ℕ) (taken len end_len : ℕ) → HasTaken old piece taken mid → mid.ready ≡ None → EndsAfter mid.held.items new.ready new → new.ready ≡ Some end_len → IsLastChunk old piece (taken + len) end_len new
+last_chunk old mid new piece taken len end_len h ready stops is =
     let at : EndsAfter mid.held.items (Some end_len) new = subst (λ r. EndsAfter mid.held.items r new) is stops in
     record {
       before = taken;
       len = len;
       sum = refl;
       mid = mid;
-      more = more;
+      more = h.more;
       ended = at.0;
       ends = at.1;
-      scanned = λ some. subst (λ r. IsScanned r mid) ready (scanned (λ zero. absurd (omega (arith, some, zero))));
+      scanned = λ some. subst (λ r. IsScanned r mid) ready (h.scanned (λ zero. absurd (omega (arith, some, zero))));
     }
 
 -- a fault in the chunk that was taken
-pub chunk_fails : (old mid new : Feed) (piece : List ℕ) (taken len : ℕ) (error : LexError) → old.ready ≡ None → taken ≤ length piece
-    → len ≤ length (rest_of piece taken) → HoldsMore old (take taken piece) mid
-    → (w : FailsWith mid (take len (rest_of piece taken)) error new) → FailsPiece old piece error new
-chunk_fails old mid new piece taken len error ready within less more w =
+pub chunk_fails : (old mid new : Feed) (piece : List ℕ) (taken len : ℕ) (error : LexError) → old.ready ≡ None → len ≤ length (rest_of piece taken)
+    → HasTaken old piece taken mid → (w : FailsWith mid (take len (rest_of piece taken)) error new) → FailsPiece old piece error new
+chunk_fails old mid new piece taken len error ready less h w =
     let is = rest_is piece taken in
     record {
       not_ready = ready;
       n = taken + len;
-      within = omega (arith, within, less, ap length is, length-drop taken piece);
+      within = omega (arith, h.within, less, ap length is, length-drop taken piece);
       mid = w.mid;
-      more = grows old mid w.mid piece (take len (rest_of piece taken)) taken len more w.more (ap (take len) is);
+      more = grows old mid w.mid piece (take len (rest_of piece taken)) taken len h.more w.more (ap (take len) is);
       fails = w.fails;
     }
 
 -- where a growth was refused after the first bytes
-pub stops_short : (old mid new : Feed) (piece : List ℕ) (taken : ℕ) → old.ready ≡ None → taken ≤ length piece → (taken ≡ 0 → ⊥)
-    → HoldsMore old (take taken piece) mid → mid.state.fault ≡ old.state.fault → mid.ready ≡ None
-    → ((taken ≡ 0 → piece ≡ []) → IsScanned mid.ready mid) → IsUnchanged mid new → TakesSome old piece taken new
-stops_short old mid new piece taken ready within some more fault mid_ready scanned u =
+pub stops_short : (old mid new : Feed) (piece : List ℕ) (taken : ℕ) → old.ready ≡ None → (taken ≡ 0 → ⊥) → HasTaken old piece taken mid → mid.ready ≡ None
+    → IsUnchanged mid new → TakesSome old piece taken new
+stops_short old mid new piece taken ready some h mid_ready u =
     let s = u.same in
     record {
       not_ready = ready;
-      within = within;
+      within = h.within;
       some = λ zero. absurd (some zero);
-      more = record { held = s.held ∙ append-nil mid.held.items ∙ more.held; place = s.place ∙ more.place; line = s.line ∙ more.line; ended = s.ended ∙ more.ended };
-      fault = u.fault ∙ fault;
+      more = record { held = s.held ∙ append-nil mid.held.items ∙ h.more.held; place = s.place ∙ h.more.place; line = s.line ∙ h.more.line; ended = s.ended ∙ h.more.ended };
+      fault = u.fault ∙ h.fault;
       stops = subst (λ r. StopsTaking old piece taken r new) (sym u.ready)
-          (mid, s, subst (λ r. IsScanned r mid) mid_ready (scanned (λ zero. absurd (some zero))), u.opens);
+          (mid, s, subst (λ r. IsScanned r mid) mid_ready (h.scanned (λ zero. absurd (some zero))), u.opens);
     }
 
 -- what a scan of all that is held leaves, once bytes were taken
@@ -127,16 +131,14 @@ stops_taking old new piece taken None s last = (new, holds_none new, s, (s.0, s.
 stops_taking old new piece taken (Some n) s last = (s, λ some. last n some refl)
 
 -- bytes of a piece were taken up to a line's end, or all
-pub takes_some : (old new : Feed) (piece : List ℕ) (taken : ℕ) → old.ready ≡ None → taken ≤ length piece → (taken ≡ 0 → piece ≡ [])
-    → HoldsMore old (take taken piece) new → new.state.fault ≡ old.state.fault → ((taken ≡ 0 → piece ≡ []) → IsScanned new.ready new)
-    → ((end_len : ℕ) → 0 < taken → new.ready ≡ Some end_len → IsLastChunk old piece taken end_len new) → TakesSome old piece taken new
-takes_some old new piece taken ready within none more fault scanned last = record {
+pub takes_some : (old new : Feed) (piece : List ℕ) (taken : ℕ) → old.ready ≡ None → (taken ≡ 0 → piece ≡ []) → HasTaken old piece taken new → TakesSome old piece taken new
+takes_some old new piece taken ready none h = record {
   not_ready = ready;
-  within = within;
+  within = h.within;
   some = none;
-  more = more;
-  fault = fault;
-  stops = stops_taking old new piece taken new.ready (scanned none) last;
+  more = h.more;
+  fault = h.fault;
+  stops = stops_taking old new piece taken new.ready (h.scanned none) h.last;
 }
 
 -- what a call took, where the bytes had been scanned before it
@@ -146,7 +148,6 @@ rescanned_taken old new scan chunk (Err (lex.Fault f)) t = record { mid = t.mid;
 rescanned_taken old new scan chunk (Err lex.Memory) t = record {
   same = record { held = t.same.held; place = t.same.place; line = t.same.line; ended = t.same.ended };
   ready = t.ready;
-  fault =
-      t.fault;
+  fault = t.fault;
   opens = t.opens;
 }

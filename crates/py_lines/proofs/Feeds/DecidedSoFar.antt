@@ -134,11 +134,6 @@ module _ (text : List ℕ) (state : LineState) (lines : List LogicalLine) (read 
             lexed,
           )
 
--- the fault as it is kept
-fault_as : (fault : Fault) (kind : FaultKind) (offset : ℕ) (characters others : List ℕ) → fault.kind ≡ kind → offset ≡ fault.offset → characters ≡ others → IsCharacterFault kind characters offset → IsCharacterFault fault.kind others fault.offset
-fault_as fault kind offset characters others same at spell is =
-    subst (λ t. IsCharacterFault fault.kind t fault.offset) spell (subst (λ k. IsCharacterFault k characters fault.offset) (sym same) (subst (λ o. IsCharacterFault kind characters o) at is))
-
 -- the next character is refused
 module _ (text : List ℕ) (state : LineState) (lines : List LogicalLine) (read : List ℕ) (c : ℕ) (k : IsKnown text state.place state.line lines (read ++ c ∷ []) []) where
   abbrev all_known : List ℕ
@@ -159,7 +154,8 @@ module _ (text : List ℕ) (state : LineState) (lines : List LogicalLine) (read 
       let open_yet = open_return s.mode s.done s.held c st way.stacked refuses (ap (λ (m : Mode). (is_return_mode m && none_open st) && not (is_line_feed c)) (sym way.tallies.counts.mode) ∙ not_yet) in
       let prefix : HasPrefix j.state k.base = record { others = pieces_at s; spell = j.pieces; ended = k.ended; none = closed_one_line s.mode s.done s.held st way.stacked way.one_line open_yet } in
       let found = refused_fault state.place k.base level strings base state.scan read way c [] (alone read fit) refuses line_fault is_line_fault in
-      let is = fault_as fault line_fault.kind (byte_len (spelled k.base) + line_fault.place) _ _ at.is (ap (λ (n : ℕ). n + line_fault.place) (sym k.here) ∙ sym at.place) spell found in
+      let place : fault.offset ≡ byte_len (spelled k.base) + line_fault.place = at.place ∙ ap (λ (n : ℕ). n + line_fault.place) k.here in
+      let is : IsCharacterFault fault.kind characters fault.offset = rw (at.is, place) (subst (λ t. IsCharacterFault line_fault.kind t (byte_len (spelled k.base) + line_fault.place)) spell found) in
       let longer : Within (read ++ c ∷ []) line_fault.place = record { prefix = w.prefix; later = w.later ++ c ∷ []; split = sym (append_assoc w.prefix w.later (c ∷ [])) ∙ ap (λ t. t ++ c ∷ []) w.split; size = w.size } in
       let lexed = refused_at_character all_known characters [] (spelled k.base ++ read) [] c j.state j.st k.base fault decodes spell j.steps (dead_at k.base read (c ∷ k.more) k.more s st c j level refl refuses) prefix is
       (line_after text state lines (read ++ c ∷ []) [] k line_fault.kind line_fault.place fault longer at) in (

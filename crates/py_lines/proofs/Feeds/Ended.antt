@@ -7,12 +7,10 @@ use Rattle.std.proofs.lemmas.Str.{length-le-encodes}
 use Rattle.py_lines.specs.Piece.{spelled}
 use Rattle.py_lines.specs.Fields.{AreReadBefore}
 use Rattle.py_lines.specs.Reading.{Decodes, IsBalancedReading}
-use Rattle.py_lines.specs.Faults.{IsEndFault}
 use Rattle.py_lines.specs.Lexed.{IsLexed, IsLexedToFault}
 use Rattle.py_lines.specs.Given.{AreFirstLines}
 use Rattle.py_lines.specs.LogicalLine.{LogicalLine, cut, byte_len, line_of, lines_of}
 use Rattle.py_lines.specs.declared.fault.Fault.{Fault}
-use Rattle.py_lines.specs.declared.fault.FaultKind.{FaultKind}
 use Rattle.py_lines.specs.declared.fault.FaultKind.TheVariants.{BadUtf8}
 use Rattle.py_lines.specs.declared.line_state.LineState.{LineState}
 use Rattle.py_lines.specs.declared.scan.LineFault.{LineFault}
@@ -54,11 +52,6 @@ ended_empty text place line lines first ends =
       cut = first.cut;
     }
 
--- the fault as it is kept
-end_fault_as : (fault : Fault) (kind : FaultKind) (offset : ℕ) (characters : List ℕ) → fault.kind ≡ kind → offset ≡ fault.offset → IsEndFault kind characters [] offset → IsEndFault fault.kind characters [] fault.offset
-end_fault_as fault kind offset characters same at is =
-    subst (λ k. IsEndFault k characters [] fault.offset) (sym same) (subst (λ o. IsEndFault kind characters [] o) at is)
-
 module _ (text : List ℕ) (state : LineState) (lines : List LogicalLine) (read rest : List ℕ) (k : IsKnown text state.place state.line lines read rest) (whole : length text ≡ state.place + length (encode_utf8_all read ++ rest)) (way : IsUnderWay (first_mode state.place) state.scan read) where
   all : of.bytes text state.place state.line lines read rest k ≡ text
   all = take_all (state.place + length (encode_utf8_all read ++ rest)) text (omega (arith, whole))
@@ -75,10 +68,11 @@ module _ (text : List ℕ) (state : LineState) (lines : List LogicalLine) (read 
   ended_unfinished not_yet none some line_fault is_line_fault fault w at =
       let j = joined_here text state lines read rest k way not_yet in
       let found = unfinished_fault state.place k.base (of.level text state.place state.line lines read rest k) (of.strings text state.place state.line lines read rest k) (of.stands text state.place state.line lines read rest k) state.scan read way (alone read some k.fit) some line_fault is_line_fault in
+      let place : fault.offset ≡ byte_len (spelled k.base) + line_fault.place = at.place ∙ ap (λ (n : ℕ). n + line_fault.place) k.here in
       subst (λ l. IsLexedToFault text l fault) (sym k.cut)
       (refused_at_end text (spelled k.base ++ read) j.state j.st k.base fault (all_decoded none) j.steps
       (prefix_of text state lines read rest k way not_yet)
-      (end_fault_as fault line_fault.kind (byte_len (spelled k.base) + line_fault.place) (spelled k.base ++ read) at.is (ap (λ (n : ℕ). n + line_fault.place) (sym k.here) ∙ sym at.place) found)
+      (rw (at.is, place) found)
       (line_after text state lines read rest k line_fault.kind line_fault.place fault w at))
     where
       alone : (xs : List ℕ) → 0 < byte_len xs → AreReadBefore k.base (xs ++ k.more) → AreReadBefore k.base (xs ++ [])

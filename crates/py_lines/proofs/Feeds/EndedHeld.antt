@@ -73,12 +73,6 @@ module _ (f : Feed) (read rest : List ℕ) (o : IsOpen f read rest) where
   abbrev pub IsLastScan : ℕ → Type 0
   IsLastScan end_len = IsScannedLine (line_start (first_mode f.state.place)) f.state.scan read end_len (pieces_at o.way.state)
 
-  -- no line end closes it
-  plain_line : rest ≡ [] → 0 < length f.held.items → is_returned f.state.scan ≡ false → IsUnfinished f.state.scan None → IsLastScan 0
-  plain_line none some not_yet unfinished =
-      let (final, empty) = finished f.state.scan unfinished in
-      line_at_text_end (first_mode f.state.place) f.state.scan read o.way (open_stands f read rest o) (ap is_final (sym o.way.tallies.counts.mode) ∙ final) (way_open (first_mode f.state.place) f.state.scan read o.way not_yet) empty (read_some none some)
-
   -- CR closes it
   returned_parts : is_returned f.state.scan ≡ true → (is_return_mode f.state.scan.piece.mode ≡ true) × (stack_of f.state.scan.brackets ≡ [])
   returned_parts returned =
@@ -88,11 +82,6 @@ module _ (f : Feed) (read rest : List ℕ) (o : IsOpen f read rest) where
       open_nothing : (st : List Bracket) → none_open st ≡ true → st ≡ []
       open_nothing [] is = refl
       open_nothing (b ∷ bs) is = absurd (both_ways _ refl is)
-
-  returned_line : rest ≡ [] → 0 < length f.held.items → is_returned f.state.scan ≡ true → IsLastScan 1
-  returned_line none some returned =
-      let (mode, empty) = returned_parts returned in
-      line_at_return (first_mode f.state.place) f.state.scan read o.way (open_stands f read rest o) mode empty (read_some none some)
 
   -- it is ready
   last_line : (end_len : ℕ) → rest ≡ [] → 0 < length f.held.items → is_final f.state.scan.piece.mode ≡ true
@@ -118,10 +107,12 @@ module _ (f : Feed) (read rest : List ℕ) (o : IsOpen f read rest) where
       → EndsHeld f (Ok tt) (record f { ready = Some 0 })
   ends_so_plain none some not_yet unfinished =
       let (final, empty) = finished f.state.scan unfinished in
-      last_line 0 none some final empty (plain_line none some not_yet unfinished)
+      last_line 0 none some final empty (line_at_text_end (first_mode f.state.place) f.state.scan read o.way (open_stands f read rest o) (ap is_final (sym o.way.tallies.counts.mode) ∙ final)
+      (way_open (first_mode f.state.place) f.state.scan read o.way not_yet) empty (read_some none some))
 
   pub ends_so_returned : rest ≡ [] → 0 < length f.held.items → is_returned f.state.scan ≡ true
       → EndsHeld f (Ok tt) (record f { ready = Some 1 })
   ends_so_returned none some returned =
       let (mode, empty) = returned_parts returned in
-      last_line 1 none some (returned_final f.state.scan.piece.mode mode) empty (returned_line none some returned)
+      last_line 1 none some (returned_final f.state.scan.piece.mode mode) empty
+      (line_at_return (first_mode f.state.place) f.state.scan read o.way (open_stands f read rest o) mode empty (read_some none some))

@@ -213,9 +213,6 @@ meets_fault old new piece fault none p = record {
     held : new.held.items ≡ old.held.items ++ take p.n piece
     held = ap (λ (v : Vec ℕ). v.items) keeps.0.held ∙ p.more.held
 
-    mid : Feed
-    mid = p.mid
-
     decided : (text : List ℕ) (lines : List LogicalLine) → IsScanning (scanning_of old) text lines → GoesOnWith text (fed_of (scanning_of old)) piece → (n : ℕ) × (n ≤ length piece) × Decides (take (fed_of (scanning_of old) + n) text) fault × IsLexed text lines (Some fault)
     decided text lines s go =
         let part : GoesOnWith text (fed_of (scanning_of old)) (take p.n piece) = goes_with_first text (fed_of (scanning_of old)) (take p.n piece) (drop p.n piece) (subst (GoesOnWith text (fed_of (scanning_of old))) (sym (take-append-drop p.n piece)) go) in

@@ -33,7 +33,7 @@ loop-taken-preserved c =
       fault = took.fault ∙ inv.fault;
       begun = λ zero. absurd (omega (arith, zero, took.some));
       scanned = λ h. after_scanned mid.held.items c.take.new.self.ready c.take.new.self took.stops;
-      last = λ end_len some ready. last_chunk old mid c.take.new.self piece taken more end_len inv.more (none_is mid.ready (c.is_none.ensures ∙ ap not c.if-is_none.true)) inv.scanned took.stops ready;
+      last = λ end_len some ready. last_chunk old mid c.take.new.self piece taken more end_len inv (none_is mid.ready (c.is_none.ensures ∙ ap not c.if-is_none.true)) took.stops ready;
     }
 
 pub returns-in-Err-Fault : goal.returns-in-Err-Fault
@@ -43,7 +43,7 @@ returns-in-Err-Fault c =
     let chunk = take c.step_len-len.result (rest_of c.args.piece.now c.loop-taken.taken) in
     let fails = subst (λ (e : LexError). TakesChunk mid chunk (Err e) c.take.new.self) c.in-Err-Fault.field-0-is c.in-Err-Fault.ensures in
     chunk_fails c.args.self.now mid c.take.new.self c.args.piece.now c.loop-taken.taken c.step_len-len.result _
-    c.requires.not_ready inv.within c.step_len-len.ensures.within inv.more fails
+    c.requires.not_ready c.step_len-len.ensures.within inv fails
 
 pub returns-in-Err-Memory-2 : goal.returns-in-Err-Memory-2
 returns-in-Err-Memory-2 c =
@@ -53,15 +53,14 @@ returns-in-Err-Memory-2 c =
     let same = subst (λ (e : LexError). TakesChunk mid chunk (Err e) c.take.new.self) c.in-Err-Memory.field-0-is c.in-Err-Memory.ensures in
     let mid_ready = none_is mid.ready (c.is_none.ensures ∙ ap not c.if-is_none.true) in
     stops_short c.args.self.now mid c.take.new.self c.args.piece.now c.loop-taken.taken
-    c.requires.not_ready inv.within (λ zero. c.if-taken-eq0.false zero) inv.more inv.fault mid_ready inv.scanned same
+    c.requires.not_ready (λ zero. c.if-taken-eq0.false zero) inv mid_ready same
 
 pub returns-after-loop-taken : goal.returns-after-loop-taken
 returns-after-loop-taken c =
     let taken = c.loop-taken.taken in
     let inv = c.loop-taken.invariant in
     let none : taken ≡ 0 → c.args.piece.now ≡ [] = λ zero. nil_from_length c.args.piece.now (omega (arith, zero, c.loop-taken-test.false)) in
-    takes_some c.args.self.now c.loop-taken.self c.args.piece.now taken
-    c.requires.not_ready inv.within none inv.more inv.fault inv.scanned inv.last
+    takes_some c.args.self.now c.loop-taken.self c.args.piece.now taken c.requires.not_ready none inv
 
 pub returns-else-is_none : goal.returns-else-is_none
 returns-else-is_none c =
@@ -74,7 +73,7 @@ returns-else-is_none c =
     ∙ ready)))
     (λ empty. nil_from_length piece (omega (arith, empty)))
     (cases_lt 0 (length piece)) in
-    takes_some c.args.self.now c.loop-taken.self piece taken c.requires.not_ready inv.within none inv.more inv.fault inv.scanned inv.last
+    takes_some c.args.self.now c.loop-taken.self piece taken c.requires.not_ready none inv
 
 -- no chunk was taken before the one for which there is no memory
 pub returns-in-Err-Memory : goal.returns-in-Err-Memory
@@ -128,7 +127,7 @@ take-requires c =
     let first : length (take taken piece) ≡ taken = length-take-le taken piece inv.within in
     let within : len ≤ length (rest_of piece taken) = c.step_len-len.ensures.within in
     record {
-      opens = open_next old mid piece taken c.requires.sound c.requires.no_fault c.requires.not_ready mid_ready some inv.begun inv.scanned;
+      opens = open_next old mid piece taken c.requires.sound c.requires.no_fault c.requires.not_ready mid_ready some inv;
       not_ready = mid_ready;
       some = omega (arith, size, c.step_len-len.ensures.some);
       room = record {
