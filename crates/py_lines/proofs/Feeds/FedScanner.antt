@@ -17,7 +17,7 @@ use Rattle.py_lines.specs.declared.fault.Fault.{Fault}
 use Rattle.py_lines.specs.declared.fault.LexError.{LexError}
 use Rattle.py_lines.specs.declared.fault.LexError.TheVariants as lex
 use Rattle.py_lines.specs.declared.feed.Feed.{Feed}
-use Rattle.py_lines.specs.Private.Feed.{KeepsText, HasRoom, HoldsMore, IsScanned, IsUnchanged, EndsLineHeld, IsLastChunk, StopsTaking}
+use Rattle.py_lines.specs.Private.Feed.{KeepsText, HasRoom, HoldsMore, IsUnchanged, EndsLineHeld, IsLastChunk, StopsTaking}
 use Rattle.py_lines.specs.Private.Feed.{TakesSome, FailsPiece, TakesSo, StandsSo, IsSoundFeed, line_held, DropsLine, HasReadTokens}
 use Rattle.py_lines.specs.Private.Feed.{HoldsLine, LetsGo, ReadsTokens}
 use Rattle.py_lines.proofs.Lexings.DecidedFaults.{decided_more}
@@ -27,10 +27,6 @@ use Rattle.py_lines.proofs.Feeds.Loops.{begun_unchanged}
 use Rattle.py_lines.proofs.Feeds.Released.{released_sound, releases}
 use Rattle.py_lines.proofs.Feeds.FailedHeld.{failed_held, failed_keeps}
 use Rattle.py_lines.proofs.Feeds.FedHeld.{settled_scanned, undecided_fed, never_before, settled_fed, whole_fed}
-
--- the same facts at a scanner that stands at the same place
-settled_of : (text : List ℕ) (lines : List LogicalLine) (old new : Feed) → new.state.place ≡ old.state.place → new.held.items ≡ old.held.items → IsSettled (take (old.state.place + length old.held.items) text) lines → IsSettled (take (new.state.place + length new.held.items) text) lines
-settled_of text lines old new place held settled = subst (λ (n : ℕ). IsSettled (take (n + length new.held.items) text) lines) (sym place) (subst (λ l. IsSettled (take (old.state.place + length l) text) lines) (sym held) settled)
 
 -- the lines given are settled where none is ready
 settled_held : (text : List ℕ) (lines : List LogicalLine) (old : Feed) → old.ready ≡ None → IsScanning (scanning_of old) text lines → 0 < length old.held.items → IsSettled (take (old.state.place + length old.held.items) text) lines
@@ -65,17 +61,6 @@ module _ (old new : Feed) (piece : List ℕ) (n : ℕ) (t : TakesSome old piece 
   goes_new : GoesOnWith text new.state.place new.held.items
   goes_new = goes_at text t.more.place t.more.held goes_all
 
-  -- no line is ready
-  open_first : (mid : Feed) → HoldsMore mid [] new → AreFirstLines text mid.state.place mid.state.line lines
-  open_first mid same = first_at (sym same.place) (sym same.line) first_new
-
-  open_goes : (mid : Feed) → HoldsMore mid [] new → GoesOnWith text mid.state.place mid.held.items
-  open_goes mid same = goes_at text (sym same.place) (sym (same.held ∙ append-nil mid.held.items)) goes_new
-
-  open_settled : (mid : Feed) → HoldsMore mid [] new → IsScanned None mid → 0 < length new.held.items → IsSettled (take (new.state.place + length new.held.items) text) (lines ++ [])
-  open_settled mid same scanned some = subst (IsSettled (take (new.state.place + length new.held.items) text)) (sym (append-nil lines))
-      (settled_of text lines mid new same.place (same.held ∙ append-nil mid.held.items) (settled_scanned text mid lines (open_first mid same) (open_goes mid same) scanned (omega (arith, some, ap length (same.held ∙ append-nil mid.held.items)))))
-
   -- a line is ready: bytes were taken
   never_none : (len : ℕ) → EndsLineHeld len new → n ≡ 0 → ⊥
   never_none len e zero = none_ended text lines old new len t.not_ready s t.more.place t.more.line
@@ -97,13 +82,15 @@ module _ (old new : Feed) (piece : List ℕ) (n : ℕ) (t : TakesSome old piece 
     chunk_line = c.more.line ∙ sym t.more.line
 
     chunk_settled : 0 < length c.mid.held.items → IsSettled (take (new.state.place + length c.mid.held.items) text) lines
-    chunk_settled some = subst (λ (m : ℕ). IsSettled (take (m + length c.mid.held.items) text) lines) chunk_place (⊎_elim
-        (λ later. settled_scanned text c.mid lines (first_at chunk_place chunk_line first_new) (goes_at text chunk_place refl chunk_goes) (c.scanned later) some)
+    chunk_settled some = ⊎_elim
+        (λ later. subst (λ (m : ℕ). IsSettled (take (m + length c.mid.held.items) text) lines) chunk_place
+        (settled_scanned text c.mid lines (first_at chunk_place chunk_line first_new) (goes_at text chunk_place refl chunk_goes) (c.scanned later) some))
         (λ none.
         let zero : c.before ≡ 0 = omega (arith, none) in
-        let held : c.mid.held.items ≡ old.held.items = c.more.held ∙ ap (λ (m : ℕ). old.held.items ++ take m piece) zero ∙ append-nil old.held.items in
-        settled_of text lines old c.mid c.more.place held (settled_held text lines old t.not_ready s (omega (arith, some, ap length held))))
-        (cases_lt 0 c.before))
+        let held = c.more.held ∙ ap (λ (m : ℕ). old.held.items ++ take m piece) zero ∙ append-nil old.held.items in
+        let known : old.state.place + length old.held.items ≡ new.state.place + length c.mid.held.items = omega (arith, t.more.place, ap length held) in
+        subst (λ (m : ℕ). IsSettled (take m text) lines) known (settled_held text lines old t.not_ready s (omega (arith, some, ap length held))))
+        (cases_lt 0 c.before)
 
   -- what is so of the line that a caller sees ready
   abbrev StandsFed : Option LogicalLine → Type 0
@@ -113,12 +100,17 @@ module _ (old new : Feed) (piece : List ℕ) (n : ℕ) (t : TakesSome old piece 
       × (line ≡ None → (fault : Fault) → ¬ (Decides (take (new.state.place + length new.held.items) text) fault))
 
   stands_fed : (r : Option ℕ) (line : Option LogicalLine) → IsSeen new r line → StopsTaking old piece n r new → StandsFed line
-  stands_fed None line is (mid, same, scanned, opens) = subst StandsFed (sym is) (
-    open_settled mid same scanned,
-    tt,
-    λ none fault d. undecided_fed text mid lines (open_first mid same) (open_goes mid same) scanned fault
-        (subst (λ (m : ℕ). Decides (take (m + length mid.held.items) text) fault) same.place (subst (λ l. Decides (take (new.state.place + length l) text) fault) (same.held ∙ append-nil mid.held.items) d)),
-  )
+  stands_fed None line is (mid, same, scanned, opens) =
+      let held = same.held ∙ append-nil mid.held.items in
+      let known : new.state.place + length new.held.items ≡ mid.state.place + length mid.held.items = omega (arith, same.place, ap length held) in
+      let first = first_at (sym same.place) (sym same.line) first_new in
+      let goes = goes_at text (sym same.place) (sym held) goes_new in
+      subst StandsFed (sym is) (
+        λ some. subst (λ (m : ℕ). IsSettled (take m text) (lines ++ [])) (sym known) (subst (IsSettled (take (mid.state.place + length mid.held.items) text)) (sym (append-nil lines))
+            (settled_scanned text mid lines first goes scanned (omega (arith, some, ap length held)))),
+        tt,
+        λ none fault d. undecided_fed text mid lines first goes scanned fault (subst (λ (m : ℕ). Decides (take m text) fault) known d),
+      )
   stands_fed (Some len) line (l, is, of) (e, last) = subst StandsFed (sym is) (⊎_elim
       (λ later.
       let c = last later in (

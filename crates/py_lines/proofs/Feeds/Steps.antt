@@ -48,13 +48,14 @@ module _ (f : Feed) (read rest : List ℕ) (o : IsOpen f read rest) where
       let scalars = (all_scalars-parts w.prefix w.later (ap all_scalars w.split ∙ o.scalars)).0 in
       (omega (arith, size, w.size), taken, (w.prefix, (scalars, sym taken)))
 
--- what is held next
-pub held_next : (f : Feed) (read rest : List ℕ) → IsOpen f read rest → drop f.state.scan.stop f.held.items ≡ rest
-held_next f read rest o = ap (λ (n : ℕ). drop n f.held.items) (open_stop f read rest o) ∙ ap (drop (byte_len read)) (sym o.spell) ∙ drop-append_seam (encode_utf8_all read) rest
-
 -- the bytes after the place where the scan stands
 pub next_is : (f : Feed) (read rest held : List ℕ) → IsOpen f read rest → held ≡ f.held.items → take (length held - f.state.scan.stop) (drop f.state.scan.stop held) ≡ rest
-next_is f read rest held o same = take_all (length held - f.state.scan.stop) (drop f.state.scan.stop held) (omega (arith, length-drop f.state.scan.stop held)) ∙ ap (drop f.state.scan.stop) same ∙ held_next f read rest o
+next_is f read rest held o same =
+    take_all (length held - f.state.scan.stop) (drop f.state.scan.stop held) (omega (arith, length-drop f.state.scan.stop held))
+    ∙ ap (drop f.state.scan.stop) same
+    ∙ ap (λ (n : ℕ). drop n f.held.items) (open_stop f read rest o)
+    ∙ ap (drop (byte_len read)) (sym o.spell)
+    ∙ drop-append_seam (encode_utf8_all read) rest
 
 -- bytes that begin no character don't begin with LF
 no_feed : (b : ℕ) (more : List ℕ) → StartsWithNoChar (b ∷ more) → b ≡ 10 → ⊥
