@@ -3,7 +3,7 @@ use Rattle.std.proofs.Common.{◌≡◌, ◌==◌, ℕ, ◌+◌, ◌-◌, length
 use Rattle.std.specs.Prelude.{codes, encode_utf8, encode_utf8_all}
 use Rattle.std.specs.Str.{all_scalars}
 use Rattle.std.specs.List.{list_all}
-use Rattle.std.proofs.lemmas.Bool.{and_from, and_parts, both_ways, cases_lt, false_from_ne_true}
+use Rattle.std.proofs.lemmas.Bool.{and_from, and_parts, both_ways, cases_lt, false_from_ne_true, not-true, or_parts}
 use Rattle.std.proofs.lemmas.Bool.Decides.{nat_tests}
 use Rattle.py_lines.specs.Character.{is_break, is_line_feed, is_operator, is_quote, is_return, is_space, is_word_character}
 use Rattle.py_lines.specs.Piece.{operator, line_end, Piece, ends, spelled}
@@ -16,16 +16,16 @@ use Rattle.py_lines.specs.declared.mode.Move.TheVariants as moves
 use Rattle.py_lines.specs.declared.mode.Start.{Start}
 use Rattle.py_lines.specs.declared.mode.Start.TheVariants as starts
 use Rattle.py_lines.specs.Private.Machine.{Scanned, fresh, moved, started, start_of, first_spelling, spelling_with, Bracket, brackets_after, brackets_of, move_of}
-use Rattle.py_lines.specs.Private.ScanMachine.{meet_of, scan_step, scan_steps}
+use Rattle.py_lines.specs.Private.ScanMachine.{meet_of, move_at, move_in, scan_step, scan_steps}
 use Rattle.py_lines.specs.Private.Scan.{AreLine, EndsNoLine, counts_after, line_start, none_open}
 use Rattle.py_lines.specs.Private.Run.{is_ascii_word}
 use Rattle.py_lines.specs.Private.FieldText.{is_apart_mode, is_code_mode}
-use Rattle.py_lines.specs.Private.Outline.{BeginOther, HoldsLineEnds, HasCome, GoesOnAfter, IsFreeAfter, EndsBefore, StandsBefore, StandsClosed, IsLine, IsOuterEnd, IsTail, line_end_of, tail_of, tail_on, tail_with}
+use Rattle.py_lines.specs.Private.Outline.{BeginOther, HoldsLineEnds, HasCome, GoesOnAfter, IsFreeAfter, EndsBefore, StandsBefore, StandsClosed, IsInPiece, IsLine, IsOuterEnd, IsTail, line_end_of, tail_of, tail_on, tail_with}
 use Rattle.py_lines.proofs.Pieces.PieceLists.{piece}
 use Rattle.py_lines.proofs.Machine.Starts.{start-word, start-space, start-operator, start-feed, start-return}
-use Rattle.py_lines.proofs.Machine.PieceSteps.{scanned, pieces_at}
+use Rattle.py_lines.proofs.Machine.PieceSteps.{scanned, pieces_at, steps_by-append}
 use Rattle.py_lines.proofs.Machine.LiveTexts.{keeps, stack_closed}
-use Rattle.py_lines.proofs.ScanMachine.Steps.{breaks_in}
+use Rattle.py_lines.proofs.ScanMachine.Steps.{begun as scan_begun}
 use Rattle.py_lines.proofs.LineScan.BracketStack.{keeps_at}
 use Rattle.py_lines.proofs.LineScan.Increments.{EndsNoLine-push, line_ends-step, stack_push}
 use Rattle.py_lines.proofs.LineScan.LineCount.{ends-last}
@@ -33,21 +33,28 @@ use Rattle.py_lines.proofs.ScanMachine.Advance.{steps_push}
 use Rattle.py_lines.proofs.LineScan.NextCharacter.{closed_one_line, depth_none, none_level}
 use Rattle.py_lines.proofs.LineScan.PieceEnd.{closed_text}
 use Rattle.py_lines.proofs.LineScan.Runs.{break_low, ends-run, line_ends-run, space_low, word_byte_continues, word_byte_low}
-use Rattle.py_lines.proofs.LineScan.AsciiRuns.{ascii_scalar, free_breaks, operator-no_break, operator-not-quote, word_starts, word_whole, space-not-quote, space_whole}
+use Rattle.py_lines.proofs.LineScan.AsciiRuns.{ascii_scalar, operator-no_break, word_starts, word_whole, space-not-quote, space_whole}
 use Rattle.py_lines.proofs.LineScan.TextSteps.{begun_sound}
-use Rattle.py_lines.proofs.SimpleLines.Tails.{apart_tail, come_sound, feed-no-word, feed_unreturned, free_goes_on, no_tail, no_tail_with, operator-no-word, return_returns, stands, stands_less, tail_on-append, tail_push}
-use Rattle.py_lines.proofs.Text.CharacterTests.{break-not-quote, excluded, feed_from, feed_is, none_of, operator_ascii}
+use Rattle.py_lines.proofs.SimpleLines.Tails.{apart_tail, come_sound, feed-no-word, feed_unreturned, free_goes_on, no_tail, no_tail_with, return_returns, stands, stands_less, tail_on-append, tail_push}
+use Rattle.py_lines.proofs.Text.CharacterTests.{excluded, feed_is, none_of, operator_ascii}
 use Rattle.py_lines.proofs.Text.Utf8Prefixes.{all_scalars-append}
 use Rattle.py_lines.proofs.Text.Utf8Shapes.{one, two, three, four}
 
--- what is no space, and no word
+-- whether a character stands in code: in a word, a string or a space
+abbrev pub stands_in_code : ℕ → Bool
+stands_in_code c = (is_ascii_word c || is_quote c) || is_space c
+
+operator-apart : (c : ℕ) → is_operator c ≡ true → stands_in_code c ≡ false
+unfolding is_ascii_word is_operator is_quote is_space
+operator-apart c is = none_of stands_in_code (codes "+-*/%@&|^~<>=!()[]{},:.;") c refl is
+
+pub break-apart : (c : ℕ) → is_break c ≡ true → stands_in_code c ≡ false
+unfolding is_ascii_word is_break is_quote is_space
+break-apart c is = none_of stands_in_code (codes "\n\r") c refl is
+
 word-not-space : (c : ℕ) → is_ascii_word c ≡ true → is_space c ≡ false
 unfolding is_ascii_word is_space
 word-not-space c h = grind (arith, nat_tests)
-
-operator-not-space : (c : ℕ) → is_operator c ≡ true → is_space c ≡ false
-unfolding is_operator is_space
-operator-not-space c h = none_of is_space (codes "+-*/%@&|^~<>=!()[]{},:.;") c refl h
 
 pub quote-not-space : (c : ℕ) → is_quote c ≡ true → is_space c ≡ false
 unfolding is_quote is_space
@@ -147,15 +154,39 @@ apart_breaks modes.Free c apart space = refl
 apart_breaks modes.Space c apart space = rw space refl
 apart_breaks m c apart space = absurd (both_ways _ refl apart)
 
-code_breaks : (m : Mode) (c : ℕ) → is_code_mode m ≡ true → is_word_character c ≡ false → is_quote c ≡ false → is_space c ≡ false → meet_of m c ≡ moves.Breaks
-unfolding meet_of move_of
-code_breaks modes.Free c code word quote space = refl
-code_breaks modes.Space c code word quote space = rw space refl
-code_breaks (modes.Word s) c code word quote space = rw (word, quote) refl
-code_breaks m c code word quote space = absurd (both_ways _ refl code)
+word_ends : (s : Spelling) (c : ℕ) → is_word_character c ≡ false → is_quote c ≡ false → meet_of (modes.Word s) c ≡ moves.Breaks
+unfolding meet_of
+word_ends s c word quote = rw (word, quote) refl
 
-begin : (s : Scanned) (c : ℕ) (start : Start) → meet_of s.mode c ≡ moves.Breaks → start_of c ≡ start → scan_step s c ≡ started (pieces_at s) c start
-begin s c start breaks is = ap (moved s c) (breaks_in s.mode (depth_through 0 s.done) s.held c breaks) ∙ ap (started (pieces_at s) c) is
+code_breaks : (m : Mode) (c : ℕ) → is_code_mode m ≡ true → c < 128 → stands_in_code c ≡ false → meet_of m c ≡ moves.Breaks
+code_breaks (modes.Word s) c code low apart =
+    let begins = or_parts (is_ascii_word c) (is_quote c) (or_parts (is_ascii_word c || is_quote c) (is_space c) apart).0 in
+    word_ends s c (word_byte_continues c low ∙ begins.0) begins.1
+code_breaks modes.Free c code low apart = apart_breaks modes.Free c refl (or_parts (is_ascii_word c || is_quote c) (is_space c) apart).1
+code_breaks modes.Space c code low apart = apart_breaks modes.Space c refl (or_parts (is_ascii_word c || is_quote c) (is_space c) apart).1
+code_breaks m c code low apart = absurd (both_ways _ refl code)
+
+-- what the machine has come to, with one character more
+pub come_on : {initial : Mode} {read : List ℕ} {n k : ℕ} {st after : List Bracket} {s t : Scanned} (c : ℕ) → HasCome initial read n st s → scan_step s c ≡ Some t
+    → brackets_of t.done ≡ Some after → EndsNoLine 0 t.done → HoldsLineEnds (read ++ c ∷ []) k → HasCome initial (read ++ c ∷ []) k after t
+come_on {initial} {read} {s = s} c come step stacked one_line holds = record {
+  start = come.start;
+  steps = steps_push (line_start initial) read s c come.steps ∙ step;
+  stacked = stacked;
+  one_line = one_line;
+  holds = holds;
+}
+
+-- which the open piece grows by
+grows_in : (m next : Mode) (depth : ℕ) (held : List ℕ) (c : ℕ) → meet_of m c ≡ moves.Grows next → move_in m depth held c ≡ moves.Grows next
+unfolding meet_of move_of
+grows_in modes.Fielded next depth held c h = absurd (cc)
+grows_in m next depth held c h = h
+
+pub grown : {initial : Mode} {read : List ℕ} {n k : ℕ} {st : List Bracket} {s : Scanned} (next : Mode) (c : ℕ) → HasCome initial read n st s → meet_of s.mode c ≡ moves.Grows next
+    → HoldsLineEnds (read ++ c ∷ []) k → HasCome initial (read ++ c ∷ []) k st (scanned s.done next (s.held ++ c ∷ []))
+grown {s = s} next c come meets =
+    come_on c come (ap (moved s c) (grows_in s.mode next (depth_through 0 s.done) s.held c meets)) come.stacked come.one_line
 
 -- a character begins a piece, after one that ends before it
 module _ (initial : Mode) (read : List ℕ) (n : ℕ) (st : List Bracket) (c : ℕ) (on : EndsBefore c initial read n st) where
@@ -168,12 +199,12 @@ module _ (initial : Mode) (read : List ℕ) (n : ℕ) (st : List Bracket) (c : �
   pub closed_line : EndsNoLine 0 pieces
   closed_line = closed_one_line on.state.mode on.state.done on.state.held st on.come.stacked on.come.one_line on.inside
 
-  begins_as : (start : Start) → start_of c ≡ start → scan_steps (Some (line_start initial)) (read ++ c ∷ []) ≡ started pieces c start
-  begins_as start is = steps_push (line_start initial) read on.state c on.come.steps ∙ begin on.state c start on.breaks is
+  pub begins_as : (cs : List ℕ) (start : Start) → start_of c ≡ start → scan_steps (Some (line_start initial)) (read ++ c ∷ cs) ≡ scan_steps (started pieces c start) cs
+  begins_as cs start is = steps_by-append move_at (Some (line_start initial)) read (c ∷ cs) ∙ ap (λ o. scan_steps o (c ∷ cs)) on.come.steps ∙ scan_begun on.state c cs [] start on.breaks is
 
   -- it stays open
-  pub opens : (m : Mode) → start_of c ≡ starts.Open m → HoldsLineEnds (read ++ c ∷ []) n → HasCome initial (read ++ c ∷ []) n st (scanned pieces m (c ∷ []))
-  opens m is holds = record { start = on.come.start; steps = begins_as (starts.Open m) is; stacked = closed_stack; one_line = closed_line; holds = holds }
+  pub opens : (m : Mode) {k : ℕ} → start_of c ≡ starts.Open m → HoldsLineEnds (read ++ c ∷ []) k → HasCome initial (read ++ c ∷ []) k st (scanned pieces m (c ∷ []))
+  opens m is holds = record { start = on.come.start; steps = begins_as [] (starts.Open m) is; stacked = closed_stack; one_line = closed_line; holds = holds }
 
   -- it is an operator, which the brackets allow: no piece is open then
   pub operator_closes : (after : List Bracket) → is_operator c ≡ true → brackets_after st (byte_len read) (piece operator (c ∷ [])) ≡ Some after → IsFreeAfter initial (read ++ c ∷ []) n after
@@ -181,7 +212,7 @@ module _ (initial : Mode) (read : List ℕ) (n : ℕ) (st : List Bracket) (c : �
     done = pieces ++ piece operator (c ∷ []) ∷ [];
     come = record {
       start = on.come.start;
-      steps = begins_as starts.Operator (start-operator c is);
+      steps = begins_as [] starts.Operator (start-operator c is);
       stacked = stack_push pieces (piece operator (c ∷ [])) st closed_stack ∙ ap (λ (k : ℕ). brackets_after st k (piece operator (c ∷ []))) (closed_place initial read n st on.state on.come) ∙ may;
       one_line = EndsNoLine-push 0 pieces (piece operator (c ∷ [])) closed_line refl;
       holds = holds_one read c n on.come.holds (operator_ascii c is) (operator-no_break c is);
@@ -191,25 +222,17 @@ module _ (initial : Mode) (read : List ℕ) (n : ℕ) (st : List Bracket) (c : �
   pub operator_passed : (after : List Bracket) → is_operator c ≡ true → brackets_after st (byte_len read) (piece operator (c ∷ [])) ≡ Some after → GoesOnAfter initial (read ++ c ∷ []) n after
   operator_passed after is may = free_goes_on initial (read ++ c ∷ []) n after (operator_closes after is may)
 
+-- CR opens a line end
+return_opens : (initial : Mode) (read : List ℕ) (n : ℕ) (st : List Bracket) (on : EndsBefore 13 initial read n st)
+    → HasCome initial (read ++ 13 ∷ []) (n + 1) st (scanned (pieces initial read n st 13 on) modes.Return (13 ∷ []))
+return_opens initial read n st on = opens initial read n st 13 on modes.Return (start-return 13 return_returns) (holds_return read n on.come.holds)
+
 -- a line end
-feed_is_feed : is_line_feed 10 ≡ true
-feed_is_feed = feed_from 10 refl
-
-return_closes : meet_of modes.Return 10 ≡ moves.Closes
-unfolding meet_of move_of
-return_closes = rw feed_is_feed refl
-
-return_opens : (initial : Mode) (read : List ℕ) (n : ℕ) (st : List Bracket) (on : EndsBefore 13 initial read n st) → scan_steps (Some (line_start initial)) (read ++ 13 ∷ []) ≡ Some (scanned (pieces initial read n st 13 on) modes.Return (13 ∷ []))
-return_opens initial read n st on = begins_as initial read n st 13 on (starts.Open modes.Return) (start-return 13 return_returns)
-
 pub line_end_steps : (returned : Bool) (initial : Mode) (read : List ℕ) (n : ℕ) (st : List Bracket) (on : EndsBefore (line_end_first returned) initial read n st)
     → scan_steps (Some (line_start initial)) (read ++ line_end_of returned) ≡ Some (fresh (pieces initial read n st (line_end_first returned) on ++ piece line_end (line_end_of returned) ∷ []))
-line_end_steps false initial read n st on = begins_as initial read n st 10 on starts.LineEnd (start-feed 10 feed_is_feed)
-line_end_steps true initial read n st on =
-    let open_return : Scanned = scanned (pieces initial read n st 13 on) modes.Return (13 ∷ []) in
-    ap (scan_steps (Some (line_start initial))) (sym (append_assoc read (13 ∷ []) (10 ∷ [])))
-    ∙ steps_push (line_start initial) (read ++ 13 ∷ []) open_return 10 (return_opens initial read n st on)
-    ∙ ap (moved open_return 10) return_closes
+unfolding meet_of move_of is_line_feed
+line_end_steps false initial read n st on = begins_as initial read n st 10 on [] starts.LineEnd (start-feed 10 refl)
+line_end_steps true initial read n st on = begins_as initial read n st 13 on (10 ∷ []) (starts.Open modes.Return) (start-return 13 return_returns)
 
 pub line_is : (initial : Mode) (read : List ℕ) (n c : ℕ) (on : EndsBefore c initial read n []) (text : List ℕ) → AreLine (pieces initial read n [] c on) (piece line_end text) (byte_len text)
 line_is initial read n c on text =
@@ -287,7 +310,7 @@ return_whole after m read n other on =
         len = byte_len (13 ∷ []);
         are = line_is m read n 13 on (13 ∷ []);
         state = scanned done modes.Return (13 ∷ []);
-        steps = return_opens m read n [] on;
+        steps = (return_opens m read n [] on).steps;
         ended = inr (refl, refl);
         whole = inr (other_follows after other);
         holds = holds_return read n on.come.holds;
@@ -301,51 +324,30 @@ return_inside : (after : List ℕ) (initial : Mode) (read : List ℕ) (n : ℕ) 
 return_inside [] initial read n st other some on = absurd other
 return_inside (c ∷ cs) initial read n st other some on = inr (record {
   state = scanned (pieces initial read n st 13 on) modes.Return (13 ∷ []);
-  come = record {
-    start = on.come.start;
-    steps = return_opens initial read n st on;
-    stacked = closed_stack initial read n st 13 on;
-    one_line = closed_line initial read n st 13 on;
-    holds = holds_return read n on.come.holds;
-  };
+  come = return_opens initial read n st on;
   breaks = return_waits c other;
   parted = λ feeds. absurd (other feeds);
   inside = λ is. some;
   tail = λ begins. no_tail_return read;
 })
 
--- a byte that begins neither a word nor a string
-pub neither : (a b : Bool) → a ≡ false → b ≡ false → a || b ≡ false
-neither true b none other = absurd (both_ways _ none refl)
-neither false b none other = other
+-- the line goes on up to a character before which the piece ends that is open
+ends_at : (initial : Mode) (read : List ℕ) (n : ℕ) (st : List Bracket) (c : ℕ) (on : GoesOnAfter initial read n st) → meet_of on.state.mode c ≡ moves.Breaks
+    → (is_ascii_word c || is_quote c ≡ true → tail_of read ≡ None) → EndsBefore c initial read n st
+ends_at initial read n st c on breaks tail = record {
+  state = on.state;
+  come = on.come;
+  breaks = breaks;
+  parted = λ feeds. on.unreturned;
+  inside = λ returns. absurd (code_other on.state.mode (tail_code (tail_of read) on.state.mode on.tail) returns);
+  tail = tail;
+}
 
 -- what code ends before
-pub code_ends : (initial : Mode) (read : List ℕ) (n : ℕ) (st : List Bracket) (c : ℕ) → GoesOnAfter initial read n st → is_word_character c ≡ false → is_quote c ≡ false → is_space c ≡ false → is_ascii_word c ≡ false → EndsBefore c initial read n st
-code_ends initial read n st c on word quote space none =
-    let code = tail_code (tail_of read) on.state.mode on.tail in
-    record {
-      state = on.state;
-      come = on.come;
-      breaks = code_breaks on.state.mode c code word quote space;
-      parted = λ feeds. on.unreturned;
-      inside = λ is. absurd (code_other on.state.mode code is);
-      tail = λ is. absurd (both_ways _ (neither _ _ none quote) is);
-    }
-
--- CR and LF begin neither, and are no space
-break-no_word : (c : ℕ) → is_break c ≡ true → is_ascii_word c ≡ false
-unfolding is_break is_ascii_word
-break-no_word c is = none_of is_ascii_word (codes "\n\r") c refl is
-
-break-not-space : (c : ℕ) → is_break c ≡ true → is_space c ≡ false
-unfolding is_break is_space
-break-not-space c is = none_of is_space (codes "\n\r") c refl is
-
-break-not-word : (c : ℕ) → is_break c ≡ true → is_word_character c ≡ false
-break-not-word c is = word_byte_continues c (break_low c is) ∙ break-no_word c is
-
-pub break-begins_none : (c : ℕ) → is_break c ≡ true → is_ascii_word c || is_quote c ≡ false
-break-begins_none c is = neither _ _ (break-no_word c is) (break-not-quote c is)
+pub code_ends : (initial : Mode) (read : List ℕ) (n : ℕ) (st : List Bracket) (c : ℕ) → GoesOnAfter initial read n st → c < 128 → stands_in_code c ≡ false → EndsBefore c initial read n st
+code_ends initial read n st c on low apart =
+    ends_at initial read n st c on (code_breaks on.state.mode c (tail_code (tail_of read) on.state.mode on.tail) low apart)
+    (λ begins. absurd (both_ways _ (or_parts (is_ascii_word c || is_quote c) (is_space c) apart).0 begins))
 
 first-break : (returned : Bool) → is_break (line_end_first returned) ≡ true
 unfolding is_break
@@ -353,28 +355,29 @@ first-break true = refl
 first-break false = refl
 
 break_ends : (initial : Mode) (read : List ℕ) (n : ℕ) (st : List Bracket) (c : ℕ) → is_break c ≡ true → GoesOnAfter initial read n st → EndsBefore c initial read n st
-break_ends initial read n st c is on = code_ends initial read n st c on (break-not-word c is) (break-not-quote c is) (break-not-space c is) (break-no_word c is)
-
-operator-not-word : (c : ℕ) → is_operator c ≡ true → is_word_character c ≡ false
-operator-not-word c is = word_byte_continues c (operator_ascii c is) ∙ operator-no-word c is
+break_ends initial read n st c is on = code_ends initial read n st c on (break_low c is) (break-apart c is)
 
 pub operator_ends : (initial : Mode) (read : List ℕ) (n : ℕ) (st : List Bracket) (c : ℕ) → is_operator c ≡ true → GoesOnAfter initial read n st → EndsBefore c initial read n st
-operator_ends initial read n st c is on = code_ends initial read n st c on (operator-not-word c is) (operator-not-quote c is) (operator-not-space c is) (operator-no-word c is)
+operator_ends initial read n st c is on = code_ends initial read n st c on (operator_ascii c is) (operator-apart c is)
+
+-- before another character a word is open, or the piece ends
+pub word_or_ends : (initial : Mode) (read : List ℕ) (n : ℕ) (st : List Bracket) (c : ℕ) → is_space c ≡ false → GoesOnAfter initial read n st
+    → ((s : Spelling) × (tail_of read ≡ Some s) × IsInPiece (modes.Word s) initial read n st) ⊎ ((tail_of read ≡ None) × EndsBefore c initial read n st)
+word_or_ends initial read n st c space on = by (tail_of read) refl on.tail
+  where
+    by : (t : Option Spelling) → tail_of read ≡ t → IsTail t on.state.mode
+        → ((s : Spelling) × (tail_of read ≡ Some s) × IsInPiece (modes.Word s) initial read n st) ⊎ ((tail_of read ≡ None) × EndsBefore c initial read n st)
+    by None none apart = inr (none, ends_at initial read n st c on (apart_breaks on.state.mode c apart space) (λ _. none))
+    by (Some s) some is =
+        inl (s, some, subst (λ (m : Mode). IsInPiece m initial read n st) is (record { done = on.state.done; held = on.state.held; come = on.come; unreturned = on.unreturned }))
 
 -- a letter, digit or underscore
 word_grows : (s : Spelling) (c : ℕ) → is_ascii_word c ≡ true → meet_of (modes.Word s) c ≡ moves.Grows (modes.Word (spelling_with s c))
 unfolding meet_of
 word_grows s c is = rw (word_byte_continues c (word_byte_low c is) ∙ is) refl
 
-no_break_from : (c : ℕ) → not (is_break c) ≡ true → is_break c ≡ false
-no_break_from c h = go (is_break c) h
-  where
-    go : (b : Bool) → not b ≡ true → b ≡ false
-    go false e = refl
-    go true e = sym e
-
 word-not-break : (c : ℕ) → is_ascii_word c ≡ true → is_break c ≡ false
-word-not-break c is = no_break_from c (word_whole c is)
+word-not-break c is = not-true _ (word_whole c is)
 
 word_holds : (read : List ℕ) (n c : ℕ) → HoldsLineEnds read n → is_ascii_word c ≡ true → HoldsLineEnds (read ++ c ∷ []) n
 word_holds read n c holds is = holds_one read c n holds (word_byte_low c is) (word-not-break c is)
@@ -393,92 +396,62 @@ word_opens initial read n st c is none on = record {
   unreturned = one_unreturned read c (word-not-break c is);
 }
 
-word_goes_on : (initial : Mode) (read : List ℕ) (n : ℕ) (st : List Bracket) (done : List Piece) (s : Spelling) (held : List ℕ) → tail_of read ≡ Some s → HasCome initial read n st (scanned done (modes.Word s) held) → (c : ℕ) → is_ascii_word c ≡ true → GoesOnAfter initial (read ++ c ∷ []) n st
-word_goes_on initial read n st done s held some come c is = record {
-  state = scanned done (modes.Word (spelling_with s c)) (held ++ c ∷ []);
-  come = record {
-    start = come.start;
-    steps = steps_push (line_start initial) read (scanned done (modes.Word s) held) c come.steps ∙ ap (moved (scanned done (modes.Word s) held) c) (word_grows s c is);
-    stacked = come.stacked;
-    one_line = come.one_line;
-    holds = word_holds read n c come.holds is;
-  };
+word_goes_on : (initial : Mode) (read : List ℕ) (n : ℕ) (st : List Bracket) (s : Spelling) → tail_of read ≡ Some s → IsInPiece (modes.Word s) initial read n st → (c : ℕ) → is_ascii_word c ≡ true → GoesOnAfter initial (read ++ c ∷ []) n st
+word_goes_on initial read n st s some on c is = record {
+  state = scanned on.done (modes.Word (spelling_with s c)) (on.held ++ c ∷ []);
+  come = grown (modes.Word (spelling_with s c)) c on.come (word_grows s c is) (word_holds read n c on.come.holds is);
   tail = subst (λ t. IsTail t (modes.Word (spelling_with s c))) (sym (more_tail read s c some is)) refl;
   unreturned = one_unreturned read c (word-not-break c is);
 }
 
-word_passed : (initial : Mode) (read : List ℕ) (n : ℕ) (st : List Bracket) (t : Option Spelling) (s : Scanned) → tail_of read ≡ t → HasCome initial read n st s → IsTail t s.mode → ends is_return read ≡ false → (c : ℕ) → is_ascii_word c ≡ true → GoesOnAfter initial (read ++ c ∷ []) n st
-word_passed initial read n st None s none come apart unreturned c is = word_opens initial read n st c is none (record {
-  state = s;
-  come = come;
-  breaks = apart_breaks s.mode c apart (word-not-space c is);
-  parted = λ feeds. unreturned;
-  inside = λ returns. absurd (code_other s.mode (apart_code s.mode apart) returns);
-  tail = λ _. none;
-})
-word_passed initial read n st (Some w) s some come tail unreturned c is =
-    word_goes_on initial read n st s.done w s.held some (subst (λ (m : Mode). HasCome initial read n st (scanned s.done m s.held)) tail come) c is
+word_passed : (initial : Mode) (read : List ℕ) (n : ℕ) (st : List Bracket) (c : ℕ) → is_ascii_word c ≡ true → GoesOnAfter initial read n st → GoesOnAfter initial (read ++ c ∷ []) n st
+word_passed initial read n st c is on = ⊎_elim
+    (λ word. word_goes_on initial read n st word.0 word.1 word.2 c is)
+    (λ ends. word_opens initial read n st c is ends.0 ends.1)
+    (word_or_ends initial read n st c (word-not-space c is) on)
 
 -- a space
-space_grows : (c : ℕ) → is_space c ≡ true → meet_of modes.Space c ≡ moves.Grows modes.Space
-unfolding meet_of move_of
-space_grows c is = rw is refl
-
 space-not-word : (c : ℕ) → is_space c ≡ true → is_word_character c ≡ false
 space-not-word c is = word_byte_continues c (space_low c is) ∙ space-no-word c is
 
 space-not-break : (c : ℕ) → is_space c ≡ true → is_break c ≡ false
-space-not-break c is = no_break_from c (space_whole c is)
+space-not-break c is = not-true _ (space_whole c is)
 
 space_holds : (read : List ℕ) (n c : ℕ) → HoldsLineEnds read n → is_space c ≡ true → HoldsLineEnds (read ++ c ∷ []) n
 space_holds read n c holds is = holds_one read c n holds (space_low c is) (space-not-break c is)
 
-space_opens : (initial : Mode) (read : List ℕ) (n : ℕ) (st : List Bracket) (c : ℕ) → is_space c ≡ true → EndsBefore c initial read n st → GoesOnAfter initial (read ++ c ∷ []) n st
-space_opens initial read n st c is on = record {
-  state = scanned (pieces initial read n st c on) modes.Space (c ∷ []);
-  come = opens initial read n st c on modes.Space (start-space c is) (space_holds read n c on.come.holds is);
-  tail = apart_tail (tail_of (read ++ c ∷ [])) modes.Space refl (no_tail read c (space-no-word c is));
-  unreturned = one_unreturned read c (space-not-break c is);
-}
-
-word_ends : (s : Spelling) (c : ℕ) → is_word_character c ≡ false → is_quote c ≡ false → meet_of (modes.Word s) c ≡ moves.Breaks
-unfolding meet_of
-word_ends s c word quote = rw (word, quote) refl
-
-space_begins : (initial : Mode) (read : List ℕ) (n : ℕ) (st : List Bracket) (done : List Piece) (m : Mode) (held : List ℕ) → HasCome initial read n st (scanned done m held) → is_code_mode m ≡ true → ends is_return read ≡ false → (c : ℕ) → is_space c ≡ true → meet_of m c ≡ moves.Breaks → GoesOnAfter initial (read ++ c ∷ []) n st
-space_begins initial read n st done m held come code unreturned c is breaks = space_opens initial read n st c is (record {
-  state = scanned done m held;
+space_after : (initial : Mode) (read : List ℕ) (n : ℕ) (st : List Bracket) (c : ℕ) → is_space c ≡ true → (done : List Piece) (held : List ℕ) → HasCome initial (read ++ c ∷ []) n st (scanned done modes.Space held) → GoesOnAfter initial (read ++ c ∷ []) n st
+space_after initial read n st c is done held come = record {
+  state = scanned done modes.Space held;
   come = come;
-  breaks = breaks;
-  parted = λ feeds. unreturned;
-  inside = λ returns. absurd (code_other m code returns);
-  tail = λ begins. absurd (both_ways _ (neither _ _ (space-no-word c is) (space-not-quote c is)) begins);
-})
-
-space_passed : (initial : Mode) (read : List ℕ) (n : ℕ) (st : List Bracket) (done : List Piece) (m : Mode) (held : List ℕ) → HasCome initial read n st (scanned done m held) → is_code_mode m ≡ true → ends is_return read ≡ false → (c : ℕ) → is_space c ≡ true → GoesOnAfter initial (read ++ c ∷ []) n st
-space_passed initial read n st done modes.Space held come code unreturned c is = record {
-  state = scanned done modes.Space (held ++ c ∷ []);
-  come = record {
-    start = come.start;
-    steps = steps_push (line_start initial) read (scanned done modes.Space held) c come.steps ∙ ap (moved (scanned done modes.Space held) c) (space_grows c is);
-    stacked = come.stacked;
-    one_line = come.one_line;
-    holds = space_holds read n c come.holds is;
-  };
   tail = apart_tail (tail_of (read ++ c ∷ [])) modes.Space refl (no_tail read c (space-no-word c is));
   unreturned = one_unreturned read c (space-not-break c is);
 }
-space_passed initial read n st done modes.Free held come code unreturned c is = space_begins initial read n st done modes.Free held come refl unreturned c is (free_breaks modes.Free c refl)
-space_passed initial read n st done (modes.Word s) held come code unreturned c is = space_begins initial read n st done (modes.Word s) held come refl unreturned c is (word_ends s c (space-not-word c is) (space-not-quote c is))
-space_passed initial read n st done m held come code unreturned c is = absurd (both_ways _ refl code)
+
+space_opens : (initial : Mode) (read : List ℕ) (n : ℕ) (st : List Bracket) (c : ℕ) → is_space c ≡ true → EndsBefore c initial read n st → GoesOnAfter initial (read ++ c ∷ []) n st
+space_opens initial read n st c is on =
+    space_after initial read n st c is (pieces initial read n st c on) (c ∷ []) (opens initial read n st c on modes.Space (start-space c is) (space_holds read n c on.come.holds is))
+
+space_or_ends : (m : Mode) (c : ℕ) → is_code_mode m ≡ true → is_space c ≡ true → (meet_of m c ≡ moves.Grows modes.Space) ⊎ (meet_of m c ≡ moves.Breaks)
+unfolding meet_of move_of
+space_or_ends modes.Space c code is = inl (rw is refl)
+space_or_ends modes.Free c code is = inr refl
+space_or_ends (modes.Word s) c code is = inr (word_ends s c (space-not-word c is) (space-not-quote c is))
+space_or_ends m c code is = absurd (both_ways _ refl code)
+
+space_passed : (initial : Mode) (read : List ℕ) (n : ℕ) (st : List Bracket) (c : ℕ) → is_space c ≡ true → GoesOnAfter initial read n st → GoesOnAfter initial (read ++ c ∷ []) n st
+space_passed initial read n st c is on = ⊎_elim
+    (λ grows. space_after initial read n st c is on.state.done (on.state.held ++ c ∷ []) (grown modes.Space c on.come grows (space_holds read n c on.come.holds is)))
+    (λ breaks. space_opens initial read n st c is (ends_at initial read n st c on breaks (λ begins. absurd (both_ways _ (rw (space-no-word c is, space-not-quote c is) refl) begins))))
+    (space_or_ends on.state.mode c (tail_code (tail_of read) on.state.mode on.tail) is)
 
 -- a byte of words, a space, or an operator that is no bracket
 abbrev pub IsCodeByte : ℕ → Type 0
 IsCodeByte c = (is_ascii_word c ≡ true) ⊎ ((is_space c ≡ true) ⊎ ((is_operator c ≡ true) × (is_opening c ≡ false) × (is_closing c ≡ false)))
 
 code_passed : (initial : Mode) (read : List ℕ) (n : ℕ) (st : List Bracket) (c : ℕ) → IsCodeByte c → GoesOnAfter initial read n st → GoesOnAfter initial (read ++ c ∷ []) n st
-code_passed initial read n st c (inl word) on = word_passed initial read n st (tail_of read) on.state refl on.come on.tail on.unreturned c word
-code_passed initial read n st c (inr (inl space)) on = space_passed initial read n st on.state.done on.state.mode on.state.held on.come (tail_code (tail_of read) on.state.mode on.tail) on.unreturned c space
+code_passed initial read n st c (inl word) on = word_passed initial read n st c word on
+code_passed initial read n st c (inr (inl space)) on = space_passed initial read n st c space on
 code_passed initial read n st c (inr (inr (stands, opens, closes))) on = operator_passed initial read n st c (operator_ends initial read n st c stands on) st stands (keeps_at st (byte_len read) c opens closes)
 
 code_begins : (initial : Mode) (read : List ℕ) (n : ℕ) (st : List Bracket) (c : ℕ) → IsCodeByte c → EndsBefore c initial read n st → GoesOnAfter initial (read ++ c ∷ []) n st

@@ -1,39 +1,26 @@
 -- A comment is passed over: the machine goes through it, up to a line end.
-use Rattle.std.proofs.Common.{◌≡◌, ℕ, suc, ◌+◌, ◌-◌, ◌<◌, inr, Bool, true, false, not, Some, List, [], ◌∷◌, ◌++◌, length, take, drop, slice_index, refl, sym, ap, ◌∙◌, subst, append_assoc, arith, drop-cons, take_all}
+use Rattle.std.proofs.Common.{◌≡◌, ℕ, suc, ◌+◌, ◌-◌, ◌<◌, inr, Bool, true, false, Some, List, [], ◌∷◌, ◌++◌, length, take, drop, slice_index, refl, sym, ap, ◌∙◌, subst, append_assoc, arith, drop-cons, lit<, take_all}
 use Rattle.std.specs.Prelude.{encode_utf8_all}
 use Rattle.std.specs.Str.{all_scalars}
 use Rattle.std.specs.List.{list_all}
-use Rattle.std.proofs.lemmas.Bool.{both_ways}
+use Rattle.std.proofs.lemmas.Bool.{both_ways, not-false, or_parts}
 use Rattle.std.proofs.lemmas.Str.{encode_ascii}
-use Rattle.py_lines.specs.Character.{is_backslash, is_break, is_hash, is_quote, is_space, is_word_character}
+use Rattle.py_lines.specs.Character.{is_backslash, is_break, is_hash, is_quote, is_space}
 use Rattle.py_lines.specs.declared.mode.Mode.{Mode}
 use Rattle.py_lines.specs.declared.mode.Mode.TheVariants as modes
 use Rattle.py_lines.specs.declared.mode.Move.TheVariants as moves
 use Rattle.py_lines.specs.Private.Machine.{Bracket, move_of}
 use Rattle.py_lines.specs.Private.ScanMachine.{meet_of}
 use Rattle.py_lines.specs.Private.Run.{IsRunOf, IsWholeComment, is_ascii_word, is_comment_byte, stays}
-use Rattle.py_lines.specs.Private.Outline.{BeforePiece, EndsBefore, GoesOnAfter, IsInPieceAfter, Passes, PassesFirst, StandsBefore, StandsClosed, closes_itself}
+use Rattle.py_lines.specs.Private.Outline.{BeforePiece, EndsBefore, IsInPieceAfter, Passes, PassesFirst, StandsBefore, StandsClosed, closes_itself}
 use Rattle.py_lines.proofs.Machine.Starts.{start-hash}
-use Rattle.py_lines.proofs.Text.CharacterTests.{the_one}
-use Rattle.py_lines.proofs.LineScan.Runs.{word_byte_continues}
-use Rattle.py_lines.proofs.SimpleLines.Code.{break-begins_none, code_ends, ends_so, holds_one, one_unreturned, opens, pieces}
+use Rattle.py_lines.proofs.LineTokens.FirstCharacters.{hash_is}
+use Rattle.py_lines.proofs.SimpleLines.Code.{break-apart, code_ends, ends_so, holds_one, one_unreturned, opens, pieces, stands_in_code}
 use Rattle.py_lines.proofs.SimpleLines.Runs.{goes_on, stay_spelled}
 
-hash_is : (c : ℕ) → is_hash c ≡ true → c ≡ 35
-unfolding is_hash
-hash_is c h = the_one 35 c h
-
-hash-no-word : is_ascii_word 35 ≡ false
-unfolding is_ascii_word
-hash-no-word = refl
-
-hash-not-quote : is_quote 35 ≡ false
-unfolding is_quote
-hash-not-quote = refl
-
-hash-not-space : is_space 35 ≡ false
-unfolding is_space
-hash-not-space = refl
+hash-apart : stands_in_code 35 ≡ false
+unfolding is_ascii_word is_quote is_space
+hash-apart = refl
 
 hash-not-break : is_break 35 ≡ false
 unfolding is_break
@@ -42,12 +29,6 @@ hash-not-break = refl
 hash_hash : is_hash 35 ≡ true
 unfolding is_hash
 hash_hash = refl
-
-hash-not-word : is_word_character 35 ≡ false
-hash-not-word = word_byte_continues 35 (omega arith) ∙ hash-no-word
-
-hash_ends : (initial : Mode) (read : List ℕ) (n : ℕ) (st : List Bracket) → GoesOnAfter initial read n st → EndsBefore 35 initial read n st
-hash_ends initial read n st on = code_ends initial read n st 35 on hash-not-word hash-not-quote hash-not-space hash-no-word
 
 -- `#` opens a comment
 comment_opens : (initial : Mode) (read : List ℕ) (n : ℕ) (st : List Bracket) (on : EndsBefore 35 initial read n st) → IsInPieceAfter modes.Comment (record { mode = initial; done = pieces initial read n st 35 on }) (read ++ 35 ∷ []) n st
@@ -69,20 +50,13 @@ comment_ends initial read n st c is on = record {
   breaks = comment_breaks c is;
   parted = λ feeds. on.unreturned;
   inside = λ returns. absurd (cc);
-  tail = λ begins. absurd (both_ways _ (break-begins_none c is) begins);
+  tail = λ begins. absurd (both_ways _ (or_parts _ _ (break-apart c is)).0 begins);
 }
-
-break_of : (c : ℕ) → is_comment_byte c ≡ false → is_break c ≡ true
-break_of c h = go (is_break c) h
-  where
-    go : (b : Bool) → not b ≡ false → b ≡ true
-    go true e = refl
-    go false e = absurd (both_ways _ e refl)
 
 comment_leads : (cs : List ℕ) (k : ℕ) (run : List ℕ) (initial : Mode) (read : List ℕ) (n : ℕ) (st : List Bracket) → all_scalars run ≡ true → list_all (stays modes.Comment) run ≡ true → k < length cs → is_break (slice_index cs k) ≡ true
     → StandsBefore (35 ∷ cs) initial read n st → StandsBefore (drop k cs) initial (read ++ 35 ∷ run) (n + 0) st
 comment_leads cs k run initial read n st scalars all within breaks on =
-    let ends = ends_so initial read cs n st 35 (hash_ends initial read n st) on in
+    let ends = ends_so initial read cs n st 35 (λ goes. code_ends initial read n st 35 goes (lit< tt) hash-apart) on in
     let opened = comment_opens initial read n st ends in
     let before : BeforePiece = record { mode = initial; done = pieces initial read n st 35 ends } in
     let come = subst (λ (t : List ℕ). IsInPieceAfter modes.Comment before t n st) (append_assoc read (35 ∷ []) run) (goes_on modes.Comment before (read ++ 35 ∷ []) run n st scalars all opened) in
@@ -122,6 +96,6 @@ comment_passed (b ∷ cs) k some hash found =
         within = omega (arith, whole.2);
         run = 35 ∷ whole.1.0;
         spell = spell;
-        leads = λ initial read n st on. comment_leads cs k whole.1.0 initial read n st whole.1.1.0 (stay_spelled modes.Comment cs k tt text.within text.each whole.1.0 whole.1.1.1) whole.2 (break_of (slice_index cs k) (text.ends whole.2)) on;
+        leads = λ initial read n st on. comment_leads cs k whole.1.0 initial read n st whole.1.1.0 (stay_spelled modes.Comment cs k tt text.within text.each whole.1.0 whole.1.1.1) whole.2 (not-false _ (text.ends whole.2)) on;
       };
     })

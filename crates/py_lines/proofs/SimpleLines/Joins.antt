@@ -1,46 +1,38 @@
 -- A join of two lines is passed over: the machine goes through the backslash and the line end.
-use Rattle.std.proofs.Common.{◌≡◌, ℕ, suc, ◌+◌, ◌-◌, ◌<◌, ◌≤◌, inl, inr, Bool, true, false, Some, List, [], ◌∷◌, ◌++◌, length, take, drop, slice_index, refl, sym, ap, ◌∙◌, subst, append_assoc, arith, take_all}
+use Rattle.std.proofs.Common.{◌≡◌, ℕ, suc, ◌+◌, ◌-◌, ◌<◌, ◌≤◌, inl, inr, Bool, true, false, Some, List, [], ◌∷◌, ◌++◌, length, take, drop, slice_index, refl, sym, ap, ◌∙◌, subst, append_assoc, arith, lit<, take_all}
 use Rattle.std.specs.Prelude.{◌==◌}
 use Rattle.std.proofs.lemmas.Bool.{and_parts, eqb-true, false_from_ne_true}
 use Rattle.std.proofs.lemmas.List.{get_or-take, length-take-le}
-use Rattle.py_lines.specs.Character.{is_backslash, is_break, is_line_feed, is_quote, is_return, is_space, is_word_character}
+use Rattle.py_lines.specs.Character.{is_backslash, is_break, is_line_feed, is_quote, is_return, is_space}
 use Rattle.py_lines.specs.Piece.{Piece, join}
 use Rattle.py_lines.proofs.Pieces.PieceLists.{piece}
 use Rattle.py_lines.specs.declared.mode.Mode.{Mode}
 use Rattle.py_lines.specs.declared.mode.Mode.TheVariants as modes
+use Rattle.py_lines.specs.declared.mode.Start.TheVariants as starts
 use Rattle.py_lines.specs.declared.mode.Move.TheVariants as moves
-use Rattle.py_lines.specs.Private.Machine.{Bracket, fresh, move_of, moved}
+use Rattle.py_lines.specs.Private.Machine.{Bracket, fresh, move_of}
 use Rattle.py_lines.specs.Private.ScanMachine.{meet_of, scan_steps}
 use Rattle.py_lines.specs.Private.Scan.{line_start}
 use Rattle.py_lines.specs.Private.Run.{is_ascii_word}
-use Rattle.py_lines.specs.Private.Outline.{BeginsOuterEnd, EndsBefore, GoesOnAfter, HasCome, HasOuterEnd, IsFreeAfter, IsOuterEnd, PassesFirst, StandsBefore, StandsClosed, closes_itself, line_end_of}
+use Rattle.py_lines.specs.Private.Outline.{BeginsOuterEnd, EndsBefore, HasCome, HasOuterEnd, IsFreeAfter, IsOuterEnd, PassesFirst, StandsBefore, StandsClosed, closes_itself, line_end_of}
 use Rattle.py_lines.proofs.Machine.LiveTexts.{keeps}
 use Rattle.py_lines.proofs.Machine.PieceSteps.{scanned}
 use Rattle.py_lines.proofs.Machine.Starts.{start-slash}
 use Rattle.py_lines.proofs.LineScan.Increments.{EndsNoLine-push}
-use Rattle.py_lines.proofs.ScanMachine.Advance.{steps_push}
-use Rattle.py_lines.proofs.LineScan.Runs.{word_byte_continues}
 use Rattle.py_lines.proofs.LineScan.AsciiRuns.{is_low, low_encodes, low_is}
-use Rattle.py_lines.proofs.Text.CharacterTests.{feed_is, the_one}
-use Rattle.py_lines.proofs.SimpleLines.Code.{closed_line, code_ends, ends_so, holds_line_end, holds_one, holds_return, no_tail_return, one_unreturned, opens, pieces}
+use Rattle.py_lines.proofs.Text.CharacterTests.{feed_is}
+use Rattle.py_lines.proofs.SimpleLines.Code.{begins_as, closed_line, code_ends, ends_so, grown, holds_line_end, holds_one, holds_return, no_tail_return, one_unreturned, opens, pieces, stands_in_code}
+use Rattle.py_lines.proofs.LineTokens.FirstCharacters.{slash_is}
 use Rattle.py_lines.proofs.SimpleLines.Tails.{free_stands}
 use Rattle.py_lines.proofs.SimpleLines.FirstBytes.{outer_end_low}
 
-slash_is : (c : ℕ) → is_backslash c ≡ true → c ≡ 92
-unfolding is_backslash
-slash_is c h = the_one 92 c h
-
-slash-no-word : is_ascii_word 92 ≡ false
-unfolding is_ascii_word
-slash-no-word = refl
+slash-apart : stands_in_code 92 ≡ false
+unfolding is_ascii_word is_quote is_space
+slash-apart = refl
 
 slash-not-quote : is_quote 92 ≡ false
 unfolding is_quote
 slash-not-quote = refl
-
-slash-not-space : is_space 92 ≡ false
-unfolding is_space
-slash-not-space = refl
 
 pub slash-not-break : is_break 92 ≡ false
 unfolding is_break
@@ -49,24 +41,6 @@ slash-not-break = refl
 pub slash_slash : is_backslash 92 ≡ true
 unfolding is_backslash
 slash_slash = refl
-
-slash-not-word : is_word_character 92 ≡ false
-slash-not-word = word_byte_continues 92 (omega arith) ∙ slash-no-word
-
-slash_ends : (initial : Mode) (read : List ℕ) (n : ℕ) (st : List Bracket) → GoesOnAfter initial read n st → EndsBefore 92 initial read n st
-slash_ends initial read n st on = code_ends initial read n st 92 on slash-not-word slash-not-quote slash-not-space slash-no-word
-
-join_closes : meet_of modes.Backslash 10 ≡ moves.Closes
-unfolding meet_of move_of is_line_feed
-join_closes = refl
-
-join_return : meet_of modes.Backslash 13 ≡ moves.Grows modes.JoinReturn
-unfolding meet_of move_of is_line_feed is_return
-join_return = refl
-
-returned_closes : meet_of modes.JoinReturn 10 ≡ moves.Closes
-unfolding meet_of move_of is_line_feed
-returned_closes = refl
 
 returned_waits : (c : ℕ) → (c ≡ 10 → ⊥) → meet_of modes.JoinReturn c ≡ moves.Breaks
 unfolding meet_of move_of
@@ -79,15 +53,14 @@ module _ (initial : Mode) (read : List ℕ) (n : ℕ) (st : List Bracket) (on : 
   opened : HasCome initial (read ++ 92 ∷ []) n st (scanned done modes.Backslash (92 ∷ []))
   opened = opens initial read n st 92 on modes.Backslash (start-slash 92 slash_slash) (holds_one read 92 n on.come.holds (omega arith) slash-not-break)
 
-  return_steps : scan_steps (Some (line_start initial)) ((read ++ 92 ∷ []) ++ 13 ∷ []) ≡ Some (scanned done modes.JoinReturn (92 ∷ 13 ∷ []))
-  return_steps = steps_push (line_start initial) (read ++ 92 ∷ []) (scanned done modes.Backslash (92 ∷ [])) 13 opened.steps ∙ ap (moved (scanned done modes.Backslash (92 ∷ [])) 13) join_return
+  returned : HasCome initial ((read ++ 92 ∷ []) ++ 13 ∷ []) (n + 1) st (scanned done modes.JoinReturn (92 ∷ 13 ∷ []))
+  unfolding meet_of move_of is_line_feed is_return
+  returned = grown modes.JoinReturn 13 opened refl (holds_return (read ++ 92 ∷ []) n opened.holds)
 
-  join_steps : (returned : Bool) → scan_steps (Some (line_start initial)) ((read ++ 92 ∷ []) ++ line_end_of returned) ≡ Some (fresh (done ++ piece join (92 ∷ line_end_of returned) ∷ []))
-  join_steps false = steps_push (line_start initial) (read ++ 92 ∷ []) (scanned done modes.Backslash (92 ∷ [])) 10 opened.steps ∙ ap (moved (scanned done modes.Backslash (92 ∷ [])) 10) join_closes
-  join_steps true =
-      ap (scan_steps (Some (line_start initial))) (sym (append_assoc (read ++ 92 ∷ []) (13 ∷ []) (10 ∷ [])))
-      ∙ steps_push (line_start initial) ((read ++ 92 ∷ []) ++ 13 ∷ []) (scanned done modes.JoinReturn (92 ∷ 13 ∷ [])) 10 return_steps
-      ∙ ap (moved (scanned done modes.JoinReturn (92 ∷ 13 ∷ [])) 10) returned_closes
+  join_steps : (returned : Bool) → scan_steps (Some (line_start initial)) (read ++ 92 ∷ line_end_of returned) ≡ Some (fresh (done ++ piece join (92 ∷ line_end_of returned) ∷ []))
+  unfolding meet_of move_of is_line_feed is_return
+  join_steps false = begins_as initial read n st 92 on (10 ∷ []) (starts.Open modes.Backslash) (start-slash 92 slash_slash)
+  join_steps true = begins_as initial read n st 92 on (13 ∷ 10 ∷ []) (starts.Open modes.Backslash) (start-slash 92 slash_slash)
 
   join_leads : (returned : Bool) → IsFreeAfter initial ((read ++ 92 ∷ []) ++ line_end_of returned) (n + 1) st
   join_leads returned =
@@ -96,7 +69,7 @@ module _ (initial : Mode) (read : List ℕ) (n : ℕ) (st : List Bracket) (on : 
         done = done ++ whole ∷ [];
         come = record {
           start = on.come.start;
-          steps = join_steps returned;
+          steps = ap (scan_steps (Some (line_start initial))) (append_assoc read (92 ∷ []) (line_end_of returned)) ∙ join_steps returned;
           stacked = keeps done whole st refl refl opened.stacked;
           one_line = EndsNoLine-push 0 done whole (closed_line initial read n st 92 on) refl;
           holds = holds_line_end returned (read ++ 92 ∷ []) n opened.holds (λ feeds. one_unreturned read 92 slash-not-break);
@@ -107,13 +80,7 @@ module _ (initial : Mode) (read : List ℕ) (n : ℕ) (st : List Bracket) (on : 
   return_leads : (c : ℕ) → (c ≡ 10 → ⊥) → EndsBefore c initial ((read ++ 92 ∷ []) ++ 13 ∷ []) (n + 1) st
   return_leads c other = record {
     state = scanned done modes.JoinReturn (92 ∷ 13 ∷ []);
-    come = record {
-      start = on.come.start;
-      steps = return_steps;
-      stacked = opened.stacked;
-      one_line = opened.one_line;
-      holds = holds_return (read ++ 92 ∷ []) n opened.holds;
-    };
+    come = returned;
     breaks = returned_waits c other;
     parted = λ feeds. absurd (other feeds);
     inside = λ is. absurd (cc);
@@ -163,6 +130,6 @@ join_passed (b ∷ cs) len some slash found =
         leads = λ initial read n st on.
             let closes = closes_itself (92 ∷ cs) (suc len) in
             subst (λ (t : List ℕ). StandsClosed closes (drop len cs) initial t (n + 1) st) (append_assoc read (92 ∷ []) (take len cs))
-            (joined initial read n st (ends_so initial read cs n st 92 (slash_ends initial read n st) on) closes (take len cs) (drop len cs) ends.is (ends_with_feed cs len ends.within));
+            (joined initial read n st (ends_so initial read cs n st 92 (λ goes. code_ends initial read n st 92 goes (lit< tt) slash-apart) on) closes (take len cs) (drop len cs) ends.is (ends_with_feed cs len ends.within));
       };
     }
