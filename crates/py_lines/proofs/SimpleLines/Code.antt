@@ -104,6 +104,14 @@ abbrev pub line_end_first : Bool → ℕ
 line_end_first true = 13
 line_end_first false = 10
 
+pub holds_returned : (read : List ℕ) (n : ℕ) → HoldsLineEnds (read ++ 13 ∷ []) n → HoldsLineEnds ((read ++ 13 ∷ []) ++ 10 ∷ []) n
+holds_returned read n first =
+    let none : counts_after (ends is_return (read ++ 13 ∷ [])) 10 ≡ 0 = ap (λ (b : Bool). counts_after b 10) (ends-last is_return read 13 ∙ return_returns) ∙ returned_feed_counts in
+    record {
+      scalars = all_scalars-append (read ++ 13 ∷ []) (10 ∷ []) first.scalars (and_from _ _ (ascii_scalar 10 (lit< tt)) refl);
+      count = omega (arith, line_ends-step (read ++ 13 ∷ []) 10, none, first.count);
+    }
+
 pub holds_line_end : (returned : Bool) (read : List ℕ) (n : ℕ) → HoldsLineEnds read n → (line_end_first returned ≡ 10 → ends is_return read ≡ false) → HoldsLineEnds (read ++ line_end_of returned) (n + 1)
 holds_line_end false read n holds parted =
     let one : counts_after (ends is_return read) 10 ≡ 1 = ap (λ (b : Bool). counts_after b 10) (parted refl) ∙ feed_counts in
@@ -112,14 +120,7 @@ holds_line_end false read n holds parted =
       count = omega (arith, line_ends-step read 10, one, holds.count);
     }
 holds_line_end true read n holds parted =
-    let mid : List ℕ = read ++ 13 ∷ [] in
-    let first = holds_return read n holds in
-    let none : counts_after (ends is_return mid) 10 ≡ 0 = ap (λ (b : Bool). counts_after b 10) (ends-last is_return read 13 ∙ return_returns) ∙ returned_feed_counts in
-    subst (λ (t : List ℕ). HoldsLineEnds t (n + 1)) (append_assoc read (13 ∷ []) (10 ∷ []))
-    (record {
-      scalars = all_scalars-append mid (10 ∷ []) first.scalars (and_from _ _ (ascii_scalar 10 (lit< tt)) refl);
-      count = omega (arith, line_ends-step mid 10, none, first.count);
-    })
+    subst (λ (t : List ℕ). HoldsLineEnds t (n + 1)) (append_assoc read (13 ∷ []) (10 ∷ [])) (holds_returned read (n + 1) (holds_return read n holds))
 
 pub line_end_unreturned : (returned : Bool) (read : List ℕ) → ends is_return (read ++ line_end_of returned) ≡ false
 line_end_unreturned false read = ends-last is_return read 10 ∙ feed_unreturned

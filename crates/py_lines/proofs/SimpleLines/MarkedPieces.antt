@@ -11,7 +11,7 @@ use Rattle.py_lines.specs.declared.plain_strings.Passed.{Passed}
 use Rattle.py_lines.specs.Private.Marks.{FindsNext, HasMarks, is_plain}
 use Rattle.py_lines.specs.Private.Outline.{HasString, PassesFirst, PassesPiece, StandsClosed, closes_itself, is_plain_prefix, tail_of}
 use Rattle.py_lines.specs.Private.Passing.{PassesMarked, passed_to}
-use Rattle.py_lines.specs.Private.Run.{IsRunOf, IsWholeComment, Spans, is_ascii_word, is_body_byte, is_remark_byte, is_text_byte}
+use Rattle.py_lines.specs.Private.Run.{IsRunOf, IsWholeComment, is_ascii_word, is_body_byte, is_remark_byte, is_text_byte}
 use Rattle.py_lines.proofs.LineScan.AsciiRuns.{is_low_from}
 use Rattle.py_lines.proofs.LineScan.Spans.{ascii_comment, text_spans}
 use Rattle.py_lines.proofs.Text.CharacterTests.{each_of, none_of}
@@ -20,7 +20,7 @@ use Rattle.py_lines.proofs.SimpleLines.Comments.{comment_passed}
 use Rattle.py_lines.proofs.SimpleLines.Lines.{plain_code}
 use Rattle.py_lines.proofs.SimpleLines.Passing.{piece_passed}
 use Rattle.py_lines.proofs.FieldScans.TextLengths.{later, rest_is}
-use Rattle.py_lines.proofs.SimpleLines.Strings.{short_begun, short_ended, short_more, string_at}
+use Rattle.py_lines.proofs.SimpleLines.Strings.{after, short_ended, short_first, short_run, string_at}
 
 -- quotes, line ends and the backslash are no plain bytes
 pub quote-not-plain : (c : ℕ) → is_quote c ≡ true → is_plain c ≡ false
@@ -111,8 +111,8 @@ module _ (bytes : List ℕ) (at end : ℕ) (further : at < end) (within : end < 
         let k = end - at - 1 in
         let room : 1 < length rest = omega (arith, some, within, length-drop at bytes) in
         let spans = text_spans (slice_index rest 0) (drop 1 rest) k text in
-        let begun = short_begun rest quote_first room in
-        let read = short_more rest quote_first 1 0 k (omega arith) begun (subst (λ (t : List ℕ). Spans (is_body_byte (slice_index rest 0)) t k) (sym (rest_is rest 1)) spans) in
+        let begun = short_first (slice_index rest 0) quote_first rest (omega (arith, room)) refl in
+        let read = after rest 1 0 k 0 0 (omega arith) begun (short_run (slice_index rest 0) quote_first (drop 1 rest) 1 k (omega arith) spans) in
         let second : slice_index rest 1 ≡ slice_index bytes (at + 1) = later bytes at 1 in
         let holds : slice_index rest 1 ≡ slice_index rest 0 → ⊥ = λ same.
         both_ways _ (quote-not-plain (slice_index rest 0) quote_first) (ap is_plain (sym same ∙ second) ∙ plain (at + 1) (omega arith) some) in

@@ -1,9 +1,9 @@
-use Rattle.std.proofs.Common.{◌+◌, arith}
-use Rattle.py_lines.proofs.SimpleLines.Strings.{long_begun, long_ended, long_more, long_on}
+use Rattle.std.proofs.Common.{◌+◌, arith, refl}
+use Rattle.py_lines.proofs.SimpleLines.Strings.{after_rest, long_ended, long_first}
 use Rattle.py_lines.proofs.plain_strings.long_string.Goals as goal
 
 pub parts-init : goal.parts-init
-parts-init c = record { part = long_begun c.args.bytes.now c.requires.quote c.requires.long; few = omega arith }
+parts-init c = record { part = long_first _ c.requires.quote c.args.bytes.now c.requires.long; few = omega arith }
 
 pub returns-then-begins_long : goal.returns-then-begins_long
 returns-then-begins_long c =
@@ -11,7 +11,7 @@ returns-then-begins_long c =
     let i = c.parts.invariant in
     let text = c.text_of_long-text.result in
     let own = c.text_of_long-text.ensures in
-    let read = long_more bytes c.requires.quote c.parts.len c.parts.line_ends text.len text.line_ends i.part own.part in
+    let read = after_rest bytes c.parts.len c.parts.line_ends text.len text.line_ends _ refl i.part own.part in
     long_ended bytes c.requires.quote (c.parts.len + text.len) (c.parts.line_ends + text.line_ends) read (omega (arith, i.few, own.few)) (c.begins_long.ensures c.if-begins_long.true)
 
 pub parts-preserved : goal.parts-preserved
@@ -20,9 +20,9 @@ parts-preserved c =
     let i = c.parts.invariant in
     let text = c.text_of_long-text.result in
     let own = c.text_of_long-text.ensures in
-    let read = long_more bytes c.requires.quote c.parts.len c.parts.line_ends text.len text.line_ends i.part own.part in
+    let read = after_rest bytes c.parts.len c.parts.line_ends text.len text.line_ends _ refl i.part own.part in
     let part = c.in_ok-part.ensures in
     record {
-      part = long_on bytes c.requires.quote (c.parts.len + text.len) (c.parts.line_ends + text.line_ends) c.in_ok-part.part read part;
+      part = after_rest bytes (c.parts.len + text.len) (c.parts.line_ends + text.line_ends) c.in_ok-part.part.len c.in_ok-part.part.line_ends _ refl read part.part;
       few = omega (arith, i.few, own.few, part.few);
     }
