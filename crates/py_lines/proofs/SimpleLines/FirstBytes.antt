@@ -1,9 +1,13 @@
 -- The bytes that a slice begins with: one, two or three of them, or a line end.
-use Rattle.std.proofs.Common.{◌≡◌, ℕ, ◌+◌, ◌<◌, inl, inr, Bool, true, false, Option, None, Some, List, [], ◌∷◌, ◌++◌, length, take, drop, slice_index, refl, ap, ◌∙◌, arith}
+use Rattle.std.proofs.Common.{◌≡◌, ℕ, ◌+◌, ◌<◌, inl, inr, Bool, true, false, Option, None, Some, List, [], ◌∷◌, ◌++◌, length, take, drop, slice_index, refl, ap, ◌∙◌, arith, add-zero, suc, sym, subst}
 use Rattle.std.specs.List.{list_all}
 use Rattle.std.proofs.Math.Seq.{take-add}
-use Rattle.py_lines.specs.Private.Outline.{BeginsLong, HasLineEnd, HasOuterEnd, IsOuterEnd, line_end_of}
+use Rattle.py_lines.specs.Private.Outline.{BeginsLong, HasLineEnd, HasOuterEnd, IsOuterEnd, line_end_of, PassesFirst}
 use Rattle.py_lines.proofs.LineScan.AsciiRuns.{is_low}
+use Rattle.py_lines.proofs.FieldScans.TextLengths.{later}
+
+pub first_later : (bytes : List ℕ) (at : ℕ) → slice_index (drop at bytes) 0 ≡ slice_index bytes at
+first_later bytes at = later bytes at 0 ∙ ap (slice_index bytes) (add-zero at)
 
 pub taken_one : (bytes : List ℕ) → 0 < length bytes → take 1 bytes ≡ slice_index bytes 0 ∷ []
 taken_one [] within = absurd (omega (arith, within))
@@ -65,3 +69,12 @@ return_found (b ∷ c ∷ cs) within first other = record {
   within = omega arith;
   is = inr (ap (λ (d : ℕ). d ∷ []) first, other);
 }
+
+-- a piece that begins with this byte
+pub passed_from : (bytes : List ℕ) (c len feeds : ℕ) → 0 < length bytes → slice_index bytes 0 ≡ c → PassesFirst (c ∷ drop 1 bytes) (Some (record { len = suc len; line_ends = feeds }))
+    → PassesFirst bytes (Some (record { len = 1 + len; line_ends = feeds }))
+passed_from [] c len feeds some is passes = absurd (omega (arith, some))
+passed_from (b ∷ cs) c len feeds some is passes =
+    let size : suc len ≡ 1 + len = omega arith in
+    subst (λ (k : ℕ). PassesFirst (b ∷ cs) (Some (record { len = k; line_ends = feeds }))) size
+    (subst (λ (d : ℕ). PassesFirst (d ∷ cs) (Some (record { len = suc len; line_ends = feeds }))) (sym is) passes)

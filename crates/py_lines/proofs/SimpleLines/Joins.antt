@@ -1,5 +1,5 @@
 -- A join of two lines is passed over: the machine goes through the backslash and the line end.
-use Rattle.std.proofs.Common.{◌≡◌, ℕ, suc, ◌+◌, ◌-◌, ◌<◌, ◌≤◌, inl, inr, Bool, true, false, Some, List, [], ◌∷◌, ◌++◌, length, take, drop, slice_index, refl, sym, ap, ◌∙◌, subst, append_assoc, arith, lit<, take_all}
+use Rattle.std.proofs.Common.{◌≡◌, ℕ, suc, ◌+◌, ◌-◌, ◌<◌, ◌≤◌, inl, inr, Bool, true, false, Some, List, [], ◌∷◌, ◌++◌, length, take, drop, slice_index, refl, sym, ap, ◌∙◌, subst, append_assoc, arith, lit<}
 use Rattle.std.specs.Prelude.{◌==◌}
 use Rattle.std.proofs.lemmas.Bool.{and_parts, eqb-true, false_from_ne_true}
 use Rattle.std.proofs.lemmas.List.{get_or-take, length-take-le}
@@ -24,7 +24,8 @@ use Rattle.py_lines.proofs.Text.CharacterTests.{feed_is}
 use Rattle.py_lines.proofs.SimpleLines.Code.{begins_as, closed_line, code_ends, ends_so, grown, holds_line_end, holds_one, holds_return, no_tail_return, one_unreturned, opens, pieces, stands_in_code}
 use Rattle.py_lines.proofs.LineTokens.FirstCharacters.{slash_is}
 use Rattle.py_lines.proofs.SimpleLines.Tails.{free_stands}
-use Rattle.py_lines.proofs.SimpleLines.FirstBytes.{outer_end_low}
+use Rattle.py_lines.proofs.SimpleLines.FirstBytes.{outer_end_low, passed_from}
+use Rattle.py_lines.proofs.FieldScans.TextLengths.{rest_is}
 
 slash-apart : stands_in_code 92 ≡ false
 unfolding is_ascii_word is_quote is_space
@@ -108,28 +109,27 @@ ends_with_feed cs len within closes alone =
 
 pub join_passed : (bytes : List ℕ) (len : ℕ) → 0 < length bytes → is_backslash (slice_index bytes 0) ≡ true → HasOuterEnd (take (length bytes - 1) (drop 1 bytes)) (Some len)
     → PassesFirst bytes (Some (record { len = 1 + len; line_ends = 1 }))
-join_passed [] len some slash found = absurd (omega (arith, some))
-join_passed (b ∷ cs) len some slash found =
-    subst (λ (j : ℕ). PassesFirst (b ∷ cs) (Some (record { len = j; line_ends = 1 }))) (sym one_more)
-    (subst (λ (c : ℕ). PassesFirst (c ∷ cs) (Some (record { len = suc len; line_ends = 1 }))) (sym (slash_is b slash)) passes)
-  where
-    one_more : 1 + len ≡ suc len
-    one_more = omega arith
-
-    ends : BeginsOuterEnd cs len
-    ends = subst (λ (l : List ℕ). BeginsOuterEnd l len) (take_all (length (b ∷ cs) - 1) cs (omega arith)) found
-
-    passes : PassesFirst (92 ∷ cs) (Some (record { len = suc len; line_ends = 1 }))
-    passes = record {
+join_passed bytes len some slash found =
+    passed_from bytes 92 len 1 some (slash_is (slice_index bytes 0) slash) (record {
       some = omega arith;
       few = omega arith;
       part = record {
         within = omega (arith, ends.within);
-        run = 92 ∷ take len cs;
-        spell = (low_encodes is_low (92 ∷ take len cs) low_is (outer_end_low (take len cs) (drop len cs) ends.is)).0;
+        run = 92 ∷ text;
+        spell = (low_encodes is_low (92 ∷ text) low_is (outer_end_low text (drop len cs) ends.is)).0;
         leads = λ initial read n st on.
             let closes = closes_itself (92 ∷ cs) (suc len) in
-            subst (λ (t : List ℕ). StandsClosed closes (drop len cs) initial t (n + 1) st) (append_assoc read (92 ∷ []) (take len cs))
-            (joined initial read n st (ends_so initial read cs n st 92 (λ goes. code_ends initial read n st 92 goes (lit< tt) slash-apart) on) closes (take len cs) (drop len cs) ends.is (ends_with_feed cs len ends.within));
+            let before = ends_so initial read cs n st 92 (λ goes. code_ends initial read n st 92 goes (lit< tt) slash-apart) on in
+            subst (λ (t : List ℕ). StandsClosed closes (drop len cs) initial t (n + 1) st) (append_assoc read (92 ∷ []) text)
+            (joined initial read n st before closes text (drop len cs) ends.is (ends_with_feed cs len ends.within));
       };
-    }
+    })
+  where
+    cs : List ℕ
+    cs = drop 1 bytes
+
+    text : List ℕ
+    text = take len cs
+
+    ends : BeginsOuterEnd cs len
+    ends = subst (λ (l : List ℕ). BeginsOuterEnd l len) (rest_is bytes 1) found

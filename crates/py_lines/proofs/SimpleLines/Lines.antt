@@ -1,15 +1,15 @@
 -- Simple lines follow one another: from one byte that is not plain to the next, and from line end to line end.
-use Rattle.std.proofs.Common.{◌≡◌, ℕ, ◌+◌, ◌-◌, ◌<◌, ◌≤◌, ◌⊎◌, inl, inr, Bool, true, false, not, ◌&&◌, ◌||◌, Option, None, Some, List, [], ◌∷◌, ◌++◌, length, take, drop, slice_index, refl, sym, ap, ◌∙◌, subst, append_assoc, append-nil, arith, length-append, length-drop}
+use Rattle.std.proofs.Common.{◌≡◌, ℕ, ◌+◌, ◌-◌, ◌<◌, ◌≤◌, inl, inr, Bool, true, false, not, ◌&&◌, ◌||◌, Option, None, Some, List, [], ◌∷◌, ◌++◌, length, take, drop, slice_index, refl, sym, ap, ◌∙◌, subst, append_assoc, append-nil, arith, length-append, length-drop, ⊎_elim, add-zero}
 use Rattle.std.specs.List.{list_all}
 use Rattle.std.specs.Str.{all_scalars}
-use Rattle.std.proofs.lemmas.Bool.{and_parts, both_ways, or_cases}
-use Rattle.std.proofs.lemmas.List.{drop-drop, get_or-drop, length-take-le, take-append-drop}
+use Rattle.std.proofs.lemmas.Bool.{and_parts, both_ways, or_cases, or_parts, not-true}
+use Rattle.std.proofs.lemmas.List.{drop-drop, length-take-le, take-append-drop}
 use Rattle.std.proofs.lemmas.Str.{encodes-append}
 use Rattle.std.proofs.Math.Seq.{take-add}
 use Rattle.std.specs.Prelude.{encode_utf8_all}
 use Rattle.py_lines.specs.Balance.{is_closing, is_opening}
 use Rattle.py_lines.specs.Character.{is_operator, is_space}
-use Rattle.py_lines.specs.LogicalLine.{byte_len, line_ends}
+use Rattle.py_lines.specs.LogicalLine.{byte_len}
 use Rattle.py_lines.specs.declared.brackets.Brackets.{Brackets}
 use Rattle.py_lines.specs.declared.marks.Marks.{Marks}
 use Rattle.py_lines.specs.declared.mode.Mode.TheVariants as modes
@@ -28,36 +28,22 @@ use Rattle.py_lines.proofs.LineScan.AsciiRuns.{all_pass, low_encodes}
 use Rattle.py_lines.proofs.LogicalLines.Cuts.{byte_len-append}
 use Rattle.py_lines.proofs.Text.Utf8Prefixes.{all_scalars-append}
 use Rattle.py_lines.proofs.SimpleLines.Code.{IsCodeByte, begun, code_low, code_run, outer_end_whole, tail-encoded}
-use Rattle.py_lines.proofs.SimpleLines.Tails.{closed_stands, stands, tail_on-append}
-use Rattle.py_lines.proofs.SimpleLines.FirstBytes.{feed_found, outer_found}
+use Rattle.py_lines.proofs.SimpleLines.Tails.{closed_stands, stands, tail_on-append, stands_holds}
+use Rattle.py_lines.proofs.SimpleLines.FirstBytes.{feed_found, outer_found, first_later}
 use Rattle.py_lines.proofs.SimpleLines.Passing.{end_is, end_spells, end_split, end_within, passed_further}
 
 -- a plain byte is one of code
 pub plain_code : (c : ℕ) → is_plain c ≡ true → IsCodeByte c
 unfolding is_plain
-plain_code c h = by (or_cases (is_ascii_word c) (is_space c || (is_operator c && not (is_opening c || is_closing c))) h)
+plain_code c h = ⊎_elim (λ word. inl word)
+    (λ rest. inr (⊎_elim (λ space. inl space) (λ sign. inr (operator sign)) (or_cases (is_space c) (is_operator c && not (is_opening c || is_closing c)) rest)))
+    (or_cases (is_ascii_word c) (is_space c || (is_operator c && not (is_opening c || is_closing c))) h)
   where
-    not_from : (b : Bool) → not b ≡ true → b ≡ false
-    not_from true e = sym e
-    not_from false e = refl
-
-    neither : (o k : Bool) → not (o || k) ≡ true → (o ≡ false) × (k ≡ false)
-    neither true k e = absurd (both_ways _ refl e)
-    neither false k e = (refl, not_from k e)
-
-    sign : is_operator c && not (is_opening c || is_closing c) ≡ true → IsCodeByte c
-    sign e =
+    operator : is_operator c && not (is_opening c || is_closing c) ≡ true → (is_operator c ≡ true) × (is_opening c ≡ false) × (is_closing c ≡ false)
+    operator e =
         let parts = and_parts (is_operator c) (not (is_opening c || is_closing c)) e in
-        let none = neither (is_opening c) (is_closing c) parts.1 in
-        inr (inr (parts.0, none.0, none.1))
-
-    by_rest : (is_space c ≡ true) ⊎ (is_operator c && not (is_opening c || is_closing c) ≡ true) → IsCodeByte c
-    by_rest (inl space) = inr (inl space)
-    by_rest (inr e) = sign e
-
-    by : (is_ascii_word c ≡ true) ⊎ (is_space c || (is_operator c && not (is_opening c || is_closing c)) ≡ true) → IsCodeByte c
-    by (inl word) = inl word
-    by (inr rest) = by_rest (or_cases (is_space c) (is_operator c && not (is_opening c || is_closing c)) rest)
+        let none = or_parts (is_opening c) (is_closing c) (not-true _ parts.1) in
+        (parts.0, none.0, none.1)
 
 -- one more line after others
 line_push : (texts : List (List ℕ)) (read line : List ℕ) (n k : ℕ) (after : List ℕ) → AreWholeLines texts read n (encode_utf8_all line ++ after) → 0 < length line → IsWholeLine line k after → AreWholeLines (texts ++ line ∷ []) (read ++ line) (n + k) after
@@ -106,8 +92,7 @@ rest_ends bytes at len found = subst (λ (t : List ℕ). BeginsOuterEnd t len) (
 
 pub feed_ends : (bytes : List ℕ) (at : ℕ) → at < length bytes → slice_index bytes at ≡ 10 → BeginsOuterEnd (drop at bytes) 1
 feed_ends bytes at within is =
-    let here : at + 0 ≡ at = omega arith in
-    outer_found (drop at bytes) (Some 1) (feed_found (drop at bytes) (omega (arith, within, length-drop at bytes)) (later bytes at 0 ∙ ap (λ (k : ℕ). slice_index bytes k) here ∙ is))
+    outer_found (drop at bytes) (Some 1) (feed_found (drop at bytes) (omega (arith, within, length-drop at bytes)) (first_later bytes at ∙ is))
 
 -- no line was passed
 pub none_passed : (bytes : List ℕ) → BeginWithLines bytes (record { len = 0; line_ends = 0 })
@@ -178,19 +163,12 @@ module _ (bytes : List ℕ) where
       let there : from + len ≡ at = omega (arith, next.after) in
       let run = take len (drop from bytes) in
       let size : len ≤ length (drop from bytes) = omega (arith, next.within, next.after, length-drop from bytes) in
-      let all : list_all is_plain run ≡ true = all_pass is_plain (drop from bytes) len size (λ i less. ap is_plain (later_byte from i) ∙ next.plain (from + i) (omega arith) (omega (arith, less))) in
+      let all : list_all is_plain run ≡ true = all_pass is_plain (drop from bytes) len size (λ i less. ap is_plain (later bytes from i) ∙ next.plain (from + i) (omega arith) (omega (arith, less))) in
       let spell = (low_encodes is_plain run (λ c plain. code_low c (plain_code c plain)) all).0 in
       let split : drop from bytes ≡ run ++ drop (from + len) bytes = sym (take-append-drop len (drop from bytes)) ∙ ap (λ t. run ++ t) (drop-drop len from bytes) in
-      let none : n + 0 ≡ n = omega arith in
-      let same : come.more ≡ come.more + 0 = omega arith in
-      subst (λ (k : ℕ). HasComeTo bytes lines at k st) none
-      (subst (λ (k : ℕ). HasComeTo bytes lines k (n + 0) st) there
-      (step lines from n len 0 st st come (omega (arith, next.within, next.after)) run spell
-      (subst (λ (k : ℕ). StandsBefore (drop (from + len) bytes) modes.Free (come.read ++ run) k st) same
-      (code_run is_plain modes.Free come.read run (drop (from + len) bytes) come.more st plain_code all (subst (λ (t : List ℕ). StandsBefore t modes.Free come.read come.more st) split come.stands)))))
-    where
-      later_byte : (from i : ℕ) → slice_index (drop from bytes) i ≡ slice_index bytes (from + i)
-      later_byte from i = get_or-drop from bytes i 0
+      subst (λ (k : ℕ). HasComeTo bytes lines k n st) there
+      (rw (← add-zero n) (step lines from n len 0 st st come (omega (arith, next.within, next.after)) run spell
+      (rw add-zero (code_run is_plain modes.Free come.read run (drop (from + len) bytes) come.more st plain_code all (subst (λ (t : List ℕ). StandsBefore t modes.Free come.read come.more st) split come.stands)))))
 
   -- over what is passed at a byte that isn't plain
   pub passed_on : (lines : Passed) (at n len more : ℕ) (closes : Bool) (st after : List Bracket) → HasComeTo bytes lines at n st
@@ -213,6 +191,7 @@ module _ (bytes : List ℕ) where
       (outer_end_whole text after modes.Free come.read come.more (end_is bytes at within len ends)
       (subst (λ (t : List ℕ). StandsBefore t modes.Free come.read come.more []) (end_split bytes at within len ends) come.stands)).0 in
       let fits = end_within bytes at within len ends in
+      let nothing : at + len - (at + len) ≡ 0 = omega arith in
       let own : encode_utf8_all line ≡ line_up_to bytes lines (at + len) =
       further_spells lines at len come.ordered come.read text come.spell (end_spells bytes at within len ends) in
       let there : lines.len + (at + len - lines.len) ≡ at + len = omega (arith, come.ordered) in
@@ -239,33 +218,17 @@ module _ (bytes : List ℕ) where
         more = 0;
         count = omega arith;
         read = [];
-        spell = sym nothing;
+        spell = sym (ap (λ (k : ℕ). take k (drop (at + len) bytes)) nothing);
         stands = stands (drop (at + len) bytes) modes.Free [] 0 [] begun;
       }
-    where
-      nothing : line_up_to bytes (record { len = at + len; line_ends = n + 1 }) (at + len) ≡ []
-      nothing = ap (λ (k : ℕ). take k (drop (at + len) bytes)) none_left
-        where
-          none_left : at + len - (at + len) ≡ 0
-          none_left = omega arith
 
   -- the line ends are no more than the bytes
   pub few_ends : (lines : Passed) (at n : ℕ) (st : List Bracket) → HasComeTo bytes lines at n st → n ≤ at
   few_ends lines at n st come =
       let past = come.lines_are in
       let before = lines_few past.texts past.read lines.line_ends (drop lines.len bytes) past.whole in
-      omega (arith, come.count, before, ap length past.spell, length-take-le lines.len bytes past.within, own come.stands, ap length come.spell, line_size lines at come.ordered come.within, come.ordered)
-    where
-      by_holds : (read : List ℕ) (k : ℕ) → line_ends read ≡ k → k ≤ byte_len read
-      by_holds read k is = omega (arith, is, line_ends-bytes read)
-
-      in_line : (rest read : List ℕ) (k : ℕ) → StandsBefore rest modes.Free read k st → k ≤ byte_len read
-      in_line [] read k on = by_holds read k on.come.holds.count
-      in_line (c ∷ rest) read k (inl on) = by_holds read k on.come.holds.count
-      in_line (c ∷ rest) read k (inr on) = by_holds read k on.come.holds.count
-
-      own : StandsBefore (drop at bytes) modes.Free come.read come.more st → come.more ≤ byte_len come.read
-      own on = in_line (drop at bytes) come.read come.more on
+      let holds = stands_holds (drop at bytes) modes.Free come.read come.more st come.stands in
+      omega (arith, come.count, before, ap length past.spell, length-take-le lines.len bytes past.within, holds.count, line_ends-bytes come.read, ap length come.spell, line_size lines at come.ordered come.within, come.ordered)
 
 -- the line that is open after these lines has come to this byte, which isn't plain, or the bytes end there
 pub record StandsAt (bytes : List ℕ) (lines : Passed) (at : ℕ) (p : Passing) (b : Brackets) : Type 0 where

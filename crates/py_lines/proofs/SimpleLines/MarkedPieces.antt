@@ -1,5 +1,5 @@
 -- Pieces of ASCII whose end the marks show: the bytes up to there are those of the piece.
-use Rattle.std.proofs.Common.{◌≡◌, ℕ, ◌+◌, ◌-◌, ◌<◌, ◌≤◌, Bool, true, false, not, ◌||◌, ◌==◌, Option, None, Some, List, ◌++◌, lit<, length, take, drop, slice_index, refl, sym, ap, ◌∙◌, subst, arith, eqb-true, inl, inr, ◌⊎◌, length-drop}
+use Rattle.std.proofs.Common.{◌≡◌, ℕ, ◌+◌, ◌-◌, ◌<◌, ◌≤◌, Bool, true, false, not, ◌||◌, ◌==◌, Option, None, Some, List, ◌++◌, length, take, drop, slice_index, refl, sym, ap, ◌∙◌, subst, arith, eqb-true, inl, inr, ◌⊎◌, length-drop}
 use Rattle.std.specs.Prelude.{codes}
 use Rattle.std.proofs.lemmas.Bool.{and_from, both_ways, cases_order, eq-eqb, false_from_ne_true, or_cases}
 use Rattle.std.proofs.lemmas.List.{drop-drop}
@@ -14,13 +14,15 @@ use Rattle.py_lines.specs.Private.Passing.{PassesMarked, passed_to}
 use Rattle.py_lines.specs.Private.Run.{IsRunOf, IsWholeComment, is_ascii_word, is_body_byte, is_remark_byte, is_text_byte}
 use Rattle.py_lines.proofs.LineScan.AsciiRuns.{is_low_from}
 use Rattle.py_lines.proofs.LineScan.Spans.{ascii_comment, text_spans}
-use Rattle.py_lines.proofs.Text.CharacterTests.{each_of, none_of}
+use Rattle.py_lines.proofs.Text.CharacterTests.{none_of}
 use Rattle.py_lines.proofs.SimpleLines.Code.{code_low}
 use Rattle.py_lines.proofs.SimpleLines.Comments.{comment_passed}
 use Rattle.py_lines.proofs.SimpleLines.Lines.{plain_code}
 use Rattle.py_lines.proofs.SimpleLines.Passing.{piece_passed}
 use Rattle.py_lines.proofs.FieldScans.TextLengths.{later, rest_is}
 use Rattle.py_lines.proofs.SimpleLines.Strings.{after, short_ended, short_first, short_run, string_at}
+use Rattle.py_lines.proofs.SimpleLines.FirstBytes.{first_later}
+use Rattle.py_lines.proofs.LineScan.Runs.{break_low}
 
 -- quotes, line ends and the backslash are no plain bytes
 pub quote-not-plain : (c : ℕ) → is_quote c ≡ true → is_plain c ≡ false
@@ -53,10 +55,6 @@ plain_remark c plain = and_from _ _ (ap not (false_from_ne_true _ (λ h. both_wa
 -- the first bytes from there on, so many of them, are such bytes
 abbrev pub Between : (ℕ → Bool) → List ℕ → ℕ → ℕ → Type 0
 Between passes bytes at end = (i : ℕ) → at < i → i < end → passes (slice_index bytes i) ≡ true
-
-break_low : (c : ℕ) → is_break c ≡ true → c < 128
-unfolding is_break
-break_low c h = each_of (λ b. b < 128) (codes "\n\r") c (lit< tt, (lit< tt, tt)) h
 
 -- a piece with which the bytes from there on begin
 pub first_piece : (bytes : List ℕ) (at : ℕ) (piece : Option Passed) → at ≤ length bytes → PassesFirst (drop at bytes) piece → PassesPiece bytes at piece
@@ -92,7 +90,7 @@ module _ (bytes : List ℕ) (at end : ℕ) (further : at < end) (within : end < 
   }
 
   first_is : slice_index rest 0 ≡ slice_index bytes at
-  first_is = let here : at + 0 ≡ at = omega arith in later bytes at 0 ∙ ap (λ (k : ℕ). slice_index bytes k) here
+  first_is = first_later bytes at
 
   -- a string without a prefix of its own
   module _ (quote : is_quote (slice_index bytes at) ≡ true) (plain : Between is_plain bytes at end) (closes : slice_index bytes end ≡ slice_index bytes at) where

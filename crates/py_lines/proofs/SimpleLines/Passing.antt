@@ -1,5 +1,5 @@
 -- Bytes are passed over at one that isn't plain: brackets, line ends and pieces, wherever in a line they stand.
-use Rattle.std.proofs.Common.{◌≡◌, ℕ, ◌+◌, ◌-◌, ◌<◌, ◌≤◌, Bool, true, false, Some, List, [], ◌∷◌, ◌++◌, ◌==◌, length, take, drop, slice_index, refl, sym, ap, ◌∙◌, subst, arith, length-drop}
+use Rattle.std.proofs.Common.{◌≡◌, ℕ, ◌+◌, ◌-◌, ◌<◌, ◌≤◌, Bool, true, false, Some, List, [], ◌∷◌, ◌++◌, ◌==◌, length, take, drop, slice_index, refl, sym, ap, ◌∙◌, subst, arith, length-drop, add-zero}
 use Rattle.std.specs.Prelude.{encode_utf8_all, nat_lt}
 use Rattle.std.proofs.lemmas.Bool.{and_from, both_ways}
 use Rattle.std.proofs.lemmas.List.{drop-drop, drop_more, get_or-drop, get_or-take, length-take-le, take-append-drop}
@@ -14,7 +14,7 @@ use Rattle.py_lines.specs.declared.passing.Special.TheVariants as special
 use Rattle.py_lines.specs.declared.plain_strings.Passed.{Passed}
 use Rattle.py_lines.specs.Private.Machine.{Bracket, brackets_after}
 use Rattle.py_lines.specs.Private.Marks.{HasMarks}
-use Rattle.py_lines.specs.Private.Outline.{BeginsOuterEnd, IsFreeAfter, IsOuterEnd, PassesPiece, StandsBefore, closes_itself}
+use Rattle.py_lines.specs.Private.Outline.{BeginsOuterEnd, IsOuterEnd, PassesPiece, StandsBefore, closes_itself}
 use Rattle.py_lines.specs.Private.Passing.{IsMet, PassesOver, PassesSo, PassesSpecial, passed_to}
 use Rattle.py_lines.specs.Private.Scan.{Meets, depth_of, none_open, stack_of}
 use Rattle.py_lines.proofs.Pieces.PieceLists.{piece}
@@ -23,7 +23,7 @@ use Rattle.py_lines.proofs.FieldMachine.PieceRuns.{opening_operator}
 use Rattle.py_lines.proofs.LineScan.AsciiRuns.{is_low, low_encodes, low_is}
 use Rattle.py_lines.proofs.Text.CharacterTests.{none_of, operator_ascii}
 use Rattle.py_lines.proofs.SimpleLines.Code.{outer_end_inside}
-use Rattle.py_lines.proofs.SimpleLines.FirstBytes.{outer_end_low}
+use Rattle.py_lines.proofs.SimpleLines.FirstBytes.{outer_end_low, first_later}
 use Rattle.py_lines.proofs.SimpleLines.Tails.{stands_less}
 use Rattle.py_lines.proofs.SimpleLines.UnderWay.{operator_free}
 
@@ -41,8 +41,7 @@ module _ (bytes : List ℕ) (at : ℕ) (within : at < length bytes) where
         spell = (low_encodes is_operator (c ∷ []) operator_ascii (and_from _ _ is refl)).0
             ∙ sym (ap (take 1) (drop_more bytes at 0 within));
         leads = λ m read n tail here on.
-            let same : n ≡ n + 0 = omega arith in
-            subst (λ (k : ℕ). IsFreeAfter m (read ++ c ∷ []) k after) same
+            rw add-zero
             (operator_free c (drop (at + 1) bytes) m read n st after is
             (ap (λ (k : ℕ). brackets_after st k (piece operator (c ∷ []))) here ∙ may)
             (subst (λ (t : List ℕ). StandsBefore t m read n st) (drop_more bytes at 0 within) on));
@@ -201,10 +200,8 @@ backslash-not-quote c h = none_of is_quote (92 ∷ []) c refl h
 pub backslash_closes : (bytes : List ℕ) (at len : ℕ) → 0 < len → is_backslash (slice_index bytes at) ≡ true
     → slice_index bytes (at + len - 1) == 10 ≡ true → closes_itself (drop at bytes) len ≡ true
 backslash_closes bytes at len some is feeds =
-    let here : at + 0 ≡ at = omega arith in
     let last : at + (len - 1) ≡ at + len - 1 = omega (arith, some) in
-    let first : slice_index (drop at bytes) 0 ≡ slice_index bytes at =
-    get_or-drop at bytes 0 0 ∙ ap (λ (k : ℕ). slice_index bytes k) here in
+    let first = first_later bytes at in
     let ends : slice_index (drop at bytes) (len - 1) ≡ slice_index bytes (at + len - 1) =
     get_or-drop at bytes (len - 1) 0 ∙ ap (λ (k : ℕ). slice_index bytes k) last in
     let other : is_quote (slice_index (drop at bytes) 0) ≡ false = ap is_quote first ∙ backslash-not-quote (slice_index bytes at) is in
@@ -214,8 +211,5 @@ backslash_closes bytes at len some is feeds =
 pub quote_closes : (bytes : List ℕ) (at len : ℕ) → is_quote (slice_index bytes at) ≡ true → nat_lt 2 len ≡ true
     → closes_itself (drop at bytes) len ≡ true
 quote_closes bytes at len is more =
-    let here : at + 0 ≡ at = omega arith in
-    let first : slice_index (drop at bytes) 0 ≡ slice_index bytes at =
-    get_or-drop at bytes 0 0 ∙ ap (λ (k : ℕ). slice_index bytes k) here in
-    let quote : is_quote (slice_index (drop at bytes) 0) ≡ true = ap is_quote first ∙ is in
+    let quote : is_quote (slice_index (drop at bytes) 0) ≡ true = ap is_quote (first_later bytes at) ∙ is in
     rw quote more

@@ -24,7 +24,7 @@ use Rattle.py_lines.proofs.Pieces.PieceLists.{piece}
 use Rattle.py_lines.proofs.Machine.Starts.{start-quote}
 use Rattle.py_lines.proofs.Machine.PieceSteps.{scanned}
 use Rattle.py_lines.proofs.Machine.LiveTexts.{keeps}
-use Rattle.py_lines.proofs.FieldScans.TextLengths.{later, rest_is}
+use Rattle.py_lines.proofs.FieldScans.TextLengths.{rest_is}
 use Rattle.py_lines.proofs.LineScan.Increments.{EndsNoLine-push}
 use Rattle.py_lines.proofs.LineScan.LineCount.{ends-last}
 use Rattle.py_lines.proofs.LineScan.Runs.{body_parts, break-return, quote_ascii, stays-no_break}
@@ -35,7 +35,7 @@ use Rattle.py_lines.proofs.Text.CharacterTests.{none_of, quote-not-word}
 use Rattle.py_lines.proofs.SimpleLines.Code.{come_on, grown, holds_return, holds_returned, word_or_ends, holds_line_end, holds_more, holds_one, one_unreturned, opens, pieces, quote-not-space}
 use Rattle.py_lines.proofs.SimpleLines.Tails.{feed_unreturned, no_tail, quote-no-word}
 use Rattle.py_lines.proofs.SimpleLines.Joins.{slash-not-break}
-use Rattle.py_lines.proofs.SimpleLines.FirstBytes.{first_then, line_end_low, taken_one, taken_two}
+use Rattle.py_lines.proofs.SimpleLines.FirstBytes.{first_then, line_end_low, taken_one, taken_two, first_later}
 use Rattle.py_lines.proofs.SimpleLines.Runs.{goes_on, lines_go_on, stay_spelled}
 
 -- a character makes the open piece grow so
@@ -436,10 +436,8 @@ module _ (bytes : List ℕ) (quote : is_quote (slice_index bytes 0) ≡ true) wh
 
   pub short_ended : (len n : ℕ) → 1 ≤ len → (slice_index bytes 1 ≡ own → ⊥) → PassesPart bytes len n (StringBegins own) (IsInShort own len) → n ≤ len → len < length bytes → slice_index bytes len ≡ own → HasString bytes (Some (record { len = len + 1; line_ends = n }))
   short_ended len n some holds read few within is =
-      let here : len + 0 ≡ len = omega arith in
-      let first : slice_index (drop len bytes) 0 ≡ own = later bytes len 0 ∙ ap (λ (k : ℕ). slice_index bytes k) here ∙ is in
       whole_string bytes (len + 1) n (omega (arith, not_first len some is holds)) (omega (arith, few))
-      (after bytes len n 1 0 n (omega arith) read (short_last own quote (drop len bytes) len (not_first len some is holds) (omega (arith, within, length-drop len bytes)) first))
+      (after bytes len n 1 0 n (omega arith) read (short_last own quote (drop len bytes) len (not_first len some is holds) (omega (arith, within, length-drop len bytes)) (first_later bytes len ∙ is)))
 
   -- so a string of three quotes
   pub long_ended : (len n : ℕ) → PassesPart bytes len n (StringBegins own) (IsInLong own) → n ≤ len → BeginsLong own (take (length bytes - len) (drop len bytes)) → HasString bytes (Some (record { len = len + 3; line_ends = n }))
@@ -471,8 +469,7 @@ string_at bytes at None within quote plain has = tt
 string_at bytes at (Some p) within quote plain has =
     let rest = drop at bytes in
     let is : HasString rest (Some p) = subst (λ (t : List ℕ). HasString t (Some p)) (rest_is bytes at) has in
-    let here : at + 0 ≡ at = omega arith in
-    let first : slice_index rest 0 ≡ slice_index bytes at = later bytes at 0 ∙ ap (λ (k : ℕ). slice_index bytes k) here in
+    let first = first_later bytes at in
     let room = is.part.within in (
       omega (arith, room, within, length-drop at bytes),
       record {

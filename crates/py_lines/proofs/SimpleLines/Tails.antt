@@ -16,7 +16,7 @@ use Rattle.py_lines.specs.Private.ScanMachine.{IsScanSound}
 use Rattle.py_lines.specs.Private.Scan.{AreLine}
 use Rattle.py_lines.specs.Private.Run.{is_ascii_word}
 use Rattle.py_lines.specs.Private.FieldText.{is_apart_mode}
-use Rattle.py_lines.specs.Private.Outline.{GoesOnAfter, HasCome, IsEndedBy, IsFreeAfter, IsTail, StandsBefore, StandsClosed, tail_of, tail_on, tail_with}
+use Rattle.py_lines.specs.Private.Outline.{GoesOnAfter, HasCome, IsFreeAfter, IsTail, StandsBefore, StandsClosed, tail_of, tail_on, tail_with, HoldsLineEnds}
 use Rattle.py_lines.proofs.LineScan.LineCount.{ends-last}
 use Rattle.py_lines.proofs.LineScan.PieceEnd.{no_class_bracket}
 use Rattle.py_lines.proofs.LineScan.LineSteps.{sound_steps}
@@ -175,6 +175,11 @@ free_goes_on m read n st free =
 pub stands : (rest : List ℕ) (m : Mode) (read : List ℕ) (n : ℕ) (st : List Bracket) → GoesOnAfter m read n st → StandsBefore rest m read n st
 stands [] m read n st on = on
 stands (c ∷ rest) m read n st on = inl on
+
+pub stands_holds : (rest : List ℕ) (m : Mode) (read : List ℕ) (n : ℕ) (st : List Bracket) → StandsBefore rest m read n st → HoldsLineEnds read n
+stands_holds [] m read n st on = on.come.holds
+stands_holds (c ∷ rest) m read n st (inl on) = on.come.holds
+stands_holds (c ∷ rest) m read n st (inr on) = on.come.holds
 
 pub free_stands : (rest : List ℕ) (m : Mode) (read : List ℕ) (n : ℕ) (st : List Bracket) → IsFreeAfter m read n st → StandsBefore rest m read n st
 free_stands rest m read n st free = stands rest m read n st (free_goes_on m read n st free)
