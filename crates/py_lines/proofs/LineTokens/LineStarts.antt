@@ -1,8 +1,8 @@
 -- Where a line begins: its mark, and its indentation.
-use Rattle.std.proofs.Common.{◌≡◌, ℕ, zero, suc, ◌≤◌, ◌⊎◌, inl, inr, ⊎_elim, Bool, true, false, List, [], ◌∷◌, ◌++◌, length, drop, refl, sym, ap, ◌∙◌, subst, append-nil, arith}
+use Rattle.std.proofs.Common.{◌≡◌, ℕ, zero, suc, ◌⊎◌, inl, inr, ⊎_elim, Bool, true, false, List, [], ◌∷◌, ◌++◌, length, drop, refl, sym, ap, ◌∙◌, subst, append-nil, arith}
 use Rattle.std.specs.Prelude.{encode_utf8_all, if◌then◌else◌, nat_eq}
 use Rattle.std.specs.List.{starts_with}
-use Rattle.std.proofs.lemmas.Bool.{both_ways, cond_both, false_from_ne_true}
+use Rattle.std.proofs.lemmas.Bool.{both_ways, false_from_ne_true}
 use Rattle.std.proofs.lemmas.Bool.Decides.{Decides-eqb}
 use Rattle.std.proofs.lemmas.Str.{encodes-append}
 use Rattle.std.proofs.lemmas.Slice.Eq.{starts_is}
@@ -36,19 +36,14 @@ mark_encoded = refl
 marked : (text : List ℕ) → starts_with nat_eq text mark_bytes ≡ true → text ≡ mark_bytes ++ drop 3 text
 marked text h = (starts_is Decides-eqb text mark_bytes (starts_with nat_eq text mark_bytes) refl).0 h
 
--- the mark is in the text
-pub mark_within : (text : List ℕ) → mark_len text ≤ length text
-mark_within text =
-    cond_both (starts_with nat_eq text mark_bytes) 3 0 (λ n. n ≤ length text) (λ h. let e = ap length (marked text h) in omega (arith, e))
-    (λ h. omega arith)
-
 mark_marks : is_mark 0xFEFF ≡ true
 unfolding is_mark
 mark_marks = refl
 
 -- a text that begins with another piece begins with no mark
-no_mark : (text : List ℕ) (p : Piece) (ps : List Piece) → AreLineText text (p ∷ ps) → is_mark_class p.class ≡ false → mark_len text ≡ 0
-no_mark text p ps is unmarked = ap (λ (b : Bool). if b then 3 else 0) (false_from_ne_true _ absent)
+no_mark : (text : List ℕ) (ps : List Piece) → AreLineText text ps → begins_marked ps ≡ false → mark_len text ≡ 0
+no_mark text [] is unmarked = ap mark_len (sym is.spell)
+no_mark text (p ∷ ps) is unmarked = ap (λ (b : Bool). if b then 3 else 0) (false_from_ne_true _ absent)
   where
     absent : starts_with nat_eq text mark_bytes ≡ true → ⊥
     absent h =
@@ -124,9 +119,10 @@ first_read bytes depth (p ∷ ps) n is unmarked run =
       text = is;
     }) run
 
-unmarked_indent : (p : Piece) (ps : List Piece) → is_mark_class p.class ≡ false → indent_of (p ∷ ps) ≡ space_len p.class p.text
-unmarked_indent p [] unmarked = refl
-unmarked_indent p (q ∷ ps) unmarked = rw unmarked
+unmarked_indent : (ps : List Piece) → begins_marked ps ≡ false → indent_of ps ≡ first_space ps
+unmarked_indent [] unmarked = refl
+unmarked_indent (p ∷ []) unmarked = refl
+unmarked_indent (p ∷ q ∷ ps) unmarked = rw unmarked
 
 marked_indent : (p : Piece) (ps : List Piece) → p.class ≡ mark → indent_of (p ∷ ps) ≡ first_space ps
 marked_indent p [] is = ap (λ (k : Class). space_len k p.text) is
@@ -155,46 +151,27 @@ module _ (text : List ℕ) (n first : ℕ) (t : LineTokens) (run : IsRunOf is_sp
         unmarked = is.fit.2;
         place = place;
         number = omega (arith, m.counted, ap line_ends one);
-        kind = blank ∙ sym (kind_of_mark p class_is);
+        kind = blank ∙ sym (ap (λ (k : Class). kind_of (record { class = k; text = p.text } ∷ [])) class_is);
         indent = indent ∙ first_read _ _ ps n after is.fit.2 own ∙ sym (marked_indent p ps class_is);
-        tokens = none ∙ sym (tokens_of_mark p class_is);
+        tokens = none ∙ sym (ap (λ (k : Class). tokens_from 0 first (record { class = k; text = p.text } ∷ [])) class_is);
       }
-    where
-      kind_of_mark : (q : Piece) → q.class ≡ mark → kind_of (q ∷ []) ≡ unit_kind.Blank
-      kind_of_mark q is = ap (λ (k : Class). kind_of (record { class = k; text = q.text } ∷ [])) is
 
-      tokens_of_mark : (q : Piece) → q.class ≡ mark → tokens_from 0 first (q ∷ []) ≡ []
-      tokens_of_mark q is = ap (λ (k : Class). tokens_from 0 first (record { class = k; text = q.text } ∷ [])) is
-
-  begun_unmarked : (p : Piece) (ps : List Piece) → AreLineText text (p ∷ ps) → is_mark_class p.class ≡ false
-      → HaveReadOf (p ∷ ps) first (mark_len text) first t
-  begun_unmarked p ps is unmarked =
-      let start = no_mark text p ps is unmarked in
+  begun_unmarked : (ps : List Piece) → AreLineText text ps → begins_marked ps ≡ false → HaveReadOf ps first (mark_len text) first t
+  begun_unmarked ps is unmarked =
+      let start = no_mark text ps is unmarked in
       let own = subst (λ (k : ℕ). IsRunOf is_space (drop k text) n) start run in
       record {
         done = [];
-        others = p ∷ ps;
+        others = ps;
         are = refl;
         unmarked = unmarked;
         place = start;
         number = omega arith;
         kind = blank;
-        indent = indent ∙ first_read text 0 (p ∷ ps) n is unmarked own ∙ sym (unmarked_indent p ps unmarked);
+        indent = indent ∙ first_read text 0 ps n is unmarked own ∙ sym (unmarked_indent ps unmarked);
         tokens = none;
       }
 
   pub begun : HaveRead text first (mark_len text) first t
-  begun [] is =
-      let start : mark_len text ≡ 0 = ap mark_len (sym is.spell) in
-      record {
-        done = [];
-        others = [];
-        are = refl;
-        unmarked = refl;
-        place = start;
-        number = omega arith;
-        kind = blank;
-        indent = indent ∙ first_read text 0 [] n is refl (subst (λ (k : ℕ). IsRunOf is_space (drop k text) n) start run);
-        tokens = none;
-      }
-  begun (p ∷ ps) is = ⊎_elim (begun_marked p ps is) (begun_unmarked p ps is) (is_mark_or p.class)
+  begun [] is = begun_unmarked [] is refl
+  begun (p ∷ ps) is = ⊎_elim (begun_marked p ps is) (begun_unmarked (p ∷ ps) is) (is_mark_or p.class)

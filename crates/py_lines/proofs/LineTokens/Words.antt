@@ -1,5 +1,5 @@
 -- The word that bytes begin with, or the string whose prefix it is.
-use Rattle.std.proofs.Common.{◌≡◌, ℕ, ◌<◌, ◌≤◌, ◌⊎◌, inl, Bool, true, false, ◌&&◌, List, [], ◌∷◌, ◌++◌, take, drop, slice_index, refl, sym, ap, ◌∙◌, subst, append_assoc, arith, ⊎_elim}
+use Rattle.std.proofs.Common.{◌≡◌, ℕ, ◌<◌, ◌≤◌, ◌⊎◌, inl, Bool, true, false, ◌&&◌, List, [], ◌∷◌, ◌++◌, take, drop, slice_index, refl, sym, ap, ◌∙◌, subst, append_assoc, arith, ⊎_elim, length}
 use Rattle.std.specs.Prelude.{codes, encode_utf8_all, nat_le, not, if◌then◌else◌}
 use Rattle.std.specs.Char.{is_ascii_digit}
 use Rattle.std.specs.List.{list_all}
@@ -68,6 +68,10 @@ pub first_byte : (passes : ℕ → Bool) (bytes : List ℕ) → begins passes by
 first_byte passes [] none = absurd (both_ways _ refl none)
 first_byte passes (b ∷ bs) h = h
 
+-- where bytes are cut that begin with these
+cut_at : (bytes xs ys : List ℕ) (n : ℕ) → bytes ≡ xs ++ ys → n ≡ length xs → (take n bytes ≡ xs) × (drop n bytes ≡ ys)
+cut_at bytes xs ys n is size = rw (is, size) (take-append_seam xs ys, drop-append_seam xs ys)
+
 -- the spelling of the word
 prefix_told : (prefix : List ℕ) (c : ℕ) (cs : List ℕ) → prefix ≡ c ∷ cs
     → begins_string (word_spelling (encode_utf8_all prefix)) ≡ fielded.is_prefix prefix
@@ -118,12 +122,7 @@ module _ (bytes : List ℕ) (p : Piece) (b : BeginWithPiece bytes p) where
       let len = word_len n is run in
       let bytes_are = spelled_bytes bytes p b in
       let parts = and_parts (begins is_quote (drop n bytes)) (begins_string (word_spelling (take n bytes))) told in
-      let later : drop n bytes ≡ encode_utf8_all rest
-      = ap (λ k. drop k bytes) len ∙ ap (drop (byte_len p.text)) bytes_are
-      ∙ drop-append_seam (encode_utf8_all p.text) (encode_utf8_all rest) in
-      let front : take n bytes ≡ encode_utf8_all p.text
-      = ap (λ k. take k bytes) len ∙ ap (take (byte_len p.text)) bytes_are
-      ∙ take-append_seam (encode_utf8_all p.text) (encode_utf8_all rest) in
+      let (front, later) = cut_at bytes (encode_utf8_all p.text) (encode_utf8_all rest) n bytes_are len in
       let quotes : begins is_quote rest ≡ true
       = sym (encoded_begins is_quote (low_even is_quote quote_ascii) rest) ∙ ap (begins is_quote) (sym later) ∙ parts.0 in
       let prefix : fielded.is_prefix p.text ≡ true
@@ -163,12 +162,7 @@ module _ (bytes : List ℕ) (p : Piece) (b : BeginWithPiece bytes p) where
           = run_length is_wide_word (encode_utf8_all q.prefix) (q.quote ∷ after) n
           (subst (λ (t : List ℕ). IsRunOf is_wide_word t n) bytes_are run) (encoded_passes is_wide_word wide_even q.prefix all)
           (quote_not_wide q.quote q.opens) in
-          let later : drop n bytes ≡ q.quote ∷ after
-          = ap (λ k. drop k bytes) len ∙ ap (drop (byte_len q.prefix)) bytes_are
-          ∙ drop-append_seam (encode_utf8_all q.prefix) (q.quote ∷ after) in
-          let front : take n bytes ≡ encode_utf8_all q.prefix
-          = ap (λ k. take k bytes) len ∙ ap (take (byte_len q.prefix)) bytes_are
-          ∙ take-append_seam (encode_utf8_all q.prefix) (q.quote ∷ after) in
+          let (front, later) = cut_at bytes (encode_utf8_all q.prefix) (q.quote ∷ after) n bytes_are len in
           and_from (begins is_quote (drop n bytes)) _ (ap (begins is_quote) later ∙ q.opens)
           (ap (λ t. begins_string (word_spelling t)) front ∙ prefix_told q.prefix w.first w.others w.is ∙ begun)
 

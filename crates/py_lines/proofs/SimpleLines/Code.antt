@@ -383,27 +383,23 @@ word-not-break c is = not-true _ (word_whole c is)
 word_holds : (read : List ℕ) (n c : ℕ) → HoldsLineEnds read n → is_ascii_word c ≡ true → HoldsLineEnds (read ++ c ∷ []) n
 word_holds read n c holds is = holds_one read c n holds (word_byte_low c is) (word-not-break c is)
 
-one_tail : (read : List ℕ) (c : ℕ) → tail_of read ≡ None → is_ascii_word c ≡ true → tail_of (read ++ c ∷ []) ≡ Some (first_spelling c)
-one_tail read c none is = tail_push read c ∙ ap (λ t. tail_with t c) none ∙ rw is refl
-
-more_tail : (read : List ℕ) (s : Spelling) (c : ℕ) → tail_of read ≡ Some s → is_ascii_word c ≡ true → tail_of (read ++ c ∷ []) ≡ Some (spelling_with s c)
-more_tail read s c some is = tail_push read c ∙ ap (λ t. tail_with t c) some ∙ rw is refl
+word_after : (initial : Mode) (read : List ℕ) (n : ℕ) (st : List Bracket) (c : ℕ) → is_ascii_word c ≡ true → (s : Spelling) (done : List Piece) (held : List ℕ) → tail_with (tail_of read) c ≡ Some s → HasCome initial (read ++ c ∷ []) n st (scanned done (modes.Word s) held) → GoesOnAfter initial (read ++ c ∷ []) n st
+word_after initial read n st c is s done held some come = record {
+  state = scanned done (modes.Word s) held;
+  come = come;
+  tail = subst (λ t. IsTail t (modes.Word s)) (sym (tail_push read c ∙ some)) refl;
+  unreturned = one_unreturned read c (word-not-break c is);
+}
 
 word_opens : (initial : Mode) (read : List ℕ) (n : ℕ) (st : List Bracket) (c : ℕ) → is_ascii_word c ≡ true → tail_of read ≡ None → EndsBefore c initial read n st → GoesOnAfter initial (read ++ c ∷ []) n st
-word_opens initial read n st c is none on = record {
-  state = scanned (pieces initial read n st c on) (modes.Word (first_spelling c)) (c ∷ []);
-  come = opens initial read n st c on (modes.Word (first_spelling c)) (start-word c (word_starts c is)) (word_holds read n c on.come.holds is);
-  tail = subst (λ t. IsTail t (modes.Word (first_spelling c))) (sym (one_tail read c none is)) refl;
-  unreturned = one_unreturned read c (word-not-break c is);
-}
+word_opens initial read n st c is none on =
+    word_after initial read n st c is (first_spelling c) (pieces initial read n st c on) (c ∷ []) (rw (none, is) refl)
+    (opens initial read n st c on (modes.Word (first_spelling c)) (start-word c (word_starts c is)) (word_holds read n c on.come.holds is))
 
 word_goes_on : (initial : Mode) (read : List ℕ) (n : ℕ) (st : List Bracket) (s : Spelling) → tail_of read ≡ Some s → IsInPiece (modes.Word s) initial read n st → (c : ℕ) → is_ascii_word c ≡ true → GoesOnAfter initial (read ++ c ∷ []) n st
-word_goes_on initial read n st s some on c is = record {
-  state = scanned on.done (modes.Word (spelling_with s c)) (on.held ++ c ∷ []);
-  come = grown (modes.Word (spelling_with s c)) c on.come (word_grows s c is) (word_holds read n c on.come.holds is);
-  tail = subst (λ t. IsTail t (modes.Word (spelling_with s c))) (sym (more_tail read s c some is)) refl;
-  unreturned = one_unreturned read c (word-not-break c is);
-}
+word_goes_on initial read n st s some on c is =
+    word_after initial read n st c is (spelling_with s c) on.done (on.held ++ c ∷ []) (rw (some, is) refl)
+    (grown (modes.Word (spelling_with s c)) c on.come (word_grows s c is) (word_holds read n c on.come.holds is))
 
 word_passed : (initial : Mode) (read : List ℕ) (n : ℕ) (st : List Bracket) (c : ℕ) → is_ascii_word c ≡ true → GoesOnAfter initial read n st → GoesOnAfter initial (read ++ c ∷ []) n st
 word_passed initial read n st c is on = ⊎_elim
@@ -495,42 +491,29 @@ return_next rest initial read n st on = break_next rest initial read n st 13 (fi
 pub outer_end_whole : (text after : List ℕ) (m : Mode) (read : List ℕ) (n : ℕ) → IsOuterEnd text after
     → StandsBefore (text ++ after) m read n [] → EndsWith text m read n after
 outer_end_whole text after m read n (inl (returned, is)) on =
-    subst (λ (t : List ℕ). EndsWith t m read n after) (sym is)
-    (line_end_whole returned after m read n (line_end_next returned after m read n []
-    (subst (λ (t : List ℕ). StandsBefore (t ++ after) m read n []) is on)))
-outer_end_whole text after m read n (inr (is, other)) on =
-    subst (λ (t : List ℕ). EndsWith t m read n after) (sym is)
-    (return_whole after m read n other (return_next after m read n []
-    (subst (λ (t : List ℕ). StandsBefore (t ++ after) m read n []) is on)))
+    rw is (line_end_whole returned after m read n (line_end_next returned after m read n [] (rw is at on)))
+outer_end_whole text after m read n (inr (is, other)) on = rw is (return_whole after m read n other (return_next after m read n [] (rw is at on)))
 
 -- whether it ends with CR
 pub outer_end_returns : (text after read : List ℕ) → IsOuterEnd text after
     → (slice_index text (length text - 1) == 13) ≡ ends is_return (read ++ text)
-outer_end_returns text after read (inl (returned, is)) =
-    subst (λ (t : List ℕ). (slice_index t (length t - 1) == 13) ≡ ends is_return (read ++ t)) (sym is)
-    (fed returned ∙ sym (line_end_unreturned returned read))
+outer_end_returns text after read (inl (returned, is)) = rw is (fed returned ∙ sym (line_end_unreturned returned read))
   where
     fed : (b : Bool) → (slice_index (line_end_of b) (length (line_end_of b) - 1) == 13) ≡ false
     fed true = refl
     fed false = refl
-outer_end_returns text after read (inr (is, other)) =
-    subst (λ (t : List ℕ). (slice_index t (length t - 1) == 13) ≡ ends is_return (read ++ t)) (sym is)
-    (sym (ends-last is_return read 13 ∙ return_returns))
+outer_end_returns text after read (inr (is, other)) = rw is (sym (ends-last is_return read 13 ∙ return_returns))
 
 -- in brackets the line goes on, after CR alone with a piece open
 pub outer_end_inside : (text after : List ℕ) (initial : Mode) (read : List ℕ) (n : ℕ) (st : List Bracket) (closes : Bool)
     → IsOuterEnd text after → none_open st ≡ false → (closes ≡ true → text ≡ 13 ∷ [] → ⊥) → StandsBefore (text ++ after) initial read n st
     → StandsClosed closes after initial (read ++ text) (n + 1) st
 outer_end_inside text after initial read n st closes (inl (returned, is)) some fed on =
-    subst (λ (t : List ℕ). StandsClosed closes after initial (read ++ t) (n + 1) st) (sym is)
-    (stands_less true closes after initial (read ++ line_end_of returned) (n + 1) st (λ _. refl)
-    (line_end_inside returned initial read n st (line_end_next returned after initial read n st
-    (subst (λ (t : List ℕ). StandsBefore (t ++ after) initial read n st) is on)) some))
+    rw is (stands_less true closes after initial (read ++ line_end_of returned) (n + 1) st (λ _. refl)
+    (line_end_inside returned initial read n st (line_end_next returned after initial read n st (rw is at on)) some))
 outer_end_inside text after initial read n st true (inr (is, other)) some fed on = absurd (fed refl is)
 outer_end_inside text after initial read n st false (inr (is, other)) some fed on =
-    subst (λ (t : List ℕ). StandsBefore after initial (read ++ t) (n + 1) st) (sym is)
-    (return_inside after initial read n st other some (return_next after initial read n st
-    (subst (λ (t : List ℕ). StandsBefore (t ++ after) initial read n st) is on)))
+    rw is (return_inside after initial read n st other some (return_next after initial read n st (rw is at on)))
 
 -- bytes of code are ASCII
 pub code_low : (c : ℕ) → IsCodeByte c → c < 128

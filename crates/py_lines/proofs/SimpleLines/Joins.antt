@@ -14,7 +14,7 @@ use Rattle.py_lines.specs.Private.Machine.{Bracket, fresh, move_of}
 use Rattle.py_lines.specs.Private.ScanMachine.{meet_of, scan_steps}
 use Rattle.py_lines.specs.Private.Scan.{line_start}
 use Rattle.py_lines.specs.Private.Run.{is_ascii_word}
-use Rattle.py_lines.specs.Private.Outline.{BeginsOuterEnd, EndsBefore, HasCome, HasOuterEnd, IsFreeAfter, IsOuterEnd, PassesFirst, StandsBefore, StandsClosed, closes_itself, line_end_of}
+use Rattle.py_lines.specs.Private.Outline.{BeginsOuterEnd, EndsBefore, HasCome, HasOuterEnd, IsFreeAfter, IsOuterEnd, PassesFirst, StandsClosed, closes_itself, line_end_of}
 use Rattle.py_lines.proofs.Machine.LiveTexts.{keeps}
 use Rattle.py_lines.proofs.Machine.PieceSteps.{scanned}
 use Rattle.py_lines.proofs.Machine.Starts.{start-slash}
@@ -90,12 +90,11 @@ module _ (initial : Mode) (read : List ℕ) (n : ℕ) (st : List Bracket) (on : 
 
   -- all pieces are closed after it, unless CR alone ends it
   joined : (closes : Bool) (text after : List ℕ) → IsOuterEnd text after → (closes ≡ true → text ≡ 13 ∷ [] → ⊥) → StandsClosed closes after initial ((read ++ 92 ∷ []) ++ text) (n + 1) st
-  joined true text after (inl (returned, is)) feeds = subst (λ (t : List ℕ). IsFreeAfter initial ((read ++ 92 ∷ []) ++ t) (n + 1) st) (sym is) (join_leads returned)
+  joined true text after (inl (returned, is)) feeds = rw is (join_leads returned)
   joined true text after (inr (is, other)) feeds = absurd (feeds refl is)
-  joined false text after (inl (returned, is)) feeds =
-      subst (λ (t : List ℕ). StandsBefore after initial ((read ++ 92 ∷ []) ++ t) (n + 1) st) (sym is) (free_stands after initial ((read ++ 92 ∷ []) ++ line_end_of returned) (n + 1) st (join_leads returned))
+  joined false text after (inl (returned, is)) feeds = rw is (free_stands after initial ((read ++ 92 ∷ []) ++ line_end_of returned) (n + 1) st (join_leads returned))
   joined false text [] (inr (is, other)) feeds = absurd other
-  joined false text (c ∷ cs) (inr (is, other)) feeds = subst (λ (t : List ℕ). StandsBefore (c ∷ cs) initial ((read ++ 92 ∷ []) ++ t) (n + 1) st) (sym is) (inr (return_leads c other))
+  joined false text (c ∷ cs) (inr (is, other)) feeds = rw is (inr (return_leads c other))
 
 -- a join that closes itself ends with LF
 ends_with_feed : (cs : List ℕ) (len : ℕ) → len ≤ length cs → closes_itself (92 ∷ cs) (suc len) ≡ true → take len cs ≡ 13 ∷ [] → ⊥

@@ -150,22 +150,18 @@ module _ (bytes : List ℕ) (at : ℕ) (old new : Passing) (within : at < length
 -- a comment of ASCII goes on up to the next byte that isn't plain
 pub record ReadsComment (bytes : List ℕ) (at end : ℕ) (marks : Marks) : Type 0 where
   pub further : at < end
-  pub within : end ≤ length bytes
   pub each : Between is_remark_byte bytes at end
-  pub special : end < length bytes → is_plain (slice_index bytes end) ≡ false
-  pub rest : end < length bytes → HasMarks bytes (end + 1) marks
-  pub held : end < length bytes → (marks.base ≤ end) × (end < marks.base + 64)
+  pub from : ℕ
+  pub next : FindsNext bytes from end marks
 
 pub comment_begun : (bytes : List ℕ) (at end : ℕ) (marks : Marks) → FindsNext bytes (at + 1) end marks → ReadsComment bytes at end marks
 comment_begun bytes at end marks next =
     let after = next.after in
     record {
       further = omega (arith, after);
-      within = next.within;
       each = λ i more less. plain_remark (slice_index bytes i) (next.plain i (omega (arith, more)) less);
-      special = next.special;
-      rest = next.rest;
-      held = next.held;
+      from = at + 1;
+      next = next;
     }
 
 -- over a byte that isn't plain and ends no line, to the next
@@ -174,13 +170,11 @@ comment_further bytes at end to marks next_marks so_far remark next =
     let after = next.after in
     record {
       further = omega (arith, so_far.further, after);
-      within = next.within;
       each = λ i more less. elim (cases_order i end) [
         | inl here ↦ ap (λ (k : ℕ). is_remark_byte (slice_index bytes k)) here ∙ remark
         | inr (inl before) ↦ so_far.each i more before
         | inr (inr later) ↦ plain_remark (slice_index bytes i) (next.plain i (omega (arith, later)) less)
       ];
-      special = next.special;
-      rest = next.rest;
-      held = next.held;
+      from = end + 1;
+      next = next;
     }

@@ -3,7 +3,6 @@ use Rattle.std.proofs.Common.{◌≡◌, ℕ, ◌+◌, ◌-◌, ◌<◌, ◌≤�
 use Rattle.std.specs.Prelude.{encode_utf8_all, nat_lt}
 use Rattle.std.proofs.lemmas.Bool.{and_from, both_ways}
 use Rattle.std.proofs.lemmas.List.{drop-drop, drop_more, get_or-drop, get_or-take, length-take-le, take-append-drop}
-use Rattle.py_lines.specs.Balance.{is_closing, is_opening}
 use Rattle.py_lines.specs.Character.{is_backslash, is_operator, is_quote}
 use Rattle.py_lines.specs.Piece.{operator}
 use Rattle.py_lines.specs.declared.brackets.Brackets.{Brackets}
@@ -18,8 +17,6 @@ use Rattle.py_lines.specs.Private.Outline.{BeginsOuterEnd, IsOuterEnd, PassesPie
 use Rattle.py_lines.specs.Private.Passing.{IsMet, PassesOver, PassesSo, PassesSpecial, passed_to}
 use Rattle.py_lines.specs.Private.Scan.{Meets, depth_of, none_open, stack_of}
 use Rattle.py_lines.proofs.Pieces.PieceLists.{piece}
-use Rattle.py_lines.proofs.Machine.LiveTexts.{closing-operator}
-use Rattle.py_lines.proofs.FieldMachine.PieceRuns.{opening_operator}
 use Rattle.py_lines.proofs.LineScan.AsciiRuns.{is_low, low_encodes, low_is}
 use Rattle.py_lines.proofs.Text.CharacterTests.{none_of, operator_ascii}
 use Rattle.py_lines.proofs.SimpleLines.Code.{outer_end_inside}
@@ -147,7 +144,7 @@ passed_further bytes at place all closed b new c so =
 
 module _ (bytes : List ℕ) (at : ℕ) (old : Passing) (within : at < length bytes) (marked : HasMarks bytes (at + 1) old.marks) where
   -- a bracket, which was met or not
-  bracket_passed : (place : ℕ) (b : Brackets) (met : Bool) (c : Brackets) (result : Special) (new : Passing)
+  pub bracket_passed : (place : ℕ) (b : Brackets) (met : Bool) (c : Brackets) (result : Special) (new : Passing)
       → is_operator (slice_index bytes at) ≡ true → Meets b (slice_index bytes at) place met c → IsMet met at old result new
       → PassesSpecial bytes at place old b result new c
   bracket_passed place b true c result new is meets (passed, so) =
@@ -164,16 +161,6 @@ module _ (bytes : List ℕ) (at : ℕ) (old : Passing) (within : at < length byt
       }))
   bracket_passed place b false c result new is meets (unpassed, same) =
       subst (λ (s : Special). PassesSpecial bytes at place old b s new c) (sym unpassed) (same, meets.1)
-
-  pub opened : (place : ℕ) (b : Brackets) (met : Bool) (c : Brackets) (result : Special) (new : Passing)
-      → is_opening (slice_index bytes at) ≡ true → Meets b (slice_index bytes at) place met c → IsMet met at old result new
-      → PassesSpecial bytes at place old b result new c
-  opened place b met c result new is = bracket_passed place b met c result new (opening_operator (slice_index bytes at) is)
-
-  pub closed : (place : ℕ) (b : Brackets) (met : Bool) (c : Brackets) (result : Special) (new : Passing)
-      → is_closing (slice_index bytes at) ≡ true → Meets b (slice_index bytes at) place met c → IsMet met at old result new
-      → PassesSpecial bytes at place old b result new c
-  closed place b met c result new is = bracket_passed place b met c result new (closing-operator (slice_index bytes at) is)
 
   -- a piece
   pub piece_passed : (place : ℕ) (b : Brackets) (p : Passed) (closes : Bool) (marks : Marks) (new : Passing) → depth_of b ≤ 100

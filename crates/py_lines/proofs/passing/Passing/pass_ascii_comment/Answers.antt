@@ -12,14 +12,14 @@ specials-init c = comment_begun c.args.bytes.now c.args.at c.next-end.result c.n
 
 pub specials-smaller : goal.specials-smaller
 specials-smaller c =
-    let next = c.next-end-in-specials.ensures (c.specials.end + 1) (c.specials.invariant.rest c.specials-test.true) in
+    let next = c.next-end-in-specials.ensures (c.specials.end + 1) (c.specials.invariant.next.rest c.specials-test.true) in
     omega (arith, next.after, next.within, c.specials-test.true)
 
 pub specials-preserved : goal.specials-preserved
 specials-preserved c =
     let bytes = c.args.bytes.now in
     let end = c.specials.end in
-    let next = c.next-end-in-specials.ensures (end + 1) (c.specials.invariant.rest c.specials-test.true) in
+    let next = c.next-end-in-specials.ensures (end + 1) (c.specials.invariant.next.rest c.specials-test.true) in
     let whole : is_break (slice_index bytes end) ≡ false = sym c.is_break.ensures ∙ c.if-not-is_break.true in
     let remark : is_remark_byte (slice_index bytes end) ≡ true = and_from _ _ (ap not whole) (is_low_from (slice_index bytes end) c.if-bytes-end-lt128.true) in
     comment_further bytes c.args.at end c.next-end-in-specials.result c.specials.marks c.next-end-in-specials.new.self c.specials.invariant remark next
@@ -37,6 +37,6 @@ returns-clause-passed c = λ _.
       | else-specials-test w ↦ absurd (omega (arith, w.specials-test.false, c.if-end-bytes.false))
     ] in
     let passes = marked_comment bytes at end read.further within c.requires.hash read.each breaks in
-    let there = c.keep.ensures bytes (within, read.special within) (read.rest within) in
+    let there = c.keep.ensures bytes (within, read.next.special within) (read.next.rest within) in
     passes_marked bytes at c.args.self.now c.pass_to.new.self c.requires.within c.requires.marked (record { len = end - at; line_ends = 0 }) false end c.keep.new.self passes
     (λ h. absurd (both_ways _ refl h)) (omega (arith, read.further)) there c.pass_to.ensures
