@@ -226,8 +226,7 @@ module _ {bytes : List ℕ} {scan : Scan} {rest : List ℕ} (at : InFirst bytes 
               let tallied = taken.tallies in
               let (y, cut) = next_is b c next in
               let open_yet = ap is_free (sym tallied.counts.mode) ∙ other in
-              let t = taken.next in
-              let nothing = open_with text b.more b.after b.passes b.some read y c s cut steps none on_there t taken.goes open_yet in
+              let nothing = open_with text b.more b.after b.passes b.some read y c s cut steps none on_there taken.next taken.goes open_yet in
               let more = drop (len_utf8 c) rest in
               record {
                 reached = reached_character modes.Free 1 bytes scan new rest more c at.reached next.scalar (sym next.spell) (taken, line);

@@ -185,13 +185,12 @@ plain_taken bytes n p quotes plain some has =
     let encodes : encode_utf8_all whole ≡ word ++ take p.len rest
     = encodes-append word is.part.run ∙ ap (λ t. t ++ encode_utf8_all is.part.run) (word_low word plain)
     ∙ ap (λ t. word ++ t) is.part.spell in
-    let room = is.part.within in
     whole_taken bytes whole after
     (ap (λ t. t ++ after) encodes ∙ append_assoc word (take p.len rest) after
     ∙ ap (λ t. word ++ t) (take-append-drop p.len rest) ∙ take-append-drop n bytes)
     (ended.come.steps ∙ ap (λ t. Some (fresh (piece string t ∷ []))) text_is)
     (n + p.len) p.line_ends
-    (omega (arith, ap length encodes, length-append word (take p.len rest), length-take-le n bytes within, length-take-le p.len rest room))
+    (omega (arith, ap length encodes, length-append word (take p.len rest), length-take-le n bytes within, length-take-le p.len rest is.part.within))
     (omega (arith, ended.come.holds.count))
 
 -- a string with fields, after its prefix

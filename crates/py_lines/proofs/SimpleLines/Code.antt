@@ -479,20 +479,16 @@ ends_so initial read rest n st c ends (inr on) = on
 break_next : (rest : List ℕ) (initial : Mode) (read : List ℕ) (n : ℕ) (st : List Bracket) (c : ℕ) → is_break c ≡ true → StandsBefore (c ∷ rest) initial read n st → EndsBefore c initial read n st
 break_next rest initial read n st c is on = ends_so initial read rest n st c (break_ends initial read n st c is) on
 
-pub line_end_next : (returned : Bool) (rest : List ℕ) (initial : Mode) (read : List ℕ) (n : ℕ) (st : List Bracket) → StandsBefore (line_end_of returned ++ rest) initial read n st → EndsBefore (line_end_first returned) initial read n st
+line_end_next : (returned : Bool) (rest : List ℕ) (initial : Mode) (read : List ℕ) (n : ℕ) (st : List Bracket) → StandsBefore (line_end_of returned ++ rest) initial read n st → EndsBefore (line_end_first returned) initial read n st
 line_end_next true rest initial read n st on = break_next (10 ∷ rest) initial read n st 13 (first-break true) on
 line_end_next false rest initial read n st on = break_next rest initial read n st 10 (first-break false) on
-
-pub return_next : (rest : List ℕ) (initial : Mode) (read : List ℕ) (n : ℕ) (st : List Bracket)
-    → StandsBefore (13 ∷ rest) initial read n st → EndsBefore 13 initial read n st
-return_next rest initial read n st on = break_next rest initial read n st 13 (first-break true) on
 
 -- outside brackets it ends the line
 pub outer_end_whole : (text after : List ℕ) (m : Mode) (read : List ℕ) (n : ℕ) → IsOuterEnd text after
     → StandsBefore (text ++ after) m read n [] → EndsWith text m read n after
 outer_end_whole text after m read n (inl (returned, is)) on =
     rw is (line_end_whole returned after m read n (line_end_next returned after m read n [] (rw is at on)))
-outer_end_whole text after m read n (inr (is, other)) on = rw is (return_whole after m read n other (return_next after m read n [] (rw is at on)))
+outer_end_whole text after m read n (inr (is, other)) on = rw is (return_whole after m read n other (break_next after m read n [] 13 (first-break true) (rw is at on)))
 
 -- whether it ends with CR
 pub outer_end_returns : (text after read : List ℕ) → IsOuterEnd text after
@@ -513,7 +509,7 @@ outer_end_inside text after initial read n st closes (inl (returned, is)) some f
     (line_end_inside returned initial read n st (line_end_next returned after initial read n st (rw is at on)) some))
 outer_end_inside text after initial read n st true (inr (is, other)) some fed on = absurd (fed refl is)
 outer_end_inside text after initial read n st false (inr (is, other)) some fed on =
-    rw is (return_inside after initial read n st other some (return_next after initial read n st (rw is at on)))
+    rw is (return_inside after initial read n st other some (break_next after initial read n st 13 (first-break true) (rw is at on)))
 
 -- bytes of code are ASCII
 pub code_low : (c : ℕ) → IsCodeByte c → c < 128

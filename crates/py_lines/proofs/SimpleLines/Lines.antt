@@ -199,8 +199,7 @@ module _ (bytes : List ℕ) where
       encodes-append past.read line ∙ ap (λ t. t ++ encode_utf8_all line) past.spell ∙ ap (λ t. take lines.len bytes ++ t) own
       ∙ sym (take-add lines.len (at + len - lines.len) bytes) ∙ ap (λ (k : ℕ). take k bytes) there in
       let count : lines.line_ends + (come.more + 1) ≡ n + 1 = omega (arith, come.count) in
-      let end_some = ends.some in
-      let some : 0 < length line = omega (arith, length-append come.read text, length-take-le len (drop at bytes) ends.within, end_some) in
+      let some : 0 < length line = omega (arith, length-append come.read text, length-take-le len (drop at bytes) ends.within, ends.some) in
       let split : drop lines.len bytes ≡ encode_utf8_all line ++ after =
       sym (take-append-drop (at + len - lines.len) (drop lines.len bytes)) ∙ ap (λ t. t ++ drop (at + len - lines.len) (drop lines.len bytes)) (sym own)
       ∙ ap (λ t. encode_utf8_all line ++ t) (drop-drop (at + len - lines.len) lines.len bytes ∙ ap (λ (k : ℕ). drop k bytes) there) in
@@ -277,10 +276,9 @@ module _ (bytes : List ℕ) (lines : Passed) (at : ℕ) (p : Passing) (b : Brack
   pub ends_line : (len : ℕ) (q : Passing) (c : Brackets) → at < length bytes → EndsLineSo bytes at p.all b len q c
       → HasComeFurther bytes q.all at q c
   ends_line len q c within so =
-      let some = so.ends.some in
       let size : q.all.len ≡ at + len = ap (λ (x : Passed). x.len) so.is in
       record {
-        further = omega (arith, some, size);
+        further = omega (arith, so.ends.some, size);
         come = subst (λ (x : Passed). HasComeTo bytes x x.len x.line_ends (stack_of c)) (sym so.is)
             (subst (λ (k : Brackets). HasComeTo bytes (up_to p.all (at + len) 1) (at + len) (p.all.line_ends + 1) (stack_of k))
             (sym so.kept)

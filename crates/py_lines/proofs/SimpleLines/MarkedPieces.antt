@@ -156,9 +156,8 @@ pub record ReadsComment (bytes : List ℕ) (at end : ℕ) (marks : Marks) : Type
 
 pub comment_begun : (bytes : List ℕ) (at end : ℕ) (marks : Marks) → FindsNext bytes (at + 1) end marks → ReadsComment bytes at end marks
 comment_begun bytes at end marks next =
-    let after = next.after in
     record {
-      further = omega (arith, after);
+      further = omega (arith, next.after);
       each = λ i more less. plain_remark (slice_index bytes i) (next.plain i (omega (arith, more)) less);
       from = at + 1;
       next = next;
@@ -167,9 +166,8 @@ comment_begun bytes at end marks next =
 -- over a byte that isn't plain and ends no line, to the next
 pub comment_further : (bytes : List ℕ) (at end to : ℕ) (marks next_marks : Marks) → ReadsComment bytes at end marks → is_remark_byte (slice_index bytes end) ≡ true → FindsNext bytes (end + 1) to next_marks → ReadsComment bytes at to next_marks
 comment_further bytes at end to marks next_marks so_far remark next =
-    let after = next.after in
     record {
-      further = omega (arith, so_far.further, after);
+      further = omega (arith, so_far.further, next.after);
       each = λ i more less. elim (cases_order i end) [
         | inl here ↦ ap (λ (k : ℕ). is_remark_byte (slice_index bytes k)) here ∙ remark
         | inr (inl before) ↦ so_far.each i more before

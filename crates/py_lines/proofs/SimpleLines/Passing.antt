@@ -80,8 +80,7 @@ module _ (bytes : List ℕ) (at : ℕ) (within : at < length bytes) (len : ℕ) 
   pub end_last : slice_index bytes (at + len - 1) ≡ slice_index end_text (length end_text - 1)
   end_last =
       let some = ends.some in
-      let fits = ends.within in
-      let size : len - 1 ≡ length end_text - 1 = ap (λ (k : ℕ). k - 1) (sym (length-take-le len (drop at bytes) fits)) in
+      let size : len - 1 ≡ length end_text - 1 = ap (λ (k : ℕ). k - 1) (sym (length-take-le len (drop at bytes) ends.within)) in
       let there : at + len - 1 ≡ at + (len - 1) = omega (arith, some) in
       ap (λ (k : ℕ). slice_index bytes k) there ∙ sym (get_or-drop at bytes (len - 1) 0)
       ∙ sym (get_or-take len (drop at bytes) (len - 1) 0 (omega (arith, some))) ∙ ap (λ (k : ℕ). slice_index end_text k) size
@@ -138,9 +137,8 @@ marks_apart bytes at place old marks b (special.LineEnd len) new c passed so = s
 pub passed_further : (bytes : List ℕ) (at place : ℕ) (all closed : Passed) (b : Brackets) (new : Passing) (c : Brackets)
     → PassesSo bytes at place all closed b new c → (at < new.all.len) × HasMarks bytes new.all.len new.marks
 passed_further bytes at place all closed b new c so =
-    let some = so.over.some in
     let size : new.all.len ≡ at + so.len = ap (λ (p : Passing). p.all.len) so.is in
-    (omega (arith, some, size), subst (λ (k : ℕ). HasMarks bytes k new.marks) (sym size) so.marked)
+    (omega (arith, so.over.some, size), subst (λ (k : ℕ). HasMarks bytes k new.marks) (sym size) so.marked)
 
 module _ (bytes : List ℕ) (at : ℕ) (old : Passing) (within : at < length bytes) (marked : HasMarks bytes (at + 1) old.marks) where
   -- a bracket, which was met or not

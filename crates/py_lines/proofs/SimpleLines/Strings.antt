@@ -114,10 +114,9 @@ escapes_byte bytes within first low none = record {
 pub escapes_line_end : (bytes : List ℕ) (len : ℕ) → 1 < length bytes → slice_index bytes 0 ≡ 92 → HasLineEnd (take (length bytes - 1) (drop 1 bytes)) (Some len) → HasEscape bytes (Some (record { len = 1 + len; line_ends = 1 }))
 escapes_line_end bytes len within first found =
     let ends : BeginsLineEnd (drop 1 bytes) len = subst (λ (t : List ℕ). BeginsLineEnd t len) (rest_is bytes 1) found in
-    let room = ends.within in
     record {
       some = omega arith;
-      within = omega (arith, room, within, length-drop 1 bytes);
+      within = omega (arith, ends.within, within, length-drop 1 bytes);
       few = omega arith;
       text = line_end_of ends.returned;
       spell = first_then bytes 92 len (omega (arith, within)) first ∙ ap (λ t. 92 ∷ t) ends.spell;
@@ -153,9 +152,8 @@ low_still {Before} {stands} {comes} bytes text len within low spell leads = stil
 pub after : {Before : Type 0} {stands comes goes : Before → List ℕ → ℕ → List Bracket → Type 0} (bytes : List ℕ) (len feeds more further : ℕ) (all : ℕ) → feeds + further ≡ all → PassesPart bytes len feeds stands comes → PassesPart (drop len bytes) more further comes goes → PassesPart bytes (len + more) all stands goes
 after {Before} {stands} {comes} {goes} bytes len feeds more further all same first second =
     let within = first.within in
-    let room = second.within in
     record {
-      within = omega (arith, within, room, length-drop len bytes);
+      within = omega (arith, within, second.within, length-drop len bytes);
       run = first.run ++ second.run;
       spell = encodes-append first.run second.run ∙ ap (λ t. t ++ encode_utf8_all second.run) first.spell ∙ ap (λ t. take len bytes ++ t) second.spell ∙ sym (take-add len more bytes);
       leads = λ initial read n st on.
@@ -294,9 +292,8 @@ module _ (q : ℕ) (quote : is_quote q ≡ true) where
 
   pub short_escape : (bytes : List ℕ) (len : ℕ) (p : Passed) → 1 ≤ len → HasEscape bytes (Some p) → PassesPart bytes p.len p.line_ends (IsInShort q len) (IsInShort q (len + p.len))
   short_escape bytes len p some has =
-      let more = has.some in
       low_part bytes (92 ∷ has.text) p.len p.line_ends has.within (escaped_low has.text p.line_ends has.escaped) has.spell (λ initial read n st on.
-      subst (λ (m : Mode). IsInPieceAfter m initial (read ++ 92 ∷ has.text) (n + p.line_ends) st) (sym (short_later (len + p.len) (omega (arith, some, more))))
+      subst (λ (m : Mode). IsInPieceAfter m initial (read ++ 92 ∷ has.text) (n + p.line_ends) st) (sym (short_later (len + p.len) (omega (arith, some, has.some))))
       (short_escaped (len == 1) initial read has.text n p.line_ends st has.escaped on))
 
   short_last : (bytes : List ℕ) (len : ℕ) → 1 < len → 0 < length bytes → slice_index bytes 0 ≡ q → PassesPart bytes 1 0 (IsInShort q len) HasClosedString
@@ -378,23 +375,21 @@ module _ (q : ℕ) (quote : is_quote q ≡ true) where
   pub lone_line_end_part : (bytes : List ℕ) (len : ℕ) → 0 < length bytes → slice_index bytes 0 ≡ q → HasLineEnd (take (length bytes - 1) (drop 1 bytes)) (Some len) → Passes bytes (record { len = 1 + len; line_ends = 1 }) (IsInLong q) (IsInLong q)
   lone_line_end_part bytes len some first found =
       let ends : BeginsLineEnd (drop 1 bytes) len = subst (λ (t : List ℕ). BeginsLineEnd t len) (rest_is bytes 1) found in
-      let room = ends.within in
       record {
         some = omega arith;
         few = omega arith;
-        part = low_part bytes (q ∷ line_end_of ends.returned) (1 + len) 1 (omega (arith, room, some, length-drop 1 bytes)) (and_from _ _ (is_low_from q (quote_ascii q quote)) (line_end_low ends.returned))
+        part = low_part bytes (q ∷ line_end_of ends.returned) (1 + len) 1 (omega (arith, ends.within, some, length-drop 1 bytes)) (and_from _ _ (is_low_from q (quote_ascii q quote)) (line_end_low ends.returned))
             (first_then bytes q len some first ∙ ap (λ t. q ∷ t) ends.spell) (lone_line_end ends.returned);
       }
 
   pub lone_text_part : (bytes : List ℕ) (len : ℕ) → 0 < length bytes → slice_index bytes 0 ≡ q → 0 < len → Spans (is_body_byte q) (take (length bytes - 1) (drop 1 bytes)) len → Passes bytes (record { len = 1 + len; line_ends = 0 }) (IsInLong q) (IsInLong q)
   lone_text_part bytes len some first more found =
       let is : Spans (is_body_byte q) (drop 1 bytes) len = subst (λ (t : List ℕ). Spans (is_body_byte q) t len) (rest_is bytes 1) found in
-      let room = is.run.within in
       let size = spans_size (drop 1 bytes) len is in
       record {
         some = omega arith;
         few = omega arith;
-        part = still bytes (q ∷ is.utf8.0) (1 + len) (omega (arith, room, some, length-drop 1 bytes))
+        part = still bytes (q ∷ is.utf8.0) (1 + len) (omega (arith, is.run.within, some, length-drop 1 bytes))
             (ap (λ t. t ++ encode_utf8_all is.utf8.0) (encode_ascii q (quote_ascii q quote)) ∙ ap (λ t. q ∷ t) is.utf8.1.1 ∙ sym (first_then bytes q len some first))
             (λ initial read n st on. lone_text is.utf8.0 initial read n st (omega (arith, more, size)) is.utf8.1.0 (spans_stay (drop 1 bytes) len is) on);
       }
@@ -412,9 +407,7 @@ module _ (q : ℕ) (quote : is_quote q ≡ true) where
 
 pub escape_few : (bytes : List ℕ) (p : Passed) → HasEscape bytes (Some p) → p.line_ends ≤ p.len
 escape_few bytes p has =
-    let some = has.some in
-    let few = has.few in
-    omega (arith, some, few)
+    omega (arith, has.some, has.few)
 
 pub part_of_escape : (q : ℕ) → is_quote q ≡ true → (bytes : List ℕ) (found : Option Passed) → HasEscape bytes found → PassesOrNot bytes found (IsInLong q) (IsInLong q)
 part_of_escape q quote bytes None has = tt

@@ -13,7 +13,7 @@ use Rattle.py_lines.specs.declared.scan.Scan.{Scan}
 use Rattle.py_lines.specs.Private.Machine.{Bracket, Scanned, brackets_after, brackets_of, fresh}
 use Rattle.py_lines.specs.Private.ScanMachine.{IsScanSound, StringsFit, scan_steps}
 use Rattle.py_lines.specs.Fields.{AreReadBefore}
-use Rattle.py_lines.specs.Private.Scan.{AreLine, EndsNoLine, IsAtLineEnd, IsLineBefore, IsUnderWay, Tallies, line_start, stack_of}
+use Rattle.py_lines.specs.Private.Scan.{AreLine, EndsNoLine, IsAtLineEnd, IsLineBefore, IsUnderWay, line_start, stack_of}
 use Rattle.py_lines.specs.Private.Outline.{IsEndedBy, IsFreeAfter, IsLine, StandsBefore, tail_of, tail_on}
 use Rattle.py_lines.proofs.Machine.PieceSteps.{scanned}
 use Rattle.py_lines.proofs.Pieces.PieceLists.{piece, spelled-push}
@@ -44,30 +44,27 @@ way_free m scan read start scalars way free =
     let s = way.state in
     free_at m read (stack_of scan.brackets) s.done s.mode s.held (sym way.tallies.counts.mode ∙ free) (sound_steps m read s start way.steps way.stacked) start way.steps way.stacked way.one_line scalars
 
--- where a scan is set in no piece after closed ones, it keeps count of them
-tallies_closed : (scan : Scan) (done : List Piece) (read : List ℕ) (n : ℕ) → spelled done ++ [] ≡ read → line_ends read ≡ n → ends is_return read ≡ false → scan.piece.mode ≡ modes.Free → scan.piece.start ≡ byte_len read → scan.stop ≡ byte_len read
-    → scan.count.line ≡ scan.line + n → scan.count.after_return ≡ false → Tallies scan (fresh done)
-tallies_closed scan done read n spell ends_are unreturned mode start stop line after = record {
-  counts = record {
-    mode = mode;
-    start = start ∙ ap byte_len (sym spell ∙ append-nil (spelled done));
-    stop = stop ∙ ap byte_len (sym spell);
-    here = line ∙ ap (λ (k : ℕ). scan.line + k) (sym ends_are ∙ ap line_ends (sym spell));
-    after = after ∙ sym unreturned ∙ ap (ends is_return) (sym spell);
-  };
-  fields = tt;
-}
-
--- so it is under way where the line stands
+-- where a scan is set in no piece after closed ones, it is under way, and keeps count of them
 pub free_way : (m : Mode) (scan : Scan) (read : List ℕ) (n : ℕ) (st : List Bracket) → IsFreeAfter m read n st → scan.piece.mode ≡ modes.Free → scan.piece.start ≡ byte_len read → scan.stop ≡ byte_len read → scan.count.line ≡ scan.line + n
     → scan.count.after_return ≡ false → stack_of scan.brackets ≡ st → IsUnderWay m scan read
-free_way m scan read n st free mode start stop line after stack = record {
-  state = fresh free.done;
-  steps = free.come.steps;
-  tallies = tallies_closed scan free.done read n (come_sound m read n st (fresh free.done) free.come).spell free.come.holds.count (free_tail m read n st free).1 mode start stop line after;
-  stacked = free.come.stacked ∙ ap Some (sym stack);
-  one_line = free.come.one_line;
-}
+free_way m scan read n st free mode start stop line after stack =
+    let spell = (come_sound m read n st (fresh free.done) free.come).spell in
+    record {
+      state = fresh free.done;
+      steps = free.come.steps;
+      tallies = record {
+        counts = record {
+          mode = mode;
+          start = start ∙ ap byte_len (sym spell ∙ append-nil (spelled free.done));
+          stop = stop ∙ ap byte_len (sym spell);
+          here = line ∙ ap (λ (k : ℕ). scan.line + k) (sym free.come.holds.count ∙ ap line_ends (sym spell));
+          after = after ∙ sym (free_tail m read n st free).1 ∙ ap (ends is_return) (sym spell);
+        };
+        fields = tt;
+      };
+      stacked = free.come.stacked ∙ ap Some (sym stack);
+      one_line = free.come.one_line;
+    }
 
 -- after an operator, which the brackets allow, no piece is open
 pub operator_free : (c : ℕ) (rest : List ℕ) (m : Mode) (read : List ℕ) (n : ℕ) (st after : List Bracket) → is_operator c ≡ true → brackets_after st (byte_len read) (piece operator (c ∷ [])) ≡ Some after → StandsBefore (c ∷ rest) m read n st

@@ -11,9 +11,8 @@ use Rattle.py_lines.proofs.line_tokens.LineTokens.begin.Goals as goal
 pub returns : goal.returns
 returns c =
     let text = c.args.text.now in
-    let mark = c.mark_len-mark.result in
     let after
-    = rest_is text mark
+    = rest_is text c.mark_len-mark.result
     ∙ ap (λ (n : ℕ). drop n text) c.mark_len-mark.ensures in
     let run = subst (λ (t : List ℕ). IsRunOf is_space t c.len_in-self.result) after c.len_in-self.ensures in
     let t : LineTokens = record { kind = unit_kind.Blank; indent = c.len_in-self.result; tokens = c.clear.new.self } in

@@ -17,16 +17,12 @@ returns-in_default c = λ place. (c.pass_marked.ensures.same c.if-pass_marked.fa
 pub pass-requires-clause-base : goal.pass-requires-clause-base
 pass-requires-clause-base c =
     let base = ap (λ (p : Passing). p.marks.base) (c.pass_marked.ensures.same c.if-pass_marked.false) in
-    let some = c.in-Some.ensures.1.some in
-    omega (arith, base, c.requires.marked.base, some)
+    omega (arith, base, c.requires.marked.base, c.in-Some.ensures.1.some)
 
 pub pass_to-requires : goal.pass_to-requires
 pass_to-requires c =
     let ends = ap (λ (p : Passing). p.all.line_ends) (c.pass_marked.ensures.same c.if-pass_marked.false) in
-    let few = c.in-Some.ensures.1.few in
-    let room = c.in-Some.ensures.0 in
-    let before = c.requires.few in
-    search (rules, ends, few, room, before)
+    search (rules, ends, c.in-Some.ensures.1.few, c.in-Some.ensures.0, c.requires.few)
 
 pub returns : goal.returns
 returns c = λ place.
@@ -35,8 +31,7 @@ returns c = λ place.
     let same = c.pass_marked.ensures.same c.if-pass_marked.false in
     let marked = subst (λ (p : Passing). HasMarks bytes (at + 1) p.marks) (sym same) c.requires.marked in
     let shallow : depth_of c.args.brackets.now ≤ 100 = omega (arith, c.if-len-gt-MAX_DEPTH_AROUND_STRING.false, c.len.ensures) in
-    let some = c.in-Some.ensures.1.some in
     subst (λ (p : Passing). PassesSpecial bytes at place p c.args.brackets.now special.Passed c.pass_to.new.self c.args.brackets.now) same
     (piece_passed bytes at c.pass_marked.new.self c.requires.within marked place c.args.brackets.now c.in-Some.piece
     c.closes_itself-closes.result c.pass.new.self c.pass_to.new.self shallow c.in-Some.ensures c.closes_itself-closes.ensures
-    (c.pass.ensures (at + 1) marked (omega (arith, some))) c.pass_to.ensures)
+    (c.pass.ensures (at + 1) marked (omega (arith, c.in-Some.ensures.1.some))) c.pass_to.ensures)
