@@ -42,6 +42,7 @@ use Rattle.py_lines.proofs.LineTokens.Spellings.{fielded_spelling, letters_low}
 use Rattle.py_lines.proofs.LineTokens.StringScans.{BeginsString, begins_string as string_begins}
 use Rattle.py_lines.proofs.LineTokens.Strings.{ComesTo, sound_from, whole_closed}
 use Rattle.py_lines.proofs.LineTokens.Words.{first_byte, wide_unbroken, word_wide}
+use Rattle.py_lines.proofs.FieldScans.TextLengths.{rest_is, rest_of}
 
 -- the bytes begin with a string that the machine closes
 module _ (bytes whole after : List ℕ) (spell : encode_utf8_all whole ++ after ≡ bytes)
@@ -142,6 +143,13 @@ quote_within [] zero h = omega arith
 quote_within [] (suc k) none = absurd (both_ways _ refl none)
 quote_within (b ∷ bs) zero h = omega arith
 quote_within (b ∷ bs) (suc k) h = let one = quote_within bs k h in omega (arith, one)
+
+pub quote_of_rest : (bytes : List ℕ) (n : ℕ) → begins is_quote (drop n bytes) ≡ true → is_quote (slice_index (rest_of bytes n) 0) ≡ true
+quote_of_rest bytes n quotes = ap (λ t. is_quote (slice_index t 0)) (rest_is bytes n) ∙ first_byte is_quote (drop n bytes) quotes
+
+pub plain_word : (word : List ℕ) → is_field_spelling (word_spelling word) ≡ false → begins_string (word_spelling word) ≡ true → is_plain_word word ≡ true
+plain_word [] field begins = refl
+plain_word (c ∷ cs) field begins = rw field begins
 
 -- a string without fields that was passed, after a prefix or none
 plain_starts : (f b : Bool) → (if f then false else b) ≡ true → b ≡ true

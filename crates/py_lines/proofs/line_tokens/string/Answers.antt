@@ -1,8 +1,11 @@
 use Rattle.std.proofs.Common.{ℕ, List, Some, subst}
 use Rattle.py_lines.specs.Private.Outline.{HasString}
 use Rattle.py_lines.proofs.FieldScans.TextLengths.{rest_is}
-use Rattle.py_lines.proofs.LineTokens.WholeStrings.{plain_taken}
+use Rattle.py_lines.proofs.LineTokens.WholeStrings.{plain_taken, quote_of_rest}
 use Rattle.py_lines.proofs.line_tokens.string.Goals as goal
+
+pub plain_string-requires-clause-quote : goal.plain_string-requires-clause-quote
+plain_string-requires-clause-quote c = quote_of_rest c.args.bytes.now c.args.prefix c.requires.quote
 
 pub returns-in-Some : goal.returns-in-Some
 returns-in-Some c =

@@ -24,3 +24,9 @@ returns-in-Closing c =
     bracket_passed c.args.bytes.now c.args.at c.args.self.now c.requires.within c.requires.marked c.args.place c.args.brackets.now c.close-met.result
     c.close-met.new.self c.pass_bracket-in-Closing.result c.pass_bracket-in-Closing.new.self (closing-operator _ c.in-Closing.ensures)
     (c.close-met.ensures c.args.place) c.pass_bracket-in-Closing.ensures
+
+pub returns-in-Return : goal.returns-in-Return
+returns-in-Return c = c.pass_return.ensures c.args.place
+
+pub returns-in_default : goal.returns-in_default
+returns-in_default c = c.pass_piece.ensures c.args.place
