@@ -90,10 +90,6 @@ ends_later slash end (feed is) = ap (λ t. ends is_return (slash ∷ t)) is ∙ 
 ends_later slash end (return_feed is) = ap (λ t. ends is_return (slash ∷ t)) is ∙ sym (ap (ends is_return) is)
 ends_later slash end (return is) = ap (λ t. ends is_return (slash ∷ t)) is ∙ sym (ap (ends is_return) is)
 
-hash_other : is_comment_byte 35 ≡ true
-unfolding is_break
-hash_other = refl
-
 module _ (bytes : List ℕ) (p : Piece) (b : BeginWithPiece bytes p) where
   abbrev pub rest : List ℕ
   rest = spelled b.others
@@ -161,6 +157,7 @@ module _ (bytes : List ℕ) (p : Piece) (b : BeginWithPiece bytes p) where
 
   pub comment_taken : (n : ℕ) → p.class ≡ comment → IsRunOf is_comment_byte (drop 1 bytes) n
       → IsTakenFor p (token_piece kind.Remark (1 + n))
+  unfolding is_break
   comment_taken n is run =
       let shape = in_class comment is in
       let body : List ℕ = shape.1 in
@@ -173,7 +170,7 @@ module _ (bytes : List ℕ) (p : Piece) (b : BeginWithPiece bytes p) where
       (subst (λ (t : List ℕ). IsRunOf is_comment_byte (drop 1 t) n) bytes_are run) all
       (comment_ends rest b.text.after (precedes comment is)) in
       taken comment _ is refl (longer 35 body n text (omega arith) len)
-      (unbroken p.text (ap (list_all is_comment_byte) text ∙ and_from (is_comment_byte 35) (list_all is_comment_byte body) hash_other all))
+      (unbroken p.text (ap (list_all is_comment_byte) text ∙ and_from (is_comment_byte 35) (list_all is_comment_byte body) refl all))
 
   pub line_end_taken : p.class ≡ line_end → IsTakenFor p (record { role = roles.LineEnd; len = line_end_len bytes; line_ends = 1 })
   line_end_taken is =

@@ -36,12 +36,9 @@ mark_encoded = refl
 marked : (text : List ℕ) → starts_with nat_eq text mark_bytes ≡ true → text ≡ mark_bytes ++ drop 3 text
 marked text h = (starts_is Decides-eqb text mark_bytes (starts_with nat_eq text mark_bytes) refl).0 h
 
-mark_marks : is_mark 0xFEFF ≡ true
-unfolding is_mark
-mark_marks = refl
-
 -- a text that begins with another piece begins with no mark
 no_mark : (text : List ℕ) (ps : List Piece) → AreLineText text ps → begins_marked ps ≡ false → mark_len text ≡ 0
+unfolding is_mark
 no_mark text [] is unmarked = ap mark_len (sym is.spell)
 no_mark text (p ∷ ps) is unmarked = ap (λ (b : Bool). if b then 3 else 0) (false_from_ne_true _ absent)
   where
@@ -52,7 +49,7 @@ no_mark text (p ∷ ps) is unmarked = ap (λ (b : Bool). if b then 3 else 0) (fa
         let begun = begins_so p.class p.text unmarked is.fit.0 in
         let same : begun.first ∷ (begun.others ++ spelled ps) ≡ 0xFEFF ∷ cut.0 = ap (λ t. t ++ spelled ps) (sym begun.is) ∙ cut.1 in
         let first : begun.first ≡ 0xFEFF = cc in
-        both_ways _ (unmarked_first begun) (ap is_mark first ∙ mark_marks)
+        both_ways _ (unmarked_first begun) (ap is_mark first)
 
 -- and with a mark, where it is the first piece
 record HasMark (text : List ℕ) (p : Piece) : Type 0 where
@@ -60,11 +57,8 @@ record HasMark (text : List ℕ) (p : Piece) : Type 0 where
   bytes : byte_len p.text ≡ 3
   counted : line_ends p.text ≡ 0
 
-no_line_end : line_ends (0xFEFF ∷ []) ≡ 0
-unfolding is_line_feed is_return
-no_line_end = refl
-
 has_mark : (text : List ℕ) (p : Piece) (ps : List Piece) → AreLineText text (p ∷ ps) → p.class ≡ mark → HasMark text p
+unfolding is_line_feed is_return
 has_mark text p ps is class_is =
     let shape : InClass mark p.text = subst (λ (k : Class). InClass k p.text) class_is is.fit.0 in
     let one : p.text ≡ 0xFEFF ∷ [] = shape.1 ∙ ap (λ (c : ℕ). c ∷ []) (mark_is shape.0 shape.2) in
@@ -76,7 +70,7 @@ has_mark text p ps is class_is =
     record {
       len = ap (λ (b : Bool). if b then 3 else 0) present;
       bytes = ap byte_len one ∙ ap length mark_encoded;
-      counted = ap line_ends one ∙ no_line_end;
+      counted = ap line_ends one;
     }
 
 -- the space that pieces begin with

@@ -40,16 +40,6 @@ text_after text done others is = record {
   strings = (EachAtDepth-parts StringFits 0 done others is.strings).1;
 }
 
--- so the next piece stands there
-pub next_piece : (text : List ℕ) (done others : List Piece) (p : Piece) → AreLineText text (done ++ p ∷ others)
-    → is_mark_class p.class ≡ false → BeginWithPiece (drop (byte_len (spelled done)) text) p
-next_piece text done others p is unmarked = record {
-  unmarked = unmarked;
-  others = others;
-  depth = depth_through 0 done;
-  text = text_after text done (p ∷ others) is;
-}
-
 -- one more piece
 one_more : (done others : List Piece) (p : Piece) → done ++ p ∷ others ≡ (done ++ p ∷ []) ++ others
 one_more done others p = sym (append_assoc done (p ∷ []) others)
@@ -140,7 +130,12 @@ has_next text pieces first start line t is h inside = go h.others h.are h.unmark
         let next = is_next text h.done qs p whole unmarked in
         record {
           p = p;
-          begin = subst (λ (n : ℕ). BeginWithPiece (drop n text) p) (sym h.place) (next_piece text h.done qs p whole unmarked);
+          begin = subst (λ (n : ℕ). BeginWithPiece (drop n text) p) (sym h.place) (record {
+            unmarked = unmarked;
+            others = qs;
+            depth = depth_through 0 h.done;
+            text = text_after text h.done (p ∷ qs) whole;
+          });
           some = next.some;
           within = omega (arith, h.place, next.within);
           lines = omega (arith, h.number, next.lines);

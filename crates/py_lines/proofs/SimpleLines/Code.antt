@@ -17,10 +17,10 @@ use Rattle.py_lines.specs.declared.mode.Start.{Start}
 use Rattle.py_lines.specs.declared.mode.Start.TheVariants as starts
 use Rattle.py_lines.specs.Private.Machine.{Scanned, fresh, moved, started, start_of, first_spelling, spelling_with, Bracket, brackets_after, brackets_of, move_of}
 use Rattle.py_lines.specs.Private.ScanMachine.{meet_of, move_at, move_in, scan_step, scan_steps}
-use Rattle.py_lines.specs.Private.Scan.{AreLine, EndsNoLine, counts_after, line_start, none_open}
+use Rattle.py_lines.specs.Private.Scan.{EndsNoLine, EndsWhole, counts_after, line_start, none_open}
 use Rattle.py_lines.specs.Private.Run.{is_ascii_word}
 use Rattle.py_lines.specs.Private.FieldText.{is_apart_mode, is_code_mode}
-use Rattle.py_lines.specs.Private.Outline.{BeginOther, HoldsLineEnds, HasCome, GoesOnAfter, IsFreeAfter, EndsBefore, StandsBefore, StandsClosed, IsInPiece, IsLine, IsOuterEnd, IsTail, line_end_of, tail_of, tail_on, tail_with}
+use Rattle.py_lines.specs.Private.Outline.{IsEndedBy, BeginOther, HoldsLineEnds, HasCome, GoesOnAfter, IsFreeAfter, EndsBefore, StandsBefore, StandsClosed, IsInPiece, IsLine, IsOuterEnd, IsTail, line_end_of, tail_of, tail_on, tail_with}
 use Rattle.py_lines.proofs.Pieces.PieceLists.{piece}
 use Rattle.py_lines.proofs.Machine.Starts.{start-word, start-space, start-operator, start-feed, start-return}
 use Rattle.py_lines.proofs.Machine.PieceSteps.{scanned, pieces_at, steps_by-append}
@@ -81,23 +81,14 @@ pub one_unreturned : (read : List ℕ) (c : ℕ) → is_break c ≡ false → en
 one_unreturned read c none = ends-run read (c ∷ []) tt (and_from _ _ (ap not none) refl)
 
 -- a line end counts as one more, with CR or without, and so does CR alone
-feed_counts : counts_after false 10 ≡ 1
-unfolding counts_after is_return is_line_feed
-feed_counts = refl
-
-return_counts : (after : Bool) → counts_after after 13 ≡ 1
-unfolding counts_after is_return
-return_counts after = refl
-
-returned_feed_counts : counts_after true 10 ≡ 0
-unfolding counts_after is_return is_line_feed
-returned_feed_counts = refl
-
 pub holds_return : (read : List ℕ) (n : ℕ) → HoldsLineEnds read n → HoldsLineEnds (read ++ 13 ∷ []) (n + 1)
-holds_return read n holds = record {
-  scalars = all_scalars-append read (13 ∷ []) holds.scalars (and_from _ _ (ascii_scalar 13 (lit< tt)) refl);
-  count = omega (arith, line_ends-step read 13, return_counts (ends is_return read), holds.count);
-}
+unfolding counts_after is_return
+holds_return read n holds =
+    let one : counts_after (ends is_return read) 13 ≡ 1 = refl in
+    record {
+      scalars = all_scalars-append read (13 ∷ []) holds.scalars (and_from _ _ (ascii_scalar 13 (lit< tt)) refl);
+      count = omega (arith, line_ends-step read 13, one, holds.count);
+    }
 
 -- the byte that it begins with
 abbrev pub line_end_first : Bool → ℕ
@@ -105,16 +96,18 @@ line_end_first true = 13
 line_end_first false = 10
 
 pub holds_returned : (read : List ℕ) (n : ℕ) → HoldsLineEnds (read ++ 13 ∷ []) n → HoldsLineEnds ((read ++ 13 ∷ []) ++ 10 ∷ []) n
+unfolding counts_after is_return is_line_feed
 holds_returned read n first =
-    let none : counts_after (ends is_return (read ++ 13 ∷ [])) 10 ≡ 0 = ap (λ (b : Bool). counts_after b 10) (ends-last is_return read 13 ∙ return_returns) ∙ returned_feed_counts in
+    let none : counts_after (ends is_return (read ++ 13 ∷ [])) 10 ≡ 0 = ap (λ (b : Bool). counts_after b 10) (ends-last is_return read 13) in
     record {
       scalars = all_scalars-append (read ++ 13 ∷ []) (10 ∷ []) first.scalars (and_from _ _ (ascii_scalar 10 (lit< tt)) refl);
       count = omega (arith, line_ends-step (read ++ 13 ∷ []) 10, none, first.count);
     }
 
 pub holds_line_end : (returned : Bool) (read : List ℕ) (n : ℕ) → HoldsLineEnds read n → (line_end_first returned ≡ 10 → ends is_return read ≡ false) → HoldsLineEnds (read ++ line_end_of returned) (n + 1)
+unfolding counts_after is_return is_line_feed
 holds_line_end false read n holds parted =
-    let one : counts_after (ends is_return read) 10 ≡ 1 = ap (λ (b : Bool). counts_after b 10) (parted refl) ∙ feed_counts in
+    let one : counts_after (ends is_return read) 10 ≡ 1 = ap (λ (b : Bool). counts_after b 10) (parted refl) in
     record {
       scalars = all_scalars-append read (10 ∷ []) holds.scalars (and_from _ _ (ascii_scalar 10 (lit< tt)) refl);
       count = omega (arith, line_ends-step read 10, one, holds.count);
@@ -127,21 +120,15 @@ line_end_unreturned false read = ends-last is_return read 10 ∙ feed_unreturned
 line_end_unreturned true read = ap (ends is_return) (sym (append_assoc read (13 ∷ []) (10 ∷ []))) ∙ ends-last is_return (read ++ 13 ∷ []) 10 ∙ feed_unreturned
 
 -- the pieces where the open one is closed
-closed_spells : (initial : Mode) (read : List ℕ) (n : ℕ) (st : List Bracket) (s : Scanned) → HasCome initial read n st s → spelled (pieces_at s) ≡ read
-closed_spells initial read n st s come =
-    let sound = come_sound initial read n st s come in
-    closed_text s.mode s.done s.held sound.holds ∙ sound.spell
-
 closed_place : (initial : Mode) (read : List ℕ) (n : ℕ) (st : List Bracket) (s : Scanned) → HasCome initial read n st s → byte_len (spelled (pieces_at s)) ≡ byte_len read
-closed_place initial read n st s come = ap byte_len (closed_spells initial read n st s come)
-
-apart_code : (m : Mode) → is_apart_mode m ≡ true → is_code_mode m ≡ true
-apart_code modes.Free h = refl
-apart_code modes.Space h = refl
-apart_code m h = absurd (both_ways _ refl h)
+closed_place initial read n st s come =
+    let sound = come_sound initial read n st s come in
+    ap byte_len (closed_text s.mode s.done s.held sound.holds ∙ sound.spell)
 
 pub tail_code : (t : Option Spelling) (m : Mode) → IsTail t m → is_code_mode m ≡ true
-tail_code None m apart = apart_code m apart
+tail_code None modes.Free apart = refl
+tail_code None modes.Space apart = refl
+tail_code None m apart = absurd (both_ways _ refl apart)
 tail_code (Some s) m is = ap is_code_mode is
 
 -- no CR is open in code
@@ -220,9 +207,6 @@ module _ (initial : Mode) (read : List ℕ) (n : ℕ) (st : List Bracket) (c : �
     };
   }
 
-  pub operator_passed : (after : List Bracket) → is_operator c ≡ true → brackets_after st (byte_len read) (piece operator (c ∷ [])) ≡ Some after → GoesOnAfter initial (read ++ c ∷ []) n after
-  operator_passed after is may = free_goes_on initial (read ++ c ∷ []) n after (operator_closes after is may)
-
 -- CR opens a line end
 return_opens : (initial : Mode) (read : List ℕ) (n : ℕ) (st : List Bracket) (on : EndsBefore 13 initial read n st)
     → HasCome initial (read ++ 13 ∷ []) (n + 1) st (scanned (pieces initial read n st 13 on) modes.Return (13 ∷ []))
@@ -234,17 +218,6 @@ pub line_end_steps : (returned : Bool) (initial : Mode) (read : List ℕ) (n : �
 unfolding meet_of move_of is_line_feed
 line_end_steps false initial read n st on = begins_as initial read n st 10 on [] starts.LineEnd (start-feed 10 refl)
 line_end_steps true initial read n st on = begins_as initial read n st 13 on (10 ∷ []) (starts.Open modes.Return) (start-return 13 return_returns)
-
-pub line_is : (initial : Mode) (read : List ℕ) (n c : ℕ) (on : EndsBefore c initial read n []) (text : List ℕ) → AreLine (pieces initial read n [] c on) (piece line_end text) (byte_len text)
-line_is initial read n c on text =
-    let stack = closed_stack initial read n [] c on in
-    record {
-      one_line = closed_line initial read n [] c on;
-      class = refl;
-      level = none_level (pieces initial read n [] c on) [] stack refl;
-      paired = stack;
-      size = refl;
-    }
 
 pub no_tail_line_end : (returned : Bool) (read : List ℕ) → tail_of (read ++ line_end_of returned) ≡ None
 no_tail_line_end false read = no_tail read 10 feed-no-word
@@ -270,24 +243,36 @@ line_end_inside returned initial read n (b ∷ bs) on some =
 abbrev pub EndsWith : List ℕ → Mode → List ℕ → ℕ → List ℕ → Type 0
 EndsWith text m read n after = (line : IsLine m (read ++ text) (n + 1) after) × (line.len ≡ byte_len text)
 
-line_end_whole : (returned : Bool) (after : List ℕ) (m : Mode) (read : List ℕ) (n : ℕ) → EndsBefore (line_end_first returned) m read n []
-    → EndsWith (line_end_of returned) m read n after
-line_end_whole returned after m read n on =
-    let done = pieces m read n [] (line_end_first returned) on in (
+ended : (text after : List ℕ) (m : Mode) (read : List ℕ) (n c : ℕ) (on : EndsBefore c m read n []) (state : Scanned) → scan_steps (Some (line_start m)) (read ++ text) ≡ Some state → IsEndedBy state (pieces m read n [] c on) (piece line_end text)
+    → EndsWhole (read ++ text) after → HoldsLineEnds (read ++ text) (n + 1) → tail_of (read ++ text) ≡ None → EndsWith text m read n after
+ended text after m read n c on state steps ends whole holds tail =
+    let stack = closed_stack m read n [] c on in (
       record {
-        body = done;
-        last = piece line_end (line_end_of returned);
-        len = byte_len (line_end_of returned);
-        are = line_is m read n (line_end_first returned) on (line_end_of returned);
-        state = fresh (done ++ piece line_end (line_end_of returned) ∷ []);
-        steps = line_end_steps returned m read n [] on;
-        ended = inl refl;
-        whole = inl (line_end_unreturned returned read);
-        holds = holds_line_end returned read n on.come.holds on.parted;
-        tail = no_tail_line_end returned read;
+        body = pieces m read n [] c on;
+        last = piece line_end text;
+        len = byte_len text;
+        are = record {
+          one_line = closed_line m read n [] c on;
+          class = refl;
+          level = none_level (pieces m read n [] c on) [] stack refl;
+          paired = stack;
+          size = refl;
+        };
+        state = state;
+        steps = steps;
+        ended = ends;
+        whole = whole;
+        holds = holds;
+        tail = tail;
       },
       refl,
     )
+
+line_end_whole : (returned : Bool) (after : List ℕ) (m : Mode) (read : List ℕ) (n : ℕ) → EndsBefore (line_end_first returned) m read n []
+    → EndsWith (line_end_of returned) m read n after
+line_end_whole returned after m read n on =
+    ended (line_end_of returned) after m read n (line_end_first returned) on _ (line_end_steps returned m read n [] on) (inl refl)
+    (inl (line_end_unreturned returned read)) (holds_line_end returned read n on.come.holds on.parted) (no_tail_line_end returned read)
 
 -- CR alone, before another byte: the machine holds it yet
 return_waits : (c : ℕ) → (c ≡ 10 → ⊥) → meet_of modes.Return c ≡ moves.Breaks
@@ -304,21 +289,8 @@ other_follows (b ∷ more) other = (b, more, refl, other)
 return_whole : (after : List ℕ) (m : Mode) (read : List ℕ) (n : ℕ) → BeginOther after → EndsBefore 13 m read n []
     → EndsWith (13 ∷ []) m read n after
 return_whole after m read n other on =
-    let done = pieces m read n [] 13 on in (
-      record {
-        body = done;
-        last = piece line_end (13 ∷ []);
-        len = byte_len (13 ∷ []);
-        are = line_is m read n 13 on (13 ∷ []);
-        state = scanned done modes.Return (13 ∷ []);
-        steps = (return_opens m read n [] on).steps;
-        ended = inr (refl, refl);
-        whole = inr (other_follows after other);
-        holds = holds_return read n on.come.holds;
-        tail = no_tail_return read;
-      },
-      refl,
-    )
+    let come = return_opens m read n [] on in
+    ended (13 ∷ []) after m read n 13 on _ come.steps (inr (refl, refl)) (inr (other_follows after other)) come.holds (no_tail_return read)
 
 return_inside : (after : List ℕ) (initial : Mode) (read : List ℕ) (n : ℕ) (st : List Bracket) → BeginOther after → none_open st ≡ false
     → EndsBefore 13 initial read n st → StandsBefore after initial (read ++ 13 ∷ []) (n + 1) st
@@ -449,12 +421,12 @@ IsCodeByte c = (is_ascii_word c ≡ true) ⊎ ((is_space c ≡ true) ⊎ ((is_op
 code_passed : (initial : Mode) (read : List ℕ) (n : ℕ) (st : List Bracket) (c : ℕ) → IsCodeByte c → GoesOnAfter initial read n st → GoesOnAfter initial (read ++ c ∷ []) n st
 code_passed initial read n st c (inl word) on = word_passed initial read n st c word on
 code_passed initial read n st c (inr (inl space)) on = space_passed initial read n st c space on
-code_passed initial read n st c (inr (inr (stands, opens, closes))) on = operator_passed initial read n st c (operator_ends initial read n st c stands on) st stands (keeps_at st (byte_len read) c opens closes)
+code_passed initial read n st c (inr (inr (stands, opens, closes))) on = free_goes_on initial (read ++ c ∷ []) n st (operator_closes initial read n st c (operator_ends initial read n st c stands on) st stands (keeps_at st (byte_len read) c opens closes))
 
 code_begins : (initial : Mode) (read : List ℕ) (n : ℕ) (st : List Bracket) (c : ℕ) → IsCodeByte c → EndsBefore c initial read n st → GoesOnAfter initial (read ++ c ∷ []) n st
 code_begins initial read n st c (inl word) on = word_opens initial read n st c word (on.tail (rw word refl)) on
 code_begins initial read n st c (inr (inl space)) on = space_opens initial read n st c space on
-code_begins initial read n st c (inr (inr (stands, opens, closes))) on = operator_passed initial read n st c on st stands (keeps_at st (byte_len read) c opens closes)
+code_begins initial read n st c (inr (inr (stands, opens, closes))) on = free_goes_on initial (read ++ c ∷ []) n st (operator_closes initial read n st c on st stands (keeps_at st (byte_len read) c opens closes))
 
 -- a run of them
 run_passed : (passes : ℕ → Bool) (initial : Mode) (read run : List ℕ) (n : ℕ) (st : List Bracket) → ((c : ℕ) → passes c ≡ true → IsCodeByte c) → list_all passes run ≡ true → GoesOnAfter initial read n st → GoesOnAfter initial (read ++ run) n st

@@ -23,20 +23,13 @@ hash-apart : stands_in_code 35 ≡ false
 unfolding is_ascii_word is_quote is_space
 hash-apart = refl
 
-hash-not-break : is_break 35 ≡ false
-unfolding is_break
-hash-not-break = refl
-
-hash_hash : is_hash 35 ≡ true
-unfolding is_hash
-hash_hash = refl
-
 -- `#` opens a comment
 comment_opens : (initial : Mode) (read : List ℕ) (n : ℕ) (st : List Bracket) (on : EndsBefore 35 initial read n st) → IsInPieceAfter modes.Comment (record { mode = initial; done = pieces initial read n st 35 on }) (read ++ 35 ∷ []) n st
+unfolding is_break is_hash
 comment_opens initial read n st on = record {
   held = 35 ∷ [];
-  come = opens initial read n st 35 on modes.Comment (start-hash 35 hash_hash) (holds_one read 35 n on.come.holds (omega arith) hash-not-break);
-  unreturned = one_unreturned read 35 hash-not-break;
+  come = opens initial read n st 35 on modes.Comment (start-hash 35 refl) (holds_one read 35 n on.come.holds (omega arith) refl);
+  unreturned = one_unreturned read 35 refl;
 }
 
 -- it ends before CR and LF

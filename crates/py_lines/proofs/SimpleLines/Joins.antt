@@ -1,7 +1,6 @@
 -- A join of two lines is passed over: the machine goes through the backslash and the line end.
 use Rattle.std.proofs.Common.{◌≡◌, ℕ, suc, ◌+◌, ◌-◌, ◌<◌, ◌≤◌, inl, inr, Bool, true, false, Some, List, [], ◌∷◌, ◌++◌, length, take, drop, slice_index, refl, sym, ap, ◌∙◌, subst, append_assoc, arith, lit<}
-use Rattle.std.specs.Prelude.{◌==◌}
-use Rattle.std.proofs.lemmas.Bool.{and_parts, eqb-true, false_from_ne_true}
+use Rattle.std.proofs.lemmas.Bool.{eqb-true, false_from_ne_true}
 use Rattle.std.proofs.lemmas.List.{get_or-take, length-take-le}
 use Rattle.py_lines.specs.Character.{is_backslash, is_break, is_line_feed, is_quote, is_return, is_space}
 use Rattle.py_lines.specs.Piece.{Piece, join}
@@ -31,17 +30,9 @@ slash-apart : stands_in_code 92 ≡ false
 unfolding is_ascii_word is_quote is_space
 slash-apart = refl
 
-slash-not-quote : is_quote 92 ≡ false
-unfolding is_quote
-slash-not-quote = refl
-
 pub slash-not-break : is_break 92 ≡ false
 unfolding is_break
 slash-not-break = refl
-
-pub slash_slash : is_backslash 92 ≡ true
-unfolding is_backslash
-slash_slash = refl
 
 returned_waits : (c : ℕ) → (c ≡ 10 → ⊥) → meet_of modes.JoinReturn c ≡ moves.Breaks
 unfolding meet_of move_of
@@ -52,16 +43,17 @@ module _ (initial : Mode) (read : List ℕ) (n : ℕ) (st : List Bracket) (on : 
   done = pieces initial read n st 92 on
 
   opened : HasCome initial (read ++ 92 ∷ []) n st (scanned done modes.Backslash (92 ∷ []))
-  opened = opens initial read n st 92 on modes.Backslash (start-slash 92 slash_slash) (holds_one read 92 n on.come.holds (omega arith) slash-not-break)
+  unfolding is_backslash
+  opened = opens initial read n st 92 on modes.Backslash (start-slash 92 refl) (holds_one read 92 n on.come.holds (omega arith) slash-not-break)
 
   returned : HasCome initial ((read ++ 92 ∷ []) ++ 13 ∷ []) (n + 1) st (scanned done modes.JoinReturn (92 ∷ 13 ∷ []))
   unfolding meet_of move_of is_line_feed is_return
   returned = grown modes.JoinReturn 13 opened refl (holds_return (read ++ 92 ∷ []) n opened.holds)
 
   join_steps : (returned : Bool) → scan_steps (Some (line_start initial)) (read ++ 92 ∷ line_end_of returned) ≡ Some (fresh (done ++ piece join (92 ∷ line_end_of returned) ∷ []))
-  unfolding meet_of move_of is_line_feed is_return
-  join_steps false = begins_as initial read n st 92 on (10 ∷ []) (starts.Open modes.Backslash) (start-slash 92 slash_slash)
-  join_steps true = begins_as initial read n st 92 on (13 ∷ 10 ∷ []) (starts.Open modes.Backslash) (start-slash 92 slash_slash)
+  unfolding meet_of move_of is_backslash is_line_feed is_return
+  join_steps false = begins_as initial read n st 92 on (10 ∷ []) (starts.Open modes.Backslash) (start-slash 92 refl)
+  join_steps true = begins_as initial read n st 92 on (13 ∷ 10 ∷ []) (starts.Open modes.Backslash) (start-slash 92 refl)
 
   join_leads : (returned : Bool) → IsFreeAfter initial ((read ++ 92 ∷ []) ++ line_end_of returned) (n + 1) st
   join_leads returned =
@@ -98,12 +90,12 @@ module _ (initial : Mode) (read : List ℕ) (n : ℕ) (st : List Bracket) (on : 
 
 -- a join that closes itself ends with LF
 ends_with_feed : (cs : List ℕ) (len : ℕ) → len ≤ length cs → closes_itself (92 ∷ cs) (suc len) ≡ true → take len cs ≡ 13 ∷ [] → ⊥
+unfolding is_backslash is_quote
 ends_with_feed cs len within closes alone =
     let one : len ≡ 1 = sym (length-take-le len cs within) ∙ ap length alone in
-    let last : slice_index (92 ∷ cs) (suc len - 1) == 10 ≡ true = (and_parts (is_backslash 92) (slice_index (92 ∷ cs) (suc len - 1) == 10) (sym (rw slash-not-quote refl) ∙ closes)).1 in
     let first : slice_index cs 0 ≡ 13 = sym (get_or-take len cs 0 0 (omega (arith, one))) ∙ ap (λ t. slice_index t 0) alone in
     let there : suc len - 1 ≡ 1 = omega (arith, one) in
-    let clash : 13 ≡ 10 = sym first ∙ ap (slice_index (92 ∷ cs)) (sym there) ∙ eqb-true _ 10 last in
+    let clash : 13 ≡ 10 = sym first ∙ ap (slice_index (92 ∷ cs)) (sym there) ∙ eqb-true _ 10 closes in
     omega (arith, clash)
 
 pub join_passed : (bytes : List ℕ) (len : ℕ) → 0 < length bytes → is_backslash (slice_index bytes 0) ≡ true → HasOuterEnd (take (length bytes - 1) (drop 1 bytes)) (Some len)

@@ -104,26 +104,19 @@ module _ (bytes : List ℕ) (at : ℕ) (within : at < length bytes) (len : ℕ) 
 
   module _ (place : ℕ) (old : Passing) (b : Brackets) (new : Passing) (marked : HasMarks bytes (at + len) old.marks)
       (is : new ≡ passed_to old (at + len) 1 (slice_index bytes (at + len - 1) == 10)) where
-    marks_are : new.marks ≡ old.marks
-    marks_are = ap (λ (p : Passing). p.marks) is
-
-    marked_there : HasMarks bytes (at + len) new.marks
-    marked_there = subst (HasMarks bytes (at + len)) (sym marks_are) marked
-
     pub line_end_passed : none_open (stack_of b) ≡ false → PassesSpecial bytes at place old b special.Passed new b
-    line_end_passed some = record {
+    line_end_passed some = rw is (record {
       len = len;
       more = 1;
       closes = slice_index bytes (at + len - 1) == 10;
       over = line_end_over place (stack_of b) some;
       kept = λ _. refl;
-      is = is ∙ ap (λ (m : Marks). passed_to (record old { marks = m }) (at + len) 1 (slice_index bytes (at + len - 1) == 10))
-          (sym marks_are);
-      marked = marked_there;
-    }
+      is = refl;
+      marked = marked;
+    })
 
     pub line_end_ends : none_open (stack_of b) ≡ true → PassesSpecial bytes at place old b (special.LineEnd len) new b
-    line_end_ends none = record { ends = ends; none = none; kept = refl; is = ap (λ (p : Passing). p.all) is; marked = marked_there }
+    line_end_ends none = rw is (record { ends = ends; none = none; kept = refl; is = refl; marked = marked })
 
 -- what marks there were before tells nothing of what was passed since
 pub marks_apart : (bytes : List ℕ) (at place : ℕ) (old : Passing) (marks : Marks) (b : Brackets) (result : Special) (new : Passing)
@@ -146,8 +139,7 @@ module _ (bytes : List ℕ) (at : ℕ) (old : Passing) (within : at < length byt
       → is_operator (slice_index bytes at) ≡ true → Meets b (slice_index bytes at) place met c → IsMet met at old result new
       → PassesSpecial bytes at place old b result new c
   bracket_passed place b true c result new is meets (passed, so) =
-      subst (λ (s : Special). PassesSpecial bytes at place old b s new c) (sym passed)
-      (subst (λ (p : Passing). PassesSo bytes at place old.all old.closed b p c) (sym so)
+      rw (passed, so)
       (record {
         len = 1;
         more = 0;
@@ -156,9 +148,9 @@ module _ (bytes : List ℕ) (at : ℕ) (old : Passing) (within : at < length byt
         kept = λ none. absurd (both_ways _ none refl);
         is = refl;
         marked = marked;
-      }))
+      })
   bracket_passed place b false c result new is meets (unpassed, same) =
-      subst (λ (s : Special). PassesSpecial bytes at place old b s new c) (sym unpassed) (same, meets.1)
+      rw unpassed (same, meets.1)
 
   -- a piece
   pub piece_passed : (place : ℕ) (b : Brackets) (p : Passed) (closes : Bool) (marks : Marks) (new : Passing) → depth_of b ≤ 100
@@ -166,8 +158,7 @@ module _ (bytes : List ℕ) (at : ℕ) (old : Passing) (within : at < length byt
       → new ≡ passed_to (record old { marks = marks }) (at + p.len) p.line_ends closes
       → PassesSpecial bytes at place old b special.Passed new b
   piece_passed place b p closes marks new few passes shut there is =
-      subst (λ (q : Passing). PassesSo bytes at place old.all old.closed b q b) (sym is)
-      (record {
+      rw is (record {
         len = p.len;
         more = p.line_ends;
         closes = closes;

@@ -48,19 +48,6 @@ no_tail_with (Some s) c none = rw none refl
 pub no_tail : (read : List ℕ) (c : ℕ) → is_ascii_word c ≡ false → tail_of (read ++ c ∷ []) ≡ None
 no_tail read c none = tail_push read c ∙ no_tail_with (tail_of read) c none
 
--- no space, no word and no comment may stand before every text
-letter_word : is_ascii_word 97 ≡ true
-unfolding is_ascii_word
-letter_word = refl
-
-letter-no_break : is_break 97 ≡ false
-unfolding is_break
-letter-no_break = refl
-
-space_space : is_space 32 ≡ true
-unfolding is_space
-space_space = refl
-
 pub quote-no-word : (c : ℕ) → is_quote c ≡ true → is_ascii_word c ≡ false
 unfolding is_quote is_ascii_word
 quote-no-word c h = none_of is_ascii_word (codes "'\"") c refl h
@@ -131,14 +118,15 @@ line_end_ends before end (return_feed is) may = subst (λ (t : List ℕ). EndsOt
 line_end_ends before end (return is) may =
     absurd (both_ways _ may (and_from _ _ (ap (λ t. ends is_return (before ++ t)) is ∙ ends-last is_return before 13 ∙ return_returns) (feed_from 10 refl)))
 
--- a piece that may stand before every text
+-- a piece that may stand before every text, which no space, no word and no comment may
 class_ends : (class : Class) (text : List ℕ) → ((more : List ℕ) → InClass class text × MayPrecede class text more) → EndsOther text
+unfolding is_ascii_word is_break is_space
 class_ends mark text fits = let (one, is, marks) = (fits []).0 in let other = mark_other one marks in record { front = []; last = one; spell = is; word = other.0; other = other.1 }
-class_ends space text fits = absurd (both_ways _ (fits (32 ∷ [])).1 space_space)
-class_ends word text fits = absurd (both_ways _ (fits (97 ∷ [])).1.0 (word_byte_continues 97 (lit< tt) ∙ letter_word))
+class_ends space text fits = absurd (both_ways _ (fits (32 ∷ [])).1 refl)
+class_ends word text fits = absurd (both_ways _ (fits (97 ∷ [])).1.0 (word_byte_continues 97 (lit< tt)))
 class_ends string text fits = string_ends text (fits []).0
 class_ends operator text fits = let (one, is, stands) = (fits []).0 in record { front = []; last = one; spell = is; word = operator-no-word one stands; other = break-return one (operator-no_break one stands) }
-class_ends comment text fits = ⊎_elim (λ none. absurd (cc)) (λ breaks. absurd (both_ways _ letter-no_break breaks)) (fits (97 ∷ [])).1
+class_ends comment text fits = ⊎_elim (λ none. absurd (cc)) (λ breaks. absurd (both_ways _ refl breaks)) (fits (97 ∷ [])).1
 class_ends join text fits =
     let (slash, end, is, slashes, ended) = (fits []).0 in
     subst EndsOther (sym is) (line_end_ends (slash ∷ []) end ended (ap (λ t. ends is_return t && is_line_feed 10) (sym is) ∙ (fits (10 ∷ [])).1))

@@ -13,7 +13,7 @@ use Rattle.py_lines.specs.declared.scan.Scan.{Scan}
 use Rattle.py_lines.specs.Private.Machine.{Bracket, Scanned, brackets_after, brackets_of, fresh}
 use Rattle.py_lines.specs.Private.ScanMachine.{IsScanSound, StringsFit, scan_steps}
 use Rattle.py_lines.specs.Fields.{AreReadBefore}
-use Rattle.py_lines.specs.Private.Scan.{AreLine, EndsNoLine, IsAtLineEnd, IsLineBefore, IsUnderWay, line_start, stack_of}
+use Rattle.py_lines.specs.Private.Scan.{EndsNoLine, IsLineBefore, IsUnderWay, line_start, stack_of}
 use Rattle.py_lines.specs.Private.Outline.{IsEndedBy, IsFreeAfter, IsLine, StandsBefore, tail_of, tail_on}
 use Rattle.py_lines.proofs.Machine.PieceSteps.{scanned}
 use Rattle.py_lines.proofs.Pieces.PieceLists.{piece, spelled-push}
@@ -76,51 +76,45 @@ pub line_before : (m : Mode) (read : List ℕ) (n : ℕ) (after : List ℕ) (sca
     → (line : IsLine m read n after) → scan.piece.mode ≡ modes.Free → scan.piece.start ≡ byte_len read → scan.stop ≡ byte_len read
     → scan.count.line ≡ scan.line + n → scan.count.after_return ≡ ends is_return read → IsLineBefore m scan read line.len
 line_before m read n after scan begun line mode start stop here returned more apart =
-    by line.state (sound_steps m read line.state begun line.steps (ended_stack line.state line.body line.last line.are line.ended)) line.steps line.last line.are line.ended
+    let (spell, fit, strings) = by line.state line.last (sound_steps m read line.state begun line.steps) line.ended in
+    let closed : read ≡ spelled (line.body ++ line.last ∷ []) ++ [] = sym (append-nil (spelled (line.body ++ line.last ∷ [])) ∙ spell) in
+    record {
+      body = line.body;
+      last = line.last;
+      are = line.are;
+      to = line.state;
+      steps = line.steps;
+      spell = spell;
+      fit = fit;
+      strings = strings;
+      tallies = record {
+        counts = record {
+          mode = mode;
+          start = start ∙ ap byte_len (sym spell);
+          stop = stop ∙ ap byte_len closed;
+          here = here ∙ ap (λ (k : ℕ). scan.line + k) (sym line.holds.count ∙ ap line_ends closed);
+          after = returned ∙ ap (ends is_return) closed;
+        };
+        fields = tt;
+      };
+    }
   where
-    set : (s : Scanned) (last : Piece) → scan_steps (Some (line_start m)) read ≡ Some s → AreLine line.body last line.len
-        → spelled (line.body ++ last ∷ []) ≡ read
-        → ((beyond : List ℕ) → encode_utf8_all beyond ≡ encode_utf8_all more → AreReadBefore (line.body ++ last ∷ []) beyond)
-        → StringsFit 0 (line.body ++ last ∷ []) → IsAtLineEnd m scan read (encode_utf8_all more) line.len
-    set s last steps are spell fit strings =
-        let closed : read ≡ spelled (line.body ++ last ∷ []) ++ [] = sym (append-nil (spelled (line.body ++ last ∷ [])) ∙ spell) in
-        record {
-          body = line.body;
-          last = last;
-          are = are;
-          to = s;
-          steps = steps;
-          spell = spell;
-          fit = fit;
-          strings = strings;
-          tallies = record {
-            counts = record {
-              mode = mode;
-              start = start ∙ ap byte_len (sym spell);
-              stop = stop ∙ ap byte_len closed;
-              here = here ∙ ap (λ (k : ℕ). scan.line + k) (sym line.holds.count ∙ ap line_ends closed);
-              after = returned ∙ ap (ends is_return) closed;
-            };
-            fields = tt;
-          };
-        }
-
-    by : (s : Scanned) → IsScanSound s read → scan_steps (Some (line_start m)) read ≡ Some s → (last : Piece)
-        → AreLine line.body last line.len → IsEndedBy s line.body last → IsAtLineEnd m scan read (encode_utf8_all more) line.len
-    by s sound steps last are (inl is) =
-        let fresh_sound = subst (λ (t : Scanned). IsScanSound t read) is sound in
-        set s last steps are (sym (append-nil (spelled (line.body ++ last ∷ []))) ∙ fresh_sound.spell)
-        (λ beyond same. fresh_sound.fit beyond) fresh_sound.strings
-    by s sound steps last are (inr (is, last_is)) =
+    by : (s : Scanned) (last : Piece) → IsScanSound s read → IsEndedBy s line.body last → (spelled (line.body ++ last ∷ []) ≡ read)
+        × ((beyond : List ℕ) → encode_utf8_all beyond ≡ encode_utf8_all more → AreReadBefore (line.body ++ last ∷ []) beyond)
+        × StringsFit 0 (line.body ++ last ∷ [])
+    by s last sound (inl is) =
+        let closed = subst (λ (t : Scanned). IsScanSound t read) is sound in
+        (sym (append-nil (spelled (line.body ++ last ∷ []))) ∙ closed.spell, (λ beyond same. closed.fit beyond), closed.strings)
+    by s last sound (inr (is, last_is)) =
         let held = subst (λ (t : Scanned). IsScanSound t read) is sound in
-        let end = piece line_end (13 ∷ []) in
         let returns : ends is_return read ≡ true =
         ap (ends is_return) (sym held.spell) ∙ ends-last is_return (spelled line.body) 13 ∙ return_returns in
-        set s end steps (subst (λ (p : Piece). AreLine line.body p line.len) last_is are)
-        (spelled-push line.body line_end (13 ∷ []) ∙ held.spell)
-        (λ beyond same. returned_fit line.body (13 ∷ []) read beyond held refl
-        (ap (begins is_line_feed) (encodes_same beyond more same) ∙ apart returns))
-        (line_string line.body end refl held.strings)
+        rw last_is (
+          spelled-push line.body line_end (13 ∷ []) ∙ held.spell,
+          (λ beyond same. returned_fit line.body (13 ∷ []) read beyond held refl
+              (ap (begins is_line_feed) (encodes_same beyond more same) ∙ apart returns)),
+          line_string line.body (piece line_end (13 ∷ [])) refl held.strings,
+        )
 
 -- from where no word is open on, what a line ends with is what its bytes end with
 pub tail_under_way : (read run bytes : List ℕ) (at : ℕ) → tail_of read ≡ None → encode_utf8_all run ≡ take at bytes → tail_of (read ++ run) ≡ tail_of (take at bytes)
