@@ -35,11 +35,9 @@ plain_begun prefix (inr is) = inr (or_left (is_prefix prefix) (is_field_prefix p
 
 pub quoted : (text : List ℕ) → InClass string text → IsQuoted text
 quoted text (inl (inl (short, plain))) =
-    let begun = plain_begun short.prefix short.begun in
-    record { prefix = short.prefix; quote = short.quote; body = _; spell = short.spell; begun = begun; opens = short.opens }
+    record { prefix = short.prefix; quote = short.quote; body = _; spell = short.spell; begun = plain_begun short.prefix short.begun; opens = short.opens }
 quoted text (inl (inr (long, plain))) =
-    let begun = plain_begun long.prefix long.begun in
-    record { prefix = long.prefix; quote = long.quote; body = _; spell = long.spell; begun = begun; opens = long.opens }
+    record { prefix = long.prefix; quote = long.quote; body = _; spell = long.spell; begun = plain_begun long.prefix long.begun; opens = long.opens }
 quoted text (inr is) =
     record {
       prefix = is.prefix;

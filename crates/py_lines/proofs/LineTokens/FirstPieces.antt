@@ -68,19 +68,14 @@ as_bytes text rest low len =
 one_end : (end rest after : List ℕ) → IsLineEnd end → ends is_return end && begins is_line_feed (rest ++ after) ≡ false → IsOneEnd end rest
 unfolding is_return is_line_feed
 one_end end rest after (feed is) uncut =
-    subst (λ (t : List ℕ). IsOneEnd t rest) (sym is)
-    (record { len = as_bytes (10 ∷ []) rest refl (after_feed (encode_utf8_all rest)); counted = refl; joined = refl })
-one_end end rest after (return_feed is) uncut =
-    subst (λ (t : List ℕ). IsOneEnd t rest) (sym is)
-    (record { len = as_bytes (13 ∷ 10 ∷ []) rest refl refl; counted = refl; joined = refl })
+    rw is (record { len = as_bytes (10 ∷ []) rest refl (after_feed (encode_utf8_all rest)); counted = refl; joined = refl })
+one_end end rest after (return_feed is) uncut = rw is (record { len = as_bytes (13 ∷ 10 ∷ []) rest refl refl; counted = refl; joined = refl })
 one_end end rest after (return is) uncut =
-    let none : begins is_line_feed (rest ++ after) ≡ false
-    = ap (λ t. ends is_return t && begins is_line_feed (rest ++ after)) (sym is) ∙ uncut in
-    subst (λ (t : List ℕ). IsOneEnd t rest) (sym is) (record {
+    rw is (record {
       len = as_bytes (13 ∷ []) rest refl
           (after_return (encode_utf8_all rest)
           (encoded_begins is_line_feed (low_even is_line_feed (λ c h. omega (arith, feed_is c h))) rest
-          ∙ begins-prefix is_line_feed rest after none));
+          ∙ begins-prefix is_line_feed rest after (rw is at uncut)));
       counted = refl;
       joined = refl;
     })

@@ -7,7 +7,7 @@ use Rattle.std.proofs.lemmas.Str.{encodes-append, len_utf8_bounds, length-encode
 use Rattle.std.proofs.Math.Seq.{drop-append_seam}
 use Rattle.py_lines.specs.Piece.{Piece, begins_marked, is_mark_class, spelled}
 use Rattle.py_lines.specs.Balance.{depth_through}
-use Rattle.py_lines.specs.LogicalLine.{byte_len, indent_of, kind_of, line_ends, tokens_from}
+use Rattle.py_lines.specs.LogicalLine.{byte_len, kind_of, line_ends, tokens_from}
 use Rattle.py_lines.specs.declared.line_tokens.LinePiece.{LinePiece}
 use Rattle.py_lines.specs.declared.line_tokens.LineTokens.{LineTokens}
 use Rattle.py_lines.specs.Private.ScanMachine.{StringFits}
@@ -77,29 +77,6 @@ is_next text done others p is unmarked =
     some_bytes c cs text_is =
         omega (arith, ap byte_len text_is, length-append (encode_utf8 c) (encode_utf8_all cs), length-encode c, len_utf8_bounds c)
 
--- a piece that is taken is one of those that were read
-pub reads_more : (text : List ℕ) (done others : List Piece) (p : Piece) (piece : LinePiece) (first start line : ℕ) (t u : LineTokens)
-    → AreLineText text (done ++ p ∷ others) → is_mark_class p.class ≡ false → IsTakenFor p piece → AddsPiece t piece start line u
-    → start ≡ byte_len (spelled done) → line ≡ first + line_ends (spelled done) → t.kind ≡ kind_of done
-    → t.indent ≡ indent_of (done ++ p ∷ others) → t.tokens.items ≡ tokens_from 0 first done
-    → HaveReadOf (done ++ p ∷ others) first (start + piece.len) (line + piece.line_ends) u
-reads_more text done others p piece first start line t u is unmarked taken adds place number kinds indents tokens =
-    let next = is_next text done others p is unmarked in
-    let fit = AreReadBefore-first done (p ∷ others) is.after is.fit in
-    let stop : start + piece.len ≡ byte_len (spelled done) + byte_len p.text = omega (arith, place, taken.len) in
-    record {
-      done = done ++ p ∷ [];
-      others = others;
-      are = one_more done others p;
-      unmarked = (AreReadBefore-second done (p ∷ others) is.after is.fit).2;
-      place = stop ∙ sym (len_push done p);
-      number = omega (arith, number, taken.line_ends, next.counted);
-      kind = adds.kind ∙ ap (λ r. kind_with t.kind r) taken.role ∙ ap (λ k. kind_with k (role_of p.class p.text)) kinds
-          ∙ sym (kind_push done p unmarked);
-      indent = adds.indent ∙ indents;
-      tokens = adds.tokens ∙ rw (taken.role, stop, place, number, tokens) (sym (tokens_push first done p _ fit unmarked));
-    }
-
 -- no pieces are left at the end
 pub none_left : (text : List ℕ) (others : List Piece) (done : List Piece) → AreLineText text (done ++ others) → begins_marked others ≡ false
     → length text ≤ byte_len (spelled done) → others ≡ []
@@ -128,6 +105,7 @@ has_next text pieces first start line t is h inside = go h.others h.are h.unmark
     go (p ∷ qs) are unmarked =
         let whole = subst (AreLineText text) are is in
         let next = is_next text h.done qs p whole unmarked in
+        let fit = AreReadBefore-first h.done (p ∷ qs) whole.after whole.fit in
         record {
           p = p;
           begin = subst (λ (n : ℕ). BeginWithPiece (drop n text) p) (sym h.place) (record {
@@ -139,11 +117,21 @@ has_next text pieces first start line t is h inside = go h.others h.are h.unmark
           some = next.some;
           within = omega (arith, h.place, next.within);
           lines = omega (arith, h.number, next.lines);
-          more =
-              λ piece u taken adds. subst (λ (ps : List Piece). HaveReadOf ps first (start + piece.len) (line + piece.line_ends) u)
-              (sym are)
-              (reads_more text h.done qs p piece first start line t u whole unmarked taken adds h.place h.number h.kind
-              (h.indent ∙ ap indent_of are) h.tokens);
+          more = λ piece u taken adds.
+              let stop : start + piece.len ≡ byte_len (spelled h.done) + byte_len p.text = omega (arith, h.place, taken.len) in
+              record {
+                done = h.done ++ p ∷ [];
+                others = qs;
+                are = are ∙ one_more h.done qs p;
+                unmarked = (AreReadBefore-second h.done (p ∷ qs) whole.after whole.fit).2;
+                place = stop ∙ sym (len_push h.done p);
+                number = omega (arith, h.number, taken.line_ends, next.counted);
+                kind = adds.kind ∙ ap (λ r. kind_with t.kind r) taken.role ∙ ap (λ k. kind_with k (role_of p.class p.text)) h.kind
+                    ∙ sym (kind_push h.done p unmarked);
+                indent = adds.indent ∙ h.indent;
+                tokens = adds.tokens ∙ rw (taken.role, stop, h.place, h.number, h.tokens)
+                    (sym (tokens_push first h.done p _ fit unmarked));
+              };
         }
 
 -- what is taken there

@@ -27,15 +27,8 @@ pub high_first : (c : ℕ) → 128 ≤ c → first_spelling c ≡ spellings.Name
 unfolding first_spelling is_digit is_r is_b is_f is_t is_u
 high_first c high =
     let no_digit : nat_le 48 c && nat_le c 57 ≡ false = grind (arith, nat_tests) in
-    rw (
-      no_digit,
-      high_no (codes "rR") c refl high,
-      high_no (codes "bB") c refl high,
-      high_no (codes "fF") c refl high,
-      high_no
-          (codes "tT") c refl high,
-      high_no (codes "uU") c refl high,
-    )
+    let none : (letters : List ℕ) → list_any (nat_le 128) letters ≡ false → is_one_of letters c ≡ false = λ letters low. high_no letters c low high in
+    rw (no_digit, none (codes "rR") refl, none (codes "bB") refl, none (codes "fF") refl, none (codes "tT") refl, none (codes "uU") refl)
 
 -- such a character leaves a number, and makes anything else a name
 abbrev ended : Spelling → Spelling

@@ -275,9 +275,9 @@ line_end_whole returned after m read n on =
     (inl (line_end_unreturned returned read)) (holds_line_end returned read n on.come.holds on.parted) (no_tail_line_end returned read)
 
 -- CR alone, before another byte: the machine holds it yet
-return_waits : (c : ℕ) → (c ≡ 10 → ⊥) → meet_of modes.Return c ≡ moves.Breaks
+pub return_waits : (c : ℕ) → (c ≡ 10 → ⊥) → (meet_of modes.Return c ≡ moves.Breaks) × (meet_of modes.JoinReturn c ≡ moves.Breaks)
 unfolding meet_of move_of
-return_waits c other = rw (false_from_ne_true (is_line_feed c) (λ feeds. other (feed_is c feeds))) refl
+return_waits c other = rw (false_from_ne_true (is_line_feed c) (λ feeds. other (feed_is c feeds))) (refl, refl)
 
 pub no_tail_return : (read : List ℕ) → tail_of (read ++ 13 ∷ []) ≡ None
 no_tail_return read = no_tail read 13 return-no-word
@@ -298,7 +298,7 @@ return_inside [] initial read n st other some on = absurd other
 return_inside (c ∷ cs) initial read n st other some on = inr (record {
   state = scanned (pieces initial read n st 13 on) modes.Return (13 ∷ []);
   come = return_opens initial read n st on;
-  breaks = return_waits c other;
+  breaks = (return_waits c other).0;
   parted = λ feeds. absurd (other feeds);
   inside = λ is. some;
   tail = λ begins. no_tail_return read;
@@ -352,9 +352,6 @@ word_grows s c is = rw (word_byte_continues c (word_byte_low c is) ∙ is) refl
 word-not-break : (c : ℕ) → is_ascii_word c ≡ true → is_break c ≡ false
 word-not-break c is = not-true _ (word_whole c is)
 
-word_holds : (read : List ℕ) (n c : ℕ) → HoldsLineEnds read n → is_ascii_word c ≡ true → HoldsLineEnds (read ++ c ∷ []) n
-word_holds read n c holds is = holds_one read c n holds (word_byte_low c is) (word-not-break c is)
-
 word_after : (initial : Mode) (read : List ℕ) (n : ℕ) (st : List Bracket) (c : ℕ) → is_ascii_word c ≡ true → (s : Spelling) (done : List Piece) (held : List ℕ) → tail_with (tail_of read) c ≡ Some s → HasCome initial (read ++ c ∷ []) n st (scanned done (modes.Word s) held) → GoesOnAfter initial (read ++ c ∷ []) n st
 word_after initial read n st c is s done held some come = record {
   state = scanned done (modes.Word s) held;
@@ -366,12 +363,12 @@ word_after initial read n st c is s done held some come = record {
 word_opens : (initial : Mode) (read : List ℕ) (n : ℕ) (st : List Bracket) (c : ℕ) → is_ascii_word c ≡ true → tail_of read ≡ None → EndsBefore c initial read n st → GoesOnAfter initial (read ++ c ∷ []) n st
 word_opens initial read n st c is none on =
     word_after initial read n st c is (first_spelling c) (pieces initial read n st c on) (c ∷ []) (rw (none, is) refl)
-    (opens initial read n st c on (modes.Word (first_spelling c)) (start-word c (word_starts c is)) (word_holds read n c on.come.holds is))
+    (opens initial read n st c on (modes.Word (first_spelling c)) (start-word c (word_starts c is)) (holds_one read c n on.come.holds (word_byte_low c is) (word-not-break c is)))
 
 word_goes_on : (initial : Mode) (read : List ℕ) (n : ℕ) (st : List Bracket) (s : Spelling) → tail_of read ≡ Some s → IsInPiece (modes.Word s) initial read n st → (c : ℕ) → is_ascii_word c ≡ true → GoesOnAfter initial (read ++ c ∷ []) n st
 word_goes_on initial read n st s some on c is =
     word_after initial read n st c is (spelling_with s c) on.done (on.held ++ c ∷ []) (rw (some, is) refl)
-    (grown (modes.Word (spelling_with s c)) c on.come (word_grows s c is) (word_holds read n c on.come.holds is))
+    (grown (modes.Word (spelling_with s c)) c on.come (word_grows s c is) (holds_one read c n on.come.holds (word_byte_low c is) (word-not-break c is)))
 
 word_passed : (initial : Mode) (read : List ℕ) (n : ℕ) (st : List Bracket) (c : ℕ) → is_ascii_word c ≡ true → GoesOnAfter initial read n st → GoesOnAfter initial (read ++ c ∷ []) n st
 word_passed initial read n st c is on = ⊎_elim
@@ -386,9 +383,6 @@ space-not-word c is = word_byte_continues c (space_low c is) ∙ space-no-word c
 space-not-break : (c : ℕ) → is_space c ≡ true → is_break c ≡ false
 space-not-break c is = not-true _ (space_whole c is)
 
-space_holds : (read : List ℕ) (n c : ℕ) → HoldsLineEnds read n → is_space c ≡ true → HoldsLineEnds (read ++ c ∷ []) n
-space_holds read n c holds is = holds_one read c n holds (space_low c is) (space-not-break c is)
-
 space_after : (initial : Mode) (read : List ℕ) (n : ℕ) (st : List Bracket) (c : ℕ) → is_space c ≡ true → (done : List Piece) (held : List ℕ) → HasCome initial (read ++ c ∷ []) n st (scanned done modes.Space held) → GoesOnAfter initial (read ++ c ∷ []) n st
 space_after initial read n st c is done held come = record {
   state = scanned done modes.Space held;
@@ -399,7 +393,7 @@ space_after initial read n st c is done held come = record {
 
 space_opens : (initial : Mode) (read : List ℕ) (n : ℕ) (st : List Bracket) (c : ℕ) → is_space c ≡ true → EndsBefore c initial read n st → GoesOnAfter initial (read ++ c ∷ []) n st
 space_opens initial read n st c is on =
-    space_after initial read n st c is (pieces initial read n st c on) (c ∷ []) (opens initial read n st c on modes.Space (start-space c is) (space_holds read n c on.come.holds is))
+    space_after initial read n st c is (pieces initial read n st c on) (c ∷ []) (opens initial read n st c on modes.Space (start-space c is) (holds_one read c n on.come.holds (space_low c is) (space-not-break c is)))
 
 space_or_ends : (m : Mode) (c : ℕ) → is_code_mode m ≡ true → is_space c ≡ true → (meet_of m c ≡ moves.Grows modes.Space) ⊎ (meet_of m c ≡ moves.Breaks)
 unfolding meet_of move_of
@@ -410,7 +404,7 @@ space_or_ends m c code is = absurd (both_ways _ refl code)
 
 space_passed : (initial : Mode) (read : List ℕ) (n : ℕ) (st : List Bracket) (c : ℕ) → is_space c ≡ true → GoesOnAfter initial read n st → GoesOnAfter initial (read ++ c ∷ []) n st
 space_passed initial read n st c is on = ⊎_elim
-    (λ grows. space_after initial read n st c is on.state.done (on.state.held ++ c ∷ []) (grown modes.Space c on.come grows (space_holds read n c on.come.holds is)))
+    (λ grows. space_after initial read n st c is on.state.done (on.state.held ++ c ∷ []) (grown modes.Space c on.come grows (holds_one read c n on.come.holds (space_low c is) (space-not-break c is))))
     (λ breaks. space_opens initial read n st c is (ends_at initial read n st c on breaks (λ begins. absurd (both_ways _ (rw (space-no-word c is, space-not-quote c is) refl) begins))))
     (space_or_ends on.state.mode c (tail_code (tail_of read) on.state.mode on.tail) is)
 

@@ -1,5 +1,5 @@
 -- A comment is passed over: the machine goes through it, up to a line end.
-use Rattle.std.proofs.Common.{◌≡◌, ℕ, suc, ◌+◌, ◌-◌, ◌<◌, inr, Bool, true, false, Some, List, [], ◌∷◌, ◌++◌, length, take, drop, slice_index, refl, sym, ap, ◌∙◌, subst, append_assoc, arith, drop-cons, lit<, add-zero}
+use Rattle.std.proofs.Common.{◌≡◌, ℕ, ◌+◌, ◌-◌, ◌<◌, inr, true, false, Some, List, [], ◌∷◌, ◌++◌, length, take, drop, slice_index, refl, ap, ◌∙◌, subst, append_assoc, arith, drop-cons, lit<, add-zero}
 use Rattle.std.specs.Prelude.{encode_utf8_all}
 use Rattle.std.specs.List.{list_all}
 use Rattle.std.proofs.lemmas.Bool.{both_ways, not-false, or_parts}
@@ -7,11 +7,10 @@ use Rattle.std.proofs.lemmas.Str.{encode_ascii}
 use Rattle.py_lines.specs.Character.{is_backslash, is_break, is_hash, is_quote, is_space}
 use Rattle.py_lines.specs.declared.mode.Mode.{Mode}
 use Rattle.py_lines.specs.declared.mode.Mode.TheVariants as modes
-use Rattle.py_lines.specs.declared.mode.Move.TheVariants as moves
 use Rattle.py_lines.specs.Private.Machine.{Bracket, move_of}
 use Rattle.py_lines.specs.Private.ScanMachine.{meet_of}
 use Rattle.py_lines.specs.Private.Run.{IsRunOf, IsWholeComment, is_ascii_word, is_comment_byte, stays}
-use Rattle.py_lines.specs.Private.Outline.{BeforePiece, EndsBefore, IsInPieceAfter, Passes, PassesFirst, StandsBefore, StandsClosed, closes_itself}
+use Rattle.py_lines.specs.Private.Outline.{BeforePiece, EndsBefore, IsInPieceAfter, PassesFirst}
 use Rattle.py_lines.proofs.Machine.Starts.{start-hash}
 use Rattle.py_lines.proofs.LineTokens.FirstCharacters.{hash_is}
 use Rattle.py_lines.proofs.FieldScans.TextLengths.{rest_is}
@@ -33,30 +32,24 @@ comment_opens initial read n st on = record {
 }
 
 -- it ends before CR and LF
-comment_breaks : (c : ℕ) → is_break c ≡ true → meet_of modes.Comment c ≡ moves.Breaks
-unfolding meet_of move_of
-comment_breaks c is = rw is refl
-
 comment_ends : (initial : BeforePiece) (read : List ℕ) (n : ℕ) (st : List Bracket) (c : ℕ) → is_break c ≡ true → IsInPieceAfter modes.Comment initial read n st → EndsBefore c initial.mode read n st
+unfolding meet_of move_of
 comment_ends initial read n st c is on = record {
   state = record { done = initial.done; mode = modes.Comment; held = on.held };
   come = on.come;
-  breaks = comment_breaks c is;
+  breaks = rw is refl;
   parted = λ feeds. on.unreturned;
   inside = λ returns. absurd (cc);
   tail = λ begins. absurd (both_ways _ (or_parts _ _ (break-apart c is)).0 begins);
 }
 
 -- it never closes itself
-never_closes : (cs : List ℕ) (len : ℕ) → closes_itself (35 ∷ cs) len ≡ false
-unfolding is_quote is_backslash
-never_closes cs len = refl
-
 pub comment_passed : (bytes : List ℕ) (k : ℕ) → 0 < length bytes → is_hash (slice_index bytes 0) ≡ true → IsWholeComment (take (length bytes - 1) (drop 1 bytes)) (Some k)
     → PassesFirst bytes (Some (record { len = 1 + k; line_ends = 0 }))
+unfolding is_backslash is_quote
 comment_passed bytes k some hash found =
     passed_from bytes 35 k 0 some (hash_is (slice_index bytes 0) hash)
-    (subst (λ (b : Bool). Passes (35 ∷ cs) (record { len = suc k; line_ends = 0 }) (StandsBefore (35 ∷ cs)) (StandsClosed b (drop k cs))) (sym (never_closes cs (suc k))) (record {
+    (record {
       some = omega arith;
       few = omega arith;
       part = record {
@@ -69,7 +62,7 @@ comment_passed bytes k some hash found =
             let come = goes_on modes.Comment before (read ++ 35 ∷ []) run n st whole.1.1.0 stay (comment_opens initial read n st ends) in
             rw (drop-cons cs k 0 whole.2, add-zero, ← append_assoc read (35 ∷ []) run) (inr (comment_ends before _ n st (slice_index cs k) (not-false _ (text.ends whole.2)) come));
       };
-    }))
+    })
   where
     cs : List ℕ
     cs = drop 1 bytes

@@ -1,6 +1,6 @@
 -- A join of two lines is passed over: the machine goes through the backslash and the line end.
 use Rattle.std.proofs.Common.{◌≡◌, ℕ, suc, ◌+◌, ◌-◌, ◌<◌, ◌≤◌, inl, inr, Bool, true, false, Some, List, [], ◌∷◌, ◌++◌, length, take, drop, slice_index, refl, sym, ap, ◌∙◌, subst, append_assoc, arith, lit<}
-use Rattle.std.proofs.lemmas.Bool.{eqb-true, false_from_ne_true}
+use Rattle.std.proofs.lemmas.Bool.{eqb-true}
 use Rattle.std.proofs.lemmas.List.{get_or-take, length-take-le}
 use Rattle.py_lines.specs.Character.{is_backslash, is_break, is_line_feed, is_quote, is_return, is_space}
 use Rattle.py_lines.specs.Piece.{Piece, join}
@@ -8,7 +8,6 @@ use Rattle.py_lines.proofs.Pieces.PieceLists.{piece}
 use Rattle.py_lines.specs.declared.mode.Mode.{Mode}
 use Rattle.py_lines.specs.declared.mode.Mode.TheVariants as modes
 use Rattle.py_lines.specs.declared.mode.Start.TheVariants as starts
-use Rattle.py_lines.specs.declared.mode.Move.TheVariants as moves
 use Rattle.py_lines.specs.Private.Machine.{Bracket, fresh, move_of}
 use Rattle.py_lines.specs.Private.ScanMachine.{meet_of, scan_steps}
 use Rattle.py_lines.specs.Private.Scan.{line_start}
@@ -19,8 +18,7 @@ use Rattle.py_lines.proofs.Machine.PieceSteps.{scanned}
 use Rattle.py_lines.proofs.Machine.Starts.{start-slash}
 use Rattle.py_lines.proofs.LineScan.Increments.{EndsNoLine-push}
 use Rattle.py_lines.proofs.LineScan.AsciiRuns.{is_low, low_encodes, low_is}
-use Rattle.py_lines.proofs.Text.CharacterTests.{feed_is}
-use Rattle.py_lines.proofs.SimpleLines.Code.{begins_as, closed_line, code_ends, ends_so, grown, holds_line_end, holds_one, holds_return, no_tail_return, one_unreturned, opens, pieces, stands_in_code}
+use Rattle.py_lines.proofs.SimpleLines.Code.{return_waits, begins_as, closed_line, code_ends, ends_so, grown, holds_line_end, holds_one, holds_return, no_tail_return, one_unreturned, opens, pieces, stands_in_code}
 use Rattle.py_lines.proofs.LineTokens.FirstCharacters.{slash_is}
 use Rattle.py_lines.proofs.SimpleLines.Tails.{free_stands}
 use Rattle.py_lines.proofs.SimpleLines.FirstBytes.{outer_end_low, passed_from}
@@ -33,10 +31,6 @@ slash-apart = refl
 pub slash-not-break : is_break 92 ≡ false
 unfolding is_break
 slash-not-break = refl
-
-returned_waits : (c : ℕ) → (c ≡ 10 → ⊥) → meet_of modes.JoinReturn c ≡ moves.Breaks
-unfolding meet_of move_of
-returned_waits c other = rw (false_from_ne_true (is_line_feed c) (λ feeds. other (feed_is c feeds))) refl
 
 module _ (initial : Mode) (read : List ℕ) (n : ℕ) (st : List Bracket) (on : EndsBefore 92 initial read n st) where
   abbrev done : List Piece
@@ -74,7 +68,7 @@ module _ (initial : Mode) (read : List ℕ) (n : ℕ) (st : List Bracket) (on : 
   return_leads c other = record {
     state = scanned done modes.JoinReturn (92 ∷ 13 ∷ []);
     come = returned;
-    breaks = returned_waits c other;
+    breaks = (return_waits c other).1;
     parted = λ feeds. absurd (other feeds);
     inside = λ is. absurd (cc);
     tail = λ begins. no_tail_return (read ++ 92 ∷ []);

@@ -1,7 +1,7 @@
 -- Pieces of ASCII whose end the marks show: the bytes up to there are those of the piece.
-use Rattle.std.proofs.Common.{◌≡◌, ℕ, ◌+◌, ◌-◌, ◌<◌, ◌≤◌, Bool, true, false, not, ◌||◌, ◌==◌, Option, None, Some, List, ◌++◌, length, take, drop, slice_index, refl, sym, ap, ◌∙◌, subst, arith, eqb-true, inl, inr, ◌⊎◌, length-drop}
+use Rattle.std.proofs.Common.{◌≡◌, ℕ, ◌+◌, ◌-◌, ◌<◌, ◌≤◌, Bool, true, false, not, ◌==◌, Option, None, Some, List, ◌++◌, length, take, drop, slice_index, refl, sym, ap, ◌∙◌, subst, arith, eqb-true, inl, inr, length-drop}
 use Rattle.std.specs.Prelude.{codes}
-use Rattle.std.proofs.lemmas.Bool.{and_from, both_ways, cases_order, eq-eqb, false_from_ne_true, or_cases}
+use Rattle.std.proofs.lemmas.Bool.{and_from, both_ways, cases_order, eq-eqb, false_from_ne_true}
 use Rattle.std.proofs.lemmas.List.{drop-drop}
 use Rattle.py_lines.specs.Character.{is_break, is_hash, is_one_of, is_operator, is_quote, is_space}
 use Rattle.py_lines.specs.Balance.{is_closing, is_opening}
@@ -14,7 +14,7 @@ use Rattle.py_lines.specs.Private.Passing.{PassesMarked, passed_to}
 use Rattle.py_lines.specs.Private.Run.{IsRunOf, IsWholeComment, is_ascii_word, is_body_byte, is_remark_byte, is_text_byte}
 use Rattle.py_lines.proofs.LineScan.AsciiRuns.{is_low_from}
 use Rattle.py_lines.proofs.LineScan.Spans.{ascii_comment, text_spans}
-use Rattle.py_lines.proofs.Text.CharacterTests.{none_of}
+use Rattle.py_lines.proofs.Text.CharacterTests.{excluded, none_of}
 use Rattle.py_lines.proofs.SimpleLines.Code.{code_low}
 use Rattle.py_lines.proofs.SimpleLines.Comments.{comment_passed}
 use Rattle.py_lines.proofs.SimpleLines.Lines.{plain_code}
@@ -40,14 +40,10 @@ break-not-plain c h = none_of is_plain (codes "\n\r") c refl h
 -- a plain byte may stand in a string, and in a comment
 plain_text : (q c : ℕ) → is_quote q ≡ true → is_plain c ≡ true → is_text_byte q c ≡ true
 unfolding is_body_byte
-plain_text q c quote plain = and_from _ _ (ap not body) (is_low_from c (code_low c (plain_code c plain)))
-  where
-    body : (c == q) || is_one_of (codes "\\\n\r") c ≡ false
-    body = false_from_ne_true _ (λ h. by (or_cases (c == q) (is_one_of (codes "\\\n\r") c) h))
-      where
-        by : (c == q ≡ true) ⊎ (is_one_of (codes "\\\n\r") c ≡ true) → ⊥
-        by (inl same) = both_ways _ (quote-not-plain q quote) (ap is_plain (sym (eqb-true c q same)) ∙ plain)
-        by (inr ends) = both_ways _ (ends-not-plain c ends) plain
+plain_text q c quote plain =
+    let other : c == q ≡ false = false_from_ne_true _ (λ same. both_ways _ (quote-not-plain q quote) (ap is_plain (sym (eqb-true c q same)) ∙ plain)) in
+    let whole : is_one_of (codes "\\\n\r") c ≡ false = excluded is_plain (is_one_of (codes "\\\n\r")) c (ends-not-plain c) plain in
+    and_from _ _ (rw (other, whole) refl) (is_low_from c (code_low c (plain_code c plain)))
 
 pub plain_remark : (c : ℕ) → is_plain c ≡ true → is_remark_byte c ≡ true
 plain_remark c plain = and_from _ _ (ap not (false_from_ne_true _ (λ h. both_ways _ (break-not-plain c h) plain))) (is_low_from c (code_low c (plain_code c plain)))

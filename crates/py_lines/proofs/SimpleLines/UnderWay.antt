@@ -10,10 +10,10 @@ use Rattle.py_lines.specs.declared.mode.Mode.{Mode}
 use Rattle.py_lines.specs.declared.mode.Mode.TheVariants as modes
 use Rattle.py_lines.specs.declared.mode.Spelling.{Spelling}
 use Rattle.py_lines.specs.declared.scan.Scan.{Scan}
-use Rattle.py_lines.specs.Private.Machine.{Bracket, Scanned, brackets_after, brackets_of, fresh}
-use Rattle.py_lines.specs.Private.ScanMachine.{IsScanSound, StringsFit, scan_steps}
+use Rattle.py_lines.specs.Private.Machine.{Bracket, Scanned, brackets_after, fresh}
+use Rattle.py_lines.specs.Private.ScanMachine.{IsScanSound, StringsFit, HoldsOpen}
 use Rattle.py_lines.specs.Fields.{AreReadBefore}
-use Rattle.py_lines.specs.Private.Scan.{EndsNoLine, IsLineBefore, IsUnderWay, line_start, stack_of}
+use Rattle.py_lines.specs.Private.Scan.{IsLineBefore, IsUnderWay, line_start, stack_of}
 use Rattle.py_lines.specs.Private.Outline.{IsEndedBy, IsFreeAfter, IsLine, StandsBefore, tail_of, tail_on}
 use Rattle.py_lines.proofs.Machine.PieceSteps.{scanned}
 use Rattle.py_lines.proofs.Pieces.PieceLists.{piece, spelled-push}
@@ -24,25 +24,24 @@ use Rattle.py_lines.proofs.SimpleLines.Code.{ends_so, operator_closes, operator_
 use Rattle.py_lines.proofs.SimpleLines.Tails.{come_sound, ended_stack, free_tail, return_returns, tail_on-append}
 
 -- a machine that stands in no piece holds nothing
-free_at : (m : Mode) (read : List ℕ) (st : List Bracket) (done : List Piece) (mode : Mode) (held : List ℕ) → mode ≡ modes.Free → IsScanSound (scanned done mode held) read → IsScanSound (line_start m) [] → scan_steps (Some (line_start m)) read ≡ Some (scanned done mode held)
-    → brackets_of done ≡ Some st → EndsNoLine 0 done → all_scalars read ≡ true → IsFreeAfter m read (line_ends read) st
-free_at m read st done modes.Free held is sound start steps stacked one_line scalars = record {
-  done = done;
-  come = record {
-    start = start;
-    steps = steps ∙ ap (λ t. Some (scanned done modes.Free t)) sound.holds;
-    stacked = stacked;
-    one_line = one_line;
-    holds = record { scalars = scalars; count = refl };
-  };
-}
-free_at m read st done mode held is sound start steps stacked one_line scalars = absurd (cc)
+free_at : (m : Mode) (done : List Piece) (held : List ℕ) → m ≡ modes.Free → HoldsOpen m done held → scanned done m held ≡ fresh done
+free_at modes.Free done held is holds = ap (scanned done modes.Free) holds
+free_at m done held is holds = absurd (cc)
 
 -- a scan under way in no piece
 pub way_free : (m : Mode) (scan : Scan) (read : List ℕ) → IsScanSound (line_start m) [] → all_scalars read ≡ true → IsUnderWay m scan read → scan.piece.mode ≡ modes.Free → IsFreeAfter m read (line_ends read) (stack_of scan.brackets)
 way_free m scan read start scalars way free =
     let s = way.state in
-    free_at m read (stack_of scan.brackets) s.done s.mode s.held (sym way.tallies.counts.mode ∙ free) (sound_steps m read s start way.steps way.stacked) start way.steps way.stacked way.one_line scalars
+    record {
+      done = s.done;
+      come = record {
+        start = start;
+        steps = way.steps ∙ ap Some (free_at s.mode s.done s.held (sym way.tallies.counts.mode ∙ free) (sound_steps m read s start way.steps).holds);
+        stacked = way.stacked;
+        one_line = way.one_line;
+        holds = record { scalars = scalars; count = refl };
+      };
+    }
 
 -- where a scan is set in no piece after closed ones, it is under way, and keeps count of them
 pub free_way : (m : Mode) (scan : Scan) (read : List ℕ) (n : ℕ) (st : List Bracket) → IsFreeAfter m read n st → scan.piece.mode ≡ modes.Free → scan.piece.start ≡ byte_len read → scan.stop ≡ byte_len read → scan.count.line ≡ scan.line + n

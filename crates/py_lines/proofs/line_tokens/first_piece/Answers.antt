@@ -1,10 +1,9 @@
-use Rattle.std.proofs.Common.{ℕ, ◌+◌, List, slice_index, sym, ap, ◌∙◌, subst, ⊎_elim, ◌≡◌}
+use Rattle.std.proofs.Common.{ℕ, List, slice_index, sym, ap, ◌∙◌, subst, ⊎_elim, ◌≡◌}
 use Rattle.py_lines.proofs.FieldScans.TextLengths.{rest_is}
 use Rattle.py_lines.specs.Character.{is_quote, is_space}
 use Rattle.py_lines.specs.declared.class.Class.{Class}
 use Rattle.py_lines.specs.declared.class.Class.TheVariants as class
 use Rattle.py_lines.specs.Private.Marks.{is_of_class}
-use Rattle.py_lines.specs.declared.line_tokens.Role.TheVariants as roles
 use Rattle.py_lines.specs.Private.Run.{IsRunOf, is_comment_byte}
 use Rattle.py_lines.specs.Private.LineTokens.{IsTakenFor, line_end_len}
 use Rattle.py_lines.proofs.LineTokens.FirstPieces.{comment_taken, join_taken, line_end_taken, operator_taken, space_taken}
@@ -43,21 +42,13 @@ pub returns-in-LineFeed : goal.returns-in-LineFeed
 returns-in-LineFeed c = λ p b.
     let is : (k : Class) → c.of.result ≡ k → OfByte k p.class = λ k. class_is c.args.bytes.now p c.of.result k b c.of.ensures in
     let ends = ⊎_elim (is class.LineFeed) (is class.Return) c.in-LineFeed.is in
-    subst (λ (n : ℕ). IsTakenFor p (record {
-      role = roles.LineEnd;
-      len = n;
-      line_ends = 1;
-    })) (sym c.whole_line_end-in-LineFeed.ensures) (line_end_taken c.args.bytes.now p b ends)
+    rw c.whole_line_end-in-LineFeed.ensures (line_end_taken c.args.bytes.now p b ends)
 
 pub returns-in-Backslash : goal.returns-in-Backslash
 returns-in-Backslash c = λ p b.
     let joins = class_is c.args.bytes.now p c.of.result class.Backslash b c.of.ensures c.in-Backslash.is in
     let len = c.whole_line_end.ensures ∙ ap line_end_len (rest_is c.args.bytes.now 1) in
-    subst (λ (n : ℕ). IsTakenFor p (record {
-      role = roles.Join;
-      len = 1 + n;
-      line_ends = 1;
-    })) (sym len) (join_taken c.args.bytes.now p b joins)
+    rw len (join_taken c.args.bytes.now p b joins)
 
 pub returns-in-Space : goal.returns-in-Space
 returns-in-Space c = λ p b.
