@@ -29,7 +29,6 @@ use Rattle.py_lines.proofs.ScanMachine.Steps.{begun as scan_begun}
 use Rattle.py_lines.proofs.LineScan.BracketStack.{keeps_at}
 use Rattle.py_lines.proofs.LineScan.Increments.{EndsNoLine-push, line_ends-step, stack_push}
 use Rattle.py_lines.proofs.LineScan.LineCount.{ends-last}
-use Rattle.py_lines.proofs.ScanMachine.Advance.{steps_push}
 use Rattle.py_lines.proofs.LineScan.NextCharacter.{closed_one_line, depth_none, none_level}
 use Rattle.py_lines.proofs.LineScan.PieceEnd.{closed_text}
 use Rattle.py_lines.proofs.LineScan.Runs.{break_low, ends-run, line_ends-run, space_low, word_byte_continues, word_byte_low}
@@ -154,16 +153,21 @@ code_breaks modes.Free c code low apart = apart_breaks modes.Free c refl (or_par
 code_breaks modes.Space c code low apart = apart_breaks modes.Space c refl (or_parts (is_ascii_word c || is_quote c) (is_space c) apart).1
 code_breaks m c code low apart = absurd (both_ways _ refl code)
 
--- what the machine has come to, with one character more
-pub come_on : {initial : Mode} {read : List ℕ} {n k : ℕ} {st after : List Bracket} {s t : Scanned} (c : ℕ) → HasCome initial read n st s → scan_step s c ≡ Some t
-    → brackets_of t.done ≡ Some after → EndsNoLine 0 t.done → HoldsLineEnds (read ++ c ∷ []) k → HasCome initial (read ++ c ∷ []) k after t
-come_on {initial} {read} {s = s} c come step stacked one_line holds = record {
+-- what the machine has come to, with more characters
+pub come_over : {initial : Mode} {read : List ℕ} {n k : ℕ} {st after : List Bracket} {s t : Scanned} (run : List ℕ) → HasCome initial read n st s → scan_steps (Some s) run ≡ Some t
+    → brackets_of t.done ≡ Some after → EndsNoLine 0 t.done → HoldsLineEnds (read ++ run) k → HasCome initial (read ++ run) k after t
+come_over {initial} {read} run come steps stacked one_line holds = record {
   start = come.start;
-  steps = steps_push (line_start initial) read s c come.steps ∙ step;
+  steps = steps_by-append move_at (Some (line_start initial)) read run ∙ ap (λ o. scan_steps o run) come.steps ∙ steps;
   stacked = stacked;
   one_line = one_line;
   holds = holds;
 }
+
+-- with one more
+pub come_on : {initial : Mode} {read : List ℕ} {n k : ℕ} {st after : List Bracket} {s t : Scanned} (c : ℕ) → HasCome initial read n st s → scan_step s c ≡ Some t
+    → brackets_of t.done ≡ Some after → EndsNoLine 0 t.done → HoldsLineEnds (read ++ c ∷ []) k → HasCome initial (read ++ c ∷ []) k after t
+come_on c come step = come_over (c ∷ []) come (ap (λ o. scan_steps o []) step)
 
 -- which the open piece grows by
 grows_in : (m next : Mode) (depth : ℕ) (held : List ℕ) (c : ℕ) → meet_of m c ≡ moves.Grows next → move_in m depth held c ≡ moves.Grows next
@@ -327,9 +331,6 @@ unfolding is_break
 first-break true = refl
 first-break false = refl
 
-break_ends : (initial : Mode) (read : List ℕ) (n : ℕ) (st : List Bracket) (c : ℕ) → is_break c ≡ true → GoesOnAfter initial read n st → EndsBefore c initial read n st
-break_ends initial read n st c is on = code_ends initial read n st c on (break_low c is) (break-apart c is)
-
 pub operator_ends : (initial : Mode) (read : List ℕ) (n : ℕ) (st : List Bracket) (c : ℕ) → is_operator c ≡ true → GoesOnAfter initial read n st → EndsBefore c initial read n st
 operator_ends initial read n st c is on = code_ends initial read n st c on (operator_ascii c is) (operator-apart c is)
 
@@ -443,7 +444,7 @@ ends_so initial read rest n st c ends (inr on) = on
 
 -- over a line end, before which code ends, or a piece that ends there
 break_next : (rest : List ℕ) (initial : Mode) (read : List ℕ) (n : ℕ) (st : List Bracket) (c : ℕ) → is_break c ≡ true → StandsBefore (c ∷ rest) initial read n st → EndsBefore c initial read n st
-break_next rest initial read n st c is on = ends_so initial read rest n st c (break_ends initial read n st c is) on
+break_next rest initial read n st c is on = ends_so initial read rest n st c (λ goes. code_ends initial read n st c goes (break_low c is) (break-apart c is)) on
 
 line_end_next : (returned : Bool) (rest : List ℕ) (initial : Mode) (read : List ℕ) (n : ℕ) (st : List Bracket) → StandsBefore (line_end_of returned ++ rest) initial read n st → EndsBefore (line_end_first returned) initial read n st
 line_end_next true rest initial read n st on = break_next (10 ∷ rest) initial read n st 13 (first-break true) on

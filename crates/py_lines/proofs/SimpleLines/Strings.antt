@@ -478,9 +478,8 @@ string_at bytes at (Some p) within quote plain has =
               let (done, opened) = string_begins q quote (drop (at + 1) bytes) initial read n st (ap is_plain_prefix on.0 ∙ plain) before in
               let begun : BeforePiece = record { mode = initial; done = done } in
               let begins : StringBegins (slice_index rest 0) begun read n st = subst (λ (c : ℕ). StringBegins c begun read n st) (sym first) opened in
-              let ends = ends_closed (nat_lt 2 p.len) (drop p.len rest) begun (read ++ is.part.run) (n + p.line_ends) st (is.part.leads begun read n st begins) in
-              subst (λ (b : Bool). StandsClosed b (drop (at + p.len) bytes) initial (read ++ is.part.run) (n + p.line_ends) st) (sym (string_closes rest p.len (ap is_quote first ∙ quote)))
-              (subst (λ (t : List ℕ). StandsClosed (nat_lt 2 p.len) t initial (read ++ is.part.run) (n + p.line_ends) st) (drop-drop p.len at bytes) ends);
+              rw (string_closes rest p.len (ap is_quote first ∙ quote), ← drop-drop p.len at bytes)
+              (ends_closed (nat_lt 2 p.len) (drop p.len rest) begun (read ++ is.part.run) (n + p.line_ends) st (is.part.leads begun read n st begins));
         };
       },
     )

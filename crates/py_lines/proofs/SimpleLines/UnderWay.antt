@@ -36,7 +36,7 @@ way_free m scan read start scalars way free =
       done = s.done;
       come = record {
         start = start;
-        steps = way.steps ∙ ap Some (free_at s.mode s.done s.held (sym way.tallies.counts.mode ∙ free) (sound_steps m read s start way.steps).holds);
+        steps = way.steps ∙ ap Some (free_at s.mode s.done s.held (sym way.tallies.counts.mode ∙ free) (sound_steps m read s start way.steps way.stacked).holds);
         stacked = way.stacked;
         one_line = way.one_line;
         holds = record { scalars = scalars; count = refl };
@@ -75,7 +75,7 @@ pub line_before : (m : Mode) (read : List ℕ) (n : ℕ) (after : List ℕ) (sca
     → (line : IsLine m read n after) → scan.piece.mode ≡ modes.Free → scan.piece.start ≡ byte_len read → scan.stop ≡ byte_len read
     → scan.count.line ≡ scan.line + n → scan.count.after_return ≡ ends is_return read → IsLineBefore m scan read line.len
 line_before m read n after scan begun line mode start stop here returned more apart =
-    let (spell, fit, strings) = by line.state line.last (sound_steps m read line.state begun line.steps) line.ended in
+    let (spell, fit, strings) = by line.state line.last (sound_steps m read line.state begun line.steps (ended_stack line.state line.body line.last line.are line.ended)) line.ended in
     let closed : read ≡ spelled (line.body ++ line.last ∷ []) ++ [] = sym (append-nil (spelled (line.body ++ line.last ∷ [])) ∙ spell) in
     record {
       body = line.body;

@@ -1,5 +1,4 @@
-use Rattle.std.proofs.Common.{sym, arith, subst}
-use Rattle.py_lines.specs.declared.plain_strings.Passed.{Passed}
+use Rattle.std.proofs.Common.{arith}
 use Rattle.py_lines.proofs.SimpleLines.Lines.{HasComeFurther, begins_at, ends_line, goes_on, next_at, own_few}
 use Rattle.py_lines.proofs.outline.simple_lines.Goals.{After-next-at-in-specials, in-Passed, in-LineEnd}
 use Rattle.py_lines.proofs.outline.simple_lines.Goals as goal
@@ -18,12 +17,10 @@ came : (c : After-next-at-in-specials)
     → HasComeFurther c.args.bytes.now c.match-pass.lines c.specials.at c.pass.new.self c.pass.new.brackets
 came c = elim c.match-pass.branch [
   | in-Passed w ↦
-      subst (λ (l : Passed). HasComeFurther c.args.bytes.now l c.specials.at c.pass.new.self c.pass.new.brackets) (sym w.lines-is)
-      (goes_on c.args.bytes.now c.specials.lines c.specials.at c.specials.passing c.specials.brackets c.specials.invariant c.pass.new.self
+      rw w.lines-is (goes_on c.args.bytes.now c.specials.lines c.specials.at c.specials.passing c.specials.brackets c.specials.invariant c.pass.new.self
       c.pass.new.brackets w.in-Passed.ensures)
   | in-LineEnd w ↦
-      subst (λ (l : Passed). HasComeFurther c.args.bytes.now l c.specials.at c.pass.new.self c.pass.new.brackets) (sym w.lines-is)
-      (ends_line c.args.bytes.now c.specials.lines c.specials.at c.specials.passing c.specials.brackets c.specials.invariant _
+      rw w.lines-is (ends_line c.args.bytes.now c.specials.lines c.specials.at c.specials.passing c.specials.brackets c.specials.invariant _
       c.pass.new.self c.pass.new.brackets c.specials-test.true w.in-LineEnd.ensures)
 ]
 
