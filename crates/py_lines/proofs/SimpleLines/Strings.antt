@@ -81,14 +81,19 @@ first_goes_on m next initial read (c ∷ cs) n st leads some scalars all on =
     subst (λ (t : List ℕ). IsInPieceAfter next initial t n st) (append_assoc read (c ∷ []) cs)
     (goes_on next initial (read ++ c ∷ []) cs n st each.1 parts.1 (grows on next c (leads c parts.0) (break-return c none) holds))
 
--- what a backslash escapes, which leads from one mode to another
-escaped_leads : (mid after_return next : Mode) (initial : BeforePiece) (read text : List ℕ) (n feeds : ℕ) (st : List Bracket) → ((c : ℕ) → is_return c ≡ false → meet_of mid c ≡ moves.Grows next)
+-- a backslash and what it escapes, which lead from one mode to another
+escaped : (m mid after_return next : Mode) (initial : BeforePiece) (read text : List ℕ) (n feeds : ℕ) (st : List Bracket) → meet_of m 92 ≡ moves.Grows mid → ((c : ℕ) → is_return c ≡ false → meet_of mid c ≡ moves.Grows next)
     → meet_of mid 13 ≡ moves.Grows after_return → meet_of after_return 10 ≡ moves.Grows next
-    → IsEscaped text feeds → IsInPieceAfter mid initial read n st → IsInPieceAfter next initial (read ++ text) (n + feeds) st
-escaped_leads mid after_return next initial read text n feeds st other return feed (inl (returned, is, one)) on =
-    rw (is, one) (line_end_grows mid after_return next returned initial read n st (other 10 feed_unreturned) return feed on)
-escaped_leads mid after_return next initial read text n feeds st other return feed (inr (c, is, low, none, zero)) on =
-    rw (is, zero, add-zero) (grows on next c (other c (break-return c none)) (break-return c none) (holds_one read c n on.come.holds low none))
+    → IsEscaped text feeds → IsInPieceAfter m initial read n st → IsInPieceAfter next initial (read ++ 92 ∷ text) (n + feeds) st
+escaped m mid after_return next initial read text n feeds st slash other return feed is on = subst (λ (t : List ℕ). IsInPieceAfter next initial t (n + feeds) st) (append_assoc read (92 ∷ []) text) (by is)
+  where
+    slashed : IsInPieceAfter mid initial (read ++ 92 ∷ []) n st
+    slashed = grows on mid 92 slash (break-return 92 slash-not-break) (holds_one read 92 n on.come.holds (lit< tt) slash-not-break)
+
+    by : IsEscaped text feeds → IsInPieceAfter next initial ((read ++ 92 ∷ []) ++ text) (n + feeds) st
+    by (inl (returned, is, one)) = rw (is, one) (line_end_grows mid after_return next returned initial (read ++ 92 ∷ []) n st (other 10 feed_unreturned) return feed slashed)
+    by (inr (c, is, low, none, zero)) =
+        rw (is, zero, add-zero) (grows slashed next c (other c (break-return c none)) (break-return c none) (holds_one (read ++ 92 ∷ []) c n slashed.come.holds low none))
 
 -- what a quote does after a prefix
 prefix_quote : (s : Spelling) (q : ℕ) → is_quote q ≡ true → is_plain_prefix (Some s) ≡ true → meet_of (modes.Word s) q ≡ moves.Grows (modes.Opened q)
@@ -265,13 +270,6 @@ module _ (q : ℕ) (quote : is_quote q ≡ true) where
   pub short_later : (len : ℕ) → 1 < len → short_mode q len ≡ modes.Inside q
   short_later len more = ap short_is (false_from_ne_true (len == 1) (λ h. omega (arith, more, eqb-true len 1 h)))
 
-  short_escaped : (b : Bool) (initial : BeforePiece) (read text : List ℕ) (n feeds : ℕ) (st : List Bracket) → IsEscaped text feeds → IsInPieceAfter (short_is b) initial read n st → IsInPieceAfter (modes.Inside q) initial (read ++ 92 ∷ text) (n + feeds) st
-  unfolding meet_of move_of short_move is_backslash is_return is_line_feed
-  short_escaped b initial read text n feeds st escaped on =
-      subst (λ (t : List ℕ). IsInPieceAfter (modes.Inside q) initial t (n + feeds) st) (append_assoc read (92 ∷ []) text)
-      (escaped_leads (modes.Escape q) (modes.EscapeReturn q) (modes.Inside q) initial (read ++ 92 ∷ []) text n feeds st (λ c other. rw other refl) refl refl escaped
-      (grows on (modes.Escape q) 92 (in_short b 92 (unlike 92 refl)) refl (holds_one read 92 n on.come.holds (lit< tt) slash-not-break)))
-
   -- the parts of one, as the code knows them
   pub short_first : (bytes : List ℕ) → 0 < length bytes → slice_index bytes 0 ≡ q → PassesPart bytes 1 0 (StringBegins q) (IsInShort q 1)
   short_first bytes within is = low_still bytes (q ∷ []) 1 within (and_from _ _ low refl) (taken_one bytes within ∙ ap (λ (c : ℕ). c ∷ []) is) (λ initial read n st on. on)
@@ -291,10 +289,11 @@ module _ (q : ℕ) (quote : is_quote q ≡ true) where
       (short_text len is.utf8.0 initial read n st some is.utf8.1.0 (spans_stay bytes k is) on))
 
   pub short_escape : (bytes : List ℕ) (len : ℕ) (p : Passed) → 1 ≤ len → HasEscape bytes (Some p) → PassesPart bytes p.len p.line_ends (IsInShort q len) (IsInShort q (len + p.len))
+  unfolding meet_of move_of short_move is_backslash is_return is_line_feed
   short_escape bytes len p some has =
       low_part bytes (92 ∷ has.text) p.len p.line_ends has.within (escaped_low has.text p.line_ends has.escaped) has.spell (λ initial read n st on.
       subst (λ (m : Mode). IsInPieceAfter m initial (read ++ 92 ∷ has.text) (n + p.line_ends) st) (sym (short_later (len + p.len) (omega (arith, some, has.some))))
-      (short_escaped (len == 1) initial read has.text n p.line_ends st has.escaped on))
+      (escaped (short_mode q len) (modes.Escape q) (modes.EscapeReturn q) (modes.Inside q) initial read has.text n p.line_ends st (in_short (len == 1) 92 (unlike 92 refl)) (λ c other. rw other refl) refl refl has.escaped on))
 
   short_last : (bytes : List ℕ) (len : ℕ) → 1 < len → 0 < length bytes → slice_index bytes 0 ≡ q → PassesPart bytes 1 0 (IsInShort q len) HasClosedString
   short_last bytes len more within is = low_still bytes (q ∷ []) 1 within (and_from _ _ low refl) (taken_one bytes within ∙ ap (λ (c : ℕ). c ∷ []) is) (λ initial read n st on.
@@ -394,16 +393,11 @@ module _ (q : ℕ) (quote : is_quote q ≡ true) where
             (λ initial read n st on. lone_text is.utf8.0 initial read n st (omega (arith, more, size)) is.utf8.1.0 (spans_stay (drop 1 bytes) len is) on);
       }
 
-  long_escaped : (initial : BeforePiece) (read text : List ℕ) (n feeds : ℕ) (st : List Bracket) → IsEscaped text feeds → IsInLong q initial read n st → IsInLong q initial (read ++ 92 ∷ text) (n + feeds) st
-  unfolding meet_of move_of long_move is_backslash is_return
-  long_escaped initial read text n feeds st escaped on =
-      subst (λ (t : List ℕ). IsInLong q initial t (n + feeds) st) (append_assoc read (92 ∷ []) text)
-      (escaped_leads (modes.LongEscape q) (modes.Long q) (modes.Long q) initial (read ++ 92 ∷ []) text n feeds st (λ c other. refl) refl (in_long false 10 (unlike 10 refl)) escaped
-      (grows on (modes.LongEscape q) 92 (in_long false 92 (unlike 92 refl)) refl (holds_one read 92 n on.come.holds (lit< tt) slash-not-break)))
-
   long_escape_part : (bytes : List ℕ) (p : Passed) → HasEscape bytes (Some p) → PassesPart bytes p.len p.line_ends (IsInLong q) (IsInLong q)
+  unfolding meet_of move_of long_move is_backslash is_return
   long_escape_part bytes p has =
-      low_part bytes (92 ∷ has.text) p.len p.line_ends has.within (escaped_low has.text p.line_ends has.escaped) has.spell (λ initial read n st. long_escaped initial read has.text n p.line_ends st has.escaped)
+      low_part bytes (92 ∷ has.text) p.len p.line_ends has.within (escaped_low has.text p.line_ends has.escaped) has.spell (λ initial read n st.
+      escaped (modes.Long q) (modes.LongEscape q) (modes.Long q) (modes.Long q) initial read has.text n p.line_ends st (in_long false 92 (unlike 92 refl)) (λ c other. refl) refl (in_long false 10 (unlike 10 refl)) has.escaped)
 
 pub escape_few : (bytes : List ℕ) (p : Passed) → HasEscape bytes (Some p) → p.line_ends ≤ p.len
 escape_few bytes p has =
