@@ -1,8 +1,7 @@
 -- Where a line begins with a string, the machine closes nothing before the string's end, and that string at its end.
 use Rattle.std.proofs.Common.{◌≡◌, ℕ, ◌<◌, true, false, Option, None, Some, List, [], ◌∷◌, ◌++◌, length, refl, sym, ap, ◌∙◌, subst, append_assoc, append-nil, arith, length-append}
 use Rattle.std.proofs.lemmas.Bool.{both_ways}
-use Rattle.std.proofs.lemmas.List.{append_cancel_left}
-use Rattle.py_lines.specs.Character.{is_mark}
+use Rattle.std.proofs.lemmas.List.{append_cancel_left, nil_from_length}
 use Rattle.py_lines.specs.Piece.{string, Piece, spelled}
 use Rattle.py_lines.specs.Fields.{AreReadBefore, InClass, ShallowFields}
 use Rattle.py_lines.specs.declared.mode.Mode.{Mode}
@@ -59,17 +58,14 @@ no_piece : (p : Piece) (ps : List Piece) → p ∷ ps ≡ [] → ⊥
 no_piece p ps h = cc
 
 -- no mark begins a string, so the text's start is like any other place
-start_breaks : (c : ℕ) → is_mark c ≡ false → meet_of modes.Start c ≡ moves.Breaks
-unfolding meet_of move_of
-start_breaks c h = rw h
-
 from_line : (text : List ℕ) (to : Scanned) → InClass string text → scan_steps (Some text_start) text ≡ Some to → ComesTo text to
+unfolding meet_of move_of
 from_line text to fit steps =
     let b = begins_so string text refl fit in
     let c = b.first in
     let cs = b.others in
     ap (scan_steps (Some (line_start modes.Free))) b.is ∙ begun (line_start modes.Free) c cs cs (start_of c) (stops-free (c ∷ cs)) refl
-    ∙ sym (begun text_start c cs cs (start_of c) (start_breaks c (unmarked_first b)) refl) ∙ ap (scan_steps (Some text_start)) (sym b.is)
+    ∙ sym (begun text_start c cs cs (start_of c) (rw (unmarked_first b)) refl) ∙ ap (scan_steps (Some text_start)) (sym b.is)
     ∙ steps
 
 -- the machine passes the string that a line's text begins with, finds that piece alone, and may stop before the rest
@@ -196,11 +192,7 @@ module _ (text x after : List ℕ) (passes : PassesString text (x ++ after)) whe
   pub whole_at_end : (read : List ℕ) (s : Scanned) → text ++ x ≡ read ++ [] → ComesTo read s → s.done ≡ [] → read ≡ text
   whole_at_end read s at steps none =
       let (z, is, more) = within read [] s at steps none in
-      sym (append-nil read) ∙ ap (λ t. read ++ t) (sym (nothing z x more)) ∙ sym is
-    where
-      nothing : (a b : List ℕ) → a ++ b ≡ [] → a ≡ []
-      nothing [] b h = refl
-      nothing (c ∷ a) b h = absurd (cc)
+      sym (append-nil read) ∙ ap (λ t. read ++ t) (sym (nil_from_length z (omega (arith, ap length more, length-append z x)))) ∙ sym is
 
   -- where the next character comes after the open piece
   pub whole_before : (read y : List ℕ) (c : ℕ) (s : Scanned) → text ++ x ≡ read ++ c ∷ y → ComesTo read s → s.done ≡ [] → 0 < length read

@@ -1,9 +1,9 @@
 -- A string that bytes begin with, and that was passed as a whole, is the string that they begin with: without a prefix, or with one.
-use Rattle.std.proofs.Common.{◌≡◌, ℕ, zero, suc, ◌+◌, ◌<◌, ◌≤◌, Bool, true, false, not, Some, List, [], ◌∷◌, ◌++◌, length, take, drop, slice_index, refl, sym, ap, ◌∙◌, subst, append_assoc, append-nil, arith, length-append}
+use Rattle.std.proofs.Common.{◌≡◌, ℕ, ◌+◌, ◌<◌, ◌≤◌, Bool, true, false, not, Some, List, [], ◌∷◌, ◌++◌, length, take, drop, slice_index, refl, sym, ap, ◌∙◌, subst, append_assoc, append-nil, arith, length-append, ⊎_elim}
 use Rattle.std.specs.Prelude.{encode_utf8_all, if◌then◌else◌}
 use Rattle.std.specs.List.{list_all}
-use Rattle.std.proofs.lemmas.Bool.{and_from, and_parts, both_ways, lt-ltb}
-use Rattle.std.proofs.lemmas.List.{length-take-le, take-append-drop}
+use Rattle.std.proofs.lemmas.Bool.{and_from, and_parts, both_ways, lt-ltb, cases_lt}
+use Rattle.std.proofs.lemmas.List.{length-take-le, take-append-drop, drop_all}
 use Rattle.std.proofs.lemmas.Str.{encodes-append}
 use Rattle.py_lines.specs.Character.{is_break, is_quote, is_word_character, is_word_start}
 use Rattle.py_lines.specs.Piece.{begins, string}
@@ -139,10 +139,8 @@ module _ (c : ℕ) (cs : List ℕ) (begins : begins_string (spelling_on (first_s
 
 -- a quote after so many bytes
 quote_within : (bs : List ℕ) (k : ℕ) → begins is_quote (drop k bs) ≡ true → k ≤ length bs
-quote_within [] zero h = omega arith
-quote_within [] (suc k) none = absurd (both_ways _ refl none)
-quote_within (b ∷ bs) zero h = omega arith
-quote_within (b ∷ bs) (suc k) h = let one = quote_within bs k h in omega (arith, one)
+quote_within bs k h =
+    ⊎_elim (λ (over : length bs < k). absurd (both_ways _ (ap (begins is_quote) (drop_all k bs (omega arith))) h)) (λ within. within) (cases_lt (length bs) k)
 
 pub quote_of_rest : (bytes : List ℕ) (n : ℕ) → begins is_quote (drop n bytes) ≡ true → is_quote (slice_index (rest_of bytes n) 0) ≡ true
 quote_of_rest bytes n quotes = ap (λ t. is_quote (slice_index t 0)) (rest_is bytes n) ∙ first_byte is_quote (drop n bytes) quotes

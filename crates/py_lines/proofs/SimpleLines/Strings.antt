@@ -85,7 +85,8 @@ first_goes_on m next initial read (c ∷ cs) n st leads some scalars all on =
 escaped : (m mid after_return next : Mode) (initial : BeforePiece) (read text : List ℕ) (n feeds : ℕ) (st : List Bracket) → meet_of m 92 ≡ moves.Grows mid → ((c : ℕ) → is_return c ≡ false → meet_of mid c ≡ moves.Grows next)
     → meet_of mid 13 ≡ moves.Grows after_return → meet_of after_return 10 ≡ moves.Grows next
     → IsEscaped text feeds → IsInPieceAfter m initial read n st → IsInPieceAfter next initial (read ++ 92 ∷ text) (n + feeds) st
-escaped m mid after_return next initial read text n feeds st slash other return feed is on = subst (λ (t : List ℕ). IsInPieceAfter next initial t (n + feeds) st) (append_assoc read (92 ∷ []) text) (by is)
+escaped m mid after_return next initial read text n feeds st slash other return feed is on =
+    subst (λ (t : List ℕ). IsInPieceAfter next initial t (n + feeds) st) (append_assoc read (92 ∷ []) text) (by is)
   where
     slashed : IsInPieceAfter mid initial (read ++ 92 ∷ []) n st
     slashed = grows on mid 92 slash (break-return 92 slash-not-break) (holds_one read 92 n on.come.holds (lit< tt) slash-not-break)
