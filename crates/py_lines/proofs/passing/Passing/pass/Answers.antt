@@ -1,4 +1,5 @@
 use Rattle.std.proofs.Common.{◌≡◌, ◌+◌, ◌-◌, arith, refl}
+use Rattle.py_lines.proofs.Text.CharacterTests.{feed_is}
 use Rattle.py_lines.proofs.SimpleLines.Lines.{feed_ends}
 use Rattle.py_lines.proofs.SimpleLines.Passing.{bracket_passed}
 use Rattle.py_lines.proofs.Machine.LiveTexts.{closing-operator}
