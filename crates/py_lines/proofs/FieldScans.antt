@@ -9,8 +9,6 @@ pub mod TextLengths
 pub mod Taking
 pub mod Operators
 pub mod FieldOpenings
-pub mod CodeOperators
 pub mod CodeRuns
 pub mod FieldFaults
-pub mod FieldAnswers
 pub mod Places

@@ -1,5 +1,5 @@
 -- Words, spaces and signs of a field's code are taken in one step, up to the last sign.
-use Rattle.std.proofs.Common.{◌≡◌, ℕ, ◌+◌, ◌-◌, ◌<◌, ◌≤◌, Bool, true, false, not, ◌||◌, ◌==◌, Some, List, [], ◌∷◌, ◌++◌, length, take, slice_index, refl, sym, ap, ◌∙◌, subst, arith, inl, inr, ⊎_elim}
+use Rattle.std.proofs.Common.{◌≡◌, ℕ, ◌+◌, ◌-◌, ◌<◌, ◌≤◌, Bool, true, false, not, ◌&&◌, ◌||◌, ◌==◌, Some, List, [], ◌∷◌, ◌++◌, length, take, slice_index, refl, sym, ap, ◌∙◌, subst, arith, inl, inr, ⊎_elim}
 use Rattle.std.specs.Prelude.{nat_lt}
 use Rattle.std.specs.List.{list_all}
 use Rattle.std.proofs.lemmas.Bool.{and_parts, both_ways, lt-ltb, or_cases}
@@ -9,7 +9,6 @@ use Rattle.std.proofs.lemmas.Str.{len_utf8_ascii}
 use Rattle.py_lines.specs.Balance.{is_opening, is_closing}
 use Rattle.py_lines.specs.Character.{is_break, is_operator}
 use Rattle.py_lines.specs.LogicalLine.{byte_len}
-use Rattle.py_lines.specs.Piece.{Piece}
 use Rattle.py_lines.specs.declared.class.Class.TheVariants as class
 use Rattle.py_lines.specs.declared.mode.Mode.{Mode}
 use Rattle.py_lines.specs.declared.mode.Mode.TheVariants as modes
@@ -18,8 +17,7 @@ use Rattle.py_lines.specs.declared.field_mode.FieldMode.TheVariants as field_mod
 use Rattle.py_lines.specs.declared.field_scan.FieldScan.{FieldScan}
 use Rattle.py_lines.specs.declared.field_scan.FieldProgress.TheVariants as progress
 use Rattle.py_lines.specs.Private.Machine.{first_spelling, start_of}
-use Rattle.py_lines.specs.Private.FieldMachine as spots
-use Rattle.py_lines.specs.Private.FieldMachine.{plain, FieldMove, breaks, grows, Level, FieldScanned, field_state, field_move}
+use Rattle.py_lines.specs.Private.FieldMachine.{plain, FieldMove, breaks, grows, FieldScanned, field_move}
 use Rattle.py_lines.specs.Private.FieldFaults.{here}
 use Rattle.py_lines.specs.Private.FieldScan.{mode_from, code_mode, ComesTo, Follows, GoesThrough, HoldsField, freed_at}
 use Rattle.py_lines.specs.Private.FieldText.{is_apart_mode, is_code_mode}
@@ -31,9 +29,9 @@ use Rattle.py_lines.proofs.Machine.Starts.{start-operator, start-space}
 use Rattle.py_lines.proofs.LineScan.Runs.{space_low, word_byte_low}
 use Rattle.py_lines.proofs.LineScan.StringSteps.{here_at, string_more}
 use Rattle.py_lines.proofs.Text.CharacterTests.{operator_ascii}
-use Rattle.py_lines.proofs.FieldScans.Operators.{passes_sign}
+use Rattle.py_lines.proofs.FieldScans.Operators.{sign_passes}
 use Rattle.py_lines.proofs.FieldScans.Runs.{all_pass, holds_ascii}
-use Rattle.py_lines.proofs.FieldScans.Taking.{broken, begun, grown, place_after}
+use Rattle.py_lines.proofs.FieldScans.Taking.{begun, grown, place_after}
 use Rattle.py_lines.proofs.FieldScans.Texts.{BeginsOrGrows, apart_code, goes_on-append, operator_breaks, operator-not-word, operator_others, sign_cases, space_moves, space_others, word_moves, word_no_break, word_starts}
 
 -- a scan stands in the code of a field, before this byte, with the frames of an earlier one
@@ -95,11 +93,9 @@ module _ (first : FieldScan) (base depth : ℕ) where
 
     -- a sign
     sign_comes : is_operator c ≡ true → is_opening c ≡ false → is_closing c ≡ false → c == 58 ≡ false → ComesTo base depth t c scan progress.Going (freed_at scan (place + 1))
-    sign_comes is opens closes colon = go t.outer t.done t.openers t.mode t.held on.follows on.inside stands (met breaks (operator_breaks on.mode t.held c on.simple is))
-      where
-        go : (outer : List Level) (done : List Piece) (openers : List ℕ) (m : spots.FieldMode) (held : List ℕ) → Follows scan base (field_state outer done openers m held) → IsInString (field_state outer done openers m held) → place ≡ base + here (field_state outer done openers m held) → field_move m held c ≡ breaks → ComesTo base depth (field_state outer done openers m held) c scan progress.Going (freed_at scan (place + 1))
-        go [] done openers m held follow inside at move = absurd ((broken scan base depth (field_state [] done openers m held) c place follow inside at move).within refl)
-        go (l ∷ ls) done openers m held follow inside at move = passes_sign scan base depth l ls done openers m held c place follow inside at move (start-operator c is) opens closes colon
+    sign_comes is opens closes colon =
+        sign_passes scan base depth c place t on.follows on.inside stands (met breaks (operator_breaks on.mode t.held c on.simple is)) (start-operator c is) opens closes
+        (ap (λ b. b && (length t.openers == 0)) colon)
 
     sign_taken : is_operator c ≡ true → is_opening c ≡ false → is_closing c ≡ false → c == 58 ≡ false → Next t c place (freed_at scan (place + 1))
     sign_taken is opens closes colon = taken (operator_ascii c is) (operator_others c is).2 (freed_at scan (place + 1)) modes.Free refl refl refl (sign_comes is opens closes colon)

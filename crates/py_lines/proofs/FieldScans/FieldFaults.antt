@@ -5,7 +5,7 @@ use Rattle.std.proofs.lemmas.Bool.Decides.{nat_tests}
 use Rattle.std.proofs.lemmas.Str.{length-encode, len_utf8_bounds}
 use Rattle.py_lines.specs.Character.{is_break}
 use Rattle.py_lines.specs.Balance.{is_opening, is_closing}
-use Rattle.py_lines.specs.Piece.{Piece, spelled}
+use Rattle.py_lines.specs.Piece.{spelled}
 use Rattle.py_lines.specs.LogicalLine.{byte_len}
 use Rattle.py_lines.specs.Faults.{Cause, brace_too_deep, breaks_string, closes_wrong, opens_too_deep, ends_specification, begins_nothing, kind_of_cause, open_brace, open_short, open_long, open_join, open_bracket, open_inside}
 use Rattle.py_lines.specs.FieldStrings.{Host, Place, literal}
@@ -17,13 +17,13 @@ use Rattle.py_lines.specs.declared.frames.OpenField.{OpenField}
 use Rattle.py_lines.specs.declared.frames.Frame.{Frame}
 use Rattle.py_lines.specs.declared.frames.Frame.TheVariants as frame
 use Rattle.py_lines.specs.declared.field_scan.FieldScan.{FieldScan}
-use Rattle.py_lines.specs.Private.Machine.{Bracket, brackets_of, in_short, in_long, is_after_backslash}
+use Rattle.py_lines.specs.Private.Machine.{in_short, in_long, is_after_backslash}
 use Rattle.py_lines.specs.Private.FieldMachine.{At, after_brace, FieldMode, body, Level, FieldScanned, frames, after_open_backslash, before, text_place}
 use Rattle.py_lines.specs.Private.FieldFaults.{is_waiting, quotes_specification, cause_in, cause_place, here, field_start, unfinished_code, unfinished_place}
-use Rattle.py_lines.specs.Private.FieldScan.{bracket_frames, bracket_openers, FramesFollow, none_open, mode_from, code_mode, Follows, unfinished_with, unfinished_round, IsFieldEnd, IsUnfinishedAt}
-use Rattle.py_lines.specs.Private.Frames.{IsInnermostFrame, InField, in_bracket, place_of}
+use Rattle.py_lines.specs.Private.FieldScan.{bracket_openers, mode_from, code_mode, Follows, unfinished_with, unfinished_round, IsFieldEnd, IsUnfinishedAt}
+use Rattle.py_lines.specs.Private.Frames.{InField, in_bracket, place_of}
 use Rattle.py_lines.specs.Private.ScanMachine.{IsInString}
-use Rattle.py_lines.proofs.FieldScans.Frames.{frames-length, InList, list_of, innermost_field}
+use Rattle.py_lines.proofs.FieldScans.Frames.{frames-length, innermost_bracket, innermost_field, none_outside}
 use Rattle.py_lines.proofs.LogicalLines.Cuts.{byte_len-append}
 
 -- so many brackets and fields are open
@@ -60,43 +60,10 @@ pub line_fault_of : (base depth : ℕ) (t : FieldScanned) (c : ℕ) (cause : Cau
 line_fault_of base depth t c cause kind place is kind_is place_is = (kind_is ∙ ap kind_of_cause (sym is), place_is ∙ ap (λ (x : Cause). base + cause_place t x) (sym is))
 
 -- the field that is open
-field_from : (base : ℕ) (outer : List Level) (done : List Piece) (openers : List ℕ) (fs : List Frame) (field : OpenField) → FramesFollow base outer done openers fs → IsInnermostFrame (Some (frame.Field field)) fs → (field.place ≡ base + (byte_len (before literal outer) - 1)) × (openers ≡ [])
-field_from base [] done openers fs field (none_open _ _ _ _ no_openers no_frames) top = absurd (cc (top.1, no_frames))
-field_from base (l ∷ ls) done openers fs field follow top =
-    let i = list_of base l ls done openers fs follow in
-    let is = innermost_field base l ls done openers fs field i top in
-    (ap (λ (x : OpenField). x.place) is.1 ∙ i.place, is.0)
-
-pub field_in : (scan : FieldScan) (base : ℕ) (t : FieldScanned) (field : OpenField) → Follows scan base t → IsInnermostFrame (Some (frame.Field field)) scan.frames → (field.place ≡ base + field_start t) × (t.openers ≡ [])
-field_in scan base t field f top = field_from base t.outer t.done t.openers scan.frames field f.frames top
-
--- the bracket that is open
-bracket_from : (base : ℕ) (outer : List Level) (done : List Piece) (openers : List ℕ) (fs : List Frame) (opener at : ℕ) → FramesFollow base outer done openers fs → IsInnermostFrame (Some (frame.Bracket opener at)) fs → (b : Bracket) × (bs : List Bracket) × (brackets_of done ≡ Some (b ∷ bs)) × (at ≡ base + (byte_len (before literal outer) + b.place)) × (openers ≡ b.opener ∷ bracket_openers bs)
-bracket_from base [] done openers fs opener at (none_open _ _ _ _ no_openers no_frames) top = absurd (cc (top.1, no_frames))
-bracket_from base (l ∷ ls) done openers fs opener at follow top = go i.stack i.stacked i.openers_are i.frames_are
-  where
-    i : InList base l ls done openers fs
-    i = list_of base l ls done openers fs follow
-
-    go : (bs : List Bracket) → brackets_of done ≡ Some bs → openers ≡ bracket_openers bs → fs ≡ bracket_frames (base + byte_len (before literal (l ∷ ls))) bs ++ frame.Field i.field ∷ i.others → (b : Bracket) × (cs : List Bracket) × (brackets_of done ≡ Some (b ∷ cs)) × (at ≡ base + (byte_len (before literal (l ∷ ls)) + b.place)) × (openers ≡ b.opener ∷ bracket_openers cs)
-    go [] stacked are is = absurd (cc (top.1, is))
-    go (b ∷ bs) stacked are is =
-        let spot : at ≡ base + byte_len (before literal (l ∷ ls)) + b.place = cc (top.1, is) in
-        (b, bs, stacked, omega (arith, spot), are)
-
-pub bracket_in : (scan : FieldScan) (base : ℕ) (t : FieldScanned) (opener at : ℕ) → Follows scan base t → IsInnermostFrame (Some (frame.Bracket opener at)) scan.frames → (b : Bracket) × (bs : List Bracket) × (brackets_of t.done ≡ Some (b ∷ bs)) × (at ≡ base + (byte_len (before literal t.outer) + b.place)) × (t.openers ≡ b.opener ∷ bracket_openers bs)
-bracket_in scan base t opener at f top = bracket_from base t.outer t.done t.openers scan.frames opener at f.frames top
-
--- none is open
-none_from : (base : ℕ) (outer : List Level) (done : List Piece) (openers : List ℕ) (fs : List Frame) → FramesFollow base outer done openers fs → fs ≡ [] → outer ≡ []
-none_from base [] done openers fs follow none = refl
-none_from base (l ∷ ls) done openers fs follow none = go (list_of base l ls done openers fs follow)
-  where
-    go : InList base l ls done openers fs → l ∷ ls ≡ []
-    go i = absurd (omega (arith, ap length none, ap length i.frames_are, length-append (bracket_frames (base + byte_len (before literal (l ∷ ls))) i.stack) (frame.Field i.field ∷ i.others)))
-
-pub none_in : (scan : FieldScan) (base : ℕ) (t : FieldScanned) → Follows scan base t → scan.frames ≡ [] → t.outer ≡ []
-none_in scan base t f none = none_from base t.outer t.done t.openers scan.frames f.frames none
+pub field_in : (scan : FieldScan) (base : ℕ) (t : FieldScanned) (field : OpenField) (others : List Frame) → Follows scan base t → scan.frames ≡ frame.Field field ∷ others → (field.place ≡ base + field_start t) × (t.openers ≡ [])
+field_in scan base t field others f top =
+    let i = innermost_field base t.outer t.done t.openers scan.frames others field f.frames top in
+    (i.place ∙ ap (λ (ls : List Level). base + (byte_len (before literal ls) - 1)) (sym i.outer_is), i.none)
 
 -- the place of the field whose specification is open
 pub specification_place : (scan : FieldScan) (base : ℕ) (t : FieldScanned) (place : ℕ) → Follows scan base t → InField scan.frames → ((f : Frame) (others : List Frame) → scan.frames ≡ f ∷ others → place ≡ place_of f) → place ≡ base + field_start t
@@ -105,7 +72,7 @@ specification_place scan base t place f field last = go scan.frames refl field
     go : (fs : List Frame) → scan.frames ≡ fs → InField fs → place ≡ base + field_start t
     go [] is inside = absurd inside
     go (frame.Bracket opener at ∷ fs) is inside = absurd inside
-    go (frame.Field own ∷ fs) is inside = last (frame.Field own) fs is ∙ (field_in scan base t own f (fs, is)).0
+    go (frame.Field own ∷ fs) is inside = last (frame.Field own) fs is ∙ (field_in scan base t own fs f is).0
 
 -- a `{` stands directly before where the string waits
 some_bytes : (held : List ℕ) → (held ≡ [] → ⊥) → 1 ≤ byte_len held
@@ -173,14 +140,14 @@ code_waits m = refl
 pub code_round : (m : Mode) (depth : ℕ) (t : FieldScanned) → code_mode m ≡ t.mode → in_short m ≡ false → in_long m ≡ false → is_after_backslash m ≡ false → unfinished_round depth t ≡ unfinished_code t.outer t.openers
 code_round m depth t is short long slash = what_round m depth t is ∙ code_what m depth t.outer t.openers ∙ rw (short, long, slash)
 
-pub bracket_end : (scan : FieldScan) (base depth : ℕ) (t : FieldScanned) (m : Mode) (opener at : ℕ) → Follows scan base t → code_mode m ≡ t.mode → in_short m ≡ false → in_long m ≡ false → is_after_backslash m ≡ false → IsInnermostFrame (Some (frame.Bracket opener at)) scan.frames → (unfinished_round depth t ≡ Some open_bracket) × IsUnfinishedAt base t open_bracket at
-bracket_end scan base depth t m opener at f is short long slash top =
-    let (b, bs, stacked, place, are) = bracket_in scan base t opener at f top in
-    (code_round m depth t is short long slash ∙ bracket_ends t.outer t.openers b.opener (bracket_openers bs) are, (b, bs, stacked, place))
+pub bracket_end : (scan : FieldScan) (base depth : ℕ) (t : FieldScanned) (m : Mode) (opener at : ℕ) (fs : List Frame) → Follows scan base t → code_mode m ≡ t.mode → in_short m ≡ false → in_long m ≡ false → is_after_backslash m ≡ false → scan.frames ≡ frame.Bracket opener at ∷ fs → (unfinished_round depth t ≡ Some open_bracket) × IsUnfinishedAt base t open_bracket at
+bracket_end scan base depth t m opener at fs f is short long slash top =
+    let (b, bs, stacked, place, are) = innermost_bracket base t.outer t.done t.openers scan.frames fs opener at f.frames top in
+    (code_round m depth t is short long slash ∙ bracket_ends t.outer t.openers opener (bracket_openers bs) are, (b, bs, stacked, place))
 
-pub field_end : (scan : FieldScan) (base depth : ℕ) (t : FieldScanned) (m : Mode) (field : OpenField) → Follows scan base t → code_mode m ≡ t.mode → IsInString t → in_short m ≡ false → in_long m ≡ false → is_after_backslash m ≡ false → IsInnermostFrame (Some (frame.Field field)) scan.frames → (unfinished_round depth t ≡ Some open_inside) × IsUnfinishedAt base t open_inside field.place
-field_end scan base depth t m field f is inside short long slash top =
-    let (place, none) = field_in scan base t field f top in
+pub field_end : (scan : FieldScan) (base depth : ℕ) (t : FieldScanned) (m : Mode) (field : OpenField) (fs : List Frame) → Follows scan base t → code_mode m ≡ t.mode → IsInString t → in_short m ≡ false → in_long m ≡ false → is_after_backslash m ≡ false → scan.frames ≡ frame.Field field ∷ fs → (unfinished_round depth t ≡ Some open_inside) × IsUnfinishedAt base t open_inside field.place
+field_end scan base depth t m field fs f is inside short long slash top =
+    let (place, none) = field_in scan base t field fs f top in
     let waits : is_waiting t.mode ≡ false = ap is_waiting (sym is) ∙ code_waits m in (
       code_round m depth t is short long slash ∙ field_ends t.outer t.openers none (code_inside m t is inside),
       place ∙ ap (λ (b : Bool). base + (if b then here t - 1 else field_start t)) (sym waits),
@@ -191,22 +158,23 @@ pub code_end : (scan : FieldScan) (base depth : ℕ) (t : FieldScanned) (m : Mod
 code_end scan base depth t m kind place f is inside short long slash kind_is last = go scan.frames refl
   where
     go : (fs : List Frame) → scan.frames ≡ fs → IsFieldEnd base depth t (record { kind = kind; place = place })
-    go [] none = absurd (code_inside m t is inside (none_in scan base t f none))
+    go [] none = absurd (code_inside m t is inside (none_outside base t.outer t.done t.openers scan.frames f.frames (ap length none)))
     go (frame.Bracket opener at ∷ fs) top =
-        let e = bracket_end scan base depth t m opener at f is short long slash (fs, top) in
+        let e = bracket_end scan base depth t m opener at fs f is short long slash top in
         (open_bracket, e.0, kind_is true (ap in_bracket top), subst (IsUnfinishedAt base t open_bracket) (sym (last (frame.Bracket opener at) fs top)) e.1)
     go (frame.Field own ∷ fs) top =
-        let e = field_end scan base depth t m own f is inside short long slash (fs, top) in
+        let e = field_end scan base depth t m own fs f is inside short long slash top in
         (open_inside, e.0, kind_is false (ap in_bracket top), last (frame.Field own) fs top ∙ e.1)
+
+-- one limit for the code's count, which is one more
+pub below_so : (a b : ℕ) → a ≡ b + 1 → nat_lt a 201 ≡ nat_lt b 200
+below_so a b is = grind (arith, nat_tests)
 
 -- after a `{` that would open a field
 pub brace_end : (scan : FieldScan) (base depth : ℕ) (t : FieldScanned) (host : Host) (named room : Bool) → Follows scan base t → t.mode ≡ body host literal named after_brace → room ≡ nat_lt (depth + length scan.frames + 1) 201 → unfinished_round depth t ≡ Some (if room then open_inside else open_brace)
 brace_end scan base depth t host named room f is room_is =
     ap (λ (m : FieldMode). unfinished_with depth t.outer t.openers m) is
-    ∙ ap (λ (b : Bool). Some (if b then open_inside else open_brace)) (less (depth + frames t) ∙ ap (λ (n : ℕ). nat_lt (depth + n + 1) 201) (sym (open-length scan base t f)) ∙ sym room_is)
-  where
-    less : (n : ℕ) → nat_lt n 200 ≡ nat_lt (n + 1) 201
-    less n = grind (arith, nat_tests)
+    ∙ ap (λ (b : Bool). Some (if b then open_inside else open_brace)) (sym (below_so (depth + length scan.frames + 1) (depth + frames t) (omega (arith, open-length scan base t f))) ∙ sym room_is)
 
 pub brace_end_place : (scan : FieldScan) (base : ℕ) (t : FieldScanned) (host : Host) (named : Bool) (place : ℕ) → Follows scan base t → t.mode ≡ body host literal named after_brace → place ≡ base + here t → (place - 1 ≡ base + unfinished_place t open_inside) × (place - 1 ≡ base + unfinished_place t open_brace)
 brace_end_place scan base t host named place f is at =

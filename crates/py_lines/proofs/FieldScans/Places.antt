@@ -1,5 +1,5 @@
 -- What is open in a string with fields stands in what it has to: code in a field, and the text of a specification in its own.
-use Rattle.std.proofs.Common.{◌≡◌, ℕ, ◌==◌, Bool, true, false, None, Some, List, [], ◌∷◌, ◌++◌, refl, sym, ap, ◌∙◌, subst}
+use Rattle.std.proofs.Common.{◌≡◌, ℕ, ◌==◌, Bool, true, false, None, Some, List, [], ◌∷◌, ◌++◌, length, refl, sym, ap, ◌∙◌, subst}
 use Rattle.std.proofs.lemmas.Bool.{both_ways, cond_both}
 use Rattle.py_lines.specs.FieldStrings.{Host, Place, literal, specification}
 use Rattle.py_lines.specs.declared.mode.Mode.{Mode}
@@ -18,15 +18,15 @@ use Rattle.py_lines.specs.Private.FieldMachine as spots
 use Rattle.py_lines.specs.Private.FieldMachine.{At, Level, FieldScanned, field_text_start, text_place, between, body, empty, grows, breaks, opens_field, ends_field, FieldMove, long_host, between_move}
 use Rattle.py_lines.specs.Private.FieldFaults.{quotes_specification}
 use Rattle.py_lines.specs.Private.Frames.{InField, IsInnermostFrame, StandsIn}
-use Rattle.py_lines.specs.Private.FieldScan.{Follows, FramesFollow, HasNoList, IsInPlace, IsPlaced, code_mode, code_move, code_moved, meets_field, mode_from, region_in, at_in}
+use Rattle.py_lines.specs.Private.FieldScan.{Follows, FramesFollow, in_list, HasNoList, IsInPlace, IsPlaced, code_mode, code_move, code_moved, meets_field, mode_from, region_in, at_in}
 use Rattle.py_lines.specs.Private.ScanMachine.{IsInString, host_in, meet_of, string_state}
 use Rattle.py_lines.specs.Piece.{Piece, spelled}
 use Rattle.py_lines.proofs.FieldSoundness.Holds.{HoldsLevels}
 use Rattle.py_lines.proofs.FieldSoundness.HostSteps.{sound_at}
 use Rattle.py_lines.proofs.FieldSoundness.WholeTexts.{no_limit, any_rooms}
 use Rattle.py_lines.proofs.FieldScans.Moves.{BodyMoved, body_moved}
-use Rattle.py_lines.proofs.FieldScans.Frames.{field_first, list_of}
-use Rattle.py_lines.proofs.FieldScans.FieldFaults.{code_inside, none_in}
+use Rattle.py_lines.proofs.FieldScans.Frames.{none_outside}
+use Rattle.py_lines.proofs.FieldScans.FieldFaults.{code_inside}
 
 -- a text, and code
 pub in_text : (region : Region) (h : Host) (named : Bool) (at : At) (fs : List Frame) → StandsIn region fs → IsPlaced (body h (region_in region) named at) fs
@@ -118,15 +118,14 @@ moved_placed old c v is placed = subst (λ (x : FieldMove). Placed x old.frames)
 -- so it is wherever the scan follows the machine from the string's start
 specification_in : (base : ℕ) (outer : List Level) (text : List ℕ) (done : List Piece) (openers : List ℕ) (fs : List Frame) → HoldsLevels no_limit specification outer text → openers ≡ [] → FramesFollow base outer done openers fs → InField fs
 specification_in base [] text done openers fs levels none frames = absurd levels
-specification_in base (l ∷ ls) text done openers fs levels none frames =
-    let i = list_of base l ls done openers fs frames in
-    field_open fs i.others i.field (field_first base l ls done openers fs i none)
+specification_in base (l ∷ ls) text done openers fs levels none (in_list _ _ _ _ _ _ [] field others stack openers_are frames_are place host region start bare within) = field_open fs others field frames_are
+specification_in base (l ∷ ls) text done openers fs levels none (in_list _ _ _ _ _ _ (b ∷ bs) field others stack openers_are frames_are place host region start bare within) = absurd (cc (none, openers_are))
 
 pub scan_placed : (scan : FieldScan) (base : ℕ) (held : List ℕ) (t : FieldScanned) → string_state held ≡ Some t → IsInString t → Follows scan base t → IsInPlace scan
 scan_placed scan base held t steps inside follows = go scan.mode refl
   where
     go : (m : FieldMode) → scan.mode ≡ m → IsPlaced (mode_from m) scan.frames
-    go (field_modes.Code m) is = in_code m scan.frames (λ none. code_inside m t (ap mode_from (sym is) ∙ follows.mode) inside (none_in scan base t follows none))
+    go (field_modes.Code m) is = in_code m scan.frames (λ none. code_inside m t (ap mode_from (sym is) ∙ follows.mode) inside (none_outside base t.outer t.done t.openers scan.frames follows.frames (ap length none)))
     go (field_modes.Body h regions.Literal named at) is = tt
     go (field_modes.Body h regions.Specification named at) is =
         let mode : t.mode ≡ body (host_in h) specification named (at_in at) = sym follows.mode ∙ ap mode_from is in

@@ -1,5 +1,5 @@
 -- A character in a string with fields that goes on the open piece, closes it, or begins another after it.
-use Rattle.std.proofs.Common.{◌≡◌, ℕ, ◌+◌, true, false, not, ◌||◌, List, [], ◌∷◌, ◌++◌, length, nat_lt, refl, sym, ap, ◌∙◌, subst, arith, append_assoc}
+use Rattle.std.proofs.Common.{◌≡◌, ℕ, ◌+◌, true, false, not, ◌||◌, List, [], ◌∷◌, ◌++◌, nat_lt, refl, sym, ap, ◌∙◌, subst, arith, append_assoc}
 use Rattle.std.specs.Char.{len_utf8}
 use Rattle.std.proofs.lemmas.Str.{len_utf8_ascii}
 use Rattle.py_lines.specs.Character.{is_line_feed}
@@ -9,17 +9,16 @@ use Rattle.py_lines.specs.Balance.{is_opening, is_opener, is_closer}
 use Rattle.py_lines.specs.FieldStrings.{literal}
 use Rattle.py_lines.specs.declared.mode.Mode.{Mode}
 use Rattle.py_lines.specs.declared.mode.Start.TheVariants as starts
-use Rattle.py_lines.specs.declared.frames.Frame.{Frame}
 use Rattle.py_lines.specs.declared.field_mode.FieldMode.{FieldMode}
 use Rattle.py_lines.specs.declared.field_mode.FieldMode.TheVariants as field_modes
 use Rattle.py_lines.specs.declared.field_scan.FieldScan.{FieldScan}
 use Rattle.py_lines.specs.declared.field_scan.FieldProgress.TheVariants as progress
 use Rattle.py_lines.specs.Private.Machine.{start_of}
-use Rattle.py_lines.specs.Private.FieldMachine.{plain, grows, closes, breaks, Level, FieldScanned, field_state, field_fresh, field_class_of, field_closed, field_move, field_started, before, frames, has_room_at}
+use Rattle.py_lines.specs.Private.FieldMachine.{plain, FieldMove, grows, closes, breaks, refused, Level, FieldScanned, field_state, field_fresh, field_class_of, field_closed, field_move, field_started, before, frames, has_room_at}
 use Rattle.py_lines.specs.Private.FieldMachine as spots
 use Rattle.py_lines.specs.Private.FieldFaults.{here}
 use Rattle.py_lines.specs.Private.ScanMachine.{IsInString}
-use Rattle.py_lines.specs.Private.FieldScan.{mode_from, Follows, FramesFollow, freed_at, ComesTo}
+use Rattle.py_lines.specs.Private.FieldScan.{mode_from, meets_field, HoldsCode, Follows, freed_at, ComesTo}
 use Rattle.py_lines.proofs.Text.CharacterTests.{operator_ascii}
 use Rattle.py_lines.proofs.Pieces.PieceLists.{piece, spelled-push}
 use Rattle.py_lines.proofs.Pieces.OpenBrackets.{stack_push, other_keeps}
@@ -29,9 +28,9 @@ use Rattle.py_lines.proofs.LineScan.NextCharacter.{one_feed}
 use Rattle.py_lines.proofs.Machine.Starts as begun_so
 use Rattle.py_lines.proofs.Machine.Starts.{StartsSo}
 use Rattle.py_lines.proofs.ScanMachine.Follows.{room_grows, room_closes, opens_no}
-use Rattle.py_lines.proofs.FieldScans.Frames.{AreOpenAlike, frames_alike, none_outside, none_in}
-use Rattle.py_lines.proofs.FieldScans.Moves.{keeps, keeps_list, keeps_waits, closes_literal, closes_neutral, breaks_at, starts_so}
-use Rattle.py_lines.proofs.FieldScans.Steps.{Ready, follows_free, going, comes_closed}
+use Rattle.py_lines.proofs.FieldScans.Frames.{AreOpenAlike, frames_alike}
+use Rattle.py_lines.proofs.FieldScans.Moves.{keeps, keeps_list, keeps_waits, closes_literal, closes_neutral, breaks_at, meets, starts_so}
+use Rattle.py_lines.proofs.FieldScans.Steps.{Ready, follows_free, going, comes_closed, no_step}
 
 not_empty : (xs : List ℕ) (c : ℕ) → xs ++ c ∷ [] ≡ [] → ⊥
 not_empty [] c h = cc
@@ -62,16 +61,13 @@ feeds c is = subst (StartsSo c) is (begun_so.starts_so c)
 pub one_operator : (c : ℕ) → start_of c ≡ starts.Operator → 1 ≡ byte_len (c ∷ [])
 one_operator c is = sym (byte_len-one c ∙ len_utf8_ascii c (operator_ascii c (subst (StartsSo c) is (begun_so.starts_so c))))
 
--- the outermost string is open alone where no frame is
-pub outside_of : (old : FieldScan) (base : ℕ) (t : FieldScanned) → Follows old base t → length old.frames ≡ 0 → t.outer ≡ []
-outside_of old base t follow none = go old.frames follow.frames none
-  where
-    go : (fs : List Frame) → FramesFollow base t.outer t.done t.openers fs → length fs ≡ 0 → t.outer ≡ []
-    go [] frames empty = none_outside base t.outer t.done t.openers frames
-    go (f ∷ fs) frames empty = absurd (omega (arith, empty))
+-- the code meets the character as the machine does
+pub moves_so : (old : FieldScan) (base : ℕ) (t : FieldScanned) (c : ℕ) (v : FieldMove) → Follows old base t → v ≡ meets_field old.mode c → field_move t.mode t.held c ≡ v
+moves_so old base t c v follow is = sym (is ∙ meets old.mode t.held c (subst (λ (m : spots.FieldMode). HoldsCode m t.held) (sym follow.mode) follow.holds) ∙ ap (λ (m : spots.FieldMode). field_move m t.held c) follow.mode)
 
-pub within_of : (old : FieldScan) (base : ℕ) (t : FieldScanned) → Follows old base t → (length old.frames ≡ 0 → ⊥) → t.outer ≡ [] → ⊥
-within_of old base t follow some outside = some (none_in base t.outer t.done t.openers old.frames outside follow.frames)
+-- it may not stand there
+pub refused_there : (old : FieldScan) (base depth : ℕ) (t : FieldScanned) (c : ℕ) → field_move t.mode t.held c ≡ refused → ComesTo base depth t c old progress.Refused old
+refused_there old base depth t c is = no_step base depth t c refused is old refl
 
 module _ (old : FieldScan) (base depth : ℕ) (t : FieldScanned) (c place : ℕ) (follow : Follows old base t) (inside : IsInString t) (at : place ≡ base + here t) where
   -- the open piece grows

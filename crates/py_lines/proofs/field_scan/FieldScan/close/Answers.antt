@@ -3,16 +3,17 @@ use Rattle.std.proofs.lemmas.Bool.{eqb-true, both_ways, eq-eqb}
 use Rattle.py_lines.specs.declared.field_scan.FieldScan.{FieldScan}
 use Rattle.py_lines.specs.declared.field_scan.FieldProgress.TheVariants as progress
 use Rattle.py_lines.specs.Private.FieldScan.{ComesTo, freed_at}
-use Rattle.py_lines.proofs.FieldScans.Taking.{closed_in, closed_out, outside_of, within_of}
+use Rattle.py_lines.proofs.FieldScans.Frames.{none_in, none_outside}
+use Rattle.py_lines.proofs.FieldScans.Taking.{closed_in, closed_out}
 use Rattle.py_lines.proofs.field_scan.FieldScan.close.Goals as goal
 
 pub returns-then-is_empty-clause-takes : goal.returns-then-is_empty-clause-takes
 returns-then-is_empty-clause-takes c = λ depth base t follow inside at is.
     closed_out c.args.self.now base depth t c.args.c c.args.place follow inside at is
-    (outside_of c.args.self.now base t follow (eqb-true _ 0 (sym c.is_empty.ensures ∙ c.if-is_empty.true))) c.args.self.now
+    (none_outside base t.outer t.done t.openers c.args.self.now.frames follow.frames (eqb-true _ 0 (sym c.is_empty.ensures ∙ c.if-is_empty.true))) c.args.self.now
 
 pub returns-clause-takes : goal.returns-clause-takes
 returns-clause-takes c = λ depth base t follow inside at is.
     subst (λ (n : FieldScan). ComesTo base depth t c.args.c c.args.self.now progress.Going n) (ap (λ (k : ℕ). freed_at c.args.self.now (c.args.place + k)) (sym c.len_utf8.ensures.value) ∙ sym c.free.ensures)
     (closed_in c.args.self.now base depth t c.args.c c.args.place follow inside at is
-    (within_of c.args.self.now base t follow (λ none. both_ways _ c.if-is_empty.false (c.is_empty.ensures ∙ eq-eqb _ 0 none))))
+    (λ outside. both_ways _ c.if-is_empty.false (c.is_empty.ensures ∙ eq-eqb _ 0 (none_in base t.outer t.done t.openers c.args.self.now.frames outside follow.frames))))

@@ -3,9 +3,9 @@ use Rattle.py_lines.specs.declared.frames.Frame.{Frame}
 use Rattle.py_lines.specs.declared.frames.Frame.TheVariants as frame
 use Rattle.py_lines.specs.declared.field_scan.FieldScan.{FieldScan}
 use Rattle.py_lines.specs.declared.field_scan.FieldProgress.TheVariants as progress
-use Rattle.py_lines.specs.Private.FieldScan.{ComesTo, IsInPlace}
+use Rattle.py_lines.specs.Private.FieldScan.{ComesTo, IsInPlace, ended_in}
 use Rattle.py_lines.specs.Private.Frames.{IsInnermostFrame, StandsIn}
-use Rattle.py_lines.proofs.FieldScans.FieldAnswers.{ends_there}
+use Rattle.py_lines.proofs.FieldScans.FieldOpenings.{ends_there}
 use Rattle.py_lines.specs.Private.FieldMachine.{between}
 use Rattle.py_lines.specs.Private.ScanMachine.{host_in}
 use Rattle.py_lines.proofs.FieldScans.Places.{in_text}
@@ -16,9 +16,9 @@ returns-clause-takes c = λ character place depth base t f inside at is.
     let top : IsInnermostFrame (Some c.in-Some-Field.field-0) c.args.self.now.frames = c.in-Some-Field.ensures in
     let last : Frame = frame.Field c.in-Some-Field.field in
     let first : c.args.self.now.frames ≡ last ∷ top.0 = top.1 ∙ ap (λ (f : Frame). f ∷ top.0) c.in-Some-Field.field-0-is in
-    subst (λ (n : FieldScan). ComesTo base depth t character c.args.self.now progress.Going n) (sym c.resume.ensures)
-    (ends_there c.args.self.now (record c.args.self.now { frames = c.pop.new.self }) base depth character c.in-Some-Field.field
-    (first ∙ ap (λ (fs : List Frame). last ∷ fs) (sym (c.pop.ensures.rest ∙ ap (drop 1) first))) t f is)
+    subst (λ (n : FieldScan). ComesTo base depth t character c.args.self.now progress.Going n)
+    (sym (c.resume.ensures ∙ ap (λ (fs : List Frame). ended_in (record c.args.self.now { frames = fs }) c.in-Some-Field.field) (c.pop.ensures.rest ∙ ap (drop 1) first)))
+    (ends_there c.args.self.now base depth character c.in-Some-Field.field top.0 first t f is)
 
 pub returns-clause-placed : goal.returns-clause-placed
 returns-clause-placed c = λ old.

@@ -2,8 +2,7 @@ use Rattle.std.proofs.Common.{refl, sym, ap, ◌∙◌}
 use Rattle.py_lines.specs.Private.FieldMachine.{grows, closes, breaks, begins_code, opens_field, ends_field, refused}
 use Rattle.py_lines.specs.Private.FieldScan.{field_move_from, mode_from}
 use Rattle.py_lines.specs.Private.ScanMachine.{host_in}
-use Rattle.py_lines.proofs.FieldScans.Taking.{grown}
-use Rattle.py_lines.proofs.FieldScans.FieldAnswers.{moves_so, refused_there}
+use Rattle.py_lines.proofs.FieldScans.Taking.{grown, moves_so, refused_there}
 use Rattle.py_lines.proofs.FieldScans.Places.{moved_placed}
 use Rattle.py_lines.proofs.field_scan.FieldScan.push.Goals as goal
 

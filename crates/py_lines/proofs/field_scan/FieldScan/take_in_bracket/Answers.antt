@@ -1,33 +1,33 @@
-use Rattle.std.proofs.Common.{◌≡◌, [], ◌+◌, ◌∷◌, List, drop, sym, ap, ◌∙◌, subst}
+use Rattle.std.proofs.Common.{◌≡◌, [], ◌+◌, List, drop, sym, ap, ◌∙◌, subst}
 use Rattle.py_lines.specs.declared.field_scan.FieldScan.{FieldScan}
 use Rattle.py_lines.specs.declared.field_scan.FieldProgress.TheVariants as progress
 use Rattle.py_lines.specs.declared.frames.Frame.{Frame}
 use Rattle.py_lines.specs.declared.frames.Frame.TheVariants as frame
 use Rattle.py_lines.specs.Private.FieldScan.{ComesTo, IsInPlace, freed_at}
-use Rattle.py_lines.proofs.FieldScans.CodeOperators.{bracket_closes, bracket_wrong, bracket_passes}
+use Rattle.py_lines.proofs.FieldScans.Operators.{bracket_closes, bracket_wrong, bracket_passes}
 use Rattle.py_lines.proofs.FieldScans.Places.{some_open}
 use Rattle.py_lines.proofs.field_scan.FieldScan.take_in_bracket.Goals as goal
 use Rattle.py_lines.proofs.field_scan.FieldScan.take_in_bracket.Goals.{then-is_closing+else-c-closing_of, else-is_closing}
 
 pub returns-then-c-closing_of-clause-takes : goal.returns-then-c-closing_of-clause-takes
-returns-then-c-closing_of-clause-takes c = λ depth base t.
-    bracket_wrong c.args.self.now base depth c.args.c c.args.place c.requires.operator c.args.opener c.requires.innermost.0 c.requires.innermost.1
-    (sym c.is_closing.ensures ∙ c.if-is_closing.true) (λ like. c.if-c-closing_of.true (like ∙ sym c.closing_of.ensures)) t
+returns-then-c-closing_of-clause-takes c = λ depth base t follow inside at is.
+    let (spot, (others, top)) = c.requires.innermost in
+    bracket_wrong c.args.self.now base depth c.args.c c.args.place t follow inside at is c.requires.operator c.args.opener spot others top
+    (sym c.is_closing.ensures ∙ c.if-is_closing.true) (λ like. c.if-c-closing_of.true (like ∙ sym c.closing_of.ensures))
 
 pub returns-clause-takes : goal.returns-clause-takes
 returns-clause-takes c = λ depth base t follow inside at is.
+    let (spot, (others, top)) = c.requires.innermost in
     subst (λ (n : FieldScan). ComesTo base depth t c.args.c c.args.self.now progress.Going n) (sym c.free.ensures)
     (elim c.if-is_closing.branch [
       | then-is_closing+else-c-closing_of w ↦
-          let top = c.requires.innermost.1 in
-          let last : Frame = frame.Bracket c.args.opener c.requires.innermost.0 in
-          subst (λ (n : FieldScan). ComesTo base depth t c.args.c c.args.self.now progress.Going (freed_at n (c.args.place + 1))) (sym w.self-is)
-          (bracket_closes c.args.self.now base depth c.args.c c.args.place c.requires.operator c.args.opener c.requires.innermost.0 top (record c.args.self.now { frames = w.pop.new.self })
-          (top.1 ∙ ap (λ (fs : List Frame). last ∷ fs) (sym (w.pop.ensures.rest ∙ ap (drop 1) top.1)))
-          (sym c.is_closing.ensures ∙ w.if-is_closing.true) (w.if-c-closing_of.false ∙ w.closing_of.ensures) t follow inside at is)
+          subst (λ (n : FieldScan). ComesTo base depth t c.args.c c.args.self.now progress.Going (freed_at n (c.args.place + 1)))
+          (sym (w.self-is ∙ ap (λ (fs : List Frame). record c.args.self.now { frames = fs }) (w.pop.ensures.rest ∙ ap (drop 1) top)))
+          (bracket_closes c.args.self.now base depth c.args.c c.args.place t follow inside at is c.requires.operator c.args.opener spot others top
+          (sym c.is_closing.ensures ∙ w.if-is_closing.true) (w.if-c-closing_of.false ∙ w.closing_of.ensures))
       | else-is_closing w ↦
           subst (λ (n : FieldScan). ComesTo base depth t c.args.c c.args.self.now progress.Going (freed_at n (c.args.place + 1))) (sym w.self-is)
-          (bracket_passes c.args.self.now base depth c.args.c c.args.place c.requires.operator c.args.opener c.requires.innermost.0 c.requires.innermost.1 c.requires.other (sym c.is_closing.ensures ∙ w.if-is_closing.false) t follow inside at is)
+          (bracket_passes c.args.self.now base depth c.args.c c.args.place t follow inside at is c.requires.operator c.args.opener spot others top c.requires.other (sym c.is_closing.ensures ∙ w.if-is_closing.false))
     ])
 
 pub returns-clause-placed : goal.returns-clause-placed

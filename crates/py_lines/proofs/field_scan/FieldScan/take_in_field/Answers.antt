@@ -1,10 +1,10 @@
-use Rattle.std.proofs.Common.{◌∷◌, false, List, drop, sym, ap, ◌∙◌, subst}
+use Rattle.std.proofs.Common.{false, List, drop, sym, ap, ◌∙◌, subst}
 use Rattle.py_lines.specs.declared.field_scan.FieldScan.{FieldScan}
 use Rattle.py_lines.specs.declared.field_scan.FieldProgress.TheVariants as progress
 use Rattle.py_lines.specs.declared.frames.Frame.{Frame}
 use Rattle.py_lines.specs.declared.frames.Frame.TheVariants as frame
-use Rattle.py_lines.specs.Private.FieldScan.{ComesTo, IsInPlace}
-use Rattle.py_lines.proofs.FieldScans.CodeOperators.{field_ends, field_specifies, field_closes_none, field_passes}
+use Rattle.py_lines.specs.Private.FieldScan.{ComesTo, IsInPlace, ended_in}
+use Rattle.py_lines.proofs.FieldScans.Operators.{field_ends, field_specifies, field_closes_none, field_passes}
 use Rattle.py_lines.specs.Private.FieldMachine.{between}
 use Rattle.py_lines.specs.Private.Frames.{StandsIn}
 use Rattle.py_lines.specs.Private.ScanMachine.{host_in}
@@ -12,28 +12,26 @@ use Rattle.py_lines.proofs.FieldScans.Places.{in_text}
 use Rattle.py_lines.proofs.field_scan.FieldScan.take_in_field.Goals as goal
 
 pub returns-then-is_closing-clause-takes : goal.returns-then-is_closing-clause-takes
-returns-then-is_closing-clause-takes c = λ depth base t.
-    field_closes_none c.args.self.now base depth c.args.c c.args.place c.requires.operator c.args.field c.requires.innermost c.if-c-eq125.false c.if-c-eq58.false
-    (sym c.is_closing.ensures ∙ c.if-is_closing.true) t
+returns-then-is_closing-clause-takes c = λ depth base t follow inside at is.
+    field_closes_none c.args.self.now base depth c.args.c c.args.place t follow inside at is c.requires.operator c.args.field c.requires.innermost.0 c.requires.innermost.1
+    c.if-c-eq125.false c.if-c-eq58.false (sym c.is_closing.ensures ∙ c.if-is_closing.true)
 
 pub returns-then-c-eq125-clause-takes : goal.returns-then-c-eq125-clause-takes
 returns-then-c-eq125-clause-takes c = λ depth base t follow inside at is.
     let top = c.requires.innermost in
-    let last : Frame = frame.Field c.args.field in
-    subst (λ (n : FieldScan). ComesTo base depth t c.args.c c.args.self.now progress.Going n) (sym c.resume.ensures)
-    (field_ends c.args.self.now base depth c.args.c c.args.place c.requires.operator c.args.field top (record c.args.self.now { frames = c.pop.new.self })
-    (top.1 ∙ ap (λ (fs : List Frame). last ∷ fs) (sym (c.pop.ensures.rest ∙ ap (drop 1) top.1)))
-    c.if-c-eq125.true c.requires.other t follow inside at is)
+    subst (λ (n : FieldScan). ComesTo base depth t c.args.c c.args.self.now progress.Going n)
+    (sym (c.resume.ensures ∙ ap (λ (fs : List Frame). ended_in (record c.args.self.now { frames = fs }) c.args.field) (c.pop.ensures.rest ∙ ap (drop 1) top.1)))
+    (field_ends c.args.self.now base depth c.args.c c.args.place t follow inside at is c.requires.operator c.args.field top.0 top.1 c.if-c-eq125.true)
 
 pub returns-then-c-eq58-clause-takes : goal.returns-then-c-eq58-clause-takes
-returns-then-c-eq58-clause-takes c = λ depth base t.
-    field_specifies c.args.self.now base depth c.args.c c.args.place c.requires.operator c.args.field c.requires.innermost c.if-c-eq125.false c.if-c-eq58.true c.requires.other t
+returns-then-c-eq58-clause-takes c = λ depth base t follow inside at is.
+    field_specifies c.args.self.now base depth c.args.c c.args.place t follow inside at is c.requires.operator c.args.field c.requires.innermost.0 c.requires.innermost.1 c.if-c-eq125.false c.if-c-eq58.true
 
 pub returns-else-is_closing-clause-takes : goal.returns-else-is_closing-clause-takes
 returns-else-is_closing-clause-takes c = λ depth base t follow inside at is.
     subst (λ (n : FieldScan). ComesTo base depth t c.args.c c.args.self.now progress.Going n) (sym c.free.ensures)
-    (field_passes c.args.self.now base depth c.args.c c.args.place c.requires.operator c.args.field c.requires.innermost c.if-c-eq125.false c.if-c-eq58.false
-    c.requires.other (sym c.is_closing.ensures ∙ c.if-is_closing.false) t follow inside at is)
+    (field_passes c.args.self.now base depth c.args.c c.args.place t follow inside at is c.requires.operator c.args.field c.requires.innermost.0 c.requires.innermost.1
+    c.if-c-eq58.false c.requires.other (sym c.is_closing.ensures ∙ c.if-is_closing.false))
 
 pub returns-then-c-eq125-clause-placed : goal.returns-then-c-eq125-clause-placed
 returns-then-c-eq125-clause-placed c = λ old.
