@@ -28,7 +28,7 @@ use Rattle.py_lines.proofs.LineScan.LineCount.{byte_len-one}
 use Rattle.py_lines.proofs.FieldMachine.Runs.{stops-fresh}
 use Rattle.py_lines.proofs.FieldScans.FieldFaults.{below_so, open-length, waiting_place}
 use Rattle.py_lines.proofs.FieldScans.Frames.{innermost_field, field_opened}
-use Rattle.py_lines.proofs.FieldScans.Moves.{opens_specification, waits_literal}
+use Rattle.py_lines.proofs.FieldScans.Moves.{said}
 use Rattle.py_lines.proofs.FieldScans.Steps.{follows_free, going, keeps_open, no_room, no_step, some_level}
 use Rattle.py_lines.proofs.FieldScans.Operators.{other, resumed, wrong_in_field}
 
@@ -66,7 +66,7 @@ code_start t host = field_fresh (opened_level t (host_in host) literal t.held �
 -- the code of a field begins after its `{`
 module _ (old : FieldScan) (base depth c place : ℕ) (host : StringWithFields) (t : FieldScanned) (follow : Follows old base t) (at : place ≡ base + here t) (is : field_move t.mode t.held c ≡ begins_code (host_in host)) where
   waits : (named : Bool) × (t.mode ≡ body (host_in host) literal named after_brace)
-  waits = waits_literal t.mode t.held c (host_in host) follow.waits is
+  waits = said t.mode t.held c (begins_code (host_in host)) follow.holds follow.waits is
 
   abbrev L : Level
   L = opened_level t (host_in host) literal t.held
@@ -109,7 +109,7 @@ inner_field old host place = record { place = place; host = host; region = regio
 -- a field opens in a specification
 module _ (old : FieldScan) (base depth c place : ℕ) (host : StringWithFields) (t : FieldScanned) (follow : Follows old base t) (at : place ≡ base + here t) (is : field_move t.mode t.held c ≡ opens_field (host_in host)) where
   e : (part : At) × (t.mode ≡ body (host_in host) specification false part) × (c == byte "{" ≡ true)
-  e = opens_specification t.mode t.held c (host_in host) is
+  e = said t.mode t.held c (opens_field (host_in host)) follow.holds follow.waits is
 
   abbrev K : Level
   K = opened_level t (host_in host) specification (t.held ++ c ∷ [])

@@ -170,115 +170,110 @@ body_moved host place named between held c = between_moved host place named betw
 body_moved host place named after_one held c = between_moved host place named after_one after_one c
 body_moved host place named after_two held c = between_moved host place named after_two after_two c
 
--- what holds of all that a character may do in a mode: it begins a string with fields, or goes on with its first quotes, or does
--- what the machine without fields says, or what it does in such a string
-abbrev EachMove : (FieldMove → Type 0) → spots.FieldMode → List ℕ → ℕ → Type 0
-EachMove P (plain m) held c = P (grows (opened (host_of held c))) × P (plain_move (move_of m c))
-EachMove P (opened host) held c = P (grows (empty host)) × ((v : FieldMove) → BodyMoved host literal false between c v → P v)
-EachMove P (empty host) held c = P (grows (body (long_host host) literal false between)) × P breaks
-EachMove P (body host place named at) held c = (v : FieldMove) → BodyMoved host place named at c v → P v
+-- a piece that grows stays where it is, its text stays as its mode has it, and no `{` waits in a specification
+pub record GrowsTo (m n : spots.FieldMode) (text : List ℕ) : Type 0 where
+  pub place : text_place n ≡ text_place m
+  pub holds : HoldsCode n text
+  pub body_stays : IsBodyMode m → IsBodyMode n
+  pub waits : WaitsInLiteral n
 
--- holds of what it does
-by_each : (P : FieldMove → Type 0) (m : spots.FieldMode) (held : List ℕ) (c : ℕ) → EachMove P m held c → P (field_move m held c)
-unfolding field_move body_move
-by_each P (plain m) held c each = cond_both (begins_host m held c) (grows (opened (host_of held c))) (plain_move (move_of m c)) P (λ h. each.0) (λ h. each.1)
-by_each P (opened host) held c each =
-    cond_both (c == host.quote) (grows (empty host)) (between_move host literal false between c) P
-    (λ h. each.0) (λ h. each.1 (between_move host literal false between c) (between_moved host literal false between between c))
-by_each P (empty host) held c each = cond_both (c == host.quote) (grows (body (long_host host) literal false between)) breaks P (λ h. each.0) (λ h. each.1)
-by_each P (body host place named at) held c each = each (field_move (body host place named at) held c) (body_moved host place named at held c)
+-- these pieces leave the brackets open that were
+abbrev KeepsOpen : (List Piece → List Piece) → Type 0
+KeepsOpen after = (done : List Piece) (st : List Bracket) → brackets_of done ≡ Some st → brackets_of (after done) ≡ Some st
 
--- what each move says of the open piece and its text
-abbrev pub KeptBy : spots.FieldMode → List ℕ → ℕ → FieldMove → Type 0
-KeptBy m held c (grows n) = (text_place n ≡ text_place m) × HoldsCode n (held ++ c ∷ []) × (IsBodyMode m → IsBodyMode n)
-KeptBy m held c other = Unit {0}
+-- a piece that ends before a character
+pub record EndsBefore (m : spots.FieldMode) (held : List ℕ) : Type 0 where
+  pub place : text_place m ≡ literal
+  pub spells : (done : List Piece) → spelled (field_closed m done held) ≡ spelled done ++ held
+  pub neutral : KeepsOpen (λ done. field_closed m done held)
+  pub no_body : IsBodyMode m → ⊥
 
-body_kept : (host : Host) (place : Place) (named : Bool) (at : At) (held : List ℕ) (c : ℕ) (v : FieldMove) → BodyMoved host place named at c v → KeptBy (body host place named at) held c v
-body_kept host place named at held c (grows n) (b, a, is, fit) =
-    subst (λ (x : spots.FieldMode). KeptBy (body host place named at) held c (grows x)) (sym is) (refl, tt, λ own. (host, place, b, a, refl))
-body_kept host place named at held c v h = tt
+-- what each move says of the open piece: what closes it closes a string's text, or code; and a field begins, opens or ends in a
+-- string, and opens in a specification by a `{`
+abbrev pub Says : spots.FieldMode → List ℕ → ℕ → FieldMove → Type 0
+Says m held c (grows n) = GrowsTo m n (held ++ c ∷ [])
+Says m held c closes = (text_place m ≡ literal) × KeepsOpen (λ done. done ++ record { class = field_class_of m; text = held ++ c ∷ [] } ∷ [])
+Says m held c breaks = EndsBefore m held
+Says m held c (begins_code h) = (named : Bool) × (m ≡ body h literal named after_brace)
+Says m held c (opens_field h) = (at : At) × (m ≡ body h specification false at) × (c == byte "{" ≡ true)
+Says m held c ends_field = Unit {0}
+Says m held c refused = Unit {0}
 
-opened_kept : (host : Host) (held : List ℕ) (c : ℕ) (v : FieldMove) → BodyMoved host literal false between c v → KeptBy (opened host) held c v
-opened_kept host held c (grows n) (b, a, is, fit) =
-    subst (λ (x : spots.FieldMode). KeptBy (opened host) held c (grows x)) (sym is) (refl, tt, λ own. (host, literal, b, a, refl))
-opened_kept host held c v h = tt
+string_neutral : (text : List ℕ) → KeepsOpen (λ done. done ++ piece string text ∷ [])
+string_neutral text done st stack = live.keeps done (piece string text) st refl refl stack
 
-plain_no_body : (m : Mode) (n : spots.FieldMode) → IsBodyMode (plain m) → IsBodyMode n
-plain_no_body m n (host, place, named, at, is) = absurd (cc)
+body_waits : (host : Host) (place : Place) (b : Bool) (a : At) → (place ≡ specification → is_after_brace a ≡ false) → WaitsInLiteral (body host place b a)
+body_waits host literal b a fit = tt
+body_waits host specification b a fit = fit refl
 
-plain_kept : (m : Mode) (held : List ℕ) (c : ℕ) (v : Move) → MoveHolds m held c v → KeptBy (plain m) held c (plain_move v)
-plain_kept m held c (moves.Grows n) holds = (refl, holds, plain_no_body m (plain n))
-plain_kept m held c moves.Closes holds = tt
-plain_kept m held c moves.Breaks holds = tt
-plain_kept m held c moves.Refused holds = tt
+waiting_in : (host : Host) (place : Place) (named : Bool) → WaitsInLiteral (body host place named after_brace) → (own : Bool) × (body host place named after_brace ≡ body host literal own after_brace)
+waiting_in host literal named waits = (named, refl)
+waiting_in host specification named waits = absurd (both_ways _ waits refl)
 
-empty_kept : (host : Host) (held : List ℕ) (c : ℕ) → KeptBy (empty host) held c (grows (body (long_host host) literal false between))
-empty_kept host held c = (refl, tt, λ own. (long_host host, literal, false, between, refl))
-
-opened_again : (host : Host) (held : List ℕ) (c : ℕ) → KeptBy (opened host) held c (grows (empty host))
-opened_again host held c = (refl, tt, no_body)
-  where
-    no_body : IsBodyMode (opened host) → IsBodyMode (empty host)
-    no_body (h, place, named, at, is) = absurd (cc)
-
-pub kept_by : (m : spots.FieldMode) (held : List ℕ) (c : ℕ) → HoldsCode m held → KeptBy m held c (field_move m held c)
-kept_by (plain m) held c holds = by_each (KeptBy (plain m) held c) (plain m) held c ((refl, tt, plain_no_body m (opened (host_of held c))), plain_kept m held c (move_of m c) (move_holds m held c holds))
-kept_by (opened host) held c holds = by_each (KeptBy (opened host) held c) (opened host) held c (opened_again host held c, opened_kept host held c)
-kept_by (empty host) held c holds = by_each (KeptBy (empty host) held c) (empty host) held c (empty_kept host held c, tt)
-kept_by (body host place named at) held c holds = by_each (KeptBy (body host place named at) held c) (body host place named at) held c (body_kept host place named at held c)
-
--- a piece that grows stays where it is, and its text stays as its mode has it
-pub keeps : (m n : spots.FieldMode) (held : List ℕ) (c : ℕ) → HoldsCode m held → field_move m held c ≡ grows n → (text_place n ≡ text_place m) × HoldsCode n (held ++ c ∷ []) × (IsBodyMode m → IsBodyMode n)
-keeps m n held c holds is = subst (KeptBy m held c) is (kept_by m held c holds)
-
--- what each move says of the mode, whatever its text is: what goes on stays in its place, and a field begins, opens or ends in it
-abbrev TellsOf : spots.FieldMode → ℕ → FieldMove → Type 0
-TellsOf m c (grows n) = text_place n ≡ text_place m
-TellsOf m c (begins_code h) = (place : Place) × (named : Bool) × (m ≡ body h place named after_brace)
-TellsOf m c (opens_field h) = (at : At) × (m ≡ body h specification false at) × (c == byte "{" ≡ true)
-TellsOf m c ends_field = (host : Host) × (at : At) × (m ≡ body host specification false at)
-TellsOf m c other = Unit {0}
-
-body_tells : (host : Host) (place : Place) (named : Bool) (at : At) (c : ℕ) (v : FieldMove) → BodyMoved host place named at c v → TellsOf (body host place named at) c v
-body_tells host place named at c (grows n) (b, a, is, fit) = ap text_place is
-body_tells host place named at c (begins_code h) (same, is) = (place, named, ap (λ (x : Host). body x place named at) (sym same) ∙ ap (body h place named) is)
-body_tells host place named at c (opens_field h) (same, is, none, brace) =
+body_says : (host : Host) (place : Place) (named : Bool) (at : At) (held : List ℕ) (c : ℕ) (v : FieldMove) → WaitsInLiteral (body host place named at) → BodyMoved host place named at c v → Says (body host place named at) held c v
+body_says host place named at held c (grows n) waits (b, a, is, fit) =
+    subst (λ (x : spots.FieldMode). GrowsTo (body host place named at) x (held ++ c ∷ [])) (sym is) (record { place = refl; holds = tt; body_stays = λ own. (host, place, b, a, refl); waits = body_waits host place b a fit })
+body_says host place named at held c closes waits is = (is, string_neutral (held ++ c ∷ []))
+body_says host place named at held c breaks waits none = absurd none
+body_says host place named at held c (begins_code h) waits (same, is) =
+    let (own, there) = waiting_in host place named (subst (λ (a : At). WaitsInLiteral (body host place named a)) is waits) in
+    (own, ap (body host place named) is ∙ there ∙ ap (λ (x : Host). body x literal own after_brace) (sym same))
+body_says host place named at held c (opens_field h) waits (same, is, none, brace) =
     (at, ap (λ (x : Host). body x place named at) (sym same) ∙ ap (λ (p : Place). body h p named at) is ∙ ap (λ (b : Bool). body h specification b at) none, brace)
-body_tells host place named at c ends_field (is, none) = (host, at, ap (λ (p : Place). body host p named at) is ∙ ap (λ (b : Bool). body host specification b at) none)
-body_tells host place named at c v h = tt
+body_says host place named at held c ends_field waits h = tt
+body_says host place named at held c refused waits h = tt
 
--- the first character after one quote begins, opens and ends no field
-opened_tells : (host : Host) (c : ℕ) (v : FieldMove) → BodyMoved host literal false between c v → TellsOf (opened host) c v
-opened_tells host c (grows n) (b, a, is, fit) = ap text_place is
-opened_tells host c (begins_code h) (same, is) = absurd (cc)
-opened_tells host c (opens_field h) (same, is, none, brace) = absurd (cc)
-opened_tells host c ends_field (is, none) = absurd (cc)
-opened_tells host c v h = tt
+-- the first character after one quote begins and opens no field
+opened_says : (host : Host) (held : List ℕ) (c : ℕ) (v : FieldMove) → BodyMoved host literal false between c v → Says (opened host) held c v
+opened_says host held c (grows n) (b, a, is, fit) =
+    subst (λ (x : spots.FieldMode). GrowsTo (opened host) x (held ++ c ∷ [])) (sym is) (record { place = refl; holds = tt; body_stays = λ own. (host, literal, b, a, refl); waits = tt })
+opened_says host held c closes is = (refl, string_neutral (held ++ c ∷ []))
+opened_says host held c breaks none = absurd none
+opened_says host held c (begins_code h) (same, is) = absurd (cc)
+opened_says host held c (opens_field h) (same, is, none, brace) = absurd (cc)
+opened_says host held c ends_field h = tt
+opened_says host held c refused h = tt
 
-plain_tells : (m : Mode) (c : ℕ) (v : Move) → TellsOf (plain m) c (plain_move v)
-plain_tells m c (moves.Grows n) = refl
-plain_tells m c moves.Closes = tt
-plain_tells m c moves.Breaks = tt
-plain_tells m c moves.Refused = tt
+nothing_held : (done : List Piece) (held : List ℕ) → held ≡ [] → spelled done ≡ spelled done ++ held
+nothing_held done held is = sym (append-nil (spelled done)) ∙ ap (λ t. spelled done ++ t) (sym is)
 
-tells : (m : spots.FieldMode) (held : List ℕ) (c : ℕ) → TellsOf m c (field_move m held c)
-tells (plain m) held c = by_each (TellsOf (plain m) c) (plain m) held c (refl, plain_tells m c (move_of m c))
-tells (opened host) held c = by_each (TellsOf (opened host) c) (opened host) held c (refl, opened_tells host c)
-tells (empty host) held c = by_each (TellsOf (empty host) c) (empty host) held c (refl, tt)
-tells (body host place named at) held c = by_each (TellsOf (body host place named at) c) (body host place named at) held c (body_tells host place named at c)
+closed_spells : (m : Mode) (held : List ℕ) → Holds m [] held → (done : List Piece) → spelled (closed m done held) ≡ spelled done ++ held
+closed_spells modes.Start held holds done = nothing_held done held holds.1
+closed_spells modes.Free held holds done = nothing_held done held holds
+closed_spells m held holds done = spelled-push done (class_of m) held
 
-pub waits_after : (m : spots.FieldMode) (held : List ℕ) (c : ℕ) (host : Host) → field_move m held c ≡ begins_code host → (place : Place) × (named : Bool) × (m ≡ body host place named after_brace)
-waits_after m held c host is = subst (TellsOf m c) is (tells m held c)
+no_body : (m n : spots.FieldMode) → ((host : Host) (place : Place) (named : Bool) (at : At) → m ≡ body host place named at → ⊥) → IsBodyMode m → IsBodyMode n
+no_body m n other (host, place, named, at, is) = absurd (other host place named at is)
 
--- only a `{` opens a field in a specification
-pub opens_specification : (m : spots.FieldMode) (held : List ℕ) (c : ℕ) (host : Host) → field_move m held c ≡ opens_field host → (at : At) × (m ≡ body host specification false at) × (c == byte "{" ≡ true)
-opens_specification m held c host is = subst (TellsOf m c) is (tells m held c)
+plain_says : (m : Mode) (held : List ℕ) (c : ℕ) (v : Move) → move_of m c ≡ v → Holds m [] held → MoveHolds m held c v → Says (plain m) held c (plain_move v)
+plain_says m held c (moves.Grows n) is own holds = record { place = refl; holds = holds; body_stays = no_body (plain m) (plain n) (λ host place named at e. cc); waits = tt }
+plain_says m held c moves.Closes is own holds =
+    let neutral = closing_neutral m (held ++ c ∷ []) c is in
+    (refl, λ done st stack. live.keeps done (piece (class_of m) (held ++ c ∷ [])) st neutral.0 neutral.1 stack)
+plain_says m held c moves.Breaks is own holds = record { place = refl; spells = closed_spells m held own; neutral = λ done st stack. live.stack_closed m done held st stack; no_body = λ (host, place, named, at, e). cc }
+plain_says m held c moves.Refused is own holds = tt
 
-pub ends_specification : (m : spots.FieldMode) (held : List ℕ) (c : ℕ) → field_move m held c ≡ ends_field → (host : Host) × (at : At) × (m ≡ body host specification false at)
-ends_specification m held c is = subst (TellsOf m c) is (tells m held c)
+says : (m : spots.FieldMode) (held : List ℕ) (c : ℕ) → HoldsCode m held → WaitsInLiteral m → Says m held c (field_move m held c)
+unfolding field_move body_move
+says (plain m) held c holds waits =
+    cond_both (begins_host m held c) (grows (opened (host_of held c))) (plain_move (move_of m c)) (Says (plain m) held c)
+    (λ h. record { place = refl; holds = tt; body_stays = no_body (plain m) (opened (host_of held c)) (λ host place named at e. cc); waits = tt })
+    (λ h. plain_says m held c (move_of m c) refl holds (move_holds m held c holds))
+says (opened host) held c holds waits =
+    cond_both (c == host.quote) (grows (empty host)) (between_move host literal false between c) (Says (opened host) held c)
+    (λ h. record { place = refl; holds = tt; body_stays = no_body (opened host) (empty host) (λ host place named at e. cc); waits = tt })
+    (λ h. opened_says host held c (between_move host literal false between c) (between_moved host literal false between between c))
+says (empty host) held c holds waits =
+    cond_both (c == host.quote) (grows (body (long_host host) literal false between)) breaks (Says (empty host) held c)
+    (λ h. record { place = refl; holds = tt; body_stays = λ own. (long_host host, literal, false, between, refl); waits = tt })
+    (λ h. record { place = refl; spells = λ done. spelled-push done string held; neutral = string_neutral held; no_body = λ (host, place, named, at, e). cc })
+says (body host place named at) held c holds waits = body_says host place named at held c _ waits (body_moved host place named at held c)
+
+pub said : (m : spots.FieldMode) (held : List ℕ) (c : ℕ) (v : FieldMove) → HoldsCode m held → WaitsInLiteral m → field_move m held c ≡ v → Says m held c v
+said m held c v holds waits is = subst (Says m held c) is (says m held c holds waits)
 
 -- no list stands in a specification that goes on
-list_at : (m n : spots.FieldMode) (done : List Piece) (openers : List ℕ) → text_place n ≡ text_place m → HasNoList m done openers → HasNoList n done openers
+pub list_at : (m n : spots.FieldMode) (done : List Piece) (openers : List ℕ) → text_place n ≡ text_place m → HasNoList m done openers → HasNoList n done openers
 list_at (body h specification b a) (body host specification named at) done openers same none = none
 list_at (body h literal b a) (body host specification named at) done openers same none = absurd (cc)
 list_at (plain m) (body host specification named at) done openers same none = absurd (cc)
@@ -289,91 +284,6 @@ list_at m (plain n) done openers same none = tt
 list_at m (opened host) done openers same none = tt
 list_at m (empty host) done openers same none = tt
 
-pub keeps_list : (m n : spots.FieldMode) (held : List ℕ) (c : ℕ) (done : List Piece) (openers : List ℕ) → HasNoList m done openers → field_move m held c ≡ grows n → HasNoList n done openers
-keeps_list m n held c done openers none is = list_at m n done openers (subst (TellsOf m c) is (tells m held c)) none
-
--- a piece that ends before a character
-abbrev EndsBefore : spots.FieldMode → List ℕ → Type 0
-EndsBefore m held =
-    (text_place m ≡ literal) × ((done : List Piece) → spelled (field_closed m done held) ≡ spelled done ++ held)
-    × ((done : List Piece) (st : List Bracket) → brackets_of done ≡ Some st → brackets_of (field_closed m done held) ≡ Some st)
-    × (IsBodyMode m → ⊥)
-
-abbrev BreaksAt : spots.FieldMode → List ℕ → FieldMove → Type 0
-BreaksAt m held breaks = EndsBefore m held
-BreaksAt m held other = Unit {0}
-
-no_body-plain : (m : Mode) → IsBodyMode (plain m) → ⊥
-no_body-plain m (host, place, named, at, is) = cc
-
-no_body-empty : (h : Host) → IsBodyMode (empty h) → ⊥
-no_body-empty h (host, place, named, at, is) = cc
-
-nothing_held : (done : List Piece) (held : List ℕ) → held ≡ [] → spelled done ≡ spelled done ++ held
-nothing_held done held is = sym (append-nil (spelled done)) ∙ ap (λ t. spelled done ++ t) (sym is)
-
-closed_spells : (m : Mode) (held : List ℕ) → Holds m [] held → (done : List Piece) → spelled (closed m done held) ≡ spelled done ++ held
-closed_spells modes.Start held holds done = nothing_held done held holds.1
-closed_spells modes.Free held holds done = nothing_held done held holds
-closed_spells m held holds done = spelled-push done (class_of m) held
-
-plain_breaks : (m : Mode) (held : List ℕ) → Holds m [] held → (v : Move) → BreaksAt (plain m) held (plain_move v)
-plain_breaks m held holds (moves.Grows n) = tt
-plain_breaks m held holds moves.Closes = tt
-plain_breaks m held holds moves.Breaks = (refl, closed_spells m held holds, λ done st stack. live.stack_closed m done held st stack, no_body-plain m)
-plain_breaks m held holds moves.Refused = tt
-
-body_breaks : (m : spots.FieldMode) (held : List ℕ) (host : Host) (place : Place) (named : Bool) (at : At) (c : ℕ) (v : FieldMove) → BodyMoved host place named at c v → BreaksAt m held v
-body_breaks m held host place named at c breaks h = absurd h
-body_breaks m held host place named at c v h = tt
-
-breaks_by : (m : spots.FieldMode) (held : List ℕ) (c : ℕ) → HoldsCode m held → BreaksAt m held (field_move m held c)
-breaks_by (plain m) held c holds = by_each (BreaksAt (plain m) held) (plain m) held c (tt, plain_breaks m held holds (move_of m c))
-breaks_by (opened host) held c holds = by_each (BreaksAt (opened host) held) (opened host) held c (tt, body_breaks (opened host) held host literal false between c)
-breaks_by (empty host) held c holds =
-    by_each (BreaksAt (empty host) held) (empty host) held c (tt, (refl, λ done. spelled-push done string held, λ done st stack. live.keeps done (piece string held) st refl refl stack, no_body-empty host))
-breaks_by (body host place named at) held c holds = by_each (BreaksAt (body host place named at) held) (body host place named at) held c (body_breaks (body host place named at) held host place named at c)
-
-pub breaks_at : (m : spots.FieldMode) (held : List ℕ) (c : ℕ) → HoldsCode m held → field_move m held c ≡ breaks → (text_place m ≡ literal) × ((done : List Piece) → spelled (field_closed m done held) ≡ spelled done ++ held) × ((done : List Piece) (st : List Bracket) → brackets_of done ≡ Some st → brackets_of (field_closed m done held) ≡ Some st) × (IsBodyMode m → ⊥)
-breaks_at m held c holds is = subst (BreaksAt m held) is (breaks_by m held c holds)
-
--- a piece that a character closes: a string's text, or code
-abbrev ClosesBy : spots.FieldMode → List ℕ → ℕ → FieldMove → Type 0
-ClosesBy m held c closes =
-    (text_place m ≡ literal) × ((done : List Piece) (st : List Bracket) → brackets_of done ≡ Some st → brackets_of (done ++ record { class = field_class_of m; text = held ++ c ∷ [] } ∷ []) ≡ Some st)
-ClosesBy m held c other = Unit {0}
-
-plain_closes : (m : Mode) (held : List ℕ) (c : ℕ) (v : Move) → move_of m c ≡ v → ClosesBy (plain m) held c (plain_move v)
-plain_closes m held c (moves.Grows n) is = tt
-plain_closes m held c moves.Closes is =
-    let neutral = closing_neutral m (held ++ c ∷ []) c is in
-    (refl, λ done st stack. live.keeps done (piece (class_of m) (held ++ c ∷ [])) st neutral.0 neutral.1 stack)
-plain_closes m held c moves.Breaks is = tt
-plain_closes m held c moves.Refused is = tt
-
-text_closes : (m : spots.FieldMode) (held : List ℕ) (c : ℕ) (host : Host) (place : Place) (named : Bool) (at : At) → field_class_of m ≡ string → text_place m ≡ place → (v : FieldMove) → BodyMoved host place named at c v → ClosesBy m held c v
-text_closes m held c host place named at class same closes h = (
-  same ∙ h,
-  λ done st stack. ap (λ k. brackets_of (done ++ piece k (held ++ c ∷ []) ∷ [])) class ∙ live.keeps done (piece string (held ++ c ∷ [])) st refl refl stack,
-)
-text_closes m held c host place named at class same v h = tt
-
-closes_by : (m : spots.FieldMode) (held : List ℕ) (c : ℕ) → ClosesBy m held c (field_move m held c)
-closes_by (plain m) held c = by_each (ClosesBy (plain m) held c) (plain m) held c (tt, plain_closes m held c (move_of m c) refl)
-closes_by (opened host) held c = by_each (ClosesBy (opened host) held c) (opened host) held c (tt, text_closes (opened host) held c host literal false between refl refl)
-closes_by (empty host) held c = by_each (ClosesBy (empty host) held c) (empty host) held c (tt, tt)
-closes_by (body host place named at) held c = by_each (ClosesBy (body host place named at) held c) (body host place named at) held c (text_closes (body host place named at) held c host place named at refl refl)
-
-pub closes_neutral : (m : spots.FieldMode) (held : List ℕ) (c : ℕ) → field_move m held c ≡ closes → (done : List Piece) (st : List Bracket) → brackets_of done ≡ Some st → brackets_of (done ++ record { class = field_class_of m; text = held ++ c ∷ [] } ∷ []) ≡ Some st
-closes_neutral m held c is done st stack =
-    let both : ClosesBy m held c closes = subst (ClosesBy m held c) is (closes_by m held c) in
-    both.1 done st stack
-
-pub closes_literal : (m : spots.FieldMode) (held : List ℕ) (c : ℕ) → field_move m held c ≡ closes → text_place m ≡ literal
-closes_literal m held c is =
-    let both : ClosesBy m held c closes = subst (ClosesBy m held c) is (closes_by m held c) in
-    both.0
-
 -- the piece that a character begins
 begun_plain : (c : ℕ) (m : Mode) → begun.StartsSo c (starts.Open m) → code_mode m ≡ plain m
 begun_plain c (modes.FieldOpened h) so = absurd so
@@ -382,48 +292,3 @@ begun_plain c m so = refl
 
 pub starts_so : (c : ℕ) (m : Mode) → start_of c ≡ starts.Open m → HoldsCode (plain m) (c ∷ []) × (code_mode m ≡ plain m)
 starts_so c m is = (subst (StartHolds c) is (start_holds c), begun_plain c m (subst (begun.StartsSo c) is (begun.starts_so c)))
-
--- in a specification no `{` waits for the next character, and that stays so
-literal_waits : (m : spots.FieldMode) → text_place m ≡ literal → WaitsInLiteral m
-literal_waits (body host specification named at) is = absurd (cc)
-literal_waits (body host literal named at) is = tt
-literal_waits (plain m) is = tt
-literal_waits (opened host) is = tt
-literal_waits (empty host) is = tt
-
-abbrev WaitsBy : FieldMove → Type 0
-WaitsBy (grows n) = WaitsInLiteral n
-WaitsBy other = Unit {0}
-
-body_waits : (host : Host) (place : Place) (b : Bool) (a : At) → (place ≡ specification → is_after_brace a ≡ false) → WaitsInLiteral (body host place b a)
-body_waits host literal b a fit = tt
-body_waits host specification b a fit = fit refl
-
-moved_waits : (host : Host) (place : Place) (named : Bool) (at : At) (c : ℕ) (v : FieldMove) → BodyMoved host place named at c v → WaitsBy v
-moved_waits host place named at c (grows n) (b, a, is, fit) = subst WaitsInLiteral (sym is) (body_waits host place b a fit)
-moved_waits host place named at c v h = tt
-
-placed_waits : (m : spots.FieldMode) (c : ℕ) (v : FieldMove) → text_place m ≡ literal → TellsOf m c v → WaitsBy v
-placed_waits m c (grows n) is same = literal_waits n (same ∙ is)
-placed_waits m c v is same = tt
-
-waits_by : (m : spots.FieldMode) (held : List ℕ) (c : ℕ) → WaitsBy (field_move m held c)
-waits_by (body host place named at) held c = moved_waits host place named at c (field_move (body host place named at) held c) (body_moved host place named at held c)
-waits_by (plain m) held c = placed_waits (plain m) c (field_move (plain m) held c) refl (tells (plain m) held c)
-waits_by (opened host) held c = placed_waits (opened host) c (field_move (opened host) held c) refl (tells (opened host) held c)
-waits_by (empty host) held c = placed_waits (empty host) c (field_move (empty host) held c) refl (tells (empty host) held c)
-
-pub keeps_waits : (m n : spots.FieldMode) (held : List ℕ) (c : ℕ) → field_move m held c ≡ grows n → WaitsInLiteral n
-keeps_waits m n held c is = subst WaitsBy is (waits_by m held c)
-
--- so where a `{` waits, it stands in a literal part
-waiting_in : (m : spots.FieldMode) (host : Host) (place : Place) (named : Bool) → WaitsInLiteral m → m ≡ body host place named after_brace → (own : Bool) × (m ≡ body host literal own after_brace)
-waiting_in m host literal named waits is = (named, is)
-waiting_in m host specification named waits is =
-    let there : true ≡ false = subst WaitsInLiteral is waits in
-    absurd (both_ways _ there refl)
-
-pub waits_literal : (m : spots.FieldMode) (held : List ℕ) (c : ℕ) (host : Host) → WaitsInLiteral m → field_move m held c ≡ begins_code host → (named : Bool) × (m ≡ body host literal named after_brace)
-waits_literal m held c host waits is =
-    let at = waits_after m held c host is in
-    waiting_in m host at.0 at.1 waits at.2

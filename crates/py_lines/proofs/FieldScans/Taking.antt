@@ -29,7 +29,7 @@ use Rattle.py_lines.proofs.Machine.Starts as begun_so
 use Rattle.py_lines.proofs.Machine.Starts.{StartsSo}
 use Rattle.py_lines.proofs.ScanMachine.Follows.{room_grows, room_closes, opens_no}
 use Rattle.py_lines.proofs.FieldScans.Frames.{AreOpenAlike, frames_alike}
-use Rattle.py_lines.proofs.FieldScans.Moves.{keeps, keeps_list, keeps_waits, closes_literal, closes_neutral, breaks_at, meets, starts_so}
+use Rattle.py_lines.proofs.FieldScans.Moves.{list_at, meets, said, starts_so}
 use Rattle.py_lines.proofs.FieldScans.Steps.{Ready, follows_free, going, comes_closed, no_step}
 
 not_empty : (xs : List ℕ) (c : ℕ) → xs ++ c ∷ [] ≡ [] → ⊥
@@ -73,31 +73,32 @@ module _ (old : FieldScan) (base depth : ℕ) (t : FieldScanned) (c place : ℕ)
   -- the open piece grows
   pub grown : (code : FieldMode) (m : spots.FieldMode) → field_move t.mode t.held c ≡ grows m → mode_from code ≡ m → ComesTo base depth t c old progress.Going (record old { mode = code })
   grown code m is same =
-      let k = keeps t.mode m t.held c follow.holds is in
+      let k = said t.mode t.held c (grows m) follow.holds follow.waits is in
       going base depth t c (grows m) is old (record old { mode = code }) (field_state t.outer t.done t.openers m (t.held ++ c ∷ []))
-      (room_grows (depth + frames t) c m) refl (λ none other. absurd (cc)) (λ none. k.2 (inside none))
+      (room_grows (depth + frames t) c m) refl (λ none other. absurd (cc)) (λ none. k.body_stays (inside none))
       (record {
         mode = same;
-        holds = k.1;
-        no_list = keeps_list t.mode m t.held c t.done t.openers follow.no_list is;
-        waits = keeps_waits t.mode m t.held c is;
+        holds = k.holds;
+        no_list = list_at t.mode m t.done t.openers k.place follow.no_list;
+        waits = k.waits;
         full = λ w none. not_empty t.held c none;
-        start = follow.start ∙ ap (λ p. base + byte_len (before p t.outer ++ spelled t.done)) (sym k.0);
+        start = follow.start ∙ ap (λ p. base + byte_len (before p t.outer ++ spelled t.done)) (sym k.place);
         frames = follow.frames;
       })
 
   -- it closes, in a field's code
   pub closed_in : field_move t.mode t.held c ≡ closes → (t.outer ≡ [] → ⊥) → ComesTo base depth t c old progress.Going (freed_at old (place + len_utf8 c))
   closed_in is within =
+      let shut = said t.mode t.held c closes follow.holds follow.waits is in
       let done : List Piece = t.done ++ piece (field_class_of t.mode) (t.held ++ c ∷ []) ∷ [] in
       let text : List ℕ = before literal t.outer ++ (spelled t.done ++ t.held) in
-      let stands : place ≡ base + byte_len text = at ∙ ap (λ p. base + byte_len (before p t.outer ++ (spelled t.done ++ t.held))) (closes_literal t.mode t.held c is) in
+      let stands : place ≡ base + byte_len text = at ∙ ap (λ p. base + byte_len (before p t.outer ++ (spelled t.done ++ t.held))) shut.0 in
       let written : text ++ c ∷ [] ≡ before literal t.outer ++ spelled done = append_assoc (before literal t.outer) (spelled t.done ++ t.held) (c ∷ []) ∙ ap (λ x. before literal t.outer ++ x) (append_assoc (spelled t.done) t.held (c ∷ []) ∙ sym (spelled-push t.done (field_class_of t.mode) (t.held ++ c ∷ []))) in
       going base depth t c closes is old (freed_at old (place + len_utf8 c)) (field_fresh t.outer done t.openers)
       (room_closes (depth + frames t) c) refl (λ none other. within none) (λ none. absurd (within none))
       (follows_free old base t.outer done t.openers (place + len_utf8 c)
       (record {
-        follow = frames_alike base t.outer t.done done t.openers old.frames (λ st stacked. closes_neutral t.mode t.held c is t.done st stacked) follow.frames;
+        follow = frames_alike base t.outer t.done done t.openers old.frames (shut.1 t.done) follow.frames;
         at = place_after base place c text stands ∙ ap (λ x. base + byte_len x) written;
       }))
 
@@ -112,12 +113,12 @@ module _ (old : FieldScan) (base depth : ℕ) (t : FieldScanned) (c place : ℕ)
 
   pub broken : field_move t.mode t.held c ≡ breaks → Broken
   broken is =
-      let b = breaks_at t.mode t.held c follow.holds is in
+      let b = said t.mode t.held c breaks follow.holds follow.waits is in
       record {
-        within = λ none. b.3 (inside none);
+        within = λ none. b.no_body (inside none);
         ready = record {
-          follow = frames_alike base t.outer t.done (field_closed t.mode t.done t.held) t.openers old.frames (λ st stacked. b.2 t.done st stacked) follow.frames;
-          at = at ∙ ap (λ p. base + byte_len (before p t.outer ++ (spelled t.done ++ t.held))) b.0 ∙ ap (λ x. base + byte_len (before literal t.outer ++ x)) (sym (b.1 t.done));
+          follow = frames_alike base t.outer t.done (field_closed t.mode t.done t.held) t.openers old.frames (b.neutral t.done) follow.frames;
+          at = at ∙ ap (λ p. base + byte_len (before p t.outer ++ (spelled t.done ++ t.held))) b.place ∙ ap (λ x. base + byte_len (before literal t.outer ++ x)) (sym (b.spells t.done));
         };
       }
 
