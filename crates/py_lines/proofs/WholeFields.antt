@@ -1,18 +1,17 @@
 -- A string with fields is passed over, however its fields are nested: the machine goes through it as its scan does.
 use Rattle.std.proofs.Common.{◌≡◌, ℕ, ◌+◌, ◌-◌, ◌<◌, ◌≤◌, Bool, true, false, not, ◌||◌, ◌&&◌, ◌==◌, Option, None, Some, List, [], ◌∷◌, ◌++◌, length, take, drop, slice_index, nat_lt, inr, refl, sym, ap, ◌∙◌, subst, ⊎_elim, append_assoc, append-nil, arith, length-append, length-drop, eq-eqb}
 use Rattle.std.specs.Prelude.{if◌then◌else◌, encode_utf8_all, codes}
-use Rattle.std.specs.Str.{byte}
 use Rattle.std.specs.List.{list_all, list_any}
 use mir.Val.{bool_byte}
-use Rattle.std.proofs.lemmas.Bool.{and_from, and_parts, both_ways, cond_both, eqb-true, false_from_ne_true, lt-ltb, ltb-true, or_cases}
+use Rattle.std.proofs.lemmas.Bool.{and_from, and_parts, both_ways, eqb-true, false_from_ne_true, lt-ltb, ltb-true, or_cases}
 use Rattle.std.proofs.lemmas.List.{drop-drop, drop_more}
 use Rattle.std.proofs.lemmas.Str.{len_utf8_ascii}
 use Rattle.std.proofs.Math.Seq.{take-append_seam}
 use Rattle.py_lines.specs.Balance.{is_opening, depth_through}
-use Rattle.py_lines.specs.Character.{is_backslash, is_brace, is_break, is_f, is_line_feed, is_quote, is_r, is_return, is_t}
-use Rattle.py_lines.specs.FieldStrings.{is_field_prefix, Host, Place, literal, specification, names}
+use Rattle.py_lines.specs.Character.{is_break, is_f, is_line_feed, is_quote, is_r, is_return, is_t}
+use Rattle.py_lines.specs.FieldStrings.{is_field_prefix, Host, Place, literal}
 use Rattle.py_lines.specs.LogicalLine.{byte_len}
-use Rattle.py_lines.specs.Piece.{ends, string}
+use Rattle.py_lines.specs.Piece.{ends, Piece, string}
 use Rattle.py_lines.specs.declared.field_scan.FieldProgress.TheVariants as progress
 use Rattle.py_lines.specs.declared.field_scan.FieldScan.{FieldScan}
 use Rattle.py_lines.specs.declared.host.StringWithFields.{StringWithFields}
@@ -28,12 +27,12 @@ use Rattle.py_lines.specs.Private.FieldMachine.{At, between, after_one, after_tw
 use Rattle.py_lines.specs.Private.FieldScan.{Follows, FollowsBody, GoesThrough, HoldsField, PushesField}
 use Rattle.py_lines.specs.Private.FieldFaults.{here}
 use Rattle.py_lines.specs.Private.Scan.{line_start}
-use Rattle.py_lines.specs.Private.ScanMachine.{IsInString, fielded_move, has_room_in, host_in, is_field_spelling, is_raw_spelling, meet_of, opened_move, quote_move, scan_step, scan_steps, move_at, string_move, string_state}
-use Rattle.py_lines.specs.Private.Outline.{BeginsLong, HoldsLineEnds, IsFreeAfter, IsInPiece, Passes, PassesPart, PassesPiece, StandsBefore, StandsClosed, tail_of}
+use Rattle.py_lines.specs.Private.ScanMachine.{IsInString, fielded_move, has_room_in, host_in, is_field_spelling, is_raw_spelling, meet_of, opened_move, scan_step, scan_steps, move_at, string_move, string_state}
+use Rattle.py_lines.specs.Private.Outline.{BeginsLong, HasCome, HoldsLineEnds, IsFreeAfter, IsInPiece, Passes, PassesPart, PassesPiece, StandsBefore, StandsClosed, tail_of}
 use Rattle.py_lines.specs.Private.WholeFields.{FieldsBegin, HasFieldString, IsInFields, first_host}
 use Rattle.py_lines.proofs.Pieces.OpenBrackets as brackets
 use Rattle.py_lines.proofs.Pieces.PieceLists.{piece}
-use Rattle.py_lines.proofs.Text.CharacterTests.{each_of, quote-not-word, return_is, slash-not-break}
+use Rattle.py_lines.proofs.Text.CharacterTests.{each_of, return_is, slash-not-break}
 use Rattle.py_lines.proofs.Fields.Prefixes.{IsLetter, letters, third_of}
 use Rattle.py_lines.proofs.Machine.LiveTexts.{keeps}
 use Rattle.py_lines.proofs.Machine.PieceSteps.{scanned, steps_by-append}
@@ -41,7 +40,9 @@ use Rattle.py_lines.proofs.LogicalLines.Cuts.{byte_len-append}
 use Rattle.py_lines.proofs.FieldSoundness.Holds.{HoldsAt, HoldsMode, Limit, OpensHost}
 use Rattle.py_lines.proofs.FieldSoundness.HostSteps.{sound_at}
 use Rattle.py_lines.proofs.FieldSoundness.WholeTexts.{no_limit, any_rooms}
+use Rattle.py_lines.proofs.FieldScans.Moves.{BodyMoved, body_moved}
 use Rattle.py_lines.proofs.FieldScans.Runs.{goes_low}
+use Rattle.py_lines.proofs.FieldScans.Taking.{refused_there}
 use Rattle.py_lines.proofs.FieldScans.TextLengths.{later, rest_is}
 use Rattle.py_lines.proofs.LineScan.Increments.{EndsNoLine-push}
 use Rattle.py_lines.proofs.LineScan.LineCount.{byte_len-one, ends-last}
@@ -50,7 +51,8 @@ use Rattle.py_lines.proofs.LineScan.Runs.{break-return, ends-run, quote_ascii, s
 use Rattle.py_lines.proofs.LineScan.AsciiRuns.{is_low, is_low_from, low_encodes, low_is, quote-no_break}
 use Rattle.py_lines.proofs.LineScan.StringOpenings.{opened_as_body}
 use Rattle.py_lines.proofs.LineScan.StringSteps.{here_at, string_more}
-use Rattle.py_lines.proofs.SimpleLines.Code.{holds_line_end, holds_more, holds_one, one_unreturned}
+use Rattle.py_lines.proofs.LineScan.WholeStrings.{first_grows, quote_opens}
+use Rattle.py_lines.proofs.SimpleLines.Code.{holds_line_end, holds_more, holds_one}
 use Rattle.py_lines.proofs.SimpleLines.Tails.{come_sound, no_tail, quote-no-word}
 use Rattle.py_lines.proofs.SimpleLines.FieldStrings.{word_open}
 use Rattle.py_lines.proofs.SimpleLines.Strings as strings
@@ -89,50 +91,6 @@ goes_lower n m t (c ∷ cs) u less (low, none, move, next, step, others) =
     (low, none, lower n m t c (moves.Grows modes.Fielded) less (λ e. cc) move, next, step, goes_lower n m next cs u less others)
 
 -- the character that closes a string is its quote
-abbrev Shuts : Host → ℕ → FieldMove → Type 0
-Shuts host c v = v ≡ closes → c == host.quote ≡ true
-
-opening_other : (host : Host) (place : Place) (c : ℕ) → Shuts host c (opening_move host place)
-opening_other host literal c e = absurd (cc)
-opening_other host specification c e = absurd (cc)
-
-ending_other : (host : Host) (place : Place) (named : Bool) (c : ℕ) → Shuts host c (ending_move host place named)
-ending_other host literal true c e = absurd (cc)
-ending_other host literal false c e = absurd (cc)
-ending_other host specification true c e = absurd (cc)
-ending_other host specification false c e = absurd (cc)
-
-between_shuts : (host : Host) (place : Place) (named : Bool) (at : At) (c : ℕ) → Shuts host c (between_move host place named at c)
-unfolding between_move
-between_shuts host place named at c =
-    cond_both (c == host.quote) _ _ (Shuts host c) (λ is e. is)
-    (λ _. cond_both (is_backslash c) _ _ (Shuts host c) (λ _ e. absurd (cc))
-    (λ _. cond_both (is_break c && not host.is_long) _ _ (Shuts host c) (λ _ e. absurd (cc))
-    (λ _. cond_both ((c == byte "{") && not named) _ _ (Shuts host c) (λ _. opening_other host place c)
-    (λ _. cond_both (c == byte "}") _ _ (Shuts host c) (λ _. ending_other host place named c) (λ _ e. absurd (cc))))))
-
-escape_shuts : (host : Host) (place : Place) (named : Bool) (c : ℕ) → Shuts host c (escape_move host place named c)
-unfolding escape_move
-escape_shuts host place named c =
-    cond_both (is_brace c) _ _ (Shuts host c) (λ _. between_shuts host place named between c)
-    (λ _. cond_both (is_barred_escape host place c) _ _ (Shuts host c) (λ _ e. absurd (cc))
-    (λ _. cond_both (is_return c) _ _ (Shuts host c) (λ _ e. absurd (cc))
-    (λ _. cond_both (names host c) _ _ (Shuts host c) (λ _ e. absurd (cc)) (λ _ e. absurd (cc)))))
-
-body_shuts : (host : Host) (place : Place) (named : Bool) (at : At) (c : ℕ) → Shuts host c (body_move host place named at c)
-unfolding body_move
-body_shuts host place named after_slash c = escape_shuts host place named c
-body_shuts host place named after_return c = cond_both (is_line_feed c) _ _ (Shuts host c) (λ _ e. absurd (cc)) (λ _. between_shuts host place named between c)
-body_shuts host place named after_name c = cond_both (c == byte "{") _ _ (Shuts host c) (λ _ e. absurd (cc)) (λ _. between_shuts host place named between c)
-body_shuts host place named after_brace c = cond_both (c == byte "{") _ _ (Shuts host c) (λ _ e. absurd (cc)) (λ _ e. absurd (cc))
-body_shuts host place named between c = between_shuts host place named between c
-body_shuts host place named after_one c = between_shuts host place named after_one c
-body_shuts host place named after_two c = between_shuts host place named after_two c
-
-field_shuts : (host : Host) (place : Place) (named : Bool) (at : At) (held : List ℕ) (c : ℕ) → Shuts host c (field_move (body host place named at) held c)
-unfolding field_move
-field_shuts host place named at held c = body_shuts host place named at c
-
 host_quotes : (limit : Limit) (outer : List Level) (depth : ℕ) (host : Host) (place : Place) (named : Bool) (at : At) (held : List ℕ) → HoldsAt limit outer depth host place named at held → is_quote host.quote ≡ true
 host_quotes limit outer depth host place named between held h = h.all.quotes
 host_quotes limit outer depth host place named after_one held (text, is, long, h) = h.all.quotes
@@ -164,12 +122,26 @@ closing_quote depth held t c steps inside shut =
     let sound = sound_at no_limit held t (any_rooms (Some field_text_start) held) steps in
     let holds : HoldsAt no_limit t.outer (frames t) host place named at t.held = subst (λ (m : spots.FieldMode). HoldsMode no_limit t.outer (frames t) m t.held) is sound.mode in
     let quote : is_quote host.quote ≡ true = host_quotes no_limit t.outer (frames t) host place named at t.held holds in
-    let same : c == host.quote ≡ true = field_shuts host place named at t.held c (ap (λ (m : spots.FieldMode). field_move m t.held c) (sym is) ∙ closing) in
-    ap is_quote (eqb-true c host.quote same) ∙ quote
+    let shuts : BodyMoved host place named at c closes = subst (BodyMoved host place named at c) (ap (λ (m : spots.FieldMode). field_move m t.held c) (sym is) ∙ closing) (body_moved host place named at t.held c) in
+    ap is_quote (eqb-true c host.quote shuts.1) ∙ quote
 
 -- a string is open
 some_is : (a b : FieldScanned) → Some a ≡ Some b → a ≡ b
 some_is a b e = cc
+
+-- one character more is read of it
+grown_to : (new : FieldScan) (place : ℕ) (initial : Mode) (read : List ℕ) (n k : ℕ) (st : List Bracket) (done : List Piece) (m : Mode) (held : List ℕ) (c : ℕ) (next : FieldScanned) → length st ≤ 100 → HasCome initial read n st (scanned done m held) → scan_step (scanned done m held) c ≡ moved (scanned done m held) c (moves.Grows modes.Fielded) → HoldsLineEnds (read ++ c ∷ []) k → is_return c ≡ false → string_state (held ++ c ∷ []) ≡ Some next → Follows new 0 next → place ≡ byte_len (held ++ c ∷ []) → IsInFields new place initial (read ++ c ∷ []) k st
+grown_to new place initial read n k st done m held c next few come move holds other steps follows at = record {
+  few = few;
+  done = done;
+  held = held ++ c ∷ [];
+  come = record { start = come.start; steps = steps_push (line_start initial) read (scanned done m held) c come.steps ∙ move; stacked = come.stacked; one_line = come.one_line; holds = holds };
+  state = next;
+  steps = steps;
+  follows = follows;
+  at = at;
+  unreturned = ends-last is_return read c ∙ other;
+}
 
 module _ (scan : FieldScan) (place : ℕ) (initial : Mode) (read : List ℕ) (n : ℕ) (st : List Bracket) (on : IsInFields scan place initial read n st) where
   abbrev depth : ℕ
@@ -196,23 +168,8 @@ module _ (scan : FieldScan) (place : ℕ) (initial : Mode) (read : List ℕ) (n 
   over_one : (new : FieldScan) (c k : ℕ) → c < 128 → is_return c ≡ false → HoldsLineEnds (read ++ c ∷ []) k → PushesField scan c place 100 progress.Going new → IsInFields new (place + 1) initial (read ++ c ∷ []) k st
   over_one new c k low other holds pushes =
       let (next, goes, move, within, follows) = pushes 0 on.state on.follows inside stands_here in
-      record {
-        few = on.few;
-        done = on.done;
-        held = on.held ++ c ∷ [];
-        come = record {
-          start = on.come.start;
-          steps = steps_push (line_start initial) read open_state c on.come.steps ∙ moves_so c (moves.Grows modes.Fielded) (λ e. cc) move;
-          stacked = on.come.stacked;
-          one_line = on.come.one_line;
-          holds = holds;
-        };
-        state = next;
-        steps = string_more on.held c on.state on.steps ∙ goes;
-        follows = follows;
-        at = omega (arith, on.at, byte_len-append on.held (c ∷ []), byte_len-one c, len_utf8_ascii c low);
-        unreturned = ends-last is_return read c ∙ other;
-      }
+      grown_to new (place + 1) initial read n k st on.done modes.Fielded on.held c next on.few on.come (moves_so c (moves.Grows modes.Fielded) (λ e. cc) move) holds other
+      (string_more on.held c on.state on.steps ∙ goes) follows (omega (arith, on.at, byte_len-append on.held (c ∷ []), byte_len-one c, len_utf8_ascii c low))
 
   -- over a run of them
   run_holds : (run : List ℕ) (u : FieldScanned) → GoesThrough depth on.state run u → HoldsLineEnds (read ++ run) n
@@ -389,10 +346,6 @@ opened_quote : (h : StringWithFields) → meet_of (modes.FieldOpened h) h.quote 
 unfolding meet_of opened_move
 opened_quote h = rw (eq-eqb h.quote h.quote refl) refl
 
-opened_other : (h : StringWithFields) (c : ℕ) → c == h.quote ≡ false → is_break c ≡ false → meet_of (modes.FieldOpened h) c ≡ moves.Grows modes.Fielded
-unfolding meet_of opened_move
-opened_other h c other whole = rw (other, whole) refl
-
 empty_quote : (h : StringWithFields) → meet_of (modes.FieldEmpty h) h.quote ≡ moves.Grows modes.Fielded
 unfolding meet_of
 empty_quote h = rw (eq-eqb h.quote h.quote refl) refl
@@ -411,22 +364,9 @@ break_refused : (host : Host) (held : List ℕ) (c : ℕ) → host.is_long ≡ f
 unfolding field_move body_move between_move
 break_refused host held c short other ends = rw (other, slash-not-break c ends, ends, short) refl
 
-first_whole : (depth : ℕ) (host : Host) (held : List ℕ) (c : ℕ) → host.is_long ≡ false → c == host.quote ≡ false → fielded_move depth (Some (field_state [] [] [] (body host literal false between) held)) c ≡ moves.Grows modes.Fielded → is_break c ≡ false
-first_whole depth host held c short other move = go (is_break c) refl
-  where
-    t : FieldScanned
-    t = field_state [] [] [] (body host literal false between) held
-
-    no_way : (b : Bool) → (if b then moves.Refused else moves.Refused) ≡ moves.Refused
-    no_way true = refl
-    no_way false = refl
-
-    stops : field_move (body host literal false between) held c ≡ refused → moves.Grows modes.Fielded ≡ moves.Refused
-    stops is = sym move ∙ ap (λ v. if has_room_at (depth + frames t) c v then string_move [] v (field_moved t c v) else moves.Refused) is ∙ no_way (has_room_at (depth + frames t) c refused)
-
-    go : (b : Bool) → is_break c ≡ b → is_break c ≡ false
-    go false is = is
-    go true is = absurd (let clash = stops (break_refused host held c short other is) in cc)
+first_whole : (scan : FieldScan) (depth : ℕ) (host : Host) (held : List ℕ) (c : ℕ) → host.is_long ≡ false → c == host.quote ≡ false → fielded_move depth (Some (field_state [] [] [] (body host literal false between) held)) c ≡ moves.Grows modes.Fielded → is_break c ≡ false
+first_whole scan depth host held c short other move = false_from_ne_true (is_break c) (λ ends.
+    let clash = sym move ∙ (refused_there scan 0 depth (field_state [] [] [] (body host literal false between) held) c (break_refused host held c short other ends)).0 in cc)
 
 module _ (raw : Bool) (q : ℕ) (quote : is_quote q ≡ true) where
   abbrev own : StringWithFields
@@ -452,25 +392,11 @@ module _ (raw : Bool) (q : ℕ) (quote : is_quote q ≡ true) where
       let size : byte_len on.held ≡ 1 + bool_byte raw + byte_len (q ∷ []) = opened_size (host_in own) (q ∷ []) on.held (sound_in on.held _ steps).0 in
       let place : 2 + bool_byte raw ≡ 0 + byte_len on.held = omega (arith, size, quote_size q quote) in
       let (next, goes, move, within, on_it) = pushes 0 (field_state [] [] [] (body (host_in own) literal false between) on.held) (follows on.held) (λ none. (host_in own, literal, false, between, refl)) place in
-      let whole : is_break c ≡ false = first_whole 100 (host_in own) on.held c refl other move in
+      let whole : is_break c ≡ false = first_whole scan 100 (host_in own) on.held c refl other move in
       subst (λ (t : List ℕ). IsInFields new (2 + bool_byte raw + 1) initial t n st) (append_assoc read (q ∷ []) (c ∷ []))
-      (record {
-        few = few;
-        done = on.done;
-        held = on.held ++ c ∷ [];
-        come = record {
-          start = on.come.start;
-          steps = steps_push (line_start initial) (read ++ q ∷ []) first c on.come.steps ∙ ap (moved first c) (opened_other own c other whole);
-          stacked = on.come.stacked;
-          one_line = on.come.one_line;
-          holds = holds_one (read ++ q ∷ []) c n on.come.holds low whole;
-        };
-        state = next;
-        steps = string_more on.held c _ steps ∙ opened_as_body (host_in own) on.held c other ∙ goes;
-        follows = on_it;
-        at = omega (arith, place, byte_len-append on.held (c ∷ []), byte_len-one c, len_utf8_ascii c low);
-        unreturned = one_unreturned (read ++ q ∷ []) c whole;
-      })
+      (grown_to new (2 + bool_byte raw + 1) initial (read ++ q ∷ []) n n st on.done (modes.FieldOpened own) on.held c next few on.come (ap (moved first c) (first_grows own c other whole))
+      (holds_one (read ++ q ∷ []) c n on.come.holds low whole) (break-return c whole) (string_more on.held c _ steps ∙ opened_as_body (host_in own) on.held c other ∙ goes) on_it
+      (omega (arith, place, byte_len-append on.held (c ∷ []), byte_len-one c, len_utf8_ascii c low)))
 
   -- two quotes
   over_second : (initial : Mode) (read : List ℕ) (n : ℕ) (st : List Bracket) → FieldsBegin q raw initial read n st → IsInPiece (modes.FieldEmpty own) initial (read ++ q ∷ q ∷ []) n st
@@ -486,23 +412,9 @@ module _ (raw : Bool) (q : ℕ) (quote : is_quote q ≡ true) where
       let steps : string_state on.held ≡ Some (field_state [] [] [] (spots.empty (host_in own)) on.held) = (come_sound initial (read ++ q ∷ q ∷ []) n st second on.come).holds in
       let size : byte_len on.held ≡ 1 + bool_byte raw + byte_len (q ∷ q ∷ []) = opened_size (host_in own) (q ∷ q ∷ []) on.held (sound_in on.held _ steps).0 in
       subst (λ (t : List ℕ). IsInFields scan (4 + bool_byte raw) initial t n st) (append_assoc read (q ∷ q ∷ []) (q ∷ []))
-      (record {
-        few = begin.0;
-        done = on.done;
-        held = on.held ++ q ∷ [];
-        come = record {
-          start = on.come.start;
-          steps = steps_push (line_start initial) (read ++ q ∷ q ∷ []) second q on.come.steps ∙ ap (moved second q) (empty_quote own);
-          stacked = on.come.stacked;
-          one_line = on.come.one_line;
-          holds = quote_held (read ++ q ∷ q ∷ []) n on.come.holds;
-        };
-        state = field_state [] [] [] (body (host_in triple) literal false between) (on.held ++ q ∷ []);
-        steps = string_more on.held q _ steps ∙ third_opens (host_in own) on.held;
-        follows = follows (on.held ++ q ∷ []);
-        at = omega (arith, size, byte_len-append (q ∷ []) (q ∷ []), byte_len-append on.held (q ∷ []), quote_size q quote);
-        unreturned = one_unreturned (read ++ q ∷ q ∷ []) q (quote-no_break q quote);
-      })
+      (grown_to scan (4 + bool_byte raw) initial (read ++ q ∷ q ∷ []) n n st on.done (modes.FieldEmpty own) on.held q (field_state [] [] [] (body (host_in triple) literal false between) (on.held ++ q ∷ [])) begin.0 on.come (ap (moved second q) (empty_quote own))
+      (quote_held (read ++ q ∷ q ∷ []) n on.come.holds) quote-not-return (string_more on.held q _ steps ∙ third_opens (host_in own) on.held) (follows (on.held ++ q ∷ []))
+      (omega (arith, size, byte_len-append (q ∷ []) (q ∷ []), byte_len-append on.held (q ∷ []), quote_size q quote)))
 
   -- an empty string, before what follows
   over_empty : (initial : Mode) (read rest : List ℕ) (n : ℕ) (st : List Bracket) (c : ℕ) → c == q ≡ false → FieldsBegin q raw initial read n st → StandsBefore (c ∷ rest) initial (read ++ q ∷ q ∷ []) n st
@@ -554,10 +466,6 @@ module _ (raw : Bool) (bytes : List ℕ) (quote : is_quote (slice_index bytes 0)
   }
 
 -- a string at a byte of a line
-quote_opens : (s : Spelling) (raw : Bool) (q : ℕ) → is_field_spelling s ≡ true → raw ≡ is_raw_spelling s → is_quote q ≡ true → meet_of (modes.Word s) q ≡ moves.Grows (modes.FieldOpened (first_host q raw))
-unfolding meet_of quote_move
-quote_opens s raw q field raw_is quote = rw (quote-not-word q quote, quote, field) (ap (λ (b : Bool). moves.Grows (modes.FieldOpened (first_host q b))) (sym raw_is))
-
 pub field_string_at : (raw : Bool) (bytes : List ℕ) (at : ℕ) (s : Spelling) (found : Option Passed) → at < length bytes → is_quote (slice_index bytes at) ≡ true → tail_of (take at bytes) ≡ Some s → is_field_spelling s ≡ true → raw ≡ is_raw_spelling s → HasFieldString raw (take (length bytes - at) (drop at bytes)) found → PassesPiece bytes at found
 field_string_at raw bytes at s None within quote tail field raw_is has = tt
 field_string_at raw bytes at s (Some p) within quote tail field raw_is has =
@@ -578,7 +486,7 @@ field_string_at raw bytes at s (Some p) within quote tail field raw_is has =
           leads = λ initial read n st on.
               let before : StandsBefore (q ∷ drop (at + 1) bytes) initial read n st = subst (λ (t : List ℕ). StandsBefore t initial read n st) (drop_more bytes at 0 within) on.2 in
               let word = word_open (drop (at + 1) bytes) initial read n st q s (on.0 ∙ tail) quote before in
-              let opened : IsInPiece (modes.FieldOpened (first_host q raw)) initial (read ++ q ∷ []) n st = strings.grows_there (modes.Word s) (modes.FieldOpened (first_host q raw)) q n initial read n st (λ done held. ap (moved (scanned done (modes.Word s) held) q) (quote_opens s raw q field raw_is quote)) (quote-not-return raw q quote) (quote_held raw q quote read n word.come.holds) word in
+              let opened : IsInPiece (modes.FieldOpened (first_host q raw)) initial (read ++ q ∷ []) n st = strings.grows_there (modes.Word s) (modes.FieldOpened (first_host q raw)) q n initial read n st (λ done held. ap (moved (scanned done (modes.Word s) held) q) (quote_opens s q field quote ∙ ap (λ (b : Bool). moves.Grows (modes.FieldOpened (first_host q b))) (sym raw_is))) (quote-not-return raw q quote) (quote_held raw q quote read n word.come.holds) word in
               let begins : FieldsBegin (slice_index rest 0) raw initial read n st = subst (λ (c : ℕ). FieldsBegin c raw initial read n st) (sym first) (on.1, opened) in
               subst (λ (b : Bool). StandsClosed b (drop (at + p.len) bytes) initial (read ++ is.part.run) (n + p.line_ends) st) (sym (string_closes rest p.len (ap is_quote first ∙ quote)))
               (subst (λ (t : List ℕ). StandsClosed (nat_lt 2 p.len) t initial (read ++ is.part.run) (n + p.line_ends) st) (drop-drop p.len at bytes) (is.part.leads initial read n st begins));

@@ -1,7 +1,7 @@
 -- What a character does in a string with fields: the code's words say the machine's, and what each move of the machine leaves open.
 use Rattle.std.proofs.Common.{◌≡◌, ℕ, Bool, true, false, not, ◌&&◌, ◌==◌, Some, List, [], ◌∷◌, ◌++◌, refl, sym, ap, ◌∙◌, subst, ⊎_elim, append-nil}
 use Rattle.std.specs.Str.{byte}
-use Rattle.std.proofs.lemmas.Bool.{cond_both, cases_Bool, both_ways, and_right, and_parts}
+use Rattle.std.proofs.lemmas.Bool.{cond_both, cases_Bool, both_ways, and_right, and_parts, not-true}
 use Rattle.py_lines.specs.Character.{is_word_character, is_quote, is_line_feed, is_return, is_break, is_backslash, is_brace}
 use Rattle.py_lines.specs.Piece.{string, Piece, spelled}
 use Rattle.py_lines.specs.FieldStrings.{is_field_prefix, Host, Place, literal, specification, names}
@@ -101,7 +101,7 @@ meets (field_modes.Code m) held c holds = as_plain (move_of m c) (open_after m c
 -- what a move of a string's body leaves open
 abbrev pub BodyMoved : Host → Place → Bool → At → ℕ → FieldMove → Type 0
 BodyMoved host place named at c (grows n) = (b : Bool) × (a : At) × (n ≡ body host place b a) × (place ≡ specification → is_after_brace a ≡ false)
-BodyMoved host place named at c closes = place ≡ literal
+BodyMoved host place named at c closes = (place ≡ literal) × (c == host.quote ≡ true)
 BodyMoved host place named at c breaks = ⊥
 BodyMoved host place named at c (begins_code h) = (h ≡ host) × (at ≡ after_brace)
 BodyMoved host place named at c (opens_field h) = (h ≡ host) × (place ≡ specification) × (named ≡ false) × (c == byte "{" ≡ true)
@@ -119,9 +119,9 @@ module _ (host : Host) (place : Place) (named : Bool) (own : At) (c : ℕ) where
   quoted_at after_one = stays named after_two refl
   quoted_at a = stays named after_one refl
 
-closing_moved : (host : Host) (place : Place) (named : Bool) (own : At) (c : ℕ) → BodyMoved host place named own c (closing_move place)
-closing_moved host literal named own c = refl
-closing_moved host specification named own c = tt
+closing_moved : (host : Host) (place : Place) (named : Bool) (own : At) (c : ℕ) → c == host.quote ≡ true → BodyMoved host place named own c (closing_move place)
+closing_moved host literal named own c quote = (refl, quote)
+closing_moved host specification named own c quote = tt
 
 opening_moved : (host : Host) (place : Place) (named : Bool) (own : At) (c : ℕ) → c == byte "{" ≡ true → named ≡ false → BodyMoved host place named own c (opening_move host place)
 opening_moved host literal named own c brace none = (false, after_brace, refl, λ at. absurd (cc))
@@ -132,20 +132,16 @@ ending_moved host literal named own c = stays host literal named own c false bet
 ending_moved host specification true own c = stays host specification true own c false between refl
 ending_moved host specification false own c = (refl, refl)
 
-unnamed : (b : Bool) → not b ≡ true → b ≡ false
-unnamed false h = refl
-unnamed true h = absurd (both_ways _ refl h)
-
 between_moved : (host : Host) (place : Place) (named : Bool) (own a : At) (c : ℕ) → BodyMoved host place named own c (between_move host place named a c)
 unfolding between_move
 between_moved host place named own a c =
     let Q : FieldMove → Type 0 = BodyMoved host place named own c in
     cond_both (c == host.quote) _ _ Q
-    (λ q. cond_both (host.is_long && not (is_after_two a)) (grows (body host place named (with_quote a))) (closing_move place) Q (λ h. quoted_at host place named own c a) (λ h. closing_moved host place named own c))
+    (λ q. cond_both (host.is_long && not (is_after_two a)) (grows (body host place named (with_quote a))) (closing_move place) Q (λ h. quoted_at host place named own c a) (λ h. closing_moved host place named own c q))
     (λ q. cond_both (is_backslash c) (grows (body host place named after_slash)) _ Q (λ h. stays host place named own c named after_slash refl)
     (λ s. cond_both (is_break c && not host.is_long) refused _ Q (λ h. tt)
     (λ b. cond_both ((c == byte "{") && not named) (opening_move host place) _ Q (λ h. let both = and_parts (c == byte "{") (not named) h in
-    opening_moved host place named own c both.0 (unnamed named both.1))
+    opening_moved host place named own c both.0 (not-true named both.1))
     (λ o. cond_both (c == byte "}") (ending_move host place named) (grows (body host place named between)) Q (λ h. ending_moved host place named own c) (λ h. stays host place named own c named between refl)))))
 
 escape_moved : (host : Host) (place : Place) (named : Bool) (own : At) (c : ℕ) → BodyMoved host place named own c (escape_move host place named c)
@@ -213,7 +209,7 @@ waiting_in host specification named waits = absurd (both_ways _ waits refl)
 body_says : (host : Host) (place : Place) (named : Bool) (at : At) (held : List ℕ) (c : ℕ) (v : FieldMove) → WaitsInLiteral (body host place named at) → BodyMoved host place named at c v → Says (body host place named at) held c v
 body_says host place named at held c (grows n) waits (b, a, is, fit) =
     subst (λ (x : spots.FieldMode). GrowsTo (body host place named at) x (held ++ c ∷ [])) (sym is) (record { place = refl; holds = tt; body_stays = λ own. (host, place, b, a, refl); waits = body_waits host place b a fit })
-body_says host place named at held c closes waits is = (is, string_neutral (held ++ c ∷ []))
+body_says host place named at held c closes waits (is, quote) = (is, string_neutral (held ++ c ∷ []))
 body_says host place named at held c breaks waits none = absurd none
 body_says host place named at held c (begins_code h) waits (same, is) =
     let (own, there) = waiting_in host place named (subst (λ (a : At). WaitsInLiteral (body host place named a)) is waits) in

@@ -28,12 +28,12 @@ use Rattle.py_lines.proofs.LineScan.StringOpenings.{opened_as_body}
 use Rattle.py_lines.proofs.LineScan.StringSteps.{string_more}
 
 -- its first quote
-quote_opens : (s : Spelling) (q : ℕ) → is_field_spelling s ≡ true → is_quote q ≡ true → meet_of (modes.Word s) q ≡ moves.Grows (modes.FieldOpened (record { quote = q; is_long = false; is_raw = is_raw_spelling s }))
+pub quote_opens : (s : Spelling) (q : ℕ) → is_field_spelling s ≡ true → is_quote q ≡ true → meet_of (modes.Word s) q ≡ moves.Grows (modes.FieldOpened (record { quote = q; is_long = false; is_raw = is_raw_spelling s }))
 unfolding meet_of quote_move
 quote_opens s q field quotes = rw (quote-not-word q quotes, quotes, field) refl
 
 -- and its first character
-first_grows : (h : StringWithFields) (c : ℕ) → c == h.quote ≡ false → is_break c ≡ false → meet_of (modes.FieldOpened h) c ≡ moves.Grows modes.Fielded
+pub first_grows : (h : StringWithFields) (c : ℕ) → c == h.quote ≡ false → is_break c ≡ false → meet_of (modes.FieldOpened h) c ≡ moves.Grows modes.Fielded
 unfolding meet_of opened_move
 first_grows h c other none = rw (other, none) refl
 
