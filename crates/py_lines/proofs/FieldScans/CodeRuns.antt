@@ -26,11 +26,12 @@ use Rattle.py_lines.specs.Private.Run.{IsRunOf, is_ascii_word, is_code_byte, is_
 use Rattle.py_lines.specs.Private.ScanMachine.{string_state, IsInString}
 use Rattle.py_lines.specs.Private.WholePieces.{IsOperatorEnd}
 use Rattle.py_lines.proofs.Machine.Starts.{start-operator, start-space}
+use Rattle.py_lines.proofs.LineScan.AsciiRuns.{all_pass}
 use Rattle.py_lines.proofs.LineScan.Runs.{space_low, word_byte_low}
 use Rattle.py_lines.proofs.LineScan.StringSteps.{here_at, string_more}
 use Rattle.py_lines.proofs.Text.CharacterTests.{operator_ascii}
 use Rattle.py_lines.proofs.FieldScans.Operators.{sign_passes}
-use Rattle.py_lines.proofs.FieldScans.Runs.{all_pass, holds_ascii}
+use Rattle.py_lines.proofs.FieldScans.Runs.{holds_ascii}
 use Rattle.py_lines.proofs.FieldScans.Taking.{begun, grown, place_after}
 use Rattle.py_lines.proofs.FieldScans.Texts.{BeginsOrGrows, apart_code, goes_on-append, operator_breaks, operator-not-word, operator_others, sign_cases, space_moves, space_others, word_moves, word_no_break, word_starts}
 
@@ -151,9 +152,7 @@ holds_code first depth place bytes all len free run (within, nothing_or_sign) so
     short = omega (arith, within, length-take-le all bytes run.within, run.within)
 
     each : (passes : ℕ → Bool) → ((c : ℕ) → is_code_byte c ≡ true → passes c ≡ true) → list_all passes (take len bytes) ≡ true
-    each passes from = all_pass passes (take len bytes) (λ i less.
-        let early : i < len = omega (arith, less, length-take-le len bytes short) in
-        from _ (subst (λ (b : ℕ). is_code_byte b ≡ true) (sym (get_or-take len bytes i 0 early)) (run.each i (omega (arith, early, within, length-take-le all bytes run.within)))))
+    each passes from = all_pass passes bytes len short (λ i early. from _ (run.each i (omega (arith, early, within, length-take-le all bytes run.within))))
 
     before : List ℕ
     before = take (len - 1) bytes

@@ -69,22 +69,27 @@ moves_so old base t c v follow is = sym (is ∙ meets old.mode t.held c (subst (
 pub refused_there : (old : FieldScan) (base depth : ℕ) (t : FieldScanned) (c : ℕ) → field_move t.mode t.held c ≡ refused → ComesTo base depth t c old progress.Refused old
 refused_there old base depth t c is = no_step base depth t c refused is old refl
 
+-- the scan follows where the open piece grows
+pub grown_follows : (old : FieldScan) (base : ℕ) (t : FieldScanned) (c : ℕ) (code : FieldMode) (m : spots.FieldMode) → Follows old base t → field_move t.mode t.held c ≡ grows m → mode_from code ≡ m → Follows (record old { mode = code }) base (field_state t.outer t.done t.openers m (t.held ++ c ∷ []))
+grown_follows old base t c code m follow is same =
+    let k = said t.mode t.held c (grows m) follow.holds follow.waits is in
+    record {
+      mode = same;
+      holds = k.holds;
+      no_list = list_at t.mode m t.done t.openers k.place follow.no_list;
+      waits = k.waits;
+      full = λ w none. not_empty t.held c none;
+      start = follow.start ∙ ap (λ p. base + byte_len (before p t.outer ++ spelled t.done)) (sym k.place);
+      frames = follow.frames;
+    }
+
 module _ (old : FieldScan) (base depth : ℕ) (t : FieldScanned) (c place : ℕ) (follow : Follows old base t) (inside : IsInString t) (at : place ≡ base + here t) where
   -- the open piece grows
   pub grown : (code : FieldMode) (m : spots.FieldMode) → field_move t.mode t.held c ≡ grows m → mode_from code ≡ m → ComesTo base depth t c old progress.Going (record old { mode = code })
   grown code m is same =
-      let k = said t.mode t.held c (grows m) follow.holds follow.waits is in
       going base depth t c (grows m) is old (record old { mode = code }) (field_state t.outer t.done t.openers m (t.held ++ c ∷ []))
-      (room_grows (depth + frames t) c m) refl (λ none other. absurd (cc)) (λ none. k.body_stays (inside none))
-      (record {
-        mode = same;
-        holds = k.holds;
-        no_list = list_at t.mode m t.done t.openers k.place follow.no_list;
-        waits = k.waits;
-        full = λ w none. not_empty t.held c none;
-        start = follow.start ∙ ap (λ p. base + byte_len (before p t.outer ++ spelled t.done)) (sym k.place);
-        frames = follow.frames;
-      })
+      (room_grows (depth + frames t) c m) refl (λ none other. absurd (cc)) (λ none. (said t.mode t.held c (grows m) follow.holds follow.waits is).body_stays (inside none))
+      (grown_follows old base t c code m follow is same)
 
   -- it closes, in a field's code
   pub closed_in : field_move t.mode t.held c ≡ closes → (t.outer ≡ [] → ⊥) → ComesTo base depth t c old progress.Going (freed_at old (place + len_utf8 c))

@@ -8,12 +8,11 @@ use Rattle.py_lines.specs.Piece.{begins}
 use Rattle.py_lines.specs.Balance.{closing_of}
 use Rattle.py_lines.specs.Character.{is_quote}
 use Rattle.py_lines.specs.FieldStrings.{begins_open}
-use Rattle.py_lines.specs.Private.FieldMachine.{Level, FieldScanned}
 use Rattle.py_lines.specs.Private.FieldText.{AtBrace, AtCode, HasSimpleCode, InCode, AtSpecification, InText, IsQuotedText, HasText, Leads, LeadsAlways, LeadsBy, is_code_bracket, is_escaped}
 use Rattle.py_lines.specs.Private.Run.{BeginsPlainString, IsRunOf, IsWholePlainString, is_ascii_word, is_code_byte, is_code_sign, is_literal_byte}
 use Rattle.py_lines.proofs.LineScan.AsciiRuns.{all_pass, full_take}
 use Rattle.py_lines.proofs.LineScan.PlainStrings.{split_at, text_size}
-use Rattle.py_lines.proofs.FieldScans.Texts.{escape_leads, leads_from_code, sign_leads, string_leads, brace_leads, closing_leads, code_after, codes_lead, field_ends, leads-append, leads-none, open_leads, opening_leads, specification_begins, specification_ends, specifications_lead, texts_lead, two_lead}
+use Rattle.py_lines.proofs.FieldScans.Texts.{Spot, escape_leads, leads_from_code, sign_leads, string_leads, brace_leads, closing_leads, code_after, codes_lead, field_ends, leads-append, leads-none, open_leads, opening_leads, specification_begins, specification_ends, specifications_lead, texts_lead, two_lead}
 
 -- the bytes after the first ones, as a slice has them
 abbrev pub rest_of : List ℕ → ℕ → List ℕ
@@ -26,17 +25,14 @@ rest_is bytes n = take_all (length bytes - n) (drop n bytes) (omega (arith, leng
 pub later : (bytes : List ℕ) (n m : ℕ) → slice_index (drop n bytes) m ≡ slice_index bytes (n + m)
 later bytes n m = get_or-drop n bytes m 0
 
-abbrev Place : Type 1
-Place = List Level → Level → FieldScanned → Type 0
-
 -- over some bytes and then over others
-pub by_append : (quote : ℕ) (P Q R : Place) (bytes : List ℕ) (n m : ℕ) → LeadsBy quote P bytes n Q → LeadsBy quote Q (drop n bytes) m R → LeadsBy quote P bytes (n + m) R
+pub by_append : (quote : ℕ) (P Q R : Spot) (bytes : List ℕ) (n m : ℕ) → LeadsBy quote P bytes n Q → LeadsBy quote Q (drop n bytes) m R → LeadsBy quote P bytes (n + m) R
 by_append quote P Q R bytes n m first second = (
   omega (arith, first.0, second.0, length-drop n bytes),
   subst (λ run. Leads quote P run R) (sym (take-add n m bytes)) (leads-append quote P Q R (take n bytes) (take m (drop n bytes)) first.1 second.1),
 )
 
-pub by_none : (quote : ℕ) (P : Place) (bytes : List ℕ) → LeadsBy quote P bytes 0 P
+pub by_none : (quote : ℕ) (P : Spot) (bytes : List ℕ) → LeadsBy quote P bytes 0 P
 by_none quote P bytes = (omega arith, leads-none quote P)
 
 -- over the first byte
@@ -44,19 +40,19 @@ one_taken : (bytes : List ℕ) → 0 < length bytes → take 1 bytes ≡ slice_i
 one_taken [] some = absurd (omega (arith, some))
 one_taken (b ∷ bs) some = refl
 
-pub by_byte : (quote : ℕ) (P Q : Place) (bytes : List ℕ) → 0 < length bytes → Leads quote P (slice_index bytes 0 ∷ []) Q → LeadsBy quote P bytes 1 Q
+pub by_byte : (quote : ℕ) (P Q : Spot) (bytes : List ℕ) → 0 < length bytes → Leads quote P (slice_index bytes 0 ∷ []) Q → LeadsBy quote P bytes 1 Q
 by_byte quote P Q bytes some leads = (omega (arith, some), subst (λ run. Leads quote P run Q) (sym (one_taken bytes some)) leads)
 
-pub by_byte_at : (quote : ℕ) (P Q : Place) (bytes : List ℕ) (n : ℕ) → n < length bytes → Leads quote P (slice_index bytes n ∷ []) Q → LeadsBy quote P (drop n bytes) 1 Q
+pub by_byte_at : (quote : ℕ) (P Q : Spot) (bytes : List ℕ) (n : ℕ) → n < length bytes → Leads quote P (slice_index bytes n ∷ []) Q → LeadsBy quote P (drop n bytes) 1 Q
 by_byte_at quote P Q bytes n within leads =
     by_byte quote P Q (drop n bytes) (omega (arith, within, length-drop n bytes)) (subst (λ (c : ℕ). Leads quote P (c ∷ []) Q) (sym (get_or-drop n bytes 0 0 ∙ ap (λ (k : ℕ). slice_index bytes k) (omega arith))) leads)
 
 -- over a run
-pub by_run : (passes : ℕ → Bool) (quote : ℕ) (P : Place) (bytes : List ℕ) (n : ℕ) → ((run : List ℕ) → list_all passes run ≡ true → Leads quote P run P) → IsRunOf passes bytes n → LeadsBy quote P bytes n P
+pub by_run : (passes : ℕ → Bool) (quote : ℕ) (P : Spot) (bytes : List ℕ) (n : ℕ) → ((run : List ℕ) → list_all passes run ≡ true → Leads quote P run P) → IsRunOf passes bytes n → LeadsBy quote P bytes n P
 by_run passes quote P bytes n leads run = (run.within, leads (take n bytes) (all_pass passes bytes n run.within run.each))
 
 -- over a run, and then over a byte
-pub by_run_and : (passes : ℕ → Bool) (quote : ℕ) (P Q : Place) (bytes : List ℕ) (n : ℕ) → ((run : List ℕ) → list_all passes run ≡ true → Leads quote P run P) → IsRunOf passes bytes n → n < length bytes → Leads quote P (slice_index bytes n ∷ []) Q → LeadsBy quote P bytes (n + 1) Q
+pub by_run_and : (passes : ℕ → Bool) (quote : ℕ) (P Q : Spot) (bytes : List ℕ) (n : ℕ) → ((run : List ℕ) → list_all passes run ≡ true → Leads quote P run P) → IsRunOf passes bytes n → n < length bytes → Leads quote P (slice_index bytes n ∷ []) Q → LeadsBy quote P bytes (n + 1) Q
 by_run_and passes quote P Q bytes n leads run within last =
     by_append quote P P Q bytes n 1 (by_run passes quote P bytes n leads run) (by_byte_at quote P Q bytes n within last)
 
@@ -69,10 +65,10 @@ pub first_is_not : (d : ℕ) (bytes : List ℕ) → begins (λ c. c == d) bytes 
 first_is_not d [] h some = absurd (omega (arith, some))
 first_is_not d (b ∷ bs) h some = h
 
-pub always : (P Q : Place) (bytes : List ℕ) (n : ℕ) → ((quote : ℕ) → LeadsBy quote P bytes n Q) → LeadsAlways P bytes n Q
+pub always : (P Q : Spot) (bytes : List ℕ) (n : ℕ) → ((quote : ℕ) → LeadsBy quote P bytes n Q) → LeadsAlways P bytes n Q
 always P Q bytes n each = ((each 0).0, λ quote. (each quote).1)
 
-pub by_always : (quote : ℕ) (P Q : Place) (bytes : List ℕ) (n : ℕ) → LeadsAlways P bytes n Q → LeadsBy quote P bytes n Q
+pub by_always : (quote : ℕ) (P Q : Spot) (bytes : List ℕ) (n : ℕ) → LeadsAlways P bytes n Q → LeadsBy quote P bytes n Q
 by_always quote P Q bytes n all = (all.0, all.1 quote)
 
 -- code that ends in no word
@@ -250,7 +246,7 @@ two_taken [] some = absurd (omega (arith, some))
 two_taken (b ∷ []) some = absurd (omega (arith, some))
 two_taken (b ∷ c ∷ bs) some = refl
 
-by_two : (quote a b : ℕ) (P Q : Place) (bytes : List ℕ) → 1 < length bytes → slice_index bytes 0 ≡ a → slice_index bytes 1 ≡ b → Leads quote P (a ∷ b ∷ []) Q → LeadsBy quote P bytes 2 Q
+by_two : (quote a b : ℕ) (P Q : Spot) (bytes : List ℕ) → 1 < length bytes → slice_index bytes 0 ≡ a → slice_index bytes 1 ≡ b → Leads quote P (a ∷ b ∷ []) Q → LeadsBy quote P bytes 2 Q
 by_two quote a b P Q bytes some one two leads =
     let is : take 2 bytes ≡ a ∷ b ∷ [] = two_taken bytes some ∙ ap (λ (x : ℕ). x ∷ slice_index bytes 1 ∷ []) one ∙ ap (λ (x : ℕ). a ∷ x ∷ []) two in
     (omega (arith, some), subst (λ run. Leads quote P run Q) (sym is) leads)

@@ -3,17 +3,17 @@ use Rattle.std.proofs.Common.{◌≡◌, ℕ, zero, suc, ◌+◌, ◌<◌, ◌�
 use Rattle.std.specs.Prelude.{nat_le, nat_lt, codes}
 use Rattle.std.proofs.lemmas.Bool.Decides.{nat_tests}
 use Rattle.std.specs.List.{list_all}
-use Rattle.std.proofs.lemmas.Bool.{and_parts, and_right, or_cases, both_ways, eq-eqb}
+use Rattle.std.proofs.lemmas.Bool.{and_parts, and_right, or_cases, both_ways, eq-eqb, not-true}
 use Rattle.py_lines.specs.Character.{is_one_of, is_space, is_word_character, is_quote, is_operator, is_break, is_backslash, is_brace}
 use Rattle.py_lines.specs.Piece.{Piece, spelled, operator, string}
 use Rattle.py_lines.specs.Balance.{is_opening, is_closing, closing_of}
-use Rattle.py_lines.specs.FieldStrings.{is_field_prefix, names, Host, Place, literal, specification}
+use Rattle.py_lines.specs.FieldStrings.{is_field_prefix, Host, Place, literal, specification}
 use Rattle.py_lines.specs.declared.mode.Mode.{Mode}
 use Rattle.py_lines.specs.declared.mode.Mode.TheVariants as modes
 use Rattle.py_lines.specs.declared.mode.Move.TheVariants as moves
 use Rattle.py_lines.specs.declared.mode.Start.TheVariants as starts
 use Rattle.py_lines.specs.Private.Machine.{IsFull, short_move, move_of, start_of, first_spelling, spelling_with, is_prefix_spelling}
-use Rattle.py_lines.specs.Private.FieldMachine.{between, after_brace, after_slash, plain, body, FieldMove, grows, closes, breaks, begins_code, ends_field, Level, FieldScanned, field_state, field_fresh, field_ended, field_pieces, begins_host, plain_move, between_move, body_move, field_move, field_moved, field_started, code_operator, openers_with, levels_open, frames, has_room_at}
+use Rattle.py_lines.specs.Private.FieldMachine.{At, FieldMode, between, after_brace, after_slash, plain, body, FieldMove, grows, closes, breaks, begins_code, ends_field, Level, FieldScanned, field_state, field_fresh, field_ended, field_pieces, begins_host, plain_move, between_move, body_move, field_move, field_moved, field_started, code_operator, openers_with, levels_open, frames, has_room_at}
 use Rattle.py_lines.specs.Private.FieldScan.{GoesThrough}
 use Rattle.py_lines.specs.Private.FieldText.{is_apart_mode, is_escaped, InText, AtBrace, AtCode, InCode, StandsInCode, AtSpecification, Leads, level_after, is_code_mode, is_code_bracket}
 use Rattle.py_lines.specs.Private.Run.{is_between, is_ascii_word, is_text_byte, is_body_byte, is_literal_byte, is_code_sign, is_code_byte}
@@ -22,36 +22,49 @@ use Rattle.py_lines.proofs.Text.CharacterTests.{each_of, none_of, not_quote, ope
 use Rattle.py_lines.proofs.Machine.Starts.{start-word, start-space, start-operator, start-quote}
 use Rattle.py_lines.proofs.FieldMachine.Runs.{room_at, stops-fresh}
 use Rattle.py_lines.proofs.FieldMachine.PlainSteps.{plain_moves}
-use Rattle.py_lines.proofs.FieldMachine.PieceRuns.{IsNoColon, operator_stays}
+use Rattle.py_lines.proofs.FieldMachine.PieceRuns.{operator_stays}
 use Rattle.py_lines.proofs.FieldMachine.ListBrackets.{opening_pushes, closing_pops, others_keep}
 use Rattle.py_lines.proofs.FieldMachine.StringParts.{open_moves, other_escaped, second_brace, slash_grows}
 use Rattle.py_lines.proofs.FieldMachine.FieldRuns.{brace_ends, code_moves, colon_opens, end_moves, end_no_quote}
-use Rattle.py_lines.proofs.ScanMachine.Follows.{room_closes, room_grows}
-use Rattle.py_lines.proofs.FieldScans.Runs.{no_longer, text_stays, two_false}
+use Rattle.py_lines.proofs.ScanMachine.Follows.{room_closes}
+use Rattle.py_lines.proofs.FieldScans.Runs.{text_stays, two_false}
 use Rattle.py_lines.proofs.FieldScans.Steps.{goes_through, keeps_open, some_level}
+use Rattle.py_lines.proofs.LineScan.StringSteps.{string_grows}
 use Rattle.py_lines.proofs.LineScan.AsciiRuns.{low_is, quote-no_break, space-not-quote}
 use Rattle.py_lines.proofs.LineScan.Runs.{break-return, body_parts, quote_ascii, space_low, word_byte_continues, word_byte_low, word_byte_starts}
+
+-- where the machine stands: round the string are these fields, and this says which string it is
+abbrev pub Spot : Type 1
+Spot = List Level → Level → FieldScanned → Type 0
 
 -- one character
 one_step : (depth : ℕ) (t next : FieldScanned) (c : ℕ) (v : FieldMove) → c < 128 → is_break c ≡ false → field_move t.mode t.held c ≡ v → (t.outer ≡ [] → v ≡ closes → ⊥) → has_room_at (depth + frames t) c v ≡ true → field_moved t c v ≡ Some next → GoesThrough depth t (c ∷ []) next
 one_step depth t next c v low none is goes_on room comes = (low, none, goes_through 0 depth t c v is next room comes goes_on, next, ap (field_moved t c) is ∙ comes, refl)
+
+-- one by which the open piece grows
+grows_to : (depth : ℕ) (t : FieldScanned) (c : ℕ) (m : FieldMode) → c < 128 → is_break c ≡ false → field_move t.mode t.held c ≡ grows m → GoesThrough depth t (c ∷ []) (field_state t.outer t.done t.openers m (t.held ++ c ∷ []))
+grows_to depth t c m low none move = (low, none, string_grows depth t m c move, field_state t.outer t.done t.openers m (t.held ++ c ∷ []), ap (field_moved t c) move, refl)
+
+-- one before which it ends
+breaks_to : (depth : ℕ) (t next : FieldScanned) (c : ℕ) → c < 128 → is_break c ≡ false → field_move t.mode t.held c ≡ breaks → has_room_at (depth + frames t) c breaks ≡ true → field_started t.outer (field_pieces t) t.openers c (start_of c) ≡ Some next → GoesThrough depth t (c ∷ []) next
+breaks_to depth t next c low none move room begins = one_step depth t next c breaks low none move (λ o e. keeps_open _ refl e) room begins
 
 -- over two runs, one after the other
 pub goes_on-append : (depth : ℕ) (t u v : FieldScanned) (a b : List ℕ) → GoesThrough depth t a u → GoesThrough depth u b v → GoesThrough depth t (a ++ b) v
 goes_on-append depth t u v [] b first second = subst (λ x. GoesThrough depth x b v) (sym first) second
 goes_on-append depth t u v (c ∷ a) b (low, none, move, next, step, others) second = (low, none, move, next, step, goes_on-append depth next u v a b others second)
 
-pub leads-append : (quote : ℕ) (P Q R : List Level → Level → FieldScanned → Type 0) (a b : List ℕ) → Leads quote P a Q → Leads quote Q b R → Leads quote P (a ++ b) R
+pub leads-append : (quote : ℕ) (P Q R : Spot) (a b : List ℕ) → Leads quote P a Q → Leads quote Q b R → Leads quote P (a ++ b) R
 leads-append quote P Q R a b first second outer l depth t same quotes room at =
     let one = first outer l depth t same quotes room at in
     let two = second outer l depth one.0 same quotes room one.2 in
     (two.0, goes_on-append depth t one.0 two.0 a b one.1 two.1, two.2)
 
-pub leads-none : (quote : ℕ) (P : List Level → Level → FieldScanned → Type 0) → Leads quote P [] P
+pub leads-none : (quote : ℕ) (P : Spot) → Leads quote P [] P
 leads-none quote P outer l depth t same quotes room at = (t, refl, at)
 
 -- a run of characters each of which leads back
-leads-run : (passes : ℕ → Bool) (quote : ℕ) (P : List Level → Level → FieldScanned → Type 0) → ((c : ℕ) → passes c ≡ true → Leads quote P (c ∷ []) P) → (run : List ℕ) → list_all passes run ≡ true → Leads quote P run P
+leads-run : (passes : ℕ → Bool) (quote : ℕ) (P : Spot) → ((c : ℕ) → passes c ≡ true → Leads quote P (c ∷ []) P) → (run : List ℕ) → list_all passes run ≡ true → Leads quote P run P
 leads-run passes quote P each [] all = leads-none quote P
 leads-run passes quote P each (c ∷ cs) all =
     let parts = and_parts (passes c) (list_all passes cs) all in
@@ -70,7 +83,7 @@ literal_parts quote c h =
     let both = and_parts (is_text_byte quote c) (not (is_brace c)) h in
     let text = and_parts (is_body_byte quote c) (nat_lt c 128) both.0 in
     let parts = body_parts quote c text.0 in
-    record { low = low_is c text.1; other = parts.0; slash = parts.1; none = parts.2; brace = no_longer (is_brace c) both.1 }
+    record { low = low_is c text.1; other = parts.0; slash = parts.1; none = parts.2; brace = not-true (is_brace c) both.1 }
 
 pub text_grows : (h : Host) (quote c : ℕ) → h.quote ≡ quote → IsLiteral quote c → (held : List ℕ) → (place : Place) → field_move (body h place false between) held c ≡ grows (body h place false between)
 unfolding field_move
@@ -92,44 +105,35 @@ end_no_break : is_break 125 ≡ false
 unfolding is_break
 end_no_break = refl
 
--- in the text of a string
-module _ (quote : ℕ) (outer : List Level) (l : Level) (depth : ℕ) (same : l.host.quote ≡ quote) (quotes : is_quote quote ≡ true) where
-  abbrev quoted : is_quote l.host.quote ≡ true
-  quoted = ap is_quote same ∙ quotes
+-- in the literal part of a string, which has come so far
+abbrev InPart : At → Spot
+InPart at outer l t = (held : List ℕ) × (t ≡ field_state outer l.done l.openers (body l.host literal false at) held)
 
-  abbrev S : List ℕ → FieldScanned
-  S held = field_state outer l.done l.openers (body l.host literal false between) held
-
-  grown_by : (c : ℕ) (held : List ℕ) → c < 128 → is_break c ≡ false → field_move (body l.host literal false between) held c ≡ grows (body l.host literal false between) → (u : FieldScanned) × GoesThrough depth (S held) (c ∷ []) u × InText outer l u
-  grown_by c held low none move = (
-    S (held ++ c ∷ []),
-    one_step depth (S held) (S (held ++ c ∷ [])) c (grows (body l.host literal false between)) low none move (λ o e. keeps_open _ refl e) (room_grows (depth + frames (S held)) c (body l.host literal false between)) refl,
-    (held ++ c ∷ [], refl),
-  )
-
-from_text : (quote : ℕ) (run : List ℕ) (Q : List Level → Level → FieldScanned → Type 0) → ((outer : List Level) (l : Level) (depth : ℕ) (held : List ℕ) → l.host.quote ≡ quote → is_quote quote ≡ true → depth + (length l.openers + levels_open outer) ≤ 100 → (u : FieldScanned) × GoesThrough depth (field_state outer l.done l.openers (body l.host literal false between) held) run u × Q outer l u) → Leads quote InText run Q
-from_text quote run Q from outer l depth t same quotes room (held, is) = subst (λ x. (u : FieldScanned) × GoesThrough depth x run u × Q outer l u) (sym is) (from outer l depth held same quotes room)
+part_leads : (quote c : ℕ) (a b : At) → c < 128 → is_break c ≡ false → ((host : Host) (held : List ℕ) → host.quote ≡ quote → is_quote host.quote ≡ true → field_move (body host literal false a) held c ≡ grows (body host literal false b)) → Leads quote (InPart a) (c ∷ []) (InPart b)
+part_leads quote c a b low none moves outer l depth t same quotes room (held, is) =
+    subst (λ x. (u : FieldScanned) × GoesThrough depth x (c ∷ []) u × InPart b outer l u) (sym is) (
+      field_state outer l.done l.openers (body l.host literal false b) (held ++ c ∷ []),
+      grows_to depth (field_state outer l.done l.openers (body l.host literal false a) held) c (body l.host literal false b) low none (moves l.host held same (ap is_quote same ∙ quotes)),
+      (held ++ c ∷ [], refl),
+    )
 
 text_leads : (quote c : ℕ) → is_literal_byte quote c ≡ true → Leads quote InText (c ∷ []) InText
-text_leads quote c h =
-    let is = literal_parts quote c h in
-    from_text quote (c ∷ []) InText (λ outer l depth held same quotes room. grown_by quote outer l depth same quotes c held is.low is.none (text_grows l.host quote c same is held literal))
+text_leads quote c h = let is = literal_parts quote c h in part_leads quote c between between is.low is.none (λ host held same quotes. text_grows host quote c same is held literal)
 
 pub texts_lead : (quote : ℕ) (run : List ℕ) → list_all (is_literal_byte quote) run ≡ true → Leads quote InText run InText
 texts_lead quote = leads-run (is_literal_byte quote) quote InText (text_leads quote)
 
 -- `}` and `{{`
 pub brace_leads : (quote : ℕ) → Leads quote InText (125 ∷ []) InText
-brace_leads quote =
-    from_text quote (125 ∷ []) InText (λ outer l depth held same quotes room. grown_by quote outer l depth same quotes 125 held (omega arith) end_no_break (brace_stays l.host held (ap is_quote same ∙ quotes)))
+brace_leads quote = part_leads quote 125 between between (omega arith) end_no_break (λ host held same quotes. brace_stays host held quotes)
 
 pub open_leads : (quote : ℕ) → Leads quote InText (123 ∷ []) AtBrace
-open_leads quote =
-    from_text quote (123 ∷ []) AtBrace (λ outer l depth held same quotes room. (
-      field_state outer l.done l.openers (body l.host literal false after_brace) (held ++ 123 ∷ []),
-      one_step depth (field_state outer l.done l.openers (body l.host literal false between) held) (field_state outer l.done l.openers (body l.host literal false after_brace) (held ++ 123 ∷ [])) 123 (grows (body l.host literal false after_brace)) (omega arith) open_no_break (brace_opens l.host held (ap is_quote same ∙ quotes)) (λ o e. keeps_open _ refl e) (room_grows _ 123 (body l.host literal false after_brace)) refl,
-      (held ++ 123 ∷ [], refl),
-    ))
+open_leads quote = part_leads quote 123 between after_brace (omega arith) open_no_break (λ host held same quotes. brace_opens host held quotes)
+
+pub two_lead : (quote : ℕ) → Leads quote InText (123 ∷ 123 ∷ []) InText
+two_lead quote =
+    leads-append quote InText AtBrace InText (123 ∷ []) (123 ∷ []) (open_leads quote)
+    (part_leads quote 123 after_brace between (omega arith) open_no_break (λ host held same quotes. second_brace host literal false held))
 
 -- a backslash and a character
 slash_opens : (host : Host) (held : List ℕ) → is_quote host.quote ≡ true → field_move (body host literal false between) held 92 ≡ grows (body host literal false after_slash)
@@ -145,32 +149,13 @@ escape_leads quote c h =
     let low = and_parts (nat_lt c 128) (not (is_break c) && (not (is_brace c) && not (c == 78))) h in
     let none = and_parts (not (is_break c)) (not (is_brace c) && not (c == 78)) low.1 in
     let others = two_false (is_brace c) (c == 78) none.1 in
-    let unbroken : is_break c ≡ false = no_longer (is_break c) none.0 in
-    from_text quote (92 ∷ c ∷ []) InText (λ outer l depth held same quotes room.
-    let S : FieldScanned = field_state outer l.done l.openers (body l.host literal false between) held in
-    let slashed : FieldScanned = field_state outer l.done l.openers (body l.host literal false after_slash) (held ++ 92 ∷ []) in
-    let ended : FieldScanned = field_state outer l.done l.openers (body l.host literal false between) ((held ++ 92 ∷ []) ++ c ∷ []) in
-    let unnamed : names l.host c ≡ false = ap (λ b. b && not l.host.is_raw) others.1 in (
-      ended,
-      goes_on-append depth S slashed ended (92 ∷ []) (c ∷ [])
-          (one_step depth S slashed 92 (grows (body l.host literal false after_slash)) (omega arith) slash_no_break (slash_opens l.host held (ap is_quote same ∙ quotes)) (λ o e. keeps_open _ refl e) (room_grows _ 92 (body l.host literal false after_slash)) refl)
-          (one_step depth slashed ended c (grows (body l.host literal false between)) (low_is c low.0) unbroken (other_escaped l.host literal false (held ++ 92 ∷ []) c others.0 refl (break-return c unbroken) unnamed) (λ o e. keeps_open _ refl e) (room_grows _ c (body l.host literal false between)) refl),
-      ((held ++ 92 ∷ []) ++ c ∷ [], refl),
-    ))
-
-second_leads : (quote : ℕ) → Leads quote AtBrace (123 ∷ []) InText
-second_leads quote outer l depth t same quotes room (held, is) =
-    subst (λ x. (u : FieldScanned) × GoesThrough depth x (123 ∷ []) u × InText outer l u) (sym is) (
-      field_state outer l.done l.openers (body l.host literal false between) (held ++ 123 ∷ []),
-      one_step depth (field_state outer l.done l.openers (body l.host literal false after_brace) held) (field_state outer l.done l.openers (body l.host literal false between) (held ++ 123 ∷ [])) 123 (grows (body l.host literal false between)) (omega arith) open_no_break (second_brace l.host literal false held) (λ o e. keeps_open _ refl e) (room_grows _ 123 (body l.host literal false between)) refl,
-      (held ++ 123 ∷ [], refl),
-    )
-
-pub two_lead : (quote : ℕ) → Leads quote InText (123 ∷ 123 ∷ []) InText
-two_lead quote = leads-append quote InText AtBrace InText (123 ∷ []) (123 ∷ []) (open_leads quote) (second_leads quote)
+    let unbroken : is_break c ≡ false = not-true (is_break c) none.0 in
+    leads-append quote InText (InPart after_slash) InText (92 ∷ []) (c ∷ [])
+    (part_leads quote 92 between after_slash (omega arith) slash_no_break (λ host held same quotes. slash_opens host held quotes))
+    (part_leads quote c after_slash between (low_is c low.0) unbroken (λ host held same quotes. other_escaped host literal false held c others.0 refl (break-return c unbroken) (ap (λ b. b && not host.is_raw) others.1)))
 
 -- after `{`, code begins with what is no brace of that kind
-pub code_after : (quote : ℕ) (Q : List Level → Level → FieldScanned → Type 0) (c : ℕ) (cs : List ℕ) → c == 123 ≡ false → Leads quote (AtCode []) (c ∷ cs) Q → Leads quote AtBrace (c ∷ cs) Q
+pub code_after : (quote : ℕ) (Q : Spot) (c : ℕ) (cs : List ℕ) → c == 123 ≡ false → Leads quote (AtCode []) (c ∷ cs) Q → Leads quote AtBrace (c ∷ cs) Q
 code_after quote Q c cs other leads outer l depth t same quotes room (held, is) =
     subst (λ x. (u : FieldScanned) × GoesThrough depth x (c ∷ cs) u × Q outer l u) (sym is) (go (leads outer l depth F same quotes room code))
   where
@@ -192,44 +177,8 @@ code_after quote Q c cs other leads outer l depth t same quotes room (held, is) 
         let comes : field_moved T c (begins_code l.host) ≡ Some next = sym (ap (field_moved F c) (stops-fresh (c ∷ []))) ∙ step in
         (u, (low, none, goes_through 0 depth T c (begins_code l.host) begins next free comes (λ o e. keeps_open _ refl e), next, ap (field_moved T c) begins ∙ comes, others), to)
 
--- what a character does to a word, to space, and where no piece is open
-module _ (quote : ℕ) (outer : List Level) (l : Level) (depth : ℕ) (front : List ℕ) (done : List Piece) (os : List ℕ) (held : List ℕ) where
-  abbrev L : Level
-  L = level_after l front
-
-  abbrev C : Mode → FieldScanned
-  C m = field_state (L ∷ outer) done os (plain m) held
-
-  code_grows : (passes : Mode → Bool) (m n : Mode) (c : ℕ) → c < 128 → is_break c ≡ false → field_move (plain m) held c ≡ grows (plain n) → passes n ≡ true → (u : FieldScanned) × GoesThrough depth (C m) (c ∷ []) u × StandsInCode passes os outer l u
-  code_grows passes m n c low none move simple = (
-    field_state (L ∷ outer) done os (plain n) (held ++ c ∷ []),
-    one_step depth (C m) (field_state (L ∷ outer) done os (plain n) (held ++ c ∷ [])) c (grows (plain n)) low none move (λ o e. keeps_open _ refl e) (room_grows _ c (plain n)) refl,
-    record { front = front; done = done; mode = n; held = held ++ c ∷ []; is = refl; simple = simple },
-  )
-
-  -- a character that begins a piece
-  code_breaks : (m : Mode) (c : ℕ) (next : FieldScanned) → c < 128 → is_break c ≡ false → field_move (plain m) held c ≡ breaks → has_room_at (depth + frames (C m)) c breaks ≡ true → field_started (L ∷ outer) (field_pieces (C m)) os c (start_of c) ≡ Some next → GoesThrough depth (C m) (c ∷ []) next
-  code_breaks m c next low none move room starts_so = one_step depth (C m) next c breaks low none move (λ o e. keeps_open _ refl e) room starts_so
-
-  code_opens : (passes : Mode → Bool) (m n : Mode) (c : ℕ) → c < 128 → is_break c ≡ false → field_move (plain m) held c ≡ breaks → has_room_at (depth + frames (C m)) c breaks ≡ true → start_of c ≡ starts.Open n → passes n ≡ true → (u : FieldScanned) × GoesThrough depth (C m) (c ∷ []) u × StandsInCode passes os outer l u
-  code_opens passes m n c low none move room opens simple =
-      let next : FieldScanned = field_state (L ∷ outer) (field_pieces (C m)) os (plain n) (c ∷ []) in (
-        next,
-        code_breaks m c next low none move room (ap (field_started (L ∷ outer) (field_pieces (C m)) os c) opens),
-        record { front = front; done = field_pieces (C m); mode = n; held = c ∷ []; is = refl; simple = simple },
-      )
-
-  code_operates : (m : Mode) (after : List ℕ) (c : ℕ) → c < 128 → is_break c ≡ false → field_move (plain m) held c ≡ breaks → has_room_at (depth + frames (C m)) c breaks ≡ true → start_of c ≡ starts.Operator → openers_with os c ≡ Some after → IsNoColon (L ∷ outer) os c → (u : FieldScanned) × GoesThrough depth (C m) (c ∷ []) u × AtCode after outer l u
-  code_operates m after c low none move room opens stands no_colon =
-      let ps = field_pieces (C m) in
-      let next : FieldScanned = field_fresh (L ∷ outer) (ps ++ piece operator (c ∷ []) ∷ []) after in (
-        next,
-        code_breaks m c next low none move room (ap (field_started (L ∷ outer) ps os c) opens ∙ operator_stays (L ∷ outer) ps os after c stands no_colon),
-        record { front = front; done = ps ++ piece operator (c ∷ []) ∷ []; mode = modes.Free; held = []; is = refl; simple = refl },
-      )
-
 -- wherever the code stands
-from_code : (passes : Mode → Bool) (os : List ℕ) (quote : ℕ) (run : List ℕ) (Q : List Level → Level → FieldScanned → Type 0) → ((outer : List Level) (l : Level) (depth : ℕ) (front : List ℕ) (done : List Piece) (held : List ℕ) (m : Mode) → passes m ≡ true → depth + (length l.openers + levels_open outer) ≤ 100 → l.host.quote ≡ quote → is_quote quote ≡ true → (u : FieldScanned) × GoesThrough depth (field_state (level_after l front ∷ outer) done os (plain m) held) run u × Q outer l u) → Leads quote (StandsInCode passes os) run Q
+from_code : (passes : Mode → Bool) (os : List ℕ) (quote : ℕ) (run : List ℕ) (Q : Spot) → ((outer : List Level) (l : Level) (depth : ℕ) (front : List ℕ) (done : List Piece) (held : List ℕ) (m : Mode) → passes m ≡ true → depth + (length l.openers + levels_open outer) ≤ 100 → l.host.quote ≡ quote → is_quote quote ≡ true → (u : FieldScanned) × GoesThrough depth (field_state (level_after l front ∷ outer) done os (plain m) held) run u × Q outer l u) → Leads quote (StandsInCode passes os) run Q
 from_code passes os quote run Q from outer l depth t same quotes room at =
     subst (λ x. (u : FieldScanned) × GoesThrough depth x run u × Q outer l u) (sym at.is) (from outer l depth at.front at.done at.held at.mode at.simple room same quotes)
 
@@ -294,9 +243,20 @@ BeginsOrGrows passes c m held = (field_move (plain m) held c ≡ breaks) ⊎ ((n
 piece_leads : (passes : Mode → Bool) (os : List ℕ) (quote c : ℕ) (begun : Mode) → c < 128 → is_break c ≡ false → is_opening c ≡ false → start_of c ≡ starts.Open begun → passes begun ≡ true → ((m : Mode) (held : List ℕ) → is_code_mode m ≡ true → BeginsOrGrows passes c m held) → Leads quote (InCode os) (c ∷ []) (StandsInCode passes os)
 piece_leads passes os quote c begun low none opens_none opens simple each =
     from_code is_code_mode os quote (c ∷ []) (StandsInCode passes os) (λ outer l depth front done held m code room same quotes.
+    let C : FieldScanned = field_state (level_after l front ∷ outer) done os (plain m) held in
+    let next : FieldScanned = field_state (level_after l front ∷ outer) (field_pieces C) os (plain begun) (c ∷ []) in
     ⊎_elim
-    (λ move. code_opens quote outer l depth front done os held passes m begun c low none move (free_room _ c opens_none) opens simple)
-    (λ (n, move, more). code_grows quote outer l depth front done os held passes m n c low none move more) (each m held code))
+    (λ move. (
+      next,
+      breaks_to depth C next c low none move (free_room _ c opens_none) (ap (field_started (level_after l front ∷ outer) (field_pieces C) os c) opens),
+      record { front = front; done = field_pieces C; mode = begun; held = c ∷ []; is = refl; simple = simple },
+    ))
+    (λ (n, move, more). (
+      field_state (level_after l front ∷ outer) done os (plain n) (held ++ c ∷ []),
+      grows_to depth C c (plain n) low none move,
+      record { front = front; done = done; mode = n; held = held ++ c ∷ []; is = refl; simple = more },
+    ))
+    (each m held code))
 
 -- in a word
 word_character : (c : ℕ) → is_ascii_word c ≡ true → is_word_character c ≡ true
@@ -349,10 +309,16 @@ operator_breaks m held c simple h = let others = operator_others c h in no_more 
 operator_leads : (os after : List ℕ) (quote c : ℕ) → is_operator c ≡ true → openers_with os c ≡ Some after → (c == 58) && (length os == 0) ≡ false → ((n : ℕ) → n ≤ 101 → has_room_at (n + length os) c breaks ≡ true) → Leads quote (InCode os) (c ∷ []) (AtCode after)
 operator_leads os after quote c h stands no_colon rooms =
     from_code is_code_mode os quote (c ∷ []) (AtCode after) (λ outer l depth front done held m simple room same quotes.
+    let C : FieldScanned = field_state (level_after l front ∷ outer) done os (plain m) held in
+    let ps = field_pieces C in
+    let next : FieldScanned = field_fresh (level_after l front ∷ outer) (ps ++ piece operator (c ∷ []) ∷ []) after in
     let n = depth + (length l.openers + levels_open outer + 1) in
-    let deep : n + length os ≡ depth + (length os + (length l.openers + levels_open outer + 1)) = omega arith in
-    code_operates quote outer l depth front done os held m after c (operator_ascii c h) (operator_others c h).2 (operator_breaks m held c simple h)
-    (subst (λ (k : ℕ). has_room_at k c breaks ≡ true) deep (rooms n (omega (arith, room)))) (start-operator c h) stands no_colon)
+    let deep : n + length os ≡ depth + (length os + (length l.openers + levels_open outer + 1)) = omega arith in (
+      next,
+      breaks_to depth C next c (operator_ascii c h) (operator_others c h).2 (operator_breaks m held c simple h) (subst (λ (k : ℕ). has_room_at k c breaks ≡ true) deep (rooms n (omega (arith, room))))
+          (ap (field_started (level_after l front ∷ outer) ps os c) (start-operator c h) ∙ operator_stays (level_after l front ∷ outer) ps os after c stands no_colon),
+      record { front = front; done = ps ++ piece operator (c ∷ []) ∷ []; mode = modes.Free; held = []; is = refl; simple = refl },
+    ))
 
 -- the operators that code has mostly
 from : ℕ → ℕ → List ℕ
@@ -402,10 +368,10 @@ apart_code m h = absurd (both_ways _ refl h)
 in_code : (os : List ℕ) (outer : List Level) (l : Level) (t : FieldScanned) → AtCode os outer l t → InCode os outer l t
 in_code os outer l t at = record { front = at.front; done = at.done; mode = at.mode; held = at.held; is = at.is; simple = apart_code at.mode at.simple }
 
-pub leads_from_code : (os : List ℕ) (quote : ℕ) (run : List ℕ) (Q : List Level → Level → FieldScanned → Type 0) → Leads quote (InCode os) run Q → Leads quote (AtCode os) run Q
+pub leads_from_code : (os : List ℕ) (quote : ℕ) (run : List ℕ) (Q : Spot) → Leads quote (InCode os) run Q → Leads quote (AtCode os) run Q
 leads_from_code os quote run Q leads outer l depth t same quotes room at = leads outer l depth t same quotes room (in_code os outer l t at)
 
-pub leads_to_code : (os : List ℕ) (quote : ℕ) (P : List Level → Level → FieldScanned → Type 0) (run : List ℕ) → Leads quote P run (AtCode os) → Leads quote P run (InCode os)
+pub leads_to_code : (os : List ℕ) (quote : ℕ) (P : Spot) (run : List ℕ) → Leads quote P run (AtCode os) → Leads quote P run (InCode os)
 leads_to_code os quote P run leads outer l depth t same quotes room at =
     let (u, goes, to) = leads outer l depth t same quotes room at in
     (u, goes, in_code os outer l u to)
@@ -430,7 +396,7 @@ module _ (quote : ℕ) (outer : List Level) (l : Level) (depth : ℕ) (front : L
   text_on : (ps : List Piece) (m : Mode) (held : List ℕ) (c : ℕ) → begins_host m held c ≡ false → move_of m c ≡ moves.Grows (modes.Inside q) → is_text_byte q c ≡ true → GoesThrough depth (open_in ps m held) (c ∷ []) (open_in ps (modes.Inside q) (held ++ c ∷ []))
   text_on ps m held c none move passes =
       let parts = and_parts (is_body_byte q c) (nat_lt c 128) passes in
-      one_step depth (open_in ps m held) (open_in ps (modes.Inside q) (held ++ c ∷ [])) c (grows (plain (modes.Inside q))) (low_is c parts.1) (body_parts q c parts.0).2 (plain_moves m held c none ∙ ap plain_move move) (λ o e. keeps_open _ refl e) (room_grows _ c (plain (modes.Inside q))) refl
+      grows_to depth (open_in ps m held) c (plain (modes.Inside q)) (low_is c parts.1) (body_parts q c parts.0).2 (plain_moves m held c none ∙ ap plain_move move)
 
   inside_grows : (c : ℕ) → is_text_byte q c ≡ true → move_of (modes.Inside q) c ≡ moves.Grows (modes.Inside q)
   unfolding move_of short_move
@@ -492,7 +458,7 @@ string_leads os quote q (d ∷ ds) quotes full all =
     let ended : FieldScanned = closed_in quote outer l depth front os q quotes ps ((q ∷ d ∷ []) ++ ds) in (
       ended,
       goes_on-append depth C opened ended (q ∷ []) ((d ∷ ds) ++ q ∷ [])
-          (one_step depth C opened q breaks (quote_ascii q quotes) (quote-no_break q quotes) (quote_breaks m held q apart quotes) (λ o e. keeps_open _ refl e) (free_room _ q (quote_opens_none q quotes)) (ap (field_started (level_after l front ∷ outer) ps os q) (start-quote q quotes)))
+          (breaks_to depth C opened q (quote_ascii q quotes) (quote-no_break q quotes) (quote_breaks m held q apart quotes) (free_room _ q (quote_opens_none q quotes)) (ap (field_started (level_after l front ∷ outer) ps os q) (start-quote q quotes)))
           (text_goes quote outer l depth front os q quotes ps d ds all),
       record { front = front; done = ps ++ piece string (((q ∷ d ∷ []) ++ ds) ++ q ∷ []) ∷ []; mode = modes.Free; held = []; is = refl; simple = refl },
     ))
@@ -518,14 +484,14 @@ closing_leads quote o c h same =
     )
 
 -- the end of the code
-end_leads : (quote c : ℕ) (Q : List Level → Level → FieldScanned → Type 0) (to : Level → List Level → List Piece → FieldScanned) → is_operator c ≡ true → is_opening c ≡ false → ((level : Level) (outer : List Level) (ps : List Piece) → code_operator level outer ps c ≡ Some (to level outer ps)) → ((outer : List Level) (l : Level) (front : List ℕ) (ps : List Piece) → Q outer l (to (level_after l front) outer ps)) → Leads quote (InCode []) (c ∷ []) Q
+end_leads : (quote c : ℕ) (Q : Spot) (to : Level → List Level → List Piece → FieldScanned) → is_operator c ≡ true → is_opening c ≡ false → ((level : Level) (outer : List Level) (ps : List Piece) → code_operator level outer ps c ≡ Some (to level outer ps)) → ((outer : List Level) (l : Level) (front : List ℕ) (ps : List Piece) → Q outer l (to (level_after l front) outer ps)) → Leads quote (InCode []) (c ∷ []) Q
 end_leads quote c Q to h opens ends there =
     from_code is_code_mode [] quote (c ∷ []) Q (λ outer l depth front done held m simple room same quotes.
     let level = level_after l front in
     let C : FieldScanned = field_state (level ∷ outer) done [] (plain m) held in
     let ps = field_pieces C in (
       to level outer ps,
-      one_step depth C (to level outer ps) c breaks (operator_ascii c h) (operator_others c h).2 (operator_breaks m held c simple h) (λ o e. keeps_open _ refl e) (free_room _ c opens)
+      breaks_to depth C (to level outer ps) c (operator_ascii c h) (operator_others c h).2 (operator_breaks m held c simple h) (free_room _ c opens)
           (ap (field_started (level ∷ outer) ps [] c) (start-operator c h) ∙ ends level outer ps),
       there outer l front ps,
     ))
@@ -551,7 +517,7 @@ specified_leads quote c h outer l depth t same quotes room (front, held, is) =
     let S : List ℕ → FieldScanned = λ x. field_state (level_after l front ∷ outer) [] [] (body l.host specification false between) x in
     subst (λ x. (u : FieldScanned) × GoesThrough depth x (c ∷ []) u × AtSpecification outer l u) (sym is) (
       S (held ++ c ∷ []),
-      one_step depth (S held) (S (held ++ c ∷ [])) c (grows (body l.host specification false between)) own.low own.none (text_grows l.host quote c same own held specification) (λ o e. keeps_open _ refl e) (room_grows _ c (body l.host specification false between)) refl,
+      grows_to depth (S held) c (body l.host specification false between) own.low own.none (text_grows l.host quote c same own held specification),
       (front, held ++ c ∷ [], refl),
     )
 
