@@ -2,8 +2,8 @@
 use Rattle.std.proofs.Common.{◌≡◌, ℕ, ◌+◌, ◌==◌, true, false, ◌&&◌, Some, List, [], ◌∷◌, ◌++◌, refl, sym, ap, ◌∙◌, subst, ⊎_elim}
 use Rattle.std.specs.Prelude.{if◌then◌else◌}
 use Rattle.std.specs.Str.{byte}
-use Rattle.std.proofs.lemmas.Bool.{cond_both}
-use Rattle.py_lines.specs.Character.{is_mark, is_space, is_word_character, is_quote, is_line_feed, is_return, is_break, is_backslash}
+use Rattle.std.proofs.lemmas.Bool.{both_ways, cond_both}
+use Rattle.py_lines.specs.Character.{is_word_character, is_quote, is_break, is_backslash}
 use Rattle.py_lines.specs.Piece.{Piece, spelled}
 use Rattle.py_lines.specs.LogicalLine.{byte_len}
 use Rattle.py_lines.specs.FieldStrings.{Host, literal}
@@ -17,7 +17,7 @@ use Rattle.py_lines.specs.declared.field_scan.FieldScan.{FieldScan}
 use Rattle.py_lines.specs.declared.scan.Progress.{Progress}
 use Rattle.py_lines.specs.declared.scan.Progress.TheVariants as progress
 use Rattle.py_lines.specs.declared.scan.Scan.{Scan}
-use Rattle.py_lines.specs.Private.Machine.{Scanned, moved, move_of, short_move, long_move}
+use Rattle.py_lines.specs.Private.Machine.{Scanned, moved}
 use Rattle.py_lines.specs.Private.FieldMachine.{between, FieldMode, opened, empty, body, FieldMove, grows, breaks, FieldScanned, field_state, field_move, field_moved, field_step, body_move, between_move, long_host}
 use Rattle.py_lines.specs.Private.FieldScan.{FollowsBody, IsPlaced}
 use Rattle.py_lines.specs.Private.ScanMachine.{begins_string, host_in, is_field_spelling, meet_of, opened_move, quote_move, IsScanSound, fielded_move}
@@ -25,6 +25,7 @@ use Rattle.py_lines.specs.Private.Scan.{Tallies, IsStacked, EndsNoLine, StandsIn
 use Rattle.py_lines.proofs.FieldMachine.StringRuns.{moved_between}
 use Rattle.py_lines.proofs.LogicalLines.Cuts.{byte_len-append}
 use Rattle.py_lines.proofs.Machine.PieceSteps.{scanned}
+use Rattle.py_lines.proofs.ScanMachine.Follows.{NoField, grows_plain}
 use Rattle.py_lines.proofs.LineScan.NextCharacter.{counts_read}
 use Rattle.py_lines.proofs.LineScan.StringSteps.{string_grows, string_more}
 
@@ -32,40 +33,16 @@ use Rattle.py_lines.proofs.LineScan.StringSteps.{string_grows, string_more}
 abbrev Elsewhere : Move → Type 0
 Elsewhere v = v ≡ moves.Grows modes.Fielded → ⊥
 
-short_elsewhere : (q c : ℕ) → Elsewhere (short_move q c)
-unfolding short_move
-short_elsewhere q c = cond_both (is_backslash c) _ _ Elsewhere (λ _ e. cc) (λ _. cond_both (is_break c) _ _ Elsewhere (λ _ e. cc) (λ _ e. cc))
-
-long_elsewhere : (q c : ℕ) → Elsewhere (long_move q c)
-unfolding long_move
-long_elsewhere q c = cond_both (is_backslash c) _ _ Elsewhere (λ _ e. cc) (λ _ e. cc)
-
 quote_elsewhere : (s : Spelling) (c : ℕ) → Elsewhere (quote_move s c)
 unfolding quote_move
 quote_elsewhere s c = cond_both (is_field_spelling s) _ _ Elsewhere (λ _ e. cc) (λ _. cond_both (begins_string s) _ _ Elsewhere (λ _ e. cc) (λ _ e. cc))
 
 pub enters_after : (m : Mode) (c : ℕ) → ((h : StringWithFields) → m ≡ modes.FieldOpened h → ⊥) → ((h : StringWithFields) → m ≡ modes.FieldEmpty h → ⊥) → meet_of m c ≡ moves.Grows modes.Fielded → ⊥
-unfolding meet_of move_of
-enters_after modes.Start c one two = cond_both (is_mark c) _ _ Elsewhere (λ _ e. cc) (λ _ e. cc)
-enters_after modes.Free c one two = λ e. cc
-enters_after modes.Space c one two = cond_both (is_space c) _ _ Elsewhere (λ _ e. cc) (λ _ e. cc)
+unfolding meet_of
 enters_after (modes.Word s) c one two = cond_both (is_word_character c) _ _ Elsewhere (λ _ e. cc) (λ _. cond_both (is_quote c) _ _ Elsewhere (λ _. quote_elsewhere s c) (λ _ e. cc))
-enters_after modes.Comment c one two = cond_both (is_break c) _ _ Elsewhere (λ _ e. cc) (λ _ e. cc)
-enters_after (modes.Opened q) c one two = cond_both (c == q) _ _ Elsewhere (λ _ e. cc) (λ _. short_elsewhere q c)
-enters_after (modes.Inside q) c one two = cond_both (c == q) _ _ Elsewhere (λ _ e. cc) (λ _. short_elsewhere q c)
-enters_after (modes.Escape q) c one two = cond_both (is_return c) _ _ Elsewhere (λ _ e. cc) (λ _ e. cc)
-enters_after (modes.EscapeReturn q) c one two = cond_both (is_line_feed c) _ _ Elsewhere (λ _ e. cc) (λ _. cond_both (c == q) _ _ Elsewhere (λ _ e. cc) (λ _. short_elsewhere q c))
-enters_after (modes.Empty q) c one two = cond_both (c == q) _ _ Elsewhere (λ _ e. cc) (λ _ e. cc)
-enters_after (modes.Long q) c one two = cond_both (c == q) _ _ Elsewhere (λ _ e. cc) (λ _. long_elsewhere q c)
-enters_after (modes.LongOne q) c one two = cond_both (c == q) _ _ Elsewhere (λ _ e. cc) (λ _. long_elsewhere q c)
-enters_after (modes.LongTwo q) c one two = cond_both (c == q) _ _ Elsewhere (λ _ e. cc) (λ _. long_elsewhere q c)
-enters_after (modes.LongEscape q) c one two = λ e. cc
 enters_after (modes.FieldOpened h) c one two = absurd (one h refl)
 enters_after (modes.FieldEmpty h) c one two = absurd (two h refl)
-enters_after modes.Fielded c one two = λ e. cc
-enters_after modes.Backslash c one two = cond_both (is_line_feed c) _ _ Elsewhere (λ _ e. cc) (λ _. cond_both (is_return c) _ _ Elsewhere (λ _ e. cc) (λ _ e. cc))
-enters_after modes.JoinReturn c one two = cond_both (is_line_feed c) _ _ Elsewhere (λ _ e. cc) (λ _ e. cc)
-enters_after modes.Return c one two = cond_both (is_line_feed c) _ _ Elsewhere (λ _ e. cc) (λ _ e. cc)
+enters_after m c one two = λ e. both_ways _ (subst NoField e (grows_plain m c)) refl
 
 -- after one quote: what comes is neither the quote nor a line end
 first_of_body : (h : StringWithFields) (c : ℕ) → meet_of (modes.FieldOpened h) c ≡ moves.Grows modes.Fielded → (c == h.quote ≡ false) × (is_break c ≡ false)

@@ -21,6 +21,7 @@ use Rattle.py_lines.specs.Private.ScanMachine.{string_state, string_move, fielde
 use Rattle.py_lines.specs.Private.LineState.{first_mode}
 use Rattle.py_lines.specs.Private.Scan.{refused_place, IsRefusal, IsRefusalIn, IsUnfinished, IsUnfinishedIn, IsPlainUnfinished, FieldsFollow, StandsInString, GoesOnInString, ClosesString, freed, in_mode, with_character, with_field_scan, Tallies, IsStacked, stack_of, depth_of}
 use Rattle.py_lines.proofs.FieldSoundness.HostSteps.{sound_at}
+use Rattle.py_lines.proofs.FieldSoundness.LiveTexts.{steps-append}
 use Rattle.py_lines.proofs.FieldSoundness.WholeTexts.{no_limit, any_rooms}
 use Rattle.py_lines.proofs.FieldScans.Places.{scan_placed}
 use Rattle.py_lines.proofs.LogicalLines.Cuts.{byte_len-append}
@@ -40,17 +41,12 @@ opens_plain c m opens is =
     subst (StartsSo c) begins (starts_so c)
 
 -- the state of a string after more of its text
-pub steps_more : (o : Option FieldScanned) (a b : List ℕ) → field_steps_from o (a ++ b) ≡ field_steps_from (field_steps_from o a) b
-steps_more None a b = refl
-steps_more (Some t) [] b = refl
-steps_more (Some t) (c ∷ a) b = steps_more (field_step t c) a b
-
 one_step : (o : Option FieldScanned) → field_steps_from o [] ≡ o
 one_step None = refl
 one_step (Some t) = refl
 
 pub string_more : (held : List ℕ) (c : ℕ) (t : FieldScanned) → string_state held ≡ Some t → string_state (held ++ c ∷ []) ≡ field_step t c
-string_more held c t is = steps_more (Some field_text_start) held (c ∷ []) ∙ ap (λ o. field_steps_from o (c ∷ [])) is ∙ one_step (field_step t c)
+string_more held c t is = steps-append (Some field_text_start) held (c ∷ []) ∙ ap (λ o. field_steps_from o (c ∷ [])) is ∙ one_step (field_step t c)
 
 -- how far it goes
 pub here_at : (held : List ℕ) (t : FieldScanned) → string_state held ≡ Some t → here t ≡ byte_len held

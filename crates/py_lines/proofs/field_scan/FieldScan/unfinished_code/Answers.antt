@@ -2,7 +2,7 @@ use Rattle.std.proofs.Common.{Bool, refl, sym, ap, ◌∙◌}
 use Rattle.std.specs.Prelude.{if◌then◌else◌}
 use Rattle.py_lines.specs.Faults.{open_short, open_long, open_join}
 use Rattle.py_lines.specs.declared.fault.FaultKind.TheVariants.{OpenBracket, OpenField}
-use Rattle.py_lines.proofs.FieldScans.FieldFaults.{code_end, join_round, long_round, short_round}
+use Rattle.py_lines.proofs.FieldScans.FieldFaults.{code_end, what_round}
 use Rattle.py_lines.proofs.field_scan.FieldScan.unfinished_code.Goals.{then-in_bracket, else-in_bracket}
 use Rattle.py_lines.proofs.field_scan.FieldScan.unfinished_code.Goals as goal
 
@@ -13,14 +13,14 @@ returns c = λ base depth t f is inside. elim c.if-in_bracket.branch [
 ]
 
 pub returns-then-in_short : goal.returns-then-in_short
-returns-then-in_short c = λ base depth t f is inside. (open_short, short_round c.args.mode depth t is (sym c.in_short.ensures ∙ c.if-in_short.true), refl, f.start)
+returns-then-in_short c = λ base depth t f is inside. (open_short, what_round c.args.mode depth t is ∙ rw (sym c.in_short.ensures ∙ c.if-in_short.true), refl, f.start)
 
 pub returns-then-in_long : goal.returns-then-in_long
 returns-then-in_long c = λ base depth t f is inside.
-    (open_long, long_round c.args.mode depth t is (sym c.in_short.ensures ∙ c.if-in_short.false) (sym c.in_long.ensures ∙ c.if-in_long.true), refl, f.start)
+    (open_long, what_round c.args.mode depth t is ∙ rw (sym c.in_short.ensures ∙ c.if-in_short.false, sym c.in_long.ensures ∙ c.if-in_long.true), refl, f.start)
 
 pub returns-then-is_after_backslash : goal.returns-then-is_after_backslash
 returns-then-is_after_backslash c = λ base depth t f is inside.
     let no_short = sym c.in_short.ensures ∙ c.if-in_short.false in
     let no_long = sym c.in_long.ensures ∙ c.if-in_long.false in
-    (open_join, join_round c.args.mode depth t is no_short no_long (sym c.is_after_backslash.ensures ∙ c.if-is_after_backslash.true), refl, f.start)
+    (open_join, what_round c.args.mode depth t is ∙ rw (no_short, no_long, sym c.is_after_backslash.ensures ∙ c.if-is_after_backslash.true), refl, f.start)
