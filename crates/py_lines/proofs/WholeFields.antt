@@ -9,7 +9,7 @@ use Rattle.std.proofs.lemmas.Str.{len_utf8_ascii}
 use Rattle.std.proofs.Math.Seq.{take-append_seam}
 use Rattle.py_lines.specs.Balance.{is_opening, depth_through}
 use Rattle.py_lines.specs.Character.{is_break, is_f, is_line_feed, is_quote, is_r, is_return, is_t}
-use Rattle.py_lines.specs.FieldStrings.{is_field_prefix, Host, Place, literal}
+use Rattle.py_lines.specs.FieldStrings.{is_field_prefix, Host, literal}
 use Rattle.py_lines.specs.LogicalLine.{byte_len}
 use Rattle.py_lines.specs.Piece.{ends, Piece, string}
 use Rattle.py_lines.specs.declared.field_scan.FieldProgress.TheVariants as progress
@@ -37,8 +37,9 @@ use Rattle.py_lines.proofs.Fields.Prefixes.{IsLetter, letters, third_of}
 use Rattle.py_lines.proofs.Machine.LiveTexts.{keeps}
 use Rattle.py_lines.proofs.Machine.PieceSteps.{scanned, steps_by-append}
 use Rattle.py_lines.proofs.LogicalLines.Cuts.{byte_len-append}
-use Rattle.py_lines.proofs.FieldSoundness.Holds.{HoldsAt, HoldsMode, Limit, OpensHost}
+use Rattle.py_lines.proofs.FieldSoundness.Holds.{HoldsAt, HoldsMode, OpensHost}
 use Rattle.py_lines.proofs.FieldSoundness.HostSteps.{sound_at}
+use Rattle.py_lines.proofs.FieldSoundness.LiveTexts.{quotes_at}
 use Rattle.py_lines.proofs.FieldSoundness.WholeTexts.{no_limit, any_rooms}
 use Rattle.py_lines.proofs.FieldScans.Moves.{BodyMoved, body_moved}
 use Rattle.py_lines.proofs.FieldScans.Runs.{goes_low}
@@ -91,15 +92,6 @@ goes_lower n m t (c ∷ cs) u less (low, none, move, next, step, others) =
     (low, none, lower n m t c (moves.Grows modes.Fielded) less (λ e. cc) move, next, step, goes_lower n m next cs u less others)
 
 -- the character that closes a string is its quote
-host_quotes : (limit : Limit) (outer : List Level) (depth : ℕ) (host : Host) (place : Place) (named : Bool) (at : At) (held : List ℕ) → HoldsAt limit outer depth host place named at held → is_quote host.quote ≡ true
-host_quotes limit outer depth host place named between held h = h.all.quotes
-host_quotes limit outer depth host place named after_one held (text, is, long, h) = h.all.quotes
-host_quotes limit outer depth host place named after_two held (text, is, long, h) = h.all.quotes
-host_quotes limit outer depth host place named after_slash held (text, s, is, slash, h) = h.quotes
-host_quotes limit outer depth host place named after_return held (text, s, r, is, slash, return, may, h) = h.quotes
-host_quotes limit outer depth host place named after_name held (text, s, n, is, slash, name, may, h) = h.quotes
-host_quotes limit outer depth host place named after_brace held (text, is, at, none, h) = h.quotes
-
 string_shuts : (outer : List Level) (v : FieldMove) (next : Option FieldScanned) → string_move outer v next ≡ moves.Closes → (outer ≡ []) × (v ≡ closes)
 string_shuts [] closes next is = (refl, refl)
 string_shuts [] v None is = absurd (cc)
@@ -121,7 +113,7 @@ closing_quote depth held t c steps inside shut =
     let (host, place, named, at, is) = inside outside in
     let sound = sound_at no_limit held t (any_rooms (Some field_text_start) held) steps in
     let holds : HoldsAt no_limit t.outer (frames t) host place named at t.held = subst (λ (m : spots.FieldMode). HoldsMode no_limit t.outer (frames t) m t.held) is sound.mode in
-    let quote : is_quote host.quote ≡ true = host_quotes no_limit t.outer (frames t) host place named at t.held holds in
+    let quote : is_quote host.quote ≡ true = quotes_at no_limit t.outer (frames t) host place named at t.held holds in
     let shuts : BodyMoved host place named at c closes = subst (BodyMoved host place named at c) (ap (λ (m : spots.FieldMode). field_move m t.held c) (sym is) ∙ closing) (body_moved host place named at t.held c) in
     ap is_quote (eqb-true c host.quote shuts.1) ∙ quote
 

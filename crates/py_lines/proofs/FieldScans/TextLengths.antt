@@ -40,21 +40,17 @@ one_taken : (bytes : List ℕ) → 0 < length bytes → take 1 bytes ≡ slice_i
 one_taken [] some = absurd (omega (arith, some))
 one_taken (b ∷ bs) some = refl
 
-pub by_byte : (quote : ℕ) (P Q : Spot) (bytes : List ℕ) → 0 < length bytes → Leads quote P (slice_index bytes 0 ∷ []) Q → LeadsBy quote P bytes 1 Q
-by_byte quote P Q bytes some leads = (omega (arith, some), subst (λ run. Leads quote P run Q) (sym (one_taken bytes some)) leads)
+pub by_byte : (quote c : ℕ) (P Q : Spot) (bytes : List ℕ) → 0 < length bytes → slice_index bytes 0 ≡ c → Leads quote P (c ∷ []) Q → LeadsBy quote P bytes 1 Q
+by_byte quote c P Q bytes some is leads = (omega (arith, some), subst (λ run. Leads quote P run Q) (sym (one_taken bytes some ∙ ap (λ x. x ∷ []) is)) leads)
 
-pub by_byte_at : (quote : ℕ) (P Q : Spot) (bytes : List ℕ) (n : ℕ) → n < length bytes → Leads quote P (slice_index bytes n ∷ []) Q → LeadsBy quote P (drop n bytes) 1 Q
-by_byte_at quote P Q bytes n within leads =
-    by_byte quote P Q (drop n bytes) (omega (arith, within, length-drop n bytes)) (subst (λ (c : ℕ). Leads quote P (c ∷ []) Q) (sym (get_or-drop n bytes 0 0 ∙ ap (λ (k : ℕ). slice_index bytes k) (omega arith))) leads)
+by_byte_at : (quote c : ℕ) (P Q : Spot) (bytes : List ℕ) (n : ℕ) → n < length bytes → slice_index bytes n ≡ c → Leads quote P (c ∷ []) Q → LeadsBy quote P (drop n bytes) 1 Q
+by_byte_at quote c P Q bytes n within is leads =
+    let here : n + 0 ≡ n = omega arith in
+    by_byte quote c P Q (drop n bytes) (omega (arith, within, length-drop n bytes)) (later bytes n 0 ∙ ap (slice_index bytes) here ∙ is) leads
 
 -- over a run
 pub by_run : (passes : ℕ → Bool) (quote : ℕ) (P : Spot) (bytes : List ℕ) (n : ℕ) → ((run : List ℕ) → list_all passes run ≡ true → Leads quote P run P) → IsRunOf passes bytes n → LeadsBy quote P bytes n P
 by_run passes quote P bytes n leads run = (run.within, leads (take n bytes) (all_pass passes bytes n run.within run.each))
-
--- over a run, and then over a byte
-pub by_run_and : (passes : ℕ → Bool) (quote : ℕ) (P Q : Spot) (bytes : List ℕ) (n : ℕ) → ((run : List ℕ) → list_all passes run ≡ true → Leads quote P run P) → IsRunOf passes bytes n → n < length bytes → Leads quote P (slice_index bytes n ∷ []) Q → LeadsBy quote P bytes (n + 1) Q
-by_run_and passes quote P Q bytes n leads run within last =
-    by_append quote P P Q bytes n 1 (by_run passes quote P bytes n leads run) (by_byte_at quote P Q bytes n within last)
 
 -- the byte at the first place
 pub first_byte : (d : ℕ) (bytes : List ℕ) → begins (λ c. c == d) bytes ≡ true → (0 < length bytes) × (slice_index bytes 0 ≡ d)
@@ -68,9 +64,6 @@ first_is_not d (b ∷ bs) h some = h
 pub always : (P Q : Spot) (bytes : List ℕ) (n : ℕ) → ((quote : ℕ) → LeadsBy quote P bytes n Q) → LeadsAlways P bytes n Q
 always P Q bytes n each = ((each 0).0, λ quote. (each quote).1)
 
-pub by_always : (quote : ℕ) (P Q : Spot) (bytes : List ℕ) (n : ℕ) → LeadsAlways P bytes n Q → LeadsBy quote P bytes n Q
-by_always quote P Q bytes n all = (all.0, all.1 quote)
-
 -- code that ends in no word
 abbrev EndsApart : List ℕ → ℕ → Type 0
 EndsApart bytes n = (n ≡ 0) ⊎ (is_ascii_word (slice_index bytes (n - 1)) ≡ false)
@@ -80,29 +73,18 @@ sign_from : (c : ℕ) → is_code_byte c ≡ true → is_ascii_word c ≡ false 
 sign_from c h other = ⊎_elim (λ word. absurd (both_ways _ other word)) (λ sign. sign) (or_cases (is_ascii_word c) (is_code_sign c) h)
 
 -- so a run of code does, which may be none
-one_less : (n : ℕ) → 0 < n → (n - 1) + 1 ≡ n
-one_less n some = omega (arith, some)
-
-pub run_apart : (bytes : List ℕ) (n : ℕ) → IsRunOf is_code_byte bytes n → EndsApart bytes n → (openers : List ℕ) (quote : ℕ) → LeadsBy quote (AtCode openers) bytes n (AtCode openers)
-run_apart bytes n run apart openers quote =
-    ⊎_elim (λ none. nothing n none)
-    (λ other. ⊎_elim (λ none. nothing n none) (λ some. something some other) (none_or_some n)) apart
-  where
-    none_or_some : (k : ℕ) → (k ≡ 0) ⊎ (0 < k)
-    none_or_some zero = inl refl
-    none_or_some (suc k) = inr (omega arith)
-
-    nothing : (k : ℕ) → k ≡ 0 → LeadsBy quote (AtCode openers) bytes k (AtCode openers)
-    nothing k none = subst (λ j. LeadsBy quote (AtCode openers) bytes j (AtCode openers)) (sym none) (by_none quote (AtCode openers) bytes)
-
-    something : 0 < n → is_ascii_word (slice_index bytes (n - 1)) ≡ false → LeadsBy quote (AtCode openers) bytes n (AtCode openers)
-    something some other =
-        let last : n - 1 < n = omega (arith, some) in
-        let sign = sign_from (slice_index bytes (n - 1)) (run.each (n - 1) last) other in
-        subst (λ j. LeadsBy quote (AtCode openers) bytes j (AtCode openers)) (one_less n some)
-        (by_append quote (AtCode openers) (InCode openers) (AtCode openers) bytes (n - 1) 1
-        (omega (arith, run.within), leads_from_code openers quote (take (n - 1) bytes) (InCode openers) (codes_lead openers quote (take (n - 1) bytes) (all_pass is_code_byte bytes (n - 1) (omega (arith, run.within)) (λ i less. run.each i (omega (arith, less))))))
-        (by_byte quote (InCode openers) (AtCode openers) (drop (n - 1) bytes) (omega (arith, run.within, some, length-drop (n - 1) bytes)) (subst (λ (c : ℕ). Leads quote (InCode openers) (c ∷ []) (AtCode openers)) (sym (later bytes (n - 1) 0 ∙ ap (λ (k : ℕ). slice_index bytes k) (omega arith))) (sign_leads openers quote (slice_index bytes (n - 1)) sign))))
+run_apart : (bytes : List ℕ) (n : ℕ) → IsRunOf is_code_byte bytes n → EndsApart bytes n → (openers : List ℕ) (quote : ℕ) → LeadsBy quote (AtCode openers) bytes n (AtCode openers)
+run_apart bytes zero run apart openers quote = by_none quote (AtCode openers) bytes
+run_apart bytes (suc n) run apart openers quote =
+    let less : suc n - 1 ≡ n = omega arith in
+    let more : n + 1 ≡ suc n = omega arith in
+    let early : n ≤ length bytes = omega (arith, run.within) in
+    let other : is_ascii_word (slice_index bytes n) ≡ false = ⊎_elim (λ (none : suc n ≡ 0). absurd (omega (arith, none))) (λ is. ap (λ k. is_ascii_word (slice_index bytes k)) (sym less) ∙ is) apart in
+    let sign = sign_leads openers quote (slice_index bytes n) (sign_from (slice_index bytes n) (run.each n (omega arith)) other) in
+    subst (λ j. LeadsBy quote (AtCode openers) bytes j (AtCode openers)) more
+    (by_append quote (AtCode openers) (InCode openers) (AtCode openers) bytes n 1
+    (early, leads_from_code openers quote (take n bytes) (InCode openers) (codes_lead openers quote (take n bytes) (all_pass is_code_byte bytes n early (λ i less. run.each i (omega (arith, less))))))
+    (by_byte_at quote (slice_index bytes n) (InCode openers) (AtCode openers) bytes n (omega (arith, run.within)) refl sign))
 
 -- code with strings, as it is counted
 pub record IsCodeCounted (bytes : List ℕ) (n : ℕ) : Type 0 where
@@ -171,7 +153,7 @@ pub bracketed_code : (opener : ℕ) (bytes : List ℕ) (n : ℕ) → is_code_bra
 bracketed_code opener bytes n is code within closes =
     always (AtCode (opener ∷ [])) (AtCode []) bytes (n + 1) (λ quote.
     by_append quote (AtCode (opener ∷ [])) (InCode (opener ∷ [])) (AtCode []) bytes n 1 (code.within, code.leads (opener ∷ []) quote)
-    (by_byte_at quote (InCode (opener ∷ [])) (AtCode []) bytes n within (closing_leads quote opener (slice_index bytes n) is closes)))
+    (by_byte_at quote (slice_index bytes n) (InCode (opener ∷ [])) (AtCode []) bytes n within refl (closing_leads quote opener (slice_index bytes n) is closes)))
 
 -- a specification
 pub specified : (quote : ℕ) (bytes : List ℕ) (n : ℕ) → begins (λ c. c == 58) bytes ≡ true → IsRunOf (is_literal_byte quote) (drop 1 bytes) n → 1 + n < length bytes → slice_index bytes (1 + n) ≡ 125 → LeadsBy quote (InCode []) bytes (1 + n + 1) InText
@@ -179,19 +161,19 @@ specified quote bytes n colon run within ends =
     let first = first_byte 58 bytes colon in
     subst (λ (k : ℕ). LeadsBy quote (InCode []) bytes k InText) (omega arith)
     (by_append quote (InCode []) AtSpecification InText bytes 1 (n + 1)
-    (by_byte quote (InCode []) AtSpecification bytes first.0 (subst (λ (c : ℕ). Leads quote (InCode []) (c ∷ []) AtSpecification) (sym first.1) (specification_begins quote)))
-    (by_run_and (is_literal_byte quote) quote AtSpecification InText (drop 1 bytes) n (specifications_lead quote) run (omega (arith, within, length-drop 1 bytes))
-    (subst (λ (c : ℕ). Leads quote AtSpecification (c ∷ []) InText) (sym (later bytes 1 n ∙ ends)) (specification_ends quote))))
+    (by_byte quote 58 (InCode []) AtSpecification bytes first.0 first.1 (specification_begins quote))
+    (by_append quote AtSpecification AtSpecification InText (drop 1 bytes) n 1
+    (by_run (is_literal_byte quote) quote AtSpecification (drop 1 bytes) n (specifications_lead quote) run)
+    (by_byte_at quote 125 AtSpecification InText (drop 1 bytes) n (omega (arith, within, length-drop 1 bytes)) (later bytes 1 n ∙ ends) (specification_ends quote))))
 
 -- code, and the `}` that ends its field
 pub code_ended : (quote : ℕ) (bytes : List ℕ) (n : ℕ) → LeadsAlways (AtCode []) bytes n (InCode []) → n < length bytes → slice_index bytes n ≡ 125 → LeadsBy quote (AtCode []) bytes (n + 1) InText
 code_ended quote bytes n code within ends =
-    by_append quote (AtCode []) (InCode []) InText bytes n 1 (by_always quote (AtCode []) (InCode []) bytes n code)
-    (by_byte_at quote (InCode []) InText bytes n within (subst (λ (c : ℕ). Leads quote (InCode []) (c ∷ []) InText) (sym ends) (field_ends quote)))
+    by_append quote (AtCode []) (InCode []) InText bytes n 1 (code.0, code.1 quote) (by_byte_at quote 125 (InCode []) InText bytes n within ends (field_ends quote))
 
 -- code, and the specification that ends its field
 pub code_specified : (quote : ℕ) (bytes : List ℕ) (n m : ℕ) → LeadsAlways (AtCode []) bytes n (InCode []) → LeadsBy quote (InCode []) (drop n bytes) m InText → LeadsBy quote (AtCode []) bytes (n + m) InText
-code_specified quote bytes n m code specification = by_append quote (AtCode []) (InCode []) InText bytes n m (by_always quote (AtCode []) (InCode []) bytes n code) specification
+code_specified quote bytes n m code specification = by_append quote (AtCode []) (InCode []) InText bytes n m (code.0, code.1 quote) specification
 
 -- code after the `{` of its field
 first_part : (bytes : List ℕ) (n : ℕ) → 0 < n → n ≤ length bytes → take n bytes ≡ slice_index bytes 0 ∷ drop 1 (take n bytes)
@@ -222,16 +204,13 @@ code_on bytes n m k code within is inside_there more_there = always (AtCode []) 
     o = slice_index bytes n
 
     opens : (quote : ℕ) → LeadsBy quote (AtCode []) bytes (n + 1) (AtCode (o ∷ []))
-    opens quote = by_append quote (AtCode []) (InCode []) (AtCode (o ∷ [])) bytes n 1 (by_always quote (AtCode []) (InCode []) bytes n code) (by_byte_at quote (InCode []) (AtCode (o ∷ [])) bytes n within (opening_leads quote o is))
+    opens quote = by_append quote (AtCode []) (InCode []) (AtCode (o ∷ [])) bytes n 1 (code.0, code.1 quote) (by_byte_at quote o (InCode []) (AtCode (o ∷ [])) bytes n within refl (opening_leads quote o is))
 
     closed : (quote : ℕ) → LeadsBy quote (AtCode []) bytes (n + (1 + m)) (AtCode [])
-    closed quote = subst (λ (j : ℕ). LeadsBy quote (AtCode []) bytes j (AtCode [])) (omega arith) (by_append quote (AtCode []) (AtCode (o ∷ [])) (AtCode []) bytes (n + 1) m (opens quote) (by_always quote (AtCode (o ∷ [])) (AtCode []) (drop (n + 1) bytes) m inside))
+    closed quote = subst (λ (j : ℕ). LeadsBy quote (AtCode []) bytes j (AtCode [])) (omega arith) (by_append quote (AtCode []) (AtCode (o ∷ [])) (AtCode []) bytes (n + 1) m (opens quote) (inside.0, inside.1 quote))
 
     each : (quote : ℕ) → LeadsBy quote (AtCode []) bytes (n + (1 + m) + k) (InCode [])
     each quote = by_append quote (AtCode []) (AtCode []) (InCode []) bytes (n + (1 + m)) k (closed quote) (more.within, more.leads [] quote)
-
-pub code_begun : (bytes : List ℕ) (n : ℕ) → HasSimpleCode bytes n → LeadsAlways (AtCode []) bytes n (InCode [])
-code_begun bytes n code = (code.within, code.leads [])
 
 -- parts of a string's text
 pub some_bytes : (bytes : List ℕ) → length bytes == 0 ≡ false → 0 < length bytes
@@ -239,7 +218,7 @@ some_bytes [] h = absurd (both_ways _ h refl)
 some_bytes (b ∷ bs) h = omega arith
 
 pub brace_part : (quote : ℕ) (bytes : List ℕ) → 0 < length bytes → slice_index bytes 0 ≡ 125 → LeadsBy quote InText bytes 1 InText
-brace_part quote bytes some is = by_byte quote InText InText bytes some (subst (λ (c : ℕ). Leads quote InText (c ∷ []) InText) (sym is) (brace_leads quote))
+brace_part quote bytes some is = by_byte quote 125 InText InText bytes some is (brace_leads quote)
 
 two_taken : (bytes : List ℕ) → 1 < length bytes → take 2 bytes ≡ slice_index bytes 0 ∷ slice_index bytes 1 ∷ []
 two_taken [] some = absurd (omega (arith, some))
@@ -259,7 +238,7 @@ double_part quote bytes some one two = by_two quote 123 123 InText InText bytes 
 
 pub field_part : (quote : ℕ) (bytes : List ℕ) (n : ℕ) → 0 < length bytes → slice_index bytes 0 ≡ 123 → LeadsBy quote AtBrace (drop 1 bytes) n InText → LeadsBy quote InText bytes (1 + n) InText
 field_part quote bytes n some is field =
-    by_append quote InText AtBrace InText bytes 1 n (by_byte quote InText AtBrace bytes some (subst (λ (c : ℕ). Leads quote InText (c ∷ []) AtBrace) (sym is) (open_leads quote))) field
+    by_append quote InText AtBrace InText bytes 1 n (by_byte quote 123 InText AtBrace bytes some is (open_leads quote)) field
 
 -- a text goes on over a part and the text after it
 pub text_begun : (quote : ℕ) (bytes : List ℕ) (n : ℕ) → IsRunOf (is_literal_byte quote) bytes n → HasText quote bytes n

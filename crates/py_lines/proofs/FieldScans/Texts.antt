@@ -1,6 +1,6 @@
 -- Simple text of a string with fields: the machine goes through it, from one place to another.
-use Rattle.std.proofs.Common.{◌≡◌, ℕ, zero, suc, ◌+◌, ◌<◌, ◌≤◌, Bool, true, false, not, ◌&&◌, ◌||◌, ◌==◌, Some, List, [], ◌∷◌, ◌++◌, length, refl, sym, ap, ◌∙◌, subst, append_assoc, append-nil, arith, ◌⊎◌, inl, inr, ⊎_elim}
-use Rattle.std.specs.Prelude.{nat_le, nat_lt, codes}
+use Rattle.std.proofs.Common.{◌≡◌, ℕ, ◌+◌, ◌<◌, ◌≤◌, Bool, true, false, not, ◌&&◌, ◌||◌, ◌==◌, Some, List, [], ◌∷◌, ◌++◌, length, refl, sym, ap, ◌∙◌, subst, append_assoc, append-nil, arith, ◌⊎◌, inl, inr, ⊎_elim}
+use Rattle.std.specs.Prelude.{nat_lt, codes}
 use Rattle.std.proofs.lemmas.Bool.Decides.{nat_tests}
 use Rattle.std.specs.List.{list_all}
 use Rattle.std.proofs.lemmas.Bool.{and_parts, and_right, or_cases, both_ways, eq-eqb, not-true}
@@ -11,12 +11,13 @@ use Rattle.py_lines.specs.FieldStrings.{is_field_prefix, Host, Place, literal, s
 use Rattle.py_lines.specs.declared.mode.Mode.{Mode}
 use Rattle.py_lines.specs.declared.mode.Mode.TheVariants as modes
 use Rattle.py_lines.specs.declared.mode.Move.TheVariants as moves
+use Rattle.py_lines.specs.declared.mode.Spelling.TheVariants as spellings
 use Rattle.py_lines.specs.declared.mode.Start.TheVariants as starts
 use Rattle.py_lines.specs.Private.Machine.{IsFull, short_move, move_of, start_of, first_spelling, spelling_with, is_prefix_spelling}
 use Rattle.py_lines.specs.Private.FieldMachine.{At, FieldMode, between, after_brace, after_slash, plain, body, FieldMove, grows, closes, breaks, begins_code, ends_field, Level, FieldScanned, field_state, field_fresh, field_ended, field_pieces, begins_host, plain_move, between_move, body_move, field_move, field_moved, field_started, code_operator, openers_with, levels_open, frames, has_room_at}
 use Rattle.py_lines.specs.Private.FieldScan.{GoesThrough}
 use Rattle.py_lines.specs.Private.FieldText.{is_apart_mode, is_escaped, InText, AtBrace, AtCode, InCode, StandsInCode, AtSpecification, Leads, level_after, is_code_mode, is_code_bracket}
-use Rattle.py_lines.specs.Private.Run.{is_between, is_ascii_word, is_text_byte, is_body_byte, is_literal_byte, is_code_sign, is_code_byte}
+use Rattle.py_lines.specs.Private.Run.{is_ascii_word, is_text_byte, is_body_byte, is_literal_byte, is_code_sign, is_code_byte}
 use Rattle.py_lines.proofs.Pieces.PieceLists.{piece}
 use Rattle.py_lines.proofs.Text.CharacterTests.{each_of, none_of, not_quote, operator_ascii, excluded, quote-not-word}
 use Rattle.py_lines.proofs.Machine.Starts.{start-word, start-space, start-operator, start-quote}
@@ -31,7 +32,7 @@ use Rattle.py_lines.proofs.FieldScans.Runs.{text_stays, two_false}
 use Rattle.py_lines.proofs.FieldScans.Steps.{goes_through, keeps_open, some_level}
 use Rattle.py_lines.proofs.LineScan.StringSteps.{string_grows}
 use Rattle.py_lines.proofs.LineScan.AsciiRuns.{low_is, quote-no_break, space-not-quote}
-use Rattle.py_lines.proofs.LineScan.Runs.{break-return, body_parts, quote_ascii, space_low, word_byte_continues, word_byte_low, word_byte_starts}
+use Rattle.py_lines.proofs.LineScan.Runs.{stays-no_break, break-return, body_parts, quote_ascii, space_low, word_byte_continues, word_byte_low, word_byte_starts}
 
 -- where the machine stands: round the string are these fields, and this says which string it is
 abbrev pub Spot : Type 1
@@ -210,10 +211,6 @@ space-not-word : (c : ℕ) → is_space c ≡ true → is_ascii_word c ≡ false
 unfolding is_space is_ascii_word
 space-not-word c h = none_of is_ascii_word (32 ∷ 9 ∷ 12 ∷ []) c refl h
 
-break-not-word : (c : ℕ) → is_break c ≡ true → is_ascii_word c ≡ false
-unfolding is_break is_ascii_word
-break-not-word c h = none_of is_ascii_word (10 ∷ 13 ∷ []) c refl h
-
 opening-not-word : (c : ℕ) → is_opening c ≡ true → is_ascii_word c ≡ false
 unfolding is_opening is_ascii_word
 opening-not-word c h = none_of is_ascii_word (40 ∷ 91 ∷ 123 ∷ []) c refl h
@@ -226,7 +223,7 @@ word_no_space : (c : ℕ) → is_ascii_word c ≡ true → is_space c ≡ false
 word_no_space c h = excluded is_ascii_word is_space c (space-not-word c) h
 
 pub word_no_break : (c : ℕ) → is_ascii_word c ≡ true → is_break c ≡ false
-word_no_break c h = excluded is_ascii_word is_break c (break-not-word c) h
+word_no_break c h = stays-no_break (modes.Word spellings.Name) c h
 
 word_opens_none : (c : ℕ) → is_ascii_word c ≡ true → is_opening c ≡ false
 word_opens_none c h = excluded is_ascii_word is_opening c (opening-not-word c) h
@@ -321,33 +318,9 @@ operator_leads os after quote c h stands no_colon rooms =
     ))
 
 -- the operators that code has mostly
-from : ℕ → ℕ → List ℕ
-from low zero = low ∷ []
-from low (suc n) = low ∷ from (low + 1) n
-
-in_range : (low n c : ℕ) → low ≤ c → c ≤ low + n → is_one_of (from low n) c ≡ true
-unfolding from
-in_range low zero c least most = ap (λ b. b || false) (eq-eqb c low (omega (arith, least, most)))
-in_range low (suc n) c least most = go (c == low) refl (λ more. in_range (low + 1) n c more (omega (arith, most)))
-  where
-    go : (b : Bool) → c == low ≡ b → (low + 1 ≤ c → is_one_of (from (low + 1) n) c ≡ true) → (c == low) || is_one_of (from (low + 1) n) c ≡ true
-    go true is later = ap (λ b. b || is_one_of (from (low + 1) n) c) is
-    go false is later =
-        let other : c ≡ low → ⊥ = λ same. both_ways _ is (eq-eqb c low same) in
-        ap (λ b. b || is_one_of (from (low + 1) n) c) is ∙ later (omega (arith, least, other))
-
-range_of : (low n c : ℕ) → is_between low (low + n) c ≡ true → is_one_of (from low n) c ≡ true
-range_of low n c h =
-    let parts = and_parts (nat_le low c) (nat_le c (low + n)) h in
-    in_range low n c (grind (arith, nat_tests, parts.0)) (grind (arith, nat_tests, parts.1))
-
 sign_among : (c : ℕ) → is_code_sign c ≡ true → is_one_of (codes " !=*+,-./") c ≡ true
-unfolding is_code_sign from
-sign_among c h =
-    let P : ℕ → Type 0 = λ x. is_one_of (codes " !=*+,-./") x ≡ true in
-    ⊎_elim (λ products. each_of P (from 42 5) c (refl, (refl, (refl, (refl, (refl, (refl, tt)))))) (range_of 42 5 c products))
-    (λ others. ⊎_elim (λ first. each_of P (from 32 1) c (refl, (refl, tt)) (range_of 32 1 c first)) (λ equals. each_of P (61 ∷ []) c (refl, tt) (ap (λ b. b || false) equals)) (or_cases (is_between 32 33 c) (c == 61) others))
-    (or_cases (is_between 42 47 c) (is_between 32 33 c || (c == 61)) h)
+unfolding is_code_sign
+sign_among c h = grind (arith, nat_tests)
 
 pub sign_cases : (P : Type 0) (c : ℕ) → is_code_sign c ≡ true → (is_space c ≡ true → P) → (is_operator c ≡ true → is_opening c ≡ false → is_closing c ≡ false → c == 58 ≡ false → P) → P
 unfolding is_space is_operator is_opening is_closing

@@ -1,9 +1,9 @@
-use Rattle.std.proofs.Common.{sym, ◌∙◌}
-use Rattle.py_lines.proofs.FieldScans.TextLengths.{code_begun, code_on}
+use Rattle.std.proofs.Common.{[], sym, ◌∙◌}
+use Rattle.py_lines.proofs.FieldScans.TextLengths.{code_on}
 use Rattle.py_lines.proofs.whole_strings.code_len.Goals as goal
 
 pub loop-len-init : goal.loop-len-init
-loop-len-init c = let begun = code_begun c.args.bytes.now c.simple_code_len-len.result c.simple_code_len-len.ensures in record { within = begun.0; leads = begun.1 }
+loop-len-init c = record { within = c.simple_code_len-len.ensures.within; leads = c.simple_code_len-len.ensures.leads [] }
 
 pub loop-len-preserved : goal.loop-len-preserved
 loop-len-preserved c =
