@@ -50,7 +50,7 @@ use Rattle.py_lines.proofs.LineScan.LineCount.{byte_len-one, ends-last}
 use Rattle.py_lines.proofs.ScanMachine.Advance.{steps_push}
 use Rattle.py_lines.proofs.LineScan.Runs.{break-return, ends-run, quote_ascii, string_no_break, string_run}
 use Rattle.py_lines.proofs.LineScan.AsciiRuns.{is_low, is_low_from, low_encodes, low_is, quote-no_break}
-use Rattle.py_lines.proofs.LineScan.StringOpenings.{opened_as_body}
+use Rattle.py_lines.proofs.LineScan.StringOpenings.{opened_as_body, third_opens}
 use Rattle.py_lines.proofs.LineScan.StringSteps.{here_at, string_more}
 use Rattle.py_lines.proofs.LineScan.WholeStrings.{first_grows, quote_opens}
 use Rattle.py_lines.proofs.SimpleLines.Code.{holds_line_end, holds_more, holds_one}
@@ -346,11 +346,6 @@ empty_other : (h : StringWithFields) (c : ℕ) → c == h.quote ≡ false → me
 unfolding meet_of
 empty_other h c other = rw other refl
 
-third_opens : (host : Host) (held : List ℕ) → field_step (field_state [] [] [] (spots.empty host) held) host.quote ≡ Some (field_state [] [] [] (body (long_host host) literal false between) (held ++ host.quote ∷ []))
-unfolding field_move
-third_opens host held =
-    ap (λ b. field_moved (field_state [] [] [] (spots.empty host) held) host.quote (if b then grows (body (long_host host) literal false between) else breaks)) (eq-eqb host.quote host.quote refl)
-
 -- a line end may not be the first character of a short one
 break_refused : (host : Host) (held : List ℕ) (c : ℕ) → host.is_long ≡ false → c == host.quote ≡ false → is_break c ≡ true → field_move (body host literal false between) held c ≡ refused
 unfolding field_move body_move between_move
@@ -405,7 +400,7 @@ module _ (raw : Bool) (q : ℕ) (quote : is_quote q ≡ true) where
       let size : byte_len on.held ≡ 1 + bool_byte raw + byte_len (q ∷ q ∷ []) = opened_size (host_in own) (q ∷ q ∷ []) on.held (sound_in on.held _ steps).0 in
       subst (λ (t : List ℕ). IsInFields scan (4 + bool_byte raw) initial t n st) (append_assoc read (q ∷ q ∷ []) (q ∷ []))
       (grown_to scan (4 + bool_byte raw) initial (read ++ q ∷ q ∷ []) n n st on.done (modes.FieldEmpty own) on.held q (field_state [] [] [] (body (host_in triple) literal false between) (on.held ++ q ∷ [])) begin.0 on.come (ap (moved second q) (empty_quote own))
-      (quote_held (read ++ q ∷ q ∷ []) n on.come.holds) quote-not-return (string_more on.held q _ steps ∙ third_opens (host_in own) on.held) (follows (on.held ++ q ∷ []))
+      (quote_held (read ++ q ∷ q ∷ []) n on.come.holds) quote-not-return (string_more on.held q _ steps ∙ third_opens (host_in own) on.held q (eq-eqb q q refl)) (follows (on.held ++ q ∷ []))
       (omega (arith, size, byte_len-append (q ∷ []) (q ∷ []), byte_len-append on.held (q ∷ []), quote_size q quote)))
 
   -- an empty string, before what follows

@@ -20,7 +20,7 @@ use Rattle.py_lines.specs.declared.field_scan.FieldScan.{FieldScan}
 use Rattle.py_lines.specs.Private.Machine.{move_of, short_move, long_move, spelling_with}
 use Rattle.py_lines.specs.Private.FieldMachine.{body, between, grows, Level, FieldScanned, field_state, field_move, field_moved, body_move, between_move, levels_open}
 use Rattle.py_lines.specs.Private.FieldScan.{region_in, mode_from, code_mode, code_move, meets_field, stays_code, stays_field, keeps_byte, HoldsCode, Follows, GoesThrough, HoldsField, StandsInText}
-use Rattle.py_lines.specs.Private.FieldText.{HasText}
+use Rattle.py_lines.specs.Private.FieldText.{HasText, InText, Leads}
 use Rattle.py_lines.specs.LogicalLine.{byte_len}
 use Rattle.py_lines.specs.Private.ScanMachine.{host_in, meet_of, string_state, IsInString}
 use Rattle.py_lines.proofs.FieldScans.Moves.{meets}
@@ -134,11 +134,11 @@ goes_low depth t (c ∷ cs) u (low, none, move, next, step, others) = and_from (
 abbrev begun_level : ℕ → Level
 begun_level quote = record { done = []; openers = []; host = record { quote = quote; is_long = false; is_raw = false }; place = literal; front = [] }
 
-text_low : (quote : ℕ) (bytes : List ℕ) (n : ℕ) → is_quote quote ≡ true → HasText quote bytes n → list_all is_low (take n bytes) ≡ true
-text_low quote bytes n quotes text =
+pub leads_low : (quote : ℕ) (run : List ℕ) → is_quote quote ≡ true → Leads quote InText run InText → list_all is_low run ≡ true
+leads_low quote run quotes leads =
     let t : FieldScanned = field_state [] [] [] (body (begun_level quote).host literal false between) [] in
-    let far = text.1 [] (begun_level quote) 0 t refl quotes (omega arith) ([], refl) in
-    goes_low 0 t (take n bytes) far.0 far.1
+    let far = leads [] (begun_level quote) 0 t refl quotes (omega arith) ([], refl) in
+    goes_low 0 t run far.0 far.1
 
 -- the scan follows over it
 text_follows : (scan : FieldScan) (base depth quote : ℕ) (bytes : List ℕ) (n : ℕ) (t : FieldScanned) → (h : StringWithFields) → scan.mode ≡ field_modes.Body h regions.Literal false ats.Between → h.quote ≡ quote → is_quote quote ≡ true → depth + length scan.frames ≤ 100 → HasText quote bytes n → Follows scan base t → (u : FieldScanned) × GoesThrough depth t (take n bytes) u × Follows scan base u
@@ -156,4 +156,4 @@ text_follows scan base depth quote bytes n t h mode same quotes room text follow
 
 pub holds_text : (scan : FieldScan) (depth place quote : ℕ) (bytes : List ℕ) (n : ℕ) → StandsInText scan depth (Some quote) → HasText quote bytes n → HoldsField scan depth place bytes n scan
 holds_text scan depth place quote bytes n (h, mode, same, quotes, room) text =
-    still_holds scan depth place bytes n text.0 (text_low quote bytes n quotes text) (λ base t follows. text_follows scan base depth quote bytes n t h mode same quotes room text follows)
+    still_holds scan depth place bytes n text.0 (leads_low quote (take n bytes) quotes text.1) (λ base t follows. text_follows scan base depth quote bytes n t h mode same quotes room text follows)

@@ -70,6 +70,11 @@ opened_as_body host held c other =
     ap (λ b. field_moved (field_state [] [] [] (opened host) held) c (if b then grows (empty host) else body_move host literal false between c)) other
     ∙ moved_between [] [] [] host held c (body_move host literal false between c)
 
+-- and after three quotes it is in the body of a long one
+pub third_opens : (host : Host) (held : List ℕ) (c : ℕ) → c == host.quote ≡ true → field_step (field_state [] [] [] (empty host) held) c ≡ Some (field_state [] [] [] (body (long_host host) literal false between) (held ++ c ∷ []))
+unfolding field_move
+third_opens host held c third = ap (λ b. field_moved (field_state [] [] [] (empty host) held) c (if b then grows (body (long_host host) literal false between) else breaks)) third
+
 module _ (old new : Scan) (f : FieldScan) (done : List Piece) (held read : List ℕ) (c : ℕ) (none : EndsNoLine 0 done) where
   module _ (h : StringWithFields) (sound : IsScanSound (scanned done (modes.FieldOpened h) held) read) (tallies : Tallies old (scanned done (modes.FieldOpened h) held)) (stacked : IsStacked old (scanned done (modes.FieldOpened h) held)) (move : meet_of (modes.FieldOpened h) c ≡ moves.Grows modes.Fielded) (follows : FollowsBody f h old.piece.start) where
     stands : StandsInString (with_field_scan old f) (field_state [] [] [] (body (host_in h) literal false between) held)
@@ -111,12 +116,9 @@ module _ (old new : Scan) (f : FieldScan) (done : List Piece) (held read : List 
 
   -- after two quotes
   module _ (h : StringWithFields) (sound : IsScanSound (scanned done (modes.FieldEmpty h) held) read) (tallies : Tallies old (scanned done (modes.FieldEmpty h) held)) (stacked : IsStacked old (scanned done (modes.FieldEmpty h) held)) (move : meet_of (modes.FieldEmpty h) c ≡ moves.Grows modes.Fielded) (follows : FollowsBody f (record { quote = h.quote; is_long = true; is_raw = h.is_raw }) old.piece.start) where
-    third_quote : field_step (field_state [] [] [] (empty (host_in h)) held) c ≡ Some (field_state [] [] [] (body (long_host (host_in h)) literal false between) (held ++ c ∷ []))
-    unfolding field_move meet_of
-    third_quote =
-        let P : Move → Type 0 = λ v. v ≡ moves.Grows modes.Fielded → c == h.quote ≡ true in
-        let third : c == h.quote ≡ true = cond_both (c == h.quote) (moves.Grows modes.Fielded) moves.Breaks P (λ is e. is) (λ _ e. absurd (cc)) move in
-        ap (λ b. field_moved (field_state [] [] [] (empty (host_in h)) held) c (if b then grows (body (long_host (host_in h)) literal false between) else breaks)) third
+    third_quote : c == h.quote ≡ true
+    unfolding meet_of
+    third_quote = cond_both (c == h.quote) (moves.Grows modes.Fielded) moves.Breaks (λ (v : Move). v ≡ moves.Grows modes.Fielded → c == h.quote ≡ true) (λ is e. is) (λ _ e. absurd (cc)) move
 
     pub takes_third : new ≡ in_mode (with_character (with_field_scan old f) c) modes.Fielded → Takes old (scanned done (modes.FieldEmpty h) held) c progress.Going new
     takes_third is =
@@ -125,7 +127,7 @@ module _ (old new : Scan) (f : FieldScan) (done : List Piece) (held read : List 
           record {
             next = scanned done modes.Fielded (held ++ c ∷ []);
             goes = ap (moved s c) move;
-            tallies = record { counts = counts_read old f s c modes.Fielded tallies.counts; fields = (_, string_more held c _ sound.holds ∙ third_quote, follows (held ++ c ∷ [])) };
+            tallies = record { counts = counts_read old f s c modes.Fielded tallies.counts; fields = (_, string_more held c _ sound.holds ∙ third_opens (host_in h) held c third_quote, follows (held ++ c ∷ [])) };
             stacked = stacked;
             one_line = none;
           },

@@ -1,6 +1,6 @@
 -- A string with fields whose text is simple is taken whole.
 use Rattle.std.proofs.Common.{◌≡◌, ℕ, ◌+◌, ◌≤◌, Bool, true, false, ◌==◌, Some, List, [], ◌∷◌, ◌++◌, refl, sym, ap, ◌∙◌, subst}
-use Rattle.std.proofs.lemmas.Bool.{and_parts, eq-eqb, eqb-true}
+use Rattle.std.proofs.lemmas.Bool.{and_parts, eq-eqb, eqb-true, false_from_ne_true}
 use Rattle.py_lines.specs.Character.{is_word_start, is_word_character, is_quote, is_break}
 use Rattle.py_lines.specs.Piece.{string, Piece}
 use Rattle.py_lines.specs.Balance.{depth_through}
@@ -82,20 +82,14 @@ module _ (done : List Piece) (few : depth_through 0 done ≤ 100) (c : ℕ) (cs 
     abbrev held : List ℕ
     held = (opening ++ d ∷ []) ++ ds
 
-    closing_is : d == q ≡ true → fielded_move depth (Some (at_body (host_in h) opening)) d ≡ moves.Closes
-    closing_is same =
-        subst (λ (x : ℕ). fielded_move depth (Some (at_body (host_in h) opening)) x ≡ moves.Closes) (sym (eqb-true d q same))
-        (comes_closed 0 depth (at_body (host_in h) opening) q closes (quote_closes (host_in h) opening refl) refl refl (room_closes (depth + frames (at_body (host_in h) opening)) q))
+    shut_at : (text : List ℕ) → fielded_move depth (Some (at_body (host_in h) text)) q ≡ moves.Closes
+    shut_at text = comes_closed 0 depth (at_body (host_in h) text) q closes (quote_closes (host_in h) text refl) refl refl (room_closes (depth + frames (at_body (host_in h) text)) q)
 
     other : d == q ≡ false
-    other = go (d == q) refl
-      where
-        go : (b : Bool) → d == q ≡ b → d == q ≡ false
-        go false is = is
-        go true is =
-            let (low, none, move, next, step, others) = through in
-            let clash : moves.Closes ≡ moves.Grows modes.Fielded = sym (closing_is is) ∙ move in
-            absurd (cc)
+    other = false_from_ne_true (d == q) (λ same.
+        let (low, none, move, next, step, others) = through in
+        let clash : moves.Closes ≡ moves.Grows modes.Fielded = sym (shut_at opening) ∙ ap (λ (x : ℕ). fielded_move depth (Some (at_body (host_in h) opening)) x) (sym (eqb-true d q same)) ∙ move in
+        cc)
 
     to_end : (after : List ℕ) → (scan_steps (Some (scanned done (modes.FieldOpened h) opening)) ((d ∷ ds) ++ after) ≡ scan_steps (Some (scanned done modes.Fielded held)) after) × (string_state held ≡ Some u)
     to_end after =
@@ -107,12 +101,7 @@ module _ (done : List Piece) (few : depth_through 0 done ≤ 100) (c : ℕ) (cs 
         )
 
     closes_string : scan_step (scanned done modes.Fielded held) q ≡ Some (fresh (done ++ piece string (held ++ q ∷ []) ∷ []))
-    closes_string =
-        let (text, is) = end in
-        let closed_so : fielded_move depth (Some u) q ≡ moves.Closes =
-        subst (λ (x : FieldScanned). fielded_move depth (Some x) q ≡ moves.Closes) (sym is)
-        (comes_closed 0 depth (at_body (host_in h) text) q closes (quote_closes (host_in h) text refl) refl refl (room_closes (depth + frames (at_body (host_in h) text)) q)) in
-        ap (moved (scanned done modes.Fielded held) q) (ap (λ o. fielded_move depth o q) (to_end []).1 ∙ closed_so)
+    closes_string = ap (moved (scanned done modes.Fielded held) q) (ap (λ o. fielded_move depth o q) ((to_end []).1 ∙ ap Some end.1) ∙ shut_at end.0)
 
     -- from the end of its prefix
     pub quoted_steps : scan_steps (Some (scanned done (modes.Word s) prefix)) (q ∷ ((d ∷ ds) ++ q ∷ [])) ≡ Some (fresh (done ++ piece string (held ++ q ∷ []) ∷ []))

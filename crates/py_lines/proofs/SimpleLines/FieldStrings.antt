@@ -15,14 +15,14 @@ use Rattle.py_lines.specs.declared.mode.Spelling.{Spelling}
 use Rattle.py_lines.specs.Private.Machine.{Bracket, IsFull, first_spelling, spelling_on}
 use Rattle.py_lines.specs.Private.FieldText.{InText, IsQuotedText, Leads}
 use Rattle.py_lines.specs.Private.Scan.{line_start}
-use Rattle.py_lines.specs.Private.ScanMachine.{HoldsOpen, host_in, is_field_spelling, is_raw_spelling, scan_steps, move_at}
+use Rattle.py_lines.specs.Private.ScanMachine.{host_in, is_field_spelling, is_raw_spelling, scan_steps, move_at}
 use Rattle.py_lines.specs.Private.Outline.{HasCome, IsFreeAfter, IsInPiece, IsTail, PassesPiece, StandsBefore, StandsClosed, closes_itself, tail_of}
 use Rattle.py_lines.proofs.Pieces.OpenBrackets as brackets
 use Rattle.py_lines.proofs.Pieces.PieceLists.{piece}
 use Rattle.py_lines.proofs.Machine.LiveTexts.{keeps}
 use Rattle.py_lines.proofs.Machine.PieceSteps.{scanned, steps_by-append}
 use Rattle.py_lines.proofs.ScanMachine.Spellings.{word_tells}
-use Rattle.py_lines.proofs.FieldScans.Runs.{goes_low}
+use Rattle.py_lines.proofs.FieldScans.Runs.{goes_low, leads_low}
 use Rattle.py_lines.proofs.FieldScans.TextLengths.{rest_is}
 use Rattle.py_lines.proofs.LineScan.Increments.{EndsNoLine-push}
 use Rattle.py_lines.proofs.LineScan.Runs.{quote_ascii, string_no_break}
@@ -76,24 +76,17 @@ module _ (s : Spelling) (field : is_field_spelling s ≡ true) (q : ℕ) (quote 
         };
       }
 
-  from_held : (done : List Piece) (held : List ℕ) → HasCome initial read n st (scanned done (modes.Word s) held) → HoldsOpen (modes.Word s) done held → IsFreeAfter initial (read ++ run) n st
-  from_held done held come (c, cs, is, starts, letters, spells) = from_word done c cs (subst (λ (t : List ℕ). HasCome initial read n st (scanned done (modes.Word s) t)) is come) spells
-
-  string_passed : IsInPiece (modes.Word s) initial read n st → IsFreeAfter initial (read ++ run) n st
-  string_passed on = from_held on.done on.held on.come (come_sound initial read n st (scanned on.done (modes.Word s) on.held) on.come).holds
-
 over_text : (s : Spelling) (q : ℕ) (text : List ℕ) (initial : Mode) (read : List ℕ) (n : ℕ) (st : List Bracket) → is_field_spelling s ≡ true → is_quote q ≡ true → IsFull text → Leads q InText text InText → length st ≤ 100 → IsInPiece (modes.Word s) initial read n st → IsFreeAfter initial (read ++ q ∷ (text ++ q ∷ [])) n st
 over_text s q [] initial read n st field quote full leads few on = absurd full
-over_text s q (d ∷ ds) initial read n st field quote full leads few on = string_passed s field q quote d ds leads initial read n st few on
+over_text s q (d ∷ ds) initial read n st field quote full leads few on =
+    let (c, cs, is, starts, letters, spells) = (come_sound initial read n st (scanned on.done (modes.Word s) on.held) on.come).holds in
+    from_word s field q quote d ds leads initial read n st few on.done c cs (subst (λ (t : List ℕ). HasCome initial read n st (scanned on.done (modes.Word s) t)) is on.come) spells
 
 -- it is ASCII: the machine goes through its text from the start of a string
 quoted_low : (q : ℕ) (text : List ℕ) → is_quote q ≡ true → Leads q InText text InText → list_all is_low (q ∷ (text ++ q ∷ [])) ≡ true
 quoted_low q text quote leads =
-    let own : StringWithFields = record { quote = q; is_long = false; is_raw = false } in
-    let T = at_body (host_in own) [] in
-    let (u, through, end) = leads [] (record { done = []; openers = []; host = host_in own; place = literal; front = [] }) 0 T refl quote (omega arith) ([], refl) in
     let one = is_low_from q (quote_ascii q quote) in
-    and_from _ _ one (list_all-append is_low text (q ∷ []) ∙ and_from _ _ (goes_low 0 T text u through) (and_from _ _ one refl))
+    and_from _ _ one (list_all-append is_low text (q ∷ []) ∙ and_from _ _ (leads_low q text quote leads) (and_from _ _ one refl))
 
 full_some : (text : List ℕ) → IsFull text → 0 < length text
 full_some [] full = absurd full
