@@ -140,14 +140,11 @@ module _ (old : FieldScan) (base depth c place : ℕ) (host : StringWithFields) 
       }))
 
 -- a field ends with its specification
-ending_room : (n c : ℕ) → has_room_at n c ends_field ≡ true
-unfolding has_room_at
-ending_room n c = refl
-
 pub ends_there : (old : FieldScan) (base depth c : ℕ) (field : OpenField) (others : List Frame) → old.frames ≡ frame.Field field ∷ others → (t : FieldScanned) → Follows old base t → field_move t.mode t.held c ≡ ends_field → ComesTo base depth t c old progress.Going (ended_in (record old { frames = others }) field)
+unfolding has_room_at
 ends_there old base depth c field others top t follow is =
     let i = innermost_field base t.outer t.done t.openers old.frames others field follow.frames top in
     let text : List ℕ = t.held ++ c ∷ [] in
     going base depth t c ends_field is old (ended_in (record old { frames = others }) field) (field_ended i.level i.outside text)
-    (ending_room (depth + frames t) c) (ap (λ (ls : List Level). specification_ended ls text) i.outer_is) (λ none other. keeps_open _ refl other) (λ none. (i.level.host, i.level.place, false, between, refl))
+    refl (ap (λ (ls : List Level). specification_ended ls text) i.outer_is) (λ none other. keeps_open _ refl other) (λ none. (i.level.host, i.level.place, false, between, refl))
     (resumed old base t.outer t.openers field others i text)

@@ -1,7 +1,7 @@
 -- An operator in the code of a field: a bracket opens or closes, the field ends, or its specification begins.
-use Rattle.std.proofs.Common.{◌≡◌, ℕ, ◌+◌, ◌<◌, Bool, true, false, not, ◌||◌, ◌&&◌, ◌==◌, Option, None, Some, List, [], ◌∷◌, ◌++◌, length, nat_lt, refl, sym, ap, ◌∙◌, subst, arith, append-nil}
+use Rattle.std.proofs.Common.{◌≡◌, ℕ, ◌+◌, ◌<◌, true, false, not, ◌||◌, ◌&&◌, ◌==◌, Option, None, Some, List, [], ◌∷◌, ◌++◌, length, nat_lt, refl, sym, ap, ◌∙◌, subst, arith, append-nil}
 use Rattle.std.specs.Str.{byte}
-use Rattle.std.proofs.lemmas.Bool.{and_right, both_ways, eq-eqb, eqb-true, lt-ltb, ltb-true, false_from_ne_true}
+use Rattle.std.proofs.lemmas.Bool.{and_right, or_right, both_ways, eq-eqb, eqb-true, lt-ltb, ltb-true, false_from_ne_true}
 use Rattle.py_lines.specs.Piece.{operator, Piece, spelled}
 use Rattle.py_lines.specs.LogicalLine.{byte_len}
 use Rattle.py_lines.specs.Balance.{is_opening, is_closing, closing_of}
@@ -63,24 +63,11 @@ other c d apart = false_from_ne_true (c == d) (λ same. apart (eqb-true c d same
 -- whether an opening bracket finds room
 opening_room : (n c : ℕ) → n < 200 → has_room_at n c breaks ≡ true
 unfolding has_room_at
-opening_room n c low = go (is_opening c)
-  where
-    go : (b : Bool) → not b || nat_lt n 200 ≡ true
-    go true = lt-ltb n 200 low
-    go false = refl
+opening_room n c low = or_right (not (is_opening c)) (nat_lt n 200) (lt-ltb n 200 low)
 
 opening_none : (n c : ℕ) → is_opening c ≡ true → (n < 200 → ⊥) → has_room_at n c breaks ≡ false
 unfolding has_room_at
 opening_none n c opens none = ap (λ b. not b || nat_lt n 200) opens ∙ false_from_ne_true (nat_lt n 200) (λ low. none (ltb-true n 200 low))
-
--- `}` and `:` need none
-free_end : (n c : ℕ) → c ≡ byte "}" → has_room_at n c breaks ≡ true
-unfolding is_opening
-free_end n c is = no_opening n c (ap is_opening is)
-
-free_colon : (n c : ℕ) → c ≡ byte ":" → has_room_at n c breaks ≡ true
-unfolding is_opening
-free_colon n c is = no_opening n c (ap is_opening is)
 
 -- the scan is back in the string of a field that has ended
 pub resumed : (old : FieldScan) (base : ℕ) (outer : List Level) (openers : List ℕ) (field : OpenField) (others : List Frame) (i : InnermostField base outer openers field others) (text : List ℕ) → Follows (ended_in (record old { frames = others }) field) base (field_ended i.level i.outside text)
@@ -172,16 +159,18 @@ module _ (old : FieldScan) (base depth c place : ℕ) (t : FieldScanned) (follow
     in_code o same = ap (λ (os : List ℕ). field_operator t.outer Done os c) i.none ∙ ap (λ (ls : List Level). field_operator ls Done [] c) i.outer_is ∙ same
 
     pub field_ends : c ≡ byte "}" → ComesTo base depth t c old progress.Going (ended_in (record old { frames = others }) field)
+    unfolding is_opening
     field_ends ends =
         let text : List ℕ = i.level.front ++ (spelled Done ++ c ∷ []) in
         takes (ended_in (record old { frames = others }) field) (field_ended i.level i.outside text) (in_code _ (ended_is i.level i.outside Done c (eq-eqb c (byte "}") ends)))
-        (free_end (depth + frames t) c ends) (λ none. (i.level.host, i.level.place, false, between, refl)) (resumed old base t.outer t.openers field others i text)
+        (no_opening (depth + frames t) c (ap is_opening ends)) (λ none. (i.level.host, i.level.place, false, between, refl)) (resumed old base t.outer t.openers field others i text)
 
     pub field_specifies : (c ≡ byte "}" → ⊥) → c ≡ byte ":" → ComesTo base depth t c old progress.Going (record old { mode = field_modes.Body field.host regions.Specification false ats.Between; start = field.start })
+    unfolding is_opening
     field_specifies ends specifies =
         takes (record old { mode = field_modes.Body field.host regions.Specification false ats.Between; start = field.start })
         (field_state (i.level ∷ i.outside) [] [] (body i.level.host specification false between) (i.level.front ++ (spelled Done ++ c ∷ [])))
-        (in_code _ (specified_is i.level i.outside Done c (other c (byte "}") ends) (eq-eqb c (byte ":") specifies))) (free_colon (depth + frames t) c specifies) (λ none. absurd (cc))
+        (in_code _ (specified_is i.level i.outside Done c (other c (byte "}") ends) (eq-eqb c (byte ":") specifies))) (no_opening (depth + frames t) c (ap is_opening specifies)) (λ none. absurd (cc))
         (record {
           mode = ap (λ h. body h specification false between) i.host;
           holds = tt;

@@ -11,7 +11,7 @@ use Rattle.py_lines.specs.declared.mode.Move.TheVariants as moves
 use Rattle.py_lines.specs.declared.frames.Frame.{Frame}
 use Rattle.py_lines.specs.declared.field_scan.FieldScan.{FieldScan}
 use Rattle.py_lines.specs.declared.field_scan.FieldProgress.TheVariants as progress
-use Rattle.py_lines.specs.Private.FieldMachine.{FieldMove, grows, closes, breaks, begins_code, opens_field, ends_field, refused, Level, FieldScanned, field_fresh, field_move, field_moved, before, frames, has_room_at}
+use Rattle.py_lines.specs.Private.FieldMachine.{FieldMove, closes, Level, FieldScanned, field_fresh, field_move, field_moved, before, frames, has_room_at}
 use Rattle.py_lines.specs.Private.ScanMachine.{string_move, fielded_move, IsInString}
 use Rattle.py_lines.specs.Private.FieldScan.{Follows, FramesFollow, freed_at, ComesTo}
 
@@ -30,12 +30,7 @@ keeps_open v other is = both_ways _ other (ap is_closing_move is)
 -- where a string goes on, or ends
 string_goes : (outer : List Level) (v : FieldMove) (next : FieldScanned) → (outer ≡ [] → v ≡ closes → ⊥) → string_move outer v (Some next) ≡ moves.Grows modes.Fielded
 string_goes [] closes next goes_on = absurd (goes_on refl refl)
-string_goes [] (grows m) next goes_on = refl
-string_goes [] breaks next goes_on = refl
-string_goes [] (begins_code h) next goes_on = refl
-string_goes [] (opens_field h) next goes_on = refl
-string_goes [] ends_field next goes_on = refl
-string_goes [] refused next goes_on = refl
+string_goes [] v next goes_on = refl
 string_goes (l ∷ ls) v next goes_on = refl
 
 string_stops : (t : FieldScanned) (c : ℕ) (outer : List Level) (v : FieldMove) → field_moved t c v ≡ None → string_move outer v None ≡ moves.Refused

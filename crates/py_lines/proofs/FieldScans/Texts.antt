@@ -29,6 +29,7 @@ use Rattle.py_lines.proofs.FieldMachine.StringParts.{open_moves, other_escaped, 
 use Rattle.py_lines.proofs.FieldMachine.FieldRuns.{brace_ends, code_moves, colon_opens, end_moves, end_no_quote}
 use Rattle.py_lines.proofs.ScanMachine.Follows.{room_closes}
 use Rattle.py_lines.proofs.FieldScans.Runs.{text_stays, two_false}
+use Rattle.py_lines.proofs.FieldScans.Taking.{no_opening}
 use Rattle.py_lines.proofs.FieldScans.Steps.{goes_through, keeps_open, some_level}
 use Rattle.py_lines.proofs.LineScan.StringSteps.{string_grows}
 use Rattle.py_lines.proofs.LineScan.AsciiRuns.{low_is, quote-no_break, space-not-quote}
@@ -90,22 +91,6 @@ pub text_grows : (h : Host) (quote c : ℕ) → h.quote ≡ quote → IsLiteral 
 unfolding field_move
 text_grows h quote c same is held place = text_stays h place false c (ap (λ (q : ℕ). c == q) same ∙ is.other) is.slash is.none is.brace
 
-brace_stays : (host : Host) (held : List ℕ) → is_quote host.quote ≡ true → field_move (body host literal false between) held 125 ≡ grows (body host literal false between)
-unfolding field_move body_move between_move is_backslash is_break
-brace_stays host held quotes = rw (not_quote 125 host.quote quotes end_no_quote)
-
-brace_opens : (host : Host) (held : List ℕ) → is_quote host.quote ≡ true → field_move (body host literal false between) held 123 ≡ grows (body host literal false after_brace)
-unfolding field_move body_move
-brace_opens host held quotes = open_moves host literal between quotes
-
-open_no_break : is_break 123 ≡ false
-unfolding is_break
-open_no_break = refl
-
-end_no_break : is_break 125 ≡ false
-unfolding is_break
-end_no_break = refl
-
 -- in the literal part of a string, which has come so far
 abbrev InPart : At → Spot
 InPart at outer l t = (held : List ℕ) × (t ≡ field_state outer l.done l.openers (body l.host literal false at) held)
@@ -126,33 +111,29 @@ texts_lead quote = leads-run (is_literal_byte quote) quote InText (text_leads qu
 
 -- `}` and `{{`
 pub brace_leads : (quote : ℕ) → Leads quote InText (125 ∷ []) InText
-brace_leads quote = part_leads quote 125 between between (omega arith) end_no_break (λ host held same quotes. brace_stays host held quotes)
+unfolding field_move body_move between_move is_backslash is_break
+brace_leads quote = part_leads quote 125 between between (omega arith) refl (λ host held same quotes. rw (not_quote 125 host.quote quotes end_no_quote))
 
 pub open_leads : (quote : ℕ) → Leads quote InText (123 ∷ []) AtBrace
-open_leads quote = part_leads quote 123 between after_brace (omega arith) open_no_break (λ host held same quotes. brace_opens host held quotes)
+unfolding field_move body_move is_break
+open_leads quote = part_leads quote 123 between after_brace (omega arith) refl (λ host held same quotes. open_moves host literal between quotes)
 
 pub two_lead : (quote : ℕ) → Leads quote InText (123 ∷ 123 ∷ []) InText
+unfolding is_break
 two_lead quote =
     leads-append quote InText AtBrace InText (123 ∷ []) (123 ∷ []) (open_leads quote)
-    (part_leads quote 123 after_brace between (omega arith) open_no_break (λ host held same quotes. second_brace host literal false held))
+    (part_leads quote 123 after_brace between (omega arith) refl (λ host held same quotes. second_brace host literal false held))
 
 -- a backslash and a character
-slash_opens : (host : Host) (held : List ℕ) → is_quote host.quote ≡ true → field_move (body host literal false between) held 92 ≡ grows (body host literal false after_slash)
-unfolding field_move body_move is_backslash
-slash_opens host held quotes = slash_grows host literal false between 92 quotes refl
-
-slash_no_break : is_break 92 ≡ false
-unfolding is_break
-slash_no_break = refl
-
 pub escape_leads : (quote c : ℕ) → is_escaped c ≡ true → Leads quote InText (92 ∷ c ∷ []) InText
+unfolding field_move body_move is_backslash is_break
 escape_leads quote c h =
     let low = and_parts (nat_lt c 128) (not (is_break c) && (not (is_brace c) && not (c == 78))) h in
     let none = and_parts (not (is_break c)) (not (is_brace c) && not (c == 78)) low.1 in
     let others = two_false (is_brace c) (c == 78) none.1 in
     let unbroken : is_break c ≡ false = not-true (is_break c) none.0 in
     leads-append quote InText (InPart after_slash) InText (92 ∷ []) (c ∷ [])
-    (part_leads quote 92 between after_slash (omega arith) slash_no_break (λ host held same quotes. slash_opens host held quotes))
+    (part_leads quote 92 between after_slash (omega arith) refl (λ host held same quotes. slash_grows host literal false between 92 quotes refl))
     (part_leads quote c after_slash between (low_is c low.0) unbroken (λ host held same quotes. other_escaped host literal false held c others.0 refl (break-return c unbroken) (ap (λ b. b && not host.is_raw) others.1)))
 
 -- after `{`, code begins with what is no brace of that kind
@@ -228,11 +209,6 @@ word_no_break c h = stays-no_break (modes.Word spellings.Name) c h
 word_opens_none : (c : ℕ) → is_ascii_word c ≡ true → is_opening c ≡ false
 word_opens_none c h = excluded is_ascii_word is_opening c (opening-not-word c) h
 
--- room for what opens nothing
-free_room : (n c : ℕ) → is_opening c ≡ false → has_room_at n c breaks ≡ true
-unfolding has_room_at
-free_room n c none = rw none refl
-
 -- what a character does to a word, to space, and where no piece is open: it begins such a piece, or goes on in one
 abbrev pub BeginsOrGrows : (Mode → Bool) → ℕ → Mode → List ℕ → Type 0
 BeginsOrGrows passes c m held = (field_move (plain m) held c ≡ breaks) ⊎ ((n : Mode) × (field_move (plain m) held c ≡ grows (plain n)) × (passes n ≡ true))
@@ -245,7 +221,7 @@ piece_leads passes os quote c begun low none opens_none opens simple each =
     ⊎_elim
     (λ move. (
       next,
-      breaks_to depth C next c low none move (free_room _ c opens_none) (ap (field_started (level_after l front ∷ outer) (field_pieces C) os c) opens),
+      breaks_to depth C next c low none move (no_opening _ c opens_none) (ap (field_started (level_after l front ∷ outer) (field_pieces C) os c) opens),
       record { front = front; done = field_pieces C; mode = begun; held = c ∷ []; is = refl; simple = simple },
     ))
     (λ (n, move, more). (
@@ -352,7 +328,7 @@ leads_to_code os quote P run leads outer l depth t same quotes room at =
 pub sign_leads : (os : List ℕ) (quote c : ℕ) → is_code_sign c ≡ true → Leads quote (InCode os) (c ∷ []) (AtCode os)
 sign_leads os quote c h =
     sign_cases (Leads quote (InCode os) (c ∷ []) (AtCode os)) c h (space_leads os quote c)
-    (λ is opens shuts colon. operator_leads os os quote c is (others_keep os c opens shuts) (ap (λ b. b && (length os == 0)) colon) (λ n few. free_room (n + length os) c opens))
+    (λ is opens shuts colon. operator_leads os os quote c is (others_keep os c opens shuts) (ap (λ b. b && (length os == 0)) colon) (λ n few. no_opening (n + length os) c opens))
 
 code_leads : (os : List ℕ) (quote c : ℕ) → is_code_byte c ≡ true → Leads quote (InCode os) (c ∷ []) (InCode os)
 code_leads os quote c h = ⊎_elim (word_leads os quote c) (λ sign. leads_to_code os quote (InCode os) (c ∷ []) (sign_leads os quote c sign)) (or_cases (is_ascii_word c) (is_code_sign c) h)
@@ -431,7 +407,7 @@ string_leads os quote q (d ∷ ds) quotes full all =
     let ended : FieldScanned = closed_in quote outer l depth front os q quotes ps ((q ∷ d ∷ []) ++ ds) in (
       ended,
       goes_on-append depth C opened ended (q ∷ []) ((d ∷ ds) ++ q ∷ [])
-          (breaks_to depth C opened q (quote_ascii q quotes) (quote-no_break q quotes) (quote_breaks m held q apart quotes) (free_room _ q (quote_opens_none q quotes)) (ap (field_started (level_after l front ∷ outer) ps os q) (start-quote q quotes)))
+          (breaks_to depth C opened q (quote_ascii q quotes) (quote-no_break q quotes) (quote_breaks m held q apart quotes) (no_opening _ q (quote_opens_none q quotes)) (ap (field_started (level_after l front ∷ outer) ps os q) (start-quote q quotes)))
           (text_goes quote outer l depth front os q quotes ps d ds all),
       record { front = front; done = ps ++ piece string (((q ∷ d ∷ []) ++ ds) ++ q ∷ []) ∷ []; mode = modes.Free; held = []; is = refl; simple = refl },
     ))
@@ -464,7 +440,7 @@ end_leads quote c Q to h opens ends there =
     let C : FieldScanned = field_state (level ∷ outer) done [] (plain m) held in
     let ps = field_pieces C in (
       to level outer ps,
-      breaks_to depth C (to level outer ps) c (operator_ascii c h) (operator_others c h).2 (operator_breaks m held c simple h) (free_room _ c opens)
+      breaks_to depth C (to level outer ps) c (operator_ascii c h) (operator_others c h).2 (operator_breaks m held c simple h) (no_opening _ c opens)
           (ap (field_started (level ∷ outer) ps [] c) (start-operator c h) ∙ ends level outer ps),
       there outer l front ps,
     ))
@@ -497,20 +473,13 @@ specified_leads quote c h outer l depth t same quotes room (front, held, is) =
 pub specifications_lead : (quote : ℕ) (run : List ℕ) → list_all (is_literal_byte quote) run ≡ true → Leads quote AtSpecification run AtSpecification
 specifications_lead quote = leads-run (is_literal_byte quote) quote AtSpecification (specified_leads quote)
 
-specification_moves : (host : Host) (held : List ℕ) → is_quote host.quote ≡ true → field_move (body host specification false between) held 125 ≡ ends_field
-unfolding field_move body_move
-specification_moves host held quotes = end_moves host between quotes
-
-ends_room : (n c : ℕ) → has_room_at n c ends_field ≡ true
-unfolding has_room_at
-ends_room n c = refl
-
 pub specification_ends : (quote : ℕ) → Leads quote AtSpecification (125 ∷ []) InText
+unfolding field_move body_move has_room_at is_break
 specification_ends quote outer l depth t same quotes room (front, held, is) =
     let S : FieldScanned = field_state (level_after l front ∷ outer) [] [] (body l.host specification false between) held in
     let ended : FieldScanned = field_state outer l.done l.openers (body l.host literal false between) (held ++ 125 ∷ []) in
     subst (λ x. (u : FieldScanned) × GoesThrough depth x (125 ∷ []) u × InText outer l u) (sym is) (
       ended,
-      one_step depth S ended 125 ends_field (omega arith) end_no_break (specification_moves l.host held (ap is_quote same ∙ quotes)) (λ o e. keeps_open _ refl e) (ends_room _ 125) refl,
+      one_step depth S ended 125 ends_field (omega arith) refl (end_moves l.host between (ap is_quote same ∙ quotes)) (λ o e. keeps_open _ refl e) refl refl,
       (held ++ 125 ∷ [], refl),
     )
