@@ -3,7 +3,7 @@ use Rattle.std.proofs.Common.{◌≡◌, ℕ, ◌+◌, ◌-◌, ◌<◌, ◌≤�
 use Rattle.std.specs.Prelude.{if◌then◌else◌, encode_utf8_all, codes}
 use Rattle.std.specs.List.{list_all, list_any}
 use mir.Val.{bool_byte}
-use Rattle.std.proofs.lemmas.Bool.{and_from, and_parts, both_ways, eqb-true, false_from_ne_true, lt-ltb, ltb-true, or_cases}
+use Rattle.std.proofs.lemmas.Bool.{and_from, and_parts, both_ways, eqb-true, false_from_ne_true, lt-ltb, ltb-true, or_cases, or_left, or_right}
 use Rattle.std.proofs.lemmas.List.{drop-drop, drop_more}
 use Rattle.std.proofs.lemmas.Str.{len_utf8_ascii}
 use Rattle.std.proofs.Math.Seq.{take-append_seam}
@@ -308,16 +308,7 @@ prefix_size (a ∷ []) h = letter_one a (third_of (is_r a) (is_f a) (is_t a) h) 
 prefix_size (a ∷ b ∷ []) h =
     let both = letters a b h in
     let two : byte_len (a ∷ b ∷ []) ≡ 2 = omega (arith, byte_len-append (a ∷ []) (b ∷ []), letter_one a both.0, letter_one b both.1) in
-    two ∙ sym (ap letters_of (⊎_elim (λ first. by_first (is_r a) (is_r b) (and_parts (is_r a) (is_f b || is_t b) first).0) (λ second. by_second (is_r a) (is_r b) (and_parts (is_f a || is_t a) (is_r b) second).1) (or_cases (is_r a && (is_f b || is_t b)) ((is_f a || is_t a) && is_r b) h)))
-  where
-    by_first : (x y : Bool) → x ≡ true → x || (y || false) ≡ true
-    by_first true y is = refl
-    by_first false y is = absurd (both_ways _ refl is)
-
-    by_second : (x y : Bool) → y ≡ true → x || (y || false) ≡ true
-    by_second true y is = refl
-    by_second false true is = refl
-    by_second false false is = absurd (both_ways _ refl is)
+    two ∙ sym (ap letters_of (⊎_elim (λ first. or_left (is_r a) (is_r b || false) (and_parts (is_r a) (is_f b || is_t b) first).0) (λ second. or_right (is_r a) (is_r b || false) (or_left (is_r b) false (and_parts (is_f a || is_t a) (is_r b) second).1)) (or_cases (is_r a && (is_f b || is_t b)) ((is_f a || is_t a) && is_r b) h)))
 prefix_size (a ∷ b ∷ c ∷ cs) h = absurd (both_ways _ refl h)
 
 -- how far a string has come that holds nothing yet

@@ -80,15 +80,11 @@ same_place : (host : Host) (place : Place) (named b : Bool) (at a : At) (fs : Li
 same_place host literal named b at a fs placed = tt
 same_place host specification named b at a fs placed = placed
 
-in_specification : (host : Host) (place : Place) (named : Bool) (at : At) (fs : List Frame) → place ≡ specification → IsPlaced (body host place named at) fs → InField fs
-in_specification host literal named at fs is placed = absurd (cc)
-in_specification host specification named at fs is placed = placed
-
 body_placed : (host : Host) (place : Place) (named : Bool) (at : At) (c : ℕ) (v : FieldMove) (fs : List Frame) → IsPlaced (body host place named at) fs → BodyMoved host place named at c v → Placed v fs
 body_placed host place named at c (grows n) fs placed (b, a, is, fit) = subst (λ (m : spots.FieldMode). IsPlaced m fs) (sym is) (same_place host place named b at a fs placed)
 body_placed host place named at c breaks fs placed moved = absurd moved
-body_placed host place named at c (opens_field h) fs placed (same, is, none, brace) = in_specification host place named at fs is placed
-body_placed host place named at c ends_field fs placed (is, none) = in_specification host place named at fs is placed
+body_placed host place named at c (opens_field h) fs placed (same, is, none, brace) = subst (λ (p : Place). IsPlaced (body host p named at) fs) is placed
+body_placed host place named at c ends_field fs placed (is, none) = subst (λ (p : Place). IsPlaced (body host p named at) fs) is placed
 body_placed host place named at c v fs placed moved = tt
 
 step_placed : (step : Move) (fs : List Frame) → (fs ≡ [] → ⊥) → Placed (code_moved step) fs

@@ -12,6 +12,7 @@ use Rattle.py_lines.specs.Private.FieldText.{AtBrace, AtCode, HasSimpleCode, InC
 use Rattle.py_lines.specs.Private.Run.{BeginsPlainString, IsRunOf, IsWholePlainString, is_ascii_word, is_code_byte, is_code_sign, is_literal_byte}
 use Rattle.py_lines.proofs.LineScan.AsciiRuns.{all_pass, full_take}
 use Rattle.py_lines.proofs.LineScan.PlainStrings.{split_at, text_size}
+use Rattle.py_lines.proofs.SimpleLines.FirstBytes.{taken_one, taken_two}
 use Rattle.py_lines.proofs.FieldScans.Texts.{Spot, escape_leads, leads_from_code, sign_leads, string_leads, brace_leads, closing_leads, code_after, codes_lead, field_ends, leads-append, leads-none, open_leads, opening_leads, specification_begins, specification_ends, specifications_lead, texts_lead, two_lead}
 
 -- the bytes after the first ones, as a slice has them
@@ -36,12 +37,8 @@ pub by_none : (quote : ℕ) (P : Spot) (bytes : List ℕ) → LeadsBy quote P by
 by_none quote P bytes = (omega arith, leads-none quote P)
 
 -- over the first byte
-one_taken : (bytes : List ℕ) → 0 < length bytes → take 1 bytes ≡ slice_index bytes 0 ∷ []
-one_taken [] some = absurd (omega (arith, some))
-one_taken (b ∷ bs) some = refl
-
-pub by_byte : (quote c : ℕ) (P Q : Spot) (bytes : List ℕ) → 0 < length bytes → slice_index bytes 0 ≡ c → Leads quote P (c ∷ []) Q → LeadsBy quote P bytes 1 Q
-by_byte quote c P Q bytes some is leads = (omega (arith, some), subst (λ run. Leads quote P run Q) (sym (one_taken bytes some ∙ ap (λ x. x ∷ []) is)) leads)
+by_byte : (quote c : ℕ) (P Q : Spot) (bytes : List ℕ) → 0 < length bytes → slice_index bytes 0 ≡ c → Leads quote P (c ∷ []) Q → LeadsBy quote P bytes 1 Q
+by_byte quote c P Q bytes some is leads = (omega (arith, some), subst (λ run. Leads quote P run Q) (sym (taken_one bytes some ∙ ap (λ x. x ∷ []) is)) leads)
 
 by_byte_at : (quote c : ℕ) (P Q : Spot) (bytes : List ℕ) (n : ℕ) → n < length bytes → slice_index bytes n ≡ c → Leads quote P (c ∷ []) Q → LeadsBy quote P (drop n bytes) 1 Q
 by_byte_at quote c P Q bytes n within is leads =
@@ -220,14 +217,9 @@ some_bytes (b ∷ bs) h = omega arith
 pub brace_part : (quote : ℕ) (bytes : List ℕ) → 0 < length bytes → slice_index bytes 0 ≡ 125 → LeadsBy quote InText bytes 1 InText
 brace_part quote bytes some is = by_byte quote 125 InText InText bytes some is (brace_leads quote)
 
-two_taken : (bytes : List ℕ) → 1 < length bytes → take 2 bytes ≡ slice_index bytes 0 ∷ slice_index bytes 1 ∷ []
-two_taken [] some = absurd (omega (arith, some))
-two_taken (b ∷ []) some = absurd (omega (arith, some))
-two_taken (b ∷ c ∷ bs) some = refl
-
 by_two : (quote a b : ℕ) (P Q : Spot) (bytes : List ℕ) → 1 < length bytes → slice_index bytes 0 ≡ a → slice_index bytes 1 ≡ b → Leads quote P (a ∷ b ∷ []) Q → LeadsBy quote P bytes 2 Q
 by_two quote a b P Q bytes some one two leads =
-    let is : take 2 bytes ≡ a ∷ b ∷ [] = two_taken bytes some ∙ ap (λ (x : ℕ). x ∷ slice_index bytes 1 ∷ []) one ∙ ap (λ (x : ℕ). a ∷ x ∷ []) two in
+    let is : take 2 bytes ≡ a ∷ b ∷ [] = taken_two bytes some ∙ ap (λ (x : ℕ). x ∷ slice_index bytes 1 ∷ []) one ∙ ap (λ (x : ℕ). a ∷ x ∷ []) two in
     (omega (arith, some), subst (λ run. Leads quote P run Q) (sym is) leads)
 
 pub escape_part : (quote : ℕ) (bytes : List ℕ) → 1 < length bytes → slice_index bytes 0 ≡ 92 → is_escaped (slice_index bytes 1) ≡ true → LeadsBy quote InText bytes 2 InText

@@ -368,11 +368,10 @@ module _ (quote : ℕ) (outer : List Level) (l : Level) (depth : ℕ) (front : L
   unfolding move_of
   inside_closes held = plain_moves (modes.Inside q) held q refl ∙ rw (eq-eqb q q refl) refl
 
-  closed_in : List Piece → List ℕ → FieldScanned
+  abbrev closed_in : List Piece → List ℕ → FieldScanned
   closed_in ps held = field_fresh (level_after l front ∷ outer) (ps ++ piece string (held ++ q ∷ []) ∷ []) os
 
   text_ends : (ps : List Piece) (held : List ℕ) → GoesThrough depth (open_in ps (modes.Inside q) held) (q ∷ []) (closed_in ps held)
-  unfolding closed_in
   text_ends ps held = one_step depth (open_in ps (modes.Inside q) held) (closed_in ps held) q closes (quote_ascii q quotes) (quote-no_break q quotes) (inside_closes held) (λ o. absurd (some_level (level_after l front) outer o)) (room_closes _ q) refl
 
   -- from its first quote to its last
@@ -397,7 +396,6 @@ quote_breaks modes.Space held q apart quotes = plain_moves modes.Space held q re
 quote_breaks m held q apart quotes = absurd (both_ways _ refl apart)
 
 pub string_leads : (os : List ℕ) (quote q : ℕ) (run : List ℕ) → is_quote q ≡ true → IsFull run → list_all (is_text_byte q) run ≡ true → Leads quote (AtCode os) (q ∷ (run ++ q ∷ [])) (AtCode os)
-unfolding closed_in
 string_leads os quote q [] quotes full all = absurd full
 string_leads os quote q (d ∷ ds) quotes full all =
     from_code is_apart_mode os quote (q ∷ ((d ∷ ds) ++ q ∷ [])) (AtCode os) (λ outer l depth front done held m apart room same own.
