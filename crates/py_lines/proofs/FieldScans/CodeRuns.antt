@@ -1,10 +1,9 @@
 -- Words, spaces and signs of a field's code are taken in one step, up to the last sign.
-use Rattle.std.proofs.Common.{◌≡◌, ℕ, ◌+◌, ◌-◌, ◌<◌, ◌≤◌, Bool, true, false, not, ◌&&◌, ◌||◌, ◌==◌, Some, List, [], ◌∷◌, ◌++◌, length, take, slice_index, refl, sym, ap, ◌∙◌, subst, arith, inl, inr, ⊎_elim}
+use Rattle.std.proofs.Common.{◌≡◌, ℕ, ◌+◌, ◌-◌, ◌<◌, ◌≤◌, true, false, not, ◌&&◌, ◌||◌, ◌==◌, Some, List, [], ◌∷◌, ◌++◌, length, take, slice_index, refl, sym, ap, ◌∙◌, subst, arith, inl, inr, ⊎_elim}
 use Rattle.std.specs.Prelude.{nat_lt}
 use Rattle.std.specs.List.{list_all}
 use Rattle.std.proofs.lemmas.Bool.{and_parts, both_ways, lt-ltb, or_cases}
 use Rattle.std.proofs.lemmas.List.{length-take-le, get_or-take, take_more}
-use Rattle.std.proofs.lemmas.List.Folds.{list_all-append}
 use Rattle.std.proofs.lemmas.Str.{len_utf8_ascii}
 use Rattle.py_lines.specs.Balance.{is_opening, is_closing}
 use Rattle.py_lines.specs.Character.{is_break, is_operator}
@@ -26,7 +25,7 @@ use Rattle.py_lines.specs.Private.Run.{IsRunOf, is_ascii_word, is_code_byte, is_
 use Rattle.py_lines.specs.Private.ScanMachine.{string_state, IsInString}
 use Rattle.py_lines.specs.Private.WholePieces.{IsOperatorEnd}
 use Rattle.py_lines.proofs.Machine.Starts.{start-operator, start-space}
-use Rattle.py_lines.proofs.LineScan.AsciiRuns.{all_pass}
+use Rattle.py_lines.proofs.LineScan.AsciiRuns.{all_pass, is_low}
 use Rattle.py_lines.proofs.LineScan.Runs.{space_low, word_byte_low}
 use Rattle.py_lines.proofs.LineScan.StringSteps.{here_at, string_more}
 use Rattle.py_lines.proofs.Text.CharacterTests.{operator_ascii}
@@ -93,13 +92,10 @@ module _ (first : FieldScan) (base depth : ℕ) where
         (new, taken low none new n refl more refl (grown scan base depth t c place on.follows on.inside stands (field_modes.Code n) (plain n) (met (grows (plain n)) move) (code_plain n more)))
 
     -- a sign
-    sign_comes : is_operator c ≡ true → is_opening c ≡ false → is_closing c ≡ false → c == 58 ≡ false → ComesTo base depth t c scan progress.Going (freed_at scan (place + 1))
-    sign_comes is opens closes colon =
-        sign_passes scan base depth c place t on.follows on.inside stands (met breaks (operator_breaks on.mode t.held c on.simple is)) (start-operator c is) opens closes
-        (ap (λ b. b && (length t.openers == 0)) colon)
-
     sign_taken : is_operator c ≡ true → is_opening c ≡ false → is_closing c ≡ false → c == 58 ≡ false → Next t c place (freed_at scan (place + 1))
-    sign_taken is opens closes colon = taken (operator_ascii c is) (operator_others c is).2 (freed_at scan (place + 1)) modes.Free refl refl refl (sign_comes is opens closes colon)
+    sign_taken is opens closes colon =
+        taken (operator_ascii c is) (operator_others c is).2 (freed_at scan (place + 1)) modes.Free refl refl refl
+        (sign_passes scan base depth c place t on.follows on.inside stands (met breaks (operator_breaks on.mode t.held c on.simple is)) (start-operator c is) opens closes (ap (λ b. b && (length t.openers == 0)) colon))
 
     code_taken : is_code_byte c ≡ true → (new : FieldScan) × Next t c place new
     code_taken h =
@@ -136,7 +132,7 @@ sign_is P c h sign by =
 -- the first bytes, up to a sign
 pub holds_code : (first : FieldScan) (depth place : ℕ) (bytes : List ℕ) (all len : ℕ) → first.mode ≡ field_modes.Code modes.Free → IsRunOf is_code_byte bytes all → IsOperatorEnd (take all bytes) len → 0 < len → HoldsField first depth place bytes len (freed_at first (place + len))
 holds_code first depth place bytes all len free run (within, nothing_or_sign) some =
-    holds_ascii first (freed_at first (place + len)) depth place bytes len short (each (λ c. nat_lt c 128) code_low) (λ none. absurd (omega (arith, none, some)))
+    holds_ascii first (freed_at first (place + len)) depth place bytes len short (all_pass is_low bytes len short (λ i early. code_low (slice_index bytes i) (run.each i (omega (arith, early, least))))) (λ none. absurd (omega (arith, none, some)))
     (λ base held t steps at follows inside.
     let on : StandsInField first first base place t = record { held = held; steps = steps; at = at; follows = follows; inside = inside; frames = refl; mode = modes.Free; is = free; simple = refl } in
     let (mid, u, goes, next) = run_taken first base depth before first place t on before_code in
@@ -148,11 +144,11 @@ holds_code first depth place bytes all len free run (within, nothing_or_sign) so
       subst (λ scan. Follows scan base v) same end.follows,
     ))
   where
-    short : len ≤ length bytes
-    short = omega (arith, within, length-take-le all bytes run.within, run.within)
+    least : len ≤ all
+    least = omega (arith, within, length-take-le all bytes run.within)
 
-    each : (passes : ℕ → Bool) → ((c : ℕ) → is_code_byte c ≡ true → passes c ≡ true) → list_all passes (take len bytes) ≡ true
-    each passes from = all_pass passes bytes len short (λ i early. from _ (run.each i (omega (arith, early, within, length-take-le all bytes run.within))))
+    short : len ≤ length bytes
+    short = omega (arith, least, run.within)
 
     before : List ℕ
     before = take (len - 1) bytes
@@ -163,14 +159,11 @@ holds_code first depth place bytes all len free run (within, nothing_or_sign) so
     split : take len bytes ≡ before ++ last ∷ []
     split = ap (λ n. take n bytes) (omega (arith, some)) ∙ take_more bytes (len - 1) 0 (omega (arith, some, short))
 
-    parts : (list_all is_code_byte before ≡ true) × (list_all is_code_byte (last ∷ []) ≡ true)
-    parts = and_parts _ _ (sym (list_all-append is_code_byte before (last ∷ [])) ∙ ap (list_all is_code_byte) (sym split) ∙ each is_code_byte (λ c h. h))
-
     before_code : list_all is_code_byte before ≡ true
-    before_code = parts.0
+    before_code = all_pass is_code_byte bytes (len - 1) (omega (arith, short)) (λ i early. run.each i (omega (arith, early, least)))
 
     last_code : is_code_byte last ≡ true
-    last_code = (and_parts (is_code_byte last) true parts.1).0
+    last_code = run.each (len - 1) (omega (arith, some, least))
 
     last_sign : is_of_class class.Operator last ≡ true
     last_sign = ⊎_elim (λ (none : len ≡ 0). absurd (omega (arith, none, some)))
