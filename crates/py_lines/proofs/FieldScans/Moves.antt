@@ -198,7 +198,7 @@ Says m held c refused = Unit {0}
 string_neutral : (text : List ℕ) → KeepsOpen (λ done. done ++ piece string text ∷ [])
 string_neutral text done st stack = live.keeps done (piece string text) st refl refl stack
 
-body_waits : (host : Host) (place : Place) (b : Bool) (a : At) → (place ≡ specification → is_after_brace a ≡ false) → WaitsInLiteral (body host place b a)
+pub body_waits : (host : Host) (place : Place) (b : Bool) (a : At) → (place ≡ specification → is_after_brace a ≡ false) → WaitsInLiteral (body host place b a)
 body_waits host literal b a fit = tt
 body_waits host specification b a fit = fit refl
 

@@ -19,7 +19,7 @@ use Rattle.py_lines.specs.Private.Machine.{start_of, Bracket, brackets_of}
 use Rattle.py_lines.specs.Private.FieldMachine.{between, body, breaks, Level, FieldScanned, field_state, field_fresh, field_closed, field_move, field_started, field_operator, code_operator, openers_with, field_ended, before, frames, has_room_at}
 use Rattle.py_lines.specs.Private.FieldFaults.{is_waiting, here}
 use Rattle.py_lines.specs.Private.ScanMachine.{IsInString}
-use Rattle.py_lines.specs.Private.FieldScan.{region_in, bracket_openers, Follows, WaitsInLiteral, FramesFollow, freed_at, ended_in, ComesTo}
+use Rattle.py_lines.specs.Private.FieldScan.{region_in, bracket_openers, Follows, FramesFollow, freed_at, ended_in, ComesTo}
 use Rattle.py_lines.proofs.Text.CharacterTests.{each_of}
 use Rattle.py_lines.proofs.Pieces.PieceLists.{piece}
 use Rattle.py_lines.proofs.Pieces.OpenBrackets.{closing-not-opening}
@@ -27,6 +27,7 @@ use Rattle.py_lines.proofs.FieldMachine.ListBrackets.{opening_pushes, closing_po
 use Rattle.py_lines.proofs.FieldMachine.PieceRuns.{IsNoColon, operator_stays}
 use Rattle.py_lines.proofs.FieldScans.FieldFaults.{open-length}
 use Rattle.py_lines.proofs.FieldScans.Frames.{frames_alike, InnermostField, innermost_bracket, innermost_field, bracket_opened, bracket_closed, field_opened, operator_alike}
+use Rattle.py_lines.proofs.FieldScans.Moves.{body_waits}
 use Rattle.py_lines.proofs.FieldScans.Steps.{follows_free, going, no_room, no_step}
 use Rattle.py_lines.proofs.FieldScans.Taking.{Broken, broken, piece_after, no_opening, one_operator}
 
@@ -35,14 +36,6 @@ wrong_is : (outer : List Level) (done : List Piece) (o : ℕ) (os : List ℕ) (c
 unfolding openers_with
 wrong_is [] done o os c closing other = rw (closing-not-opening c closing, closing, other)
 wrong_is (l ∷ ls) done o os c closing other = rw (closing-not-opening c closing, closing, other)
-
-ended_is : (l : Level) (ls : List Level) (done : List Piece) (c : ℕ) → c == byte "}" ≡ true → field_operator (l ∷ ls) done [] c ≡ Some (field_ended l ls (l.front ++ (spelled done ++ c ∷ [])))
-unfolding code_operator
-ended_is l ls done c ends = rw (ends)
-
-specified_is : (l : Level) (ls : List Level) (done : List Piece) (c : ℕ) → c == byte "}" ≡ false → c == byte ":" ≡ true → field_operator (l ∷ ls) done [] c ≡ Some (field_state (l ∷ ls) [] [] (body l.host specification false between) (l.front ++ (spelled done ++ c ∷ [])))
-unfolding code_operator
-specified_is l ls done c ends specifies = rw (ends, specifies)
 
 pub wrong_in_field : (l : Level) (ls : List Level) (done : List Piece) (c : ℕ) → c == byte "}" ≡ false → c == byte ":" ≡ false → is_closing c ≡ true → field_operator (l ∷ ls) done [] c ≡ None
 unfolding code_operator openers_with
@@ -76,16 +69,12 @@ resumed old base outer openers field others i text =
       mode = ap (λ h. body h (region_in field.region) false between) i.host ∙ ap (λ p. body i.level.host p false between) i.region;
       holds = tt;
       no_list = i.bare;
-      waits = calm i.level.place;
+      waits = body_waits i.level.host i.level.place false between (λ at. refl);
       full = λ w. absurd (awaits i.level.place w);
       start = i.start;
       frames = i.within;
     }
   where
-    calm : (p : Place) → WaitsInLiteral (body i.level.host p false between)
-    calm literal = tt
-    calm specification = refl
-
     awaits : (p : Place) → is_waiting (body i.level.host p false between) ≡ true → ⊥
     awaits literal w = cc
     awaits specification w = cc
@@ -159,18 +148,18 @@ module _ (old : FieldScan) (base depth c place : ℕ) (t : FieldScanned) (follow
     in_code o same = ap (λ (os : List ℕ). field_operator t.outer Done os c) i.none ∙ ap (λ (ls : List Level). field_operator ls Done [] c) i.outer_is ∙ same
 
     pub field_ends : c ≡ byte "}" → ComesTo base depth t c old progress.Going (ended_in (record old { frames = others }) field)
-    unfolding is_opening
+    unfolding is_opening code_operator
     field_ends ends =
         let text : List ℕ = i.level.front ++ (spelled Done ++ c ∷ []) in
-        takes (ended_in (record old { frames = others }) field) (field_ended i.level i.outside text) (in_code _ (ended_is i.level i.outside Done c (eq-eqb c (byte "}") ends)))
+        takes (ended_in (record old { frames = others }) field) (field_ended i.level i.outside text) (in_code (Some (field_ended i.level i.outside text)) (rw (eq-eqb c (byte "}") ends)))
         (no_opening (depth + frames t) c (ap is_opening ends)) (λ none. (i.level.host, i.level.place, false, between, refl)) (resumed old base t.outer t.openers field others i text)
 
     pub field_specifies : (c ≡ byte "}" → ⊥) → c ≡ byte ":" → ComesTo base depth t c old progress.Going (record old { mode = field_modes.Body field.host regions.Specification false ats.Between; start = field.start })
-    unfolding is_opening
+    unfolding is_opening code_operator
     field_specifies ends specifies =
         takes (record old { mode = field_modes.Body field.host regions.Specification false ats.Between; start = field.start })
         (field_state (i.level ∷ i.outside) [] [] (body i.level.host specification false between) (i.level.front ++ (spelled Done ++ c ∷ [])))
-        (in_code _ (specified_is i.level i.outside Done c (other c (byte "}") ends) (eq-eqb c (byte ":") specifies))) (no_opening (depth + frames t) c (ap is_opening specifies)) (λ none. absurd (cc))
+        (in_code _ (rw (other c (byte "}") ends, eq-eqb c (byte ":") specifies))) (no_opening (depth + frames t) c (ap is_opening specifies)) (λ none. absurd (cc))
         (record {
           mode = ap (λ h. body h specification false between) i.host;
           holds = tt;
