@@ -25,7 +25,7 @@ use Rattle.py_lines.specs.Private.Scan.{Tallies, IsStacked, EndsNoLine, StandsIn
 use Rattle.py_lines.proofs.FieldMachine.StringRuns.{moved_between}
 use Rattle.py_lines.proofs.LogicalLines.Cuts.{byte_len-append}
 use Rattle.py_lines.proofs.Machine.PieceSteps.{scanned}
-use Rattle.py_lines.proofs.ScanMachine.Follows.{NoField, grows_plain}
+use Rattle.py_lines.proofs.FieldMachine.PlainSteps.{IsOpenAfter, open_after}
 use Rattle.py_lines.proofs.LineScan.NextCharacter.{counts_read}
 use Rattle.py_lines.proofs.LineScan.StringSteps.{string_grows, string_more}
 
@@ -42,7 +42,7 @@ unfolding meet_of
 enters_after (modes.Word s) c one two = cond_both (is_word_character c) _ _ Elsewhere (λ _ e. cc) (λ _. cond_both (is_quote c) _ _ Elsewhere (λ _. quote_elsewhere s c) (λ _ e. cc))
 enters_after (modes.FieldOpened h) c one two = absurd (one h refl)
 enters_after (modes.FieldEmpty h) c one two = absurd (two h refl)
-enters_after m c one two = λ e. both_ways _ (subst NoField e (grows_plain m c)) refl
+enters_after m c one two = λ e. both_ways _ (subst IsOpenAfter e (open_after m c)).1 refl
 
 -- after one quote: what comes is neither the quote nor a line end
 first_of_body : (h : StringWithFields) (c : ℕ) → meet_of (modes.FieldOpened h) c ≡ moves.Grows modes.Fielded → (c == h.quote ≡ false) × (is_break c ≡ false)

@@ -1,13 +1,12 @@
 -- The bytes that a slice begins with: one, two or three of them, or a line end.
-use Rattle.std.proofs.Common.{◌≡◌, ℕ, ◌+◌, ◌<◌, inl, inr, Bool, true, false, Option, None, Some, List, [], ◌∷◌, ◌++◌, length, take, drop, slice_index, refl, ap, ◌∙◌, arith, add-zero, suc, sym, subst}
+use Rattle.std.proofs.Common.{◌≡◌, ℕ, ◌+◌, ◌<◌, inl, inr, Bool, true, false, Option, None, Some, List, [], ◌∷◌, ◌++◌, length, take, drop, slice_index, refl, ap, ◌∙◌, arith, add-zero, suc, sym, subst, get_or-drop}
 use Rattle.std.specs.List.{list_all}
 use Rattle.std.proofs.Math.Seq.{take-add}
 use Rattle.py_lines.specs.Private.Outline.{BeginsLong, HasLineEnd, HasOuterEnd, IsOuterEnd, line_end_of, PassesFirst}
 use Rattle.py_lines.proofs.LineScan.AsciiRuns.{is_low}
-use Rattle.py_lines.proofs.FieldScans.TextLengths.{later}
 
 pub first_later : (bytes : List ℕ) (at : ℕ) → slice_index (drop at bytes) 0 ≡ slice_index bytes at
-first_later bytes at = later bytes at 0 ∙ ap (slice_index bytes) (add-zero at)
+first_later bytes at = get_or-drop at bytes 0 0 ∙ ap (slice_index bytes) (add-zero at)
 
 pub taken_one : (bytes : List ℕ) → 0 < length bytes → take 1 bytes ≡ slice_index bytes 0 ∷ []
 taken_one [] within = absurd (omega (arith, within))
