@@ -101,6 +101,5 @@ pub mod LineScan
 pub mod LineTokens
 pub mod SpecialBytes
 pub mod SimpleLines
-pub mod WholeFields
 pub mod Readers
 pub mod Feeds

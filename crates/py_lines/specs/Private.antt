@@ -16,5 +16,4 @@ pub mod Marks
 pub mod Outline
 pub mod Passing
 pub mod WholePieces
-pub mod WholeFields
 pub mod Feed

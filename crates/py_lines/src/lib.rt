@@ -9,7 +9,6 @@ mod fault;
 mod feed;
 mod field_mode;
 mod field_scan;
-mod field_strings;
 mod frames;
 mod host;
 pub mod laws;

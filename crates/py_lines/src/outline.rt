@@ -7,7 +7,6 @@ ghost use Rattle.py_lines.specs.Private.Outline.{BeginWithLines, HasOuterEnd, Pa
 
 use crate::brackets::Brackets;
 use crate::class::Class;
-use crate::field_strings::string_with_fields;
 use crate::passing::{Passing, Special};
 use crate::plain_strings::{Passed, line_end_len, plain_string};
 use crate::prefix::Prefix;
@@ -60,10 +59,10 @@ fn string(bytes: &[u8], at: usize) -> Option<Passed>
     let rest = &bytes[at..];
     match Prefix::before(bytes, at) {
         Prefix::Plain => plain_string(rest),
-        Prefix::Fields { is_raw } => match quoted_text_len(rest) {
-            Some(len) => Some(Passed { len, line_ends: 0 }),
-            None => string_with_fields(is_raw, rest),
-        },
+        Prefix::Fields => {
+            let len = quoted_text_len(rest)?;
+            Some(Passed { len, line_ends: 0 })
+        }
         Prefix::Other => None,
     }
 }

@@ -11,11 +11,11 @@ ghost use Rattle.py_lines.specs.declared.passing.Special.TheVariants.{Unpassed};
 use crate::brackets::Brackets;
 use crate::character::is_break;
 use crate::class::Class;
-use crate::field_strings::MAX_DEPTH_AROUND_STRING;
 use crate::marks::Marks;
 use crate::outline::{outer_end_len, piece};
 use crate::plain_strings::Passed;
 use crate::prefix::Prefix;
+use crate::whole_strings::MAX_DEPTH_AROUND_STRING;
 
 /// What a byte that isn't plain came to.
 #[derive(Clone, Copy)]

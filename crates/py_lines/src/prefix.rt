@@ -13,10 +13,7 @@ pub enum Prefix {
     /// The prefix of a string without fields, or no word at all.
     Plain,
     /// The prefix of a string with fields.
-    Fields {
-        /// Whether `r` is in it.
-        is_raw: bool,
-    },
+    Fields,
     /// No prefix.
     Other,
 }
@@ -29,9 +26,7 @@ impl Prefix {
     {
         let spelling = Spelling::of_word(word);
         if spelling.has_fields() {
-            Prefix::Fields {
-                is_raw: spelling.is_raw(),
-            }
+            Prefix::Fields
         } else if spelling.is_prefix() {
             Prefix::Plain
         } else {

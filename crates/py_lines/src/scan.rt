@@ -160,6 +160,7 @@ impl Scan {
     }
 
     /// Takes a character that begins a piece after the open one.
+    #[inline(never)]
     fn begin(&mut self, c: char) -> Progress
         requires bytes { self.old.stop + len_utf8 c < 2 ^ 64 }
         requires lines { self.old.count.line + 1 < 2 ^ 64 }
@@ -199,6 +200,7 @@ impl Scan {
     }
 
     /// Takes the next character in a string with fields.
+    #[inline(never)]
     fn push_in_string(&mut self, c: char) -> Progress
         requires bytes { self.old.stop + len_utf8 c < 2 ^ 64 }
         requires lines { self.old.count.line + 1 < 2 ^ 64 }
@@ -280,6 +282,7 @@ impl Scan {
     }
 
     /// Takes the next character of the line, after closed pieces or in the open one.
+    #[inline(always)]
     fn take(&mut self, c: char) -> Progress
         requires bytes { self.old.stop + len_utf8 c < 2 ^ 64 }
         requires lines { self.old.count.line + 1 < 2 ^ 64 }

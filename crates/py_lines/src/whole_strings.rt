@@ -14,6 +14,9 @@ use crate::brackets::closing_of;
 use crate::character::{is_brace, is_break, is_quote};
 use crate::run::{ByteRun, is_ascii_word};
 
+/// How many brackets may be open round a string that is taken or passed over at once.
+pub const MAX_DEPTH_AROUND_STRING: usize = 100;
+
 /// How many bytes the string has that the bytes begin with, where it has no prefix, is short, holds something, and is ASCII with no
 /// escape.
 #[inline(always)]

@@ -5,7 +5,7 @@ use Rattle.py_lines.specs.Character.{is_backslash, is_break, is_quote, is_return
 use Rattle.py_lines.specs.Piece.{Piece, ends, line_end, string}
 use Rattle.py_lines.specs.LogicalLine.{line_ends}
 use Rattle.py_lines.specs.Private.Machine.{Scanned, fresh, Bracket, brackets_of, first_spelling, spelling_with}
-use Rattle.py_lines.specs.Private.ScanMachine.{IsScanSound, begins_string, is_field_spelling, is_raw_spelling, meet_of, scan_steps}
+use Rattle.py_lines.specs.Private.ScanMachine.{IsScanSound, begins_string, is_field_spelling, meet_of, scan_steps}
 use Rattle.py_lines.specs.Private.Scan.{AreLine, EndsNoLine, EndsWhole, line_start, none_open}
 use Rattle.py_lines.specs.Private.Run.{is_ascii_word}
 use Rattle.py_lines.specs.Private.FieldText.{is_apart_mode}
@@ -85,7 +85,7 @@ is_plain_prefix (Some s) = if is_field_spelling s then false else begins_string 
 -- what such a word makes of a string that begins after it
 abbrev pub IsPrefix : Prefix → Option Spelling → Type 0
 IsPrefix prefixes.Plain tail = is_plain_prefix tail ≡ true
-IsPrefix (prefixes.Fields is_raw) tail = (s : Spelling) × (tail ≡ Some s) × (is_field_spelling s ≡ true) × (is_raw ≡ is_raw_spelling s)
+IsPrefix prefixes.Fields tail = (s : Spelling) × (tail ≡ Some s) × (is_field_spelling s ≡ true)
 IsPrefix prefixes.Other tail = Unit {0}
 
 -- such a word is open; or where there is none, space, or no piece
