@@ -1,6 +1,6 @@
 //! The scan of one logical line: where it ends, and what is open in it.
 
-ghost use Rattle.std.specs.Prelude.{◌≡◌, ℕ, ◌+◌, ◌<◌, ◌^◌, ◌&&◌, not, true, false, Some, None, List, [], length};
+ghost use Rattle.std.specs.Prelude.{◌≡◌, ℕ, ◌+◌, ◌<◌, ◌≤◌, ◌^◌, ◌&&◌, not, true, false, Some, None, List, [], length};
 ghost use Rattle.std.specs.Char.{len_utf8};
 ghost use Rattle.py_lines.specs.Character.{is_line_feed};
 ghost use Rattle.py_lines.specs.LogicalLine.{byte_len, line_ends};
@@ -15,7 +15,7 @@ ghost use Rattle.py_lines.specs.Private.Scan.{IsStacked, Scans, ScansIn, line_st
 ghost use Rattle.py_lines.specs.Private.Scan.{refused_place, IsRefusal};
 ghost use Rattle.py_lines.specs.Private.Scan.{IsUnfinished, IsPlainUnfinished, StandsInString, TakesInString, in_mode};
 ghost use Rattle.py_lines.specs.Private.Run.{WhereverReached, is_free, HoldsLongText, HoldsRun, HeldIn};
-ghost use Rattle.py_lines.specs.Private.Run.{HasAsciiQuote, ReachedInSomeLine};
+ghost use Rattle.py_lines.specs.Private.Run.{HasAsciiQuote, Reached, ReachedInSomeLine};
 ghost use Rattle.py_lines.specs.declared.mode.Mode.{Mode};
 ghost use Rattle.py_lines.specs.declared.mode.Mode.TheVariants.{Fielded, Free};
 ghost use Rattle.py_lines.specs.declared.mode.Move.TheVariants.{Breaks, Grows};
@@ -160,7 +160,6 @@ impl Scan {
     }
 
     /// Takes a character that begins a piece after the open one.
-    #[inline(never)]
     fn begin(&mut self, c: char) -> Progress
         requires bytes { self.old.stop + len_utf8 c < 2 ^ 64 }
         requires lines { self.old.count.line + 1 < 2 ^ 64 }
@@ -200,7 +199,6 @@ impl Scan {
     }
 
     /// Takes the next character in a string with fields.
-    #[inline(never)]
     fn push_in_string(&mut self, c: char) -> Progress
         requires bytes { self.old.stop + len_utf8 c < 2 ^ 64 }
         requires lines { self.old.count.line + 1 < 2 ^ 64 }
@@ -282,7 +280,6 @@ impl Scan {
     }
 
     /// Takes the next character of the line, after closed pieces or in the open one.
-    #[inline(always)]
     fn take(&mut self, c: char) -> Progress
         requires bytes { self.old.stop + len_utf8 c < 2 ^ 64 }
         requires lines { self.old.count.line + 1 < 2 ^ 64 }
@@ -421,6 +418,30 @@ impl Scan {
         }
     }
 
+    /// Takes characters of ASCII in the string with fields that is open, if one is, as long as it goes on. Answers the bytes after
+    /// them.
+    #[inline(always)]
+    fn take_in_string<'s>(&mut self, bytes: &'s [u8]) -> &'s [u8]
+        requires way { ReachedInSomeLine self.old bytes.now }
+        requires bytes { self.old.stop + length bytes.now < 2 ^ 64 }
+        requires lines { self.old.line + self.old.stop + length bytes.now + 1 < 2 ^ 64 }
+        ensures reached { WhereverReached self.old bytes.now
+            (λ m line whole. Reached m line whole self.new result.now) }
+        ensures shorter { length result.now ≤ length bytes.now }
+    {
+        let mut rest = bytes;
+        'characters: while let Mode::Fielded = self.piece.mode {
+            if rest.is_empty() || rest[0] >= 128 {
+                return rest;
+            }
+            match self.push_in_string(rest[0] as char) {
+                Progress::Going => rest = self.hold(&rest[1..]),
+                _ => return rest,
+            }
+        }
+        rest
+    }
+
     /// Takes characters that go on in the line, up to its end, bytes that begin no character, or a character that is
     /// refused. A CR at the end of the bytes stays open.
     pub fn extend(&mut self, bytes: &[u8]) -> Stop
@@ -447,7 +468,8 @@ impl Scan {
             match self.take(c) {
                 Progress::Going => {
                     let more = self.hold_lines(&left[len..]);
-                    rest = self.hold(more);
+                    let held = self.hold(more);
+                    rest = self.take_in_string(held);
                 }
                 Progress::LineEnded(len) => return Stop::LineEnd(len),
                 Progress::Refused => return Stop::Refused(c),

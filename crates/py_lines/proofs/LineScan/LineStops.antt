@@ -1,5 +1,5 @@
 -- The scan of a line goes on in more text, and stops.
-use Rattle.std.proofs.Common.{◌≡◌, ℕ, ◌+◌, ◌≤◌, Bool, true, false, not, ◌&&◌, Bor, List, [], ◌∷◌, ◌++◌, length, inl, inr, refl, sym, ap, ◌∙◌, subst, arith, length-append, lit<, get_or}
+use Rattle.std.proofs.Common.{◌≡◌, ℕ, ◌+◌, ◌≤◌, Bool, true, false, not, ◌&&◌, Bor, List, [], ◌∷◌, ◌++◌, ◌<◌, length, inl, inr, refl, sym, ap, ◌∙◌, subst, arith, length-append, lit<, get_or}
 use Rattle.std.specs.Prelude.{encode_utf8, encode_utf8_all, IsUtf8}
 use Rattle.std.specs.Str.{all_scalars, StartsWithNoChar}
 use Rattle.std.specs.Char.{IsScalar}
@@ -19,7 +19,7 @@ use Rattle.py_lines.specs.declared.scan.Stop.{Stop}
 use Rattle.py_lines.specs.declared.scan.Stop.TheVariants as stops
 use Rattle.py_lines.specs.Private.Machine.{Scanned, start_of}
 use Rattle.py_lines.specs.Private.ScanMachine.{IsScanSound, meet_of}
-use Rattle.py_lines.specs.Private.Scan.{Tallies, IsStacked, Takes, TakesNext, Begins, freed, line_start, stack_of, none_open, is_returned, is_return_mode, IsAtLineEnd, EndsWhole, ScansIn, Scans}
+use Rattle.py_lines.specs.Private.Scan.{Tallies, IsStacked, Takes, TakesNext, Begins, freed, line_start, stack_of, none_open, is_returned, is_return_mode, IsAtLineEnd, EndsWhole, ScansIn, Scans, StandsInString, TakesInString}
 use Rattle.py_lines.specs.Private.Run.{ReachedInSomeLine, HoldsLongText, HoldsRun, HasAsciiQuote, Reached, is_free}
 use Rattle.py_lines.specs.Private.WholePieces.{LeavesOff}
 use Rattle.py_lines.proofs.LineScan.AsciiRuns.{free_breaks, free_is}
@@ -30,10 +30,12 @@ use Rattle.py_lines.proofs.Pieces.PieceLists.{AreReadBefore-second}
 use Rattle.py_lines.proofs.LogicalLines.Cuts.{uncut}
 use Rattle.py_lines.proofs.Lexings.SettledLines.{ends-line, ends-append}
 use Rattle.py_lines.proofs.LineScan.LineCount.{line_ends-bytes}
-use Rattle.py_lines.proofs.LineScan.NextCharacter.{takes_broken}
+use Rattle.py_lines.proofs.LineScan.NextCharacter.{takes_broken, takes_fielded}
 use Rattle.py_lines.proofs.LineScan.LineSteps.{sound_steps, way_here, way_stop, at_line_end, refused, returned, follows_nothing}
 use Rattle.py_lines.specs.Private.FieldScan.{IsInPlace}
-use Rattle.py_lines.proofs.LineScan.StringSteps.{fields_placed}
+use Rattle.py_lines.specs.Private.FieldMachine.{FieldScanned}
+use Rattle.py_lines.proofs.Machine.PieceSteps.{scanned}
+use Rattle.py_lines.proofs.LineScan.StringSteps.{fields_placed, in_string}
 use Rattle.py_lines.proofs.LineScan.Runs.{reached_character, reached_run, way_quote}
 use Rattle.py_lines.proofs.LineScan.LongText.{reached_long}
 
@@ -97,6 +99,10 @@ pub goes_lines : (old : Scan) (text : List ℕ) (new : Scan) (rest : List ℕ) �
 goes_lines old text new rest (m, line, whole, start, r) goes =
     let stood = stands_reached m line whole new rest start (goes m line whole start r) in
     omega (arith, stood.lines, stood.line, r.line)
+
+pub goes_line : (old : Scan) (text : List ℕ) (new : Scan) (rest : List ℕ) → ReachedInSomeLine old text → GoesTo old text new rest
+    → new.line ≡ old.line
+goes_line old text new rest (m, line, whole, start, r) goes = (goes m line whole start r).line ∙ sym r.line
 
 pub goes_placed : (old : Scan) (text : List ℕ) (new : Scan) (rest : List ℕ) → ReachedInSomeLine old text → GoesTo old text new rest
     → new.piece.mode ≡ modes.Fielded → IsInPlace new.fields
@@ -337,3 +343,36 @@ scans_alone m line text scan (stops.Refused c) utf8 open_yet scans =
         stops.5,
       );
     }
+
+-- in a string with fields
+string_stands : (scan : Scan) (done : List Piece) (m : Mode) (held read : List ℕ) → m ≡ modes.Fielded → IsScanSound (scanned done m held) read
+    → Tallies scan (scanned done m held) → (t : FieldScanned) × StandsInString scan t
+string_stands scan done modes.Fielded held read is sound tallies = let i = in_string scan done held read sound tallies in (i.state, i.stands)
+string_stands scan done m held read is sound tallies = absurd (cc)
+
+module _ (first : Scan) (text : List ℕ) (old new : Scan) (before : List ℕ) (goes : GoesTo first text old before) (here : old.piece.mode ≡ modes.Fielded)
+    (c : ℕ) (r : Progress) (takes : (t : FieldScanned) → StandsInString old t → TakesInString old t c r new) where
+  -- a character of ASCII is taken
+  pub goes_in_string : c < 128 → (rest : List ℕ) → before ≡ c ∷ rest → r ≡ progress.Going → GoesTo first text new rest
+  goes_in_string low rest is going =
+      goes_character first text old before goes c (grind (arith, low)) rest (is ∙ ap (λ t. t ++ rest) (sym (encode_ascii c low))) new
+      (ap (λ m. (is_return_mode m && none_open (stack_of old.brackets)) && not (is_line_feed c)) here)
+      (record {
+        begun = λ free. absurd (both_ways _ (ap is_free here) free);
+        taken = λ other s read sound none not_yet tallies stacked. subst (λ p. Takes old s c p new) going
+            (takes_fielded old new s.done s.mode s.held read c r (sym tallies.counts.mode ∙ here) sound none tallies stacked takes);
+      })
+
+  -- or refused
+  pub stays_in_string : (r ≡ progress.Going → ⊥) → GoesTo first text new before
+  stays_in_string other m line whole start reached =
+      let o = goes m line whole start reached in
+      let s = o.way.state in
+      let sound = sound_steps m o.read s start o.way.steps o.way.stacked in
+      let (t, stands) = string_stands old s.done s.mode s.held o.read (sym o.way.tallies.counts.mode ∙ here) sound o.way.tallies in
+      by t r refl (takes t stands) o
+    where
+      by : (t : FieldScanned) (p : Progress) → r ≡ p → TakesInString old t c p new → Reached m line whole old before → Reached m line whole new before
+      by t progress.Going is comes o = absurd (other is)
+      by t (progress.LineEnded len) is comes o = absurd comes
+      by t progress.Refused is comes o = subst (λ scan. Reached m line whole scan before) (sym comes.1) o

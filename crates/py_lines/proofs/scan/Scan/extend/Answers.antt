@@ -6,9 +6,9 @@ use Rattle.py_lines.specs.Private.Run.{HoldsLongText}
 use Rattle.py_lines.specs.declared.scan.Progress.{Progress}
 use Rattle.py_lines.specs.declared.scan.Scan.{Scan}
 use Rattle.py_lines.specs.declared.scan.Stop.TheVariants as stops
-use Rattle.py_lines.proofs.LineScan.LineStops.{GoesTo, StopsNow, TakesTo, goes_room, goes_lines, goes_placed, goes_long, goes_quote, left_ends, left_goes, goes_run, goes_character, stops_line, stops_returned, stops_refused, stops_text}
+use Rattle.py_lines.proofs.LineScan.LineStops.{GoesTo, StopsNow, TakesTo, goes_room, goes_line, goes_lines, goes_placed, goes_long, goes_quote, left_ends, left_goes, goes_run, goes_character, stops_line, stops_returned, stops_refused, stops_text}
 use Rattle.py_lines.proofs.scan.Scan.extend.Goals as goal
-use Rattle.py_lines.proofs.scan.Scan.extend.Goals.{In-Bytes, After-take, In-Going, After-hold_lines-more}
+use Rattle.py_lines.proofs.scan.Scan.extend.Goals.{In-Bytes, After-take, In-Going, After-hold_lines-more, After-hold-held}
 
 -- where the pieces have left the scan
 left_to : (c : In-Bytes) → GoesTo c.args.self.now c.args.bytes.now c.take_pieces.new.self c.in-Bytes.left.now
@@ -146,9 +146,9 @@ goes_on c gone =
     (after_is c.in-Bytes.left.now c.in-Some.c c.len_utf8-len.result c.len_utf8-len.ensures.value) c.hold_lines-more.ensures in
     goes_long c.args.self.now c.args.bytes.now c.take.new.self c.hold_lines-more.new.self _ c.hold_lines-more.result.now gone held
 
-pub hold-rest-requires-clause-bytes : goal.hold-rest-requires-clause-bytes
-hold-rest-requires-clause-bytes c =
-    let at = goal.at.hold-rest-requires-clause-bytes c in
+pub hold-held-requires-clause-bytes : goal.hold-held-requires-clause-bytes
+hold-held-requires-clause-bytes c =
+    let at = goal.at.hold-held-requires-clause-bytes c in
     let gone = goes_on at.After-hold_lines-more (goes at.In-Going) in
     omega (
       arith,
@@ -156,19 +156,34 @@ hold-rest-requires-clause-bytes c =
       goes_room c.args.self.now c.args.bytes.now c.hold_lines-more.new.self c.hold_lines-more.result.now c.requires.way gone,
     )
 
-pub hold-rest-requires-clause-quote : goal.hold-rest-requires-clause-quote
-hold-rest-requires-clause-quote c =
-    let at = goal.at.hold-rest-requires-clause-quote c in
+pub hold-held-requires-clause-quote : goal.hold-held-requires-clause-quote
+hold-held-requires-clause-quote c =
+    let at = goal.at.hold-held-requires-clause-quote c in
     goes_quote c.args.self.now c.args.bytes.now c.hold_lines-more.new.self c.hold_lines-more.result.now c.requires.way
     (goes_on at.After-hold_lines-more (goes at.In-Going))
+
+-- and after what is held
+held_on : (c : After-hold-held) → GoesTo c.args.self.now c.args.bytes.now c.hold_lines-more.new.self c.hold_lines-more.result.now
+    → GoesTo c.args.self.now c.args.bytes.now c.hold-held.new.self c.hold-held.result.now
+held_on c gone = goes_run c.args.self.now c.args.bytes.now c.hold_lines-more.new.self c.hold-held.new.self c.hold_lines-more.result.now c.hold-held.result.now gone c.hold-held.ensures
+
+pub take_in_string-rest-requires : goal.take_in_string-rest-requires
+take_in_string-rest-requires c =
+    let at = goal.at.take_in_string-rest-requires c in
+    let gone = held_on at.After-hold-held (goes_on at.After-hold_lines-more (goes at.In-Going)) in
+    let (m, line, whole, start, reached) = c.requires.way in
+    let room = goes_room c.args.self.now c.args.bytes.now c.hold-held.new.self c.hold-held.result.now c.requires.way gone in
+    record {
+      way = (m, line, whole, start, gone m line whole start reached);
+      bytes = omega (arith, c.requires.bytes, room);
+      lines = omega (arith, c.requires.lines, room, goes_line c.args.self.now c.args.bytes.now c.hold-held.new.self c.hold-held.result.now c.requires.way gone);
+    }
 
 pub characters-preserved : goal.characters-preserved
 characters-preserved c =
     let at = goal.at.characters-preserved c in
-    record {
-      goes = goes_run c.args.self.now c.args.bytes.now c.hold_lines-more.new.self c.hold-rest.new.self c.hold_lines-more.result.now
-          c.hold-rest.result.now (goes_on at.After-hold_lines-more (goes at.In-Going)) c.hold-rest.ensures;
-    }
+    let gone = held_on at.After-hold-held (goes_on at.After-hold_lines-more (goes at.In-Going)) in
+    record { goes = λ m line whole start r. c.take_in_string-rest.ensures.reached m line whole start (gone m line whole start r) }
 
 pub returns-in-LineEnded : goal.returns-in-LineEnded
 returns-in-LineEnded c =
