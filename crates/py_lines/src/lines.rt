@@ -90,7 +90,8 @@ impl<'t> Lines<'t> {
     /// where none is passed over, and then nothing changed. It takes no memory, and is quicker than [`Lines::next_unit`].
     ///
     /// A line is passed over where it ends at byte `before` of the text or before it, and is simple: it is ASCII except in comments
-    /// and in strings without fields, where CR stands before LF alone. Which lines are simple is not promised.
+    /// and in strings without fields, where CR stands before LF alone, and its strings with fields are short, without a field in
+    /// another. Which lines are simple is not promised.
     pub fn pass_lines(&mut self, before: usize) -> usize
         ensures passes { PassesUpTo self.old before result self.new }
     {

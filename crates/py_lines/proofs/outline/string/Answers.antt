@@ -18,9 +18,6 @@ plain_string-requires-clause-quote c = quote_first c.args.bytes.now c.args.at c.
 pub quoted_text_len-requires-clause-quote : goal.quoted_text_len-requires-clause-quote
 quoted_text_len-requires-clause-quote c = quote_first c.args.bytes.now c.args.at c.requires.quote
 
-pub string_with_fields-requires-clause-quote : goal.string_with_fields-requires-clause-quote
-string_with_fields-requires-clause-quote c = quote_first c.args.bytes.now c.args.at c.requires.quote
-
 pub returns-in-Plain : goal.returns-in-Plain
 returns-in-Plain c =
     let before = subst (λ (p : Prefix). IsPrefix p (tail_of (take c.args.at c.args.bytes.now))) c.in-Plain.is c.before-2.ensures in
