@@ -22,6 +22,10 @@ abbrev pub SoundIf : Option Scanned → List ℕ → Type 0
 SoundIf None read = Unit {0}
 SoundIf (Some s) read = IsSound s read
 
+-- where a character that does this takes the machine
+abbrev SoundBy : List Piece → Mode → List ℕ → List ℕ → ℕ → Move → Type 0
+SoundBy done m held read c v = SoundIf (moved (scanned done m held) c v) (read ++ c ∷ [])
+
 -- a piece that grew by a character
 grew : (done : List Piece) (held read : List ℕ) (c : ℕ) (m n : Mode) → IsSound (scanned done m held) read → Holds n done (held ++ c ∷ []) → IsSound (scanned done n (held ++ c ∷ [])) (read ++ c ∷ [])
 grew done held read c m n sound holds = record {
@@ -57,20 +61,7 @@ start_sound done read c (starts.Open (modes.Opened q)) so spell fit = record {
 }
 start_sound done read c (starts.Open modes.Return) so spell fit = record { spell = ap (λ t. t ++ c ∷ []) spell; holds = (c, refl, so); fit = fit }
 start_sound done read c (starts.Open modes.Backslash) so spell fit = record { spell = ap (λ t. t ++ c ∷ []) spell; holds = (c, refl, so); fit = fit }
-start_sound done read c (starts.Open modes.Start) so spell fit = absurd so
-start_sound done read c (starts.Open modes.Free) so spell fit = absurd so
-start_sound done read c (starts.Open (modes.Inside q)) so spell fit = absurd so
-start_sound done read c (starts.Open (modes.Escape q)) so spell fit = absurd so
-start_sound done read c (starts.Open (modes.EscapeReturn q)) so spell fit = absurd so
-start_sound done read c (starts.Open (modes.Empty q)) so spell fit = absurd so
-start_sound done read c (starts.Open (modes.Long q)) so spell fit = absurd so
-start_sound done read c (starts.Open (modes.LongOne q)) so spell fit = absurd so
-start_sound done read c (starts.Open (modes.LongTwo q)) so spell fit = absurd so
-start_sound done read c (starts.Open (modes.LongEscape q)) so spell fit = absurd so
-start_sound done read c (starts.Open (modes.FieldOpened h)) so spell fit = absurd so
-start_sound done read c (starts.Open (modes.FieldEmpty h)) so spell fit = absurd so
-start_sound done read c (starts.Open modes.Fielded) so spell fit = absurd so
-start_sound done read c (starts.Open modes.JoinReturn) so spell fit = absurd so
+start_sound done read c (starts.Open m) so spell fit = absurd so
 start_sound done read c starts.Operator so spell fit = finished done operator (c ∷ []) (read ++ c ∷ []) (ap (λ t. t ++ c ∷ []) spell) fit (c, refl, so) (λ more. tt) (follows_any done operator (c ∷ []) refl)
 start_sound done read c starts.LineEnd so spell fit =
     finished done line_end (c ∷ []) (read ++ c ∷ []) (ap (λ t. t ++ c ∷ []) spell) fit (feed (ap (λ d. d ∷ []) (feed_is c so))) (λ more. and_left _ _ (feed-not-return c so)) (follows_any done line_end (c ∷ []) refl)
@@ -92,9 +83,8 @@ bare_item q c other no_slash no_break = and_from _ _ (not_from_false _ no_slash)
 short_sound : (done : List Piece) (m : Mode) (held read : List ℕ) (q c : ℕ) → IsSound (scanned done m held) read → HoldsItems q held → eqb c q ≡ false → SoundIf (moved (scanned done m held) c (short_move q c)) (read ++ c ∷ [])
 unfolding short_move
 short_sound done m held read q c sound items other =
-    let P : Move → Type 0 = λ v. SoundIf (moved (scanned done m held) c v) (read ++ c ∷ []) in
-    cond_both (is_backslash c) _ _ P (λ slash. grew done held read c m (modes.Escape q) sound (held, c, refl, items, slash))
-    (λ no_slash. cond_both (is_break c) _ _ P (λ break. tt)
+    cond_both (is_backslash c) _ _ (SoundBy done m held read c) (λ slash. grew done held read c m (modes.Escape q) sound (held, c, refl, items, slash))
+    (λ no_slash. cond_both (is_break c) _ _ (SoundBy done m held read c) (λ break. tt)
     (λ no_break. grew done held read c m (modes.Inside q) sound (items_push q held (c ∷ []) items (bare_item q c other no_slash no_break) tt)))
 
 -- the closing quote of a short string that holds something
@@ -110,8 +100,7 @@ close_sound done m held read q c sound holds same =
 long_sound : (done : List Piece) (m : Mode) (held read : List ℕ) (q c : ℕ) → IsSound (scanned done m held) read → HoldsPrefix q held → eqb c q ≡ false → SoundIf (moved (scanned done m held) c (long_move q c)) (read ++ c ∷ [])
 unfolding long_move
 long_sound done m held read q c sound opening other =
-    let P : Move → Type 0 = λ v. SoundIf (moved (scanned done m held) c v) (read ++ c ∷ []) in
-    cond_both (is_backslash c) _ _ P (λ slash. grew done held read c m (modes.LongEscape q) sound (held, c, refl, opening, slash))
+    cond_both (is_backslash c) _ _ (SoundBy done m held read c) (λ slash. grew done held read c m (modes.LongEscape q) sound (held, c, refl, opening, slash))
     (λ no_slash. grew done held read c m (modes.Long q) sound (prefix_push q held (c ∷ []) opening (not_from_false _ no_slash) other))
 
 -- a character that a backslash escapes
@@ -136,134 +125,8 @@ empty_before q held c more holds other prefix r spell begun quotes =
 empty_string : (q : ℕ) (held : List ℕ) → HoldsQuotes (q ∷ q ∷ []) q held → InPlainClass string held
 empty_string q held holds = inl (record { prefix = holds.prefix; quote = q; items = []; spell = holds.spell; begun = holds.begun; opens = holds.opens; each = refl })
 
--- what the machine reads keeps it so, mode by mode
-start_step : (done : List Piece) (held read : List ℕ) (c : ℕ) → IsSound (scanned done modes.Start held) read → SoundIf (step (scanned done modes.Start held) c) (read ++ c ∷ [])
-unfolding move_of
-start_step done held read c sound =
-    let empty : held ≡ [] = sound.holds.1 in
-    cond_both (is_mark c) _ _ (λ (v : Move). SoundIf (moved (scanned done modes.Start held) c v) (read ++ c ∷ []))
-    (λ h. closed_by_one done modes.Start held read c mark sound (c, ap (λ t. t ++ c ∷ []) empty, h) (λ more. tt) (subst (λ l. MayFollow l (piece mark (held ++ c ∷ []) ∷ [])) (sym sound.holds.0) tt))
-    (λ h. start_sound done read c (start_of c) (starts_so c) (sym (append-nil (spelled done)) ∙ ap (λ t. spelled done ++ t) (sym empty) ∙ sound.spell) (λ more. subst (λ t. AreReadPlain done (t ++ c ∷ more)) empty (sound.fit (c ∷ more))))
-
-free_step : (done : List Piece) (held read : List ℕ) (c : ℕ) → IsSound (scanned done modes.Free held) read → SoundIf (step (scanned done modes.Free held) c) (read ++ c ∷ [])
-unfolding move_of
-free_step done held read c sound =
-    start_sound done read c (start_of c) (starts_so c) (sym (append-nil (spelled done)) ∙ ap (λ t. spelled done ++ t) (sym sound.holds) ∙ sound.spell) (λ more. subst (λ t. AreReadPlain done (t ++ c ∷ more)) sound.holds (sound.fit (c ∷ more)))
-
-space_step : (done : List Piece) (held read : List ℕ) (c : ℕ) → IsSound (scanned done modes.Space held) read → SoundIf (step (scanned done modes.Space held) c) (read ++ c ∷ [])
-unfolding move_of
-space_step done held read c sound =
-    cond_both (is_space c) _ _ (λ (v : Move). SoundIf (moved (scanned done modes.Space held) c v) (read ++ c ∷ []))
-    (λ h. grew done held read c modes.Space modes.Space sound (sound.holds.0, sound.holds.1 ++ c ∷ [], push held c sound.holds.2, list_all-push is_space held c sound.holds.3 h))
-    (λ h. break_sound done modes.Space space held read c sound refl sound.holds (λ more. h))
-
-word_step : (s : Spelling) (done : List Piece) (held read : List ℕ) (c : ℕ) → IsSound (scanned done (modes.Word s) held) read → SoundIf (step (scanned done (modes.Word s) held) c) (read ++ c ∷ [])
-unfolding move_of
-word_step s done held read c sound =
-    let P : Move → Type 0 = λ v. SoundIf (moved (scanned done (modes.Word s) held) c v) (read ++ c ∷ []) in
-    cond_both (is_word_character c) _ _ P
-    (λ h. grew done held read c (modes.Word s) (modes.Word (spelling_with s c)) sound (
-      sound.holds.0,
-      sound.holds.1 ++ c ∷ [],
-      push held c sound.holds.2,
-      sound.holds.3,
-      list_all-push is_word_character sound.holds.1 c sound.holds.4 h,
-      ap (λ t. spelling_with t c) sound.holds.5 ∙ sym (spelling_on-push (first_spelling sound.holds.0) sound.holds.1 c),
-    ))
-    (λ h. cond_both (is_prefix_spelling s && is_quote c) _ _ P
-    (λ k.
-    let parts = and_parts (is_prefix_spelling s) (is_quote c) k in
-    grew done held read c (modes.Word s) (modes.Opened c) sound (record { prefix = held; spell = refl; begun = inr (prefix_held s done held sound.holds ∙ parts.0); opens = parts.1 }))
-    (λ k. break_sound done (modes.Word s) word held read c sound refl (sound.holds.0, sound.holds.1, sound.holds.2, sound.holds.3, sound.holds.4) (λ more. (h, ap (λ (b : Bool). b && is_quote c) (prefix_held s done held sound.holds) ∙ k))))
-
-comment_step : (done : List Piece) (held read : List ℕ) (c : ℕ) → IsSound (scanned done modes.Comment held) read → SoundIf (step (scanned done modes.Comment held) c) (read ++ c ∷ [])
-unfolding move_of
-comment_step done held read c sound =
-    cond_both (is_break c) _ _ (λ (v : Move). SoundIf (moved (scanned done modes.Comment held) c v) (read ++ c ∷ []))
-    (λ h. break_sound done modes.Comment comment held read c sound refl sound.holds (λ more. inr h))
-    (λ h. grew done held read c modes.Comment modes.Comment sound (sound.holds.0, sound.holds.1 ++ c ∷ [], push held c sound.holds.2, sound.holds.3, list_any-push is_break sound.holds.1 c sound.holds.4 h))
-
-opened_step : (q : ℕ) (done : List Piece) (held read : List ℕ) (c : ℕ) → IsSound (scanned done (modes.Opened q) held) read → SoundIf (step (scanned done (modes.Opened q) held) c) (read ++ c ∷ [])
-unfolding move_of
-opened_step q done held read c sound =
-    cond_both (eqb c q) _ _ (λ (v : Move). SoundIf (moved (scanned done (modes.Opened q) held) c v) (read ++ c ∷ []))
-    (λ h. grew done held read c (modes.Opened q) (modes.Empty q) sound (one_more_quote (q ∷ []) q held c h sound.holds))
-    (λ h. short_sound done (modes.Opened q) held read q c sound (opened_items q held sound.holds) h)
-
-inside_step : (q : ℕ) (done : List Piece) (held read : List ℕ) (c : ℕ) → IsSound (scanned done (modes.Inside q) held) read → SoundIf (step (scanned done (modes.Inside q) held) c) (read ++ c ∷ [])
-unfolding move_of
-inside_step q done held read c sound =
-    cond_both (eqb c q) _ _ (λ (v : Move). SoundIf (moved (scanned done (modes.Inside q) held) c v) (read ++ c ∷ []))
-    (λ h. close_sound done (modes.Inside q) held read q c sound sound.holds h)
-    (λ h. short_sound done (modes.Inside q) held read q c sound sound.holds.all h)
-
 one_after : (before held : List ℕ) (last c : ℕ) → held ≡ before ++ last ∷ [] → held ++ c ∷ [] ≡ before ++ last ∷ c ∷ []
 one_after before held last c is = ap (λ t. t ++ c ∷ []) is ∙ append_assoc before (last ∷ []) (c ∷ [])
-
-escape_step : (q : ℕ) (done : List Piece) (held read : List ℕ) (c : ℕ) → IsSound (scanned done (modes.Escape q) held) read → SoundIf (step (scanned done (modes.Escape q) held) c) (read ++ c ∷ [])
-unfolding move_of
-escape_step q done held read c sound =
-    let (before, slash, is, items, slashes) = sound.holds in
-    let spell = one_after before held slash c is in
-    cond_both (is_return c) _ _ (λ (v : Move). SoundIf (moved (scanned done (modes.Escape q) held) c v) (read ++ c ∷ []))
-    (λ h. grew done held read c (modes.Escape q) (modes.EscapeReturn q) sound (before, slash, c, spell, items, slashes, h))
-    (λ h. grew done held read c (modes.Escape q) (modes.Inside q) sound (subst (HoldsSome q) (sym spell) (items_push q before (slash ∷ c ∷ []) items (escaped_item q slash c slashes) tt)))
-
-escape_return_step : (q : ℕ) (done : List Piece) (held read : List ℕ) (c : ℕ) → IsSound (scanned done (modes.EscapeReturn q) held) read → SoundIf (step (scanned done (modes.EscapeReturn q) held) c) (read ++ c ∷ [])
-unfolding move_of
-escape_return_step q done held read c sound =
-    let before = sound.holds.0 in
-    let slash = sound.holds.1 in
-    let r = sound.holds.2 in
-    let P : Move → Type 0 = λ v. SoundIf (moved (scanned done (modes.EscapeReturn q) held) c v) (read ++ c ∷ []) in
-    let spell : held ++ c ∷ [] ≡ before ++ slash ∷ r ∷ c ∷ [] = ap (λ t. t ++ c ∷ []) sound.holds.3 ∙ append_assoc before (slash ∷ r ∷ []) (c ∷ []) in
-    cond_both (is_line_feed c) _ _ P
-    (λ h. grew done held read c (modes.EscapeReturn q) (modes.Inside q) sound (subst (HoldsSome q) (sym spell) (items_push q before (slash ∷ r ∷ c ∷ []) sound.holds.4 (escaped_end q slash r c sound.holds.5 sound.holds.6 h) tt)))
-    (λ h. cond_both (eqb c q) _ _ P
-    (λ k. close_sound done (modes.EscapeReturn q) held read q c sound (returned_items q done held sound.holds) k)
-    (λ k. short_sound done (modes.EscapeReturn q) held read q c sound (returned_items q done held sound.holds).all k))
-
-empty_step : (q : ℕ) (done : List Piece) (held read : List ℕ) (c : ℕ) → IsSound (scanned done (modes.Empty q) held) read → SoundIf (step (scanned done (modes.Empty q) held) c) (read ++ c ∷ [])
-unfolding move_of
-empty_step q done held read c sound =
-    cond_both (eqb c q) _ _ (λ (v : Move). SoundIf (moved (scanned done (modes.Empty q) held) c v) (read ++ c ∷ []))
-    (λ h. grew done held read c (modes.Empty q) (modes.Long q) sound (opened_long q (held ++ c ∷ []) (one_more_quote (q ∷ q ∷ []) q held c h sound.holds)))
-    (λ h. break_sound done (modes.Empty q) string held read c sound refl (empty_string q held sound.holds) (λ more. empty_before q held c more sound.holds h))
-
-long_step : (q : ℕ) (done : List Piece) (held read : List ℕ) (c : ℕ) → IsSound (scanned done (modes.Long q) held) read → SoundIf (step (scanned done (modes.Long q) held) c) (read ++ c ∷ [])
-unfolding move_of
-long_step q done held read c sound =
-    cond_both (eqb c q) _ _ (λ (v : Move). SoundIf (moved (scanned done (modes.Long q) held) c v) (read ++ c ∷ []))
-    (λ h. grew done held read c (modes.Long q) (modes.LongOne q) sound (held, ap (λ (d : ℕ). held ++ d ∷ []) (eqb-true c q h), sound.holds))
-    (λ h. long_sound done (modes.Long q) held read q c sound (opening_none q held sound.holds) h)
-
-long_one_step : (q : ℕ) (done : List Piece) (held read : List ℕ) (c : ℕ) → IsSound (scanned done (modes.LongOne q) held) read → SoundIf (step (scanned done (modes.LongOne q) held) c) (read ++ c ∷ [])
-unfolding move_of
-long_one_step q done held read c sound =
-    let before = sound.holds.0 in
-    cond_both (eqb c q) _ _ (λ (v : Move). SoundIf (moved (scanned done (modes.LongOne q) held) c v) (read ++ c ∷ []))
-    (λ h. grew done held read c (modes.LongOne q) (modes.LongTwo q) sound (before, one_after before held q c sound.holds.1 ∙ ap (λ (d : ℕ). before ++ q ∷ d ∷ []) (eqb-true c q h), sound.holds.2))
-    (λ h. long_sound done (modes.LongOne q) held read q c sound (subst (HoldsPrefix q) (sym sound.holds.1) (opening_one q before sound.holds.2)) h)
-
-long_two_step : (q : ℕ) (done : List Piece) (held read : List ℕ) (c : ℕ) → IsSound (scanned done (modes.LongTwo q) held) read → SoundIf (step (scanned done (modes.LongTwo q) held) c) (read ++ c ∷ [])
-unfolding move_of long_string
-long_two_step q done held read c sound =
-    let before = sound.holds.0 in
-    let long = sound.holds.2 in
-    cond_both (eqb c q) _ _ (λ (v : Move). SoundIf (moved (scanned done (modes.LongTwo q) held) c v) (read ++ c ∷ []))
-    (λ h.
-    let spell : held ++ c ∷ [] ≡ before ++ q ∷ q ∷ q ∷ [] = ap (λ t. t ++ c ∷ []) sound.holds.1 ∙ append_assoc before (q ∷ q ∷ []) (c ∷ []) ∙ ap (λ (d : ℕ). before ++ q ∷ q ∷ d ∷ []) (eqb-true c q h) in
-    let whole = long_string q before long in
-    closed_by_one done (modes.LongTwo q) held read c string sound (subst (InPlainClass string) (sym spell) (inr whole))
-    (λ more. long_something long.prefix (joined long.items ++ q ∷ q ∷ q ∷ []) q (held ++ c ∷ []) more (spell ∙ whole.spell) long.begun long.opens)
-    (follows_any done string (held ++ c ∷ []) refl))
-    (λ h. long_sound done (modes.LongTwo q) held read q c sound (subst (HoldsPrefix q) (sym sound.holds.1) (opening_two q before long)) h)
-
-long_escape_step : (q : ℕ) (done : List Piece) (held read : List ℕ) (c : ℕ) → IsSound (scanned done (modes.LongEscape q) held) read → SoundIf (step (scanned done (modes.LongEscape q) held) c) (read ++ c ∷ [])
-unfolding move_of
-long_escape_step q done held read c sound =
-    let (before, slash, is, items, slashes) = sound.holds in
-    grew done held read c (modes.LongEscape q) (modes.Long q) sound (subst (HoldsLong q) (sym (one_after before held slash c is)) (prefix_push q before (slash ∷ c ∷ []) items slashes refl))
 
 -- a line end of two characters
 feed_after : (r c : ℕ) → is_return r ≡ true → is_line_feed c ≡ true → r ∷ c ∷ [] ≡ 13 ∷ 10 ∷ []
@@ -272,59 +135,115 @@ feed_after r c h k =
     let second : c ≡ 10 = feed_is c k in
     cc
 
-slash_step : (done : List Piece) (held read : List ℕ) (c : ℕ) → IsSound (scanned done modes.Backslash held) read → SoundIf (step (scanned done modes.Backslash held) c) (read ++ c ∷ [])
-unfolding move_of
-slash_step done held read c sound =
+-- what the machine reads keeps it so, mode by mode
+pub step_sound : (done : List Piece) (m : Mode) (held read : List ℕ) (c : ℕ) → IsSound (scanned done m held) read → SoundIf (step (scanned done m held) c) (read ++ c ∷ [])
+unfolding move_of long_string
+step_sound done modes.Start held read c sound =
+    let empty : held ≡ [] = sound.holds.1 in
+    cond_both (is_mark c) _ _ (SoundBy done modes.Start held read c)
+    (λ h. closed_by_one done modes.Start held read c mark sound (c, ap (λ t. t ++ c ∷ []) empty, h) (λ more. tt) (subst (λ l. MayFollow l (piece mark (held ++ c ∷ []) ∷ [])) (sym sound.holds.0) tt))
+    (λ h. start_sound done read c (start_of c) (starts_so c) (sym (append-nil (spelled done)) ∙ ap (λ t. spelled done ++ t) (sym empty) ∙ sound.spell) (λ more. subst (λ t. AreReadPlain done (t ++ c ∷ more)) empty (sound.fit (c ∷ more))))
+step_sound done modes.Free held read c sound =
+    start_sound done read c (start_of c) (starts_so c) (sym (append-nil (spelled done)) ∙ ap (λ t. spelled done ++ t) (sym sound.holds) ∙ sound.spell) (λ more. subst (λ t. AreReadPlain done (t ++ c ∷ more)) sound.holds (sound.fit (c ∷ more)))
+step_sound done modes.Space held read c sound =
+    cond_both (is_space c) _ _ (SoundBy done modes.Space held read c)
+    (λ h. grew done held read c modes.Space modes.Space sound (sound.holds.0, sound.holds.1 ++ c ∷ [], push held c sound.holds.2, list_all-push is_space held c sound.holds.3 h))
+    (λ h. break_sound done modes.Space space held read c sound refl sound.holds (λ more. h))
+step_sound done (modes.Word s) held read c sound =
+    cond_both (is_word_character c) _ _ (SoundBy done (modes.Word s) held read c)
+    (λ h. grew done held read c (modes.Word s) (modes.Word (spelling_with s c)) sound (
+      sound.holds.0,
+      sound.holds.1 ++ c ∷ [],
+      push held c sound.holds.2,
+      sound.holds.3,
+      list_all-push is_word_character sound.holds.1 c sound.holds.4 h,
+      ap (λ t. spelling_with t c) sound.holds.5 ∙ sym (spelling_on-push (first_spelling sound.holds.0) sound.holds.1 c),
+    ))
+    (λ h. cond_both (is_prefix_spelling s && is_quote c) _ _ (SoundBy done (modes.Word s) held read c)
+    (λ k.
+    let parts = and_parts (is_prefix_spelling s) (is_quote c) k in
+    grew done held read c (modes.Word s) (modes.Opened c) sound (record { prefix = held; spell = refl; begun = inr (prefix_held s done held sound.holds ∙ parts.0); opens = parts.1 }))
+    (λ k. break_sound done (modes.Word s) word held read c sound refl (sound.holds.0, sound.holds.1, sound.holds.2, sound.holds.3, sound.holds.4) (λ more. (h, ap (λ (b : Bool). b && is_quote c) (prefix_held s done held sound.holds) ∙ k))))
+step_sound done modes.Comment held read c sound =
+    cond_both (is_break c) _ _ (SoundBy done modes.Comment held read c)
+    (λ h. break_sound done modes.Comment comment held read c sound refl sound.holds (λ more. inr h))
+    (λ h. grew done held read c modes.Comment modes.Comment sound (sound.holds.0, sound.holds.1 ++ c ∷ [], push held c sound.holds.2, sound.holds.3, list_any-push is_break sound.holds.1 c sound.holds.4 h))
+step_sound done (modes.Opened q) held read c sound =
+    cond_both (eqb c q) _ _ (SoundBy done (modes.Opened q) held read c)
+    (λ h. grew done held read c (modes.Opened q) (modes.Empty q) sound (one_more_quote (q ∷ []) q held c h sound.holds))
+    (λ h. short_sound done (modes.Opened q) held read q c sound (opened_items q held sound.holds) h)
+step_sound done (modes.Inside q) held read c sound =
+    cond_both (eqb c q) _ _ (SoundBy done (modes.Inside q) held read c)
+    (λ h. close_sound done (modes.Inside q) held read q c sound sound.holds h)
+    (λ h. short_sound done (modes.Inside q) held read q c sound sound.holds.all h)
+step_sound done (modes.Escape q) held read c sound =
+    let (before, slash, is, items, slashes) = sound.holds in
+    let spell = one_after before held slash c is in
+    cond_both (is_return c) _ _ (SoundBy done (modes.Escape q) held read c)
+    (λ h. grew done held read c (modes.Escape q) (modes.EscapeReturn q) sound (before, slash, c, spell, items, slashes, h))
+    (λ h. grew done held read c (modes.Escape q) (modes.Inside q) sound (subst (HoldsSome q) (sym spell) (items_push q before (slash ∷ c ∷ []) items (escaped_item q slash c slashes) tt)))
+step_sound done (modes.EscapeReturn q) held read c sound =
+    let before = sound.holds.0 in
+    let slash = sound.holds.1 in
+    let r = sound.holds.2 in
+    let spell : held ++ c ∷ [] ≡ before ++ slash ∷ r ∷ c ∷ [] = ap (λ t. t ++ c ∷ []) sound.holds.3 ∙ append_assoc before (slash ∷ r ∷ []) (c ∷ []) in
+    cond_both (is_line_feed c) _ _ (SoundBy done (modes.EscapeReturn q) held read c)
+    (λ h. grew done held read c (modes.EscapeReturn q) (modes.Inside q) sound (subst (HoldsSome q) (sym spell) (items_push q before (slash ∷ r ∷ c ∷ []) sound.holds.4 (escaped_end q slash r c sound.holds.5 sound.holds.6 h) tt)))
+    (λ h. cond_both (eqb c q) _ _ (SoundBy done (modes.EscapeReturn q) held read c)
+    (λ k. close_sound done (modes.EscapeReturn q) held read q c sound (returned_items q done held sound.holds) k)
+    (λ k. short_sound done (modes.EscapeReturn q) held read q c sound (returned_items q done held sound.holds).all k))
+step_sound done (modes.Empty q) held read c sound =
+    cond_both (eqb c q) _ _ (SoundBy done (modes.Empty q) held read c)
+    (λ h. grew done held read c (modes.Empty q) (modes.Long q) sound (opened_long q (held ++ c ∷ []) (one_more_quote (q ∷ q ∷ []) q held c h sound.holds)))
+    (λ h. break_sound done (modes.Empty q) string held read c sound refl (empty_string q held sound.holds) (λ more. empty_before q held c more sound.holds h))
+step_sound done (modes.Long q) held read c sound =
+    cond_both (eqb c q) _ _ (SoundBy done (modes.Long q) held read c)
+    (λ h. grew done held read c (modes.Long q) (modes.LongOne q) sound (held, ap (λ (d : ℕ). held ++ d ∷ []) (eqb-true c q h), sound.holds))
+    (λ h. long_sound done (modes.Long q) held read q c sound (opening_none q held sound.holds) h)
+step_sound done (modes.LongOne q) held read c sound =
+    let before = sound.holds.0 in
+    cond_both (eqb c q) _ _ (SoundBy done (modes.LongOne q) held read c)
+    (λ h. grew done held read c (modes.LongOne q) (modes.LongTwo q) sound (before, one_after before held q c sound.holds.1 ∙ ap (λ (d : ℕ). before ++ q ∷ d ∷ []) (eqb-true c q h), sound.holds.2))
+    (λ h. long_sound done (modes.LongOne q) held read q c sound (subst (HoldsPrefix q) (sym sound.holds.1) (opening_one q before sound.holds.2)) h)
+step_sound done (modes.LongTwo q) held read c sound =
+    let before = sound.holds.0 in
+    let long = sound.holds.2 in
+    cond_both (eqb c q) _ _ (SoundBy done (modes.LongTwo q) held read c)
+    (λ h.
+    let spell : held ++ c ∷ [] ≡ before ++ q ∷ q ∷ q ∷ [] = ap (λ t. t ++ c ∷ []) sound.holds.1 ∙ append_assoc before (q ∷ q ∷ []) (c ∷ []) ∙ ap (λ (d : ℕ). before ++ q ∷ q ∷ d ∷ []) (eqb-true c q h) in
+    let whole = long_string q before long in
+    closed_by_one done (modes.LongTwo q) held read c string sound (subst (InPlainClass string) (sym spell) (inr whole))
+    (λ more. long_something long.prefix (joined long.items ++ q ∷ q ∷ q ∷ []) q (held ++ c ∷ []) more (spell ∙ whole.spell) long.begun long.opens)
+    (follows_any done string (held ++ c ∷ []) refl))
+    (λ h. long_sound done (modes.LongTwo q) held read q c sound (subst (HoldsPrefix q) (sym sound.holds.1) (opening_two q before long)) h)
+step_sound done (modes.LongEscape q) held read c sound =
+    let (before, slash, is, items, slashes) = sound.holds in
+    grew done held read c (modes.LongEscape q) (modes.Long q) sound (subst (HoldsLong q) (sym (one_after before held slash c is)) (prefix_push q before (slash ∷ c ∷ []) items slashes refl))
+step_sound done modes.Backslash held read c sound =
     let slash = sound.holds.0 in
-    let P : Move → Type 0 = λ v. SoundIf (moved (scanned done modes.Backslash held) c v) (read ++ c ∷ []) in
     let spell : held ++ c ∷ [] ≡ slash ∷ c ∷ [] = push held c sound.holds.1 in
-    cond_both (is_line_feed c) _ _ P
+    cond_both (is_line_feed c) _ _ (SoundBy done modes.Backslash held read c)
     (λ h. closed_by_one done modes.Backslash held read c join sound (slash, c ∷ [], spell, sound.holds.2, feed (ap (λ d. d ∷ []) (feed_is c h)))
     (λ more. and_left _ _ (ap (ends is_return) spell ∙ feed-not-return c h)) (follows_any done join (held ++ c ∷ []) refl))
-    (λ h. cond_both (is_return c) _ _ P (λ k. grew done held read c modes.Backslash modes.JoinReturn sound (slash, c, spell, sound.holds.2, k)) (λ k. tt))
-
-join_step : (done : List Piece) (held read : List ℕ) (c : ℕ) → IsSound (scanned done modes.JoinReturn held) read → SoundIf (step (scanned done modes.JoinReturn held) c) (read ++ c ∷ [])
-unfolding move_of
-join_step done held read c sound =
+    (λ h. cond_both (is_return c) _ _ (SoundBy done modes.Backslash held read c) (λ k. grew done held read c modes.Backslash modes.JoinReturn sound (slash, c, spell, sound.holds.2, k)) (λ k. tt))
+step_sound done modes.JoinReturn held read c sound =
     let slash = sound.holds.0 in
     let r = sound.holds.1 in
     let spell : held ++ c ∷ [] ≡ slash ∷ r ∷ c ∷ [] = push held c sound.holds.2 in
-    cond_both (is_line_feed c) _ _ (λ (v : Move). SoundIf (moved (scanned done modes.JoinReturn held) c v) (read ++ c ∷ []))
+    cond_both (is_line_feed c) _ _ (SoundBy done modes.JoinReturn held read c)
     (λ h. closed_by_one done modes.JoinReturn held read c join sound (slash, r ∷ c ∷ [], spell, sound.holds.3, return_feed (feed_after r c sound.holds.4 h))
     (λ more. and_left _ _ (ap (ends is_return) spell ∙ feed-not-return c h)) (follows_any done join (held ++ c ∷ []) refl))
     (λ h. break_sound done modes.JoinReturn join held read c sound refl (slash, r ∷ [], sound.holds.2, sound.holds.3, return (ap (λ d. d ∷ []) (return_is r sound.holds.4))) (λ more. and_right _ _ h))
-
-return_step : (done : List Piece) (held read : List ℕ) (c : ℕ) → IsSound (scanned done modes.Return held) read → SoundIf (step (scanned done modes.Return held) c) (read ++ c ∷ [])
-unfolding move_of
-return_step done held read c sound =
+step_sound done modes.Return held read c sound =
     let r = sound.holds.0 in
     let spell : held ++ c ∷ [] ≡ r ∷ c ∷ [] = push held c sound.holds.1 in
-    cond_both (is_line_feed c) _ _ (λ (v : Move). SoundIf (moved (scanned done modes.Return held) c v) (read ++ c ∷ []))
+    cond_both (is_line_feed c) _ _ (SoundBy done modes.Return held read c)
     (λ h. closed_by_one done modes.Return held read c line_end sound (return_feed (spell ∙ feed_after r c sound.holds.2 h))
     (λ more. and_left _ _ (ap (ends is_return) spell ∙ feed-not-return c h)) (follows_any done line_end (held ++ c ∷ []) refl))
     (λ h. break_sound done modes.Return line_end held read c sound refl (return (sound.holds.1 ∙ ap (λ d. d ∷ []) (return_is r sound.holds.2))) (λ more. and_right _ _ h))
-
-pub step_sound : (done : List Piece) (m : Mode) (held read : List ℕ) (c : ℕ) → IsSound (scanned done m held) read → SoundIf (step (scanned done m held) c) (read ++ c ∷ [])
-step_sound done modes.Start held read c sound = start_step done held read c sound
-step_sound done modes.Free held read c sound = free_step done held read c sound
-step_sound done modes.Space held read c sound = space_step done held read c sound
-step_sound done (modes.Word s) held read c sound = word_step s done held read c sound
-step_sound done modes.Comment held read c sound = comment_step done held read c sound
-step_sound done (modes.Opened q) held read c sound = opened_step q done held read c sound
-step_sound done (modes.Inside q) held read c sound = inside_step q done held read c sound
-step_sound done (modes.Escape q) held read c sound = escape_step q done held read c sound
-step_sound done (modes.EscapeReturn q) held read c sound = escape_return_step q done held read c sound
-step_sound done (modes.Empty q) held read c sound = empty_step q done held read c sound
-step_sound done (modes.Long q) held read c sound = long_step q done held read c sound
-step_sound done (modes.LongOne q) held read c sound = long_one_step q done held read c sound
-step_sound done (modes.LongTwo q) held read c sound = long_two_step q done held read c sound
-step_sound done (modes.LongEscape q) held read c sound = long_escape_step q done held read c sound
 step_sound done (modes.FieldOpened h) held read c sound = absurd sound.holds
 step_sound done (modes.FieldEmpty h) held read c sound = absurd sound.holds
 step_sound done modes.Fielded held read c sound = absurd sound.holds
-step_sound done modes.Backslash held read c sound = slash_step done held read c sound
-step_sound done modes.JoinReturn held read c sound = join_step done held read c sound
-step_sound done modes.Return held read c sound = return_step done held read c sound
 
 -- where the text may end, the pieces, the open one with them, are read to the text's end
 end_with : (done : List Piece) (m : Mode) (class : Class) (held read : List ℕ) → IsSound (scanned done m held) read → is_mark_class class ≡ false → InPlainClass class held → MayPrecedePlain class held [] → (spelled (done ++ piece class held ∷ []) ≡ read) × AreReadPlain (done ++ piece class held ∷ []) []
@@ -339,18 +258,8 @@ end_sound done modes.Free held read sound may = end_none done modes.Free held re
 end_sound done modes.Space held read sound may = end_with done modes.Space space held read sound refl sound.holds refl
 end_sound done (modes.Word s) held read sound may = end_with done (modes.Word s) word held read sound refl (sound.holds.0, sound.holds.1, sound.holds.2, sound.holds.3, sound.holds.4) (refl, and_right _ _ refl)
 end_sound done modes.Comment held read sound may = end_with done modes.Comment comment held read sound refl sound.holds (inl refl)
-end_sound done (modes.Opened q) held read sound may = absurd (both_ways _ refl may)
-end_sound done (modes.Inside q) held read sound may = absurd (both_ways _ refl may)
-end_sound done (modes.Escape q) held read sound may = absurd (both_ways _ refl may)
-end_sound done (modes.EscapeReturn q) held read sound may = absurd (both_ways _ refl may)
 end_sound done (modes.Empty q) held read sound may = end_with done (modes.Empty q) string held read sound refl (empty_string q held sound.holds) (λ prefix r spell begun quotes. refl)
-end_sound done (modes.Long q) held read sound may = absurd (both_ways _ refl may)
-end_sound done (modes.LongOne q) held read sound may = absurd (both_ways _ refl may)
-end_sound done (modes.LongTwo q) held read sound may = absurd (both_ways _ refl may)
-end_sound done (modes.LongEscape q) held read sound may = absurd (both_ways _ refl may)
-end_sound done (modes.FieldOpened h) held read sound may = absurd (both_ways _ refl may)
 end_sound done (modes.FieldEmpty h) held read sound may = absurd sound.holds
-end_sound done modes.Fielded held read sound may = absurd (both_ways _ refl may)
-end_sound done modes.Backslash held read sound may = absurd (both_ways _ refl may)
 end_sound done modes.JoinReturn held read sound may = end_with done modes.JoinReturn join held read sound refl (sound.holds.0, sound.holds.1 ∷ [], sound.holds.2, sound.holds.3, return (ap (λ d. d ∷ []) (return_is sound.holds.1 sound.holds.4))) (and_right _ _ refl)
 end_sound done modes.Return held read sound may = end_with done modes.Return line_end held read sound refl (return (sound.holds.1 ∙ ap (λ d. d ∷ []) (return_is sound.holds.0 sound.holds.2))) (and_right _ _ refl)
+end_sound done m held read sound may = absurd (both_ways _ refl may)
