@@ -3,7 +3,7 @@ use Rattle.std.proofs.Common.{◌≡◌, ℕ, true, false, None, Some, List, [],
 use Rattle.std.specs.Str.{all_scalars}
 use Rattle.std.specs.Char.{IsScalar}
 use Rattle.std.specs.Prelude.{Option}
-use Rattle.std.proofs.lemmas.Bool.{and_from, eq-eqb}
+use Rattle.std.proofs.lemmas.Bool.{and_from, both_ways, eq-eqb}
 use Rattle.py_lines.specs.Character.{is_quote}
 use Rattle.py_lines.specs.Piece.{operator, comment, line_end, Piece, spelled}
 use Rattle.py_lines.specs.Balance.{closing_of, is_opener, is_closer}
@@ -23,7 +23,7 @@ use Rattle.py_lines.proofs.Machine.PieceSteps.{scanned, pieces_at, steps_by-appe
 use Rattle.py_lines.proofs.Machine.ReadingSteps.{reach}
 use Rattle.py_lines.proofs.Machine.Soundness.{SoundIf, step_sound, end_sound}
 use Rattle.py_lines.proofs.Machine.FinishedPieces.{GoesBy, stack_at, closed_grows}
-use Rattle.py_lines.proofs.Machine.LiveTexts.{keeps, stack_closed, IsReady, ready-start, ready-free, ready-space, ready-word, ready-empty, ready-join, ready-return, closing-operator, quote-scalar, inside-closes, opened-grows, escape-grows, returned-closes, long-grows, long-one-grows, long-two-closes, long-escape-grows, slash-closes, comment-breaks, feed-starts, closing_of-closing, closing-scalar, scalars-append}
+use Rattle.py_lines.proofs.Machine.LiveTexts.{keeps, stack_closed, IsReady, ready-free, closing-operator, comment-breaks, feed-starts, closing_of-closing, closing-scalar, scalars-append, completes}
 
 -- from one state, the machine goes over these characters to another, with these brackets open
 abbrev pub PlainGoesTo : Scanned → List ℕ → Scanned → List Bracket → Type 0
@@ -113,32 +113,22 @@ grown_first done m n held st c scalar grows later = record {
   ready = later.ready;
 }
 
--- one character more, which closes a piece that is no operator
-closed_last : (done : List Piece) (m : Mode) (held : List ℕ) (st : List Bracket) (c : ℕ) → IsScalar c → move_of m c ≡ moves.Closes → is_opener (piece (class_of m) (held ++ c ∷ [])) ≡ false → is_closer (piece (class_of m) (held ++ c ∷ [])) ≡ false → brackets_of done ≡ Some st → Completes (scanned done m held) st
-closed_last done m held st c scalar closing opener closer stack = record {
+-- a piece that can't end yet is no bracket
+no_bracket : (m : Mode) (text : List ℕ) → is_final m ≡ false → (is_opener (piece (class_of m) text) ≡ false) × (is_closer (piece (class_of m) text) ≡ false)
+no_bracket modes.Free text h = absurd (both_ways _ h refl)
+no_bracket m text h = (refl, refl)
+
+-- one character more, which closes it
+closed_last : (done : List Piece) (m : Mode) (held : List ℕ) (st : List Bracket) (c : ℕ) → is_final m ≡ false → IsScalar c → move_of m c ≡ moves.Closes → brackets_of done ≡ Some st → Completes (scanned done m held) st
+closed_last done m held st c open_yet scalar closing stack = record {
   more = c ∷ [];
   to = fresh (done ++ piece (class_of m) (held ++ c ∷ []) ∷ []);
   scalars = and_from _ _ scalar refl;
-  goes = record { run = closes done m held c closing; stack = keeps done (piece (class_of m) (held ++ c ∷ [])) st opener closer stack };
+  goes = record { run = closes done m held c closing; stack = keeps done (piece (class_of m) (held ++ c ∷ [])) st (no_bracket m _ open_yet).0 (no_bracket m _ open_yet).1 stack };
   ready = ready-free;
 }
 
 module _ (done : List Piece) (st : List Bracket) (stack : brackets_of done ≡ Some st) where
-  once : (m : Mode) (held : List ℕ) → IsReady m → Completes (scanned done m held) st
-  once m held ready = at_once done m held st ready stack
-
-  inside : (q : ℕ) (held : List ℕ) → is_quote q ≡ true → Completes (scanned done (modes.Inside q) held) st
-  inside q held quotes = closed_last done (modes.Inside q) held st q (quote-scalar q quotes) (inside-closes q) refl refl stack
-
-  after_two : (q : ℕ) (held : List ℕ) → is_quote q ≡ true → Completes (scanned done (modes.LongTwo q) held) st
-  after_two q held quotes = closed_last done (modes.LongTwo q) held st q (quote-scalar q quotes) (long-two-closes q) refl refl stack
-
-  after_one : (q : ℕ) (held : List ℕ) → is_quote q ≡ true → Completes (scanned done (modes.LongOne q) held) st
-  after_one q held quotes = grown_first done (modes.LongOne q) (modes.LongTwo q) held st q (quote-scalar q quotes) (long-one-grows q) (after_two q (held ++ q ∷ []) quotes)
-
-  long : (q : ℕ) (held : List ℕ) → is_quote q ≡ true → Completes (scanned done (modes.Long q) held) st
-  long q held quotes = grown_first done (modes.Long q) (modes.LongOne q) held st q (quote-scalar q quotes) (long-grows q) (after_one q (held ++ q ∷ []) quotes)
-
   commented : (held : List ℕ) → Completes (scanned done modes.Comment held) st
   commented held =
       let before = done ++ piece comment held ∷ [] in
@@ -153,27 +143,11 @@ module _ (done : List Piece) (st : List Bracket) (stack : brackets_of done ≡ S
         ready = ready-free;
       }
 
-  completes : (m : Mode) (held : List ℕ) → Holds m done held → Completes (scanned done m held) st
-  completes modes.Start held holds = once modes.Start held ready-start
-  completes modes.Free held holds = once modes.Free held ready-free
-  completes modes.Space held holds = once modes.Space held ready-space
-  completes (modes.Word s) held holds = once (modes.Word s) held (ready-word s)
-  completes modes.Comment held holds = commented held
-  completes (modes.Opened q) held holds = grown_first done (modes.Opened q) (modes.Empty q) held st q (quote-scalar q holds.opens) (opened-grows q) (once (modes.Empty q) (held ++ q ∷ []) (ready-empty q holds.opens))
-  completes (modes.Inside q) held holds = inside q held holds.all.opens
-  completes (modes.Escape q) held holds = grown_first done (modes.Escape q) (modes.Inside q) held st q (quote-scalar q holds.3.opens) (escape-grows q holds.3.opens) (inside q (held ++ q ∷ []) holds.3.opens)
-  completes (modes.EscapeReturn q) held holds = closed_last done (modes.EscapeReturn q) held st q (quote-scalar q holds.4.opens) (returned-closes q holds.4.opens) refl refl stack
-  completes (modes.Empty q) held holds = once (modes.Empty q) held (ready-empty q holds.opens)
-  completes (modes.Long q) held holds = long q held holds.opens
-  completes (modes.LongOne q) held holds = after_one q held holds.2.opens
-  completes (modes.LongTwo q) held holds = after_two q held holds.2.opens
-  completes (modes.LongEscape q) held holds = grown_first done (modes.LongEscape q) (modes.Long q) held st q (quote-scalar q holds.3.opens) (long-escape-grows q q) (long q (held ++ q ∷ []) holds.3.opens)
-  completes (modes.FieldOpened h) held holds = absurd holds
-  completes (modes.FieldEmpty h) held holds = absurd holds
-  completes modes.Fielded held holds = absurd holds
-  completes modes.Backslash held holds = closed_last done modes.Backslash held st 10 refl slash-closes refl refl stack
-  completes modes.JoinReturn held holds = once modes.JoinReturn held ready-join
-  completes modes.Return held holds = once modes.Return held ready-return
+  piece_completes : (m : Mode) (held : List ℕ) → Holds m done held → Completes (scanned done m held) st
+  piece_completes m held holds =
+      completes (λ n text. Completes (scanned done n text) st) (λ n text ready. at_once done n text st ready stack)
+      (λ n next text c open_yet scalar move later. grown_first done n next text st c scalar move later)
+      (λ n text c open_yet scalar move. closed_last done n text st c open_yet scalar move stack) commented m done held holds
 
 -- the brackets that close open ones
 abbrev closers : List Bracket → List ℕ
@@ -214,7 +188,7 @@ closes_all (b ∷ bs) s ready stack =
 -- and a text that the machine goes through is live
 pub plain_runs_live : (cs : List ℕ) (s : Scanned) (st : List Bracket) → PlainRunsTo cs s st → IsLiveIn plain_dialect cs
 plain_runs_live cs s st steps =
-    let first = completes s.done st steps.stack s.mode s.held (sound_at cs s steps.run).holds in
+    let first = piece_completes s.done st steps.stack s.mode s.held (sound_at cs s steps.run).holds in
     let second = closes_all st first.to first.ready first.goes.stack in
     let more = first.more ++ closers st in
     let whole = goes_both steps (goes_both first.goes second.goes) in

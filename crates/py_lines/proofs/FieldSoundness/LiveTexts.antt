@@ -10,12 +10,11 @@ use Rattle.py_lines.specs.Faults.{IsLive}
 use Rattle.py_lines.specs.FieldStrings.{Host, Place, literal}
 use Rattle.py_lines.specs.declared.mode.Mode.{Mode}
 use Rattle.py_lines.specs.declared.mode.Mode.TheVariants as modes
-use Rattle.py_lines.specs.declared.mode.Move.TheVariants as moves
-use Rattle.py_lines.specs.Private.Machine.{Holds, move_of}
+use Rattle.py_lines.specs.Private.Machine.{Holds, is_final}
 use Rattle.py_lines.specs.Private.FieldMachine.{At, between, after_one, after_two, after_slash, after_return, after_name, after_brace, FieldMode, plain, opened, empty, body, grows, Level, FieldScanned, field_state, field_fresh, field_text_start, begins_host, plain_move, field_move, field_started, field_step, field_steps_from, field_pieces, have_room, has_room}
 use Rattle.py_lines.proofs.Pieces.PieceLists.{piece}
 use Rattle.py_lines.proofs.Text.CharacterTests.{not_quote}
-use Rattle.py_lines.proofs.Machine.LiveTexts.{IsReady, ready-start, ready-free, ready-space, ready-word, ready-empty, ready-join, ready-return, closing-not-quote, quote-scalar, inside-closes, opened-grows, escape-grows, returned-closes, long-grows, long-one-grows, long-two-closes, long-escape-grows, slash-closes, comment-breaks, feed-starts}
+use Rattle.py_lines.proofs.Machine.LiveTexts.{IsReady, closing-not-quote, quote-scalar, comment-breaks, feed-starts, completes}
 use Rattle.py_lines.proofs.FieldMachine.Runs.{BelowLimit, steps_of, room_of, goes-begins}
 use Rattle.py_lines.proofs.FieldMachine.PlainSteps.{plain_moves}
 use Rattle.py_lines.proofs.FieldMachine.Completeness.{reading_reached}
@@ -24,13 +23,18 @@ use Rattle.py_lines.proofs.FieldSoundness.Closing.{IsReadyField, ready-fresh, Fi
 use Rattle.py_lines.proofs.FieldSoundness.HostSteps.{sound_at}
 use Rattle.py_lines.proofs.FieldSoundness.WholeTexts.{two_hundred, rooms_at, final_is_reading}
 
--- a mode without fields that is ready is so in a list
-no_host : (m : Mode) (held : List ℕ) (c : ℕ) → is_closing c ≡ true → begins_host m held c ≡ false
-no_host (modes.Word s) held c h = and_right _ _ (closing-not-quote c h)
+-- no string with fields begins in a string or after a backslash
+no_host : (m : Mode) (held : List ℕ) (c : ℕ) → is_final m ≡ false → begins_host m held c ≡ false
+no_host (modes.Word s) held c h = absurd (both_ways _ h refl)
 no_host m held c h = refl
 
+-- nor at a closing bracket: a mode without fields that is ready is so in a list
+no_host_closing : (m : Mode) (held : List ℕ) (c : ℕ) → is_closing c ≡ true → begins_host m held c ≡ false
+no_host_closing (modes.Word s) held c h = and_right _ _ (closing-not-quote c h)
+no_host_closing m held c h = refl
+
 ready_plain : (m : Mode) (held : List ℕ) → IsReady m → IsReadyField (plain m) held
-ready_plain m held ready = record { ends = ready.ends; closing = λ c h. plain_moves m held c (no_host m held c h) ∙ ap plain_move (ready.breaks c h) }
+ready_plain m held ready = record { ends = ready.ends; closing = λ c h. plain_moves m held c (no_host_closing m held c h) ∙ ap plain_move (ready.breaks c h) }
 
 ready_empty : (host : Host) (held : List ℕ) → is_quote host.quote ≡ true → IsReadyField (empty host) held
 unfolding field_move
@@ -48,19 +52,6 @@ module _ (Room : ℕ → Type 0) (outer : List Level) (done : List Piece) (opene
   abbrev State : Mode → List ℕ → FieldScanned
   State m held = field_state outer done openers (plain m) held
 
-  -- one character more in a string without fields
-  on : (m n : Mode) (held : List ℕ) (c : ℕ) → all_scalars (c ∷ []) ≡ true → begins_host m held c ≡ false → move_of m c ≡ moves.Grows n → Readies Room (State n (held ++ c ∷ [])) → Readies Room (State m held)
-  on m n held c scalar other move later = grows_first Room (State m held) (plain n) c scalar (plain_moves m held c other ∙ ap plain_move move) later
-
-  last : (m : Mode) (held : List ℕ) (c : ℕ) → all_scalars (c ∷ []) ≡ true → begins_host m held c ≡ false → move_of m c ≡ moves.Closes → Readies Room (State m held)
-  last m held c scalar other move = closes_last Room (State m held) c scalar (plain_moves m held c other ∙ ap plain_move move)
-
-  once : (m : Mode) (held : List ℕ) → IsReady m → Readies Room (State m held)
-  once m held ready = at_once Room (State m held) (ready_plain m held ready)
-
-  one : (q : ℕ) → is_quote q ≡ true → all_scalars (q ∷ []) ≡ true
-  one q quotes = and_from _ _ (quote-scalar q quotes) refl
-
   comment_ends : (held : List ℕ) → Readies Room (State modes.Comment held)
   comment_ends held =
       let pieces = done ++ piece comment held ∷ [] in
@@ -76,38 +67,12 @@ module _ (Room : ℕ → Type 0) (outer : List Level) (done : List Piece) (opene
         ready = ready-fresh;
       }
 
-  long_two : (q : ℕ) (held : List ℕ) → is_quote q ≡ true → Readies Room (State (modes.LongTwo q) held)
-  long_two q held quotes = last (modes.LongTwo q) held q (one q quotes) refl (long-two-closes q)
-
-  long_one : (q : ℕ) (held : List ℕ) → is_quote q ≡ true → Readies Room (State (modes.LongOne q) held)
-  long_one q held quotes = on (modes.LongOne q) (modes.LongTwo q) held q (one q quotes) refl (long-one-grows q) (long_two q (held ++ q ∷ []) quotes)
-
-  long_none : (q : ℕ) (held : List ℕ) → is_quote q ≡ true → Readies Room (State (modes.Long q) held)
-  long_none q held quotes = on (modes.Long q) (modes.LongOne q) held q (one q quotes) refl (long-grows q) (long_one q (held ++ q ∷ []) quotes)
-
   -- the open piece can be finished
   plain_readies : (m : Mode) (held : List ℕ) → Holds m [] held → Readies Room (State m held)
-  plain_readies modes.Start held holds = once modes.Start held ready-start
-  plain_readies modes.Free held holds = once modes.Free held ready-free
-  plain_readies modes.Space held holds = once modes.Space held ready-space
-  plain_readies (modes.Word s) held holds = once (modes.Word s) held (ready-word s)
-  plain_readies modes.Comment held holds = comment_ends held
-  plain_readies (modes.Opened q) held holds = on (modes.Opened q) (modes.Empty q) held q (one q holds.opens) refl (opened-grows q) (once (modes.Empty q) (held ++ q ∷ []) (ready-empty q holds.opens))
-  plain_readies (modes.Inside q) held holds = last (modes.Inside q) held q (one q holds.all.opens) refl (inside-closes q)
-  plain_readies (modes.Escape q) held holds =
-      on (modes.Escape q) (modes.Inside q) held q (one q holds.3.opens) refl (escape-grows q holds.3.opens) (last (modes.Inside q) (held ++ q ∷ []) q (one q holds.3.opens) refl (inside-closes q))
-  plain_readies (modes.EscapeReturn q) held holds = last (modes.EscapeReturn q) held q (one q holds.4.opens) refl (returned-closes q holds.4.opens)
-  plain_readies (modes.Empty q) held holds = once (modes.Empty q) held (ready-empty q holds.opens)
-  plain_readies (modes.Long q) held holds = long_none q held holds.opens
-  plain_readies (modes.LongOne q) held holds = long_one q held holds.2.opens
-  plain_readies (modes.LongTwo q) held holds = long_two q held holds.2.opens
-  plain_readies (modes.LongEscape q) held holds = on (modes.LongEscape q) (modes.Long q) held q (one q holds.3.opens) refl (long-escape-grows q q) (long_none q (held ++ q ∷ []) holds.3.opens)
-  plain_readies (modes.FieldOpened h) held holds = absurd holds
-  plain_readies (modes.FieldEmpty h) held holds = absurd holds
-  plain_readies modes.Fielded held holds = absurd holds
-  plain_readies modes.Backslash held holds = last modes.Backslash held 10 refl refl slash-closes
-  plain_readies modes.JoinReturn held holds = once modes.JoinReturn held ready-join
-  plain_readies modes.Return held holds = once modes.Return held ready-return
+  plain_readies m held holds =
+      completes (λ n text. Readies Room (State n text)) (λ n text ready. at_once Room (State n text) (ready_plain n text ready))
+      (λ n next text c open_yet scalar move later. grows_first Room (State n text) (plain next) c (and_from _ _ scalar refl) (plain_moves n text c (no_host n text c open_yet) ∙ ap plain_move move) later)
+      (λ n text c open_yet scalar move. closes_last Room (State n text) c (and_from _ _ scalar refl) (plain_moves n text c (no_host n text c open_yet) ∙ ap plain_move move)) comment_ends m [] held holds
 
   -- and then what stands round it
   then_finishes : (m : FieldMode) (held : List ℕ) → Readies Room (field_state outer done openers m held) → ClosesLevels literal outer → Finishes Room (field_state outer done openers m held)

@@ -13,7 +13,7 @@ use Rattle.py_lines.specs.declared.mode.Mode.TheVariants as modes
 use Rattle.py_lines.specs.declared.mode.Move.TheVariants as moves
 use Rattle.py_lines.specs.declared.mode.Start.TheVariants as starts
 use Rattle.py_lines.specs.declared.mode.Spelling.{Spelling}
-use Rattle.py_lines.specs.Private.Machine.{class_of, closed, move_of, start_of, is_final, is_prefix_spelling, Bracket, brackets_through, brackets_of}
+use Rattle.py_lines.specs.Private.Machine.{Holds, class_of, closed, move_of, start_of, is_final, is_prefix_spelling, Bracket, brackets_through, brackets_of}
 use Rattle.py_lines.proofs.Text.CharacterTests.{each_of, none_of, not_quote, quote-not-feed}
 use Rattle.py_lines.proofs.Pieces.PieceLists.{piece}
 use Rattle.py_lines.proofs.Machine.Starts.{start-feed}
@@ -37,17 +37,9 @@ pub record IsReady (m : Mode) : Type 0 where
   pub ends : is_final m ≡ true
   pub breaks : (c : ℕ) → is_closing c ≡ true → move_of m c ≡ moves.Breaks
 
-pub ready-start : IsReady modes.Start
-unfolding move_of is_closing is_mark
-ready-start = record { ends = refl; breaks = λ c h. each_of (λ x. move_of modes.Start x ≡ moves.Breaks) (41 ∷ 93 ∷ 125 ∷ []) c (refl, (refl, (refl, tt))) h }
-
 pub ready-free : IsReady modes.Free
 unfolding move_of
 ready-free = record { ends = refl; breaks = λ c h. refl }
-
-pub ready-space : IsReady modes.Space
-unfolding move_of is_closing is_space
-ready-space = record { ends = refl; breaks = λ c h. each_of (λ x. move_of modes.Space x ≡ moves.Breaks) (41 ∷ 93 ∷ 125 ∷ []) c (refl, (refl, (refl, tt))) h }
 
 pub closing-not-quote : (c : ℕ) → is_closing c ≡ true → is_quote c ≡ false
 unfolding is_closing is_quote
@@ -57,6 +49,14 @@ closing-not-word : (c : ℕ) → is_closing c ≡ true → is_word_character c �
 unfolding unicode_ident is_closing is_word_character
 closing-not-word c h = none_of is_word_character (41 ∷ 93 ∷ 125 ∷ []) c refl h
 
+closing-not-mark : (c : ℕ) → is_closing c ≡ true → is_mark c ≡ false
+unfolding is_closing is_mark
+closing-not-mark c h = none_of is_mark (41 ∷ 93 ∷ 125 ∷ []) c refl h
+
+closing-not-space : (c : ℕ) → is_closing c ≡ true → is_space c ≡ false
+unfolding is_closing is_space
+closing-not-space c h = none_of is_space (41 ∷ 93 ∷ 125 ∷ []) c refl h
+
 closing-not-feed : (c : ℕ) → is_closing c ≡ true → is_line_feed c ≡ false
 unfolding is_closing is_line_feed
 closing-not-feed c h = none_of is_line_feed (41 ∷ 93 ∷ 125 ∷ []) c refl h
@@ -65,66 +65,15 @@ pub closing-operator : (c : ℕ) → is_closing c ≡ true → is_operator c ≡
 unfolding is_closing is_operator
 closing-operator c h = each_of (λ x. is_operator x ≡ true) (41 ∷ 93 ∷ 125 ∷ []) c (refl, (refl, (refl, tt))) h
 
-pub ready-word : (s : Spelling) → IsReady (modes.Word s)
-unfolding move_of
-ready-word s = record { ends = refl; breaks = λ c h. rw (closing-not-word c h, and_right (is_prefix_spelling s) (is_quote c) (closing-not-quote c h)) }
-
-pub ready-empty : (q : ℕ) → is_quote q ≡ true → IsReady (modes.Empty q)
-unfolding move_of
-ready-empty q quotes = record { ends = refl; breaks = λ c h. rw (not_quote c q quotes (closing-not-quote c h)) }
-
-pub ready-join : IsReady modes.JoinReturn
-unfolding move_of
-ready-join = record { ends = refl; breaks = λ c h. rw (closing-not-feed c h) }
-
-pub ready-return : IsReady modes.Return
-unfolding move_of
-ready-return = record { ends = refl; breaks = λ c h. rw (closing-not-feed c h) }
-
 pub quote-scalar : (q : ℕ) → is_quote q ≡ true → IsScalar q
 unfolding is_quote
 quote-scalar q h = each_of (λ x. IsScalar x) (39 ∷ 34 ∷ []) q (refl, (refl, tt)) h
-
-same-quote : (q : ℕ) → eqb q q ≡ true
-same-quote q = eq-eqb q q refl
-
-pub inside-closes : (q : ℕ) → move_of (modes.Inside q) q ≡ moves.Closes
-unfolding move_of
-inside-closes q = rw (same-quote q)
-
-pub opened-grows : (q : ℕ) → move_of (modes.Opened q) q ≡ moves.Grows (modes.Empty q)
-unfolding move_of
-opened-grows q = rw (same-quote q)
 
 quote-not-return : (q : ℕ) → is_quote q ≡ true → is_return q ≡ false
 unfolding is_quote is_return
 quote-not-return q h = none_of is_return (39 ∷ 34 ∷ []) q refl h
 
-pub escape-grows : (q : ℕ) → is_quote q ≡ true → move_of (modes.Escape q) q ≡ moves.Grows (modes.Inside q)
-unfolding move_of
-escape-grows q quotes = rw (quote-not-return q quotes)
-
-pub returned-closes : (q : ℕ) → is_quote q ≡ true → move_of (modes.EscapeReturn q) q ≡ moves.Closes
-unfolding move_of
-returned-closes q quotes = rw (quote-not-feed q quotes, same-quote q)
-
-pub long-grows : (q : ℕ) → move_of (modes.Long q) q ≡ moves.Grows (modes.LongOne q)
-unfolding move_of
-long-grows q = rw (same-quote q)
-
-pub long-one-grows : (q : ℕ) → move_of (modes.LongOne q) q ≡ moves.Grows (modes.LongTwo q)
-unfolding move_of
-long-one-grows q = rw (same-quote q)
-
-pub long-two-closes : (q : ℕ) → move_of (modes.LongTwo q) q ≡ moves.Closes
-unfolding move_of
-long-two-closes q = rw (same-quote q)
-
-pub long-escape-grows : (q c : ℕ) → move_of (modes.LongEscape q) c ≡ moves.Grows (modes.Long q)
-unfolding move_of
-long-escape-grows q c = refl
-
-pub slash-closes : move_of modes.Backslash 10 ≡ moves.Closes
+slash-closes : move_of modes.Backslash 10 ≡ moves.Closes
 unfolding move_of is_line_feed
 slash-closes = refl
 
@@ -149,3 +98,58 @@ scalars-append [] ys first second = second
 scalars-append (x ∷ xs) ys first second =
     let parts = and_parts _ (all_scalars xs) first in
     and_from _ _ parts.0 (scalars-append xs ys parts.1 second)
+
+-- How the open piece can be finished, told once for every machine: `Comes` says that it can be, in this mode and with this text;
+-- it is so at once, after one character more by which the piece grows or with which it ends, and at the end of a comment.
+module _ (Comes : Mode → List ℕ → Type 0)
+    (once : (m : Mode) (held : List ℕ) → IsReady m → Comes m held)
+    (on : (m n : Mode) (held : List ℕ) (c : ℕ) → is_final m ≡ false → IsScalar c → move_of m c ≡ moves.Grows n → Comes n (held ++ c ∷ []) → Comes m held)
+    (last : (m : Mode) (held : List ℕ) (c : ℕ) → is_final m ≡ false → IsScalar c → move_of m c ≡ moves.Closes → Comes m held)
+    (commented : (held : List ℕ) → Comes modes.Comment held) where
+  empty : (q : ℕ) (held : List ℕ) → is_quote q ≡ true → Comes (modes.Empty q) held
+  unfolding move_of
+  empty q held quotes = once (modes.Empty q) held (record { ends = refl; breaks = λ c h. rw (not_quote c q quotes (closing-not-quote c h)) })
+
+  inside : (q : ℕ) (held : List ℕ) → is_quote q ≡ true → Comes (modes.Inside q) held
+  unfolding move_of
+  inside q held quotes = last (modes.Inside q) held q refl (quote-scalar q quotes) (rw (eq-eqb q q refl))
+
+  long_two : (q : ℕ) (held : List ℕ) → is_quote q ≡ true → Comes (modes.LongTwo q) held
+  unfolding move_of
+  long_two q held quotes = last (modes.LongTwo q) held q refl (quote-scalar q quotes) (rw (eq-eqb q q refl))
+
+  long_one : (q : ℕ) (held : List ℕ) → is_quote q ≡ true → Comes (modes.LongOne q) held
+  unfolding move_of
+  long_one q held quotes = on (modes.LongOne q) (modes.LongTwo q) held q refl (quote-scalar q quotes) (rw (eq-eqb q q refl)) (long_two q (held ++ q ∷ []) quotes)
+
+  long : (q : ℕ) (held : List ℕ) → is_quote q ≡ true → Comes (modes.Long q) held
+  unfolding move_of
+  long q held quotes = on (modes.Long q) (modes.LongOne q) held q refl (quote-scalar q quotes) (rw (eq-eqb q q refl)) (long_one q (held ++ q ∷ []) quotes)
+
+  pub completes : (m : Mode) (done : List Piece) (held : List ℕ) → Holds m done held → Comes m held
+  unfolding move_of
+  completes modes.Start done held holds = once modes.Start held (record { ends = refl; breaks = λ c h. rw (closing-not-mark c h) })
+  completes modes.Free done held holds = once modes.Free held ready-free
+  completes modes.Space done held holds = once modes.Space held (record { ends = refl; breaks = λ c h. rw (closing-not-space c h) })
+  completes (modes.Word s) done held holds =
+      once (modes.Word s) held (record { ends = refl; breaks = λ c h. rw (closing-not-word c h, and_right (is_prefix_spelling s) (is_quote c) (closing-not-quote c h)) })
+  completes modes.Comment done held holds = commented held
+  completes (modes.Opened q) done held holds =
+      on (modes.Opened q) (modes.Empty q) held q refl (quote-scalar q holds.opens) (rw (eq-eqb q q refl)) (empty q (held ++ q ∷ []) holds.opens)
+  completes (modes.Inside q) done held holds = inside q held holds.all.opens
+  completes (modes.Escape q) done held holds =
+      on (modes.Escape q) (modes.Inside q) held q refl (quote-scalar q holds.3.opens) (rw (quote-not-return q holds.3.opens)) (inside q (held ++ q ∷ []) holds.3.opens)
+  completes (modes.EscapeReturn q) done held holds =
+      last (modes.EscapeReturn q) held q refl (quote-scalar q holds.4.opens) (rw (quote-not-feed q holds.4.opens, eq-eqb q q refl))
+  completes (modes.Empty q) done held holds = empty q held holds.opens
+  completes (modes.Long q) done held holds = long q held holds.opens
+  completes (modes.LongOne q) done held holds = long_one q held holds.2.opens
+  completes (modes.LongTwo q) done held holds = long_two q held holds.2.opens
+  completes (modes.LongEscape q) done held holds =
+      on (modes.LongEscape q) (modes.Long q) held q refl (quote-scalar q holds.3.opens) refl (long q (held ++ q ∷ []) holds.3.opens)
+  completes (modes.FieldOpened h) done held holds = absurd holds
+  completes (modes.FieldEmpty h) done held holds = absurd holds
+  completes modes.Fielded done held holds = absurd holds
+  completes modes.Backslash done held holds = last modes.Backslash held 10 refl refl slash-closes
+  completes modes.JoinReturn done held holds = once modes.JoinReturn held (record { ends = refl; breaks = λ c h. rw (closing-not-feed c h) })
+  completes modes.Return done held holds = once modes.Return held (record { ends = refl; breaks = λ c h. rw (closing-not-feed c h) })
