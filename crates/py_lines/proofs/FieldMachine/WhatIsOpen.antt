@@ -83,7 +83,7 @@ short_comes characters start front at (short, no_field) =
     record {
       to = to;
       goes = at.goes to full.0 full.1 (short.spell ∙ full.2) (subst (λ t. Goes NoLimit from t to) (sym short.spell) run);
-      such = (end.short, at.start_is);
+      such = (end.such, at.start_is);
     }
 
 -- a long one
@@ -106,7 +106,7 @@ long_comes characters start front at (long, no_field) =
     record {
       to = to;
       goes = at.goes to full.0 full.1 (long.spell ∙ full.2) (subst (λ t. Goes NoLimit from t to) (sym long.spell) run);
-      such = (end.long, at.start_is);
+      such = (end.such, at.start_is);
     }
 
 -- the literal part of a string with fields

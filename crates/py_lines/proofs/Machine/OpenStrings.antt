@@ -9,10 +9,11 @@ use Rattle.py_lines.specs.PieceGrammar.{IsPrefix, is_item, is_short_item, joined
 use Rattle.py_lines.specs.OpenFields.{IsUnescaped, IsOpenPrefix, IsShortPrefix, IsLongPrefix}
 use Rattle.py_lines.specs.declared.mode.Mode.{Mode}
 use Rattle.py_lines.specs.declared.mode.Mode.TheVariants as modes
-use Rattle.py_lines.specs.Private.Machine.{move_from, steps_from, in_short, in_long, is_after_backslash}
+use Rattle.py_lines.specs.declared.mode.Move.TheVariants as moves
+use Rattle.py_lines.specs.Private.Machine.{move_from, move_of, in_short, in_long, is_after_backslash}
 use Rattle.py_lines.proofs.Text.CharacterTests.{none_of, prefix_word}
-use Rattle.py_lines.proofs.Machine.PieceSteps.{scanned, steps_by-append, grown_by}
-use Rattle.py_lines.proofs.Machine.StringSteps.{IsShortMode, short_escapes, short_body, run_long, mode_at, QuotesBefore, seen_after, long_escapes}
+use Rattle.py_lines.proofs.Machine.PieceSteps.{scanned, all_held, grown_by}
+use Rattle.py_lines.proofs.Machine.StringSteps.{RunTo, run_both, IsShortMode, short_escapes, short_body, run_long, mode_at, QuotesBefore, seen_after, long_escapes}
 use Rattle.py_lines.specs.Private.Machine.{Holds, HoldsItems, HoldsPrefix}
 use Rattle.py_lines.proofs.Machine.OpenPieces.{opened_items, opening_none, opening_one, opening_two}
 use Rattle.py_lines.proofs.Machine.Soundness.{returned_items}
@@ -98,52 +99,31 @@ is_long_mode q QuotesBefore.none = refl
 is_long_mode q QuotesBefore.one = refl
 is_long_mode q QuotesBefore.two = refl
 
+-- a backslash that escapes nothing yet, or nothing, at the end of a string
+last_goes : (IsSuch : Mode → Type 0) (done : List Piece) (from escape : Mode) (held last : List ℕ) → IsSuch from → IsSuch escape → ((c : ℕ) → is_backslash c ≡ true → move_of from c ≡ moves.Grows escape) → IsUnescaped last → RunTo IsSuch done from held last
+last_goes IsSuch done from escape held last is after slash (inl empty) = subst (RunTo IsSuch done from held) (sym empty) (record { to = from; such = is; steps = all_held done from held })
+last_goes IsSuch done from escape held last is after slash (inr (c, one, slashes)) =
+    subst (RunTo IsSuch done from held) (sym one) (record { to = escape; such = after; steps = grown_by move_from done from escape held c [] (slash c slashes) })
+
 -- a run into a short string
-pub record ShortEnd (done : List Piece) (from : Mode) (held body : List ℕ) : Type 0 where
-  pub to : Mode
-  pub short : in_short to ≡ true
-  pub steps : steps_from (Some (scanned done from held)) body ≡ Some (scanned done to (held ++ body))
+abbrev pub ShortEnd : List Piece → Mode → List ℕ → List ℕ → Type 0
+ShortEnd done from held body = RunTo (λ m. in_short m ≡ true) done from held body
 
 short_last : (done : List Piece) (q : ℕ) (m : Mode) (held last : List ℕ) → IsShortMode q m → is_quote q ≡ true → IsUnescaped last → ShortEnd done m held last
-short_last done q m held last short quotes (inl empty) =
-    subst (ShortEnd done m held) (sym empty) (record { to = m; short = is_short_mode q m short; steps = ap (λ t. Some (scanned done m t)) (sym (append-nil held)) })
-short_last done q m held last short quotes (inr (slash, is, slashes)) =
-    subst (ShortEnd done m held) (sym is) (record { to = modes.Escape q; short = refl; steps = grown_by move_from done m (modes.Escape q) held slash [] (short_escapes q slash m short quotes slashes) })
+short_last done q m held last short quotes escapes = last_goes _ done m (modes.Escape q) held last (is_short_mode q m short) refl (λ c slashes. short_escapes q c m short quotes slashes) escapes
 
 pub short_end : (done : List Piece) (q : ℕ) (held : List ℕ) (items : List (List ℕ)) (last : List ℕ) → is_quote q ≡ true → list_all (is_short_item q) items ≡ true → IsUnescaped last → ShortEnd done (modes.Opened q) held (joined items ++ last)
 short_end done q held [] last quotes each escapes = short_last done q (modes.Opened q) held last (inl refl) quotes escapes
 short_end done q held (i ∷ is) last quotes each escapes =
     let body = short_body done q held i is quotes each in
-    let later = short_last done q body.to (held ++ joined (i ∷ is)) last (inr body.inside) quotes escapes in
-    record {
-      to = later.to;
-      short = later.short;
-      steps = steps_by-append move_from (Some (scanned done (modes.Opened q) held)) (joined (i ∷ is)) last
-          ∙ ap (λ o. steps_from o last) body.steps
-          ∙ later.steps
-          ∙ ap (λ t. Some (scanned done later.to t)) (append_assoc held (joined (i ∷ is)) last);
-    }
+    run_both _ done (modes.Opened q) body.to held (joined (i ∷ is)) last body.steps (short_last done q body.to (held ++ joined (i ∷ is)) last (inr body.such) quotes escapes)
 
 -- a run into a long string
-pub record LongEnd (done : List Piece) (from : Mode) (held body : List ℕ) : Type 0 where
-  pub to : Mode
-  pub long : in_long to ≡ true
-  pub steps : steps_from (Some (scanned done from held)) body ≡ Some (scanned done to (held ++ body))
-
-long_last : (done : List Piece) (q : ℕ) (seen : QuotesBefore) (held last : List ℕ) → is_quote q ≡ true → IsUnescaped last → LongEnd done (mode_at q seen) held last
-long_last done q seen held last quotes (inl empty) =
-    subst (LongEnd done (mode_at q seen) held) (sym empty) (record { to = mode_at q seen; long = is_long_mode q seen; steps = ap (λ t. Some (scanned done (mode_at q seen) t)) (sym (append-nil held)) })
-long_last done q seen held last quotes (inr (slash, is, slashes)) =
-    subst (LongEnd done (mode_at q seen) held) (sym is) (record { to = modes.LongEscape q; long = refl; steps = grown_by move_from done (mode_at q seen) (modes.LongEscape q) held slash [] (long_escapes q slash seen quotes slashes) })
+abbrev pub LongEnd : List Piece → Mode → List ℕ → List ℕ → Type 0
+LongEnd done from held body = RunTo (λ m. in_long m ≡ true) done from held body
 
 pub long_end : (done : List Piece) (q : ℕ) (held : List ℕ) (items : List (List ℕ)) (last : List ℕ) → is_quote q ≡ true → list_all is_item items ≡ true → has_triple q items ≡ false → IsUnescaped last → LongEnd done (modes.Long q) held (joined items ++ last)
 long_end done q held items last quotes each triple escapes =
-    let later = long_last done q (seen_after q QuotesBefore.none items) (held ++ joined items) last quotes escapes in
-    record {
-      to = later.to;
-      long = later.long;
-      steps = steps_by-append move_from (Some (scanned done (modes.Long q) held)) (joined items) last
-          ∙ ap (λ o. steps_from o last) (run_long done q QuotesBefore.none held items quotes each triple)
-          ∙ later.steps
-          ∙ ap (λ t. Some (scanned done later.to t)) (append_assoc held (joined items) last);
-    }
+    let seen = seen_after q QuotesBefore.none items in
+    run_both _ done (modes.Long q) (mode_at q seen) held (joined items) last (run_long done q QuotesBefore.none held items quotes each triple)
+    (last_goes _ done (mode_at q seen) (modes.LongEscape q) (held ++ joined items) last (is_long_mode q seen) refl (λ c slashes. long_escapes q c seen quotes slashes) escapes)

@@ -41,48 +41,32 @@ HoldsShort q m = (m ≡ modes.Inside q) ⊎ (m ≡ modes.EscapeReturn q)
 abbrev pub IsShortMode : ℕ → Mode → Type 0
 IsShortMode q m = (m ≡ modes.Opened q) ⊎ HoldsShort q m
 
-opened_moves : (q c : ℕ) → eqb c q ≡ false → move_of (modes.Opened q) c ≡ short_move q c
-unfolding move_of
-opened_moves q c other = rw other
-
-inside_moves : (q c : ℕ) → eqb c q ≡ false → move_of (modes.Inside q) c ≡ short_move q c
-unfolding move_of
-inside_moves q c other = rw other
-
-returned_moves : (q c : ℕ) → eqb c q ≡ false → is_line_feed c ≡ false → move_of (modes.EscapeReturn q) c ≡ short_move q c
-unfolding move_of
-returned_moves q c other no_feed = rw (no_feed, other)
-
 pub short_moves : (q c : ℕ) (m : Mode) → IsShortMode q m → eqb c q ≡ false → is_line_feed c ≡ false → move_of m c ≡ short_move q c
-short_moves q c m (inl is) other no_feed = ap (λ (n : Mode). move_of n c) is ∙ opened_moves q c other
-short_moves q c m (inr (inl is)) other no_feed = ap (λ (n : Mode). move_of n c) is ∙ inside_moves q c other
-short_moves q c m (inr (inr is)) other no_feed = ap (λ (n : Mode). move_of n c) is ∙ returned_moves q c other no_feed
-
-short_bare : (q c : ℕ) → is_backslash c ≡ false → is_break c ≡ false → short_move q c ≡ moves.Grows (modes.Inside q)
-unfolding short_move
-short_bare q c no_slash no_break = rw (no_slash, no_break)
-
-short_slash : (q c : ℕ) → is_backslash c ≡ true → short_move q c ≡ moves.Grows (modes.Escape q)
-unfolding short_move
-short_slash q c slash = rw slash
-
-escape_return : (q c : ℕ) → is_return c ≡ true → move_of (modes.Escape q) c ≡ moves.Grows (modes.EscapeReturn q)
 unfolding move_of
-escape_return q c h = rw h
+short_moves q c m (inl is) other no_feed = subst (λ (n : Mode). move_of n c ≡ short_move q c) (sym is) (rw other)
+short_moves q c m (inr (inl is)) other no_feed = subst (λ (n : Mode). move_of n c ≡ short_move q c) (sym is) (rw other)
+short_moves q c m (inr (inr is)) other no_feed = subst (λ (n : Mode). move_of n c ≡ short_move q c) (sym is) (rw (no_feed, other))
 
-escape_other : (q c : ℕ) → is_return c ≡ false → move_of (modes.Escape q) c ≡ moves.Grows (modes.Inside q)
-unfolding move_of
-escape_other q c h = rw h
-
-returned_feed : (q c : ℕ) → is_line_feed c ≡ true → move_of (modes.EscapeReturn q) c ≡ moves.Grows (modes.Inside q)
-unfolding move_of
-returned_feed q c h = rw h
-
--- the machine goes through items of a short string
-pub record ShortRun (done : List Piece) (q : ℕ) (from : Mode) (held items : List ℕ) : Type 0 where
+-- the open piece grows by a text, and such a mode is open after it
+pub record RunTo (IsSuch : Mode → Type 0) (done : List Piece) (from : Mode) (held text : List ℕ) : Type 0 where
   pub to : Mode
-  pub inside : HoldsShort q to
-  pub steps : steps_from (Some (scanned done from held)) items ≡ Some (scanned done to (held ++ items))
+  pub such : IsSuch to
+  pub steps : steps_from (Some (scanned done from held)) text ≡ Some (scanned done to (held ++ text))
+
+-- first by one text, and then by another
+pub run_both : (IsSuch : Mode → Type 0) (done : List Piece) (from mid : Mode) (held a b : List ℕ) → steps_from (Some (scanned done from held)) a ≡ Some (scanned done mid (held ++ a)) → RunTo IsSuch done mid (held ++ a) b → RunTo IsSuch done from held (a ++ b)
+run_both IsSuch done from mid held a b first later = record {
+  to = later.to;
+  such = later.such;
+  steps = steps_by-append move_from (Some (scanned done from held)) a b
+      ∙ ap (λ o. steps_from o b) first
+      ∙ later.steps
+      ∙ ap (λ t. Some (scanned done later.to t)) (append_assoc held a b);
+}
+
+-- items of a short string
+abbrev pub ShortRun : List Piece → ℕ → Mode → List ℕ → List ℕ → Type 0
+ShortRun done q from held items = RunTo (HoldsShort q) done from held items
 
 grown_three : (done : List Piece) (held : List ℕ) (m : Mode) (c d e : ℕ) → Some (scanned done m (((held ++ c ∷ []) ++ d ∷ []) ++ e ∷ [])) ≡ Some (scanned done m (held ++ c ∷ d ∷ e ∷ []))
 grown_three done held m c d e = ap (λ t. Some (scanned done m t)) (append_assoc (held ++ c ∷ []) (d ∷ []) (e ∷ []) ∙ append_assoc held (c ∷ []) (d ∷ e ∷ []))
@@ -92,28 +76,30 @@ grown_two done held m c d = ap (λ t. Some (scanned done m t)) (append_assoc hel
 
 -- a backslash in a short string
 pub short_escapes : (q c : ℕ) (m : Mode) → IsShortMode q m → is_quote q ≡ true → is_backslash c ≡ true → move_of m c ≡ moves.Grows (modes.Escape q)
-short_escapes q c m short quotes slash = short_moves q c m short (not_quote c q quotes (slash-not-quote c slash)) (slash-not-feed c slash) ∙ short_slash q c slash
+unfolding short_move
+short_escapes q c m short quotes slash = short_moves q c m short (not_quote c q quotes (slash-not-quote c slash)) (slash-not-feed c slash) ∙ rw slash
 
 pub run_item : (done : List Piece) (q : ℕ) (m : Mode) (held item : List ℕ) → IsShortMode q m → is_quote q ≡ true → is_short_item q item ≡ true → ShortRun done q m held item
+unfolding move_of short_move
 run_item done q m held [] short quotes is = absurd (both_ways _ refl is)
 run_item done q m held (c ∷ []) short quotes is =
     let parts = and_parts (not (is_backslash c)) (not (is_barred q c)) is in
     let bare = unbarred q c (not-true _ parts.1) in
     record {
       to = modes.Inside q;
-      inside = inl refl;
-      steps = grown_by move_from done m (modes.Inside q) held c [] (short_moves q c m short bare.0 bare.1 ∙ short_bare q c (not-true _ parts.0) bare.2);
+      such = inl refl;
+      steps = grown_by move_from done m (modes.Inside q) held c [] (short_moves q c m short bare.0 bare.1 ∙ rw (not-true _ parts.0, bare.2));
     }
 run_item done q m held (c ∷ d ∷ []) short quotes is =
     let slash = (and_parts (is_backslash c) true is).0 in
     ⊎_elim
-    (λ (h : is_return d ≡ true). escaped slash (modes.EscapeReturn q) (inr refl) (escape_return q d h))
-    (λ (h : is_return d ≡ false). escaped slash (modes.Inside q) (inl refl) (escape_other q d h)) (cases_Bool (is_return d))
+    (λ (h : is_return d ≡ true). escaped slash (modes.EscapeReturn q) (inr refl) (rw h))
+    (λ (h : is_return d ≡ false). escaped slash (modes.Inside q) (inl refl) (rw h)) (cases_Bool (is_return d))
   where
     escaped : is_backslash c ≡ true → (to : Mode) → HoldsShort q to → move_of (modes.Escape q) d ≡ moves.Grows to → ShortRun done q m held (c ∷ d ∷ [])
     escaped slash to inside moves_so = record {
       to = to;
-      inside = inside;
+      such = inside;
       steps = grown_by move_from done m (modes.Escape q) held c (d ∷ []) (short_escapes q c m short quotes slash)
           ∙ grown_by move_from done (modes.Escape q) to (held ++ c ∷ []) d [] moves_so ∙ grown_two done held _ c d;
     }
@@ -123,57 +109,34 @@ run_item done q m held (c ∷ d ∷ e ∷ []) short quotes is =
     let second = and_parts (is_backslash c) (is_return d) first.0 in
     record {
       to = modes.Inside q;
-      inside = inl refl;
+      such = inl refl;
       steps = grown_by move_from done m (modes.Escape q) held c (d ∷ e ∷ []) (short_escapes q c m short quotes second.0)
-          ∙ grown_by move_from done (modes.Escape q) (modes.EscapeReturn q) (held ++ c ∷ []) d (e ∷ []) (escape_return q d second.1)
-          ∙ grown_by move_from done (modes.EscapeReturn q) (modes.Inside q) ((held ++ c ∷ []) ++ d ∷ []) e [] (returned_feed q e first.1)
+          ∙ grown_by move_from done (modes.Escape q) (modes.EscapeReturn q) (held ++ c ∷ []) d (e ∷ []) (rw second.1)
+          ∙ grown_by move_from done (modes.EscapeReturn q) (modes.Inside q) ((held ++ c ∷ []) ++ d ∷ []) e [] (rw first.1)
           ∙ grown_three done held _ c d e;
     }
 run_item done q m held (c ∷ d ∷ e ∷ f ∷ cs) short quotes is = absurd (both_ways _ refl is)
 
 pub run_items : (done : List Piece) (q : ℕ) (m : Mode) (held : List ℕ) (items : List (List ℕ)) → HoldsShort q m → is_quote q ≡ true → list_all (is_short_item q) items ≡ true → ShortRun done q m held (joined items)
-run_items done q m held [] short quotes each = record { to = m; inside = short; steps = all_held done m held }
+run_items done q m held [] short quotes each = record { to = m; such = short; steps = all_held done m held }
 run_items done q m held (i ∷ is) short quotes each =
     let parts = and_parts (is_short_item q i) (list_all (is_short_item q) is) each in
     let first = run_item done q m held i (inr short) quotes parts.0 in
-    let others = run_items done q first.to (held ++ i) is first.inside quotes parts.1 in
-    record {
-      to = others.to;
-      inside = others.inside;
-      steps = steps_by-append move_from (Some (scanned done m held)) i (joined is)
-          ∙ ap (λ o. steps_from o (joined is)) first.steps
-          ∙ others.steps
-          ∙ ap (λ t. Some (scanned done others.to t)) (append_assoc held i (joined is));
-    }
-
-close-inside : (q : ℕ) → move_of (modes.Inside q) q ≡ moves.Closes
-unfolding move_of
-close-inside q = rw (eq-eqb q q refl)
-
-close-returned : (q : ℕ) → is_quote q ≡ true → move_of (modes.EscapeReturn q) q ≡ moves.Closes
-unfolding move_of
-close-returned q quotes = rw (quote-not-feed q quotes, eq-eqb q q refl)
+    run_both (HoldsShort q) done m first.to held i (joined is) first.steps (run_items done q first.to (held ++ i) is first.such quotes parts.1)
 
 pub close_short : (done : List Piece) (q : ℕ) (m : Mode) (held : List ℕ) → HoldsShort q m → is_quote q ≡ true → steps_from (Some (scanned done m held)) (q ∷ []) ≡ Some (fresh (done ++ piece string (held ++ q ∷ []) ∷ []))
-close_short done q m held (inl is) quotes = subst (λ (n : Mode). steps_from (Some (scanned done n held)) (q ∷ []) ≡ Some (fresh (done ++ piece string (held ++ q ∷ []) ∷ []))) (sym is) (closes done (modes.Inside q) held q (close-inside q))
-close_short done q m held (inr is) quotes = subst (λ (n : Mode). steps_from (Some (scanned done n held)) (q ∷ []) ≡ Some (fresh (done ++ piece string (held ++ q ∷ []) ∷ []))) (sym is) (closes done (modes.EscapeReturn q) held q (close-returned q quotes))
-
-pub empty-opened : (q : ℕ) → move_of (modes.Opened q) q ≡ moves.Grows (modes.Empty q)
 unfolding move_of
-empty-opened q = rw (eq-eqb q q refl)
+close_short done q m held (inl is) quotes = subst (λ (n : Mode). steps_from (Some (scanned done n held)) (q ∷ []) ≡ Some (fresh (done ++ piece string (held ++ q ∷ []) ∷ []))) (sym is) (closes done (modes.Inside q) held q (rw (eq-eqb q q refl)))
+close_short done q m held (inr is) quotes = subst (λ (n : Mode). steps_from (Some (scanned done n held)) (q ∷ []) ≡ Some (fresh (done ++ piece string (held ++ q ∷ []) ∷ []))) (sym is) (closes done (modes.EscapeReturn q) held q (rw (quote-not-feed q quotes, eq-eqb q q refl)))
 
 stops-empty : (q : ℕ) (rest : List ℕ) → begins (λ c. c == q) rest ≡ false → StopsBefore (modes.Empty q) rest
 unfolding move_of
 stops-empty q [] h = refl
 stops-empty q (c ∷ cs) h = rw h
 
--- a string's text, first its beginning with the opening quote
-opening_first : (prefix : List ℕ) (q : ℕ) (body : List ℕ) → (prefix ++ q ∷ []) ++ body ≡ prefix ++ q ∷ body
-opening_first prefix q body = append_assoc prefix (q ∷ []) body
-
 pub opened_steps : (from : Scanned) (prefix : List ℕ) (q : ℕ) (body : List ℕ) → IsPrefix prefix → is_quote q ≡ true → StopsBefore from.mode (prefix ++ q ∷ body) → steps_from (Some from) (prefix ++ q ∷ body) ≡ steps_from (Some (scanned (pieces_at from) (modes.Opened q) (prefix ++ q ∷ []))) body
 opened_steps from prefix q body is quotes stops =
-    ap (steps_from (Some from)) (sym (opening_first prefix q body))
+    ap (steps_from (Some from)) (sym (append_assoc prefix (q ∷ []) body))
     ∙ steps_by-append move_from (Some from) (prefix ++ q ∷ []) body
     ∙ ap (λ o. steps_from o body) (open_string from prefix q body is quotes stops)
 
@@ -182,15 +145,7 @@ pub short_body : (done : List Piece) (q : ℕ) (held item : List ℕ) (items : L
 short_body done q held item items quotes each =
     let parts = and_parts (is_short_item q item) (list_all (is_short_item q) items) each in
     let first = run_item done q (modes.Opened q) held item (inl refl) quotes parts.0 in
-    let others = run_items done q first.to (held ++ item) items first.inside quotes parts.1 in
-    record {
-      to = others.to;
-      inside = others.inside;
-      steps = steps_by-append move_from (Some (scanned done (modes.Opened q) held)) item (joined items)
-          ∙ ap (λ o. steps_from o (joined items)) first.steps
-          ∙ others.steps
-          ∙ ap (λ t. Some (scanned done others.to t)) (append_assoc held item (joined items));
-    }
+    run_both (HoldsShort q) done (modes.Opened q) first.to held item (joined items) first.steps (run_items done q first.to (held ++ item) items first.such quotes parts.1)
 
 -- where a state stops depends on the first character alone
 stops_so : (from : Scanned) (prefix : List ℕ) (q : ℕ) (body rest : List ℕ) → StopsBefore from.mode (prefix ++ q ∷ (body ++ rest)) → StopsBefore from.mode (prefix ++ q ∷ body)
@@ -198,13 +153,14 @@ stops_so from [] q body rest h = h
 stops_so from (a ∷ bs) q body rest h = h
 
 pub find_short : (from : Scanned) (prefix : List ℕ) (q : ℕ) (items : List (List ℕ)) (rest : List ℕ) → IsPrefix prefix → is_quote q ≡ true → list_all (is_short_item q) items ≡ true → StopsBefore from.mode (prefix ++ q ∷ ((joined items ++ q ∷ []) ++ rest)) → MayPrecedePlain string (prefix ++ (q ∷ joined items ++ q ∷ [])) rest → Finds from (prefix ++ (q ∷ joined items ++ q ∷ [])) (piece string (prefix ++ (q ∷ joined items ++ q ∷ [])) ∷ []) rest
+unfolding move_of
 find_short from prefix q [] rest is quotes each stops before =
     let done = pieces_at from in
     record {
       to = scanned done (modes.Empty q) ((prefix ++ q ∷ []) ++ q ∷ []);
       steps = opened_steps from prefix q (q ∷ []) is quotes (stops_so from prefix q (q ∷ []) rest stops)
-          ∙ grown_by move_from done _ _ (prefix ++ q ∷ []) q [] (empty-opened q);
-      pieces_are = ap (λ t. done ++ piece string t ∷ []) (opening_first prefix q (q ∷ []));
+          ∙ grown_by move_from done (modes.Opened q) (modes.Empty q) (prefix ++ q ∷ []) q [] (rw (eq-eqb q q refl));
+      pieces_are = ap (λ t. done ++ piece string t ∷ []) (append_assoc prefix (q ∷ []) (q ∷ []));
       stops = stops-empty q rest (before prefix q refl is quotes);
     }
 find_short from prefix q (i ∷ items) rest is quotes each stops before =
@@ -216,8 +172,8 @@ find_short from prefix q (i ∷ items) rest is quotes each stops before =
       steps = opened_steps from prefix q (text ++ q ∷ []) is quotes (stops_so from prefix q (text ++ q ∷ []) rest stops)
           ∙ steps_by-append move_from (Some (scanned done (modes.Opened q) (prefix ++ q ∷ []))) text (q ∷ [])
           ∙ ap (λ o. steps_from o (q ∷ [])) body.steps
-          ∙ close_short done q body.to ((prefix ++ q ∷ []) ++ text) body.inside quotes;
-      pieces_are = ap (λ t. done ++ piece string t ∷ []) (append_assoc (prefix ++ q ∷ []) text (q ∷ []) ∙ opening_first prefix q (text ++ q ∷ []));
+          ∙ close_short done q body.to ((prefix ++ q ∷ []) ++ text) body.such quotes;
+      pieces_are = ap (λ t. done ++ piece string t ∷ []) (append_assoc (prefix ++ q ∷ []) text (q ∷ []) ∙ append_assoc prefix (q ∷ []) (text ++ q ∷ []));
       stops = stops-free rest;
     }
 
@@ -256,52 +212,26 @@ long_moves q c none other = rw other
 long_moves q c one other = rw other
 long_moves q c two other = rw other
 
-long_bare : (q c : ℕ) → is_backslash c ≡ false → long_move q c ≡ moves.Grows (modes.Long q)
-unfolding long_move
-long_bare q c no_slash = rw no_slash
-
-long_slash : (q c : ℕ) → is_backslash c ≡ true → long_move q c ≡ moves.Grows (modes.LongEscape q)
-unfolding long_move
-long_slash q c slash = rw slash
-
 -- a backslash in a long string
 pub long_escapes : (q c : ℕ) (seen : QuotesBefore) → is_quote q ≡ true → is_backslash c ≡ true → move_of (mode_at q seen) c ≡ moves.Grows (modes.LongEscape q)
-long_escapes q c seen quotes slash = long_moves q c seen (not_quote c q quotes (slash-not-quote c slash)) ∙ long_slash q c slash
-
-long_escaped : (q c : ℕ) → move_of (modes.LongEscape q) c ≡ moves.Grows (modes.Long q)
-unfolding move_of
-long_escaped q c = refl
-
-long-one : (q : ℕ) → move_of (modes.Long q) q ≡ moves.Grows (modes.LongOne q)
-unfolding move_of
-long-one q = rw (eq-eqb q q refl)
-
-long-two : (q : ℕ) → move_of (modes.LongOne q) q ≡ moves.Grows (modes.LongTwo q)
-unfolding move_of
-long-two q = rw (eq-eqb q q refl)
-
-long-closes : (q : ℕ) → move_of (modes.LongTwo q) q ≡ moves.Closes
-unfolding move_of
-long-closes q = rw (eq-eqb q q refl)
-
-pub long-opens : (q : ℕ) → move_of (modes.Empty q) q ≡ moves.Grows (modes.Long q)
-unfolding move_of
-long-opens q = rw (eq-eqb q q refl)
+unfolding long_move
+long_escapes q c seen quotes slash = long_moves q c seen (not_quote c q quotes (slash-not-quote c slash)) ∙ rw slash
 
 -- an item that is no quote of the string
 long_other : (done : List Piece) (q : ℕ) (seen : QuotesBefore) (held item : List ℕ) → is_quote q ≡ true → is_item item ≡ true → is_bare (λ c. c == q) item ≡ false → steps_from (Some (scanned done (mode_at q seen) held)) item ≡ Some (scanned done (modes.Long q) (held ++ item))
+unfolding move_of long_move
 long_other done q seen held [] quotes is other = absurd (both_ways _ refl is)
-long_other done q seen held (c ∷ []) quotes is other = grown_by move_from done (mode_at q seen) (modes.Long q) held c [] (long_moves q c seen other ∙ long_bare q c (not-true _ is))
+long_other done q seen held (c ∷ []) quotes is other = grown_by move_from done (mode_at q seen) (modes.Long q) held c [] (long_moves q c seen other ∙ rw (not-true _ is))
 long_other done q seen held (c ∷ d ∷ []) quotes is other =
-    grown_by move_from done (mode_at q seen) (modes.LongEscape q) held c (d ∷ []) (long_moves q c seen (not_quote c q quotes (slash-not-quote c is)) ∙ long_slash q c is)
-    ∙ grown_by move_from done (modes.LongEscape q) (modes.Long q) (held ++ c ∷ []) d [] (long_escaped q d)
+    grown_by move_from done (mode_at q seen) (modes.LongEscape q) held c (d ∷ []) (long_moves q c seen (not_quote c q quotes (slash-not-quote c is)) ∙ rw is)
+    ∙ grown_by move_from done (modes.LongEscape q) (modes.Long q) (held ++ c ∷ []) d [] refl
     ∙ grown_two done held _ c d
 long_other done q seen held (c ∷ d ∷ e ∷ []) quotes is other =
     let first = and_parts (is_backslash c && is_return d) (is_line_feed e) is in
     let slash = (and_parts (is_backslash c) (is_return d) first.0).0 in
-    grown_by move_from done (mode_at q seen) (modes.LongEscape q) held c (d ∷ e ∷ []) (long_moves q c seen (not_quote c q quotes (slash-not-quote c slash)) ∙ long_slash q c slash)
-    ∙ grown_by move_from done (modes.LongEscape q) (modes.Long q) (held ++ c ∷ []) d (e ∷ []) (long_escaped q d)
-    ∙ grown_by move_from done (modes.Long q) (modes.Long q) ((held ++ c ∷ []) ++ d ∷ []) e [] (long_moves q e none (not_quote e q quotes (feed-not-quote e first.1)) ∙ long_bare q e (feed-not-slash e first.1))
+    grown_by move_from done (mode_at q seen) (modes.LongEscape q) held c (d ∷ e ∷ []) (long_moves q c seen (not_quote c q quotes (slash-not-quote c slash)) ∙ rw slash)
+    ∙ grown_by move_from done (modes.LongEscape q) (modes.Long q) (held ++ c ∷ []) d (e ∷ []) refl
+    ∙ grown_by move_from done (modes.Long q) (modes.Long q) ((held ++ c ∷ []) ++ d ∷ []) e [] (long_moves q e none (not_quote e q quotes (feed-not-quote e first.1)) ∙ rw (feed-not-slash e first.1))
     ∙ grown_three done held _ c d e
 long_other done q seen held (c ∷ d ∷ e ∷ f ∷ cs) quotes is other = absurd (both_ways _ refl is)
 
@@ -326,8 +256,9 @@ after_other q one item items h = tail_triple q item items (tail_triple q (q ∷ 
 after_other q two item items h = tail_triple q item items (tail_triple q (q ∷ []) (item ∷ items) (tail_triple q (q ∷ []) ((q ∷ []) ∷ item ∷ items) h))
 
 quote_grows : (done : List Piece) (q : ℕ) (seen : QuotesBefore) (held : List ℕ) (items : List (List ℕ)) → has_triple q (quotes_before q seen ++ (q ∷ []) ∷ items) ≡ false → steps_from (Some (scanned done (mode_at q seen) held)) (q ∷ []) ≡ Some (scanned done (mode_at q (next seen)) (held ++ q ∷ []))
-quote_grows done q none held items h = grown_by move_from done (modes.Long q) (modes.LongOne q) held q [] (long-one q)
-quote_grows done q one held items h = grown_by move_from done (modes.LongOne q) (modes.LongTwo q) held q [] (long-two q)
+unfolding move_of
+quote_grows done q none held items h = grown_by move_from done (modes.Long q) (modes.LongOne q) held q [] (rw (eq-eqb q q refl))
+quote_grows done q one held items h = grown_by move_from done (modes.LongOne q) (modes.LongTwo q) held q [] (rw (eq-eqb q q refl))
 quote_grows done q two held items h = absurd (both_ways _ (or_parts (begins_triple q ((q ∷ []) ∷ (q ∷ []) ∷ (q ∷ []) ∷ items)) _ h).0 (rw (eq-eqb q q refl)))
 
 pub run_long : (done : List Piece) (q : ℕ) (seen : QuotesBefore) (held : List ℕ) (items : List (List ℕ)) → is_quote q ≡ true → list_all is_item items ≡ true → has_triple q (quotes_before q seen ++ items) ≡ false → steps_from (Some (scanned done (mode_at q seen) held)) (joined items) ≡ Some (scanned done (mode_at q (seen_after q seen items)) (held ++ joined items))
@@ -366,14 +297,16 @@ quotes_items q quotes = rw (no_slash q quotes)
 
 -- after three quotes, up to an item before the last quote
 pub long_opened : (from : Scanned) (prefix : List ℕ) (q : ℕ) (body : List ℕ) → IsPrefix prefix → is_quote q ≡ true → StopsBefore from.mode (prefix ++ q ∷ q ∷ q ∷ body) → steps_from (Some from) (prefix ++ q ∷ q ∷ q ∷ body) ≡ steps_from (Some (scanned (pieces_at from) (modes.Long q) (prefix ++ q ∷ q ∷ q ∷ []))) body
+unfolding move_of
 long_opened from prefix q body is quotes stops =
     let done = pieces_at from in
     opened_steps from prefix q (q ∷ q ∷ body) is quotes stops
-    ∙ grown_by move_from done _ _ (prefix ++ q ∷ []) q (q ∷ body) (empty-opened q)
-    ∙ grown_by move_from done _ _ ((prefix ++ q ∷ []) ++ q ∷ []) q body (long-opens q)
-    ∙ ap (λ t. steps_from (Some (scanned done (modes.Long q) t)) body) (append_assoc (prefix ++ q ∷ []) (q ∷ []) (q ∷ []) ∙ opening_first prefix q (q ∷ q ∷ []))
+    ∙ grown_by move_from done (modes.Opened q) (modes.Empty q) (prefix ++ q ∷ []) q (q ∷ body) (rw (eq-eqb q q refl))
+    ∙ grown_by move_from done (modes.Empty q) (modes.Long q) ((prefix ++ q ∷ []) ++ q ∷ []) q body (rw (eq-eqb q q refl))
+    ∙ ap (λ t. steps_from (Some (scanned done (modes.Long q) t)) body) (append_assoc (prefix ++ q ∷ []) (q ∷ []) (q ∷ []) ∙ append_assoc prefix (q ∷ []) (q ∷ q ∷ []))
 
 pub find_long : (from : Scanned) (prefix : List ℕ) (q : ℕ) (items : List (List ℕ)) (rest : List ℕ) → IsPrefix prefix → is_quote q ≡ true → list_all is_item items ≡ true → has_triple q (items ++ (q ∷ []) ∷ (q ∷ []) ∷ []) ≡ false → StopsBefore from.mode (prefix ++ q ∷ ((q ∷ q ∷ (joined items ++ q ∷ q ∷ q ∷ [])) ++ rest)) → Finds from (prefix ++ (q ∷ q ∷ q ∷ joined items ++ q ∷ q ∷ q ∷ [])) (piece string (prefix ++ (q ∷ q ∷ q ∷ joined items ++ q ∷ q ∷ q ∷ [])) ∷ []) rest
+unfolding move_of
 find_long from prefix q items rest is quotes each triple stops =
     let done = pieces_at from in
     let all = items ++ (q ∷ []) ∷ (q ∷ []) ∷ [] in
@@ -388,7 +321,7 @@ find_long from prefix q items rest is quotes each triple stops =
           ∙ steps_by-append move_from (Some (scanned done (modes.Long q) opening)) (joined all) (q ∷ [])
           ∙ ap (λ o. steps_from o (q ∷ [])) (run_long done q none opening all quotes (list_all-append is_item items ((q ∷ []) ∷ (q ∷ []) ∷ []) ∙ and_from _ _ each (quotes_items q quotes)) triple)
           ∙ ap (λ (s : QuotesBefore). steps_from (Some (scanned done (mode_at q s) (opening ++ joined all))) (q ∷ [])) seen
-          ∙ closes done (modes.LongTwo q) (opening ++ joined all) q (long-closes q);
+          ∙ closes done (modes.LongTwo q) (opening ++ joined all) q (rw (eq-eqb q q refl));
       pieces_are = ap (λ t. done ++ piece string t ∷ []) (append_assoc opening (joined all) (q ∷ []) ∙ ap (λ t. opening ++ t) cut ∙ append_assoc prefix (q ∷ q ∷ q ∷ []) ends);
       stops = stops-free rest;
     }
