@@ -42,11 +42,6 @@ module _ (Room : ℕ → Type 0) (F : ℕ → Host → List ℕ → Type 0) (beg
   -- a piece
   one_found : (G : Host → List ℕ → Type 0) (from : FieldScanned) (class : Class) (text after rest : List ℕ) → is_mark_class class ≡ false → InClassIn (with_fields G) class text → MayPrecedeIn (with_fields G) class text rest → (is_opener (piece class text) ≡ true → Room (frames from)) → (class ≡ string → (with_fields (F (frames from))).IsString text) → openers_by from.openers class text ≡ Some after → HasNoColonIn from.outer (length from.openers) (piece class text ∷ []) → StopsAt from.mode from.held (text ++ rest) → FieldFinds Room from text (piece class text ∷ []) after rest
   one_found G from mark text after rest unmarked is before room own opens none stops = absurd (both_ways _ unmarked refl)
-  one_found G from space text after rest unmarked is before room own opens none stops = same_openers from text _ after rest opens (plain_found Room G from space text rest tt is before stops)
-  one_found G from word text after rest unmarked is before room own opens none stops = same_openers from text _ after rest opens (plain_found Room G from word text rest tt is before stops)
-  one_found G from comment text after rest unmarked is before room own opens none stops = same_openers from text _ after rest opens (plain_found Room G from comment text rest tt is before stops)
-  one_found G from join text after rest unmarked is before room own opens none stops = same_openers from text _ after rest opens (plain_found Room G from join text rest tt is before stops)
-  one_found G from line_end text after rest unmarked is before room own opens none stops = same_openers from text _ after rest opens (plain_found Room G from line_end text rest tt is before stops)
   one_found G from operator text after rest unmarked (c, is, passes) before room own opens none stops =
       let P : List ℕ → Type 0 = λ t. FieldFinds Room from t (piece operator t ∷ []) after rest in
       subst P (sym is) (operator_found Room from c after rest passes
@@ -64,6 +59,7 @@ module _ (Room : ℕ → Type 0) (F : ℕ → Host → List ℕ → Type 0) (beg
       either (inl (inl short)) = string_found Room G from text short.0.prefix short.0.quote _ rest short.0.spell short.0.begun short.1 short.0.opens (inl short.0) before stops
       either (inl (inr long)) = string_found Room G from text long.0.prefix long.0.quote _ rest long.0.spell long.0.begun long.1 long.0.opens (inr long.0) before stops
       either (inr fields) = field_string_found Room from (F (frames from)) (begin (frames from)) (run from.outer (field_pieces from) from.openers) G text rest fields before stops
+  one_found G from class text after rest unmarked is before room own opens none stops = same_openers from text _ after rest opens (plain_found Room G from class text rest tt is before stops)
 
   -- pieces, one after another
   pub all_found : (G : Host → List ℕ → Type 0) (from : FieldScanned) (ps : List Piece) (after rest : List ℕ) → AreReadIn (with_fields G) ps rest → begins_marked ps ≡ false → ArePassed Room F (frames from) ps → openers_through (Some from.openers) ps ≡ Some after → HasNoColonIn from.outer (length from.openers) ps → StopsAt from.mode from.held (spelled ps ++ rest) → FieldFinds Room from (spelled ps) ps after rest

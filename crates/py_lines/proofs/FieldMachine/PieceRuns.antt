@@ -120,9 +120,6 @@ unfolding is_return
 thirteen_returns = refl
 
 plain_start : (class : Class) (text : List ℕ) → IsPlainClass class → InPlainClass class text → StartsPlain text
-plain_start mark text plain_class is = absurd plain_class
-plain_start string text plain_class is = absurd plain_class
-plain_start operator text plain_class is = absurd plain_class
 plain_start space text plain_class (c, cs, is, run) =
     record { first = c; others = cs; is = is; start = _; starts = start-space c (and_parts _ _ (subst (λ t. list_all is_space t ≡ true) is run)).0; quiet = inl refl }
 plain_start word text plain_class (c, cs, is, opens, run) = record { first = c; others = cs; is = is; start = _; starts = start-word c opens; quiet = inr (no_quotes cs run) }
@@ -131,6 +128,7 @@ plain_start join text plain_class (c, cs, is, slashes, line) = record { first = 
 plain_start line_end text plain_class (feed is) = record { first = 10; others = []; is = is; start = _; starts = start-feed 10 ten_feeds; quiet = tt }
 plain_start line_end text plain_class (return_feed is) = record { first = 13; others = 10 ∷ []; is = is; start = _; starts = start-return 13 thirteen_returns; quiet = inl refl }
 plain_start line_end text plain_class (return is) = record { first = 13; others = []; is = is; start = _; starts = start-return 13 thirteen_returns; quiet = inl refl }
+plain_start class text plain_class is = absurd plain_class
 
 either_prefix : (a b q : Bool) → (a || b) && q ≡ false → (a && q ≡ false) × (b && q ≡ false)
 either_prefix true b q h = (h, and_second b q h)
@@ -142,28 +140,17 @@ either_prefix false b q h = (refl, h)
 
 -- what may stand before the rest with fields may do so without them
 plain_before : (F : Host → List ℕ → Type 0) (class : Class) (text rest : List ℕ) → MayPrecedeIn (with_fields F) class text rest → MayPrecedePlain class text rest
-plain_before F mark text rest before = before
-plain_before F space text rest before = before
 plain_before F word text rest before = (before.0, (either_prefix (is_prefix text) (is_field_prefix text) (begins is_quote rest) before.1).0)
 plain_before F string text rest before = λ prefix q is begins_so quotes. before prefix q is (also prefix begins_so) quotes
   where
     also : (prefix : List ℕ) → IsNoneOr is_prefix prefix → IsNoneOr (λ p. is_prefix p || is_field_prefix p) prefix
     also prefix (inl none) = inl none
     also prefix (inr is) = inr (ap (λ b. b || is_field_prefix prefix) is)
-plain_before F operator text rest before = before
-plain_before F comment text rest before = before
-plain_before F join text rest before = before
-plain_before F line_end text rest before = before
+plain_before F class text rest before = before
 
 ends_no_prefix : (F : Host → List ℕ → Type 0) (class : Class) (text rest : List ℕ) → MayPrecedeIn (with_fields F) class text rest → EndsNoPrefix class text rest
 ends_no_prefix F word text rest before is = (either_prefix (is_prefix text) (is_field_prefix text) (begins is_quote rest) before.1).1
-ends_no_prefix F mark text rest before is = absurd (cc)
-ends_no_prefix F space text rest before is = absurd (cc)
-ends_no_prefix F string text rest before is = absurd (cc)
-ends_no_prefix F operator text rest before is = absurd (cc)
-ends_no_prefix F comment text rest before is = absurd (cc)
-ends_no_prefix F join text rest before is = absurd (cc)
-ends_no_prefix F line_end text rest before is = absurd (cc)
+ends_no_prefix F class text rest before is = absurd (cc)
 
 plain_unmarked : (class : Class) → IsPlainClass class → is_mark_class class ≡ false
 plain_unmarked mark is = absurd is

@@ -67,7 +67,6 @@ no_word-long q c = cond_both (is_backslash c) _ _ (NoWord string) (λ h. (refl, 
 pub no_word : (m : Mode) (c : ℕ) → is_word_mode m ≡ false → NoWord (class_of m) (move_of m c)
 unfolding move_of
 no_word modes.Start c h = cond_both (is_mark c) moves.Closes moves.Breaks (NoWord (class_of modes.Start)) (λ k. tt) (λ k. tt)
-no_word modes.Free c h = tt
 no_word modes.Space c h = cond_both (is_space c) _ moves.Breaks (NoWord space) (λ k. (refl, refl, refl, refl)) (λ k. tt)
 no_word (modes.Word s) c h = absurd (both_ways _ h refl)
 no_word modes.Comment c h = cond_both (is_break c) moves.Breaks _ (NoWord comment) (λ k. tt) (λ k. (refl, refl, refl, refl))
@@ -81,12 +80,10 @@ no_word (modes.Long q) c h = cond_both (c == q) _ _ (NoWord string) (λ k. (refl
 no_word (modes.LongOne q) c h = cond_both (c == q) _ _ (NoWord string) (λ k. (refl, refl, refl, refl)) (λ k. no_word-long q c)
 no_word (modes.LongTwo q) c h = cond_both (c == q) moves.Closes _ (NoWord string) (λ k. tt) (λ k. no_word-long q c)
 no_word (modes.LongEscape q) c h = (refl, refl, refl, refl)
-no_word (modes.FieldOpened f) c h = tt
-no_word (modes.FieldEmpty f) c h = tt
-no_word modes.Fielded c h = tt
 no_word modes.Backslash c h = cond_both (is_line_feed c) moves.Closes _ (NoWord join) (λ k. tt) (λ k. cond_both (is_return c) _ moves.Refused (NoWord join) (λ l. (refl, refl, refl, refl)) (λ l. tt))
 no_word modes.JoinReturn c h = cond_both (is_line_feed c) moves.Closes moves.Breaks (NoWord join) (λ k. tt) (λ k. tt)
 no_word modes.Return c h = cond_both (is_line_feed c) moves.Closes moves.Breaks (NoWord line_end) (λ k. tt) (λ k. tt)
+no_word m c h = tt
 
 -- where any piece grows, a piece is open after it that is no string with fields
 abbrev pub IsOpenAfter : Move → Type 0
@@ -95,9 +92,7 @@ IsOpenAfter other = Unit {0}
 
 is_open : (class : Class) (v : Move) → NoWord class v → IsOpenAfter v
 is_open class (moves.Grows n) h = (h.0, h.2)
-is_open class moves.Closes h = tt
-is_open class moves.Breaks h = tt
-is_open class moves.Refused h = tt
+is_open class v h = tt
 
 pub open_after : (m : Mode) (c : ℕ) → IsOpenAfter (move_of m c)
 unfolding move_of
@@ -114,9 +109,7 @@ opens_one : (c : ℕ) (s : Start) → StartsSo c s → OpensOne s
 opens_one c (starts.Open modes.Start) so = absurd so
 opens_one c (starts.Open modes.Free) so = absurd so
 opens_one c (starts.Open m) so = refl
-opens_one c starts.Operator so = tt
-opens_one c starts.LineEnd so = tt
-opens_one c starts.Nothing so = tt
+opens_one c s so = tt
 
 pub some_is : {A : Type 0} (a b : A) → Some a ≡ Some b → a ≡ b
 some_is a b h = cc
@@ -145,10 +138,8 @@ moved_size s c moves.Breaks t one is =
 moved_size s c moves.Refused t one is = absurd (cc)
 
 no_fewer : (s : Scanned) (v : Move) (t : Scanned) → Sized s v t → size s ≤ size t
-no_fewer s (moves.Grows m) t h = h
-no_fewer s moves.Closes t h = h
 no_fewer s moves.Breaks t h = omega (arith, h)
-no_fewer s moves.Refused t h = h
+no_fewer s v t h = h
 
 abbrev IsNoFewer : Option Scanned → Scanned → Type 0
 IsNoFewer None t = Unit {0}

@@ -62,10 +62,7 @@ room_at depth c (begins_code host) room = go (is_opening c) room.0 room.1
     go true h k = lt-ltb (depth + 1) 200 (k refl)
     go false h k = lt-ltb depth 200 h
 room_at depth c (opens_field host) room = lt-ltb depth 200 room
-room_at depth c (grows m) room = refl
-room_at depth c closes room = refl
-room_at depth c ends_field room = refl
-room_at depth c refused room = refl
+room_at depth c move room = refl
 
 pub room_of : (s t : FieldScanned) (text : List ℕ) → Goes BelowLimit s text t → have_room (Some s) text ≡ true
 room_of s t [] goes = refl

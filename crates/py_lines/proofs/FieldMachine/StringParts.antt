@@ -45,13 +45,8 @@ no_brace at = refl
 pub goes_on-quotes : (host : Host) (place : Place) (named : Bool) (at : At) (rest : List ℕ) → MayGoOn host place named (with_quote at) rest
 unfolding body_move
 goes_on-quotes host place named at [] = no_brace at
-goes_on-quotes host place named between (c ∷ cs) = refl
 goes_on-quotes host place named after_one (c ∷ cs) = refl
-goes_on-quotes host place named after_two (c ∷ cs) = refl
-goes_on-quotes host place named after_slash (c ∷ cs) = refl
-goes_on-quotes host place named after_return (c ∷ cs) = refl
-goes_on-quotes host place named after_name (c ∷ cs) = refl
-goes_on-quotes host place named after_brace (c ∷ cs) = refl
+goes_on-quotes host place named at (c ∷ cs) = refl
 
 -- after a backslash, before a brace
 goes_on-slash : (host : Host) (place : Place) (named : Bool) (rest : List ℕ) → begins is_brace rest ≡ true → MayGoOn host place named after_slash rest
@@ -110,25 +105,16 @@ triple_later q part tail h = (or_parts (begins_triple q (part ∷ tail)) (has_tr
 seen_later : (q : ℕ) (at : At) (part : List ℕ) (tail : List (List ℕ)) → has_triple q (quotes_seen q at ++ part ∷ tail) ≡ false → has_triple q tail ≡ false
 seen_later q after_one part tail h = triple_later q part tail (triple_later q (q ∷ []) (part ∷ tail) h)
 seen_later q after_two part tail h = triple_later q part tail (triple_later q (q ∷ []) (part ∷ tail) (triple_later q (q ∷ []) ((q ∷ []) ∷ part ∷ tail) h))
-seen_later q between part tail h = triple_later q part tail h
-seen_later q after_slash part tail h = triple_later q part tail h
-seen_later q after_return part tail h = triple_later q part tail h
-seen_later q after_name part tail h = triple_later q part tail h
-seen_later q after_brace part tail h = triple_later q part tail h
+seen_later q at part tail h = triple_later q part tail h
 
 pub three_quotes : (q : ℕ) (tail : List (List ℕ)) → begins_triple q ((q ∷ []) ∷ (q ∷ []) ∷ (q ∷ []) ∷ tail) ≡ true
 three_quotes q tail = rw (eq-eqb q q refl)
 
 -- after one quote more
 quote_seen : (q : ℕ) (at : At) (tail : List (List ℕ)) → has_triple q (quotes_seen q at ++ (q ∷ []) ∷ tail) ≡ false → (is_after_two (settled at) ≡ false) × (has_triple q (quotes_seen q (with_quote (settled at)) ++ tail) ≡ false)
-quote_seen q after_one tail h = (refl, h)
 quote_seen q after_two tail h =
     absurd (both_ways _ (or_parts (begins_triple q ((q ∷ []) ∷ (q ∷ []) ∷ (q ∷ []) ∷ tail)) (has_triple q ((q ∷ []) ∷ (q ∷ []) ∷ tail)) h).0 (three_quotes q tail))
-quote_seen q between tail h = (refl, h)
-quote_seen q after_slash tail h = (refl, h)
-quote_seen q after_return tail h = (refl, h)
-quote_seen q after_name tail h = (refl, h)
-quote_seen q after_brace tail h = (refl, h)
+quote_seen q at tail h = (refl, h)
 
 -- what stands without a backslash in a short string, or after one in its specifications
 long_or : (long broken : Bool) → long || not broken ≡ true → broken && not long ≡ false

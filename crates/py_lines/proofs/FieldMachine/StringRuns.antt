@@ -44,14 +44,10 @@ quote_closes host named at h = rw (eq-eqb host.quote host.quote refl, h)
 
 -- two quotes after parts of a long string don't close it: so none stands directly before them
 none_before : (q : ℕ) (at : At) → has_triple q (quotes_seen q at ++ (q ∷ []) ∷ (q ∷ []) ∷ []) ≡ false → settled at ≡ between
-none_before q between h = refl
 none_before q after_one h = absurd (both_ways _ (or_parts (begins_triple q ((q ∷ []) ∷ (q ∷ []) ∷ (q ∷ []) ∷ [])) (has_triple q ((q ∷ []) ∷ (q ∷ []) ∷ [])) h).0 (three_quotes q []))
 none_before q after_two h =
     absurd (both_ways _ (or_parts (begins_triple q ((q ∷ []) ∷ (q ∷ []) ∷ (q ∷ []) ∷ (q ∷ []) ∷ [])) (has_triple q ((q ∷ []) ∷ (q ∷ []) ∷ (q ∷ []) ∷ [])) h).0 (three_quotes q ((q ∷ []) ∷ [])))
-none_before q after_slash h = refl
-none_before q after_return h = refl
-none_before q after_name h = refl
-none_before q after_brace h = refl
+none_before q at h = refl
 
 -- parts aren't empty
 part_begins : (F : Host → List ℕ → Type 0) → BeginOpen F → (host : Host) (place : Place) (named : Bool) (part rest : List ℕ) → IsPart F host place named part rest → (c : ℕ) × (cs : List ℕ) × (part ≡ c ∷ cs)
@@ -87,12 +83,7 @@ pub data IsInLiteral (host : Host) (named : Bool) (mode : FieldMode) (text rest 
 -- after one quote, what isn't a second one is read as between parts
 pub moved_between : (outer : List Level) (done : List Piece) (openers : List ℕ) (host : Host) (held : List ℕ) (c : ℕ) (v : FieldMove) → field_moved (field_state outer done openers (opened host) held) c v ≡ field_moved (field_state outer done openers (body host literal false between) held) c v
 moved_between outer done openers host held c (grows m) = refl
-moved_between outer done openers host held c closes = refl
-moved_between outer done openers host held c breaks = refl
-moved_between outer done openers host held c (begins_code h) = refl
-moved_between outer done openers host held c (opens_field h) = refl
-moved_between outer done openers host held c ends_field = refl
-moved_between outer done openers host held c refused = refl
+moved_between outer done openers host held c v = refl
 
 module _ (Room : ℕ → Type 0) (from : FieldScanned) where
   -- the string is open after the pieces before

@@ -206,13 +206,11 @@ letter_escaped host specification named = refl
 
 letter_moves : (host : Host) (place : Place) (named : Bool) (at : At) (held : List ℕ) → is_quote host.quote ≡ true → (at ≡ after_brace → ⊥) → field_move (body host place named at) held 97 ≡ grows (body host place named between)
 unfolding field_move body_move is_line_feed
-letter_moves host place named between held quotes other = letter_between host place named between quotes
 letter_moves host place named after_one held quotes other = letter_between host place named after_one quotes
 letter_moves host place named after_two held quotes other = letter_between host place named after_two quotes
 letter_moves host place named after_slash held quotes other = letter_escaped host place named
-letter_moves host place named after_return held quotes other = letter_between host place named between quotes
-letter_moves host place named after_name held quotes other = letter_between host place named between quotes
 letter_moves host place named after_brace held quotes other = absurd (other refl)
+letter_moves host place named at held quotes other = letter_between host place named between quotes
 
 brace_doubles : (host : Host) (place : Place) (named : Bool) (held : List ℕ) → field_move (body host place named after_brace) held 123 ≡ grows (body host place named between)
 unfolding field_move body_move

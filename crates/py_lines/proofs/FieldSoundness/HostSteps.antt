@@ -156,10 +156,8 @@ module _ (limit : Limit) (outer : List Level) (done : List Piece) (openers : Lis
 
   -- so whatever a character does in the body of a string
   body_in : (place : Place) (n : FieldMode) (host : Host) → IsIn limit outer depth host place n → text_place m ≡ place → (text_place n ≡ text_place m) × AtStart n outer done
-  body_in place (plain n) host is at = absurd is
-  body_in place (opened h) host is at = absurd is
-  body_in place (empty h) host is at = absurd is
   body_in place (body h p named q) host is at = (is ∙ sym at, tt)
+  body_in place n host is at = absurd is
 
   moved_sound : (host : Host) (place : Place) (v : FieldMove) → text_place m ≡ place → field_class_of m ≡ string → Moved limit outer depth host place held c v → HasRoom limit depth c v → FieldSoundIf limit (field_moved State c v) (read ++ c ∷ [])
   moved_sound host place (grows n) at class holds room =

@@ -27,10 +27,8 @@ pub record EndsList (limit : Limit) (outer : List Level) (openers : List ℕ) (p
 
 -- no string with fields is open there
 pub code_at_end : (m : FieldMode) → may_end m ≡ true → text_place m ≡ literal
-code_at_end (plain m) may = refl
-code_at_end (opened host) may = refl
-code_at_end (empty host) may = refl
 code_at_end (body host place named at) may = absurd (both_ways _ refl may)
+code_at_end m may = refl
 
 module _ (limit : Limit) (outer : List Level) (done : List Piece) (openers : List ℕ) (m : FieldMode) (held read : List ℕ) (sound : IsFieldSound limit (field_state outer done openers m held) read) where
   -- after no open piece, and after one

@@ -47,13 +47,7 @@ pub record IsNeutral (p : Piece) : Type 0 where
 
 pub neutral : (class : Class) (text : List ℕ) → (class ≡ operator → ⊥) → IsNeutral (piece class text)
 neutral operator text other = absurd (other refl)
-neutral mark text other = record { no_opener = refl; no_closer = refl; no_colon = refl }
-neutral space text other = record { no_opener = refl; no_closer = refl; no_colon = refl }
-neutral word text other = record { no_opener = refl; no_closer = refl; no_colon = refl }
-neutral string text other = record { no_opener = refl; no_closer = refl; no_colon = refl }
-neutral comment text other = record { no_opener = refl; no_closer = refl; no_colon = refl }
-neutral join text other = record { no_opener = refl; no_closer = refl; no_colon = refl }
-neutral line_end text other = record { no_opener = refl; no_closer = refl; no_colon = refl }
+neutral class text other = record { no_opener = refl; no_closer = refl; no_colon = refl }
 
 -- what one more piece needs: it is of its class, before what follows; a mark is the first one; and its brackets go through
 pub record Adds (limit : Limit) (outer : List Level) (done : List Piece) (openers : List ℕ) (class : Class) (text next : List ℕ) : Type 0 where

@@ -46,23 +46,15 @@ IsPlainText string text rest = BeginsPlain text
 IsPlainText other text rest = Unit {0}
 
 pub plain_class : (F : Host → List ℕ → Type 0) (class : Class) (text rest : List ℕ) → IsPlainText class text rest → InPlainClass class text → InClassIn (with_fields F) class text
-plain_class F mark text rest plain is = is
-plain_class F space text rest plain is = is
-plain_class F word text rest plain is = is
 plain_class F string text rest plain (inl short) = inl (inl (short, other_prefix text short.prefix _ short.quote plain short.spell (plain_quotes short.prefix short.begun) short.opens))
 plain_class F string text rest plain (inr long) = inl (inr (long, other_prefix text long.prefix _ long.quote plain long.spell (plain_quotes long.prefix long.begun) long.opens))
-plain_class F operator text rest plain is = is
-plain_class F comment text rest plain is = is
-plain_class F join text rest plain is = is
-plain_class F line_end text rest plain is = is
+plain_class F class text rest plain is = is
 
 neither : (a b c : Bool) → a && c ≡ false → b && c ≡ false → (a || b) && c ≡ false
 neither true b c h k = h
 neither false b c h k = k
 
 pub plain_precede : (F : Host → List ℕ → Type 0) (class : Class) (text rest : List ℕ) → IsPlainText class text rest → MayPrecedePlain class text rest → MayPrecedeIn (with_fields F) class text rest
-plain_precede F mark text rest plain before = before
-plain_precede F space text rest plain before = before
 plain_precede F word text rest plain before = (before.0, neither (is_prefix text) (is_field_prefix text) (begins is_quote rest) before.1 plain)
 plain_precede F string text rest plain before = λ prefix q spell begun quotes. before prefix q spell (fewer prefix q spell quotes begun) quotes
   where
@@ -72,10 +64,7 @@ plain_precede F string text rest plain before = λ prefix q spell begun quotes. 
         inr (⊎_elim
         (λ is. is)
         (λ is. absurd (both_ways _ (other_prefix text prefix (q ∷ []) q plain spell (field_letters prefix is).quotes quotes) is)) (or_cases (is_prefix prefix) (is_field_prefix prefix) some))
-plain_precede F operator text rest plain before = before
-plain_precede F comment text rest plain before = before
-plain_precede F join text rest plain before = before
-plain_precede F line_end text rest plain before = before
+plain_precede F class text rest plain before = before
 
 -- the open piece alone
 alone : (m : Mode) (held : List ℕ) → Holds m [] held → IsSound (scanned [] m held) held

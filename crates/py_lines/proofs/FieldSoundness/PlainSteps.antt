@@ -59,9 +59,7 @@ QuotedSo held c other = Unit {0}
 
 keeps_class : (class : Class) (held : List ℕ) (c : ℕ) (v : Move) → NoWord class v → (class ≡ string → BeginsPlain held) → QuotedSo held c v
 keeps_class class held c (moves.Grows n) same own = λ at. begins_plain-more held c (own (sym same.3 ∙ at))
-keeps_class class held c moves.Closes same own = tt
-keeps_class class held c moves.Breaks same own = tt
-keeps_class class held c moves.Refused same own = tt
+keeps_class class held c v same own = tt
 
 quoted_so : (m : Mode) (held : List ℕ) (c : ℕ) → Holds m [] held → (class_of m ≡ string → BeginsPlain held) → begins_host m held c ≡ false → QuotedSo held c (move_of m c)
 unfolding move_of
@@ -174,10 +172,8 @@ module _ (limit : Limit) (outer : List Level) (done : List Piece) (openers : Lis
       started s at fit = subst (λ (x : Start). FieldSoundIf limit (field_started outer (closed m done held) openers c x) (read ++ c ∷ [])) at (start_sound limit outer (closed m done held) openers read c (ready fit room))
 
       go : (s : Start) → start_of c ≡ s → BreaksBefore m held c s → FieldSoundIf limit (field_started outer (closed m done held) openers c s) (read ++ c ∷ [])
-      go (starts.Open n) at fit = started (starts.Open n) at fit
-      go starts.Operator at fit = started starts.Operator at fit
-      go starts.LineEnd at fit = started starts.LineEnd at fit
       go starts.Nothing at fit = tt
+      go s at fit = started s at fit
 
   -- so whatever it does
   pub plain_sound : HasRoom limit (length openers + levels_open outer) c (plain_move (move_of m c)) → FieldSoundIf limit (field_moved (field_state outer done openers (plain m) held) c (plain_move (move_of m c))) (read ++ c ∷ [])

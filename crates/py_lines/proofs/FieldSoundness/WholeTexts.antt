@@ -48,11 +48,7 @@ two_hundred = record {
 any_room : (depth c : ℕ) (v : FieldMove) → HasRoom no_limit depth c v
 any_room depth c breaks = λ opens. tt
 any_room depth c (begins_code host) = (tt, λ opens. tt)
-any_room depth c (opens_field host) = tt
-any_room depth c (grows m) = tt
-any_room depth c closes = tt
-any_room depth c ends_field = tt
-any_room depth c refused = tt
+any_room depth c v = tt
 
 pub any_rooms : (o : Option FieldScanned) (cs : List ℕ) → HaveRoom no_limit o cs
 any_rooms None cs = tt
@@ -75,10 +71,7 @@ room_at depth c breaks h = λ opens. ltb-true depth 200 (second (is_opening c) (
     second false b h is = absurd (both_ways _ refl is)
 room_at depth c (begins_code host) h = code_room (is_opening c) depth h
 room_at depth c (opens_field host) h = ltb-true depth 200 h
-room_at depth c (grows m) h = tt
-room_at depth c closes h = tt
-room_at depth c ends_field h = tt
-room_at depth c refused h = tt
+room_at depth c v h = tt
 
 pub rooms_at : (o : Option FieldScanned) (cs : List ℕ) → have_room o cs ≡ true → HaveRoom two_hundred o cs
 rooms_at None cs h = tt

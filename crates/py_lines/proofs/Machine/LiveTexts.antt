@@ -147,9 +147,7 @@ module _ (Comes : Mode → List ℕ → Type 0)
   completes (modes.LongTwo q) done held holds = long_two q held holds.2.opens
   completes (modes.LongEscape q) done held holds =
       on (modes.LongEscape q) (modes.Long q) held q refl (quote-scalar q holds.3.opens) refl (long q (held ++ q ∷ []) holds.3.opens)
-  completes (modes.FieldOpened h) done held holds = absurd holds
-  completes (modes.FieldEmpty h) done held holds = absurd holds
-  completes modes.Fielded done held holds = absurd holds
   completes modes.Backslash done held holds = last modes.Backslash held 10 refl refl slash-closes
   completes modes.JoinReturn done held holds = once modes.JoinReturn held (record { ends = refl; breaks = λ c h. rw (closing-not-feed c h) })
   completes modes.Return done held holds = once modes.Return held (record { ends = refl; breaks = λ c h. rw (closing-not-feed c h) })
+  completes m done held holds = absurd holds

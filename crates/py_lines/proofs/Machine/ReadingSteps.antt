@@ -136,10 +136,4 @@ reach (p ∷ ps) rest fit = go p.class p.text fit
   where
     go : (class : Class) (text : List ℕ) → AreReadPlain (piece class text ∷ ps) rest → Reaches (spelled (piece class text ∷ ps)) (piece class text ∷ ps) rest
     go mark text h = reach_marked text ps rest h
-    go space text h = reach_others (piece space text) ps rest h refl
-    go word text h = reach_others (piece word text) ps rest h refl
-    go string text h = reach_others (piece string text) ps rest h refl
-    go operator text h = reach_others (piece operator text) ps rest h refl
-    go comment text h = reach_others (piece comment text) ps rest h refl
-    go join text h = reach_others (piece join text) ps rest h refl
-    go line_end text h = reach_others (piece line_end text) ps rest h refl
+    go class text h = reach_others (piece class text) ps rest h refl

@@ -241,9 +241,7 @@ step_sound done modes.Return held read c sound =
     (λ h. closed_by_one done modes.Return held read c line_end sound (return_feed (spell ∙ feed_after r c sound.holds.2 h))
     (λ more. and_left _ _ (ap (ends is_return) spell ∙ feed-not-return c h)) (follows_any done line_end (held ++ c ∷ []) refl))
     (λ h. break_sound done modes.Return line_end held read c sound refl (return (sound.holds.1 ∙ ap (λ d. d ∷ []) (return_is r sound.holds.2))) (λ more. and_right _ _ h))
-step_sound done (modes.FieldOpened h) held read c sound = absurd sound.holds
-step_sound done (modes.FieldEmpty h) held read c sound = absurd sound.holds
-step_sound done modes.Fielded held read c sound = absurd sound.holds
+step_sound done m held read c sound = absurd sound.holds
 
 -- where the text may end, the pieces, the open one with them, are read to the text's end
 end_with : (done : List Piece) (m : Mode) (class : Class) (held read : List ℕ) → IsSound (scanned done m held) read → is_mark_class class ≡ false → InPlainClass class held → MayPrecedePlain class held [] → (spelled (done ++ piece class held ∷ []) ≡ read) × AreReadPlain (done ++ piece class held ∷ []) []
