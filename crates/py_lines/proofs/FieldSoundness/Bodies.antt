@@ -44,6 +44,10 @@ open_brace true false h = (refl, refl)
 open_brace true true h = absurd (both_ways _ refl h)
 open_brace false b h = absurd (both_ways _ refl h)
 
+plain_one : (b : Bool) → b && true ≡ false → b ≡ false
+plain_one true e = e
+plain_one false e = refl
+
 or_true : (a : Bool) → a || true ≡ true
 or_true true = refl
 or_true false = refl
@@ -80,23 +84,11 @@ ordinary_character place true c h k = go place
     go literal = refl
     go specification = refl
 ordinary_character literal false c h k = not_from_false _ (plain_one (c == 123) h)
-  where
-    plain_one : (b : Bool) → b && true ≡ false → b ≡ false
-    plain_one true e = e
-    plain_one false e = refl
 ordinary_character specification false c h k = not_from_false _ (no_brace c (plain_one (c == 123) h) k)
-  where
-    plain_one : (b : Bool) → b && true ≡ false → b ≡ false
-    plain_one true e = e
-    plain_one false e = refl
 
 stands : (long : Bool) (q c : ℕ) → is_break c && not long ≡ false → c == q ≡ false → long || not (is_barred q c) ≡ true
 stands true q c h other = refl
 stands false q c h other = not_from_false _ (barred q c other (plain_one (is_break c) h))
-  where
-    plain_one : (b : Bool) → b && true ≡ false → b ≡ false
-    plain_one true e = e
-    plain_one false e = refl
 
 -- a string that holds something is no empty one
 pub quoted_prefix : (prefix : List ℕ) → IsNoneOr (λ p. is_prefix p || is_field_prefix p) prefix → list_any is_quote prefix ≡ false
@@ -233,71 +225,43 @@ module _ (limit : Limit) (outer : List Level) (depth : ℕ) (host : Host) where
       (ap (has_triple host.quote) (append_assoc h.all.parts ((host.quote ∷ []) ∷ []) ((host.quote ∷ []) ∷ [])) ∙ h.apart)))
 
   -- the quotes that close the string
-  pub short_string : (named : Bool) (held : List ℕ) → host.is_long ≡ false → HoldsBetween limit outer depth host literal named held (host.quote ∷ []) → IsFieldString (limit.FieldsAt depth) (held ++ host.quote ∷ [])
-  short_string named held short h =
+  whole_string : (named : Bool) (text more : List ℕ) → quotes_of host ≡ host.quote ∷ more → HoldsBetween limit outer depth host literal named text (host.quote ∷ []) → IsFieldString (limit.FieldsAt depth) (text ++ host.quote ∷ more)
+  whole_string named text more quotes h =
       let own = h.all in
-      let quotes : quotes_of host ≡ host.quote ∷ [] = short_quotes host short in
       record {
         prefix = own.opens_with.prefix;
         host = host;
         parts = own.parts;
-        spell = ap (λ t. t ++ host.quote ∷ []) (own.spell ∙ ap (λ t. t ++ joined own.parts) own.opens_with.spell)
-            ∙ append_assoc (own.opens_with.prefix ++ quotes_of host) (joined own.parts) (host.quote ∷ [])
-            ∙ append_assoc own.opens_with.prefix (quotes_of host) (joined own.parts ++ host.quote ∷ [])
+        spell = ap (λ t. t ++ host.quote ∷ more) (own.spell ∙ ap (λ t. t ++ joined own.parts) own.opens_with.spell)
+            ∙ append_assoc (own.opens_with.prefix ++ quotes_of host) (joined own.parts) (host.quote ∷ more)
+            ∙ append_assoc own.opens_with.prefix (quotes_of host) (joined own.parts ++ host.quote ∷ more)
             ∙ ap (λ t. own.opens_with.prefix ++ (quotes_of host ++ (joined own.parts ++ t))) (sym quotes);
         begun = own.opens_with.begun;
         raw = own.opens_with.raw;
         opens = own.quotes;
-        each = subst (AreParts (limit.FieldsAt depth) host literal false own.parts) (sym quotes) (own.fit []);
+        each = subst (AreParts (limit.FieldsAt depth) host literal false own.parts) (sym quotes) (own.fit more);
         first = h.apart;
       }
 
-  pub long_string : (named : Bool) (text : List ℕ) → host.is_long ≡ true → HoldsBetween limit outer depth host literal named text (host.quote ∷ []) → IsFieldString (limit.FieldsAt depth) (text ++ host.quote ∷ host.quote ∷ host.quote ∷ [])
-  long_string named text long h =
-      let own = h.all in
-      let three = host.quote ∷ host.quote ∷ host.quote ∷ [] in
-      let quotes : quotes_of host ≡ three = long_quotes host long in
-      record {
-        prefix = own.opens_with.prefix;
-        host = host;
-        parts = own.parts;
-        spell = ap (λ t. t ++ three) (own.spell ∙ ap (λ t. t ++ joined own.parts) own.opens_with.spell)
-            ∙ append_assoc (own.opens_with.prefix ++ quotes_of host) (joined own.parts) three
-            ∙ append_assoc own.opens_with.prefix (quotes_of host) (joined own.parts ++ three)
-            ∙ ap (λ t. own.opens_with.prefix ++ (quotes_of host ++ (joined own.parts ++ t))) (sym quotes);
-        begun = own.opens_with.begun;
-        raw = own.opens_with.raw;
-        opens = own.quotes;
-        each = subst (AreParts (limit.FieldsAt depth) host literal false own.parts) (sym quotes) (own.fit (host.quote ∷ host.quote ∷ []));
-        first = h.apart;
-      }
+  -- with them the string ends, which is no empty one
+  string_closes : (named : Bool) (held text more : List ℕ) (c : ℕ) → held ++ c ∷ [] ≡ text ++ host.quote ∷ more → quotes_of host ≡ host.quote ∷ more → (h : HoldsBetween limit outer depth host literal named text (host.quote ∷ [])) → ((r : ℕ) → more ++ (joined h.all.parts ++ host.quote ∷ more) ≡ r ∷ [] → ⊥) → Moved literal held c closes
+  unfolding whole_string
+  string_closes named held text more c is quotes h other =
+      let own = whole_string named text more quotes h in (
+        refl,
+        subst (InClassIn (with_fields (limit.FieldsAt depth)) string) (sym is) (inr own),
+        λ after. full_string own.prefix (more ++ (joined own.parts ++ host.quote ∷ more)) (held ++ c ∷ []) after host.quote (is ∙ own.spell ∙ ap (λ t. own.prefix ++ (t ++ (joined own.parts ++ t))) quotes) own.begun h.all.quotes other,
+      )
 
   pub short_closes : (named : Bool) (held : List ℕ) (c : ℕ) → c == host.quote ≡ true → host.is_long ≡ false → HoldsBetween limit outer depth host literal named held (host.quote ∷ []) → Moved literal held c closes
-  unfolding short_string
   short_closes named held c same short h =
-      let is : c ≡ host.quote = eqb-true c host.quote same in
-      let own = short_string named held short h in
-      let text : held ++ c ∷ [] ≡ held ++ host.quote ∷ [] = ap (λ (d : ℕ). held ++ d ∷ []) is in
-      let spell : held ++ c ∷ [] ≡ own.prefix ++ (host.quote ∷ joined own.parts ++ host.quote ∷ []) =
-      text ∙ own.spell ∙ ap (λ t. own.prefix ++ (t ++ (joined own.parts ++ t))) (short_quotes host short) in (
-        refl,
-        subst (InClassIn (with_fields (limit.FieldsAt depth)) string) (sym text) (inr own),
-        λ more. full_string own.prefix (joined own.parts ++ host.quote ∷ []) (held ++ c ∷ []) more host.quote spell own.begun h.all.quotes (λ r one. more_than_one (joined own.parts) host.quote r (h.full refl short) one),
-      )
+      string_closes named held held [] c (ap (λ (d : ℕ). held ++ d ∷ []) (eqb-true c host.quote same)) (short_quotes host short) h (λ r one. more_than_one (joined h.all.parts) host.quote r (h.full refl short) one)
 
   pub long_closes : (named : Bool) (held text : List ℕ) (c : ℕ) → held ≡ text ++ host.quote ∷ host.quote ∷ [] → c == host.quote ≡ true → host.is_long ≡ true → HoldsBetween limit outer depth host literal named text (host.quote ∷ []) → Moved literal held c closes
-  unfolding long_string
   long_closes named held text c is_held same long h =
-      let is : c ≡ host.quote = eqb-true c host.quote same in
-      let own = long_string named text long h in
-      let whole : held ++ c ∷ [] ≡ text ++ host.quote ∷ host.quote ∷ host.quote ∷ [] =
-      ap (λ t. t ++ c ∷ []) is_held ∙ append_assoc text (host.quote ∷ host.quote ∷ []) (c ∷ []) ∙ ap (λ (d : ℕ). text ++ host.quote ∷ host.quote ∷ d ∷ []) is in
-      let spell : held ++ c ∷ [] ≡ own.prefix ++ (host.quote ∷ host.quote ∷ host.quote ∷ (joined own.parts ++ host.quote ∷ host.quote ∷ host.quote ∷ [])) =
-      whole ∙ own.spell ∙ ap (λ t. own.prefix ++ (t ++ (joined own.parts ++ t))) (long_quotes host long) in (
-        refl,
-        subst (InClassIn (with_fields (limit.FieldsAt depth)) string) (sym whole) (inr own),
-        λ more. full_string own.prefix (host.quote ∷ host.quote ∷ (joined own.parts ++ host.quote ∷ host.quote ∷ host.quote ∷ [])) (held ++ c ∷ []) more host.quote spell own.begun h.all.quotes (λ r one. absurd (cc)),
-      )
+      string_closes named held text (host.quote ∷ host.quote ∷ []) c
+      (ap (λ t. t ++ c ∷ []) is_held ∙ append_assoc text (host.quote ∷ host.quote ∷ []) (c ∷ []) ∙ ap (λ (d : ℕ). text ++ host.quote ∷ host.quote ∷ d ∷ []) (eqb-true c host.quote same)) (long_quotes host long) h
+      (λ r one. absurd (cc))
 
   -- a quote of the string: the first one, the second one of a long string, and the third
   pub first_quotes : (place : Place) (named : Bool) (held : List ℕ) (c : ℕ) → HoldsBetween limit outer depth host place named held (c ∷ []) → c == host.quote ≡ true → Moved place held c (quote_move place named between)
@@ -308,10 +272,6 @@ module _ (limit : Limit) (outer : List Level) (depth : ℕ) (host : Host) where
       (λ long. (refl, (held, ap (λ (d : ℕ). held ++ d ∷ []) is, (and_parts _ _ long).0, own)))
       (λ short. close place own (plain_one host.is_long short))
     where
-      plain_one : (b : Bool) → b && true ≡ false → b ≡ false
-      plain_one true e = e
-      plain_one false e = refl
-
       close : (p : Place) → HoldsBetween limit outer depth host p named held (host.quote ∷ []) → host.is_long ≡ false → Moved p held c (closing_move p)
       close literal own short = short_closes named held c same short own
       close specification own short = tt

@@ -16,6 +16,7 @@ use Rattle.py_lines.proofs.Pieces.OpenBrackets.{closing-not-opening}
 use Rattle.py_lines.proofs.Machine.Starts.{start-operator}
 use Rattle.py_lines.proofs.Machine.LiveTexts.{closing-operator, closing_of-closing, closing-scalar, quote-scalar, scalars-append}
 use Rattle.py_lines.proofs.FieldMachine.Runs.{HasRoomFor, Goes, goes-append, goes-grows, goes-closes, goes-begins}
+use Rattle.py_lines.proofs.FieldMachine.StringParts.{second_brace}
 use Rattle.py_lines.proofs.FieldSoundness.Holds.{Limit, HoldsLevels}
 
 -- a mode in which the text may end, or a closing bracket follow
@@ -35,15 +36,18 @@ pub record Finishes (Room : ℕ → Type 0) (s : FieldScanned) : Type 0 where
   pub goes : Goes Room s more to
   pub final : IsFieldFinal to
 
--- and one that leads to such a mode, in the same list
-pub record Readies (Room : ℕ → Type 0) (s : FieldScanned) : Type 0 where
+-- and one that leads to such a mode, in the same list with these brackets open
+pub record ReadiesWith (Room : ℕ → Type 0) (s : FieldScanned) (openers : List ℕ) : Type 0 where
   pub more : List ℕ
   pub done : List Piece
   pub mode : FieldMode
   pub held : List ℕ
   pub scalars : all_scalars more ≡ true
-  pub goes : Goes Room s more (field_state s.outer done s.openers mode held)
+  pub goes : Goes Room s more (field_state s.outer done openers mode held)
   pub ready : IsReadyField mode held
+
+abbrev pub Readies : (ℕ → Type 0) → FieldScanned → Type 0
+Readies Room s = ReadiesWith Room s s.openers
 
 pub at_once : (Room : ℕ → Type 0) (s : FieldScanned) → IsReadyField s.mode s.held → Readies Room s
 at_once Room s ready = record { more = []; done = s.done; mode = s.mode; held = s.held; scalars = refl; goes = refl; ready = ready }
@@ -76,17 +80,8 @@ popped [] done o os c is kind = rw (closing-not-opening c is, is, kind)
 popped (l ∷ ls) done o os c is kind = rw (closing-not-opening c is, is, kind)
 
 -- so all of them, one after another
-pub record ClosesList (Room : ℕ → Type 0) (s : FieldScanned) : Type 0 where
-  pub more : List ℕ
-  pub done : List Piece
-  pub mode : FieldMode
-  pub held : List ℕ
-  pub scalars : all_scalars more ≡ true
-  pub goes : Goes Room s more (field_state s.outer done [] mode held)
-  pub ready : IsReadyField mode held
-
-pub closes_list : (Room : ℕ → Type 0) (outer : List Level) (openers : List ℕ) (done : List Piece) (m : FieldMode) (held : List ℕ) → IsReadyField m held → ClosesList Room (field_state outer done openers m held)
-closes_list Room outer [] done m held ready = record { more = []; done = done; mode = m; held = held; scalars = refl; goes = refl; ready = ready }
+pub closes_list : (Room : ℕ → Type 0) (outer : List Level) (openers : List ℕ) (done : List Piece) (m : FieldMode) (held : List ℕ) → IsReadyField m held → ReadiesWith Room (field_state outer done openers m held) []
+closes_list Room outer [] done m held ready = at_once Room (field_state outer done [] m held) ready
 closes_list Room outer (o ∷ os) done m held ready =
     let c = closing_of o in
     let is = closing_of-closing o in
@@ -148,56 +143,28 @@ code_finishes Room l ls openers done m held ready later =
     (ap (field_started (l ∷ ls) pieces [] 125) (start-operator 125 (closing-operator 125 closing-brace)) ∙ code_closes l ls pieces) (λ opens. no_opening 125 closing-brace opens) refl)
     (later text))
 
--- the quotes of a string
-quote_closes : (host : Host) (named : Bool) (at : At) → host.is_long && not (is_after_two at) ≡ false → between_move host literal named at host.quote ≡ closes
-unfolding between_move
-quote_closes host named at h = rw (eq-eqb host.quote host.quote refl, h)
-
-quote_grows : (host : Host) (named : Bool) (at : At) → host.is_long && not (is_after_two at) ≡ true → between_move host literal named at host.quote ≡ grows (body host literal named (with_quote at))
-unfolding between_move
-quote_grows host named at h = rw (eq-eqb host.quote host.quote refl, h)
-
-in_body : (host : Host) (place : Place) (named : Bool) (held : List ℕ) (c : ℕ) → field_move (body host place named between) held c ≡ between_move host place named between c
-unfolding field_move body_move
-in_body host place named held c = refl
-
-in_one : (host : Host) (place : Place) (named : Bool) (held : List ℕ) (c : ℕ) → field_move (body host place named after_one) held c ≡ between_move host place named after_one c
-unfolding field_move body_move
-in_one host place named held c = refl
-
-in_two : (host : Host) (place : Place) (named : Bool) (held : List ℕ) (c : ℕ) → field_move (body host place named after_two) held c ≡ between_move host place named after_two c
-unfolding field_move body_move
-in_two host place named held c = refl
-
 quote_one : (q : ℕ) → is_quote q ≡ true → all_scalars (q ∷ []) ≡ true
 quote_one q quotes = and_from _ _ (quote-scalar q quotes) refl
 
 -- a literal part can be closed by them
 literal_readies : (Room : ℕ → Type 0) (outer : List Level) (done : List Piece) (openers : List ℕ) (host : Host) (named : Bool) (held : List ℕ) → is_quote host.quote ≡ true → Readies Room (field_state outer done openers (body host literal named between) held)
+unfolding field_move body_move between_move
 literal_readies Room outer done openers host named held quotes = go host.is_long refl
   where
     q : ℕ
     q = host.quote
 
     go : (b : Bool) → host.is_long ≡ b → Readies Room (field_state outer done openers (body host literal named between) held)
-    go false short = closes_last Room _ q (quote_one q quotes) (in_body host literal named held q ∙ quote_closes host named between (and_left _ _ short))
+    go false short = closes_last Room _ q (quote_one q quotes) (rw (eq-eqb q q refl, short))
     go true long =
-        grows_first Room _ (body host literal named after_one) q (quote_one q quotes) (in_body host literal named held q ∙ quote_grows host named between (and_from _ _ long refl))
-        (grows_first Room _ (body host literal named after_two) q (quote_one q quotes) (in_one host literal named (held ++ q ∷ []) q ∙ quote_grows host named after_one (and_from _ _ long refl))
-        (closes_last Room _ q (quote_one q quotes) (in_two host literal named ((held ++ q ∷ []) ++ q ∷ []) q ∙ quote_closes host named after_two (and_right host.is_long _ refl))))
+        grows_first Room _ (body host literal named after_one) q (quote_one q quotes) (rw (eq-eqb q q refl, long))
+        (grows_first Room _ (body host literal named after_two) q (quote_one q quotes) (rw (eq-eqb q q refl, long))
+        (closes_last Room _ q (quote_one q quotes) (rw (eq-eqb q q refl, long))))
 
--- a letter, `}` and `{` in a string
-letter_other : (q : ℕ) → is_quote q ≡ true → 97 == q ≡ false
-unfolding is_quote
-letter_other q quotes = not_quote 97 q quotes refl
-
-brace_other : (q : ℕ) → is_quote q ≡ true → 125 == q ≡ false
-unfolding is_quote
-brace_other q quotes = not_quote 125 q quotes refl
-
+-- a letter, and `}`, in a string
 letter_between : (host : Host) (place : Place) (named : Bool) (at : At) → is_quote host.quote ≡ true → between_move host place named at 97 ≡ grows (body host place named between)
-unfolding between_move is_backslash is_break
-letter_between host place named at quotes = rw (letter_other host.quote quotes)
+unfolding between_move is_backslash is_break is_quote
+letter_between host place named at quotes = rw (not_quote 97 host.quote quotes refl)
 
 letter_escaped : (host : Host) (place : Place) (named : Bool) → escape_move host place named 97 ≡ grows (body host place named between)
 unfolding escape_move is_brace is_return is_break
@@ -212,18 +179,14 @@ letter_moves host place named after_slash held quotes other = letter_escaped hos
 letter_moves host place named after_brace held quotes other = absurd (other refl)
 letter_moves host place named at held quotes other = letter_between host place named between quotes
 
-brace_doubles : (host : Host) (place : Place) (named : Bool) (held : List ℕ) → field_move (body host place named after_brace) held 123 ≡ grows (body host place named between)
-unfolding field_move body_move
-brace_doubles host place named held = refl
+name_ends : (host : Host) (place : Place) (held : List ℕ) → is_quote host.quote ≡ true → field_move (body host place true between) held 125 ≡ grows (body host place false between)
+unfolding field_move body_move between_move is_backslash is_break is_quote
+name_ends host literal held quotes = rw (not_quote 125 host.quote quotes refl)
+name_ends host specification held quotes = rw (not_quote 125 host.quote quotes refl)
 
-name_ends : (host : Host) (place : Place) → is_quote host.quote ≡ true → between_move host place true between 125 ≡ grows (body host place false between)
-unfolding between_move is_backslash is_break
-name_ends host literal quotes = rw (brace_other host.quote quotes)
-name_ends host specification quotes = rw (brace_other host.quote quotes)
-
-field_closes : (host : Host) → is_quote host.quote ≡ true → between_move host specification false between 125 ≡ ends_field
-unfolding between_move is_backslash is_break
-field_closes host quotes = rw (brace_other host.quote quotes)
+field_closes : (host : Host) (held : List ℕ) → is_quote host.quote ≡ true → field_move (body host specification false between) held 125 ≡ ends_field
+unfolding field_move body_move between_move is_backslash is_break is_quote
+field_closes host held quotes = rw (not_quote 125 host.quote quotes refl)
 
 -- the strings round fields that are open have quotes, and a specification is open in a field
 abbrev pub ClosesLevels : Place → List Level → Type 0
@@ -249,7 +212,7 @@ string_finishes Room specification [] done openers host held quotes levels = abs
 string_finishes Room specification (l ∷ ls) done openers host held quotes levels =
     let s = field_state (l ∷ ls) done openers (body host specification false between) held in
     let next = field_ended l ls (held ++ 125 ∷ []) in
-    let move : field_move (body host specification false between) held 125 ≡ ends_field = in_body host specification false held 125 ∙ field_closes host quotes in
+    let move = field_closes host held quotes in
     finishes_after Room s next (125 ∷ []) refl (next, ap (field_moved s 125) move, subst (HasRoomFor Room (frames s) 125) (sym move) tt, refl)
     (string_finishes Room l.place ls l.done l.openers l.host (held ++ 125 ∷ []) levels.0 levels.1)
 
@@ -265,13 +228,13 @@ string_on Room outer done openers m n held c scalar move later = finishes_after 
 between_finishes : (Room : ℕ → Type 0) (place : Place) (outer : List Level) (done : List Piece) (openers : List ℕ) (host : Host) (named : Bool) (held : List ℕ) → is_quote host.quote ≡ true → ClosesLevels place outer → Finishes Room (field_state outer done openers (body host place named between) held)
 between_finishes Room place outer done openers host false held quotes levels = string_finishes Room place outer done openers host held quotes levels
 between_finishes Room place outer done openers host true held quotes levels =
-    string_on Room outer done openers (body host place true between) (body host place false between) held 125 refl (in_body host place true held 125 ∙ name_ends host place quotes)
+    string_on Room outer done openers (body host place true between) (body host place false between) held 125 refl (name_ends host place held quotes)
     (string_finishes Room place outer done openers host (held ++ 125 ∷ []) quotes levels)
 
 -- at any place in it
 pub body_finishes : (Room : ℕ → Type 0) (place : Place) (outer : List Level) (done : List Piece) (openers : List ℕ) (host : Host) (named : Bool) (at : At) (held : List ℕ) → is_quote host.quote ≡ true → ClosesLevels place outer → Finishes Room (field_state outer done openers (body host place named at) held)
 body_finishes Room place outer done openers host named after_brace held quotes levels =
-    string_on Room outer done openers (body host place named after_brace) (body host place named between) held 123 refl (brace_doubles host place named held)
+    string_on Room outer done openers (body host place named after_brace) (body host place named between) held 123 refl (second_brace host place named held)
     (between_finishes Room place outer done openers host named (held ++ 123 ∷ []) quotes levels)
 body_finishes Room place outer done openers host named at held quotes levels =
     string_on Room outer done openers (body host place named at) (body host place named between) held 97 refl (letter_moves host place named at held quotes (λ same. absurd (cc)))
