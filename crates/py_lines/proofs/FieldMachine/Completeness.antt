@@ -101,13 +101,7 @@ module _ (Room : ℕ → Type 0) (F : ℕ → Host → List ℕ → Type 0) (beg
     where
       go : (class : Class) (text : List ℕ) → AreReadIn (with_fields G) (piece class text ∷ ps) rest → ArePassed Room F 0 (piece class text ∷ ps) → openers_through (Some []) (piece class text ∷ ps) ≡ Some after → FieldReaches Room (spelled (piece class text ∷ ps)) (piece class text ∷ ps) after rest
       go mark text h k l = marked_reached text ps after rest h k l
-      go space text h k l = others_reached (piece space text) ps after rest h k l refl
-      go word text h k l = others_reached (piece word text) ps after rest h k l refl
-      go string text h k l = others_reached (piece string text) ps after rest h k l refl
-      go operator text h k l = others_reached (piece operator text) ps after rest h k l refl
-      go comment text h k l = others_reached (piece comment text) ps after rest h k l refl
-      go join text h k l = others_reached (piece join text) ps after rest h k l refl
-      go line_end text h k l = others_reached (piece line_end text) ps after rest h k l refl
+      go class text h k l = others_reached (piece class text) ps after rest h k l refl
 
 -- The machine goes through pieces that are read before the rest, however deep they are.
 pub fields_reached : (ps : List Piece) (after rest : List ℕ) → AreReadIn fielded ps rest → openers_through (Some []) ps ≡ Some after → FieldReaches NoLimit (spelled ps) ps after rest
@@ -121,6 +115,11 @@ pub record FieldReads (pieces : List Piece) (characters : List ℕ) : Type 0 whe
   pub final : IsFieldFinal to
   pub pieces_are : field_pieces to ≡ pieces
 
+-- no mark stands at a text's end
+pub may_begin : (ps : List Piece) → MayBegin ps []
+may_begin [] = refl
+may_begin (p ∷ ps) = tt
+
 -- So every text that has a reading is read.
 pub reading_reached : (pieces : List Piece) (characters : List ℕ) → IsBalancedReading pieces characters → FieldReads pieces characters
 reading_reached pieces characters is =
@@ -133,7 +132,3 @@ reading_reached pieces characters is =
       final = record { outside = refl; closed_all = refl; ends = found.stops (may_begin pieces) };
       pieces_are = found.pieces_are;
     }
-  where
-    may_begin : (ps : List Piece) → MayBegin ps []
-    may_begin [] = refl
-    may_begin (p ∷ ps) = tt

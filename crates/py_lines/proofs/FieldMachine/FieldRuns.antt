@@ -42,21 +42,14 @@ pub colon_opens : (level : Level) (outer : List Level) (done : List Piece) → c
 unfolding code_operator
 colon_opens level outer done = refl
 
-pub brace_starts : start_of 125 ≡ starts.Operator
-unfolding is_operator
-brace_starts = start-operator 125 refl
+-- they are operators that open nothing
+pub brace_is : (start_of 125 ≡ starts.Operator) × (is_opening 125 ≡ false)
+unfolding is_operator is_opening
+brace_is = (start-operator 125 refl, refl)
 
-pub colon_starts : start_of 58 ≡ starts.Operator
-unfolding is_operator
-colon_starts = start-operator 58 refl
-
-pub brace_opens_none : is_opening 125 ≡ false
-unfolding is_opening
-brace_opens_none = refl
-
-pub colon_opens_none : is_opening 58 ≡ false
-unfolding is_opening
-colon_opens_none = refl
+pub colon_is : (start_of 58 ≡ starts.Operator) × (is_opening 58 ≡ false)
+unfolding is_operator is_opening
+colon_is = (start-operator 58 refl, refl)
 
 module _ (Room : ℕ → Type 0) (outer : List Level) (done : List Piece) (openers : List ℕ) (host : Host) where
   abbrev depth : ℕ
@@ -123,7 +116,7 @@ module _ (Room : ℕ → Type 0) (outer : List Level) (done : List Piece) (opene
         let ended : List Piece → FieldScanned = λ ps. field_ended level outer (level.front ++ (spelled ps ++ 125 ∷ [])) in
         let full = some_head (spelled inside) 125 [] in
         goes-to Room (in_string place at held) (ended inside) _ (123 ∷ code)
-        (opens_text place at held code full.0 full.1 (ended inside) full.2 quotes room single here (code_goes place held inside 125 ended is passed brace_starts brace_opens_none (λ ps. brace_ends level outer ps)))
+        (opens_text place at held code full.0 full.1 (ended inside) full.2 quotes room single here (code_goes place held inside 125 ended is passed brace_is.0 brace_is.1 (λ ps. brace_ends level outer ps)))
         (ap (in_string place between) (append_assoc held (123 ∷ []) code))
 
     -- a specification, up to the field's `}`
@@ -160,7 +153,7 @@ module _ (Room : ℕ → Type 0) (outer : List Level) (done : List Piece) (opene
         let all : Goes Room (in_field place held) code ended =
         subst (λ x. Goes Room (in_field place held) x ended) (append_assoc (spelled inside) (58 ∷ []) later)
         (goes-append Room (in_field place held) (begun inside) ended (spelled inside ++ 58 ∷ []) later
-        (code_goes place held inside 58 begun is passed colon_starts colon_opens_none (λ ps. colon_opens level outer ps))
+        (code_goes place held inside 58 begun is passed colon_is.0 colon_is.1 (λ ps. colon_opens level outer ps))
         (specification_goes place held text parts quotes own)) in
         goes-to Room (in_string place at held) ended _ (123 ∷ code) (opens_text place at held code full.0 full.1 ended full.2 quotes room single here all)
         (ap (in_string place between)

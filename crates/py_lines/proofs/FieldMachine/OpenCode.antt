@@ -9,6 +9,7 @@ use Rattle.py_lines.specs.OpenFields.{AreBegun, BeginsList, InFieldCode}
 use Rattle.py_lines.specs.FieldStrings.{Host, Place, literal, specification}
 use Rattle.py_lines.specs.Private.FieldMachine.{before, body, after_brace, Level, FieldScanned, field_state, field_text_start, field_pieces, openers_through, levels_open, frames, may_end}
 use Rattle.py_lines.proofs.Machine.ReadingSteps.{MayBegin}
+use Rattle.py_lines.proofs.FieldMachine.Completeness.{may_begin}
 use Rattle.py_lines.proofs.FieldMachine.Runs.{NoLimit, Goes, StopsAt, goes-append}
 use Rattle.py_lines.proofs.FieldMachine.ListBrackets.{balanced_openers}
 use Rattle.py_lines.proofs.FieldMachine.OpenStrings.{IsInString, open_quotes, open_unmarked, open_begins, string_runs}
@@ -84,10 +85,6 @@ list_end outside depth pieces rest begins_so begun may = go (spelled pieces) ref
     }
     go (c ∷ cs) is = record { to = to; goes = list.goes to (spelled pieces) (some_more c cs (spelled pieces) rest is) run.goes; such = inl in_list }
 
-no_mark_before_end : (pieces : List Piece) → MayBegin pieces []
-no_mark_before_end [] = refl
-no_mark_before_end (p ∷ ps) = tt
-
 -- code of a field goes to the end: outside brackets, and its `{` comes after `start`
 pub data CodeAt (start : List ℕ) (s : FieldScanned) : Type 0 where
   in_code : 0 < levels_open s.outer → s.openers ≡ [] → may_end s.mode ≡ true → before literal s.outer ≡ start ++ byte "{" ∷ [] → CodeAt start s
@@ -96,7 +93,7 @@ pub data CodeAt (start : List ℕ) (s : FieldScanned) : Type 0 where
 pub code_comes : (characters start : List ℕ) → InFieldCode characters start → Comes characters (CodeAt start)
 code_comes characters start is =
     let outside : List ℕ = start ++ 123 ∷ [] in
-    let end = list_end outside is.depth is.pieces [] (subst (λ t. BeginsList outside t is.depth) (sym (append-nil (spelled is.pieces))) is.list) is.begun (no_mark_before_end is.pieces) in
+    let end = list_end outside is.depth is.pieces [] (subst (λ t. BeginsList outside t is.depth) (sym (append-nil (spelled is.pieces))) is.list) is.begun (may_begin is.pieces) in
     record {
       to = end.to;
       goes = subst (λ x. Goes NoLimit field_text_start x end.to) (append_assoc start (123 ∷ []) (spelled is.pieces) ∙ is.spell) end.goes;

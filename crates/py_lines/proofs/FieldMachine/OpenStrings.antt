@@ -16,7 +16,7 @@ use Rattle.py_lines.proofs.Fields.OneReading.{some_head, fields_begin}
 use Rattle.py_lines.proofs.FieldMachine.Runs.{NoLimit, Goes, StopsAt, goes-append, goes-to, goes-grows}
 use Rattle.py_lines.proofs.FieldMachine.StringParts.{settled, MayGoOn, goes_on, body_moves, slash_grows, parts_go, open_no_quote}
 use Rattle.py_lines.proofs.FieldMachine.StringRuns.{opened_goes, IsInLiteral, in_body, at_quote, literal_goes}
-use Rattle.py_lines.proofs.FieldMachine.FieldRuns.{opens_text, code_goes, colon_starts, colon_opens_none, colon_opens}
+use Rattle.py_lines.proofs.FieldMachine.FieldRuns.{opens_text, code_goes, colon_is, colon_opens}
 use Rattle.py_lines.proofs.FieldMachine.Nesting.{fields_run, passed_any}
 
 -- The mode of a string that is open up to a spot, before the rest: in its body; or after its first quote, if it is short and
@@ -122,7 +122,7 @@ string_runs from host spot front rest (in_specification _ round _ _ opening insi
     let text : List ℕ = level.front ++ (spelled inside ++ 58 ∷ []) in
     let depth = length inner.openers + levels_open inner.outer in
     let code_run = code_goes NoLimit inner.outer inner.done inner.openers host (λ d. Fields) (λ d. fields_begin) fields_run Fields round.place opening inside 58 begun are_inside
-    (passed_any Fields (depth + 1) inside (58 ∷ []) are_inside.fit) colon_starts colon_opens_none (λ ps. colon_opens level inner.outer ps) in
+    (passed_any Fields (depth + 1) inside (58 ∷ []) are_inside.fit) colon_is.0 colon_is.1 (λ ps. colon_opens level inner.outer ps) in
     let run = parts_go NoLimit outer [] [] Fields fields_begin (fields_run outer [] []) host specification false between text parts rest [] quotes each (goes_on host specification false (joined parts ++ rest))
     (subst (λ l. has_triple host.quote l ≡ false) (sym (append-nil parts)) open_yet) in
     let mode : FieldMode = body host specification (named_through false parts) run.to in

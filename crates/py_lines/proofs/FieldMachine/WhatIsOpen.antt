@@ -58,74 +58,52 @@ front_at IsOpen characters start at unmarked =
           (pieces_at.goes t at.front (record { first = c; others = cs; more = cs; one_is = is; two_is = is }) goes);
     }
 
--- the open piece of another machine's state, in the list where the string starts
-plain_goes : (from : FieldScanned) (prefix : List ℕ) (q : ℕ) (inner : List ℕ) (m : Mode) → IsPrefix prefix → is_field_prefix prefix ≡ false → is_quote q ≡ true → StopsAt from.mode from.held (prefix ++ q ∷ inner) → steps_from (Some (scanned (field_pieces from) (modes.Opened q) (prefix ++ q ∷ []))) inner ≡ Some (scanned (field_pieces from) m ((prefix ++ q ∷ []) ++ inner)) → Goes NoLimit from (prefix ++ q ∷ inner) (lifted from.outer from.openers (scanned (field_pieces from) m ((prefix ++ q ∷ []) ++ inner)))
-plain_goes from prefix q inner m is no_field quotes stops steps =
-    let done = field_pieces from in
-    let opened_at : Scanned = scanned done (modes.Opened q) (prefix ++ q ∷ []) in
-    let to : Scanned = scanned done m ((prefix ++ q ∷ []) ++ inner) in
-    let lift : Scanned → FieldScanned = lifted from.outer from.openers in
-    subst (λ t. Goes NoLimit from t (lift to)) (append_assoc prefix (q ∷ []) inner)
-    (goes-append NoLimit from (lift opened_at) (lift to) (prefix ++ q ∷ []) inner (plain_opens NoLimit from prefix q inner is no_field quotes stops)
-    (follows NoLimit from.outer from.openers inner opened_at to (inl refl) steps (omega (arith, one_at_most m))))
-
--- a short string without fields
-short_comes : (characters start front : List ℕ) → FrontAt characters start front → IsPlainShortPrefix front → Comes characters (λ s. (in_open_short s.mode ≡ true) × StartsAfter literal start s)
-short_comes characters start front at (short, no_field) =
-    let q = short.quote in
-    let inner : List ℕ = joined short.items ++ short.last in
-    let from = at.from in
-    let done = field_pieces from in
-    let end = short_end done q (short.prefix ++ q ∷ []) short.items short.last short.opens short.holds short.escapes in
-    let to : FieldScanned = lifted from.outer from.openers (scanned done end.to ((short.prefix ++ q ∷ []) ++ inner)) in
-    let run = plain_goes from short.prefix q inner end.to short.begun no_field short.opens (subst (StopsAt from.mode from.held) short.spell at.stops) end.steps in
-    let full = some_head short.prefix q inner in
-    record {
-      to = to;
-      goes = at.goes to full.0 full.1 (short.spell ∙ full.2) (subst (λ t. Goes NoLimit from t to) (sym short.spell) run);
-      such = (end.such, at.start_is);
-    }
-
--- a long one
-long_comes : (characters start front : List ℕ) → FrontAt characters start front → IsPlainLongPrefix front → Comes characters (λ s. (in_open_long s.mode ≡ true) × StartsAfter literal start s)
-long_comes characters start front at (long, no_field) =
-    let q = long.quote in
-    let prefix = long.prefix in
-    let inner : List ℕ = joined long.items ++ long.last in
-    let from = at.from in
-    let done = field_pieces from in
-    let held : List ℕ = prefix ++ (q ∷ q ∷ q ∷ []) in
-    let end = long_end done q held long.items long.last long.opens long.holds.0 long.holds.1 long.escapes in
-    let steps : steps_from (Some (scanned done (modes.Opened q) (prefix ++ q ∷ []))) (q ∷ q ∷ inner) ≡ Some (scanned done end.to ((prefix ++ q ∷ []) ++ (q ∷ q ∷ inner))) =
-    sym (opened_steps (fresh done) prefix q (q ∷ q ∷ inner) long.begun long.opens (stops-free (prefix ++ q ∷ q ∷ q ∷ inner)))
-    ∙ long_opened (fresh done) prefix q inner long.begun long.opens (stops-free (prefix ++ q ∷ q ∷ q ∷ inner)) ∙ end.steps
-    ∙ ap (λ t. Some (scanned done end.to t)) (append_assoc prefix (q ∷ q ∷ q ∷ []) inner ∙ sym (append_assoc prefix (q ∷ []) (q ∷ q ∷ inner))) in
-    let to : FieldScanned = lifted from.outer from.openers (scanned done end.to ((prefix ++ q ∷ []) ++ (q ∷ q ∷ inner))) in
-    let run = plain_goes from prefix q (q ∷ q ∷ inner) end.to long.begun no_field long.opens (subst (StopsAt from.mode from.held) long.spell at.stops) steps in
-    let full = some_head prefix q (q ∷ q ∷ inner) in
-    record {
-      to = to;
-      goes = at.goes to full.0 full.1 (long.spell ∙ full.2) (subst (λ t. Goes NoLimit from t to) (sym long.spell) run);
-      such = (end.such, at.start_is);
-    }
-
--- the literal part of a string with fields
+-- a string, or the literal part of one with fields
 abbrev pub InLiteral : Bool → FieldMode → Type 0
 InLiteral false mode = in_open_short mode ≡ true
 InLiteral true mode = in_open_long mode ≡ true
 
+-- a string without fields, where the other machine is in it
+plain_comes : (characters start front : List ℕ) (at : FrontAt characters start front) (is_long : Bool) (prefix : List ℕ) (q : ℕ) (inner : List ℕ) (m : Mode) → front ≡ prefix ++ q ∷ inner → IsPrefix prefix → is_field_prefix prefix ≡ false → is_quote q ≡ true → InLiteral is_long (plain m) → steps_from (Some (scanned (field_pieces at.from) (modes.Opened q) (prefix ++ q ∷ []))) inner ≡ Some (scanned (field_pieces at.from) m ((prefix ++ q ∷ []) ++ inner)) → Comes characters (λ s. InLiteral is_long s.mode × StartsAfter literal start s)
+plain_comes characters start front at is_long prefix q inner m spell is no_field quotes such steps =
+    let from = at.from in
+    let opened_at : Scanned = scanned (field_pieces from) (modes.Opened q) (prefix ++ q ∷ []) in
+    let to : Scanned = scanned (field_pieces from) m ((prefix ++ q ∷ []) ++ inner) in
+    let lift : Scanned → FieldScanned = lifted from.outer from.openers in
+    let run = goes-append NoLimit from (lift opened_at) (lift to) (prefix ++ q ∷ []) inner
+    (plain_opens NoLimit from prefix q inner is no_field quotes (subst (StopsAt from.mode from.held) spell at.stops))
+    (follows NoLimit from.outer from.openers inner opened_at to (inl refl) steps (omega (arith, one_at_most m))) in
+    let full = some_head prefix q inner in
+    record {
+      to = lift to;
+      goes = at.goes (lift to) full.0 full.1 (spell ∙ full.2) (subst (λ t. Goes NoLimit from t (lift to)) (append_assoc prefix (q ∷ []) inner ∙ sym spell) run);
+      such = (such, at.start_is);
+    }
+
+-- a short one
+short_comes : (characters start front : List ℕ) → FrontAt characters start front → IsPlainShortPrefix front → Comes characters (λ s. InLiteral false s.mode × StartsAfter literal start s)
+short_comes characters start front at (short, no_field) =
+    let end = short_end (field_pieces at.from) short.quote (short.prefix ++ short.quote ∷ []) short.items short.last short.opens short.holds short.escapes in
+    plain_comes characters start front at false short.prefix short.quote (joined short.items ++ short.last) end.to short.spell short.begun no_field short.opens end.such end.steps
+
+-- a long one
+long_comes : (characters start front : List ℕ) → FrontAt characters start front → IsPlainLongPrefix front → Comes characters (λ s. InLiteral true s.mode × StartsAfter literal start s)
+long_comes characters start front at (long, no_field) =
+    let q = long.quote in
+    let prefix = long.prefix in
+    let inner : List ℕ = joined long.items ++ long.last in
+    let done = field_pieces at.from in
+    let end = long_end done q (prefix ++ (q ∷ q ∷ q ∷ [])) long.items long.last long.opens long.holds.0 long.holds.1 long.escapes in
+    plain_comes characters start front at true prefix q (q ∷ q ∷ inner) end.to long.spell long.begun no_field long.opens end.such
+    (sym (opened_steps (fresh done) prefix q (q ∷ q ∷ inner) long.begun long.opens (stops-free (prefix ++ q ∷ q ∷ q ∷ inner)))
+    ∙ long_opened (fresh done) prefix q inner long.begun long.opens (stops-free (prefix ++ q ∷ q ∷ q ∷ inner)) ∙ end.steps
+    ∙ ap (λ t. Some (scanned done end.to t)) (append_assoc prefix (q ∷ q ∷ q ∷ []) inner ∙ sym (append_assoc prefix (q ∷ []) (q ∷ q ∷ inner))))
+
 literal_mode : (host : Host) (place : Place) (is_long : Bool) (mode : FieldMode) → IsHostMode host place mode → place ≡ literal → host.is_long ≡ is_long → InLiteral is_long mode
-literal_mode host place is_long mode (inl (named, at, is, apart)) at_literal long =
-    subst (InLiteral is_long) (sym (is ∙ ap (λ p. body host p named at) at_literal)) (go is_long long)
-  where
-    go : (b : Bool) → host.is_long ≡ b → InLiteral b (body host literal named at)
-    go true h = rw (apart, h)
-    go false h = rw (apart, h)
-literal_mode host place is_long mode (inr (is, place_is, short)) at_literal long = subst (InLiteral is_long) (sym is) (go is_long (sym long ∙ short))
-  where
-    go : (b : Bool) → b ≡ false → InLiteral b (opened host)
-    go true h = absurd (both_ways _ h refl)
-    go false h = refl
+literal_mode host place true mode (inl (named, at, is, apart)) at_literal long = subst (InLiteral true) (sym (is ∙ ap (λ p. body host p named at) at_literal)) (rw (apart, long))
+literal_mode host place false mode (inl (named, at, is, apart)) at_literal long = subst (InLiteral false) (sym (is ∙ ap (λ p. body host p named at) at_literal)) (rw (apart, long))
+literal_mode host place true mode (inr (is, place_is, short)) at_literal long = absurd (both_ways _ short long)
+literal_mode host place false mode (inr (is, place_is, short)) at_literal long = subst (InLiteral false) (sym is) refl
 
 -- the state of a string with fields that is open
 pub record HostAt (characters start front : List ℕ) (host : Host) (spot : Spot) : Type 0 where

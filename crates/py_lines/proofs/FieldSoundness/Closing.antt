@@ -16,7 +16,8 @@ use Rattle.py_lines.proofs.Pieces.OpenBrackets.{closing-not-opening}
 use Rattle.py_lines.proofs.Machine.Starts.{start-operator}
 use Rattle.py_lines.proofs.Machine.LiveTexts.{closing-operator, closing_of-closing, closing-scalar, quote-scalar, scalars-append}
 use Rattle.py_lines.proofs.FieldMachine.Runs.{HasRoomFor, Goes, goes-append, goes-grows, goes-closes, goes-begins}
-use Rattle.py_lines.proofs.FieldMachine.StringParts.{second_brace}
+use Rattle.py_lines.proofs.FieldMachine.StringParts.{goes_on, body_moves, second_brace}
+use Rattle.py_lines.proofs.FieldMachine.FieldRuns.{end_moves, brace_ends}
 use Rattle.py_lines.proofs.FieldSoundness.Holds.{Limit, HoldsLevels}
 
 -- a mode in which the text may end, or a closing bracket follow
@@ -104,11 +105,6 @@ closing-brace : is_closing 125 ≡ true
 unfolding is_closing
 closing-brace = refl
 
--- the `}` of a field whose brackets are closed
-code_closes : (l : Level) (ls : List Level) (done : List Piece) → field_operator (l ∷ ls) done [] 125 ≡ Some (field_ended l ls (l.front ++ (spelled done ++ 125 ∷ [])))
-unfolding code_operator
-code_closes l ls done = refl
-
 -- a text that leads to an end after one that leads to such a mode
 pub finishes_after : (Room : ℕ → Type 0) (s t : FieldScanned) (more : List ℕ) → all_scalars more ≡ true → Goes Room s more t → Finishes Room t → Finishes Room s
 finishes_after Room s t more scalars goes later = record {
@@ -140,7 +136,7 @@ code_finishes Room l ls openers done m held ready later =
     finishes_after Room _ middle first.more first.scalars first.goes
     (finishes_after Room middle (field_ended l ls text) (125 ∷ []) refl
     (goes-begins Room middle (field_ended l ls text) _ 125 [] (first.ready.closing 125 closing-brace)
-    (ap (field_started (l ∷ ls) pieces [] 125) (start-operator 125 (closing-operator 125 closing-brace)) ∙ code_closes l ls pieces) (λ opens. no_opening 125 closing-brace opens) refl)
+    (ap (field_started (l ∷ ls) pieces [] 125) (start-operator 125 (closing-operator 125 closing-brace)) ∙ brace_ends l ls pieces) (λ opens. no_opening 125 closing-brace opens) refl)
     (later text))
 
 quote_one : (q : ℕ) → is_quote q ≡ true → all_scalars (q ∷ []) ≡ true
@@ -184,10 +180,6 @@ unfolding field_move body_move between_move is_backslash is_break is_quote
 name_ends host literal held quotes = rw (not_quote 125 host.quote quotes refl)
 name_ends host specification held quotes = rw (not_quote 125 host.quote quotes refl)
 
-field_closes : (host : Host) (held : List ℕ) → is_quote host.quote ≡ true → field_move (body host specification false between) held 125 ≡ ends_field
-unfolding field_move body_move between_move is_backslash is_break is_quote
-field_closes host held quotes = rw (not_quote 125 host.quote quotes refl)
-
 -- the strings round fields that are open have quotes, and a specification is open in a field
 abbrev pub ClosesLevels : Place → List Level → Type 0
 ClosesLevels literal [] = Unit {0}
@@ -212,7 +204,7 @@ string_finishes Room specification [] done openers host held quotes levels = abs
 string_finishes Room specification (l ∷ ls) done openers host held quotes levels =
     let s = field_state (l ∷ ls) done openers (body host specification false between) held in
     let next = field_ended l ls (held ++ 125 ∷ []) in
-    let move = field_closes host held quotes in
+    let move = body_moves host specification false between held 125 [] (goes_on host specification false (125 ∷ [])) ∙ end_moves host between quotes in
     finishes_after Room s next (125 ∷ []) refl (next, ap (field_moved s 125) move, subst (HasRoomFor Room (frames s) 125) (sym move) tt, refl)
     (string_finishes Room l.place ls l.done l.openers l.host (held ++ 125 ∷ []) levels.0 levels.1)
 

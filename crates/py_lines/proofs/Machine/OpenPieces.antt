@@ -6,7 +6,7 @@ use Rattle.std.proofs.lemmas.Bool.{and_parts, and_from, or_from, eqb-true, both_
 use Rattle.py_lines.specs.Character.{is_word_character, is_word_start, is_quote, is_backslash}
 use Rattle.py_lines.specs.Piece.{string}
 use Rattle.py_lines.specs.PieceGrammar.{IsPrefix, is_item, is_bare, is_short_item, joined, has_triple, IsShortString, IsLongString, MayPrecedePlain}
-use Rattle.py_lines.specs.Private.Machine.{IsFull, HoldsItems, HoldsSome, HoldsQuotes, HoldsPrefix, HoldsLong}
+use Rattle.py_lines.specs.Private.Machine.{IsFull, HoldsItems, HoldsSome, HoldsQuotes, HoldsItemsBefore, HoldsPrefix, HoldsLong}
 use Rattle.py_lines.proofs.Pieces.PieceLists.{joined-append}
 use Rattle.py_lines.proofs.Text.CharacterTests.{prefix_word, quote-not-start, quote-not-word, slash-not-quote}
 use Rattle.py_lines.proofs.Pieces.TripleQuotes.{triple-left, triple-other}
@@ -109,39 +109,27 @@ quote_item q quotes = not_from_false _ (go q quotes)
     go : (q : ℕ) → is_quote q ≡ true → is_backslash q ≡ false
     go q quotes = false_from_ne_true _ (λ slash. both_ways _ (slash-not-quote q slash) quotes)
 
--- after none, one or two quotes, a long string is open
-pub opening_none : (q : ℕ) (held : List ℕ) → HoldsLong q held → HoldsPrefix q held
-opening_none q held long = record {
+-- a long string that more items and others don't close is open after the first of these
+opening_more : (q : ℕ) (held : List ℕ) (more others : List (List ℕ)) → HoldsItemsBefore (more ++ others) q held → list_all is_item more ≡ true → HoldsPrefix q (held ++ joined more)
+opening_more q held more others long each = record {
   prefix = long.prefix;
-  items = long.items;
-  spell = long.spell;
+  items = long.items ++ more;
+  spell = ap (λ t. t ++ joined more) long.spell ∙ append_assoc long.prefix (q ∷ q ∷ q ∷ joined long.items) (joined more) ∙ ap (λ t. long.prefix ++ (q ∷ q ∷ q ∷ t)) (sym (joined-append long.items more));
   begun = long.begun;
   opens = long.opens;
-  each = long.each;
-  open_yet = ap (has_triple q) (append-nil long.items) ∙ triple-left q long.items ((q ∷ []) ∷ (q ∷ []) ∷ []) long.open_yet;
+  each = list_all-append is_item long.items more ∙ and_from _ _ long.each each;
+  open_yet = ap (has_triple q) (append-nil (long.items ++ more)) ∙ triple-left q (long.items ++ more) others (ap (has_triple q) (append_assoc long.items more others) ∙ long.open_yet);
 }
+
+-- so it is after none, one or two quotes
+pub opening_none : (q : ℕ) (held : List ℕ) → HoldsLong q held → HoldsPrefix q held
+opening_none q held long = subst (HoldsPrefix q) (append-nil held) (opening_more q held [] ((q ∷ []) ∷ (q ∷ []) ∷ []) long refl)
 
 pub opening_one : (q : ℕ) (held : List ℕ) → HoldsLong q held → HoldsPrefix q (held ++ q ∷ [])
-opening_one q held long = record {
-  prefix = long.prefix;
-  items = long.items ++ (q ∷ []) ∷ [];
-  spell = ap (λ t. t ++ q ∷ []) long.spell ∙ append_assoc long.prefix (q ∷ q ∷ q ∷ joined long.items) (q ∷ []) ∙ ap (λ t. long.prefix ++ (q ∷ q ∷ q ∷ t)) (sym (joined-push long.items (q ∷ [])));
-  begun = long.begun;
-  opens = long.opens;
-  each = list_all-push is_item long.items (q ∷ []) long.each (quote_item q long.opens);
-  open_yet = ap (has_triple q) (append-nil (long.items ++ (q ∷ []) ∷ [])) ∙ triple-left q (long.items ++ (q ∷ []) ∷ []) ((q ∷ []) ∷ []) (ap (has_triple q) (append_assoc long.items ((q ∷ []) ∷ []) ((q ∷ []) ∷ [])) ∙ long.open_yet);
-}
+opening_one q held long = opening_more q held ((q ∷ []) ∷ []) ((q ∷ []) ∷ []) long (and_from _ _ (quote_item q long.opens) refl)
 
 pub opening_two : (q : ℕ) (held : List ℕ) → HoldsLong q held → HoldsPrefix q (held ++ q ∷ q ∷ [])
-opening_two q held long = record {
-  prefix = long.prefix;
-  items = long.items ++ (q ∷ []) ∷ (q ∷ []) ∷ [];
-  spell = ap (λ t. t ++ q ∷ q ∷ []) long.spell ∙ append_assoc long.prefix (q ∷ q ∷ q ∷ joined long.items) (q ∷ q ∷ []) ∙ ap (λ t. long.prefix ++ (q ∷ q ∷ q ∷ t)) (sym (joined-append long.items ((q ∷ []) ∷ (q ∷ []) ∷ [])));
-  begun = long.begun;
-  opens = long.opens;
-  each = list_all-append is_item long.items ((q ∷ []) ∷ (q ∷ []) ∷ []) ∙ and_from _ _ long.each (and_from _ _ (quote_item q long.opens) (and_from _ _ (quote_item q long.opens) refl));
-  open_yet = ap (has_triple q) (append-nil (long.items ++ (q ∷ []) ∷ (q ∷ []) ∷ [])) ∙ long.open_yet;
-}
+opening_two q held long = opening_more q held ((q ∷ []) ∷ (q ∷ []) ∷ []) [] long (and_from _ _ (quote_item q long.opens) (and_from _ _ (quote_item q long.opens) refl))
 
 -- after the opening quote of a short string
 pub opened_items : (q : ℕ) (held : List ℕ) → HoldsQuotes (q ∷ []) q held → HoldsItems q held
