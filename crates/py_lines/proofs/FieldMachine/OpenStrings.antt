@@ -34,24 +34,18 @@ pub open_quotes : (host : Host) (spot : Spot) (front rest : List ℕ) → IsOpen
 open_quotes host spot front rest (in_literal _ _ _ prefix parts is spell begun raw quotes each open_yet) = quotes
 open_quotes host spot front rest (in_specification _ round _ _ opening inside parts is spell string may are_inside each open_yet) = open_quotes host round opening _ string
 
-prefix_unmarked : (prefix more : List ℕ) → is_field_prefix prefix ≡ true → begins is_mark (prefix ++ more) ≡ false
-prefix_unmarked prefix more is =
-    let letters = field_letters prefix is in
-    subst (λ t. begins is_mark (t ++ more) ≡ false) (sym letters.is) (start-not-mark letters.first letters.starts)
-
-pub open_unmarked : (host : Host) (spot : Spot) (front rest more : List ℕ) → IsOpenString host spot front rest → begins is_mark (front ++ more) ≡ false
-open_unmarked host spot front rest more (in_literal _ _ _ prefix parts is spell begun raw quotes each open_yet) =
-    subst (λ t. begins is_mark (t ++ more) ≡ false) (sym spell) (subst (λ t. begins is_mark t ≡ false) (sym (append_assoc prefix _ more)) (prefix_unmarked prefix _ begun))
-open_unmarked host spot front rest more (in_specification _ round _ _ opening inside parts is spell string may are_inside each open_yet) =
-    subst (λ t. begins is_mark (t ++ more) ≡ false) (sym spell) (subst (λ t. begins is_mark t ≡ false) (sym (append_assoc opening _ more)) (open_unmarked host round opening _ _ string))
-
-pub open_begins : (host : Host) (spot : Spot) (front rest more : List ℕ) → IsOpenString host spot front rest → (c : ℕ) × (cs : List ℕ) × (front ++ more ≡ c ∷ cs)
+pub open_begins : (host : Host) (spot : Spot) (front rest more : List ℕ) → IsOpenString host spot front rest → (c : ℕ) × (cs : List ℕ) × (front ++ more ≡ c ∷ cs) × (is_mark c ≡ false)
 open_begins host spot front rest more (in_literal _ _ _ prefix parts is spell begun raw quotes each open_yet) =
     let letters = field_letters prefix begun in
-    (letters.first, _, ap (λ t. t ++ more) (spell ∙ ap (λ t. t ++ (quotes_of host ++ joined parts)) letters.is))
+    (letters.first, _, ap (λ t. t ++ more) (spell ∙ ap (λ t. t ++ (quotes_of host ++ joined parts)) letters.is), start-not-mark letters.first letters.starts)
 open_begins host spot front rest more (in_specification _ round _ _ opening inside parts is spell string may are_inside each open_yet) =
     let inner = open_begins host round opening _ ((123 ∷ spelled inside ++ (58 ∷ joined parts)) ++ more) string in
-    (inner.0, inner.1, ap (λ t. t ++ more) spell ∙ append_assoc opening (123 ∷ spelled inside ++ (58 ∷ joined parts)) more ∙ inner.2)
+    (inner.0, inner.1, ap (λ t. t ++ more) spell ∙ append_assoc opening (123 ∷ spelled inside ++ (58 ∷ joined parts)) more ∙ inner.2, inner.3)
+
+pub open_unmarked : (host : Host) (spot : Spot) (front rest more : List ℕ) → IsOpenString host spot front rest → begins is_mark (front ++ more) ≡ false
+open_unmarked host spot front rest more string =
+    let first = open_begins host spot front rest more string in
+    subst (λ t. begins is_mark t ≡ false) (sym first.2) first.3
 
 -- the `{` of a field, and its code
 pub open_code : (outer : List Level) (done : List Piece) (openers : List ℕ) (host : Host) (place : Place) (mode : FieldMode) (held code after : List ℕ) (c : ℕ) (cs : List ℕ) (t : FieldScanned) → IsInString host place false mode (123 ∷ after) → is_quote host.quote ≡ true → code ≡ c ∷ cs → (place ≡ literal → begins_open code ≡ false) → Goes NoLimit (field_fresh (record { done = done; openers = openers; host = host; place = place; front = held ++ 123 ∷ [] } ∷ outer) [] []) code t → Goes NoLimit (field_state outer done openers mode held) (123 ∷ code) t

@@ -1,7 +1,7 @@
 -- The machine with fields goes through the text of a piece that has no fields.
 use Rattle.std.proofs.Common.{◌≡◌, ℕ, ◌≤◌, ◌<◌, Bool, true, false, ◌&&◌, ◌||◌, ◌==◌, Option, Some, List, [], ◌∷◌, ◌++◌, length, refl, sym, ap, ◌∙◌, subst, inl, inr, append_assoc, length-append, arith}
 use Rattle.std.specs.List.{list_all, list_any}
-use Rattle.std.proofs.lemmas.Bool.{and_parts, or_from, both_ways, cond_both, eqb-true, false_from_ne_true}
+use Rattle.std.proofs.lemmas.Bool.{and_parts, or_from, both_ways, cond_both, eqb-true, false_from_ne_true, and_right}
 use Rattle.py_lines.specs.Character.{is_space, is_word_character, is_word_start, is_quote, is_operator, is_line_feed, is_return}
 use Rattle.py_lines.specs.Piece.{Class, mark, space, word, string, operator, comment, join, line_end, Piece, begins, is_mark_class}
 use Rattle.py_lines.specs.PieceGrammar.{feed, return_feed, return, is_prefix, IsNoneOr, IsPrefix, InPlainClass, MayPrecedePlain, MayPrecedeIn}
@@ -16,7 +16,7 @@ use Rattle.py_lines.specs.Private.FieldMachine.{FieldMode, plain, grows, Level, 
 use Rattle.py_lines.proofs.Pieces.PieceLists.{piece}
 use Rattle.py_lines.proofs.Text.CharacterTests.{each_of, prefix_word, quote-not-word}
 use Rattle.py_lines.proofs.Machine.Starts.{start-space, start-word, start-operator, start-feed, start-return, start-quote, start-hash, start-slash}
-use Rattle.py_lines.proofs.Machine.PieceSteps.{scanned, StopsBefore, Finds, begun_by, stops-free, steps_word}
+use Rattle.py_lines.proofs.Machine.PieceSteps.{scanned, StopsBefore, Finds, begun_by, stops-free, steps_word, return-is-one, feed-is-one}
 use Rattle.py_lines.proofs.Machine.Spellings.{prefix_spelling}
 use Rattle.py_lines.proofs.Machine.StringSteps.{opens_at, opened_steps}
 use Rattle.py_lines.proofs.Machine.ReadingSteps.{find}
@@ -111,31 +111,19 @@ no_quotes (c ∷ cs) h =
     let parts = and_parts (is_word_character c) (list_all is_word_character cs) h in
     or_from _ _ (false_from_ne_true _ (λ quotes. both_ways _ (quote-not-word c quotes) parts.0)) (no_quotes cs parts.1)
 
-ten_feeds : is_line_feed 10 ≡ true
-unfolding is_line_feed
-ten_feeds = refl
-
-thirteen_returns : is_return 13 ≡ true
-unfolding is_return
-thirteen_returns = refl
-
 plain_start : (class : Class) (text : List ℕ) → IsPlainClass class → InPlainClass class text → StartsPlain text
 plain_start space text plain_class (c, cs, is, run) =
     record { first = c; others = cs; is = is; start = _; starts = start-space c (and_parts _ _ (subst (λ t. list_all is_space t ≡ true) is run)).0; quiet = inl refl }
 plain_start word text plain_class (c, cs, is, opens, run) = record { first = c; others = cs; is = is; start = _; starts = start-word c opens; quiet = inr (no_quotes cs run) }
 plain_start comment text plain_class (c, cs, is, opens, holds) = record { first = c; others = cs; is = is; start = _; starts = start-hash c opens; quiet = inl refl }
 plain_start join text plain_class (c, cs, is, slashes, line) = record { first = c; others = cs; is = is; start = _; starts = start-slash c slashes; quiet = inl refl }
-plain_start line_end text plain_class (feed is) = record { first = 10; others = []; is = is; start = _; starts = start-feed 10 ten_feeds; quiet = tt }
-plain_start line_end text plain_class (return_feed is) = record { first = 13; others = 10 ∷ []; is = is; start = _; starts = start-return 13 thirteen_returns; quiet = inl refl }
-plain_start line_end text plain_class (return is) = record { first = 13; others = []; is = is; start = _; starts = start-return 13 thirteen_returns; quiet = inl refl }
+plain_start line_end text plain_class (feed is) = record { first = 10; others = []; is = is; start = _; starts = start-feed 10 feed-is-one; quiet = tt }
+plain_start line_end text plain_class (return_feed is) = record { first = 13; others = 10 ∷ []; is = is; start = _; starts = start-return 13 return-is-one; quiet = inl refl }
+plain_start line_end text plain_class (return is) = record { first = 13; others = []; is = is; start = _; starts = start-return 13 return-is-one; quiet = inl refl }
 plain_start class text plain_class is = absurd plain_class
 
 either_prefix : (a b q : Bool) → (a || b) && q ≡ false → (a && q ≡ false) × (b && q ≡ false)
-either_prefix true b q h = (h, and_second b q h)
-  where
-    and_second : (x y : Bool) → y ≡ false → x && y ≡ false
-    and_second true y k = k
-    and_second false y k = refl
+either_prefix true b q h = (h, and_right b q h)
 either_prefix false b q h = (refl, h)
 
 -- what may stand before the rest with fields may do so without them

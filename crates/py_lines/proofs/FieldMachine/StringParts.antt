@@ -1,7 +1,7 @@
 -- The machine with fields goes through the parts of a string, where it goes through the fields among them.
 use Rattle.std.proofs.Common.{◌≡◌, ℕ, Bool, true, false, not, ◌&&◌, ◌||◌, ◌==◌, eqb, List, [], ◌∷◌, ◌++◌, refl, sym, ap, ◌∙◌, subst, ⊎_elim, append_assoc, append-nil}
 use Rattle.std.specs.Prelude.{if◌then◌else◌}
-use Rattle.std.proofs.lemmas.Bool.{or_parts, both_ways, eq-eqb, eqb-true, cases_Bool}
+use Rattle.std.proofs.lemmas.Bool.{or_parts, both_ways, eq-eqb, eqb-true, cases_Bool, or_left, or_right, and_right, and_from}
 use Rattle.py_lines.specs.Character.{is_one_of, is_quote, is_line_feed, is_return, is_break, is_backslash, is_barred, is_brace}
 use Rattle.py_lines.specs.Piece.{Piece, begins}
 use Rattle.py_lines.specs.PieceGrammar.{joined, begins_triple, has_triple}
@@ -11,6 +11,10 @@ use Rattle.py_lines.proofs.Text.CharacterTests.{none_of, not_quote, slash-not-qu
 use Rattle.py_lines.proofs.Fields.Elsewhere.{none_false}
 use Rattle.py_lines.proofs.Fields.Parts.{BeginOpen, ordinary, names_is, name-not-brace, name-not-return}
 use Rattle.py_lines.proofs.FieldMachine.Runs.{Goes, goes-append, goes-to, goes-grows}
+
+pub kept_or : (a b : Bool) → b ≡ false → a || b ≡ a
+kept_or true b h = refl
+kept_or false b h = h
 
 and_true : (x : Bool) → x && true ≡ x
 and_true true = refl
@@ -82,12 +86,7 @@ brace_stays : (host : Host) (place : Place) (named : Bool) (c : ℕ) → eqb c 1
 unfolding is_brace
 brace_stays host literal named c is itself = ap (λ n. grows (body host literal n between)) (sym (none_false named))
 brace_stays host specification true c is itself = refl
-brace_stays host specification false c is itself = absurd (both_ways _ (ap not (or_true (eqb c 123) (eqb c 125) is)) itself)
-  where
-    or_true : (x y : Bool) → y ≡ true → x || (y || false) ≡ true
-    or_true true y h = refl
-    or_true false true h = refl
-    or_true false false h = absurd (both_ways _ refl h)
+brace_stays host specification false c is itself = absurd (both_ways _ (ap not (or_right (eqb c 123) _ (or_left (eqb c 125) false is))) itself)
 
 -- a character that stands for itself
 itself_grows : (host : Host) (place : Place) (named : Bool) (at : At) (c : ℕ) → eqb c host.quote ≡ false → is_backslash c ≡ false → is_break c && not host.is_long ≡ false → is_ordinary place named c ≡ true → between_move host place named at c ≡ grows (body host place (named_after named (c ∷ [])) between)
@@ -180,13 +179,9 @@ open_moves host place at quotes = rw (not_quote 123 host.quote quotes open_no_qu
 name_may : (host : Host) (place : Place) (c : ℕ) → names host c ≡ true → may_be_escaped host place c ≡ true
 unfolding is_break
 name_may host literal c h = refl
-name_may host specification c h = subst (λ x. host.is_long || not (is_break x) ≡ true) (sym (names_is host c h)) (go host.is_long)
-  where
-    go : (b : Bool) → b || true ≡ true
-    go true = refl
-    go false = refl
+name_may host specification c h = subst (λ x. host.is_long || not (is_break x) ≡ true) (sym (names_is host c h)) (or_right host.is_long true refl)
 
-quote_no_end : (q : ℕ) → is_quote q ≡ true → eqb q 125 ≡ false
+pub quote_no_end : (q : ℕ) → is_quote q ≡ true → eqb q 125 ≡ false
 unfolding is_quote
 quote_no_end q quotes = none_of (λ d. eqb d 125) (39 ∷ 34 ∷ []) q refl quotes
 
@@ -200,26 +195,19 @@ slash_unnamed named s slashes = ap (λ b. named && not b) (none_of (λ d. eqb d 
 
 return_unnamed : (named : Bool) (s r f : ℕ) → is_return r ≡ true → named_after named (s ∷ r ∷ f ∷ []) ≡ named
 unfolding is_return
-return_unnamed named s r f returns = ap (λ b. named || (is_backslash s && b)) (none_of (λ d. eqb d 78) (13 ∷ []) r refl returns) ∙ go named (is_backslash s)
-  where
-    go : (x y : Bool) → x || (y && false) ≡ x
-    go true y = refl
-    go false true = refl
-    go false false = refl
+return_unnamed named s r f returns =
+    ap (λ b. named || (is_backslash s && b)) (none_of (λ d. eqb d 78) (13 ∷ []) r refl returns) ∙ kept_or named (is_backslash s && false) (and_right _ _ refl)
 
 name_named : (host : Host) (named : Bool) (s c b : ℕ) → is_backslash s ≡ true → names host c ≡ true → named_after named (s ∷ c ∷ b ∷ []) ≡ true
-name_named host named s c b slashes is_name = subst (λ x. named || (is_backslash s && (x == 78)) ≡ true) (sym (names_is host c is_name)) (go named (is_backslash s) slashes)
-  where
-    go : (x y : Bool) → y ≡ true → x || (y && true) ≡ true
-    go true y h = refl
-    go false true h = refl
-    go false false h = h
+name_named host named s c b slashes is_name =
+    subst (λ x. named || (is_backslash s && (x == 78)) ≡ true) (sym (names_is host c is_name)) (or_right named _ (and_from (is_backslash s) true slashes refl))
 
-field_unnamed : (c : ℕ) (cs : List ℕ) → named_after false (123 ∷ c ∷ cs) ≡ false
+pub field_unnamed : (rest : List ℕ) → named_after false (123 ∷ rest) ≡ false
 unfolding is_backslash
-field_unnamed c [] = refl
-field_unnamed c (d ∷ []) = refl
-field_unnamed c (d ∷ e ∷ cs) = refl
+field_unnamed [] = refl
+field_unnamed (c ∷ []) = refl
+field_unnamed (c ∷ d ∷ []) = refl
+field_unnamed (c ∷ d ∷ e ∷ cs) = refl
 
 module _ (Room : ℕ → Type 0) (outer : List Level) (done : List Piece) (openers : List ℕ) where
   -- the string is open in this list
@@ -352,7 +340,7 @@ module _ (Room : ℕ → Type 0) (outer : List Level) (done : List Piece) (opene
       record {
         to = between;
         goes = goes-to Room _ _ _ part (go host place at held part is quotes single (first head.0 head.1 part head.2 here))
-            (ap (λ n. within (body host place n between) (held ++ part)) (sym (subst (λ t. named_after false t ≡ false) (sym head.2) (field_unnamed head.0 head.1))));
+            (ap (λ n. within (body host place n between) (held ++ part)) (sym (subst (λ t. named_after false t ≡ false) (sym head.2) (field_unnamed (head.0 ∷ head.1)))));
         on = goes_on host place _ rest;
         open_yet = seen_later host.quote at part tail open_yet;
       }

@@ -1,7 +1,7 @@
 -- The machine with fields goes through a string with fields, where it goes through these.
 use Rattle.std.proofs.Common.{◌≡◌, ℕ, Bool, true, false, not, ◌&&◌, ◌||◌, ◌==◌, eqb, List, [], ◌∷◌, ◌++◌, refl, sym, ap, ◌∙◌, subst, inr, append_assoc, append-nil}
 use Rattle.std.specs.List.{list_all, list_any}
-use Rattle.std.proofs.lemmas.Bool.{and_parts, or_parts, both_ways, eq-eqb, eqb-true, false_from_ne_true}
+use Rattle.std.proofs.lemmas.Bool.{and_parts, or_parts, both_ways, eq-eqb, eqb-true, false_from_ne_true, or_right}
 use Rattle.py_lines.specs.Character.{is_word_character, is_word_start, is_quote, is_r}
 use Rattle.py_lines.specs.Piece.{Piece, string, begins}
 use Rattle.py_lines.specs.PieceGrammar.{begins_triple, has_triple, joined, is_prefix, MayPrecedeIn}
@@ -60,10 +60,6 @@ part_begins F begin host place named part rest (double b c is a d e f) = (b, c �
 part_begins F begin host place named part rest (field is a b) =
     let head = begin host part is in
     (123, head.0 ∷ head.1, head.2)
-
-or_second : (x y : Bool) → y ≡ true → x || y ≡ true
-or_second true y h = refl
-or_second false y h = h
 
 three_more : (xs : List ℕ) (q : ℕ) → ((xs ++ q ∷ []) ++ q ∷ []) ++ q ∷ [] ≡ xs ++ (q ∷ q ∷ q ∷ [])
 three_more xs q = append_assoc (xs ++ q ∷ []) (q ∷ []) (q ∷ []) ∙ append_assoc xs (q ∷ []) (q ∷ q ∷ [])
@@ -225,7 +221,7 @@ module _ (Room : ℕ → Type 0) (from : FieldScanned) where
           held = held;
           goes = goes-append Room from (inside mode text) last text (q ∷ []) goes closing;
           pieces_are = refl;
-          stops = stops_empty host held rest (before prefix q whole (inr (or_second (is_prefix prefix) (is_field_prefix prefix) begun)) quotes);
+          stops = stops_empty host held rest (before prefix q whole (inr (or_right (is_prefix prefix) (is_field_prefix prefix) begun)) quotes);
         }
 
     pub field_string_found : (G : Host → List ℕ → Type 0) (text rest : List ℕ) → IsFieldString F text → MayPrecedeIn (with_fields G) string text rest → StopsAt from.mode from.held (text ++ rest) → FieldFinds Room from text (piece string text ∷ []) from.openers rest

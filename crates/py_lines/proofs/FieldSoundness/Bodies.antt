@@ -3,7 +3,7 @@ use Rattle.std.proofs.Common.{◌≡◌, ◌==◌, ℕ, Bool, true, false, not, 
 use Rattle.std.specs.Prelude.{if◌then◌else◌}
 use Rattle.std.specs.Str.{byte}
 use Rattle.std.specs.List.{list_any}
-use Rattle.std.proofs.lemmas.Bool.{cond_both, and_parts, and_from, or_cases, eqb-true, both_ways, not_from_false, and_left, and_right}
+use Rattle.std.proofs.lemmas.Bool.{cond_both, and_parts, and_from, or_cases, eqb-true, both_ways, not_from_false, and_left, and_right, or_right}
 use Rattle.py_lines.specs.Character.{is_quote, is_return, is_break, is_backslash, is_brace, is_barred}
 use Rattle.py_lines.specs.Piece.{string}
 use Rattle.py_lines.specs.PieceGrammar.{is_prefix, IsNoneOr, is_bare, joined, has_triple, InClassIn, MayPrecedeIn}
@@ -13,10 +13,11 @@ use Rattle.py_lines.specs.Private.Machine.{IsFull}
 use Rattle.py_lines.specs.Private.FieldMachine.{At, between, after_one, after_two, FieldMode, body, FieldMove, grows, closes, breaks, begins_code, opens_field, ends_field, refused, Level, is_after_two, with_quote, closing_move, opening_move, ending_move, between_move}
 use Rattle.py_lines.proofs.Pieces.TripleQuotes.{triple-left, triple-other}
 use Rattle.py_lines.proofs.Text.CharacterTests.{none_of, barred}
-use Rattle.py_lines.proofs.Machine.OpenPieces.{full-append, joined-push, not_one}
+use Rattle.py_lines.proofs.Machine.OpenPieces.{full-append, joined-push, not_one, quote-not-slash}
 use Rattle.py_lines.proofs.Fields.Prefixes.{plain_quotes, field_letters}
 use Rattle.py_lines.proofs.Fields.SameStrings.{first_quote}
 use Rattle.py_lines.proofs.FieldSoundness.Holds.{Limit, refit, HoldsParts, HoldsBetween, HoldsAt, HoldsMode}
+use Rattle.py_lines.proofs.FieldMachine.StringParts.{quote_no_end}
 
 -- parts, one more after others
 pub parts-push : (F : Host → List ℕ → Type 0) (host : Host) (place : Place) (named : Bool) (parts : List (List ℕ)) (part rest : List ℕ) → AreParts F host place named parts (part ++ rest) → IsPart F host place (named_through named parts) part rest → AreParts F host place named (parts ++ part ∷ []) rest
@@ -48,22 +49,10 @@ plain_one : (b : Bool) → b && true ≡ false → b ≡ false
 plain_one true e = e
 plain_one false e = refl
 
-or_true : (a : Bool) → a || true ≡ true
-or_true true = refl
-or_true false = refl
-
 -- characters
-quote-not-brace : (q : ℕ) → is_quote q ≡ true → q == 125 ≡ false
-unfolding is_quote
-quote-not-brace q h = none_of (λ c. c == 125) (39 ∷ 34 ∷ []) q refl h
-
 quote-not-open : (q : ℕ) → is_quote q ≡ true → q == 123 ≡ false
 unfolding is_quote
 quote-not-open q h = none_of (λ c. c == 123) (39 ∷ 34 ∷ []) q refl h
-
-quote-not-slash : (q : ℕ) → is_quote q ≡ true → is_backslash q ≡ false
-unfolding is_quote is_backslash
-quote-not-slash q h = none_of is_backslash (39 ∷ 34 ∷ []) q refl h
 
 pub slash-not-closing : (c : ℕ) → is_backslash c ≡ true → c == 125 ≡ false
 unfolding is_backslash
@@ -170,7 +159,7 @@ module _ (limit : Limit) (outer : List Level) (depth : ℕ) (host : Host) where
 
   ending : (place : Place) (named : Bool) (held : List ℕ) (c : ℕ) → HoldsParts limit outer depth host place named held (c ∷ []) → c == 125 ≡ true → c == host.quote ≡ false → is_backslash c ≡ false → is_break c && not host.is_long ≡ false → Moved place held c (ending_move host place named)
   ending literal named held c h is other no_slash stays =
-      let itself : is_ordinary literal named c ≡ true = subst (λ (d : ℕ). named || not (d == 123) ≡ true) (sym (eqb-true c 125 is)) (or_true named) in
+      let itself : is_ordinary literal named c ≡ true = subst (λ (d : ℕ). named || not (d == 123) ≡ true) (sym (eqb-true c 125 is)) (or_right named true refl) in
       (refl, bare_one literal named false held c h other no_slash stays itself (ended_named named (c == 125) is))
   ending specification true held c h is other no_slash stays = (refl, bare_one specification true false held c h other no_slash stays refl (ended_named true (c == 125) is))
   ending specification false held c h is other no_slash stays = (refl, eqb-true c 125 is, subst (λ (d : ℕ). HoldsParts limit outer depth host specification false held (d ∷ [])) (eqb-true c 125 is) h)
@@ -199,10 +188,10 @@ module _ (limit : Limit) (outer : List Level) (depth : ℕ) (host : Host) where
   quote_part : (place : Place) (named : Bool) (rest : List ℕ) → is_quote host.quote ≡ true → host.is_long ≡ true → IsPart (limit.FieldsAt depth) host place named (host.quote ∷ []) rest
   quote_part place named rest quotes long =
       bare host.quote refl (quote-not-slash host.quote quotes) (ap (λ b. b || not (is_barred host.quote host.quote)) long)
-      (ordinary_character place named host.quote (and_left _ _ (quote-not-open host.quote quotes)) (quote-not-brace host.quote quotes))
+      (ordinary_character place named host.quote (and_left _ _ (quote-not-open host.quote quotes)) (quote_no_end host.quote quotes))
 
   quote_named : (named : Bool) → is_quote host.quote ≡ true → named_after named (host.quote ∷ []) ≡ named
-  quote_named named quotes = kept_named named (host.quote == 125) (quote-not-brace host.quote quotes)
+  quote_named named quotes = kept_named named (host.quote == 125) (quote_no_end host.quote quotes)
 
   -- after one quote of a long string, and after two
   pub one_quote : (place : Place) (named : Bool) (text next : List ℕ) → host.is_long ≡ true → HoldsBetween limit outer depth host place named text (host.quote ∷ []) → HoldsParts limit outer depth host place named (text ++ host.quote ∷ []) next

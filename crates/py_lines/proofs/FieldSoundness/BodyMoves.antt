@@ -1,6 +1,6 @@
 -- What each character does in a string with fields, at each place in it.
 use Rattle.std.proofs.Common.{◌≡◌, ◌==◌, ℕ, Bool, true, false, not, ◌||◌, ◌&&◌, List, [], ◌∷◌, ◌++◌, refl, sym, ap, ◌∙◌, subst, append_assoc}
-use Rattle.std.proofs.lemmas.Bool.{cond_both, and_left, and_right, eqb-true, and_from}
+use Rattle.std.proofs.lemmas.Bool.{cond_both, and_left, and_right, eqb-true, and_from, or_right}
 use Rattle.py_lines.specs.Character.{is_quote, is_line_feed, is_return, is_break, is_backslash, is_brace}
 use Rattle.py_lines.specs.FieldStrings.{Host, Place, literal, specification, may_be_escaped, names, slash, escape, escaped_end, name, double}
 use Rattle.py_lines.specs.Private.FieldMachine.{At, between, after_one, after_two, after_slash, after_return, after_name, after_brace, FieldMove, Level, between_move, is_barred_escape, escape_move, body_move}
@@ -8,14 +8,7 @@ use Rattle.py_lines.proofs.Text.CharacterTests.{slash-not-quote, not_quote, retu
 use Rattle.py_lines.proofs.Fields.Parts.{names_letter, name-not-brace, name-not-return}
 use Rattle.py_lines.proofs.FieldSoundness.Holds.{Limit, HoldsParts, HoldsBetween, HoldsAt}
 use Rattle.py_lines.proofs.FieldSoundness.Bodies.{kept_named, slash-not-closing, return-not-letter, longer_next, between_next, push_between, Moved, between_moves, one_quote, two_quotes, first_quotes, second_quote, third_quote}
-
-kept_or : (a b : Bool) → b ≡ false → a || b ≡ a
-kept_or true b h = refl
-kept_or false b h = h
-
-true_or : (a b : Bool) → b ≡ true → a || b ≡ true
-true_or true b h = refl
-true_or false b h = h
+use Rattle.py_lines.proofs.FieldMachine.StringParts.{kept_or}
 
 may_stand_escaped : (host : Host) (place : Place) (c : ℕ) → is_barred_escape host place c ≡ false → may_be_escaped host place c ≡ true
 may_stand_escaped host literal c h = refl
@@ -83,7 +76,7 @@ module _ (limit : Limit) (outer : List Level) (depth : ℕ) (host : Host) where
         refl,
         subst (λ t. HoldsBetween limit outer depth host place true t []) (sym (ap (λ t. t ++ c ∷ []) is ∙ append_assoc text (s ∷ n ∷ []) (c ∷ [])))
             (push_between limit outer depth host place named true text (s ∷ n ∷ c ∷ []) [] (longer_next limit outer depth host place named text (s ∷ []) (n ∷ c ∷ []) h)
-            (λ more. name s n c refl slashes is_name (eqb-true c 123 braces)) refl tt (true_or named (is_backslash s && (n == 78)) (and_from _ _ slashes (names_letter host n is_name)))),
+            (λ more. name s n c refl slashes is_name (eqb-true c 123 braces)) refl tt (or_right named (is_backslash s && (n == 78)) (and_from _ _ slashes (names_letter host n is_name)))),
       ))
       (λ no_brace.
       between_two place named held c

@@ -22,15 +22,9 @@ use Rattle.py_lines.proofs.FieldSoundness.OpenLists.{OpensIf, opens-none, opens-
 use Rattle.py_lines.proofs.FieldSoundness.Holds.{Limit, OpensSpecification, HoldsParts, HoldsBetween, HoldsList, IsSingle, HoldsLevel, HoldsLevels, AtStart, IsFieldSound}
 use Rattle.py_lines.proofs.FieldSoundness.Bodies.{longer_next, push_between}
 use Rattle.py_lines.proofs.FieldSoundness.Lists.{FieldSoundIf, not_specification, list_more, levels_more, adds_neutral, fresh_sound}
+use Rattle.py_lines.proofs.FieldMachine.StringParts.{field_unnamed}
 
 -- a field among the parts of a string
-named_field : (rest : List ℕ) → named_after false (123 ∷ rest) ≡ false
-unfolding is_backslash
-named_field [] = refl
-named_field (c ∷ []) = refl
-named_field (c ∷ d ∷ []) = refl
-named_field (c ∷ d ∷ e ∷ cs) = refl
-
 bare_field : (q : ℕ) (rest : List ℕ) → is_quote q ≡ true → is_bare (λ d. d == q) (123 ∷ rest) ≡ false
 unfolding is_quote
 bare_field q [] quotes = not_quote 123 q quotes refl
@@ -49,7 +43,7 @@ field_end limit level outer rest read h levels is single spell =
       spell = spell;
       mode = subst (λ t. HoldsBetween limit outer depth level.host level.place false t []) front
           (push_between limit outer depth level.host level.place false false h.text (123 ∷ rest) [] (longer_next limit outer depth level.host level.place false h.text (123 ∷ []) rest h.parts)
-          (λ more. field is single refl) (bare_field level.host.quote rest h.parts.quotes) tt (named_field rest));
+          (λ more. field is single refl) (bare_field level.host.quote rest h.parts.quotes) tt (field_unnamed rest));
       list = list_more limit outer level.place level.done level.openers level.front rest h.list;
       levels = subst (HoldsLevels limit level.place outer) (append_assoc (spelled level.done) level.front rest) (levels_more limit level.place outer (spelled level.done ++ level.front) rest levels);
       start = tt;
@@ -154,8 +148,6 @@ start_sound limit outer done openers read c ready = go (start_of c) (starts_so c
   where
     quoted : (m : Mode) → StartsSo c (starts.Open m) → class_of m ≡ string → BeginsPlain (c ∷ [])
     quoted (modes.Opened q) so at = record { prefix = []; quote = c; body = []; spell = refl; none = refl; opens = so.0; plain = refl }
-    quoted modes.Start so at = absurd so
-    quoted modes.Free so at = absurd so
     quoted modes.Space so at = absurd (cc)
     quoted (modes.Word s) so at = absurd (cc)
     quoted modes.Comment so at = absurd (cc)

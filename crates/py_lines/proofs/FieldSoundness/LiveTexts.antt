@@ -22,6 +22,7 @@ use Rattle.py_lines.proofs.FieldSoundness.Holds.{Limit, HoldsAt, IsFieldSound}
 use Rattle.py_lines.proofs.FieldSoundness.Closing.{IsReadyField, ready-fresh, Finishes, Readies, at_once, grows_first, closes_last, finishes_after, ClosesLevels, levels_close, list_finishes, body_finishes}
 use Rattle.py_lines.proofs.FieldSoundness.HostSteps.{sound_at}
 use Rattle.py_lines.proofs.FieldSoundness.WholeTexts.{two_hundred, rooms_at, final_is_reading}
+use Rattle.py_lines.proofs.FieldMachine.StringRuns.{second_quote}
 
 -- no string with fields begins in a string or after a backslash
 no_host : (m : Mode) (held : List ℕ) (c : ℕ) → is_final m ≡ false → begins_host m held c ≡ false
@@ -39,10 +40,6 @@ ready_plain m held ready = record { ends = ready.ends; closing = λ c h. plain_m
 ready_empty : (host : Host) (held : List ℕ) → is_quote host.quote ≡ true → IsReadyField (empty host) held
 unfolding field_move
 ready_empty host held quotes = record { ends = refl; closing = λ c h. rw (not_quote c host.quote quotes (closing-not-quote c h)) }
-
-opened_grows : (host : Host) (held : List ℕ) → field_move (opened host) held host.quote ≡ grows (empty host)
-unfolding field_move
-opened_grows host held = rw (eq-eqb host.quote host.quote refl)
 
 feed_opens : is_opening 10 ≡ false
 unfolding is_opening
@@ -94,7 +91,7 @@ state_finishes limit Room outer done openers (plain m) held read sound = then_fi
 state_finishes limit Room outer done openers (opened host) held read sound =
     let quotes = sound.mode.1 in
     then_finishes Room outer done openers (opened host) held
-    (grows_first Room (field_state outer done openers (opened host) held) (empty host) host.quote (and_from _ _ (quote-scalar host.quote quotes) refl) (opened_grows host held)
+    (grows_first Room (field_state outer done openers (opened host) held) (empty host) host.quote (and_from _ _ (quote-scalar host.quote quotes) refl) (second_quote host held)
     (at_once Room (field_state outer done openers (empty host) (held ++ host.quote ∷ [])) (ready_empty host (held ++ host.quote ∷ []) quotes))) (levels_close limit literal outer _ sound.levels)
 state_finishes limit Room outer done openers (empty host) held read sound =
     then_finishes Room outer done openers (empty host) held (at_once Room (field_state outer done openers (empty host) held) (ready_empty host held sound.mode.1)) (levels_close limit literal outer _ sound.levels)

@@ -101,13 +101,15 @@ prefix_push q held item before is other = record {
   open_yet = ap (has_triple q) (append_assoc before.items (item ∷ []) ((q ∷ []) ∷ (q ∷ []) ∷ [])) ∙ triple-other q before.items item ((q ∷ []) ∷ (q ∷ []) ∷ []) other (ap (has_triple q) (sym (append-nil before.items)) ∙ before.open_yet) refl;
 }
 
--- a quote is an item of a long string
+pub quote-not-slash : (q : ℕ) → is_quote q ≡ true → is_backslash q ≡ false
+quote-not-slash q quotes = false_from_ne_true _ (λ slash. both_ways _ (slash-not-quote q slash) quotes)
+
+-- quotes are items of a long string
 quote_item : (q : ℕ) → is_quote q ≡ true → is_item (q ∷ []) ≡ true
-unfolding is_quote is_backslash
-quote_item q quotes = not_from_false _ (go q quotes)
-  where
-    go : (q : ℕ) → is_quote q ≡ true → is_backslash q ≡ false
-    go q quotes = false_from_ne_true _ (λ slash. both_ways _ (slash-not-quote q slash) quotes)
+quote_item q quotes = not_from_false _ (quote-not-slash q quotes)
+
+pub quotes_items : (q : ℕ) → is_quote q ≡ true → list_all is_item ((q ∷ []) ∷ (q ∷ []) ∷ []) ≡ true
+quotes_items q quotes = and_from _ _ (quote_item q quotes) (and_from _ _ (quote_item q quotes) refl)
 
 -- a long string that more items and others don't close is open after the first of these
 opening_more : (q : ℕ) (held : List ℕ) (more others : List (List ℕ)) → HoldsItemsBefore (more ++ others) q held → list_all is_item more ≡ true → HoldsPrefix q (held ++ joined more)
@@ -129,7 +131,7 @@ pub opening_one : (q : ℕ) (held : List ℕ) → HoldsLong q held → HoldsPref
 opening_one q held long = opening_more q held ((q ∷ []) ∷ []) ((q ∷ []) ∷ []) long (and_from _ _ (quote_item q long.opens) refl)
 
 pub opening_two : (q : ℕ) (held : List ℕ) → HoldsLong q held → HoldsPrefix q (held ++ q ∷ q ∷ [])
-opening_two q held long = opening_more q held ((q ∷ []) ∷ (q ∷ []) ∷ []) [] long (and_from _ _ (quote_item q long.opens) (and_from _ _ (quote_item q long.opens) refl))
+opening_two q held long = opening_more q held ((q ∷ []) ∷ (q ∷ []) ∷ []) [] long (quotes_items q long.opens)
 
 -- after the opening quote of a short string
 pub opened_items : (q : ℕ) (held : List ℕ) → HoldsQuotes (q ∷ []) q held → HoldsItems q held

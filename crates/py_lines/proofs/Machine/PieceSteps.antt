@@ -92,21 +92,18 @@ stops-free [] = refl
 stops-free (c ∷ cs) = refl
 
 -- a space
-grow-space : (c : ℕ) → is_space c ≡ true → move_of modes.Space c ≡ moves.Grows modes.Space
-unfolding move_of
-grow-space c h = rw h
-
 pub stops-space : (rest : List ℕ) → begins is_space rest ≡ false → StopsBefore modes.Space rest
 unfolding move_of
 stops-space [] h = refl
 stops-space (c ∷ cs) h = rw h
 
 pub find_space : (from : Scanned) (first : ℕ) (others rest : List ℕ) → list_all is_space (first ∷ others) ≡ true → StopsBefore from.mode (first ∷ others ++ rest) → begins is_space rest ≡ false → Finds from (first ∷ others) (piece space (first ∷ others) ∷ []) rest
+unfolding move_of
 find_space from first others rest run stops ends =
     let parts = and_parts (is_space first) (list_all is_space others) run in
     record {
       to = scanned (pieces_at from) modes.Space (first ∷ others);
-      steps = begun_by move_from from first others _ stops (start-space first parts.0) ∙ run_by move_from (pieces_at from) modes.Space is_space (λ h. grow-space) (first ∷ []) others parts.1;
+      steps = begun_by move_from from first others _ stops (start-space first parts.0) ∙ run_by move_from (pieces_at from) modes.Space is_space (λ held c h. rw h) (first ∷ []) others parts.1;
       pieces_are = refl;
       stops = stops-space rest ends;
     }
@@ -141,15 +138,12 @@ pub find_operator : (from : Scanned) (c : ℕ) (rest : List ℕ) → is_operator
 find_operator from c rest passes stops = found_closed from operator (c ∷ []) rest (begun_by move_from from c [] _ stops (start-operator c passes))
 
 -- a comment
-grow-comment : (c : ℕ) → is_break c ≡ false → move_of modes.Comment c ≡ moves.Grows modes.Comment
-unfolding move_of
-grow-comment c h = rw h
-
 run_comment : (done : List Piece) (held body : List ℕ) → list_any is_break body ≡ false → steps_from (Some (scanned done modes.Comment held)) body ≡ Some (scanned done modes.Comment (held ++ body))
+unfolding move_of
 run_comment done held [] h = all_held done modes.Comment held
 run_comment done held (c ∷ cs) h =
     let parts = or_parts (is_break c) (list_any is_break cs) h in
-    grown_by move_from done _ _ held c cs (grow-comment c parts.0) ∙ run_comment done (held ++ c ∷ []) cs parts.1 ∙ longer done modes.Comment held c cs
+    grown_by move_from done modes.Comment modes.Comment held c cs (rw parts.0) ∙ run_comment done (held ++ c ∷ []) cs parts.1 ∙ longer done modes.Comment held c cs
 
 stops-comment : (rest : List ℕ) → (rest ≡ []) ⊎ (begins is_break rest ≡ true) → StopsBefore modes.Comment rest
 unfolding move_of
@@ -177,11 +171,11 @@ stops-returned [] h = (refl, refl)
 stops-returned (c ∷ cs) h = (rw h, rw h)
 
 -- a line end
-return-is-one : is_return 13 ≡ true
+pub return-is-one : is_return 13 ≡ true
 unfolding is_return
 return-is-one = refl
 
-feed-is-one : is_line_feed 10 ≡ true
+pub feed-is-one : is_line_feed 10 ≡ true
 unfolding is_line_feed
 feed-is-one = refl
 
@@ -203,11 +197,8 @@ find_line_end from text rest (return is) stops before =
     })
 
 -- a join
-slash-returns : move_of modes.Backslash 13 ≡ moves.Grows modes.JoinReturn
-unfolding move_of is_line_feed is_return
-slash-returns = refl
-
 pub find_join : (from : Scanned) (slash : ℕ) (end rest : List ℕ) → is_backslash slash ≡ true → IsLineEnd end → StopsBefore from.mode (slash ∷ end ++ rest) → ends is_return (slash ∷ end) && begins is_line_feed rest ≡ false → Finds from (slash ∷ end) (piece join (slash ∷ end) ∷ []) rest
+unfolding move_of is_line_feed is_return
 find_join from slash end rest slashes (feed is) stops before =
     subst (λ t. Finds from (slash ∷ t) (piece join (slash ∷ t) ∷ []) rest) (sym is)
     (found_closed from join (slash ∷ 10 ∷ []) rest (begun_by move_from from slash (10 ∷ []) _ stops (start-slash slash slashes) ∙ closes (pieces_at from) modes.Backslash (slash ∷ []) 10 feed-closes.1))
@@ -215,13 +206,13 @@ find_join from slash end rest slashes (return_feed is) stops before =
     subst (λ t. Finds from (slash ∷ t) (piece join (slash ∷ t) ∷ []) rest) (sym is)
     (found_closed from join (slash ∷ 13 ∷ 10 ∷ []) rest
     (begun_by move_from from slash (13 ∷ 10 ∷ []) _ stops (start-slash slash slashes)
-    ∙ grown_by move_from (pieces_at from) modes.Backslash _ (slash ∷ []) 13 (10 ∷ []) slash-returns
+    ∙ grown_by move_from (pieces_at from) modes.Backslash modes.JoinReturn (slash ∷ []) 13 (10 ∷ []) refl
     ∙ closes (pieces_at from) modes.JoinReturn (slash ∷ 13 ∷ []) 10 feed-closes.2))
 find_join from slash end rest slashes (return is) stops before =
     subst (λ t. Finds from (slash ∷ t) (piece join (slash ∷ t) ∷ []) rest) (sym is) (record {
       to = scanned (pieces_at from) modes.JoinReturn (slash ∷ 13 ∷ []);
       steps = begun_by move_from from slash (13 ∷ []) _ stops (start-slash slash slashes)
-          ∙ grown_by move_from (pieces_at from) modes.Backslash _ (slash ∷ []) 13 [] slash-returns;
+          ∙ grown_by move_from (pieces_at from) modes.Backslash modes.JoinReturn (slash ∷ []) 13 [] refl;
       pieces_are = refl;
       stops = (stops-returned rest (subst (λ (b : Bool). b && begins is_line_feed rest ≡ false) return-is-one (subst (λ t. ends is_return (slash ∷ t) && begins is_line_feed rest ≡ false) is before))).1;
     })

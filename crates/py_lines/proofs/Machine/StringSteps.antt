@@ -17,6 +17,7 @@ use Rattle.py_lines.specs.Private.Machine.{spelling_on}
 use Rattle.py_lines.proofs.Machine.Spellings.{prefix_spelling}
 use Rattle.py_lines.proofs.Machine.Starts.{start-word, start-quote}
 use Rattle.py_lines.proofs.Machine.PieceSteps.{scanned, pieces_at, StopsBefore, Finds, steps_by-append, begun_by, grown_by, closes, all_held, stops-free, steps_word}
+use Rattle.py_lines.proofs.Machine.OpenPieces.{quotes_items}
 
 -- a prefix, and the quote after it
 pub opens_at : (s : Spelling) (q : ℕ) → is_prefix_spelling s ≡ true → is_quote q ≡ true → move_of (modes.Word s) q ≡ moves.Grows (modes.Opened q)
@@ -288,12 +289,6 @@ two_quotes : (q : ℕ) (seen : QuotesBefore) → seen_after q seen ((q ∷ []) �
 two_quotes q none = rw (eq-eqb q q refl)
 two_quotes q one = rw (eq-eqb q q refl)
 two_quotes q two = rw (eq-eqb q q refl)
-
-quotes_items : (q : ℕ) → is_quote q ≡ true → list_all is_item ((q ∷ []) ∷ (q ∷ []) ∷ []) ≡ true
-quotes_items q quotes = rw (no_slash q quotes)
-  where
-    no_slash : (q : ℕ) → is_quote q ≡ true → is_backslash q ≡ false
-    no_slash q quotes = ⊎_elim (λ (h : is_backslash q ≡ true). absurd (both_ways _ (slash-not-quote q h) quotes)) (λ (h : is_backslash q ≡ false). h) (cases_Bool (is_backslash q))
 
 -- after three quotes, up to an item before the last quote
 pub long_opened : (from : Scanned) (prefix : List ℕ) (q : ℕ) (body : List ℕ) → IsPrefix prefix → is_quote q ≡ true → StopsBefore from.mode (prefix ++ q ∷ q ∷ q ∷ body) → steps_from (Some from) (prefix ++ q ∷ q ∷ q ∷ body) ≡ steps_from (Some (scanned (pieces_at from) (modes.Long q) (prefix ++ q ∷ q ∷ q ∷ []))) body
