@@ -138,21 +138,17 @@ quote_in_long host stands = go host.is_long (subst (λ b. host.is_long || not (b
     go false h = h
 
 -- after a backslash
-escape_moves : (host : Host) (place : Place) (named : Bool) (held : List ℕ) (c : ℕ) → field_move (body host place named after_slash) held c ≡ escape_move host place named c
-unfolding field_move body_move
-escape_moves host place named held c = refl
-
 return_escaped : (host : Host) (place : Place) (named : Bool) (held : List ℕ) (c : ℕ) → is_brace c ≡ false → may_be_escaped host place c ≡ true → is_return c ≡ true → field_move (body host place named after_slash) held c ≡ grows (body host place named after_return)
-unfolding escape_move
-return_escaped host place named held c no_brace may returns = escape_moves host place named held c ∙ rw (no_brace, may_escape host place c may, returns)
+unfolding field_move body_move escape_move
+return_escaped host place named held c no_brace may returns = rw (no_brace, may_escape host place c may, returns)
 
 name_escaped : (host : Host) (place : Place) (named : Bool) (held : List ℕ) (c : ℕ) → is_brace c ≡ false → may_be_escaped host place c ≡ true → is_return c ≡ false → names host c ≡ true → field_move (body host place named after_slash) held c ≡ grows (body host place named after_name)
-unfolding escape_move
-name_escaped host place named held c no_brace may other is_name = escape_moves host place named held c ∙ rw (no_brace, may_escape host place c may, other, is_name)
+unfolding field_move body_move escape_move
+name_escaped host place named held c no_brace may other is_name = rw (no_brace, may_escape host place c may, other, is_name)
 
 pub other_escaped : (host : Host) (place : Place) (named : Bool) (held : List ℕ) (c : ℕ) → is_brace c ≡ false → may_be_escaped host place c ≡ true → is_return c ≡ false → names host c ≡ false → field_move (body host place named after_slash) held c ≡ grows (body host place named between)
-unfolding escape_move
-other_escaped host place named held c no_brace may other no_name = escape_moves host place named held c ∙ rw (no_brace, may_escape host place c may, other, no_name)
+unfolding field_move body_move escape_move
+other_escaped host place named held c no_brace may other no_name = rw (no_brace, may_escape host place c may, other, no_name)
 
 feed_after_return : (host : Host) (place : Place) (named : Bool) (held : List ℕ) (c : ℕ) → is_line_feed c ≡ true → field_move (body host place named after_return) held c ≡ grows (body host place named between)
 unfolding field_move body_move

@@ -19,18 +19,10 @@ use Rattle.py_lines.proofs.FieldMachine.Runs.{Goes, HasRoomFor, StopsAt, goes-ap
 use Rattle.py_lines.proofs.FieldMachine.PieceRuns.{FieldFinds, word_goes}
 use Rattle.py_lines.proofs.FieldMachine.StringParts.{settled, quotes_seen, MayGoOn, goes_on, body_moves, quote_grows, goes_on-quotes, three_quotes, FieldsGo, parts_go}
 
--- the first quote
-host_opens : (s : Spelling) (prefix : List ℕ) (q : ℕ) → is_field_prefix prefix ≡ true → is_quote q ≡ true → field_move (plain (modes.Word s)) prefix q ≡ grows (opened (host_of prefix q))
-unfolding field_move
-host_opens s prefix q is quotes = rw (is, quotes)
-
+-- the second quote
 pub second_quote : (host : Host) (held : List ℕ) → field_move (opened host) held host.quote ≡ grows (empty host)
 unfolding field_move
 second_quote host held = rw (eq-eqb host.quote host.quote refl)
-
-third_quote : (host : Host) (held : List ℕ) → field_move (empty host) held host.quote ≡ grows (body (long_host host) literal false between)
-unfolding field_move
-third_quote host held = rw (eq-eqb host.quote host.quote refl)
 
 stops_empty : (host : Host) (held rest : List ℕ) → begins (λ c. c == host.quote) rest ≡ false → StopsAt (empty host) held rest
 unfolding field_move
@@ -87,6 +79,7 @@ module _ (Room : ℕ → Type 0) (from : FieldScanned) where
   inside mode held = field_state from.outer (field_pieces from) from.openers mode held
 
   pub prefix_goes : (prefix : List ℕ) (q : ℕ) (after : List ℕ) → is_field_prefix prefix ≡ true → is_quote q ≡ true → StopsAt from.mode from.held (prefix ++ q ∷ after) → Goes Room from (prefix ++ q ∷ []) (inside (opened (host_of prefix q)) (prefix ++ q ∷ []))
+  unfolding field_move
   prefix_goes [] q after is quotes stops = absurd (both_ways _ refl is)
   prefix_goes (a ∷ bs) q after is quotes stops =
       let letters = field_letters (a ∷ bs) is in
@@ -95,7 +88,7 @@ module _ (Room : ℕ → Type 0) (from : FieldScanned) where
       let string_at : FieldScanned = inside (opened (host_of (a ∷ bs) q)) ((a ∷ bs) ++ q ∷ []) in
       goes-append Room from word_at string_at (a ∷ bs) (q ∷ [])
       (word_goes Room from a bs (q ∷ after) (subst (λ x. is_word_start x ≡ true) same letters.starts) (and_parts (is_word_character a) (list_all is_word_character bs) letters.all).1 stops)
-      (goes-grows Room word_at string_at (opened (host_of (a ∷ bs) q)) q [] (host_opens _ (a ∷ bs) q is quotes) refl)
+      (goes-grows Room word_at string_at (opened (host_of (a ∷ bs) q)) q [] (rw (is, quotes)) refl)
     where
       head : {x y : ℕ} {xs ys : List ℕ} → x ∷ xs ≡ y ∷ ys → y ≡ x
       head h = cc
@@ -139,6 +132,7 @@ module _ (Room : ℕ → Type 0) (from : FieldScanned) where
         (opened_goes host held c (cs ++ more) t other (subst (λ x. Goes Room (inside (body host literal false between) held) (x ++ more) t) head.2 goes))
 
     by_length : (long : Bool) (q : ℕ) (prefix : List ℕ) (parts : List (List ℕ)) (rest after : List ℕ) (tail : List (List ℕ)) → is_field_prefix prefix ≡ true → is_quote q ≡ true → AreParts F (host_in q long prefix) literal false parts rest → has_triple q (parts ++ tail) ≡ false → StopsAt from.mode from.held (prefix ++ q ∷ after) → LiteralGoes (host_in q long prefix) (named_through false parts) (prefix ++ (quotes_of (host_in q long prefix) ++ joined parts)) rest tail
+    unfolding field_move
     by_length true q prefix parts rest after tail is quotes each none stops =
         let host : Host = host_in q true prefix in
         let begun : List ℕ = prefix ++ q ∷ [] in
@@ -150,7 +144,7 @@ module _ (Room : ℕ → Type 0) (from : FieldScanned) where
         let last : FieldScanned = inside mode (held ++ joined parts) in
         let quotes_go : Goes Room opened_at (q ∷ q ∷ []) body_at =
         goes-grows Room opened_at body_at (empty (host_of prefix q)) q (q ∷ []) (second_quote (host_of prefix q) begun)
-        (goes-grows Room (inside (empty (host_of prefix q)) (begun ++ q ∷ [])) body_at (body host literal false between) q [] (third_quote (host_of prefix q) (begun ++ q ∷ [])) refl) in
+        (goes-grows Room (inside (empty (host_of prefix q)) (begun ++ q ∷ [])) body_at (body host literal false between) q [] (rw (eq-eqb q q refl)) refl) in
         let all = goes-append Room from opened_at last begun (q ∷ q ∷ joined parts) (prefix_goes prefix q after is quotes stops)
         (goes-append Room opened_at body_at last (q ∷ q ∷ []) (joined parts) quotes_go run.goes) in
         record {

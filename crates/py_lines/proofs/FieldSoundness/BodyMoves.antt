@@ -24,20 +24,24 @@ module _ (limit : Limit) (outer : List Level) (depth : ℕ) (host : Host) where
   between_two : (place : Place) (named : Bool) (held : List ℕ) (c : ℕ) → HoldsBetween limit outer depth host place named held (c ∷ []) → Moved limit outer depth host place held c (between_move host place named between c)
   between_two place named held c h = between_moves limit outer depth host place named between held c h.all (λ same. first_quotes limit outer depth host place named held c h same)
 
-  slash_quote : (s : ℕ) → is_quote host.quote ≡ true → is_backslash s ≡ true → s == host.quote ≡ false
-  slash_quote s quotes slashes = not_quote s host.quote quotes (slash-not-quote s slashes)
-
-  -- after a backslash
-  slash_moves : (place : Place) (named : Bool) (held : List ℕ) (c : ℕ) → HoldsAt limit outer depth host place named after_slash held → Moved limit outer depth host place held c (escape_move host place named c)
-  unfolding escape_move
-  slash_moves place named held c (text, s, is, slashes, h) =
+  -- what each character does
+  pub body_moves : (place : Place) (named : Bool) (at : At) (held : List ℕ) (c : ℕ) → HoldsAt limit outer depth host place named at held → Moved limit outer depth host place held c (body_move host place named at c)
+  unfolding body_move escape_move
+  body_moves place named between held c h = between_two place named held c (between_next limit outer depth host place named held [] (c ∷ []) h)
+  body_moves place named after_one held c h =
+      between_moves limit outer depth host place named after_one held c
+      (subst (λ t. HoldsParts limit outer depth host place named t (c ∷ [])) (sym h.1) (one_quote limit outer depth host place named h.0 (c ∷ []) h.2 h.3)) (λ same. second_quote limit outer depth host place named held c h same)
+  body_moves place named after_two held c h =
+      between_moves limit outer depth host place named after_two held c
+      (subst (λ t. HoldsParts limit outer depth host place named t (c ∷ [])) (sym h.1) (two_quotes limit outer depth host place named h.0 (c ∷ []) h.2 h.3)) (λ same. third_quote limit outer depth host place named held c h same)
+  body_moves place named after_slash held c (text, s, is, slashes, h) =
       let P : FieldMove → Type 0 = λ v. Moved limit outer depth host place held c v in
       let spell : held ++ c ∷ [] ≡ text ++ s ∷ c ∷ [] = ap (λ t. t ++ c ∷ []) is ∙ append_assoc text (s ∷ []) (c ∷ []) in
       cond_both (is_brace c) _ _ P
       (λ brace.
       between_two place named held c
       (subst (λ t. HoldsBetween limit outer depth host place named t (c ∷ [])) (sym is)
-      (push_between limit outer depth host place named named text (s ∷ []) (c ∷ []) h (λ more. slash s refl slashes brace) (slash_quote s h.quotes slashes) tt (kept_named named (s == 125) (slash-not-closing s slashes)))))
+      (push_between limit outer depth host place named named text (s ∷ []) (c ∷ []) h (λ more. slash s refl slashes brace) (not_quote s host.quote h.quotes (slash-not-quote s slashes)) tt (kept_named named (s == 125) (slash-not-closing s slashes)))))
       (λ no_brace. cond_both (is_barred_escape host place c) _ _ P (λ barred. tt)
       (λ free. cond_both (is_return c) _ _ P
       (λ returns. (refl, (text, s, c, spell, slashes, returns, may_stand_escaped host place c free, h)))
@@ -49,11 +53,7 @@ module _ (limit : Limit) (outer : List Level) (depth : ℕ) (host : Host) where
             (push_between limit outer depth host place named named text (s ∷ c ∷ []) [] (longer_next limit outer depth host place named text (s ∷ []) (c ∷ []) h)
             (λ more. escape s c refl slashes no_brace (may_stand_escaped host place c free) (and_left _ _ no_name) (and_left _ _ no_return)) refl tt refl),
       )))))
-
-  -- after a backslash and CR
-  return_moves : (place : Place) (named : Bool) (held : List ℕ) (c : ℕ) → HoldsAt limit outer depth host place named after_return held → Moved limit outer depth host place held c (body_move host place named after_return c)
-  unfolding body_move
-  return_moves place named held c (text, s, r, is, slashes, returns, may, h) =
+  body_moves place named after_return held c (text, s, r, is, slashes, returns, may, h) =
       cond_both (is_line_feed c) _ _ (λ (v : FieldMove). Moved limit outer depth host place held c v)
       (λ feeds. (
         refl,
@@ -66,11 +66,7 @@ module _ (limit : Limit) (outer : List Level) (depth : ℕ) (host : Host) where
       (subst (λ t. HoldsBetween limit outer depth host place named t (c ∷ [])) (sym is)
       (push_between limit outer depth host place named named text (s ∷ r ∷ []) (c ∷ []) (longer_next limit outer depth host place named text (s ∷ []) (r ∷ []) h)
       (λ more. escape s r refl slashes (return-not-brace r returns) may (and_left _ _ (and_left _ _ (return-not-letter r returns))) (and_right _ _ no_feed)) refl tt refl)))
-
-  -- after `\N`
-  name_moves : (place : Place) (named : Bool) (held : List ℕ) (c : ℕ) → HoldsAt limit outer depth host place named after_name held → Moved limit outer depth host place held c (body_move host place named after_name c)
-  unfolding body_move
-  name_moves place named held c (text, s, n, is, slashes, is_name, may, h) =
+  body_moves place named after_name held c (text, s, n, is, slashes, is_name, may, h) =
       cond_both (c == 123) _ _ (λ (v : FieldMove). Moved limit outer depth host place held c v)
       (λ braces. (
         refl,
@@ -83,11 +79,7 @@ module _ (limit : Limit) (outer : List Level) (depth : ℕ) (host : Host) where
       (subst (λ t. HoldsBetween limit outer depth host place named t (c ∷ [])) (sym is)
       (push_between limit outer depth host place named named text (s ∷ n ∷ []) (c ∷ []) (longer_next limit outer depth host place named text (s ∷ []) (n ∷ []) h)
       (λ more. escape s n refl slashes (name-not-brace host n is_name) may (and_right _ _ no_brace) (and_left _ _ (name-not-return host n is_name))) refl tt refl)))
-
-  -- after a `{` of the literal part
-  brace_moves : (place : Place) (named : Bool) (held : List ℕ) (c : ℕ) → HoldsAt limit outer depth host place named after_brace held → Moved limit outer depth host place held c (body_move host place named after_brace c)
-  unfolding body_move
-  brace_moves place named held c (text, is, at, unnamed, h) =
+  body_moves place named after_brace held c (text, is, at, unnamed, h) =
       cond_both (c == 123) _ _ (λ (v : FieldMove). Moved limit outer depth host place held c v)
       (λ braces. (
         refl,
@@ -96,18 +88,3 @@ module _ (limit : Limit) (outer : List Level) (depth : ℕ) (host : Host) where
             (λ more. double 123 c refl refl (eqb-true c 123 braces) at unnamed) refl tt refl),
       ))
       (λ no_brace. (refl, at, no_brace, text, is, subst (λ n. HoldsParts limit outer depth host place n text (123 ∷ [])) unnamed h))
-
-  -- what each character does
-  pub body_moves : (place : Place) (named : Bool) (at : At) (held : List ℕ) (c : ℕ) → HoldsAt limit outer depth host place named at held → Moved limit outer depth host place held c (body_move host place named at c)
-  unfolding body_move
-  body_moves place named between held c h = between_two place named held c (between_next limit outer depth host place named held [] (c ∷ []) h)
-  body_moves place named after_one held c h =
-      between_moves limit outer depth host place named after_one held c
-      (subst (λ t. HoldsParts limit outer depth host place named t (c ∷ [])) (sym h.1) (one_quote limit outer depth host place named h.0 (c ∷ []) h.2 h.3)) (λ same. second_quote limit outer depth host place named held c h same)
-  body_moves place named after_two held c h =
-      between_moves limit outer depth host place named after_two held c
-      (subst (λ t. HoldsParts limit outer depth host place named t (c ∷ [])) (sym h.1) (two_quotes limit outer depth host place named h.0 (c ∷ []) h.2 h.3)) (λ same. third_quote limit outer depth host place named held c h same)
-  body_moves place named after_slash held c h = slash_moves place named held c h
-  body_moves place named after_return held c h = return_moves place named held c h
-  body_moves place named after_name held c h = name_moves place named held c h
-  body_moves place named after_brace held c h = brace_moves place named held c h

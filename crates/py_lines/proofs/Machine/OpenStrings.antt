@@ -38,9 +38,6 @@ short_open q before last held escapes = still_open (λ c. c ∷ []) _ q held.pre
 short_opening : (q : ℕ) (held : List ℕ) → HoldsItems q held → IsShortPrefix held
 short_opening q held items = subst IsShortPrefix (append-nil held) (short_open q held [] items (inl refl))
 
-short_escaped : (q : ℕ) (before : List ℕ) (slash : ℕ) → HoldsItems q before → is_backslash slash ≡ true → IsShortPrefix (before ++ slash ∷ [])
-short_escaped q before slash items slashes = short_open q before (slash ∷ []) items (inr (slash, refl, slashes))
-
 long_open : (q : ℕ) (before last : List ℕ) → HoldsPrefix q before → IsUnescaped last → IsLongPrefix (before ++ last)
 long_open q before last held escapes =
     still_open (λ c. c ∷ c ∷ c ∷ []) _ q held.prefix before last held.items held.spell held.begun held.opens (held.each, ap (has_triple q) (sym (append-nil held.items)) ∙ held.open_yet) escapes
@@ -48,13 +45,10 @@ long_open q before last held escapes =
 long_opening : (q : ℕ) (held : List ℕ) → HoldsPrefix q held → IsLongPrefix held
 long_opening q held holds = subst IsLongPrefix (append-nil held) (long_open q held [] holds (inl refl))
 
-long_escaped : (q : ℕ) (before : List ℕ) (slash : ℕ) → HoldsPrefix q before → is_backslash slash ≡ true → IsLongPrefix (before ++ slash ∷ [])
-long_escaped q before slash holds slashes = long_open q before (slash ∷ []) holds (inr (slash, refl, slashes))
-
 pub short_held : (m : Mode) (done : List Piece) (held : List ℕ) → Holds m done held → in_short m ≡ true → IsShortPrefix held
 short_held (modes.Opened q) done held holds is = short_opening q held (opened_items q held holds)
 short_held (modes.Inside q) done held holds is = short_opening q held holds.all
-short_held (modes.Escape q) done held holds is = subst IsShortPrefix (sym holds.2) (short_escaped q holds.0 holds.1 holds.3 holds.4)
+short_held (modes.Escape q) done held holds is = subst IsShortPrefix (sym holds.2) (short_open q holds.0 (holds.1 ∷ []) holds.3 (inr (holds.1, refl, holds.4)))
 short_held (modes.EscapeReturn q) done held holds is = short_opening q held (returned_items q done held holds).all
 short_held (modes.FieldOpened h) done held holds is = absurd holds
 short_held m done held holds is = absurd (both_ways _ refl is)
@@ -63,7 +57,7 @@ pub long_held : (m : Mode) (done : List Piece) (held : List ℕ) → Holds m don
 long_held (modes.Long q) done held holds is = long_opening q held (opening_none q held holds)
 long_held (modes.LongOne q) done held holds is = long_opening q held (subst (HoldsPrefix q) (sym holds.1) (opening_one q holds.0 holds.2))
 long_held (modes.LongTwo q) done held holds is = long_opening q held (subst (HoldsPrefix q) (sym holds.1) (opening_two q holds.0 holds.2))
-long_held (modes.LongEscape q) done held holds is = subst IsLongPrefix (sym holds.2) (long_escaped q holds.0 holds.1 holds.3 holds.4)
+long_held (modes.LongEscape q) done held holds is = subst IsLongPrefix (sym holds.2) (long_open q holds.0 (holds.1 ∷ []) holds.3 (inr (holds.1, refl, holds.4)))
 long_held modes.Fielded done held holds is = absurd holds
 long_held m done held holds is = absurd (both_ways _ refl is)
 
