@@ -91,12 +91,12 @@ unfolding move_of
 stops-free [] = refl
 stops-free (c ∷ cs) = refl
 
--- a space
-pub stops-space : (rest : List ℕ) → begins is_space rest ≡ false → StopsBefore modes.Space rest
-unfolding move_of
-stops-space [] h = refl
-stops-space (c ∷ cs) h = rw h
+-- before a text that begins with no such character
+pub stops_unless : (m : Mode) (passes : ℕ → Bool) → is_final m ≡ true → ((c : ℕ) → passes c ≡ false → move_of m c ≡ moves.Breaks) → (rest : List ℕ) → begins passes rest ≡ false → StopsBefore m rest
+stops_unless m passes final breaks [] h = final
+stops_unless m passes final breaks (c ∷ cs) h = breaks c h
 
+-- a space
 pub find_space : (from : Scanned) (first : ℕ) (others rest : List ℕ) → list_all is_space (first ∷ others) ≡ true → StopsBefore from.mode (first ∷ others ++ rest) → begins is_space rest ≡ false → Finds from (first ∷ others) (piece space (first ∷ others) ∷ []) rest
 unfolding move_of
 find_space from first others rest run stops ends =
@@ -105,7 +105,7 @@ find_space from first others rest run stops ends =
       to = scanned (pieces_at from) modes.Space (first ∷ others);
       steps = begun_by move_from from first others _ stops (start-space first parts.0) ∙ run_by move_from (pieces_at from) modes.Space is_space (λ held c h. rw h) (first ∷ []) others parts.1;
       pieces_are = refl;
-      stops = stops-space rest ends;
+      stops = stops_unless modes.Space is_space refl (λ c h. rw h) rest ends;
     }
 
 -- a word
@@ -164,12 +164,6 @@ feed-closes : (move_of modes.Return 10 ≡ moves.Closes) × (move_of modes.Backs
 unfolding move_of is_line_feed
 feed-closes = (refl, refl, refl)
 
--- anything else after CR
-stops-returned : (rest : List ℕ) → begins is_line_feed rest ≡ false → StopsBefore modes.Return rest × StopsBefore modes.JoinReturn rest
-unfolding move_of
-stops-returned [] h = (refl, refl)
-stops-returned (c ∷ cs) h = (rw h, rw h)
-
 -- a line end
 pub return-is-one : is_return 13 ≡ true
 unfolding is_return
@@ -180,6 +174,7 @@ unfolding is_line_feed
 feed-is-one = refl
 
 pub find_line_end : (from : Scanned) (text rest : List ℕ) → IsLineEnd text → StopsBefore from.mode (text ++ rest) → ends is_return text && begins is_line_feed rest ≡ false → Finds from text (piece line_end text ∷ []) rest
+unfolding move_of
 find_line_end from text rest (feed is) stops before =
     subst (λ t. Finds from t (piece line_end t ∷ []) rest) (sym is)
     (found_closed from line_end (10 ∷ []) rest (begun_by move_from from 10 [] _ (subst (λ t. StopsBefore from.mode (t ++ rest)) is stops) (start-feed 10 feed-is-one)))
@@ -193,7 +188,7 @@ find_line_end from text rest (return is) stops before =
       to = scanned (pieces_at from) modes.Return (13 ∷ []);
       steps = begun_by move_from from 13 [] _ (subst (λ t. StopsBefore from.mode (t ++ rest)) is stops) (start-return 13 return-is-one);
       pieces_are = refl;
-      stops = (stops-returned rest (subst (λ (b : Bool). b && begins is_line_feed rest ≡ false) return-is-one (subst (λ t. ends is_return t && begins is_line_feed rest ≡ false) is before))).0;
+      stops = stops_unless modes.Return is_line_feed refl (λ c h. rw h) rest (subst (λ (b : Bool). b && begins is_line_feed rest ≡ false) return-is-one (subst (λ t. ends is_return t && begins is_line_feed rest ≡ false) is before));
     })
 
 -- a join
@@ -214,5 +209,5 @@ find_join from slash end rest slashes (return is) stops before =
       steps = begun_by move_from from slash (13 ∷ []) _ stops (start-slash slash slashes)
           ∙ grown_by move_from (pieces_at from) modes.Backslash modes.JoinReturn (slash ∷ []) 13 [] refl;
       pieces_are = refl;
-      stops = (stops-returned rest (subst (λ (b : Bool). b && begins is_line_feed rest ≡ false) return-is-one (subst (λ t. ends is_return (slash ∷ t) && begins is_line_feed rest ≡ false) is before))).1;
+      stops = stops_unless modes.JoinReturn is_line_feed refl (λ c h. rw h) rest (subst (λ (b : Bool). b && begins is_line_feed rest ≡ false) return-is-one (subst (λ t. ends is_return (slash ∷ t) && begins is_line_feed rest ≡ false) is before));
     })

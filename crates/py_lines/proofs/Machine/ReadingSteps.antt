@@ -12,7 +12,7 @@ use Rattle.py_lines.specs.declared.mode.Move.TheVariants as moves
 use Rattle.py_lines.specs.Private.Machine.{Scanned, fresh, text_start, started, moved, steps_by, move_from, steps_from, move_of, start_of}
 use Rattle.py_lines.proofs.Pieces.PieceLists.{piece}
 use Rattle.py_lines.proofs.Machine.Starts.{start-mark}
-use Rattle.py_lines.proofs.Machine.PieceSteps.{pieces_at, StopsBefore, Finds, steps_by-append, stops-free, find_space, find_word, find_operator, find_comment, find_line_end, find_join}
+use Rattle.py_lines.proofs.Machine.PieceSteps.{pieces_at, StopsBefore, Finds, steps_by-append, stops-free, find_space, find_word, find_operator, find_comment, find_line_end, find_join, stops_unless}
 use Rattle.py_lines.proofs.Machine.StringSteps.{find_short, find_long}
 
 -- a piece of any class but a mark
@@ -80,32 +80,19 @@ start-breaks : (c : ℕ) → is_mark c ≡ false → move_of modes.Start c ≡ m
 unfolding move_of
 start-breaks c h = rw h
 
-start-closes : (c : ℕ) → is_mark c ≡ true → move_of modes.Start c ≡ moves.Closes
-unfolding move_of
-start-closes c h = rw h
-
-free-breaks : (c : ℕ) → move_of modes.Free c ≡ moves.Breaks
-unfolding move_of
-free-breaks c = refl
-
 -- without a mark, the start is like any other place
 start_as_free : (text : List ℕ) (s : Scanned) (p : Piece) (ps : List Piece) → steps_from (Some (fresh [])) text ≡ Some s → pieces_at s ≡ p ∷ ps → steps_from (Some text_start) text ≡ Some s
-unfolding pieces_or
+unfolding pieces_or move_of
 start_as_free [] s p ps steps pieces_are =
     let same : [] ≡ p ∷ ps = ap pieces_or steps ∙ pieces_are in
     absurd (cc)
 start_as_free (c ∷ cs) s p ps steps pieces_are =
-    let so : steps_from (started [] c (start_of c)) cs ≡ Some s = sym (ap (λ (v : Move). steps_from (moved (fresh []) c v) cs) (free-breaks c)) ∙ steps in
     ⊎_elim
     (λ (h : is_mark c ≡ true).
-    let stuck : None ≡ Some s = sym (ap (λ v. steps_from (started [] c v) cs) (start-mark c h)) ∙ so in
+    let stuck : None ≡ Some s = sym (ap (λ v. steps_from (started [] c v) cs) (start-mark c h)) ∙ steps in
     absurd (cc))
-    (λ (h : is_mark c ≡ false). ap (λ (v : Move). steps_from (moved text_start c v) cs) (start-breaks c h) ∙ so)
+    (λ (h : is_mark c ≡ false). ap (λ (v : Move). steps_from (moved text_start c v) cs) (start-breaks c h) ∙ steps)
     (cases_Bool (is_mark c))
-
-stops-start : (rest : List ℕ) → begins is_mark rest ≡ false → StopsBefore modes.Start rest
-stops-start [] h = refl
-stops-start (c ∷ cs) h = start-breaks c h
 
 reach_others : (p : Piece) (ps : List Piece) (rest : List ℕ) → AreReadPlain (p ∷ ps) rest → is_mark_class p.class ≡ false → Reaches (spelled (p ∷ ps)) (p ∷ ps) rest
 reach_others p ps rest fit unmarked =
@@ -118,20 +105,22 @@ reach_others p ps rest fit unmarked =
     }
 
 reach_marked : (text : List ℕ) (ps : List Piece) (rest : List ℕ) → AreReadPlain (piece mark text ∷ ps) rest → Reaches (spelled (piece mark text ∷ ps)) (piece mark text ∷ ps) rest
+unfolding move_of
 reach_marked text ps rest fit =
     let c = fit.0.0 in
+    let move : move_of modes.Start c ≡ moves.Closes = rw fit.0.2 in
     let P : List ℕ → Type 0 = λ t. Reaches (t ++ spelled ps) (piece mark t ∷ ps) rest in
     let found = find_all (fresh (piece mark (c ∷ []) ∷ [])) ps rest fit.3 fit.2 (stops-free _) in
     subst P (sym fit.0.1) (record {
       to = found.to;
-      steps = ap (λ (v : Move). steps_from (moved text_start c v) (spelled ps)) (start-closes c fit.0.2) ∙ found.steps;
+      steps = ap (λ (v : Move). steps_from (moved text_start c v) (spelled ps)) move ∙ found.steps;
       pieces_are = found.pieces_are;
       stops = λ h. found.stops;
     })
 
 -- pieces that are read before the rest are found from the start
 pub reach : (pieces : List Piece) (rest : List ℕ) → AreReadPlain pieces rest → Reaches (spelled pieces) pieces rest
-reach [] rest fit = record { to = text_start; steps = refl; pieces_are = refl; stops = stops-start rest }
+reach [] rest fit = record { to = text_start; steps = refl; pieces_are = refl; stops = stops_unless modes.Start is_mark refl start-breaks rest }
 reach (p ∷ ps) rest fit = go p.class p.text fit
   where
     go : (class : Class) (text : List ℕ) → AreReadPlain (piece class text ∷ ps) rest → Reaches (spelled (piece class text ∷ ps)) (piece class text ∷ ps) rest

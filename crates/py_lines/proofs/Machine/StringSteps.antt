@@ -16,7 +16,7 @@ use Rattle.py_lines.proofs.Text.CharacterTests.{prefix_word, quote-not-word, quo
 use Rattle.py_lines.specs.Private.Machine.{spelling_on}
 use Rattle.py_lines.proofs.Machine.Spellings.{prefix_spelling}
 use Rattle.py_lines.proofs.Machine.Starts.{start-word, start-quote}
-use Rattle.py_lines.proofs.Machine.PieceSteps.{scanned, pieces_at, StopsBefore, Finds, steps_by-append, begun_by, grown_by, closes, all_held, stops-free, steps_word}
+use Rattle.py_lines.proofs.Machine.PieceSteps.{scanned, pieces_at, StopsBefore, Finds, steps_by-append, begun_by, grown_by, closes, all_held, stops-free, steps_word, stops_unless}
 use Rattle.py_lines.proofs.Machine.OpenPieces.{quotes_items}
 
 -- a prefix, and the quote after it
@@ -130,11 +130,6 @@ unfolding move_of
 close_short done q m held (inl is) quotes = subst (λ (n : Mode). steps_from (Some (scanned done n held)) (q ∷ []) ≡ Some (fresh (done ++ piece string (held ++ q ∷ []) ∷ []))) (sym is) (closes done (modes.Inside q) held q (rw (eq-eqb q q refl)))
 close_short done q m held (inr is) quotes = subst (λ (n : Mode). steps_from (Some (scanned done n held)) (q ∷ []) ≡ Some (fresh (done ++ piece string (held ++ q ∷ []) ∷ []))) (sym is) (closes done (modes.EscapeReturn q) held q (rw (quote-not-feed q quotes, eq-eqb q q refl)))
 
-stops-empty : (q : ℕ) (rest : List ℕ) → begins (λ c. c == q) rest ≡ false → StopsBefore (modes.Empty q) rest
-unfolding move_of
-stops-empty q [] h = refl
-stops-empty q (c ∷ cs) h = rw h
-
 pub opened_steps : (from : Scanned) (prefix : List ℕ) (q : ℕ) (body : List ℕ) → IsPrefix prefix → is_quote q ≡ true → StopsBefore from.mode (prefix ++ q ∷ body) → steps_from (Some from) (prefix ++ q ∷ body) ≡ steps_from (Some (scanned (pieces_at from) (modes.Opened q) (prefix ++ q ∷ []))) body
 opened_steps from prefix q body is quotes stops =
     ap (steps_from (Some from)) (sym (append_assoc prefix (q ∷ []) body))
@@ -162,7 +157,7 @@ find_short from prefix q [] rest is quotes each stops before =
       steps = opened_steps from prefix q (q ∷ []) is quotes (stops_so from prefix q (q ∷ []) rest stops)
           ∙ grown_by move_from done (modes.Opened q) (modes.Empty q) (prefix ++ q ∷ []) q [] (rw (eq-eqb q q refl));
       pieces_are = ap (λ t. done ++ piece string t ∷ []) (append_assoc prefix (q ∷ []) (q ∷ []));
-      stops = stops-empty q rest (before prefix q refl is quotes);
+      stops = stops_unless (modes.Empty q) (λ c. c == q) refl (λ c h. rw h) rest (before prefix q refl is quotes);
     }
 find_short from prefix q (i ∷ items) rest is quotes each stops before =
     let done = pieces_at from in
