@@ -4,7 +4,6 @@ use Rattle.std.specs.Str.{all_scalars}
 use Rattle.std.specs.Char.{IsScalar}
 use Rattle.std.specs.Prelude.{Option}
 use Rattle.std.proofs.lemmas.Bool.{and_from, both_ways, eq-eqb}
-use Rattle.py_lines.specs.Character.{is_quote}
 use Rattle.py_lines.specs.Piece.{operator, comment, line_end, Piece, spelled}
 use Rattle.py_lines.specs.Balance.{closing_of, is_opener, is_closer}
 use Rattle.py_lines.specs.LogicalLine.{byte_len}

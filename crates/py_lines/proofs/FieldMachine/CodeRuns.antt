@@ -1,7 +1,7 @@
 -- The machine with fields goes through lists of pieces, and so through fields.
 use Rattle.std.proofs.Common.{◌≡◌, ℕ, ◌+◌, true, false, Option, None, Some, List, [], ◌∷◌, ◌++◌, length, refl, sym, ap, ◌∙◌, subst, inl, inr, append_assoc, append-nil, add-zero}
 use Rattle.std.proofs.lemmas.Bool.{both_ways}
-use Rattle.py_lines.specs.Piece.{Class, mark, space, word, string, operator, comment, join, line_end, Piece, is_mark_class, begins_marked, spelled}
+use Rattle.py_lines.specs.Piece.{Class, mark, string, operator, Piece, is_mark_class, begins_marked, spelled}
 use Rattle.py_lines.specs.PieceGrammar.{InClassIn, MayPrecedeIn, AreReadIn}
 use Rattle.py_lines.specs.Balance.{is_opener, depth_after}
 use Rattle.py_lines.specs.Fields.{HasNoColon}

@@ -2,7 +2,7 @@
 use Rattle.std.proofs.Common.{◌≡◌, ℕ, true, false, None, Some, List, [], ◌∷◌, ◌++◌, refl, sym, ap, ◌∙◌, subst, ⊎_elim}
 use Rattle.std.proofs.lemmas.Bool.{cases_Bool}
 use Rattle.py_lines.specs.Character.{is_mark}
-use Rattle.py_lines.specs.Piece.{Class, mark, space, word, string, operator, comment, join, line_end, Piece, begins, is_mark_class, spelled}
+use Rattle.py_lines.specs.Piece.{Class, mark, Piece, begins, is_mark_class, spelled}
 use Rattle.py_lines.specs.PieceGrammar.{AreReadIn}
 use Rattle.py_lines.specs.Fields.{Fields, fielded, ShallowFields}
 use Rattle.py_lines.specs.Reading.{IsBalancedReading}

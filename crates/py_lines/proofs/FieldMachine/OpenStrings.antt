@@ -5,7 +5,7 @@ use Rattle.py_lines.specs.Piece.{Piece, begins, spelled}
 use Rattle.py_lines.specs.PieceGrammar.{joined, has_triple}
 use Rattle.py_lines.specs.Fields.{Fields}
 use Rattle.py_lines.specs.OpenFields.{Spot, literal_after, specification_after, IsOpenString, in_literal, in_specification, IsOpenUpTo, IsUnescaped}
-use Rattle.py_lines.specs.FieldStrings.{is_field_prefix, Host, Place, literal, specification, quotes_of, begins_open, named_through}
+use Rattle.py_lines.specs.FieldStrings.{Host, Place, literal, specification, quotes_of, begins_open, named_through}
 use Rattle.py_lines.specs.Private.FieldMachine.{before, At, between, after_slash, FieldMode, opened, body, Level, FieldScanned, field_state, field_fresh, field_pieces, is_after_brace, levels_open}
 use Rattle.py_lines.proofs.Text.CharacterTests.{not_quote, slash-not-quote}
 use Rattle.py_lines.proofs.Machine.OpenStrings.{start-not-mark}

@@ -2,7 +2,7 @@
 use Rattle.std.proofs.Common.{◌≡◌, ℕ, ◌≤◌, ◌<◌, Bool, true, false, ◌&&◌, ◌||◌, ◌==◌, Option, Some, List, [], ◌∷◌, ◌++◌, length, refl, sym, ap, ◌∙◌, subst, inl, inr, append_assoc, length-append, arith}
 use Rattle.std.specs.List.{list_all, list_any}
 use Rattle.std.proofs.lemmas.Bool.{and_parts, or_from, both_ways, cond_both, eqb-true, false_from_ne_true, and_right}
-use Rattle.py_lines.specs.Character.{is_space, is_word_character, is_word_start, is_quote, is_operator, is_line_feed, is_return}
+use Rattle.py_lines.specs.Character.{is_space, is_word_character, is_word_start, is_quote, is_operator}
 use Rattle.py_lines.specs.Piece.{Class, mark, space, word, string, operator, comment, join, line_end, Piece, begins, is_mark_class}
 use Rattle.py_lines.specs.PieceGrammar.{feed, return_feed, return, is_prefix, IsNoneOr, IsPrefix, InPlainClass, MayPrecedePlain, MayPrecedeIn}
 use Rattle.py_lines.specs.Balance.{is_opening, is_closing}

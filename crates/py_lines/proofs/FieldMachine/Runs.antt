@@ -5,7 +5,7 @@ use Rattle.std.proofs.lemmas.Bool.{and_from, lt-ltb}
 use Rattle.py_lines.specs.Balance.{is_opening}
 use Rattle.py_lines.specs.declared.mode.Mode.TheVariants as modes
 use Rattle.py_lines.specs.Private.Machine.{move_of, start_of}
-use Rattle.py_lines.specs.Private.FieldMachine.{FieldMode, plain, FieldMove, grows, closes, breaks, begins_code, opens_field, ends_field, refused, FieldScanned, field_state, field_fresh, field_class_of, field_pieces, field_move, field_moved, field_started, field_step, field_steps_from, frames, has_room_at, has_room, have_room, may_end}
+use Rattle.py_lines.specs.Private.FieldMachine.{FieldMode, plain, FieldMove, grows, closes, breaks, begins_code, opens_field, FieldScanned, field_state, field_fresh, field_class_of, field_pieces, field_move, field_moved, field_started, field_step, field_steps_from, frames, has_room_at, has_room, have_room, may_end}
 use Rattle.py_lines.proofs.Pieces.PieceLists.{piece}
 
 -- a bracket or field may open at a depth that is no limit

@@ -1,7 +1,7 @@
 -- What each character does in a string with fields, at each place in it.
 use Rattle.std.proofs.Common.{◌≡◌, ◌==◌, ℕ, Bool, true, false, not, ◌||◌, ◌&&◌, List, [], ◌∷◌, ◌++◌, refl, sym, ap, ◌∙◌, subst, append_assoc}
 use Rattle.std.proofs.lemmas.Bool.{cond_both, and_left, and_right, eqb-true, and_from, or_right}
-use Rattle.py_lines.specs.Character.{is_quote, is_line_feed, is_return, is_break, is_backslash, is_brace}
+use Rattle.py_lines.specs.Character.{is_line_feed, is_return, is_break, is_backslash, is_brace}
 use Rattle.py_lines.specs.FieldStrings.{Host, Place, literal, specification, may_be_escaped, names, slash, escape, escaped_end, name, double}
 use Rattle.py_lines.specs.Private.FieldMachine.{At, between, after_one, after_two, after_slash, after_return, after_name, after_brace, FieldMove, Level, between_move, is_barred_escape, escape_move, body_move}
 use Rattle.py_lines.proofs.Text.CharacterTests.{slash-not-quote, not_quote, return-not-brace}

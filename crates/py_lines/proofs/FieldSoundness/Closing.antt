@@ -1,15 +1,15 @@
 -- From wherever the machine with fields has come, some text brings it to an end: the open piece, brackets, and fields can be
 -- closed, and nothing more opens.
-use Rattle.std.proofs.Common.{◌≡◌, ◌==◌, ℕ, Bool, true, false, not, ◌&&◌, Some, List, [], ◌∷◌, ◌++◌, refl, sym, ap, ◌∙◌, subst}
+use Rattle.std.proofs.Common.{◌≡◌, ◌==◌, ℕ, Bool, true, false, Some, List, [], ◌∷◌, ◌++◌, refl, sym, ap, ◌∙◌, subst}
 use Rattle.std.specs.Str.{all_scalars}
-use Rattle.std.proofs.lemmas.Bool.{and_from, and_right, and_left, both_ways, eq-eqb}
+use Rattle.std.proofs.lemmas.Bool.{and_from, both_ways, eq-eqb}
 use Rattle.py_lines.specs.Character.{is_quote, is_line_feed, is_return, is_break, is_backslash, is_brace}
 use Rattle.py_lines.specs.Piece.{operator, Piece, spelled}
 use Rattle.py_lines.specs.Balance.{is_opening, is_closing, closing_of}
 use Rattle.py_lines.specs.FieldStrings.{Host, Place, literal, specification}
 use Rattle.py_lines.specs.declared.mode.Mode.TheVariants as modes
 use Rattle.py_lines.specs.Private.Machine.{move_of}
-use Rattle.py_lines.specs.Private.FieldMachine.{At, between, after_one, after_two, after_slash, after_return, after_name, after_brace, FieldMode, plain, body, grows, closes, breaks, ends_field, Level, FieldScanned, field_state, field_fresh, between_move, escape_move, body_move, field_move, openers_with, code_operator, field_operator, field_ended, field_started, field_moved, field_closed, may_end, frames, is_after_two, with_quote, IsFieldFinal}
+use Rattle.py_lines.specs.Private.FieldMachine.{At, between, after_one, after_two, after_slash, after_brace, FieldMode, plain, body, grows, closes, breaks, Level, FieldScanned, field_state, field_fresh, between_move, escape_move, body_move, field_move, openers_with, field_operator, field_ended, field_started, field_moved, field_closed, may_end, frames, IsFieldFinal}
 use Rattle.py_lines.proofs.Text.CharacterTests.{not_quote}
 use Rattle.py_lines.proofs.Pieces.PieceLists.{piece}
 use Rattle.py_lines.proofs.Pieces.OpenBrackets.{closing-not-opening}

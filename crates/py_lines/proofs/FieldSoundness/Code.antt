@@ -1,12 +1,12 @@
 -- The code of fields: how a field ends, how its specification opens, and what a character begins after finished pieces.
 use Rattle.std.proofs.Common.{◌≡◌, ◌==◌, ℕ, suc, ◌+◌, true, false, ◌&&◌, Option, None, Some, List, [], ◌∷◌, ◌++◌, length, refl, sym, ap, ◌∙◌, subst, inl, append_assoc, append-nil, arith}
 use Rattle.std.proofs.lemmas.Bool.{cond_both, and_left, and_right, eqb-true, ne_eqb}
-use Rattle.py_lines.specs.Character.{is_quote, is_operator, is_backslash}
+use Rattle.py_lines.specs.Character.{is_quote, is_operator}
 use Rattle.py_lines.specs.Piece.{string, operator, line_end, Piece, spelled}
 use Rattle.py_lines.specs.PieceGrammar.{is_bare, joined}
 use Rattle.py_lines.specs.Balance.{is_opening, depth_through}
 use Rattle.py_lines.specs.Fields.{AreInside, IsSpecification, simple, specified, fielded}
-use Rattle.py_lines.specs.FieldStrings.{Host, Place, literal, specification, begins_open, field, named_after}
+use Rattle.py_lines.specs.FieldStrings.{Host, Place, literal, specification, begins_open, field}
 use Rattle.py_lines.specs.declared.mode.Mode.{Mode}
 use Rattle.py_lines.specs.declared.mode.Mode.TheVariants as modes
 use Rattle.py_lines.specs.declared.mode.Start.{Start}

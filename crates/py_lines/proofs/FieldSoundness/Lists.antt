@@ -1,7 +1,7 @@
 -- One more piece in the innermost list.
 use Rattle.std.proofs.Common.{◌≡◌, ◌==◌, ℕ, Bool, true, false, ◌&&◌, Option, None, Some, List, [], ◌∷◌, ◌++◌, refl, sym, ap, ◌∙◌, subst, inl, inr, ◌⊎◌, append_assoc, append-nil}
 use Rattle.std.proofs.lemmas.Bool.{and_left}
-use Rattle.py_lines.specs.Piece.{Class, mark, space, word, string, operator, comment, join, line_end, Piece, is_mark_class, begins_marked, spelled}
+use Rattle.py_lines.specs.Piece.{Class, string, operator, Piece, is_mark_class, begins_marked, spelled}
 use Rattle.py_lines.specs.PieceGrammar.{InClassIn, MayPrecedeIn, AreReadIn}
 use Rattle.py_lines.specs.Balance.{is_opener, is_closer, depth_after, depth_through}
 use Rattle.py_lines.specs.Fields.{is_colon, HasNoColon, fielded}

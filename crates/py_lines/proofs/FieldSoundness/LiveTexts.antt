@@ -1,8 +1,7 @@
 -- Some text that begins with these characters is read with fields exactly where the machine with fields goes through them, and
 -- each of them has room: what is open can be closed.
 use Rattle.std.proofs.Common.{◌≡◌, ℕ, Bool, true, false, Option, None, Some, List, [], ◌∷◌, ◌++◌, refl, sym, ap, ◌∙◌}
-use Rattle.std.specs.Str.{all_scalars}
-use Rattle.std.proofs.lemmas.Bool.{and_parts, and_from, and_right, both_ways, eq-eqb}
+use Rattle.std.proofs.lemmas.Bool.{and_parts, and_from, and_right, both_ways}
 use Rattle.py_lines.specs.Character.{is_quote}
 use Rattle.py_lines.specs.Piece.{comment, line_end, Piece}
 use Rattle.py_lines.specs.Balance.{is_opening, is_closing}
@@ -11,7 +10,7 @@ use Rattle.py_lines.specs.FieldStrings.{Host, Place, literal}
 use Rattle.py_lines.specs.declared.mode.Mode.{Mode}
 use Rattle.py_lines.specs.declared.mode.Mode.TheVariants as modes
 use Rattle.py_lines.specs.Private.Machine.{Holds, is_final}
-use Rattle.py_lines.specs.Private.FieldMachine.{At, between, after_one, after_two, after_slash, after_return, after_name, after_brace, FieldMode, plain, opened, empty, body, grows, Level, FieldScanned, field_state, field_fresh, field_text_start, begins_host, plain_move, field_move, field_started, field_step, field_steps_from, field_pieces, have_room, has_room}
+use Rattle.py_lines.specs.Private.FieldMachine.{At, between, after_one, after_two, after_slash, after_return, after_name, after_brace, FieldMode, plain, opened, empty, body, Level, FieldScanned, field_state, field_fresh, field_text_start, begins_host, plain_move, field_move, field_started, field_step, field_steps_from, field_pieces, have_room, has_room}
 use Rattle.py_lines.proofs.Pieces.PieceLists.{piece}
 use Rattle.py_lines.proofs.Text.CharacterTests.{not_quote}
 use Rattle.py_lines.proofs.Machine.LiveTexts.{IsReady, closing-not-quote, quote-scalar, comment-breaks, feed-starts, completes}

@@ -4,7 +4,7 @@ use Rattle.std.proofs.Common.{◌≡◌, ℕ, Bool, true, false, ◌||◌, ◌&&
 use Rattle.std.specs.List.{list_any}
 use Rattle.std.proofs.lemmas.Bool.{or_cases, both_ways}
 use Rattle.py_lines.specs.Character.{is_quote}
-use Rattle.py_lines.specs.Piece.{Class, mark, space, word, string, operator, comment, join, line_end, begins}
+use Rattle.py_lines.specs.Piece.{Class, word, string, operator, line_end, begins}
 use Rattle.py_lines.specs.PieceGrammar.{is_prefix, IsNoneOr, InPlainClass, InClassIn, MayPrecedePlain, MayPrecedeIn, AreReadPlain}
 use Rattle.py_lines.specs.FieldStrings.{is_field_prefix, Host, with_fields}
 use Rattle.py_lines.specs.declared.mode.Mode.{Mode}

@@ -8,7 +8,7 @@ use Rattle.py_lines.specs.Balance.{is_opening, is_opener, IsBalanced, depth_afte
 use Rattle.py_lines.specs.Fields.{IsShallow, AnyPieces, Fields, fielded, ShallowFields}
 use Rattle.py_lines.specs.Reading.{IsBalancedReading}
 use Rattle.py_lines.specs.FieldStrings.{with_fields}
-use Rattle.py_lines.specs.Private.FieldMachine.{before, FieldMove, grows, closes, breaks, begins_code, opens_field, ends_field, refused, Level, FieldScanned, field_state, field_text_start, field_move, field_step, field_steps_from, field_pieces, frames, has_room, has_room_at, have_room, IsFieldFinal}
+use Rattle.py_lines.specs.Private.FieldMachine.{before, FieldMove, breaks, begins_code, opens_field, Level, FieldScanned, field_state, field_text_start, field_move, field_step, field_steps_from, field_pieces, frames, has_room, has_room_at, have_room, IsFieldFinal}
 use Rattle.py_lines.proofs.Fields.Nesting.{field_is, shallow_is, any_shallow}
 use Rattle.py_lines.proofs.FieldSoundness.OpenLists.{balanced_at}
 use Rattle.py_lines.proofs.FieldSoundness.Holds.{Limit, IsFieldSound}

@@ -1,5 +1,5 @@
 -- A text is live exactly where the machine goes through it: what is open can be closed.
-use Rattle.std.proofs.Common.{◌≡◌, ℕ, true, false, ◌==◌, eqb, Some, List, [], ◌∷◌, ◌++◌, refl, ap, ◌∙◌}
+use Rattle.std.proofs.Common.{◌≡◌, ℕ, true, false, ◌==◌, Some, List, [], ◌∷◌, ◌++◌, refl, ap, ◌∙◌}
 use Rattle.std.specs.Str.{all_scalars}
 use Rattle.std.specs.Char.{IsScalar}
 use Rattle.std.proofs.lemmas.Bool.{cond_both, and_parts, and_from, and_right, eq-eqb}
@@ -12,7 +12,6 @@ use Rattle.py_lines.specs.declared.mode.Mode.{Mode}
 use Rattle.py_lines.specs.declared.mode.Mode.TheVariants as modes
 use Rattle.py_lines.specs.declared.mode.Move.TheVariants as moves
 use Rattle.py_lines.specs.declared.mode.Start.TheVariants as starts
-use Rattle.py_lines.specs.declared.mode.Spelling.{Spelling}
 use Rattle.py_lines.specs.Private.Machine.{Holds, class_of, closed, move_of, start_of, is_final, is_prefix_spelling, Bracket, brackets_through, brackets_of}
 use Rattle.py_lines.proofs.Text.CharacterTests.{each_of, none_of, not_quote, quote-not-feed}
 use Rattle.py_lines.proofs.Pieces.PieceLists.{piece}

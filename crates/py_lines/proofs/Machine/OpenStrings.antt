@@ -1,5 +1,5 @@
 -- What is open where the machine stands: a short string, a long string, or a backslash; and the other way round.
-use Rattle.std.proofs.Common.{◌≡◌, ℕ, true, false, Some, List, [], ◌∷◌, ◌++◌, refl, sym, ap, ◌∙◌, subst, inl, inr, append_assoc, append-nil}
+use Rattle.std.proofs.Common.{◌≡◌, ℕ, true, false, List, [], ◌∷◌, ◌++◌, refl, sym, ap, ◌∙◌, subst, inl, inr, append_assoc, append-nil}
 use Rattle.std.specs.List.{list_all}
 use Rattle.std.proofs.lemmas.Bool.{both_ways, false_from_ne_true}
 use Rattle.unicode_ident.proofs.Computing.{unicode_ident}
@@ -12,7 +12,7 @@ use Rattle.py_lines.specs.declared.mode.Mode.TheVariants as modes
 use Rattle.py_lines.specs.declared.mode.Move.TheVariants as moves
 use Rattle.py_lines.specs.Private.Machine.{move_from, move_of, in_short, in_long, is_after_backslash}
 use Rattle.py_lines.proofs.Text.CharacterTests.{none_of, prefix_word}
-use Rattle.py_lines.proofs.Machine.PieceSteps.{scanned, all_held, grown_by}
+use Rattle.py_lines.proofs.Machine.PieceSteps.{all_held, grown_by}
 use Rattle.py_lines.proofs.Machine.StringSteps.{RunTo, run_both, IsShortMode, short_escapes, short_body, run_long, mode_at, QuotesBefore, seen_after, long_escapes}
 use Rattle.py_lines.specs.Private.Machine.{Holds, HoldsItems, HoldsPrefix}
 use Rattle.py_lines.proofs.Machine.OpenPieces.{opened_items, opening_none, opening_one, opening_two}

@@ -9,7 +9,7 @@ use Rattle.py_lines.specs.declared.mode.Mode.{Mode}
 use Rattle.py_lines.specs.declared.mode.Mode.TheVariants as modes
 use Rattle.py_lines.specs.declared.mode.Move.{Move}
 use Rattle.py_lines.specs.declared.mode.Move.TheVariants as moves
-use Rattle.py_lines.specs.Private.Machine.{Scanned, fresh, text_start, started, moved, steps_by, move_from, steps_from, move_of, start_of}
+use Rattle.py_lines.specs.Private.Machine.{Scanned, fresh, text_start, started, moved, steps_by, move_from, steps_from, move_of}
 use Rattle.py_lines.proofs.Pieces.PieceLists.{piece}
 use Rattle.py_lines.proofs.Machine.Starts.{start-mark}
 use Rattle.py_lines.proofs.Machine.PieceSteps.{pieces_at, StopsBefore, Finds, steps_by-append, stops-free, find_space, find_word, find_operator, find_comment, find_line_end, find_join, stops_unless}

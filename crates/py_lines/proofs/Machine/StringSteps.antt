@@ -3,8 +3,8 @@ use Rattle.std.proofs.Common.{◌≡◌, ℕ, Bool, true, false, not, cond, ◌&
 use Rattle.std.specs.List.{list_all}
 use Rattle.std.proofs.lemmas.List.Folds.{list_all-append}
 use Rattle.std.proofs.lemmas.Bool.{and_parts, and_from, or_parts, eq-eqb, eqb-true, both_ways, cases_Bool, not-true}
-use Rattle.py_lines.specs.Character.{is_quote, is_line_feed, is_return, is_break, is_backslash, is_barred}
-use Rattle.py_lines.specs.Piece.{string, Piece, begins}
+use Rattle.py_lines.specs.Character.{is_quote, is_line_feed, is_return, is_backslash, is_barred}
+use Rattle.py_lines.specs.Piece.{string, Piece}
 use Rattle.py_lines.specs.PieceGrammar.{IsPrefix, is_item, is_bare, is_short_item, joined, begins_triple, has_triple, MayPrecedePlain}
 use Rattle.py_lines.specs.declared.mode.Spelling.{Spelling}
 use Rattle.py_lines.specs.declared.mode.Mode.{Mode}
