@@ -34,10 +34,6 @@ start_breaks : (c : ℕ) → is_mark c ≡ false → field_move (plain modes.Sta
 unfolding field_move move_of
 start_breaks c h = rw h
 
-start_closes : (c : ℕ) → is_mark c ≡ true → field_move (plain modes.Start) [] c ≡ closes
-unfolding field_move move_of
-start_closes c h = rw h
-
 stops_start : (rest : List ℕ) → begins is_mark rest ≡ false → StopsAt (plain modes.Start) [] rest
 stops_start [] h = refl
 stops_start (c ∷ cs) h = start_breaks c h
@@ -77,8 +73,10 @@ module _ (Room : ℕ → Type 0) (F : ℕ → Host → List ℕ → Type 0) (beg
       }
 
   marked_reached : (text : List ℕ) (ps : List Piece) (after rest : List ℕ) → AreReadIn (with_fields G) (piece mark text ∷ ps) rest → ArePassed Room F 0 (piece mark text ∷ ps) → openers_through (Some []) (piece mark text ∷ ps) ≡ Some after → FieldReaches Room (spelled (piece mark text ∷ ps)) (piece mark text ∷ ps) after rest
+  unfolding field_move move_of
   marked_reached text ps after rest fit passed opens =
       let c = fit.0.0 in
+      let move : field_move (plain modes.Start) [] c ≡ closes = rw fit.0.2 in
       let P : List ℕ → Type 0 = λ t. FieldReaches Room (t ++ spelled ps) (piece mark t ∷ ps) after rest in
       let marked : FieldScanned = field_fresh [] (piece mark (c ∷ []) ∷ []) [] in
       let found = all_found Room F begin run G marked ps after rest fit.3 fit.2 passed.2 opens tt (stops-fresh _) in
@@ -87,7 +85,7 @@ module _ (Room : ℕ → Type 0) (F : ℕ → Host → List ℕ → Type 0) (beg
         done = found.done;
         mode = found.mode;
         held = found.held;
-        goes = goes-append Room field_text_start marked last (c ∷ []) (spelled ps) (goes-closes Room field_text_start c (start_closes c fit.0.2)) found.goes;
+        goes = goes-append Room field_text_start marked last (c ∷ []) (spelled ps) (goes-closes Room field_text_start c move) found.goes;
         pieces_are = found.pieces_are;
         stops = λ h. found.stops;
       })

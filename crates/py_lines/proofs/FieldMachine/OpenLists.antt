@@ -108,7 +108,6 @@ pub record AfterPieces (outside : List ℕ) (depth : ℕ) (pieces : List Piece) 
   pub stops : StopsAt from.mode from.held front
   pub opens : openers_through (Some []) pieces ≡ Some from.openers
   pub deep : length from.openers + levels_open from.outer ≡ depth + depth_through 0 pieces
-  pub outer_is : levels_open from.outer ≡ depth
   pub start_is : before literal from.outer ≡ outside
   pub pieces_are : field_pieces from ≡ pieces
   pub goes : (t : FieldScanned) (text : List ℕ) → BeginAlike front text → Goes NoLimit from text t → Goes NoLimit field_text_start (outside ++ (spelled pieces ++ text)) t
@@ -125,7 +124,6 @@ after_pieces outside depth pieces front list begun may =
           let own = list.deep in
           let many = run.deep in
           omega (arith, own, many);
-      outer_is = list.deep;
       start_is = list.start_is;
       pieces_are = run.pieces_are;
       goes = λ t text alike_so goes.

@@ -68,9 +68,6 @@ grows_first Room s m c scalar move later = record {
 pub closes_last : (Room : ℕ → Type 0) (s : FieldScanned) (c : ℕ) → all_scalars (c ∷ []) ≡ true → field_move s.mode s.held c ≡ closes → Readies Room s
 closes_last Room s c scalar move = record { more = c ∷ []; done = _; mode = plain modes.Free; held = []; scalars = scalar; goes = goes-closes Room s c move; ready = ready-fresh }
 
-one_scalar : (c : ℕ) → is_closing c ≡ true → all_scalars (c ∷ []) ≡ true
-one_scalar c h = and_from _ _ (closing-scalar c h) refl
-
 no_opening : {A : Type 0} (c : ℕ) → is_closing c ≡ true → is_opening c ≡ true → A
 no_opening c is opens = absurd (both_ways _ (closing-not-opening c is) opens)
 
@@ -95,7 +92,7 @@ closes_list Room outer (o ∷ os) done m held ready =
       done = others.done;
       mode = others.mode;
       held = others.held;
-      scalars = scalars-append (c ∷ []) others.more (one_scalar c is) others.scalars;
+      scalars = scalars-append (c ∷ []) others.more (and_from _ _ (closing-scalar c is) refl) others.scalars;
       goes = goes-begins Room s next _ c others.more (ready.closing c is)
           (ap (field_started outer pieces (o ∷ os) c) (start-operator c (closing-operator c is)) ∙ popped outer pieces o os c is (eq-eqb c c refl)) (λ opens. no_opening c is opens) others.goes;
       ready = others.ready;

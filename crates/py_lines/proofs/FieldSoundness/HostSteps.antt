@@ -65,9 +65,6 @@ empty_string F host held h quotes short = record {
   first = refl;
 }
 
-pub empty_end : (host : Host) (held : List ℕ) → OpensHost host (host.quote ∷ host.quote ∷ []) held → is_quote host.quote ≡ true → MayPrecedeIn fielded string held []
-empty_end host held h quotes prefix r spell begun also = refl
-
 pub empty_before : (host : Host) (held : List ℕ) (c : ℕ) (more : List ℕ) → OpensHost host (host.quote ∷ host.quote ∷ []) held → is_quote host.quote ≡ true → c == host.quote ≡ false → MayPrecedeIn fielded string held (c ∷ more)
 empty_before host held c more h quotes other prefix r spell begun also =
     let cut = first_quote h.prefix prefix (host.quote ∷ []) (r ∷ []) host.quote r (field_letters h.prefix h.begun).quotes (quoted_prefix prefix begun) quotes also (sym h.spell ∙ spell) in

@@ -15,7 +15,7 @@ use Rattle.py_lines.proofs.FieldSoundness.OpenLists.{Opens, opens-other}
 use Rattle.py_lines.proofs.FieldSoundness.Holds.{Limit, IsFieldSound}
 use Rattle.py_lines.proofs.FieldSoundness.Lists.{neutral, colon-push, marked-push}
 use Rattle.py_lines.proofs.FieldSoundness.PlainSteps.{plain_text, string_of, Ends, nothing, something, ends_of}
-use Rattle.py_lines.proofs.FieldSoundness.HostSteps.{empty_string, empty_end}
+use Rattle.py_lines.proofs.FieldSoundness.HostSteps.{empty_string}
 
 -- the pieces are read to the text's end, and these brackets are open in them
 pub record EndsList (limit : Limit) (outer : List Level) (openers : List ℕ) (pieces : List Piece) (text : List ℕ) : Type 0 where
@@ -72,6 +72,6 @@ list_ends limit outer done openers (plain m) held read sound may = ends_plain li
 list_ends limit outer done openers (opened host) held read sound may = absurd (both_ways _ refl may)
 list_ends limit outer done openers (empty host) held read sound may =
     let own = sound.mode in
-    ends_piece limit outer done openers (empty host) held read sound string (λ at. absurd (cc)) refl (inr (empty_string Fields host held own.0 own.1 own.2)) (empty_end host held own.0 own.1)
+    ends_piece limit outer done openers (empty host) held read sound string (λ at. absurd (cc)) refl (inr (empty_string Fields host held own.0 own.1 own.2)) (λ prefix r spell begun also. refl)
     (λ at. inr (empty_string (limit.FieldsAt (depth_through (levels_open outer) done)) host held own.0 own.1 own.2))
 list_ends limit outer done openers (body host place named at) held read sound may = absurd (both_ways _ refl may)

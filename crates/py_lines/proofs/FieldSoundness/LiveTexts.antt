@@ -40,15 +40,12 @@ ready_empty : (host : Host) (held : List ℕ) → is_quote host.quote ≡ true �
 unfolding field_move
 ready_empty host held quotes = record { ends = refl; closing = λ c h. rw (not_quote c host.quote quotes (closing-not-quote c h)) }
 
-feed_opens : is_opening 10 ≡ false
-unfolding is_opening
-feed_opens = refl
-
 module _ (Room : ℕ → Type 0) (outer : List Level) (done : List Piece) (openers : List ℕ) where
   abbrev State : Mode → List ℕ → FieldScanned
   State m held = field_state outer done openers (plain m) held
 
   comment_ends : (held : List ℕ) → Readies Room (State modes.Comment held)
+  unfolding is_opening
   comment_ends held =
       let pieces = done ++ piece comment held ∷ [] in
       let next = field_fresh outer (pieces ++ piece line_end (10 ∷ []) ∷ []) openers in
@@ -59,7 +56,7 @@ module _ (Room : ℕ → Type 0) (outer : List Level) (done : List Piece) (opene
         held = [];
         scalars = refl;
         goes = goes-begins Room (State modes.Comment held) next next 10 [] (plain_moves modes.Comment held 10 refl ∙ ap plain_move comment-breaks) (ap (field_started outer pieces openers 10) feed-starts)
-            (λ opens. absurd (both_ways _ feed_opens opens)) refl;
+            (λ opens. absurd (both_ways _ refl opens)) refl;
         ready = ready-fresh;
       }
 

@@ -32,18 +32,12 @@ from_quote : List ℕ → List ℕ
 from_quote [] = []
 from_quote (c ∷ cs) = cond (is_quote c) (c ∷ cs) (from_quote cs)
 
-start-not-quote : (c : ℕ) → is_word_start c ≡ true → is_quote c ≡ false
-start-not-quote c h = false_from_ne_true _ (λ k. both_ways _ (quote-not-start c k) h)
-
-character-not-quote : (c : ℕ) → is_word_character c ≡ true → is_quote c ≡ false
-character-not-quote c h = false_from_ne_true _ (λ k. both_ways _ (quote-not-word c k) h)
-
 past_letters : (letters : List ℕ) (q : ℕ) (body : List ℕ) → list_all is_word_character letters ≡ true → is_quote q ≡ true → from_quote (letters ++ q ∷ body) ≡ q ∷ body
 unfolding from_quote
 past_letters [] q body h quotes = rw quotes
 past_letters (c ∷ cs) q body h quotes =
     let parts = and_parts (is_word_character c) (list_all is_word_character cs) h in
-    rw (character-not-quote c parts.0) (past_letters cs q body parts.1 quotes)
+    rw (false_from_ne_true (is_quote c) (λ k. both_ways _ (quote-not-word c k) parts.0)) (past_letters cs q body parts.1 quotes)
 
 past_prefix : (prefix : List ℕ) (q : ℕ) (body : List ℕ) → IsPrefix prefix → is_quote q ≡ true → from_quote (prefix ++ q ∷ body) ≡ q ∷ body
 unfolding from_quote
@@ -51,7 +45,7 @@ past_prefix [] q body is quotes = rw quotes
 past_prefix (a ∷ bs) q body (inl none) quotes = absurd (cc)
 past_prefix (a ∷ bs) q body (inr is) quotes =
     let letters = prefix_word a bs is in
-    rw (start-not-quote a letters.0) (past_letters bs q body letters.1 quotes)
+    rw (false_from_ne_true (is_quote a) (λ k. both_ways _ (quote-not-start a k) letters.0)) (past_letters bs q body letters.1 quotes)
 
 -- the quote that a string begins with, and what follows, are the same however its prefix is told
 pub same_quotes : (prefix other : List ℕ) (q r : ℕ) (body rest : List ℕ) → prefix ++ q ∷ body ≡ other ++ r ∷ rest → IsPrefix prefix → IsPrefix other → is_quote q ≡ true → is_quote r ≡ true → q ∷ body ≡ r ∷ rest
