@@ -53,29 +53,26 @@ pub length-shift : (k : ℕ) (st : List Bracket) → length (shift k st) ≡ len
 length-shift k [] = refl
 length-shift k (b ∷ bs) = omega (arith, length-shift k bs)
 
+either-shift : (k : ℕ) (b : Bool) (one two first second : Option (List Bracket)) → first ≡ shift_if k one → second ≡ shift_if k two → (if b then first else second) ≡ shift_if k (if b then one else two)
+either-shift k true one two first second same other = same
+either-shift k false one two first second same other = other
+
 opened-shift : (k c place n : ℕ) (st : List Bracket) → n ≡ k + place → opened_by c n (shift k st) ≡ shift_if k (opened_by c place st)
-opened-shift k c place n st is = ap (λ (m : ℕ). if nat_lt m 200 then Some (record { opener = c; place = n } ∷ shift k st) else None) (length-shift k st) ∙ go (nat_lt (length st) 200)
-  where
-    go : (b : Bool) → (if b then Some (record { opener = c; place = n } ∷ shift k st) else None) ≡ shift_if k (if b then Some (record { opener = c; place = place } ∷ st) else None)
-    go true = ap (λ (m : ℕ). Some (record { opener = c; place = m } ∷ shift k st)) is
-    go false = refl
+opened-shift k c place n st is =
+    ap (λ (m : ℕ). if nat_lt m 200 then Some (record { opener = c; place = n } ∷ shift k st) else None) (length-shift k st)
+    ∙ either-shift k (nat_lt (length st) 200) (Some (record { opener = c; place = place } ∷ st)) None (Some (record { opener = c; place = n } ∷ shift k st)) None
+    (ap (λ (m : ℕ). Some (record { opener = c; place = m } ∷ shift k st)) is) refl
 
 closed-shift : (k c : ℕ) (st : List Bracket) → closed_by c (shift k st) ≡ shift_if k (closed_by c st)
 closed-shift k c [] = refl
-closed-shift k c (b ∷ bs) = go (c == closing_of b.opener)
-  where
-    go : (x : Bool) → (if x then Some (shift k bs) else None) ≡ shift_if k (if x then Some bs else None)
-    go true = refl
-    go false = refl
+closed-shift k c (b ∷ bs) = either-shift k (c == closing_of b.opener) (Some bs) None (Some (shift k bs)) None refl refl
 
 after-shift : (k place n : ℕ) (st : List Bracket) (p : Piece) → n ≡ k + place → brackets_after (shift k st) n p ≡ shift_if k (brackets_after st place p)
 unfolding brackets_after
-after-shift k place n st p is = go (is_opener p) (is_closer p)
-  where
-    go : (x y : Bool) → (if x then opened_by (first_or_zero p.text) n (shift k st) else (if y then closed_by (first_or_zero p.text) (shift k st) else Some (shift k st))) ≡ shift_if k (if x then opened_by (first_or_zero p.text) place st else (if y then closed_by (first_or_zero p.text) st else Some st))
-    go true y = opened-shift k (first_or_zero p.text) place n st is
-    go false true = closed-shift k (first_or_zero p.text) st
-    go false false = refl
+after-shift k place n st p is =
+    let c = first_or_zero p.text in
+    either-shift k (is_opener p) (opened_by c place st) (if is_closer p then closed_by c st else Some st) (opened_by c n (shift k st)) (if is_closer p then closed_by c (shift k st) else Some (shift k st)) (opened-shift k c place n st is)
+    (either-shift k (is_closer p) (closed_by c st) (Some st) (closed_by c (shift k st)) (Some (shift k st)) (closed-shift k c st) refl)
 
 through-shift : (base ps done : List Piece) (o : Option (List Bracket)) → brackets_through (shift_if (byte_len (spelled base)) o) (base ++ done) ps ≡ shift_if (byte_len (spelled base)) (brackets_through o done ps)
 through-shift base ps done None = refl
