@@ -180,30 +180,25 @@ up_to_runs from host spot front is stops = go is.escapes
     run : StringRun from host spot is.body is.last
     run = string_runs from host spot is.body is.last is.string (subst (StopsAt from.mode from.held) is.spell stops)
 
+    at : (mode : FieldMode) (text : List ℕ) → text ≡ front → Goes NoLimit from text (field_state run.outer run.done run.openers mode text) → IsHostMode host spot.place mode → UpToRun from host spot front
+    at mode text same goes mode_is =
+        subst (UpToRun from host spot) same (record {
+          outer = run.outer;
+          done = run.done;
+          openers = run.openers;
+          mode = mode;
+          goes = goes;
+          mode_is = mode_is;
+          start_is = run.start_is;
+          field_is = run.field_is;
+        })
+
     go : IsUnescaped is.last → UpToRun from host spot front
     go (inl none) =
-        let same : is.body ≡ front = sym (append-nil is.body) ∙ ap (λ t. is.body ++ t) (sym none) ∙ sym is.spell in
-        subst (UpToRun from host spot) same (record {
-          outer = run.outer;
-          done = run.done;
-          openers = run.openers;
-          mode = run.mode;
-          goes = run.goes;
-          mode_is = string_mode host spot.place spot.named run.mode (subst (IsInString host spot.place spot.named run.mode) none run.stands);
-          start_is = run.start_is;
-          field_is = run.field_is;
-        })
+        at run.mode is.body (sym (append-nil is.body) ∙ ap (λ t. is.body ++ t) (sym none) ∙ sym is.spell) run.goes
+        (string_mode host spot.place spot.named run.mode (subst (IsInString host spot.place spot.named run.mode) none run.stands))
     go (inr (s, one, slashes)) =
-        let same : is.body ++ s ∷ [] ≡ front = ap (λ t. is.body ++ t) (sym one) ∙ sym is.spell in
         let stands = subst (IsInString host spot.place spot.named run.mode) one run.stands in
         let slashed = slash_run run.outer run.done run.openers host spot.place spot.named run.mode is.body s stands (open_quotes host spot is.body is.last is.string) slashes in
-        subst (UpToRun from host spot) same (record {
-          outer = run.outer;
-          done = run.done;
-          openers = run.openers;
-          mode = body host spot.place spot.named after_slash;
-          goes = goes-append NoLimit from (field_state run.outer run.done run.openers run.mode is.body) _ is.body (s ∷ []) run.goes slashed;
-          mode_is = inl (spot.named, after_slash, refl, refl);
-          start_is = run.start_is;
-          field_is = run.field_is;
-        })
+        at (body host spot.place spot.named after_slash) (is.body ++ s ∷ []) (ap (λ t. is.body ++ t) (sym one) ∙ sym is.spell)
+        (goes-append NoLimit from (field_state run.outer run.done run.openers run.mode is.body) _ is.body (s ∷ []) run.goes slashed) (inl (spot.named, after_slash, refl, refl))
