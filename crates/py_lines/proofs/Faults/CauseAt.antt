@@ -7,23 +7,26 @@ use Rattle.std.proofs.lemmas.Bool.{both_ways, cond_both, and_parts, and_from, or
 use Rattle.py_lines.specs.Character.{is_line_feed, is_return, is_break}
 use Rattle.py_lines.specs.Piece.{Piece, spelled}
 use Rattle.py_lines.specs.Balance.{is_opening, is_closing}
-use Rattle.py_lines.specs.Faults.{OpensBraceTooDeep, InShortSpecification, BreaksString, OpensTooDeep, Cause, brace_too_deep, breaks_string, breaks_join, closes_wrong, opens_too_deep, ends_specification, begins_nothing, kind_of_cause, Explains, causes_before, NoneExplains, IsCharacterFault}
+use Rattle.py_lines.specs.Faults.{IsFieldDue, OpensBraceTooDeep, InShortSpecification, BreaksString, OpensTooDeep, Cause, brace_too_deep, breaks_string, breaks_join, closes_wrong, opens_too_deep, ends_specification, begins_nothing, kind_of_cause, Explains, causes_before, NoneExplains, IsCharacterFault}
 use Rattle.py_lines.specs.OpenFields.{InOpenShort}
 use Rattle.py_lines.specs.LogicalLine.{byte_len}
 use Rattle.py_lines.specs.FieldStrings.{Host, literal, specification}
 use Rattle.py_lines.specs.Private.Machine.{start_of}
-use Rattle.py_lines.specs.Private.FieldMachine.{text_place, before, after_brace, FieldMode, plain, opened, empty, body, FieldMove, grows, closes, breaks, begins_code, opens_field, ends_field, refused, Level, FieldScanned, field_state, field_text_start, field_pieces, field_move, field_moved, field_started, field_step, opened_level, field_steps_from, levels_open, frames, has_room_at, have_room, body_move, after_open_backslash, InSpecificationOf}
+use Rattle.py_lines.specs.Private.FieldMachine.{text_place, before, between, after_brace, FieldMode, plain, opened, empty, body, FieldMove, grows, closes, breaks, begins_code, opens_field, ends_field, refused, Level, FieldScanned, field_state, field_text_start, field_pieces, field_move, field_moved, field_started, field_step, opened_level, field_steps_from, levels_open, frames, has_room_at, have_room, body_move, after_open_backslash, InSpecificationOf}
 use Rattle.py_lines.specs.Private.FieldFaults.{is_waiting, quotes_specification, cause_in, cause_place, here, piece_start}
 use Rattle.py_lines.proofs.Text.CharacterTests.{break-not-opening, break-not-closing, break-not-quote, opening-not-quote}
 use Rattle.py_lines.proofs.Machine.Starts.{start-feed, start-return}
 use Rattle.py_lines.proofs.FieldMachine.WhatIsOpen.{Comes, comes_to, short_open_comes, backslash_comes, specification_comes}
 use Rattle.py_lines.proofs.FieldMachine.OpenCode.{brace_comes}
 use Rattle.py_lines.proofs.FieldSoundness.Holds.{IsFieldSound}
+use Rattle.py_lines.proofs.FieldSoundness.Bodies.{Moved}
+use Rattle.py_lines.proofs.FieldSoundness.BodyMoves.{body_moves}
+use Rattle.py_lines.proofs.FieldSoundness.Lists.{not_specification}
 use Rattle.py_lines.proofs.FieldSoundness.WholeTexts.{two_hundred}
 use Rattle.py_lines.proofs.FieldSoundness.OpenEnds.{specification_is_open, slash_is_open}
-use Rattle.py_lines.proofs.Faults.EndFaults.{few_frames}
+use Rattle.py_lines.proofs.Faults.EndFaults.{due_at, brace_is_due, no_brace_at, few_frames}
 use Rattle.py_lines.proofs.Faults.Ends.{sound_to, short_place, join_place, starts_there, opened_in_specification, specification_named}
-use Rattle.py_lines.proofs.Faults.CharacterFaults.{IsStuck, grows_free, brace_due, opens_due, bracket_at, started, short_in, ShortSpecification, specification_in, specification_mode, no_brace_at, stuck_dies}
+use Rattle.py_lines.proofs.Faults.CharacterFaults.{IsStuck, grows_free, bracket_at, started, short_in, short_specification, specification_mode, stuck_dies}
 use Rattle.py_lines.proofs.Faults.Refusals.{IsShortHere, Refuses, Reason, reason}
 
 -- the byte of a `{` is the one before the end
@@ -54,11 +57,38 @@ end_brace_closes : is_closing 125 ≡ true
 unfolding is_closing
 end_brace_closes = refl
 
--- where a `{` waits, a character is a second one, or begins its field's code
-waiting_moves : (P : FieldMove → Type 0) (m : FieldMode) (held : List ℕ) (c : ℕ) → is_waiting m ≡ true → ((n : FieldMode) → P (grows n)) → ((h : Host) → P (begins_code h)) → P (field_move m held c)
+-- where a `{` waits and the character is stuck, it is no second one
+not_second : (host : Host) (named : Bool) (held : List ℕ) (c : ℕ) → ((n : FieldMode) → field_move (body host literal named after_brace) held c ≡ grows n → ⊥) → c == 123 ≡ false
 unfolding field_move body_move
-waiting_moves P (body host literal named after_brace) held c is second code = cond_both (c == 123) _ _ P (λ h. second _) (λ h. code host)
-waiting_moves P m held c is second code = absurd (both_ways _ refl is)
+not_second host named held c = cond_both (c == 123) (grows (body host literal named between)) (begins_code host) (λ v. ((n : FieldMode) → v ≡ grows n → ⊥) → c == 123 ≡ false) (λ h none. absurd (none _ refl)) (λ other none. other)
+
+module _ (read : List ℕ) (s : FieldScanned) (steps : field_steps_from (Some field_text_start) read ≡ Some s) (room : have_room (Some field_text_start) read ≡ true) where
+  pub text_is : here s ≡ byte_len read
+  text_is = ap byte_len (sound_to read s steps room).spell
+
+  -- where a cause fits, its byte is that of the state
+  pub place_is : (cause : Cause) (c offset : ℕ) → Explains cause read c offset → offset ≡ cause_place s cause
+  place_is brace_too_deep c offset fits = fits.place ∙ brace_last fits.start read fits.spell ∙ ap (λ n. n - 1) (sym text_is)
+  place_is breaks_string c offset fits = go fits.inside
+    where
+      go : InOpenShort read fits.start ⊎ InShortSpecification read fits.start → offset ≡ piece_start s
+      go (inl short) =
+          let own = comes_to read _ s (short_open_comes read fits.start short) steps in
+          starts_there s fits.start offset (short_place s.mode own.0) own.1 fits.place
+      go (inr is) =
+          let own = comes_to read _ s (specification_comes is.host read is.field is.inside) steps in
+          fits.place ∙ ap byte_len (sym (own.0.string_is ∙ own.1 ∙ is.before)) ∙ ap (λ p. byte_len (before p s.outer ++ spelled s.done)) (sym (opened_in_specification is.host s.mode s.outer read own.0.mode_is).1)
+  place_is breaks_join c offset fits =
+      let own = comes_to read _ s (backslash_comes read fits.start fits.after) steps in
+      starts_there s fits.start offset (join_place s.mode own.0) own.1 fits.place
+  place_is closes_wrong c offset fits = fits.place ∙ sym text_is
+  place_is opens_too_deep c offset fits = fits.place ∙ sym text_is
+  place_is ends_specification c offset fits =
+      let own = comes_to read _ s (specification_comes fits.host read fits.start fits.inside) steps in
+      let found = specification_named read s steps room fits.host fits.start offset own.0 fits.place in
+      let opened_is = (opened_in_specification fits.host s.mode s.outer read own.0.mode_is).0 in
+      found.1.2 ∙ brace_last found.1.0 (before literal s.outer) (found.1.1 ∙ opened_is)
+  place_is begins_nothing c offset fits = fits ∙ sym text_is
 
 -- a character that has no room opens a bracket
 no_room : (opens : Bool) (depth : ℕ) → not opens || nat_lt depth 200 ≡ false → opens ≡ false → ⊥
@@ -81,38 +111,8 @@ module _ (s : FieldScanned) (read : List ℕ) (c : ℕ) (after : List ℕ) (step
   sound : IsFieldSound two_hundred s read
   sound = sound_to read s steps room
 
-  text_is : here s ≡ byte_len read
-  text_is = ap byte_len sound.spell
-
   few : frames s ≤ 200
   few = few_frames s.outer s.done s.openers s.mode s.held read sound
-
-  -- where a cause fits, its byte is that of the state
-  specification_place : (host : Host) → InSpecificationOf host s.mode → text_place s.mode ≡ specification
-  specification_place host is = (opened_in_specification host s.mode s.outer read is).1
-
-  place_is : (cause : Cause) (offset : ℕ) → Explains cause read c offset → offset ≡ cause_place s cause
-  place_is brace_too_deep offset fits = fits.place ∙ brace_last fits.start read fits.spell ∙ ap (λ n. n - 1) (sym text_is)
-  place_is breaks_string offset fits = go fits.inside
-    where
-      go : InOpenShort read fits.start ⊎ InShortSpecification read fits.start → offset ≡ piece_start s
-      go (inl short) =
-          let own = comes_to read _ s (short_open_comes read fits.start short) steps in
-          starts_there s fits.start offset (short_place s.mode own.0) own.1 fits.place
-      go (inr is) =
-          let own = comes_to read _ s (specification_comes is.host read is.field is.inside) steps in
-          fits.place ∙ ap byte_len (sym (own.0.string_is ∙ own.1 ∙ is.before)) ∙ ap (λ p. byte_len (before p s.outer ++ spelled s.done)) (sym (specification_place is.host own.0.mode_is))
-  place_is breaks_join offset fits =
-      let own = comes_to read _ s (backslash_comes read fits.start fits.after) steps in
-      starts_there s fits.start offset (join_place s.mode own.0) own.1 fits.place
-  place_is closes_wrong offset fits = fits.place ∙ sym text_is
-  place_is opens_too_deep offset fits = fits.place ∙ sym text_is
-  place_is ends_specification offset fits =
-      let own = comes_to read _ s (specification_comes fits.host read fits.start fits.inside) steps in
-      let found = specification_named read s steps room fits.host fits.start offset own.0 fits.place in
-      let opened_is = (opened_in_specification fits.host s.mode s.outer read own.0.mode_is).0 in
-      found.1.2 ∙ brace_last found.1.0 (before literal s.outer) (found.1.1 ∙ opened_is)
-  place_is begins_nothing offset fits = fits ∙ sym text_is
 
   -- a character that goes on is not stuck
   no_grows : (n : FieldMode) → field_move s.mode s.held c ≡ grows n → ⊥
@@ -135,10 +135,12 @@ module _ (s : FieldScanned) (read : List ℕ) (c : ℕ) (after : List ℕ) (step
       and_from _ _ (ap is_waiting at.1) (ap (λ n. n == 200) at.2)
 
   brace_fits : is_deep ≡ true → (offset : ℕ) × OpensBraceTooDeep read (c ∷ []) offset
-  brace_fits is =
-      let parts = and_parts (is_waiting s.mode) (frames s == 200) is in
-      waiting_moves (λ v. field_move s.mode s.held c ≡ v → (offset : ℕ) × OpensBraceTooDeep read (c ∷ []) offset) s.mode s.held c parts.0 (λ n at. absurd (no_grows n at))
-      (λ h at. brace_due s read c sound steps h at (eqb-true (frames s) 200 parts.1)) refl
+  brace_fits is = go s.mode (and_parts (is_waiting s.mode) (frames s == 200) is).0 no_grows sound
+    where
+      go : (m : FieldMode) → is_waiting m ≡ true → ((n : FieldMode) → field_move m s.held c ≡ grows n → ⊥) → IsFieldSound two_hundred (field_state s.outer s.done s.openers m s.held) read → (offset : ℕ) × OpensBraceTooDeep read (c ∷ []) offset
+      go (body host literal named after_brace) waits none own =
+          brace_is_due two_hundred s.outer s.done s.openers host named s.held read own (c ∷ []) (not_second host named s.held c none) (eqb-true (frames s) 200 (and_parts (is_waiting s.mode) (frames s == 200) is).1)
+      go m waits none own = absurd (both_ways _ refl waits)
 
   not_deep : is_deep ≡ false → is_waiting s.mode ≡ true → 200 ≤ frames s → ⊥
   not_deep other waits many =
@@ -157,11 +159,9 @@ module _ (s : FieldScanned) (read : List ℕ) (c : ℕ) (after : List ℕ) (step
       inside (inl short) =
           let start : List ℕ = before literal s.outer ++ spelled s.done in
           (byte_len start, record { start = start; breaks = break; inside = inl (short_in s read c sound steps s.mode short sound); place = refl })
-      inside (inr (host, is, short)) = found (specification_in s read c sound steps s.mode sound)
-        where
-          found : ShortSpecification s read c sound steps s.mode → (offset : ℕ) × BreaksString read c offset
-          found (inl (start, own)) = (byte_len start, record { start = start; breaks = break; inside = inr own; place = refl })
-          found (inr none) = absurd (none host is short)
+      inside (inr (host, is, short)) =
+          let own = short_specification s read c sound steps s.mode host is short sound in
+          (byte_len own.0, record { start = own.0; breaks = break; inside = inr own.1; place = refl })
 
       refuses : Refuses s.mode c → (offset : ℕ) × BreaksString read c offset
       refuses (inl (at, short)) = inside short
@@ -181,9 +181,18 @@ module _ (s : FieldScanned) (read : List ℕ) (c : ℕ) (after : List ℕ) (step
       go closes is = absurd (no_closes is)
       go breaks is = absurd (begun stuck is)
       go (begins_code h) is = absurd (coded stuck h is)
-      go (opens_field h) is = absurd (both_ways _ no_opening (ap is_opening (reason_is (opens_field h) is) ∙ open_brace_opens))
+      go (opens_field h) is = absurd (both_ways _ no_opening (ap is_opening (reason_is (opens_field h) is).0 ∙ open_brace_opens))
       go ends_field is = absurd (both_ways _ (break-not-closing c break) (ap is_closing (reason_is ends_field is) ∙ end_brace_closes))
       go refused is = refuses (reason_is refused is)
+
+  -- the character opens a field at depth 200, in a specification
+  opens_due : (m : FieldMode) (h : Host) → text_place m ≡ specification → field_move m s.held c ≡ opens_field h → IsFieldSound two_hundred (field_state s.outer s.done s.openers m s.held) read → frames s ≡ 200 → IsFieldDue specification 200 read []
+  unfolding field_move
+  opens_due (body host specification named at) h place is own full =
+      let moved = subst (Moved two_hundred s.outer (frames s) host specification s.held c) is (body_moves two_hundred s.outer (frames s) host specification named at s.held c own.mode) in
+      let due = due_at two_hundred s.outer s.done s.openers (body host specification named at) s.held read own host specification s.held [] (123 ∷ []) refl refl (λ same. refl) moved.3 in
+      subst (λ n. IsFieldDue specification n read []) full (subst (λ t. IsFieldDue specification (frames s) t []) own.spell due)
+  opens_due m h place is own full = not_specification place
 
   -- an opening bracket that is refused, or the `{` of a field
   opening_fits : is_deep ≡ false → is_break c ≡ false → after_open_backslash s.mode ≡ false → is_closing c ≡ false → is_opening c ≡ true → (offset : ℕ) × OpensTooDeep read c offset
@@ -217,7 +226,7 @@ module _ (s : FieldScanned) (read : List ℕ) (c : ℕ) (after : List ℕ) (step
       by_field h is (inl none) = absurd (some_none (sym (ap (field_moved s c) is) ∙ none))
       by_field h is (inr full) =
           let many = ltb-false (frames s) 200 (sym (ap (has_room_at (frames s) c) is) ∙ full) in
-          (byte_len read, record { opens = opens; deep = inr (opens_due s read c sound steps h is (omega (arith, few, many))); place = refl })
+          (byte_len read, record { opens = opens; deep = inr ((reason_is (opens_field h) is).0, opens_due s.mode h (reason_is (opens_field h) is).1 is sound (omega (arith, few, many))); place = refl })
 
       refuses : Refuses s.mode c → ⊥
       refuses (inl (break, short)) = both_ways _ no_break break
@@ -274,7 +283,7 @@ module _ (s : FieldScanned) (read : List ℕ) (c : ℕ) (after : List ℕ) (step
 
   fault_of : (cause : Cause) → (offset : ℕ) × Explains cause read c offset → NoneExplains (causes_before cause) read c → HasFault cause
   fault_of cause (offset, fits) first =
-      record { cause = cause; before = read; c = c; is = refl; dies = stuck_dies read c after s steps room stuck; fits = subst (Explains cause read c) (place_is cause offset fits) fits; first = first }
+      record { cause = cause; before = read; c = c; is = refl; dies = stuck_dies read c after s steps room stuck; fits = subst (Explains cause read c) (place_is read s steps room cause c offset fits) fits; first = first }
 
   abbrev Misfits : Cause → Type 0
   Misfits cause = (offset : ℕ) → ¬ (Explains cause read c offset)

@@ -1,68 +1,18 @@
 -- A text with fields has at most one fault at a character: the first place that can't be passed is one, so is the first cause that
 -- fits there, and so is the byte where its fault stands.
-use Rattle.std.proofs.Common.{◌≡◌, ℕ, true, Some, List, [], ◌∷◌, ◌++◌, ◌⊎◌, inl, inr, refl, sym, ap, ◌∙◌, subst}
-use Rattle.std.proofs.lemmas.Bool.{both_ways}
-use Rattle.std.proofs.lemmas.List.{append_cancel_right}
-use Rattle.py_lines.specs.LogicalLine.{byte_len}
-use Rattle.py_lines.specs.FieldStrings.{Host, literal, specification}
-use Rattle.py_lines.specs.Faults.{IsLive, InShortSpecification, Cause, brace_too_deep, breaks_string, breaks_join, closes_wrong, opens_too_deep, ends_specification, begins_nothing, kind_of_cause, Explains, causes_before, NoneExplains, IsCharacterFault}
-use Rattle.py_lines.specs.OpenFields.{InOpenShort}
+use Rattle.std.proofs.Common.{◌≡◌, ℕ, List, [], ◌∷◌, ◌⊎◌, inl, inr, refl, sym, ap, ◌∙◌, subst}
+use Rattle.py_lines.specs.Faults.{IsLive, Cause, brace_too_deep, breaks_string, breaks_join, closes_wrong, opens_too_deep, ends_specification, begins_nothing, kind_of_cause, Explains, causes_before, NoneExplains, IsCharacterFault}
 use Rattle.py_lines.specs.declared.fault.FaultKind.{FaultKind}
-use Rattle.py_lines.specs.Private.FieldMachine.{before, FieldMode, body, Level, FieldScanned, field_text_start, field_steps_from, in_open_short, InSpecificationOf}
+use Rattle.py_lines.specs.Private.FieldMachine.{before}
 use Rattle.py_lines.proofs.Text.Splits.{same_dying}
 use Rattle.py_lines.proofs.FieldSoundness.LiveTexts.{live_goes, live_before}
-use Rattle.py_lines.proofs.FieldMachine.OpenStrings.{HasOpened}
-use Rattle.py_lines.proofs.FieldMachine.WhatIsOpen.{comes_to, StartsAfter, short_open_comes, backslash_comes, SpecificationAt, specification_comes}
+use Rattle.py_lines.proofs.Faults.CauseAt.{place_is}
 
--- a short string is not open where a specification is
-short_apart : (m : FieldMode) (host : Host) → in_open_short m ≡ true → InSpecificationOf host m → ⊥
-short_apart (body own specification named at) host short is = both_ways _ refl short
-short_apart m host short is = is
-
--- the string whose line end is at fault starts at one place
-abbrev StringStarts : List ℕ → FieldScanned → Type 0
-StringStarts start s = ((in_open_short s.mode ≡ true) × StartsAfter literal start s) ⊎ ((host : Host) × InSpecificationOf host s.mode × StartsAfter specification start s)
-
-string_starts : (before start : List ℕ) (s : FieldScanned) → field_steps_from (Some field_text_start) before ≡ Some s → InOpenShort before start ⊎ InShortSpecification before start → StringStarts start s
-string_starts before start s steps (inl short) = inl (comes_to before _ s (short_open_comes before start short) steps)
-string_starts before start s steps (inr own) =
-    let at = comes_to before _ s (specification_comes own.host before own.field own.inside) steps in
-    inr (own.host, at.0.mode_is, subst (λ t. StartsAfter specification t s) (at.1 ∙ own.before) at.0.string_is)
-
-one_string : (start other : List ℕ) (s : FieldScanned) → StringStarts start s → StringStarts other s → start ≡ other
-one_string start other s (inl one) (inl two) = sym one.1 ∙ two.1
-one_string start other s (inr one) (inr two) = sym one.2 ∙ two.2
-one_string start other s (inl one) (inr two) = absurd (short_apart s.mode two.0 one.0 two.1)
-one_string start other s (inr one) (inl two) = absurd (short_apart s.mode one.0 two.0 one.1)
-
--- so does the field whose specification is open
-one_field : (outer : List Level) (one two : List ℕ) → HasOpened specification outer one → HasOpened specification outer two → one ≡ two
-one_field [] one two is also = absurd is
-one_field (l ∷ ls) one two is also = append_cancel_right one two (123 ∷ []) (sym is ∙ also)
-
-one_specification : (host other : Host) (start place : List ℕ) (s : FieldScanned) → SpecificationAt host start s → SpecificationAt other place s → start ≡ place
-one_specification host other start place s one two =
-    sym one.before ∙ ap (λ t. t ++ one.field) (sym one.string_is ∙ two.string_is) ∙ ap (λ t. two.string ++ t) (one_field s.outer one.field two.field one.field_is two.field_is) ∙ two.before
-
--- each cause has one byte
+-- each cause has one byte, that of the state
 one_offset : (cause : Cause) (before : List ℕ) (c offset place : ℕ) → IsLive before → Explains cause before c offset → Explains cause before c place → offset ≡ place
-one_offset brace_too_deep before c offset place live one two = one.place ∙ ap byte_len (append_cancel_right one.start two.start (123 ∷ []) (one.spell ∙ sym two.spell)) ∙ sym two.place
-one_offset breaks_string before c offset place live one two =
+one_offset cause before c offset place live one two =
     let at = live_goes before live in
-    one.place ∙ ap byte_len (one_string one.start two.start at.0 (string_starts before one.start at.0 at.1 one.inside) (string_starts before two.start at.0 at.1 two.inside)) ∙ sym two.place
-one_offset breaks_join before c offset place live one two =
-    let at = live_goes before live in
-    let first = comes_to before _ at.0 (backslash_comes before one.start one.after) at.1 in
-    let second = comes_to before _ at.0 (backslash_comes before two.start two.after) at.1 in
-    one.place ∙ ap byte_len (sym first.1 ∙ second.1) ∙ sym two.place
-one_offset closes_wrong before c offset place live one two = one.place ∙ sym two.place
-one_offset opens_too_deep before c offset place live one two = one.place ∙ sym two.place
-one_offset ends_specification before c offset place live one two =
-    let at = live_goes before live in
-    let first = comes_to before _ at.0 (specification_comes one.host before one.start one.inside) at.1 in
-    let second = comes_to before _ at.0 (specification_comes two.host before two.start two.inside) at.1 in
-    one.place ∙ ap byte_len (one_specification one.host two.host one.start two.start at.0 first.0 second.0) ∙ sym two.place
-one_offset begins_nothing before c offset place live one two = one ∙ sym two
+    place_is before at.0 at.1 at.2 cause c offset one ∙ sym (place_is before at.0 at.1 at.2 cause c place two)
 
 -- of two causes one goes before the other, if they differ
 abbrev IsAmong : Cause → List Cause → Type 0

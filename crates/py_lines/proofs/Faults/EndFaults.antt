@@ -116,27 +116,32 @@ due_at limit outer done openers m held read sound host place text after more at 
       deep = so.depth_is;
     }
 
--- a field that would open at depth 200, with its `{` at the end
-pub brace_is_due : (limit : Limit) (outer : List Level) (done : List Piece) (openers : List ℕ) (host : Host) (named : Bool) (held read : List ℕ) → IsFieldSound limit (field_state outer done openers (body host literal named after_brace) held) read → length openers + levels_open outer ≡ 200 → (offset : ℕ) × OpensBraceTooDeep read [] offset
-brace_is_due limit outer done openers host named held read sound full = go sound.mode
+-- a field that would open at depth 200, with its `{` directly before what follows
+pub brace_is_due : (limit : Limit) (outer : List Level) (done : List Piece) (openers : List ℕ) (host : Host) (named : Bool) (held read : List ℕ) → IsFieldSound limit (field_state outer done openers (body host literal named after_brace) held) read → (after : List ℕ) → begins_open after ≡ false → length openers + levels_open outer ≡ 200 → (offset : ℕ) × OpensBraceTooDeep read after offset
+brace_is_due limit outer done openers host named held read sound after single full = go sound.mode
   where
     depth : ℕ
     depth = length openers + levels_open outer
 
-    go : HoldsAt limit outer depth host literal named after_brace held → (offset : ℕ) × OpensBraceTooDeep read [] offset
+    go : HoldsAt limit outer depth host literal named after_brace held → (offset : ℕ) × OpensBraceTooDeep read after offset
     go (text, is, at, unnamed, h) =
         let start : List ℕ = before literal outer ++ (spelled done ++ text) in
         let parts = subst (λ n. HoldsParts limit outer depth host literal n text (123 ∷ [])) unnamed h in
-        let due = due_at limit outer done openers (body host literal named after_brace) held read sound host literal text [] [] refl (sym is ∙ sym (append-nil held)) (λ same. refl) parts in (
+        let due = due_at limit outer done openers (body host literal named after_brace) held read sound host literal text after after refl (sym (append_assoc text (123 ∷ []) after) ∙ ap (λ t. t ++ after) (sym is)) (λ same. single) parts in (
           byte_len start,
           record {
             start = start;
             spell = append_assoc (before literal outer) (spelled done ++ text) (123 ∷ [])
                 ∙ ap (λ t. before literal outer ++ t) (append_assoc (spelled done) text (123 ∷ []) ∙ ap (λ t. spelled done ++ t) (sym is)) ∙ sound.spell;
-            due = subst (λ n. IsFieldDue literal n start []) full due;
+            due = subst (λ n. IsFieldDue literal n start after) full due;
             place = refl;
           },
         )
+
+-- no `{` of a specification waits for the next character
+pub no_brace_at : (outer : List Level) (depth : ℕ) (held : List ℕ) (host : Host) (named : Bool) (at : At) → HoldsAt two_hundred outer depth host specification named at held → at ≡ after_brace → ⊥
+no_brace_at outer depth held host named after_brace holds same = not_specification (sym holds.2)
+no_brace_at outer depth held host named at holds same = absurd (cc)
 
 -- a mode in which nothing of the kind is open is one in which the text may end
 final_mode : (m : Mode) → in_short m ≡ false → in_long m ≡ false → is_after_backslash m ≡ false → is_final m ≡ true
@@ -222,20 +227,16 @@ brace_open outer done openers host named held read sound deep =
     let few = few_frames outer done openers (body host literal named after_brace) held read sound in
     let many = ltb-false depth 200 full in
     let is : depth ≡ 200 = omega (arith, few, many) in
-    brace_is_due two_hundred outer done openers host named held read sound is)
+    brace_is_due two_hundred outer done openers host named held read sound [] refl is)
   where
     not_full : length openers + levels_open outer < 200 → IsDeepBrace outer openers (body host literal named after_brace) → ⊥
     not_full room (other, same, full) = omega (arith, room, full)
 
 specification_at : (outer : List Level) (done : List Piece) (openers : List ℕ) (host : Host) (named : Bool) (at : At) (held read : List ℕ) → IsFieldSound two_hundred (field_state outer done openers (body host specification named at) held) read → ((place : ℕ) → OpensBraceTooDeep read [] place → IsDeepBrace outer openers (body host specification named at)) → (offset : ℕ) × IsOpenAtEnd open_inside read offset
 specification_at outer done openers host named at held read sound deep =
-    let own = specification_is_open two_hundred outer done openers host named at held read sound (other at sound.mode) in
+    let own = specification_is_open two_hundred outer done openers host named at held read sound (no_brace_at outer _ held host named at sound.mode) in
     (byte_len own.0, (own.0, inr (host, own.1), refl, λ place due. not_literal (deep place due)))
   where
-    other : (a : At) → HoldsAt two_hundred outer (length openers + levels_open outer) host specification named a held → a ≡ after_brace → ⊥
-    other after_brace h same = absurd (not_specification (sym h.2))
-    other a h same = cc
-
     not_literal : IsDeepBrace outer openers (body host specification named at) → ⊥
     not_literal (h, same, full) = cc
 

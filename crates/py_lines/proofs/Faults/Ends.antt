@@ -110,7 +110,7 @@ module _ (characters : List ℕ) (s : FieldScanned) (steps : field_steps_from (S
               let few = few_frames s.outer s.done s.openers (body host literal false after_brace) s.held characters here in
               let many = ltb-false depth 200 full in
               let count : depth ≡ 200 = omega (arith, few, many) in
-              let due = brace_is_due two_hundred s.outer s.done s.openers host false s.held characters here count in
+              let due = brace_is_due two_hundred s.outer s.done s.openers host false s.held characters here [] refl count in
               absurd (other due.0 due.1)
 
   pub specification_named : (host : Host) (start : List ℕ) (offset : ℕ) → SpecificationAt host start s → offset ≡ byte_len start → IsNamed open_inside offset

@@ -8,7 +8,7 @@ use Rattle.py_lines.specs.declared.mode.Mode.TheVariants as modes
 use Rattle.py_lines.specs.declared.mode.Move.{Move}
 use Rattle.py_lines.specs.declared.mode.Move.TheVariants as moves
 use Rattle.py_lines.specs.Private.Machine.{Holds, move_of, short_move, long_move, is_prefix_spelling, in_short}
-use Rattle.py_lines.specs.Private.FieldMachine.{At, between, after_one, after_two, after_slash, after_return, after_name, after_brace, FieldMode, plain, opened, empty, body, FieldMove, breaks, begins_code, opens_field, ends_field, refused, Level, is_after_two, is_after_brace, closing_move, opening_move, ending_move, is_barred_escape, between_move, escape_move, body_move, field_move, plain_move, begins_host, in_open_short, after_open_backslash, InSpecificationOf}
+use Rattle.py_lines.specs.Private.FieldMachine.{text_place, At, between, after_one, after_two, after_slash, after_return, after_name, after_brace, FieldMode, plain, opened, empty, body, FieldMove, breaks, begins_code, opens_field, ends_field, refused, Level, is_after_two, is_after_brace, closing_move, opening_move, ending_move, is_barred_escape, between_move, escape_move, body_move, field_move, plain_move, begins_host, in_open_short, after_open_backslash, InSpecificationOf}
 use Rattle.py_lines.specs.Private.FieldFaults.{is_waiting, quotes_specification}
 use Rattle.py_lines.proofs.FieldSoundness.Holds.{Limit, HoldsAt, HoldsMode}
 use Rattle.py_lines.proofs.FieldSoundness.LiveTexts.{quotes_at}
@@ -26,7 +26,7 @@ Refuses m c =
 abbrev pub Reason : FieldMode → ℕ → FieldMove → Type 0
 Reason m c refused = Refuses m c
 Reason m c (begins_code host) = is_waiting m ≡ true
-Reason m c (opens_field host) = c ≡ 123
+Reason m c (opens_field host) = (c ≡ 123) × (text_place m ≡ specification)
 Reason m c ends_field = c ≡ 125
 Reason m c other = Unit {0}
 
@@ -82,10 +82,10 @@ with_reason m c moves.Breaks h = tt
 with_reason m c moves.Refused h = h
 
 -- in a string with fields, of which this is the mode
-module _ (m : FieldMode) (host : Host) (place : Place) (c : ℕ) (short : host.is_long ≡ false → IsShortHere m) (closing : c == host.quote ≡ true → Reason m c (closing_move place)) where
-  opening_reason : (p : Place) → c == 123 ≡ true → Reason m c (opening_move host p)
-  opening_reason literal braces = tt
-  opening_reason specification braces = eqb-true c 123 braces
+module _ (m : FieldMode) (host : Host) (place : Place) (c : ℕ) (at_place : text_place m ≡ place) (short : host.is_long ≡ false → IsShortHere m) (closing : c == host.quote ≡ true → Reason m c (closing_move place)) where
+  opening_reason : (p : Place) → text_place m ≡ p → c == 123 ≡ true → Reason m c (opening_move host p)
+  opening_reason literal at braces = tt
+  opening_reason specification at braces = (eqb-true c 123 braces, at)
 
   ending_reason : (p : Place) (named : Bool) → c == 125 ≡ true → Reason m c (ending_move host p named)
   ending_reason specification false braces = eqb-true c 125 braces
@@ -102,7 +102,7 @@ module _ (m : FieldMode) (host : Host) (place : Place) (c : ℕ) (short : host.i
       (λ l.
       let parts = and_parts (is_break c) (not host.is_long) l in
       inl (parts.0, short (not-true host.is_long parts.1)))
-      (λ l. cond_both ((c == 123) && not named) _ _ (Reason m c) (λ n. opening_reason place (and_parts (c == 123) (not named) n).0)
+      (λ l. cond_both ((c == 123) && not named) _ _ (Reason m c) (λ n. opening_reason place at_place (and_parts (c == 123) (not named) n).0)
       (λ n. cond_both (c == 125) _ _ (Reason m c) (λ o. ending_reason place named o) (λ o. tt)))))
 
 -- where no `{` waits, in its body
@@ -116,7 +116,7 @@ closing_reason host specification named at c quotes same = inr (inr (same, ap is
 
 in_body : (host : Host) (place : Place) (named : Bool) (at after : At) (c : ℕ) → is_quote host.quote ≡ true → is_after_brace at ≡ false → Reason (body host place named at) c (between_move host place named after c)
 in_body host place named at after c quotes apart =
-    between_reason (body host place named at) host place c (short_body host place named at apart) (closing_reason host place named at c quotes) named after
+    between_reason (body host place named at) host place c refl (short_body host place named at apart) (closing_reason host place named at c quotes) named after
 
 escape_reason : (host : Host) (place : Place) (named : Bool) (c : ℕ) → is_quote host.quote ≡ true → Reason (body host place named after_slash) c (escape_move host place named c)
 unfolding escape_move
@@ -154,6 +154,6 @@ unfolding field_move body_move
 reason limit outer depth (plain m) held c holds =
     cond_both (begins_host m held c) _ _ (Reason (plain m) c) (λ h. tt) (λ h. with_reason m c (move_of m c) (plain_reason m held c holds.0))
 reason limit outer depth (opened host) held c holds =
-    cond_both (c == host.quote) _ _ (Reason (opened host) c) (λ h. tt) (λ h. between_reason (opened host) host literal c (λ short. inl refl) (λ same. tt) false between)
+    cond_both (c == host.quote) _ _ (Reason (opened host) c) (λ h. tt) (λ h. between_reason (opened host) host literal c refl (λ short. inl refl) (λ same. tt) false between)
 reason limit outer depth (empty host) held c holds = cond_both (c == host.quote) _ breaks (Reason (empty host) c) (λ h. tt) (λ h. tt)
 reason limit outer depth (body host place named at) held c holds = body_reason limit outer depth host place named at held c (quotes_at limit outer depth host place named at held holds) holds

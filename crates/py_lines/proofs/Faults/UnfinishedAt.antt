@@ -18,7 +18,7 @@ use Rattle.py_lines.proofs.FieldSoundness.LiveTexts.{goes_live}
 use Rattle.py_lines.proofs.Faults.EndFaults.{open_in}
 use Rattle.py_lines.proofs.Faults.EndPlaces.{IsPlaced, opened_text, one_bracket}
 use Rattle.py_lines.proofs.Faults.Ends.{sound_to, deep_state, named}
-use Rattle.py_lines.proofs.Faults.CauseAt.{brace_last}
+use Rattle.py_lines.proofs.Faults.CauseAt.{brace_last, text_is}
 
 -- The fault of what is open stands at this byte. Where that is a bracket, it is the innermost of those that the finished pieces of
 -- the innermost list leave open.
@@ -51,16 +51,13 @@ opened_here (body host literal named after_brace) outer read = refl
 opened_here m outer read = refl
 
 module _ (read : List ℕ) (s : FieldScanned) (steps : field_steps_from (Some field_text_start) read ≡ Some s) (room : have_room (Some field_text_start) read ≡ true) where
-  text_is : here s ≡ byte_len read
-  text_is = ap byte_len (sound_to read s steps room).spell
-
   bytes_are : (waits : Bool) → byte_len (if waits then read else before literal s.outer) - 1 ≡ (if waits then here s - 1 else field_start s)
-  bytes_are true = ap (λ n. n - 1) (sym text_is)
+  bytes_are true = ap (λ n. n - 1) (sym (text_is read s steps room))
   bytes_are false = refl
 
   -- the byte that the definitions name is that of the state
   there : (what : Unfinished) (offset : ℕ) → IsPlaced what s read offset → StandsThere s what offset
-  there open_brace offset (start, whole, at) = at ∙ brace_last start read whole ∙ ap (λ n. n - 1) (sym text_is)
+  there open_brace offset (start, whole, at) = at ∙ brace_last start read whole ∙ ap (λ n. n - 1) (sym (text_is read s steps room))
   there open_inside offset (start, whole, at) =
       at ∙ brace_last start (opened_text s.mode s.outer read) whole ∙ ap (λ t. byte_len t - 1) (opened_here s.mode s.outer read) ∙ bytes_are (is_waiting s.mode)
   there open_short offset at = at

@@ -5,19 +5,21 @@ use Rattle.py_lines.specs.Piece.{Piece}
 use Rattle.py_lines.specs.Balance as brackets
 use Rattle.py_lines.specs.LogicalLine.{LogicalLine, lines_of, byte_len, line_ends}
 use Rattle.py_lines.specs.Reading.{Decodes, IsBalancedReading}
-use Rattle.py_lines.specs.Faults.{IsLive, DiesAt, IsCharacterFault, IsEndFault, IsFaultAt, at_character, at_bytes, at_end, IsReadOrFaulty, IsLexicalFault}
+use Rattle.py_lines.specs.Faults.{IsLive, DiesAt, IsCharacterFault, IsEndFault, kind_of_cause, IsFaultAt, at_character, at_bytes, at_end, IsReadOrFaulty, IsLexicalFault}
 use Rattle.py_lines.specs.Lexed.{IsLexed}
 use Rattle.py_lines.specs.Settled.{IsSettled}
 use Rattle.py_lines.specs.Given.{AreFirstLines}
 use Rattle.py_lines.specs.declared.fault.FaultKind.TheVariants as faults
 use Rattle.py_lines.specs.declared.fault.FaultKind.{FaultKind}
 use Rattle.py_lines.specs.declared.fault.Fault.{Fault}
-use Rattle.py_lines.specs.Private.FieldMachine.{FieldScanned, field_text_start, field_steps_from, field_step, field_pieces, has_room, have_room}
+use Rattle.py_lines.specs.Private.FieldMachine.{FieldScanned, field_text_start, field_steps_from, field_step, field_pieces, has_room, have_room, frames}
+use Rattle.py_lines.specs.Private.FieldFaults.{cause_in, cause_place}
 use Rattle.py_lines.proofs.Text.Decoding.{decoding}
 use Rattle.py_lines.proofs.LogicalLines.Cuts.{same_place}
 use Rattle.py_lines.proofs.FieldSoundness.LiveTexts.{steps-append, room-append, live_goes, goes_live}
 use Rattle.py_lines.proofs.Faults.Ends.{read_or_open, end_unread}
-use Rattle.py_lines.proofs.Faults.CharacterFaults.{IsStuck, character_fault}
+use Rattle.py_lines.proofs.Faults.CharacterFaults.{IsStuck}
+use Rattle.py_lines.proofs.Faults.CauseAt.{cause_fits}
 use Rattle.py_lines.proofs.Faults.FaultPrefixes.{field_fault_prefix}
 use Rattle.py_lines.proofs.Faults.Verdict.{not_live}
 use Rattle.py_lines.proofs.Lexings.Prefixes.{read_prefix_exists, settled_prefix_exists}
@@ -95,8 +97,9 @@ is_stuck before c s steps room dead = go (field_step s c) refl (cases_Bool (has_
 pub dead_fault : (characters before : List ℕ) (c : ℕ) → DiesAt characters before c → (kind : FaultKind) × (offset : ℕ) × IsCharacterFault kind characters offset
 dead_fault characters before c dies =
     let run = live_goes before dies.live in
-    let found = character_fault before c dies.after run.0 run.1 run.2 (is_stuck before c run.0 run.1 run.2 dies.dead) in
-    (found.0, found.1, subst (λ t. IsCharacterFault found.0 t found.1) dies.spell found.2)
+    let cause = cause_in (frames run.0) run.0.mode c in
+    let fault = cause_fits run.0 before c dies.after run.1 run.2 (is_stuck before c run.0 run.1 run.2 dies.dead) in
+    (kind_of_cause cause, cause_place run.0 cause, subst (λ t. IsCharacterFault (kind_of_cause cause) t (cause_place run.0 cause)) dies.spell fault)
 
 -- every text is read or has a fault
 read_or_lexical : (characters tail : List ℕ) → IsReadOrLexical characters tail
