@@ -25,15 +25,11 @@ use Rattle.py_lines.proofs.Elsewhere.PlainRuns.{plain_live_runs, plain_runs_live
 -- a quote after a word that is no prefix of a string with fields
 same_begin : (s : Spelling) (q : ℕ) → is_field_spelling s ≡ false → quote_move s q ≡ (if is_prefix_spelling s then moves.Grows (modes.Opened q) else moves.Breaks)
 unfolding quote_move
-same_begin spellings.Number q h = refl
-same_begin spellings.R q h = refl
-same_begin spellings.B q h = refl
 same_begin spellings.F q h = absurd (both_ways _ h refl)
 same_begin spellings.Fr q h = absurd (both_ways _ h refl)
 same_begin spellings.T q h = absurd (both_ways _ h refl)
 same_begin spellings.Tr q h = absurd (both_ways _ h refl)
-same_begin spellings.Prefix q h = refl
-same_begin spellings.Name q h = refl
+same_begin s q h = refl
 
 with_quote : (s : Spelling) (c : ℕ) → is_quote c ≡ true → (if is_prefix_spelling s then moves.Grows (modes.Opened c) else moves.Breaks) ≡ (if is_prefix_spelling s && is_quote c then moves.Grows (modes.Opened c) else moves.Breaks)
 with_quote s c quotes = go (is_prefix_spelling s)

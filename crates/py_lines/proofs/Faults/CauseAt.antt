@@ -12,7 +12,7 @@ use Rattle.py_lines.specs.OpenFields.{InOpenShort}
 use Rattle.py_lines.specs.LogicalLine.{byte_len}
 use Rattle.py_lines.specs.FieldStrings.{Host, literal, specification}
 use Rattle.py_lines.specs.Private.Machine.{start_of}
-use Rattle.py_lines.specs.Private.FieldMachine.{text_place, before, between, after_brace, FieldMode, plain, opened, empty, body, FieldMove, grows, closes, breaks, begins_code, opens_field, ends_field, refused, Level, FieldScanned, field_state, field_text_start, field_pieces, field_move, field_moved, field_started, field_step, opened_level, field_steps_from, levels_open, frames, has_room_at, have_room, body_move, after_open_backslash, InSpecificationOf}
+use Rattle.py_lines.specs.Private.FieldMachine.{text_place, before, between, after_brace, FieldMode, plain, body, FieldMove, grows, closes, breaks, begins_code, opens_field, ends_field, refused, Level, FieldScanned, field_state, field_text_start, field_pieces, field_move, field_moved, field_started, field_step, opened_level, field_steps_from, levels_open, frames, has_room_at, have_room, body_move, after_open_backslash, InSpecificationOf}
 use Rattle.py_lines.specs.Private.FieldFaults.{is_waiting, quotes_specification, cause_in, cause_place, here, piece_start}
 use Rattle.py_lines.proofs.Text.CharacterTests.{break-not-opening, break-not-closing, break-not-quote, opening-not-quote}
 use Rattle.py_lines.proofs.Machine.Starts.{start-feed, start-return}
@@ -250,9 +250,7 @@ module _ (s : FieldScanned) (read : List ℕ) (c : ℕ) (after : List ℕ) (step
       go (plain m) is own =
           let start : List ℕ = before literal s.outer ++ spelled s.done in
           (byte_len start, record { start = start; after = slash_is_open two_hundred s.outer s.done s.openers m s.held read own is; place = refl })
-      go (opened host) is own = absurd (both_ways _ refl is)
-      go (empty host) is own = absurd (both_ways _ refl is)
-      go (body host place named at) is own = absurd (both_ways _ refl is)
+      go m is own = absurd (both_ways _ refl is)
 
   -- the quote of the string of a specification
   end_back : (offset : ℕ) → Explains ends_specification read c offset → quotes_specification s.mode c ≡ true
@@ -260,10 +258,7 @@ module _ (s : FieldScanned) (read : List ℕ) (c : ℕ) (after : List ℕ) (step
     where
       quoted : (m : FieldMode) → InSpecificationOf fits.host m → quotes_specification m c ≡ true
       quoted (body host specification named at) is = eq-eqb c host.quote (fits.quotes ∙ ap (λ (h : Host). h.quote) (sym is.0))
-      quoted (body host literal named at) is = absurd is
-      quoted (plain m) is = absurd is
-      quoted (opened host) is = absurd is
-      quoted (empty host) is = absurd is
+      quoted m is = absurd is
 
   end_fits : quotes_specification s.mode c ≡ true → (offset : ℕ) × Explains ends_specification read c offset
   end_fits is = go s.mode is sound
@@ -272,10 +267,7 @@ module _ (s : FieldScanned) (read : List ℕ) (c : ℕ) (after : List ℕ) (step
       go (body host specification named at) same own =
           let found = specification_is_open two_hundred s.outer s.done s.openers host named at s.held read own (no_brace_at s.outer (frames s) s.held host named at own.mode) in
           (byte_len found.0, record { host = host; start = found.0; inside = found.1; quotes = eqb-true c host.quote same; place = refl })
-      go (body host literal named at) same own = absurd (both_ways _ refl same)
-      go (plain m) same own = absurd (both_ways _ refl same)
-      go (opened host) same own = absurd (both_ways _ refl same)
-      go (empty host) same own = absurd (both_ways _ refl same)
+      go m same own = absurd (both_ways _ refl same)
 
   -- a fault whose cause fits, where none before it does
   abbrev HasFault : Cause → Type 0

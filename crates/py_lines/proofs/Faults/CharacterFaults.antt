@@ -114,13 +114,10 @@ module _ (s : FieldScanned) (read : List ℕ) (c : ℕ) (sound : IsFieldSound tw
   short_in (body host specification named at) is own = absurd (both_ways _ refl is)
 
   pub short_specification : (m : FieldMode) (host : Host) → InSpecificationOf host m → host.is_long ≡ false → IsFieldSound two_hundred (field_state s.outer s.done s.openers m s.held) read → (start : List ℕ) × InShortSpecification read start
-  short_specification (plain m) host is short own = absurd is
-  short_specification (opened other) host is short own = absurd is
-  short_specification (empty other) host is short own = absurd is
-  short_specification (body other literal named at) host is short own = absurd is
   short_specification (body other specification named at) host is short own =
       let found = specification_is_open two_hundred s.outer s.done s.openers other named at s.held read own (no_brace_at s.outer (frames s) s.held other named at own.mode) in
       (found.1.string, record { host = other; field = found.0; inside = found.1; short = ap (λ (h : Host). h.is_long) is.0 ∙ short; before = refl })
+  short_specification m host is short own = absurd is
 
   pub specification_mode : (host : Host) (start : List ℕ) → InSpecification host read start → InSpecificationOf host s.mode
   specification_mode host start is = (comes_to read _ s (specification_comes host read start is) steps).0.mode_is

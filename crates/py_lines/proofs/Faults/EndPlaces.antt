@@ -77,33 +77,27 @@ one_place open_join s characters offset place one two = one ∙ sym two
 pub short_unfinished : (outer : List Level) (openers : List ℕ) (m : FieldMode) → in_open_short m ≡ true → unfinished_in outer openers m ≡ Some open_short
 short_unfinished outer openers (plain m) is = rw is
 short_unfinished outer openers (opened host) is = refl
-short_unfinished outer openers (empty host) is = absurd (both_ways _ refl is)
-short_unfinished outer openers (body host specification named at) is = absurd (both_ways _ refl is)
 short_unfinished outer openers (body host literal named after_brace) is = absurd (both_ways _ refl is)
 short_unfinished outer openers (body host literal named at) is = go host.is_long is
   where
     go : (b : Bool) → true && not b ≡ true → Some (if b then open_long else open_short) ≡ Some open_short
     go false h = refl
     go true h = absurd (both_ways _ refl h)
+short_unfinished outer openers m is = absurd (both_ways _ refl is)
 
 pub long_unfinished : (outer : List Level) (openers : List ℕ) (m : FieldMode) → in_open_long m ≡ true → unfinished_in outer openers m ≡ Some open_long
 long_unfinished outer openers (plain m) is = rw ((long_mode m is).1, is)
-long_unfinished outer openers (opened host) is = absurd (both_ways _ refl is)
-long_unfinished outer openers (empty host) is = absurd (both_ways _ refl is)
-long_unfinished outer openers (body host specification named at) is = absurd (both_ways _ refl is)
 long_unfinished outer openers (body host literal named after_brace) is = absurd (both_ways _ refl is)
 long_unfinished outer openers (body host literal named at) is = go host.is_long is
   where
     go : (b : Bool) → true && b ≡ true → Some (if b then open_long else open_short) ≡ Some open_long
     go true h = refl
     go false h = absurd (both_ways _ refl h)
+long_unfinished outer openers m is = absurd (both_ways _ refl is)
 
 pub join_unfinished : (outer : List Level) (openers : List ℕ) (m : FieldMode) → after_open_backslash m ≡ true → unfinished_in outer openers m ≡ Some open_join
 join_unfinished outer openers (plain modes.Backslash) is = refl
-join_unfinished outer openers (plain m) is = absurd (both_ways _ refl is)
-join_unfinished outer openers (opened host) is = absurd (both_ways _ refl is)
-join_unfinished outer openers (empty host) is = absurd (both_ways _ refl is)
-join_unfinished outer openers (body host place named at) is = absurd (both_ways _ refl is)
+join_unfinished outer openers m is = absurd (both_ways _ refl is)
 
 -- where the text may end, brackets and fields aside, code is open
 pub code_unfinished : (outer : List Level) (openers : List ℕ) (m : FieldMode) → may_end m ≡ true → unfinished_in outer openers m ≡ unfinished_code outer openers
@@ -129,10 +123,7 @@ code_unfinished outer openers (body host place named at) may = absurd (both_ways
 -- a specification
 pub specification_unfinished : (outer : List Level) (openers : List ℕ) (host : Host) (m : FieldMode) → InSpecificationOf host m → unfinished_in outer openers m ≡ Some open_inside
 specification_unfinished outer openers host (body own specification named at) is = refl
-specification_unfinished outer openers host (body own literal named at) is = absurd is
-specification_unfinished outer openers host (plain m) is = absurd is
-specification_unfinished outer openers host (opened own) is = absurd is
-specification_unfinished outer openers host (empty own) is = absurd is
+specification_unfinished outer openers host m is = absurd is
 
 pub same_state : (characters : List ℕ) (s t : FieldScanned) → field_steps_from (Some field_text_start) characters ≡ Some s → field_steps_from (Some field_text_start) characters ≡ Some t → s ≡ t
 same_state characters s t one two = cc

@@ -8,7 +8,7 @@ use Rattle.py_lines.specs.FieldStrings.{Host, literal, specification}
 use Rattle.py_lines.specs.Reading.{IsBalancedReading}
 use Rattle.py_lines.specs.Faults.{OpensBraceTooDeep, Unfinished, open_brace, open_short, open_long, open_join, open_bracket, open_inside, kind_of_unfinished, IsOpenAtEnd, IsEndFault}
 use Rattle.py_lines.specs.declared.fault.FaultKind.{FaultKind}
-use Rattle.py_lines.specs.Private.FieldMachine.{text_place, before, after_brace, FieldMode, plain, opened, empty, body, Level, FieldScanned, field_state, field_text_start, field_steps_from, field_pieces, have_room, IsFieldFinal, in_open_short, in_open_long, after_open_backslash, InSpecificationOf, levels_open, may_end, frames}
+use Rattle.py_lines.specs.Private.FieldMachine.{text_place, before, after_brace, FieldMode, body, Level, FieldScanned, field_state, field_text_start, field_steps_from, field_pieces, have_room, IsFieldFinal, in_open_short, in_open_long, after_open_backslash, InSpecificationOf, levels_open, may_end, frames}
 use Rattle.py_lines.proofs.FieldMachine.Completeness.{reading_reached}
 use Rattle.py_lines.proofs.FieldMachine.WhatIsOpen.{Comes, comes_to, short_open_comes, long_open_comes, backslash_comes, SpecificationAt, specification_comes}
 use Rattle.py_lines.proofs.FieldMachine.OpenCode.{CodeAt, in_code, at_brace, code_comes, brace_comes}
@@ -42,41 +42,28 @@ read_or_open characters s steps room = go (unfinished_at s) refl
 
 -- the place of a string or a backslash
 pub short_place : (m : FieldMode) → in_open_short m ≡ true → text_place m ≡ literal
-short_place (plain m) is = refl
-short_place (opened host) is = refl
-short_place (empty host) is = refl
-short_place (body host literal named at) is = refl
 short_place (body host specification named at) is = absurd (both_ways _ refl is)
+short_place m is = refl
 
 long_place : (m : FieldMode) → in_open_long m ≡ true → text_place m ≡ literal
-long_place (plain m) is = refl
-long_place (opened host) is = refl
-long_place (empty host) is = refl
-long_place (body host literal named at) is = refl
 long_place (body host specification named at) is = absurd (both_ways _ refl is)
+long_place m is = refl
 
 pub join_place : (m : FieldMode) → after_open_backslash m ≡ true → text_place m ≡ literal
-join_place (plain m) is = refl
-join_place (opened host) is = refl
-join_place (empty host) is = refl
 join_place (body host place named at) is = absurd (both_ways _ refl is)
+join_place m is = refl
 
 pub starts_there : (s : FieldScanned) (start : List ℕ) (offset : ℕ) → text_place s.mode ≡ literal → before literal s.outer ++ spelled s.done ≡ start → offset ≡ byte_len start → offset ≡ byte_len (before (text_place s.mode) s.outer ++ spelled s.done)
 starts_there s start offset at is place = place ∙ ap byte_len (sym is) ∙ ap (λ p. byte_len (before p s.outer ++ spelled s.done)) (sym at)
 
 -- the text up to the `{` of the field
 opened_at_end : (m : FieldMode) (outer : List Level) (characters : List ℕ) → may_end m ≡ true → opened_text m outer characters ≡ before literal outer
-opened_at_end (plain m) outer characters may = refl
-opened_at_end (opened host) outer characters may = refl
-opened_at_end (empty host) outer characters may = refl
 opened_at_end (body host place named at) outer characters may = absurd (both_ways _ refl may)
+opened_at_end m outer characters may = refl
 
 pub opened_in_specification : (host : Host) (m : FieldMode) (outer : List Level) (characters : List ℕ) → InSpecificationOf host m → (opened_text m outer characters ≡ before literal outer) × (text_place m ≡ specification)
 opened_in_specification host (body own specification named at) outer characters is = (refl, refl)
-opened_in_specification host (body own literal named at) outer characters is = absurd is
-opened_in_specification host (plain m) outer characters is = absurd is
-opened_in_specification host (opened own) outer characters is = absurd is
-opened_in_specification host (empty own) outer characters is = absurd is
+opened_in_specification host m outer characters is = absurd is
 
 code_inside : (outer : List Level) (openers : List ℕ) → 0 < levels_open outer → openers ≡ [] → unfinished_code outer openers ≡ Some open_inside
 code_inside [] openers deep none = absurd (omega arith)

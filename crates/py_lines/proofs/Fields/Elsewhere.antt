@@ -3,7 +3,7 @@ use Rattle.std.proofs.Common.{◌≡◌, ℕ, Bool, true, false, ◌||◌, ◌&&
 use Rattle.std.proofs.lemmas.Bool.{or_parts, or_from, or_cases, both_ways}
 use Rattle.std.specs.Prelude.{if◌then◌else◌}
 use Rattle.py_lines.specs.Character.{is_quote, is_r, is_f, is_t}
-use Rattle.py_lines.specs.Piece.{Class, mark, space, word, string, operator, comment, join, line_end, Piece, begins, spelled}
+use Rattle.py_lines.specs.Piece.{Class, word, string, Piece, begins, spelled}
 use Rattle.py_lines.specs.PieceGrammar.{is_prefix, IsNoneOr, InPlainClass, InClassIn, MayPrecedePlain, MayPrecedeIn, AreReadPlain, AreReadIn, ReadsPlain, ReadsIn, joined}
 use Rattle.py_lines.specs.Balance.{IsShallowPlain, depth_after}
 use Rattle.py_lines.specs.Fields.{Fields, fielded, IsShallowWith, ShallowFields}
@@ -66,27 +66,15 @@ has_prefix F text rest h is =
 
 -- each class
 class_with : (F : Host → List ℕ → Type 0) (class : Class) (text rest : List ℕ) → may_have_fields (text ++ rest) ≡ false → InPlainClass class text → InClassIn (with_fields F) class text
-class_with F mark text rest h is = is
-class_with F space text rest h is = is
-class_with F word text rest h is = is
 class_with F string text rest h (inl short) = inl (inl (short, no_field_string text short.prefix _ rest short.quote short.spell short.opens h))
 class_with F string text rest h (inr long) = inl (inr (long, no_field_string text long.prefix _ rest long.quote long.spell long.opens h))
-class_with F operator text rest h is = is
-class_with F comment text rest h is = is
-class_with F join text rest h is = is
-class_with F line_end text rest h is = is
+class_with F class text rest h is = is
 
 class_without : (F : Host → List ℕ → Type 0) (class : Class) (text rest : List ℕ) → may_have_fields (text ++ rest) ≡ false → InClassIn (with_fields F) class text → InPlainClass class text
-class_without F mark text rest h is = is
-class_without F space text rest h is = is
-class_without F word text rest h is = is
 class_without F string text rest h (inl (inl short)) = inl short.0
 class_without F string text rest h (inl (inr long)) = inr long.0
 class_without F string text rest h (inr is) = absurd (has_prefix F text rest h is)
-class_without F operator text rest h is = is
-class_without F comment text rest h is = is
-class_without F join text rest h is = is
-class_without F line_end text rest h is = is
+class_without F class text rest h is = is
 
 -- and what it may precede
 more_false : (x y z : Bool) → x && z ≡ false → (z ≡ true → y ≡ false) → (x || y) && z ≡ false
@@ -112,24 +100,14 @@ more_prefixes prefix (inl none) = inl none
 more_prefixes prefix (inr some) = inr (ap (λ b. b || is_field_prefix prefix) some)
 
 precede_with : (F : Host → List ℕ → Type 0) (class : Class) (text rest : List ℕ) → may_have_fields (text ++ rest) ≡ false → MayPrecedePlain class text rest → MayPrecedeIn (with_fields F) class text rest
-precede_with F mark text rest h before = before
-precede_with F space text rest h before = before
 precede_with F word text rest h before = (before.0, word_with text rest h before.1)
 precede_with F string text rest h before = λ prefix q is begun quotes. before prefix q is (fewer_prefixes text rest prefix q h is quotes begun) quotes
-precede_with F operator text rest h before = before
-precede_with F comment text rest h before = before
-precede_with F join text rest h before = before
-precede_with F line_end text rest h before = before
+precede_with F class text rest h before = before
 
 pub precede_without : (F : Host → List ℕ → Type 0) (class : Class) (text rest : List ℕ) → MayPrecedeIn (with_fields F) class text rest → MayPrecedePlain class text rest
-precede_without F mark text rest before = before
-precede_without F space text rest before = before
 precede_without F word text rest before = (before.0, fewer_false (is_prefix text) (is_field_prefix text) (begins is_quote rest) before.1)
 precede_without F string text rest before = λ prefix q is begun quotes. before prefix q is (more_prefixes prefix begun) quotes
-precede_without F operator text rest before = before
-precede_without F comment text rest before = before
-precede_without F join text rest before = before
-precede_without F line_end text rest before = before
+precede_without F class text rest before = before
 
 -- so all pieces of the text
 pub read_with : (F : Host → List ℕ → Type 0) (ps : List Piece) (rest : List ℕ) → may_have_fields (spelled ps ++ rest) ≡ false → AreReadPlain ps rest → AreReadIn (with_fields F) ps rest

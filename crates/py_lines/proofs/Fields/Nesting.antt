@@ -1,6 +1,6 @@
 -- A field whose own fields are fields is one: what holds of some number of them, one in another, holds of more.
 use Rattle.std.proofs.Common.{◌≡◌, ℕ, zero, suc, ◌+◌, ◌<◌, ◌≤◌, Bool, List, [], ◌∷◌, ◌++◌, refl, inl, inr, arith}
-use Rattle.py_lines.specs.Piece.{Class, mark, space, word, string, operator, comment, join, line_end, Piece}
+use Rattle.py_lines.specs.Piece.{Class, string, Piece}
 use Rattle.py_lines.specs.PieceGrammar.{joined, InClassIn, MayPrecedeIn, AreReadIn}
 use Rattle.py_lines.specs.Balance.{depth_after}
 use Rattle.py_lines.specs.Fields.{IsShallow, AreInside, IsSpecification, IsField, simple, specified, FieldsWithin, Fields, fielded, IsShallowWith, ShallowWithin, ShallowFields, AnyPieces}
@@ -28,25 +28,12 @@ string_map F G f text (inl plain) = inl plain
 string_map F G f text (inr is) = inr (record { prefix = is.prefix; host = is.host; parts = is.parts; spell = is.spell; begun = is.begun; raw = is.raw; opens = is.opens; each = parts_map F G f is.host _ _ is.parts _ is.each; first = is.first })
 
 class_map : (F G : Host → List ℕ → Type 0) → Within F G → (class : Class) (text : List ℕ) → InClassIn (with_fields F) class text → InClassIn (with_fields G) class text
-class_map F G f mark text is = is
-class_map F G f space text is = is
-class_map F G f word text is = is
 class_map F G f string text is = string_map F G f text is
-class_map F G f operator text is = is
-class_map F G f comment text is = is
-class_map F G f join text is = is
-class_map F G f line_end text is = is
+class_map F G f class text is = is
 
 -- what a piece may stand before doesn't depend on fields
 precede_map : (F G : Host → List ℕ → Type 0) (class : Class) (text rest : List ℕ) → MayPrecedeIn (with_fields F) class text rest → MayPrecedeIn (with_fields G) class text rest
-precede_map F G mark text rest before = before
-precede_map F G space text rest before = before
-precede_map F G word text rest before = before
-precede_map F G string text rest before = before
-precede_map F G operator text rest before = before
-precede_map F G comment text rest before = before
-precede_map F G join text rest before = before
-precede_map F G line_end text rest before = before
+precede_map F G class text rest before = before
 
 read_map : (F G : Host → List ℕ → Type 0) → Within F G → (ps : List Piece) (rest : List ℕ) → AreReadIn (with_fields F) ps rest → AreReadIn (with_fields G) ps rest
 read_map F G f [] rest fit = tt
@@ -106,14 +93,8 @@ module _ (W : ℕ → Host → List ℕ → Type 0) (more : (n m : ℕ) → n �
       (each.0, inr (record { prefix = is.prefix; host = is.host; parts = is.parts; spell = is.spell; begun = is.begun; raw = is.raw; opens = is.opens; each = each.1; first = is.first }))
 
   class_within : (class : Class) (text : List ℕ) → InClassIn (with_fields Some) class text → (n : ℕ) × InClassIn (with_fields (W n)) class text
-  class_within mark text is = (zero, is)
-  class_within space text is = (zero, is)
-  class_within word text is = (zero, is)
   class_within string text is = string_within text is
-  class_within operator text is = (zero, is)
-  class_within comment text is = (zero, is)
-  class_within join text is = (zero, is)
-  class_within line_end text is = (zero, is)
+  class_within class text is = (zero, is)
 
   read_within : (ps : List Piece) (rest : List ℕ) → AreReadIn (with_fields Some) ps rest → (n : ℕ) × AreReadIn (with_fields (W n)) ps rest
   read_within [] rest fit = (zero, tt)
@@ -187,13 +168,7 @@ shallow_within depth (p ∷ ps) shallow =
     at string h =
         let own = string_within (λ n. ShallowWithin n depth) (λ n m le. shallow_more n m le depth) p.text (h refl) in
         (own.0, λ is. own.1)
-    at mark h = (zero, λ is. absurd (cc))
-    at space h = (zero, λ is. absurd (cc))
-    at word h = (zero, λ is. absurd (cc))
-    at operator h = (zero, λ is. absurd (cc))
-    at comment h = (zero, λ is. absurd (cc))
-    at join h = (zero, λ is. absurd (cc))
-    at line_end h = (zero, λ is. absurd (cc))
+    at class h = (zero, λ is. absurd (cc))
 
 pub shallow_is : (depth : ℕ) (host : Host) (text : List ℕ) → depth < 200 → IsField fielded (IsShallow (depth + 1)) (ShallowFields (depth + 1)) host text → ShallowFields depth host text
 shallow_is depth host text room (simple inside spell is passes) =

@@ -112,16 +112,10 @@ module _ (F G : Host → List ℕ → Type 0) where
 
 -- a piece without fields, or a string with them
 plain_or_fielded : (F : Host → List ℕ → Type 0) (class : Class) (text : List ℕ) → InClassIn (with_fields F) class text → InPlainClass class text ⊎ ((class ≡ string) × IsFieldString F text)
-plain_or_fielded F mark text is = inl is
-plain_or_fielded F space text is = inl is
-plain_or_fielded F word text is = inl is
 plain_or_fielded F string text (inl (inl short)) = inl (inl short.0)
 plain_or_fielded F string text (inl (inr long)) = inl (inr long.0)
 plain_or_fielded F string text (inr fielded) = inr (refl, fielded)
-plain_or_fielded F operator text is = inl is
-plain_or_fielded F comment text is = inl is
-plain_or_fielded F join text is = inl is
-plain_or_fielded F line_end text is = inl is
+plain_or_fielded F class text is = inl is
 
 same_as : (c d : Class) (s t : List ℕ) → c ≡ d → s ≡ t → piece c s ≡ piece d t
 same_as c d s t one two = ap (λ x. piece x s) one ∙ ap (piece d) two

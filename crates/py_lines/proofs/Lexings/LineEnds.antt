@@ -1,7 +1,7 @@
 -- Pieces that end a line: what they are read before, how deep they are, and how long.
 use Rattle.std.proofs.Common.{◌≡◌, ℕ, ◌+◌, Some, List, [], ◌∷◌, ◌++◌, length, refl, sym, ap, ◌∙◌, subst, inl, inr, append-nil, length-append, arith}
 use Rattle.std.proofs.lemmas.Bool.{both_ways, and_right, and_from, eq-eqb}
-use Rattle.py_lines.specs.Piece.{Class, mark, space, word, string, operator, comment, join, line_end, Piece, spelled}
+use Rattle.py_lines.specs.Piece.{Class, string, operator, line_end, Piece, spelled}
 use Rattle.py_lines.specs.Balance.{depth_after, depth_through}
 use Rattle.py_lines.specs.Fields.{fielded, InClass, AreReadBefore}
 use Rattle.py_lines.specs.Reading.{EndsLine}
@@ -53,14 +53,8 @@ depth_line : (body : List Piece) (last : Piece) → last.class ≡ line_end → 
 depth_line body last is deep = depth_through-append 0 body (last ∷ []) ∙ ap (λ (d : ℕ). depth_after d last) deep ∙ go last.class is last.text
   where
     go : (class : Class) → class ≡ line_end → (text : List ℕ) → depth_after 0 (piece class text) ≡ 0
-    go mark h text = refl
-    go space h text = refl
-    go word h text = refl
-    go string h text = refl
     go operator h text = absurd (cc)
-    go comment h text = refl
-    go join h text = refl
-    go line_end h text = refl
+    go class h text = refl
 
 pub depth_prefix : (prefix : List Piece) → EndsLine prefix → depth_through 0 prefix ≡ 0
 depth_prefix prefix (inl none) = ap (depth_through 0) none

@@ -4,7 +4,7 @@ use Rattle.std.specs.Prelude.{encode_utf8_all}
 use Rattle.std.specs.Str.{all_scalars, IsCharBoundary}
 use Rattle.std.proofs.lemmas.Option.{slice_get-get_or, same_Some}
 use Rattle.std.proofs.lemmas.Str.{encodes-append, IsCharBoundary-at_seam}
-use Rattle.py_lines.specs.Piece.{Class, mark, space, word, string, operator, comment, join, line_end, Piece, spelled}
+use Rattle.py_lines.specs.Piece.{Class, mark, space, join, line_end, Piece, spelled}
 use Rattle.py_lines.specs.LogicalLine.{byte_len, line_ends, tokens_of_piece, tokens_from}
 use Rattle.py_lines.specs.Token.{EachLiesIn, LiesIn}
 use Rattle.py_lines.specs.declared.token.Token.{Token}
@@ -33,11 +33,8 @@ each_piece : (text : List ℕ) (start stop line : ℕ) (class : Class) (piece_te
 each_piece text start stop line mark p ts lies others = others
 each_piece text start stop line join p ts lies others = others
 each_piece text start stop line space p ts lies others = others
-each_piece text start stop line word p ts lies others = each_cons text _ ts (lies _) others
-each_piece text start stop line string p ts lies others = each_cons text _ ts (lies _) others
-each_piece text start stop line operator p ts lies others = each_cons text _ ts (lies _) others
-each_piece text start stop line comment p ts lies others = each_cons text _ ts (lies _) others
 each_piece text start stop line line_end p ts lies others = others
+each_piece text start stop line class p ts lies others = each_cons text _ ts (lies _) others
 
 each_after : (before : List ℕ) (line : ℕ) (ps : List Piece) → all_scalars (spelled ps) ≡ true → EachLiesIn (encode_utf8_all (before ++ spelled ps)) (tokens_from (byte_len before) line ps)
 each_after before line [] scalars = each_nil (encode_utf8_all (before ++ []))

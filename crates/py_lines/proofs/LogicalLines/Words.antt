@@ -4,7 +4,7 @@ use Rattle.std.specs.Prelude.{encode_utf8_all, slice_range, if◌then◌else◌}
 use Rattle.std.proofs.Math.Seq.{drop-append_seam, take-append_seam}
 use Rattle.std.proofs.lemmas.Str.{encodes-append}
 use Rattle.py_lines.specs.Character.{is_digit}
-use Rattle.py_lines.specs.Piece.{Class, mark, space, word, string, operator, comment, join, line_end, Piece, begins, spelled}
+use Rattle.py_lines.specs.Piece.{Class, word, string, operator, comment, Piece, begins, spelled}
 use Rattle.py_lines.specs.LogicalLine.{byte_len, line_ends, first_or_zero, tokens_of_piece, tokens_from, line_of}
 use Rattle.py_lines.specs.Words.{word_in, words_of_piece, words_of, extent_of}
 use Rattle.py_lines.specs.declared.token.TokKind.TheVariants as kind
@@ -15,14 +15,11 @@ slice_seam b x c =
     ap (λ (n : ℕ). take n (drop (length b) (b ++ (x ++ c)))) e ∙ ap (λ (t : List ℕ). take (length x) t) (drop-append_seam b (x ++ c)) ∙ take-append_seam x c
 
 one_word : (b c : List ℕ) (line : ℕ) (class : Class) (text : List ℕ) → map (word_in (b ++ (encode_utf8_all text ++ c))) (tokens_of_piece (length b) (length b + byte_len text) line class text) ≡ words_of_piece class text
-one_word b c line mark text = refl
-one_word b c line space text = refl
-one_word b c line join text = refl
-one_word b c line line_end text = refl
 one_word b c line word text = λ i. record { kind = if begins is_digit text then kind.Number else kind.Name; bytes = slice_seam b (encode_utf8_all text) c i } ∷ []
 one_word b c line string text = λ i. record { kind = kind.Str; bytes = slice_seam b (encode_utf8_all text) c i } ∷ []
 one_word b c line operator text = λ i. record { kind = kind.Op (first_or_zero text); bytes = slice_seam b (encode_utf8_all text) c i } ∷ []
 one_word b c line comment text = λ i. record { kind = kind.Remark; bytes = slice_seam b (encode_utf8_all text) c i } ∷ []
+one_word b c line class text = refl
 
 map-append : {A B : Type 0} (f : A → B) (xs ys : List A) → map f (xs ++ ys) ≡ map f xs ++ map f ys
 map-append f [] ys = refl

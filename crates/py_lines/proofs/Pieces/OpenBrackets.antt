@@ -1,7 +1,7 @@
 -- Brackets are in pairs exactly where a stack of open ones is empty at the end.
 use Rattle.std.proofs.Common.{◌≡◌, ℕ, suc, ◌<◌, Bool, true, false, ◌==◌, Option, None, Some, List, [], ◌∷◌, ◌++◌, length, nat_lt, refl, sym, ap, ◌∙◌, subst, append_assoc, append-nil, add-one, arith}
 use Rattle.std.proofs.lemmas.Bool.{cond_both, or_parts, or_from, both_ways, lt-ltb, ltb-true}
-use Rattle.py_lines.specs.Piece.{Class, mark, space, word, string, operator, comment, join, line_end, Piece, begins, spelled}
+use Rattle.py_lines.specs.Piece.{Class, operator, Piece, begins, spelled}
 use Rattle.py_lines.specs.Balance as balance
 use Rattle.py_lines.specs.Balance.{is_opening, is_closing, closing_of, is_operator_that, is_opener, is_closer, ArePair, IsBalanced, depth_after, depth_through, EachAtDepth, OpensShallow, IsShallowPlain}
 use Rattle.py_lines.specs.LogicalLine.{first_or_zero, byte_len}
@@ -19,13 +19,7 @@ begins-closing (c ∷ cs) h = closing-not-opening c h
 
 operator-closing : (class : Class) (text : List ℕ) → is_operator_that is_closing class text ≡ true → is_operator_that is_opening class text ≡ false
 operator-closing operator text h = begins-closing text h
-operator-closing mark text h = refl
-operator-closing space text h = refl
-operator-closing word text h = refl
-operator-closing string text h = refl
-operator-closing comment text h = refl
-operator-closing join text h = refl
-operator-closing line_end text h = refl
+operator-closing class text h = refl
 
 pub closer-not-opener : (p : Piece) → is_closer p ≡ true → is_opener p ≡ false
 closer-not-opener p h = operator-closing p.class p.text h
@@ -41,13 +35,7 @@ first_begins p q (c ∷ cs) h k = k
 
 operator_begins : (p : ℕ → Bool) (class : Class) (text : List ℕ) → is_operator_that p class text ≡ true → begins p text ≡ true
 operator_begins p operator text h = h
-operator_begins p mark text h = absurd (both_ways _ refl h)
-operator_begins p space text h = absurd (both_ways _ refl h)
-operator_begins p word text h = absurd (both_ways _ refl h)
-operator_begins p string text h = absurd (both_ways _ refl h)
-operator_begins p comment text h = absurd (both_ways _ refl h)
-operator_begins p join text h = absurd (both_ways _ refl h)
-operator_begins p line_end text h = absurd (both_ways _ refl h)
+operator_begins p class text h = absurd (both_ways _ refl h)
 
 -- depth, piece by piece
 pub depth-opener : (d : ℕ) (p : Piece) → is_opener p ≡ true → depth_after d p ≡ suc d
