@@ -5,14 +5,14 @@ use Rattle.std.proofs.lemmas.Bool.{both_ways, cond_both, ltb-true, ltb-false}
 use Rattle.py_lines.specs.Piece.{operator, Piece, spelled}
 use Rattle.py_lines.specs.Balance.{is_opener, depth_after, depth_through}
 use Rattle.py_lines.specs.Fields.{IsShallow}
-use Rattle.py_lines.specs.Faults.{IsFieldDue, OpensBraceTooDeep, InOpenBracket, Unfinished, open_brace, open_short, open_long, open_join, open_bracket, open_inside, IsOpenAtEnd}
+use Rattle.py_lines.specs.Faults.{IsFieldDue, OpensBraceTooDeep, InOpenBracket, Unfinished, open_brace, open_short, open_long, open_inside, IsOpenAtEnd}
 use Rattle.py_lines.specs.OpenFields.{AreBegun, BeginsList, StandsOpen, IsPlainShortPrefix, IsPlainLongPrefix, IsOpenLiteral}
 use Rattle.py_lines.specs.LogicalLine.{byte_len}
 use Rattle.py_lines.specs.FieldStrings.{Host, Place, literal, specification, begins_open}
 use Rattle.py_lines.specs.declared.mode.Mode.{Mode}
 use Rattle.py_lines.specs.declared.mode.Mode.TheVariants as modes
 use Rattle.py_lines.specs.Private.Machine.{is_final, in_short, in_long, is_after_backslash}
-use Rattle.py_lines.specs.Private.FieldMachine.{text_place, before, At, after_brace, FieldMode, plain, opened, empty, body, Level, field_state, field_closed, levels_open, may_end, IsFieldFinal}
+use Rattle.py_lines.specs.Private.FieldMachine.{text_place, before, At, after_brace, FieldMode, plain, opened, empty, body, Level, FieldScanned, field_state, field_closed, levels_open, may_end, IsFieldFinal}
 use Rattle.py_lines.specs.Private.FieldFaults.{unfinished_code, unfinished_literal, unfinished_in}
 use Rattle.py_lines.proofs.Pieces.PieceLists.{piece}
 use Rattle.py_lines.proofs.FieldSoundness.OpenLists.{Opens, level, inside, opens-depth}
@@ -162,48 +162,33 @@ final_mode m short long slash = refl
 abbrev pub IsDeepBrace : List Level → List ℕ → FieldMode → Type 0
 IsDeepBrace outer openers m = (host : Host) × (m ≡ body host literal false after_brace) × (length openers + levels_open outer ≡ 200)
 
-some_same : {A : Type 0} (a b : A) → Some a ≡ Some b → a ≡ b
-some_same a b h = cc
+-- where a text ends in a state of the machine, it may end there, or this is open
+abbrev pub EndsSo : FieldScanned → List ℕ → Option Unfinished → Type 0
+EndsSo s read None = IsFieldFinal s
+EndsSo s read (Some what) = (offset : ℕ) × IsOpenAtEnd what read offset
 
-module _ (outer : List Level) (done : List Piece) (openers : List ℕ) (m : FieldMode) (held read : List ℕ) (sound : IsFieldSound two_hundred (field_state outer done openers m held) read) (deep : (place : ℕ) → OpensBraceTooDeep read [] place → IsDeepBrace outer openers m) where
-  abbrev Open : Option Unfinished → Type 0
-  Open o = (what : Unfinished) → o ≡ Some what → (offset : ℕ) × IsOpenAtEnd what read offset
-
-  is_open : (what : Unfinished) → (offset : ℕ) × IsOpenAtEnd what read offset → Open (Some what)
-  is_open what at other same = subst (λ (w : Unfinished). (offset : ℕ) × IsOpenAtEnd w read offset) (some_same what other same) at
-
-  -- where the text may end, brackets and fields aside
-  code_open : may_end m ≡ true → ((place : ℕ) → ¬ (OpensBraceTooDeep read [] place)) → Open (unfinished_code outer openers)
-  code_open may none = go outer openers sound
-    where
-      go : (ls : List Level) (os : List ℕ) → IsFieldSound two_hundred (field_state ls done os m held) read → Open (unfinished_code ls os)
-      go [] [] own = λ what same. absurd (cc)
-      go (l ∷ ls) [] own =
-          let at = code_is_open two_hundred l ls done m held read own may in
-          is_open open_inside (byte_len at.0, (at.0, inl at.1, refl, none))
-      go [] (o ∷ os) own =
-          let at = bracket_is_open two_hundred [] done o os m held read own may in
-          is_open open_bracket (byte_len at.0, (at.0, at.1, refl))
-      go (l ∷ ls) (o ∷ os) own =
-          let at = bracket_is_open two_hundred (l ∷ ls) done o os m held read own may in
-          is_open open_bracket (byte_len at.0, (at.0, at.1, refl))
+-- where the text may end, brackets and fields aside
+code_open : (outer : List Level) (done : List Piece) (openers : List ℕ) (m : FieldMode) (held read : List ℕ) → IsFieldSound two_hundred (field_state outer done openers m held) read → may_end m ≡ true → ((place : ℕ) → ¬ (OpensBraceTooDeep read [] place)) → EndsSo (field_state outer done openers m held) read (unfinished_code outer openers)
+code_open [] done [] m held read sound may none = record { outside = refl; closed_all = refl; ends = may }
+code_open (l ∷ ls) done [] m held read sound may none =
+    let at = code_is_open two_hundred l ls done m held read sound may in
+    (byte_len at.0, (at.0, inl at.1, refl, none))
+code_open outer done (o ∷ os) m held read sound may none =
+    let at = bracket_is_open two_hundred outer done o os m held read sound may in
+    (byte_len at.0, (at.0, at.1, refl))
 
 -- in each mode
-plain_open : (outer : List Level) (done : List Piece) (openers : List ℕ) (m : Mode) (held read : List ℕ) (sound : IsFieldSound two_hundred (field_state outer done openers (plain m) held) read) → ((place : ℕ) → OpensBraceTooDeep read [] place → IsDeepBrace outer openers (plain m)) → (what : Unfinished) → unfinished_in outer openers (plain m) ≡ Some what → (offset : ℕ) × IsOpenAtEnd what read offset
-plain_open outer done openers m held read sound deep what same =
-    let P : Option Unfinished → Type 0 = λ o. (w : Unfinished) → o ≡ Some w → (offset : ℕ) × IsOpenAtEnd w read offset in
+plain_open : (outer : List Level) (done : List Piece) (openers : List ℕ) (m : Mode) (held read : List ℕ) → IsFieldSound two_hundred (field_state outer done openers (plain m) held) read → ((place : ℕ) → ¬ (OpensBraceTooDeep read [] place)) → EndsSo (field_state outer done openers (plain m) held) read (unfinished_in outer openers (plain m))
+plain_open outer done openers m held read sound none =
+    let P : Option Unfinished → Type 0 = EndsSo (field_state outer done openers (plain m) held) read in
     let start = before literal outer ++ spelled done in
-    let none : (place : ℕ) → ¬ (OpensBraceTooDeep read [] place) = λ place due. not_body (deep place due) in
     cond_both (in_short m) _ _ P
-    (λ is. is_open outer done openers (plain m) held read sound deep open_short (byte_len start, (start, short_is_open two_hundred outer done openers m held read sound is, refl)))
+    (λ is. (byte_len start, (start, short_is_open two_hundred outer done openers m held read sound is, refl)))
     (λ short. cond_both (in_long m) _ _ P
-    (λ is. is_open outer done openers (plain m) held read sound deep open_long (byte_len start, (start, long_is_open two_hundred outer done openers m held read sound is, refl)))
+    (λ is. (byte_len start, (start, long_is_open two_hundred outer done openers m held read sound is, refl)))
     (λ long. cond_both (is_after_backslash m) _ _ P
-    (λ is. is_open outer done openers (plain m) held read sound deep open_join (byte_len start, (start, slash_is_open two_hundred outer done openers m held read sound is, refl)))
-    (λ slash. code_open outer done openers (plain m) held read sound deep (final_mode m short long slash) none))) what same
-  where
-    not_body : IsDeepBrace outer openers (plain m) → ⊥
-    not_body (host, at, full) = cc
+    (λ is. (byte_len start, (start, slash_is_open two_hundred outer done openers m held read sound is, refl)))
+    (λ slash. code_open outer done openers (plain m) held read sound (final_mode m short long slash) none)))
 
 literal_open : (outer : List Level) (done : List Piece) (openers : List ℕ) (host : Host) (named : Bool) (at : At) (held read : List ℕ) → IsFieldSound two_hundred (field_state outer done openers (body host literal named at) held) read → (at ≡ after_brace → ⊥) → (offset : ℕ) × IsOpenAtEnd (if host.is_long then open_long else open_short) read offset
 literal_open outer done openers host named at held read sound other = go host.is_long (literal_is_open two_hundred outer done openers host named at held read sound other)
@@ -215,7 +200,7 @@ literal_open outer done openers host named at held read sound other = go host.is
     go true own = (byte_len start, (start, stands_map (IsOpenLiteral true) (λ front. IsPlainLongPrefix front ⊎ IsOpenLiteral true front) read start (λ front is. inr is) own, refl))
     go false own = (byte_len start, (start, stands_map (IsOpenLiteral false) (λ front. IsPlainShortPrefix front ⊎ IsOpenLiteral false front) read start (λ front is. inr is) own, refl))
 
-brace_open : (outer : List Level) (done : List Piece) (openers : List ℕ) (host : Host) (named : Bool) (held read : List ℕ) → IsFieldSound two_hundred (field_state outer done openers (body host literal named after_brace) held) read → ((place : ℕ) → OpensBraceTooDeep read [] place → IsDeepBrace outer openers (body host literal named after_brace)) → (offset : ℕ) × IsOpenAtEnd (unfinished_literal host after_brace (length openers + levels_open outer)) read offset
+pub brace_open : (outer : List Level) (done : List Piece) (openers : List ℕ) (host : Host) (named : Bool) (held read : List ℕ) → IsFieldSound two_hundred (field_state outer done openers (body host literal named after_brace) held) read → ((place : ℕ) → OpensBraceTooDeep read [] place → IsDeepBrace outer openers (body host literal named after_brace)) → (offset : ℕ) × IsOpenAtEnd (unfinished_literal host after_brace (length openers + levels_open outer)) read offset
 brace_open outer done openers host named held read sound deep =
     let depth = length openers + levels_open outer in
     cond_both (nat_lt depth 200) open_inside open_brace (λ (w : Unfinished). (offset : ℕ) × IsOpenAtEnd w read offset)
@@ -240,45 +225,18 @@ specification_at outer done openers host named at held read sound deep =
     not_literal : IsDeepBrace outer openers (body host specification named at) → ⊥
     not_literal (h, same, full) = cc
 
-pub open_in : (outer : List Level) (done : List Piece) (openers : List ℕ) (m : FieldMode) (held read : List ℕ) (sound : IsFieldSound two_hundred (field_state outer done openers m held) read) → ((place : ℕ) → OpensBraceTooDeep read [] place → IsDeepBrace outer openers m) → (what : Unfinished) → unfinished_in outer openers m ≡ Some what → (offset : ℕ) × IsOpenAtEnd what read offset
-open_in outer done openers (plain m) held read sound deep what same = plain_open outer done openers m held read sound deep what same
-open_in outer done openers (opened host) held read sound deep what same =
+pub open_in : (outer : List Level) (done : List Piece) (openers : List ℕ) (m : FieldMode) (held read : List ℕ) → IsFieldSound two_hundred (field_state outer done openers m held) read → ((place : ℕ) → OpensBraceTooDeep read [] place → IsDeepBrace outer openers m) → EndsSo (field_state outer done openers m held) read (unfinished_in outer openers m)
+open_in outer done openers (plain m) held read sound deep = plain_open outer done openers m held read sound (λ place due. not_body (deep place due))
+  where
+    not_body : IsDeepBrace outer openers (plain m) → ⊥
+    not_body (h, at, full) = cc
+open_in outer done openers (opened host) held read sound deep =
     let start = before literal outer ++ spelled done in
-    is_open outer done openers (opened host) held read sound deep open_short
-    (byte_len start, (start, stands_map (IsOpenLiteral false) (λ front. IsPlainShortPrefix front ⊎ IsOpenLiteral false front) read start (λ front is. inr is) (opened_is_open two_hundred outer done openers host held read sound), refl)) what same
-open_in outer done openers (empty host) held read sound deep what same = code_open outer done openers (empty host) held read sound deep refl (λ place due. not_body (deep place due)) what same
+    (byte_len start, (start, stands_map (IsOpenLiteral false) (λ front. IsPlainShortPrefix front ⊎ IsOpenLiteral false front) read start (λ front is. inr is) (opened_is_open two_hundred outer done openers host held read sound), refl))
+open_in outer done openers (empty host) held read sound deep = code_open outer done openers (empty host) held read sound refl (λ place due. not_body (deep place due))
   where
     not_body : IsDeepBrace outer openers (empty host) → ⊥
     not_body (h, at, full) = cc
-open_in outer done openers (body host specification named at) held read sound deep what same =
-    is_open outer done openers (body host specification named at) held read sound deep open_inside (specification_at outer done openers host named at held read sound deep) what same
-open_in outer done openers (body host literal named after_brace) held read sound deep what same =
-    is_open outer done openers (body host literal named after_brace) held read sound deep _ (brace_open outer done openers host named held read sound deep) what same
-open_in outer done openers (body host literal named at) held read sound deep what same =
-    is_open outer done openers (body host literal named at) held read sound deep _ (literal_open outer done openers host named at held read sound (λ is. absurd (cc))) what same
-
--- and where nothing is open, the text may end
-ends_if_none : (outer : List Level) (openers : List ℕ) → unfinished_code outer openers ≡ None → (outer ≡ []) × (openers ≡ [])
-ends_if_none [] [] is = (refl, refl)
-ends_if_none (l ∷ ls) [] is = absurd (cc)
-ends_if_none [] (o ∷ os) is = absurd (cc)
-ends_if_none (l ∷ ls) (o ∷ os) is = absurd (cc)
-
-pub final_in : (outer : List Level) (done : List Piece) (openers : List ℕ) (m : FieldMode) (held : List ℕ) → unfinished_in outer openers m ≡ None → IsFieldFinal (field_state outer done openers m held)
-final_in outer done openers (plain m) held is =
-    let P : Option Unfinished → Type 0 = λ o. o ≡ None → IsFieldFinal (field_state outer done openers (plain m) held) in
-    cond_both (in_short m) _ _ P (λ h same. absurd (some_none same))
-    (λ short. cond_both (in_long m) _ _ P (λ h same. absurd (some_none same))
-    (λ long. cond_both (is_after_backslash m) _ _ P (λ h same. absurd (some_none same))
-    (λ slash same.
-    let ends = ends_if_none outer openers same in
-    record { outside = ends.0; closed_all = ends.1; ends = final_mode m short long slash }))) is
-  where
-    some_none : {A : Type 0} {a : A} → Some a ≡ None → ⊥
-    some_none h = cc
-final_in outer done openers (opened host) held is = absurd (cc)
-final_in outer done openers (empty host) held is =
-    let ends = ends_if_none outer openers is in
-    record { outside = ends.0; closed_all = ends.1; ends = refl }
-final_in outer done openers (body host literal named at) held is = absurd (cc)
-final_in outer done openers (body host specification named at) held is = absurd (cc)
+open_in outer done openers (body host specification named at) held read sound deep = specification_at outer done openers host named at held read sound deep
+open_in outer done openers (body host literal named after_brace) held read sound deep = brace_open outer done openers host named held read sound deep
+open_in outer done openers (body host literal named at) held read sound deep = literal_open outer done openers host named at held read sound (λ is. absurd (cc))

@@ -1,7 +1,7 @@
 -- A live text with fields that has no reading has a fault at its end, and one alone.
-use Rattle.std.proofs.Common.{◌≡◌, ℕ, ◌+◌, ◌<◌, Bool, true, false, Option, None, Some, List, [], ◌∷◌, ◌++◌, ◌⊎◌, inl, inr, length, nat_lt, refl, sym, ap, ◌∙◌, subst, append_assoc, append-nil, arith}
+use Rattle.std.proofs.Common.{◌≡◌, ℕ, ◌+◌, ◌<◌, true, false, Option, None, Some, List, [], ◌∷◌, ◌++◌, ◌⊎◌, inl, inr, length, nat_lt, refl, sym, ap, ◌∙◌, subst, append_assoc, append-nil, arith}
 use Rattle.std.specs.Prelude.{if◌then◌else◌}
-use Rattle.std.proofs.lemmas.Bool.{both_ways, ltb-false}
+use Rattle.std.proofs.lemmas.Bool.{both_ways, cond_both}
 use Rattle.py_lines.specs.Piece.{Piece, spelled}
 use Rattle.py_lines.specs.LogicalLine.{byte_len}
 use Rattle.py_lines.specs.FieldStrings.{Host, literal, specification}
@@ -17,7 +17,7 @@ use Rattle.py_lines.proofs.FieldSoundness.Holds.{IsFieldSound}
 use Rattle.py_lines.proofs.FieldSoundness.HostSteps.{sound_at}
 use Rattle.py_lines.proofs.FieldSoundness.WholeTexts.{two_hundred, rooms_at, final_is_reading}
 use Rattle.py_lines.proofs.FieldSoundness.LiveTexts.{live_goes, goes_live}
-use Rattle.py_lines.proofs.Faults.EndFaults.{IsDeepBrace, few_frames, brace_is_due, open_in, final_in}
+use Rattle.py_lines.proofs.Faults.EndFaults.{IsDeepBrace, EndsSo, brace_open, open_in}
 use Rattle.py_lines.specs.Private.FieldFaults.{unfinished_code, unfinished_in, unfinished_at}
 use Rattle.py_lines.proofs.Faults.EndPlaces.{same_state, opened_text, IsPlaced, one_place, short_unfinished, long_unfinished, join_unfinished, code_unfinished, specification_unfinished, bracket_back}
 
@@ -32,13 +32,11 @@ sound_to characters s steps room = sound_at two_hundred characters s (rooms_at (
 
 -- a live text is read, or has a fault at its end
 pub read_or_open : (characters : List ℕ) (s : FieldScanned) → field_steps_from (Some field_text_start) characters ≡ Some s → have_room (Some field_text_start) characters ≡ true → IsBalancedReading (field_pieces s) characters ⊎ ((kind : FaultKind) × (offset : ℕ) × IsEndFault kind characters [] offset)
-read_or_open characters s steps room = go (unfinished_at s) refl
+read_or_open characters s steps room = go (unfinished_at s) (open_in s.outer s.done s.openers s.mode s.held characters (sound_to characters s steps room) (λ place deep. deep_state characters s place steps deep))
   where
-    go : (o : Option Unfinished) → unfinished_at s ≡ o → IsBalancedReading (field_pieces s) characters ⊎ ((kind : FaultKind) × (offset : ℕ) × IsEndFault kind characters [] offset)
-    go None none = inl (final_is_reading characters s steps room (final_in s.outer s.done s.openers s.mode s.held none))
-    go (Some what) is =
-        let at = open_in s.outer s.done s.openers s.mode s.held characters (sound_to characters s steps room) (λ place deep. deep_state characters s place steps deep) what is in
-        inr (kind_of_unfinished what, at.0, record { unfinished = what; is = refl; whole = refl; live = goes_live characters s steps room; ends_in = at.1 })
+    go : (o : Option Unfinished) → EndsSo s characters o → IsBalancedReading (field_pieces s) characters ⊎ ((kind : FaultKind) × (offset : ℕ) × IsEndFault kind characters [] offset)
+    go None final = inl (final_is_reading characters s steps room final)
+    go (Some what) at = inr (kind_of_unfinished what, at.0, record { unfinished = what; is = refl; whole = refl; live = goes_live characters s steps room; ends_in = at.1 })
 
 -- the place of a string or a backslash
 pub short_place : (m : FieldMode) → in_open_short m ≡ true → text_place m ≡ literal
@@ -84,21 +82,13 @@ module _ (characters : List ℕ) (s : FieldScanned) (steps : field_steps_from (S
   code_named start offset (at_brace host mode_is is) place other = go s.mode mode_is sound
     where
       go : (m : FieldMode) → m ≡ body host literal false after_brace → IsFieldSound two_hundred (field_state s.outer s.done s.openers m s.held) characters → (unfinished_in s.outer s.openers m ≡ Some open_inside) × ((first : List ℕ) × (first ++ 123 ∷ [] ≡ opened_text m s.outer characters) × (offset ≡ byte_len first))
-      go m same own =
-          let here : IsFieldSound two_hundred (field_state s.outer s.done s.openers (body host literal false after_brace) s.held) characters = subst (λ (x : FieldMode). IsFieldSound two_hundred (field_state s.outer s.done s.openers x s.held) characters) same own in
-          let whole : start ++ 123 ∷ [] ≡ characters = sym is ∙ append_assoc (before literal s.outer) (spelled s.done) s.held ∙ here.spell in
-          subst (λ (x : FieldMode). (unfinished_in s.outer s.openers x ≡ Some open_inside) × ((first : List ℕ) × (first ++ 123 ∷ [] ≡ opened_text x s.outer characters) × (offset ≡ byte_len first))) (sym same)
-          (shallow here (nat_lt (length s.openers + levels_open s.outer) 200) refl, (start, whole, place))
-        where
-          shallow : IsFieldSound two_hundred (field_state s.outer s.done s.openers (body host literal false after_brace) s.held) characters → (b : Bool) → nat_lt (length s.openers + levels_open s.outer) 200 ≡ b → Some (if nat_lt (length s.openers + levels_open s.outer) 200 then open_inside else open_brace) ≡ Some open_inside
-          shallow here true less = rw less
-          shallow here false full =
-              let depth = length s.openers + levels_open s.outer in
-              let few = few_frames s.outer s.done s.openers (body host literal false after_brace) s.held characters here in
-              let many = ltb-false depth 200 full in
-              let count : depth ≡ 200 = omega (arith, few, many) in
-              let due = brace_is_due two_hundred s.outer s.done s.openers host false s.held characters here [] refl count in
-              absurd (other due.0 due.1)
+      go (body own literal named after_brace) same here =
+          let depth = length s.openers + levels_open s.outer in (
+            cond_both (nat_lt depth 200) open_inside open_brace (λ (w : Unfinished). (at : ℕ) × IsOpenAtEnd w characters at → Some w ≡ Some open_inside) (λ less due. refl) (λ full due. absurd (other due.0 due.1))
+                (brace_open s.outer s.done s.openers own named s.held characters here (λ at due. absurd (other at due))),
+            (start, sym is ∙ append_assoc (before literal s.outer) (spelled s.done) s.held ∙ here.spell, place),
+          )
+      go m same here = absurd (cc)
 
   pub specification_named : (host : Host) (start : List ℕ) (offset : ℕ) → SpecificationAt host start s → offset ≡ byte_len start → IsNamed open_inside offset
   specification_named host start offset at place =

@@ -1,5 +1,5 @@
 -- Where a live text ends, the state of the machine with fields tells what is open and where its fault stands, or that it is read.
-use Rattle.std.proofs.Common.{◌≡◌, ℕ, ◌+◌, ◌-◌, Bool, true, false, Some, List, [], ◌∷◌, ◌++◌, refl, sym, ap, ◌∙◌, append_assoc, append-nil, length, length-append}
+use Rattle.std.proofs.Common.{◌≡◌, ℕ, ◌+◌, ◌-◌, Bool, true, false, Some, List, [], ◌∷◌, ◌++◌, refl, sym, ap, ◌∙◌, subst, append_assoc, append-nil, length, length-append}
 use Rattle.std.specs.Prelude.{if◌then◌else◌}
 use Rattle.std.proofs.lemmas.Str.{encodes-append}
 use Rattle.py_lines.specs.Piece.{string, Piece, spelled}
@@ -15,7 +15,7 @@ use Rattle.py_lines.specs.Private.FieldFaults.{is_waiting, unfinished_at, unfini
 use Rattle.py_lines.proofs.Pieces.PieceLists.{piece}
 use Rattle.py_lines.proofs.Pieces.OpenBrackets.{StandsAt, level, inside, stands}
 use Rattle.py_lines.proofs.FieldSoundness.LiveTexts.{goes_live}
-use Rattle.py_lines.proofs.Faults.EndFaults.{open_in}
+use Rattle.py_lines.proofs.Faults.EndFaults.{EndsSo, open_in}
 use Rattle.py_lines.proofs.Faults.EndPlaces.{IsPlaced, opened_text, one_bracket}
 use Rattle.py_lines.proofs.Faults.Ends.{sound_to, deep_state, named}
 use Rattle.py_lines.proofs.Faults.CauseAt.{brace_last, text_is}
@@ -72,7 +72,7 @@ module _ (read : List ℕ) (s : FieldScanned) (steps : field_steps_from (Some fi
   -- what is open at the end, and where
   pub unfinished_fits : (what : Unfinished) → unfinished_at s ≡ Some what → (offset : ℕ) × IsEndFault (kind_of_unfinished what) read [] offset × StandsThere s what offset
   unfinished_fits what is =
-      let found = open_in s.outer s.done s.openers s.mode s.held read (sound_to read s steps room) (λ place deep. deep_state read s place steps deep) what is in (
+      let found = subst (EndsSo s read) is (open_in s.outer s.done s.openers s.mode s.held read (sound_to read s steps room) (λ place deep. deep_state read s place steps deep)) in (
         found.0,
         record { unfinished = what; is = refl; whole = refl; live = goes_live read s steps room; ends_in = found.1 },
         there what found.0 (named read s steps room what found.0 found.1).1,
