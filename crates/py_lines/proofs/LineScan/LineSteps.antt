@@ -71,30 +71,26 @@ no_feed text rest none = and_right _ _ none
 pub returned_fit : (done : List Piece) (held read more : List ℕ) → IsScanSound (scanned done modes.Return held) read → held ≡ 13 ∷ [] → begins is_line_feed more ≡ false → AreReadBefore (done ++ piece line_end held ∷ []) more
 returned_fit done held read more sound text none = AreReadBefore-push done line_end held more (sound.fit more) (return text) (no_feed held more none) (follows_any done line_end held refl)
 
-returned_as : (m : Mode) (old : Scan) (read rest : List ℕ) (s : Scanned) → scan_steps (Some (line_start m)) read ≡ Some s → IsScanSound s read → Tallies old s → IsStacked old s → EndsNoLine 0 s.done → (n : Mode) → n ≡ s.mode → is_return_mode n ≡ true → none_open (stack_of old.brackets) ≡ true → ((after : List ℕ) → encode_utf8_all after ≡ rest → begins is_line_feed after ≡ false) → IsAtLineEnd m (freed old) read rest 1
-returned_as m old read rest s steps sound tallies stacked none modes.Return is returns empty follows = go s.mode is s.done s.held sound tallies stacked none
+pub returned : (m : Mode) (old : Scan) (read rest : List ℕ) (way : IsUnderWay m old read) → IsScanSound (line_start m) [] → is_return_mode old.piece.mode ≡ true → none_open (stack_of old.brackets) ≡ true → ((after : List ℕ) → encode_utf8_all after ≡ rest → begins is_line_feed after ≡ false) → IsAtLineEnd m (freed old) read rest 1
+returned m old read rest way start returns empty follows =
+    go way.state.mode (subst (λ k. is_return_mode k ≡ true) way.tallies.counts.mode returns) way.state.done way.state.held way.steps (sound_steps m read way.state start way.steps way.stacked) way.tallies way.stacked way.one_line
   where
-    go : (k : Mode) → modes.Return ≡ k → (done : List Piece) (held : List ℕ) → IsScanSound (scanned done k held) read → Tallies old (scanned done k held) → IsStacked old (scanned done k held) → EndsNoLine 0 done → IsAtLineEnd m (freed old) read rest 1
-    go modes.Return same done held sound' tallies' stacked' none' =
-        let r = sound'.holds.0 in
-        let text : held ≡ 13 ∷ [] = sound'.holds.1 ∙ ap (λ d. d ∷ []) (return_is r sound'.holds.2) in
+    go : (k : Mode) → is_return_mode k ≡ true → (done : List Piece) (held : List ℕ) → scan_steps (Some (line_start m)) read ≡ Some (scanned done k held) → IsScanSound (scanned done k held) read → Tallies old (scanned done k held) → IsStacked old (scanned done k held) → EndsNoLine 0 done → IsAtLineEnd m (freed old) read rest 1
+    go modes.Return is done held steps sound tallies stacked none =
+        let r = sound.holds.0 in
+        let text : held ≡ 13 ∷ [] = sound.holds.1 ∙ ap (λ d. d ∷ []) (return_is r sound.holds.2) in
         record {
           body = done;
           last = piece line_end held;
-          are = record { one_line = none'; class = refl; level = none_level done (stack_of old.brackets) stacked' empty; paired = none_stack done (stack_of old.brackets) stacked' empty; size = one_return r sound'.holds.2 ∙ ap byte_len (sym sound'.holds.1) };
-          to = s;
+          are = record { one_line = none; class = refl; level = none_level done (stack_of old.brackets) stacked empty; paired = none_stack done (stack_of old.brackets) stacked empty; size = one_return r sound.holds.2 ∙ ap byte_len (sym sound.holds.1) };
+          to = scanned done modes.Return held;
           steps = steps;
-          spell = spelled-push done line_end held ∙ sound'.spell;
-          fit = λ after is_rest. returned_fit done held read after sound' text (follows after is_rest);
-          strings = line_string done (piece line_end held) refl sound'.strings;
-          tallies = closes_shut old done modes.Return held sound'.holds tallies';
+          spell = spelled-push done line_end held ∙ sound.spell;
+          fit = λ after is_rest. returned_fit done held read after sound text (follows after is_rest);
+          strings = line_string done (piece line_end held) refl sound.strings;
+          tallies = closes_shut old done modes.Return held sound.holds tallies;
         }
-    go k same done held sound' tallies' stacked' none' = absurd (cc)
-returned_as m old read rest s steps sound tallies stacked none n is returns empty follows = absurd (both_ways _ refl returns)
-
-pub returned : (m : Mode) (old : Scan) (read rest : List ℕ) (way : IsUnderWay m old read) → IsScanSound (line_start m) [] → is_return_mode old.piece.mode ≡ true → none_open (stack_of old.brackets) ≡ true → ((after : List ℕ) → encode_utf8_all after ≡ rest → begins is_line_feed after ≡ false) → IsAtLineEnd m (freed old) read rest 1
-returned m old read rest way start returns empty follows =
-    returned_as m old read rest way.state way.steps (sound_steps m read way.state start way.steps way.stacked) way.tallies way.stacked way.one_line old.piece.mode way.tallies.counts.mode returns empty follows
+    go k is done held steps sound tallies stacked none = absurd (both_ways _ refl is)
 
 -- what follows begins with another character, or is nothing
 pub follows_nothing : (rest after : List ℕ) → rest ≡ [] → encode_utf8_all after ≡ rest → begins is_line_feed after ≡ false
