@@ -1,7 +1,8 @@
 -- The longest prefix of a text that is read and ends a line: there is one, and no other. Of each prefix the machine with fields
 -- decides whether it is read.
-use Rattle.std.proofs.Common.{◌≡◌, ℕ, ◌+◌, ◌≤◌, ◌<◌, true, false, ◌==◌, Option, None, Some, List, [], ◌∷◌, ◌++◌, ◌⊎◌, inl, inr, length, refl, sym, ap, ◌∙◌, subst, ⊎_elim, append_assoc, append-nil, length-append, arith}
-use Rattle.std.proofs.lemmas.List.{same_from_push}
+use Rattle.std.proofs.Common.{◌≡◌, ℕ, ◌≤◌, ◌<◌, true, false, ◌==◌, Option, None, Some, List, [], ◌∷◌, ◌++◌, ◌⊎◌, inl, inr, length, take, drop, zero, suc, refl, sym, ap, ◌∙◌, subst, ⊎_elim, take-append-drop, length-append, arith}
+use Rattle.std.proofs.lemmas.List.{same_from_push, length-take}
+use Rattle.std.proofs.Math.Seq.{take-append_seam, drop-append_seam}
 use Rattle.std.proofs.lemmas.Bool.{both_ways, cases_Bool, cases_lt, eqb-true, eq-eqb}
 use Rattle.py_lines.specs.Character.{is_return}
 use Rattle.py_lines.specs.Piece.{Class, line_end, Piece, ends, spelled}
@@ -9,21 +10,17 @@ use Rattle.py_lines.specs.Balance as balance
 use Rattle.py_lines.specs.Balance.{depth_through}
 use Rattle.py_lines.specs.Reading.{EndsLine, IsLongest, IsReadPrefix, IsBalancedReading}
 use Rattle.py_lines.specs.Settled.{EndsForGood, IsSettledPrefix}
-use Rattle.py_lines.specs.Private.FieldMachine.{Level, FieldScanned, field_text_start, field_steps_from, have_room, may_end, field_pieces, IsFieldFinal}
+use Rattle.py_lines.specs.Private.FieldMachine.{FieldScanned, field_text_start, field_steps_from, have_room, may_end, field_pieces, IsFieldFinal}
 use Rattle.py_lines.proofs.Fields.OneReading.{one_fielded_reading}
 use Rattle.py_lines.proofs.FieldMachine.Completeness.{reading_reached}
 use Rattle.py_lines.proofs.FieldSoundness.WholeTexts.{final_is_reading}
 
 -- two prefixes of one text that are as long are the same
 same_prefix : (a b x y : List ℕ) → a ++ x ≡ b ++ y → length a ≡ length b → (a ≡ b) × (x ≡ y)
-same_prefix [] [] x y same len = (refl, same)
-same_prefix [] (d ∷ b) x y same len = absurd (omega (arith, len))
-same_prefix (c ∷ a) [] x y same len = absurd (omega (arith, len))
-same_prefix (c ∷ a) (d ∷ b) x y same len =
-    let here : c ≡ d = cc in
-    let later : a ++ x ≡ b ++ y = cc in
-    let rest = same_prefix a b x y later (omega (arith, len)) in
-    (ap (λ e. e ∷ a) here ∙ ap (λ t. d ∷ t) rest.0, rest.1)
+same_prefix a b x y same len = (
+  sym (take-append_seam a x) ∙ (λ i. take (len i) (same i)) ∙ take-append_seam b y,
+  sym (drop-append_seam a x) ∙ (λ i. drop (len i) (same i)) ∙ drop-append_seam b y,
+)
 
 -- the longest of the prefixes of a text that are good, where the empty one is, and each can be decided
 pub record LongestGood (Good : List ℕ → List ℕ → Type 0) (characters : List ℕ) (most : ℕ) : Type 0 where
@@ -33,37 +30,34 @@ pub record LongestGood (Good : List ℕ → List ℕ → Type 0) (characters : L
   pub good : Good first rest
   pub longest : (others after : List ℕ) → others ++ after ≡ characters → Good others after → length others ≤ most → length others ≤ length first
 
-module _ (Good : List ℕ → List ℕ → Type 0) (decide : (xs ys : List ℕ) → Good xs ys ⊎ ¬ (Good xs ys)) (characters : List ℕ) where
-  one_more : (xs : List ℕ) (c : ℕ) (ys : List ℕ) → xs ++ c ∷ ys ≡ characters → LongestGood Good characters (length xs) → LongestGood Good characters (length (xs ++ c ∷ []))
-  one_more xs c ys spell best = go (decide (xs ++ c ∷ []) ys)
+module _ (Good : List ℕ → List ℕ → Type 0) (decide : (xs ys : List ℕ) → Good xs ys ⊎ ¬ (Good xs ys)) (characters : List ℕ) (none : Good [] characters) where
+  pub longest_up_to : (n : ℕ) → LongestGood Good characters n
+  longest_up_to zero = record { first = []; rest = characters; spell = refl; good = none; longest = λ others after same is few. few }
+  longest_up_to (suc n) = go (decide (take (suc n) characters) (drop (suc n) characters)) (longest_up_to n)
     where
-      more : length (xs ++ c ∷ []) ≡ length xs + 1
-      more = length-append xs (c ∷ []) ∙ omega arith
+      whole : take (suc n) characters ++ drop (suc n) characters ≡ characters
+      whole = take-append-drop (suc n) characters
 
-      whole : (xs ++ c ∷ []) ++ ys ≡ characters
-      whole = append_assoc xs (c ∷ []) ys ∙ spell
-
-      go : Good (xs ++ c ∷ []) ys ⊎ ¬ (Good (xs ++ c ∷ []) ys) → LongestGood Good characters (length (xs ++ c ∷ []))
-      go (inl good) = record { first = xs ++ c ∷ []; rest = ys; spell = whole; good = good; longest = λ others after same is few. few }
-      go (inr bad) = record {
+      go : Good (take (suc n) characters) (drop (suc n) characters) ⊎ ¬ (Good (take (suc n) characters) (drop (suc n) characters)) → LongestGood Good characters n → LongestGood Good characters (suc n)
+      go (inl good) best = record {
+        first = take (suc n) characters;
+        rest = drop (suc n) characters;
+        spell = whole;
+        good = good;
+        longest = λ others after same is few. omega (arith, few, ap length (sym same), length-append others after, length-take (suc n) characters);
+      }
+      go (inr bad) best = record {
         first = best.first;
         rest = best.rest;
         spell = best.spell;
         good = best.good;
         longest = λ others after same is few.
             ⊎_elim
-            (λ (less : length others < length (xs ++ c ∷ [])). best.longest others after same is (omega (arith, less, more)))
-            (λ (all : length (xs ++ c ∷ []) ≤ length others).
-            let cut = same_prefix others (xs ++ c ∷ []) after ys (same ∙ sym whole) (omega (arith, few, all)) in
-            absurd (bad (subst (Good (xs ++ c ∷ [])) cut.1 (subst (λ t. Good t after) cut.0 is)))) (cases_lt (length others) (length (xs ++ c ∷ [])));
+            (λ (less : length others < suc n). best.longest others after same is (omega (arith, less)))
+            (λ (all : suc n ≤ length others).
+            let cut = same_prefix others (take (suc n) characters) after (drop (suc n) characters) (same ∙ sym whole) (omega (arith, few, all, ap length (sym same), length-append others after, length-take (suc n) characters)) in
+            absurd (bad (subst (Good (take (suc n) characters)) cut.1 (subst (λ t. Good t after) cut.0 is)))) (cases_lt (length others) (suc n));
       }
-
-  all_more : (ys xs : List ℕ) → xs ++ ys ≡ characters → LongestGood Good characters (length xs) → LongestGood Good characters (length characters)
-  all_more [] xs spell best = subst (λ t. LongestGood Good characters (length t)) (sym (append-nil xs) ∙ spell) best
-  all_more (c ∷ ys) xs spell best = all_more ys (xs ++ c ∷ []) (append_assoc xs (c ∷ []) ys ∙ spell) (one_more xs c ys spell best)
-
-  pub longest_good : Good [] characters → LongestGood Good characters (length characters)
-  longest_good none = all_more characters [] refl (record { first = []; rest = characters; spell = refl; good = none; longest = λ others after same is few. few })
 
 -- whether a text is read
 abbrev IsRead : List ℕ → Type 0
@@ -72,16 +66,12 @@ IsRead xs = (pieces : List Piece) × IsBalancedReading pieces xs
 same_state : (xs : List ℕ) (s t : FieldScanned) → field_steps_from (Some field_text_start) xs ≡ Some s → field_steps_from (Some field_text_start) xs ≡ Some t → s ≡ t
 same_state xs s t one two = cc
 
-no_levels : (outer : List Level) → (outer ≡ []) ⊎ ¬ (outer ≡ [])
-no_levels [] = inl refl
-no_levels (l ∷ ls) = inr (λ h. cc)
-
-no_openers : (openers : List ℕ) → (openers ≡ []) ⊎ ¬ (openers ≡ [])
-no_openers [] = inl refl
-no_openers (o ∷ os) = inr (λ h. cc)
+empty_or_not : {A : Type 0} (xs : List A) → (xs ≡ []) ⊎ ¬ (xs ≡ [])
+empty_or_not [] = inl refl
+empty_or_not (x ∷ xs) = inr (λ h. cc)
 
 final_or_not : (s : FieldScanned) → IsFieldFinal s ⊎ ¬ (IsFieldFinal s)
-final_or_not s = go (no_levels s.outer) (no_openers s.openers) (cases_Bool (may_end s.mode))
+final_or_not s = go (empty_or_not s.outer) (empty_or_not s.openers) (cases_Bool (may_end s.mode))
   where
     go : (s.outer ≡ []) ⊎ ¬ (s.outer ≡ []) → (s.openers ≡ []) ⊎ ¬ (s.openers ≡ []) → (may_end s.mode ≡ true) ⊎ (may_end s.mode ≡ false) → IsFieldFinal s ⊎ ¬ (IsFieldFinal s)
     go (inl one) (inl two) (inl may) = inl (record { outside = one; closed_all = two; ends = may })
@@ -127,22 +117,16 @@ ends_line_or_not (p ∷ ps) = go (last_of p ps)
     go : (body : List Piece) × (last : Piece) × (p ∷ ps ≡ body ++ last ∷ []) → EndsLine (p ∷ ps) ⊎ ¬ (EndsLine (p ∷ ps))
     go (body, last, is) = by (line_end_class last.class) (cases_Bool (depth_through 0 body == 0))
       where
+        back : EndsLine (p ∷ ps) → (last.class ≡ line_end) × (depth_through 0 body ≡ 0)
+        back (inl none) = absurd (cc)
+        back (inr (front, end, so, class, deep)) =
+            let same = same_from_push body front last end (sym is ∙ so) in
+            (ap (λ (x : Piece). x.class) same.1 ∙ class, ap (depth_through 0) same.0 ∙ deep)
+
         by : (last.class ≡ line_end) ⊎ ¬ (last.class ≡ line_end) → (depth_through 0 body == 0 ≡ true) ⊎ (depth_through 0 body == 0 ≡ false) → EndsLine (p ∷ ps) ⊎ ¬ (EndsLine (p ∷ ps))
         by (inl class) (inl level) = inl (inr (body, last, is, class, eqb-true (depth_through 0 body) 0 level))
-        by (inr other) level = inr (other_class other)
-          where
-            other_class : ¬ (last.class ≡ line_end) → EndsLine (p ∷ ps) → ⊥
-            other_class apart (inl none) = absurd (cc)
-            other_class apart (inr (front, end, so, class, deep)) =
-                let same = same_from_push body front last end (sym is ∙ so) in
-                apart (ap (λ (x : Piece). x.class) same.1 ∙ class)
-        by (inl class) (inr deep) = inr deeper
-          where
-            deeper : EndsLine (p ∷ ps) → ⊥
-            deeper (inl none) = absurd (cc)
-            deeper (inr (front, end, so, also, level)) =
-                let same = same_from_push body front last end (sym is ∙ so) in
-                both_ways _ deep (eq-eqb (depth_through 0 body) 0 (ap (depth_through 0) same.0 ∙ level))
+        by (inr other) level = inr (λ ended. other (back ended).0)
+        by (inl class) (inr deep) = inr (λ ended. both_ways _ deep (eq-eqb (depth_through 0 body) 0 (back ended).1))
 
 pub ends_for_good_or_not : (pieces : List Piece) (rest : List ℕ) → EndsForGood pieces rest ⊎ ¬ (EndsForGood pieces rest)
 ends_for_good_or_not pieces rest = go rest (ends_line_or_not pieces) (cases_Bool (ends is_return (spelled pieces)))
@@ -165,7 +149,7 @@ good_or_not EndSo decide xs ys = go (read_or_not xs)
 
 longest_exists : (EndSo : List Piece → List ℕ → Type 0) → ((pieces : List Piece) (rest : List ℕ) → EndSo pieces rest ⊎ ¬ (EndSo pieces rest)) → (characters : List ℕ) → EndSo [] characters → (pieces : List Piece) × IsLongest EndSo pieces characters
 longest_exists EndSo decide characters none =
-    let found = longest_good _ (good_or_not EndSo decide) characters ([], nothing_read, none) in
+    let found = longest_up_to _ (good_or_not EndSo decide) characters ([], nothing_read, none) (length characters) in
     let pieces = found.good.0 in
     let reading = found.good.1 in
     let same : spelled pieces ≡ found.first = reading.reads.spell in (
