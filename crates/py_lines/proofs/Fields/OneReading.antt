@@ -217,7 +217,7 @@ pub fields_agree : Agree Fields Fields
 fields_agree host s t r u (n, one) (m, two) at = within_agree n m host s t r u one two at
 
 -- no piece is empty
-full : (F : Host → List ℕ → Type 0) (class : Class) (text : List ℕ) → InClassIn (with_fields F) class text → text ≡ [] → ⊥
+pub full : (F : Host → List ℕ → Type 0) (class : Class) (text : List ℕ) → InClassIn (with_fields F) class text → text ≡ [] → ⊥
 full F mark text (c, is, passes) none = not_nothing [] c [] (sym is ∙ none)
 full F space text (c, cs, is, run) none = not_nothing [] c cs (sym is ∙ none)
 full F word text (c, cs, is, opens, run) none = not_nothing [] c cs (sym is ∙ none)

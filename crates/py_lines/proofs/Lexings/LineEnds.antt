@@ -64,12 +64,15 @@ no_brackets : (st : List Bracket) → length st ≡ 0 → st ≡ []
 no_brackets [] h = refl
 no_brackets (b ∷ bs) h = absurd (omega arith)
 
--- pieces that end a line have no open bracket
-pub prefix_stack : (prefix others : List Piece) (st : List Bracket) → brackets_of (prefix ++ others) ≡ Some st → EndsLine prefix → brackets_of prefix ≡ Some []
-prefix_stack prefix others st steps ended =
+-- pieces that leave no bracket open
+pub level_stack : (prefix others : List Piece) (st : List Bracket) → brackets_of (prefix ++ others) ≡ Some st → depth_through 0 prefix ≡ 0 → brackets_of prefix ≡ Some []
+level_stack prefix others st steps deep =
     let first = stack_before prefix others st steps in
-    let none = no_brackets first.0 (sym (stands prefix first.0 first.1).depth ∙ depth_prefix prefix ended) in
-    first.1 ∙ ap (λ l. Some l) none
+    first.1 ∙ ap (λ l. Some l) (no_brackets first.0 (sym (stands prefix first.0 first.1).depth ∙ deep))
+
+-- as those that end a line
+pub prefix_stack : (prefix others : List Piece) (st : List Bracket) → brackets_of (prefix ++ others) ≡ Some st → EndsLine prefix → brackets_of prefix ≡ Some []
+prefix_stack prefix others st steps ended = level_stack prefix others st steps (depth_prefix prefix ended)
 
 -- a line end opens nothing
 pub line_string : (body : List Piece) (last : Piece) → last.class ≡ line_end → StringsFit 0 body → StringsFit 0 (body ++ last ∷ [])

@@ -1,11 +1,13 @@
 -- The lines that the known bytes of a text settle begin every text that begins with them.
-use Rattle.std.proofs.Common.{◌≡◌, ℕ, ◌≤◌, Bool, true, false, Option, None, Some, List, [], ◌∷◌, ◌++◌, length, refl, sym, ap, ◌∙◌, subst, append_assoc, append-nil, length-append, arith}
+use Rattle.std.proofs.Common.{◌≡◌, ℕ, ◌≤◌, Bool, true, false, Option, None, Some, List, [], ◌∷◌, ◌++◌, ◌&&◌, ⊎_elim, inl, inr, length, refl, sym, ap, ◌∙◌, subst, append_assoc, append-nil, length-append, arith}
 use Rattle.std.specs.Prelude.{encode_utf8_all}
 use Rattle.std.specs.Str.{StartsWithNoChar, all_scalars}
-use Rattle.std.proofs.lemmas.Bool.{both_ways}
+use Rattle.std.proofs.lemmas.Bool.{both_ways, cases_Bool}
 use Rattle.std.proofs.lemmas.List.{append_cancel_left}
 use Rattle.std.proofs.lemmas.Str.{encodes-append, length-le-encodes}
-use Rattle.py_lines.specs.Piece.{line_end, string, Piece, ends, spelled}
+use Rattle.py_lines.specs.Character.{is_return, is_line_feed}
+use Rattle.std.proofs.lemmas.Str.{encode_ascii}
+use Rattle.py_lines.specs.Piece.{begins, line_end, string, Piece, ends, spelled}
 use Rattle.py_lines.specs.PieceGrammar.{IsLineEnd}
 use Rattle.py_lines.specs.Balance.{is_opener, is_closer, depth_through}
 use Rattle.py_lines.specs.Fields.{InClass, fielded, AreReadBefore, Fields}
@@ -14,11 +16,11 @@ use Rattle.py_lines.specs.Lexed.{IsLexed, BeginsLexing}
 use Rattle.py_lines.specs.Settled.{EndsForGood, IsSettledPrefix, IsSettled}
 use Rattle.py_lines.specs.LogicalLine.{LogicalLine, lines_of}
 use Rattle.py_lines.specs.declared.fault.Fault.{Fault}
-use Rattle.py_lines.specs.Private.Machine.{Bracket, brackets_of}
-use Rattle.py_lines.proofs.Text.Continued.{goes_on}
+use Rattle.py_lines.specs.Private.Machine.{brackets_of}
+use Rattle.py_lines.proofs.Text.Continued.{IsContinued, goes_on}
 use Rattle.py_lines.proofs.Text.Utf8Prefixes.{all_scalars-parts}
 use Rattle.py_lines.proofs.Pieces.PieceLists.{piece, spelled-append}
-use Rattle.py_lines.proofs.Pieces.OpenBrackets.{stands, stack_before, stack-from_balanced, balanced-from_stack}
+use Rattle.py_lines.proofs.Pieces.OpenBrackets.{stack-from_balanced, balanced-from_stack}
 use Rattle.py_lines.proofs.Pieces.ShallowPieces.{IsShallow-parts, brackets_shallow}
 use Rattle.py_lines.proofs.Machine.LiveTexts.{keeps}
 use Rattle.py_lines.proofs.LogicalLines.NextLine.{lines_of-more}
@@ -27,22 +29,19 @@ use Rattle.py_lines.proofs.Fields.SamePieces.{compare_pieces}
 use Rattle.py_lines.proofs.Fields.OneReading.{fields_begin, fields_agree, read_before, ends_there}
 use Rattle.py_lines.proofs.FieldSoundness.WholeTexts.{shallow-push}
 pub use Rattle.py_lines.proofs.Lexings.SettledFits.{ends-append, with_feed}
-use Rattle.py_lines.proofs.Lexings.SettledFits.{ends-last, another_line, Readings, fits_on}
+use Rattle.py_lines.proofs.Lexings.SettledFits.{ends-last, another_line, line_end_of, line_text, read_on}
+use Rattle.py_lines.proofs.Lexings.LineEnds.{level_stack}
+use Rattle.py_lines.proofs.Text.Splits.{Either, either}
+use Rattle.py_lines.proofs.Text.CharacterTests.{feed_is, feed-not-return}
 use Rattle.py_lines.proofs.Lexings.Existence.{some_lexing_of}
 
 -- the last characters of pieces are those of the last one
 pub ends-line : (p : ℕ → Bool) (body : List Piece) (last : Piece) → last.class ≡ line_end → InClass last.class last.text → ends p (spelled (body ++ last ∷ [])) ≡ ends p last.text
 ends-line p body last is holds = ends-last p body last (subst (λ k. InClass k last.text) is holds)
 
-no_brackets : (st : List Bracket) → length st ≡ 0 → st ≡ []
-no_brackets [] h = refl
-no_brackets (b ∷ bs) h = absurd (omega arith)
-
 -- before a line end at depth 0 no bracket is open
 pub body_stack : (body : List Piece) (last : Piece) → brackets_of (body ++ last ∷ []) ≡ Some [] → depth_through 0 body ≡ 0 → brackets_of body ≡ Some []
-body_stack body last whole deep =
-    let first = stack_before body (last ∷ []) [] whole in
-    first.1 ∙ ap (λ l. Some l) (no_brackets first.0 (sym (stands body first.0 first.1).depth ∙ deep))
+body_stack body last whole deep = level_stack body (last ∷ []) [] whole deep
 
 -- the same pieces, with another line end at the end, are a reading of their own
 another_end : (body : List Piece) (last other : Piece) (c : ℕ) (cs ds : List ℕ) → last.class ≡ line_end → other.class ≡ line_end → IsLineEnd other.text → last.text ≡ c ∷ cs → other.text ≡ c ∷ ds → depth_through 0 body ≡ 0 → IsBalancedReading (body ++ last ∷ []) (spelled (body ++ last ∷ [])) → IsBalancedReading (body ++ other ∷ []) (spelled (body ++ other ∷ []))
@@ -60,14 +59,70 @@ another_end body last other c cs ds is also holds one two deep reading =
     no_string : {A : Type 0} → line_end ≡ string → A
     no_string at = absurd (cc)
 
-field_readings : Readings fielded (λ pieces. IsBalancedReading pieces (spelled pieces))
-field_readings = record { fit_of = λ pieces reading. reading.reads.fit; another = another_end }
+-- the text goes on: what follows the settled pieces doesn't begin with LF where they end in CR
+module _ (characters tail more : List ℕ) (pieces : List Piece) (settled : IsSettledPrefix pieces characters tail) (fine : all_scalars settled.rest ≡ true) (bad : StartsWithNoChar tail) (after t : List ℕ) (are : all_scalars after ≡ true) (none : StartsWithNoChar t) (same : encode_utf8_all after ++ t ≡ (encode_utf8_all settled.rest ++ tail) ++ more) where
+  -- they are read
+  read_as : (body : List Piece) (last : Piece) → pieces ≡ body ++ last ∷ [] → IsBalancedReading (body ++ last ∷ []) (spelled (body ++ last ∷ []))
+  read_as body last is = subst (λ l. IsBalancedReading l (spelled l)) is settled.reading
 
--- the settled pieces are read before what follows in a text that goes on
-pub settled_fits : (characters tail more : List ℕ) (pieces : List Piece) (prefix : IsSettledPrefix pieces characters tail) → all_scalars prefix.rest ≡ true → StartsWithNoChar tail → (after t : List ℕ) → all_scalars after ≡ true → StartsWithNoChar t → encode_utf8_all after ++ t ≡ (encode_utf8_all prefix.rest ++ tail) ++ more → AreReadBefore pieces after
-settled_fits characters tail more pieces prefix fine bad after t are none same =
-    fits_on fielded (λ l. IsBalancedReading l (spelled l)) field_readings characters tail more prefix.rest pieces
-    (record { spell = prefix.spell; reading = prefix.reading; ended = prefix.ended; longest = prefix.longest }) fine bad after t are none same
+  line_end_last : (body : List Piece) (last : Piece) → pieces ≡ body ++ last ∷ [] → last.class ≡ line_end → IsLineEnd last.text
+  line_end_last body last is class = line_end_of fielded body last [] class (read_as body last is).reads.fit
+
+  -- a longer prefix would end a line, if LF followed
+  no_feed : (body : List Piece) (last : Piece) → pieces ≡ body ++ last ∷ [] → last.class ≡ line_end → depth_through 0 body ≡ 0 → ends is_return last.text ≡ true → (c : ℕ) (cs : List ℕ) → settled.rest ≡ c ∷ cs → is_line_feed c ≡ false
+  no_feed body last is class deep cr c cs left = ⊎_elim (λ (feeds : is_line_feed c ≡ true). absurd (too_long feeds)) (λ h. h) (cases_Bool (is_line_feed c))
+    where
+      end : IsLineEnd last.text
+      end = line_end_last body last is class
+
+      too_long : is_line_feed c ≡ true → ⊥
+      too_long feeds =
+          let other = piece line_end (last.text ++ c ∷ []) in
+          let others = body ++ other ∷ [] in
+          let holds = with_feed last.text c end cr (feed_is c feeds) in
+          let text = line_text last.text end in
+          let read = another_end body last other text.0 text.1 (text.1 ++ c ∷ []) class refl holds text.2 (ap (λ x. x ++ c ∷ []) text.2) deep (read_as body last is) in
+          let longer : spelled others ≡ spelled pieces ++ c ∷ [] = spelled-append body (other ∷ []) ∙ ap (λ x. spelled body ++ x) (append-nil (last.text ++ c ∷ [])) ∙ sym (append_assoc (spelled body) last.text (c ∷ [])) ∙ ap (λ x. (spelled body ++ x) ++ c ∷ []) (sym (append-nil last.text)) ∙ ap (λ x. x ++ c ∷ []) (sym (spelled-append body (last ∷ []))) ∙ ap (λ (l : List Piece). spelled l ++ c ∷ []) (sym is) in
+          let spell : spelled others ++ cs ≡ characters = ap (λ x. x ++ cs) longer ∙ append_assoc (spelled pieces) (c ∷ []) cs ∙ ap (λ x. spelled pieces ++ x) (sym left) ∙ settled.spell in
+          let ended : EndsForGood others (cs ++ tail) = (inr (body, other, refl, refl, deep), λ nothing. ends-last is_return body other holds ∙ ends-append is_return last.text c [] ∙ feed-not-return c feeds) in
+          let bound = settled.longest others cs spell read ended in
+          omega (arith, bound, ap length longer, length-append (spelled pieces) (c ∷ []))
+
+  follows : (body : List Piece) (last : Piece) → pieces ≡ body ++ last ∷ [] → last.class ≡ line_end → depth_through 0 body ≡ 0 → ends is_return last.text ≡ true → (left : List ℕ) → settled.rest ≡ left → IsContinued settled.rest (tail ++ more) after t → begins is_line_feed after ≡ false
+  follows body last is class deep cr (c ∷ cs) left on = ap (begins is_line_feed) (on.split ∙ ap (λ x. x ++ on.rest) left) ∙ no_feed body last is class deep cr c cs left
+  follows body last is class deep cr [] left on = by_tail tail refl after refl
+    where
+      by_tail : (d : List ℕ) → d ≡ tail → (a : List ℕ) → after ≡ a → begins is_line_feed a ≡ false
+      by_tail d known [] is_a = refl
+      by_tail [] known (a ∷ as') is_a =
+          let nothing : settled.rest ++ tail ≡ [] = ap (λ x. x ++ tail) left ∙ sym known in
+          let ending = ap (λ (l : List Piece). ends is_return (spelled l)) (sym is) ∙ settled.ended.1 nothing in
+          absurd (both_ways _ (sym (ends-last is_return body last (line_end_last body last is class)) ∙ ending) cr)
+      by_tail (d ∷ ds) known (a ∷ as') is_a = ⊎_elim (λ (feeds : is_line_feed a ≡ true). absurd (whole feeds)) (λ h. h) (cases_Bool (is_line_feed a))
+        where
+          whole : is_line_feed a ≡ true → ⊥
+          whole feeds =
+              let ten : a ≡ 10 = feed_is a feeds in
+              let one = encode_ascii 10 (omega arith) in
+              let bytes : ((10 ∷ []) ++ encode_utf8_all as') ++ t ≡ (d ∷ ds) ++ more = ap (λ x. (x ++ encode_utf8_all as') ++ t) (sym one) ∙ ap (λ (n : ℕ). encode_utf8_all (n ∷ as') ++ t) (sym ten) ∙ ap (λ x. encode_utf8_all x ++ t) (sym is_a) ∙ same ∙ ap (λ x. (encode_utf8_all x ++ tail) ++ more) left ∙ ap (λ x. x ++ more) (sym known) in
+              let first : d ≡ 10 = cc in
+              bad 10 ds refl (sym known ∙ ap (λ (n : ℕ). n ∷ ds) first ∙ ap (λ x. x ++ ds) (sym one))
+
+  pub settled_fits : AreReadBefore pieces after
+  settled_fits = by_end settled.ended.0
+    where
+      on : IsContinued settled.rest (tail ++ more) after t
+      on = goes_on settled.rest (tail ++ more) after t fine are none (sym (append_assoc (encode_utf8_all settled.rest) tail more) ∙ sym same)
+
+      by_end : EndsLine pieces → AreReadBefore pieces after
+      by_end (inl empty) = subst (λ l. AreReadBefore l after) (sym empty) tt
+      by_end (inr (body, last, is, class, deep)) =
+          subst (λ l. AreReadBefore l after) (sym is)
+          (read_on fielded body last [] after class (read_as body last is).reads.fit
+          (⊎_elim
+          (λ (cr : ends is_return last.text ≡ true). ap (λ (b : Bool). b && begins is_line_feed after) cr ∙ follows body last is class deep cr settled.rest refl on)
+          (λ (other : ends is_return last.text ≡ false). ap (λ (b : Bool). b && begins is_line_feed after) other)
+          (cases_Bool (ends is_return last.text))))
 
 -- the bytes of the settled pieces, and those after them
 pub spelled_first : (text more : List ℕ) (pieces : List Piece) (rest characters tail : List ℕ) → spelled pieces ++ rest ≡ characters → encode_utf8_all characters ++ tail ≡ text → encode_utf8_all (spelled pieces) ++ ((encode_utf8_all rest ++ tail) ++ more) ≡ text ++ more
@@ -91,17 +146,8 @@ still_ends pieces rest tail more after t same ended = (ended.0, λ none. ended.1
 
 -- pieces that are read before what follows begin those that read more
 pub begins_with : (pieces others : List Piece) (after rest : List ℕ) → AreReadBefore pieces after → IsBalancedReading pieces (spelled pieces) → IsBalancedReading others (spelled others) → spelled pieces ++ after ≡ spelled others ++ rest → length (spelled pieces) ≤ length (spelled others) → (more : List Piece) × (others ≡ pieces ++ more)
-begins_with pieces others after rest fit reading read spell few = go (split (spelled pieces) (spelled others) after rest spell few)
+begins_with pieces others after rest fit reading read spell few = go (either (spelled pieces) after (spelled others) rest spell)
   where
-    split : (xs ys us vs : List ℕ) → xs ++ us ≡ ys ++ vs → length xs ≤ length ys → (mid : List ℕ) × (xs ++ mid ≡ ys) × (us ≡ mid ++ vs)
-    split [] ys us vs at less = (ys, refl, at)
-    split (x ∷ xs) [] us vs at less = absurd (omega (arith, less))
-    split (x ∷ xs) (y ∷ ys) us vs at less =
-        let here : x ≡ y = cc in
-        let later : xs ++ us ≡ ys ++ vs = cc in
-        let others = split xs ys us vs later (omega (arith, less)) in
-        (others.0, ap (λ z. z ∷ (xs ++ others.0)) here ∙ ap (λ t. y ∷ t) others.1, others.2)
-
     before_mid : (mid : List ℕ) → after ≡ mid ++ rest → AreReadBefore pieces mid
     before_mid [] is = reading.reads.fit
     before_mid (c ∷ cs) is = read_before fielded pieces c (cs ++ rest) cs (subst (AreReadBefore pieces) is fit)
@@ -120,8 +166,11 @@ begins_with pieces others after rest fit reading read spell few = go (split (spe
         let none = nil_left (spelled others) (spelled (y ∷ ys)) mid whole in
         absurd (ends_there pieces others ys y reading.reads.fit is (ap spelled is ∙ spelled-append others (y ∷ ys) ∙ ap (λ t. spelled others ++ t) none ∙ append-nil (spelled others)))
 
-    go : (mid : List ℕ) × (spelled pieces ++ mid ≡ spelled others) × (after ≡ mid ++ rest) → (more : List Piece) × (others ≡ pieces ++ more)
-    go (mid, at, is) = by mid at (compare_pieces Fields Fields fields_begin fields_begin fields_agree pieces others mid [] (before_mid mid is) read.reads.fit (at ∙ sym (append-nil (spelled others))))
+    go : Either (spelled pieces) (spelled others) rest → (more : List Piece) × (others ≡ pieces ++ more)
+    go (Either.shorter mid at) =
+        let is = append_cancel_left (spelled pieces) after (mid ++ rest) (spell ∙ ap (λ t. t ++ rest) at ∙ append_assoc (spelled pieces) mid rest) in
+        by mid (sym at) (compare_pieces Fields Fields fields_begin fields_begin fields_agree pieces others mid [] (before_mid mid is) read.reads.fit (sym at ∙ sym (append-nil (spelled others))))
+    go (Either.longer c k later at left) = absurd (omega (arith, few, ap length at, length-append (spelled others) (c ∷ k)))
 
 -- the text goes on from the settled pieces
 record OnFrom (pieces : List Piece) (all t : List ℕ) (rest tail more : List ℕ) : Type 0 where

@@ -1,14 +1,12 @@
 -- Of two lists of first lines of a text, the one of no more bytes begins the other: settled lines, and lines up to a place.
-use Rattle.std.proofs.Common.{◌≡◌, ℕ, ◌+◌, ◌≤◌, ◌<◌, ◌&&◌, ◌==◌, List, [], ◌∷◌, ◌++◌, length, take, drop, refl, sym, ap, ◌∙◌, subst, inl, inr, length-append, arith}
+use Rattle.std.proofs.Common.{◌≡◌, ℕ, ◌+◌, ◌≤◌, ◌<◌, ◌&&◌, ◌==◌, List, [], ◌∷◌, ◌++◌, length, take, drop, refl, sym, ap, ◌∙◌, subst, length-append, arith}
 use Rattle.std.specs.Prelude.{encode_utf8_all}
 use Rattle.std.proofs.lemmas.Bool.{cond_both}
 use Rattle.std.proofs.lemmas.List.{take-append-drop, length-take}
 use Rattle.std.proofs.lemmas.Str.{length-le-encodes}
-use Rattle.py_lines.specs.Piece.{Class, mark, space, word, string, operator, comment, join, line_end, Piece, spelled}
-use Rattle.py_lines.specs.FieldStrings.{quotes_of}
-use Rattle.py_lines.specs.PieceGrammar.{feed, return_feed, return, joined}
+use Rattle.py_lines.specs.Piece.{Class, Piece, spelled}
 use Rattle.py_lines.specs.Balance.{depth_after}
-use Rattle.py_lines.specs.Fields.{InClass, AreReadBefore}
+use Rattle.py_lines.specs.Fields.{Fields, InClass, AreReadBefore}
 use Rattle.py_lines.specs.Lexed.{BeginsLexing}
 use Rattle.py_lines.specs.Settled.{IsSettled}
 use Rattle.py_lines.specs.Given.{AreFirstLines}
@@ -17,26 +15,14 @@ use Rattle.py_lines.specs.Reader.{standing_at}
 use Rattle.py_lines.proofs.LogicalLines.Cuts.{byte_len-append}
 use Rattle.py_lines.proofs.LogicalLines.NextLine.{texts, texts-lines}
 use Rattle.py_lines.proofs.Lexings.FirstLines.{given_begin}
-use Rattle.py_lines.proofs.Fields.Elsewhere.{quotes_begin}
+use Rattle.py_lines.proofs.Fields.OneReading.{full}
 use Rattle.py_lines.proofs.Lexings.SettledLines.{settled_begin}
 use Rattle.py_lines.proofs.Lexings.Uniqueness.{one_lexing_of}
 
 -- a piece has a character
 pub piece_some : (class : Class) (text : List ℕ) → InClass class text → 0 < length text
-piece_some mark text (one, is, passes) = omega (arith, ap length is)
-piece_some space text (first, others, is, pass) = omega (arith, ap length is)
-piece_some word text (first, others, is, starts, pass) = omega (arith, ap length is)
-piece_some string text (inl (inl (short, plain))) = omega (arith, ap length short.spell, length-append short.prefix (short.quote ∷ joined short.items ++ short.quote ∷ []))
-piece_some string text (inl (inr (long, plain))) = omega (arith, ap length long.spell, length-append long.prefix (long.quote ∷ long.quote ∷ long.quote ∷ joined long.items ++ long.quote ∷ long.quote ∷ long.quote ∷ []))
-piece_some string text (inr is) =
-    let quotes = quotes_begin is.host in
-    omega (arith, ap length is.spell, length-append is.prefix (quotes_of is.host ++ (joined is.parts ++ quotes_of is.host)), length-append (quotes_of is.host) (joined is.parts ++ quotes_of is.host), ap length quotes.1)
-piece_some operator text (one, is, passes) = omega (arith, ap length is)
-piece_some comment text (hash, body, is, first, free) = omega (arith, ap length is)
-piece_some join text (slash, end, is, first, ends) = omega (arith, ap length is)
-piece_some line_end text (feed is) = omega (arith, ap length is)
-piece_some line_end text (return_feed is) = omega (arith, ap length is)
-piece_some line_end text (return is) = omega (arith, ap length is)
+piece_some class [] is = absurd (full Fields class [] is refl)
+piece_some class (c ∷ cs) is = omega arith
 
 -- each part has a character
 abbrev PartsHaveText : List (List Piece) → Type 0
