@@ -15,7 +15,7 @@ use Rattle.py_lines.specs.declared.fault.Fault.{Fault}
 use Rattle.py_lines.proofs.Text.Decoding.{decoded}
 use Rattle.py_lines.proofs.Lexings.SettledFits.{read_on}
 use Rattle.py_lines.proofs.Lexings.Existence.{some_lexing_of}
-use Rattle.py_lines.proofs.Lexings.SettledLines.{begins_with, lines_first}
+use Rattle.py_lines.proofs.Lexings.SettledLines.{lines_begin}
 use Rattle.py_lines.proofs.Lexings.GivenLines.{none_both, all_given}
 
 -- pieces that end a line are a reading of their own
@@ -37,15 +37,11 @@ module _ (text : List ℕ) (place line : ℕ) (lines : List LogicalLine) (f : Ar
       let same = decoded text f.characters lexed.characters f.tail [] f.decodes lexed.decodes in
       let whole : spelled lexed.pieces ≡ f.characters = lexed.reading.reads.spell ∙ sym same.0 in
       let bound : length (spelled f.pieces) ≤ length (spelled lexed.pieces) = omega (arith, ap length (f.spell ∙ sym whole), length-append (spelled f.pieces) f.rest) in
-      let begun = begins_with f.pieces lexed.pieces f.rest [] f.fit reading (subst (IsBalancedReading lexed.pieces) (sym lexed.reading.reads.spell) lexed.reading) (f.spell ∙ sym whole ∙ sym (append-nil (spelled lexed.pieces))) bound in
-      let found = lines_first f.pieces lexed.pieces lines ended f.cut begun in
-      (found.0, lexed.cut ∙ found.1)
+      lines_begin f.pieces lexed.pieces f.rest [] lines all ended f.cut lexed.cut f.fit reading (subst (IsBalancedReading lexed.pieces) (sym lexed.reading.reads.spell) lexed.reading) (f.spell ∙ sym whole ∙ sym (append-nil (spelled lexed.pieces))) bound
   begins_so all (Some fault) lexed =
       let same = decoded text f.characters lexed.characters f.tail lexed.tail f.decodes lexed.decodes in
       let bound = lexed.prefix.longest f.pieces f.rest (f.spell ∙ same.0) reading ended in
-      let begun = begins_with f.pieces lexed.pieces f.rest lexed.prefix.rest f.fit reading lexed.prefix.reading (f.spell ∙ same.0 ∙ sym lexed.prefix.spell) bound in
-      let found = lines_first f.pieces lexed.pieces lines ended f.cut begun in
-      (found.0, lexed.cut ∙ found.1)
+      lines_begin f.pieces lexed.pieces f.rest lexed.prefix.rest lines all ended f.cut lexed.cut f.fit reading lexed.prefix.reading (f.spell ∙ same.0 ∙ sym lexed.prefix.spell) bound
 
   begins_lexing : BeginsLexing text lines
   begins_lexing =

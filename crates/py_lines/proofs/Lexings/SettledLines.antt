@@ -145,7 +145,7 @@ pub still_ends : (pieces : List Piece) (rest tail more after t : List ℕ) → e
 still_ends pieces rest tail more after t same ended = (ended.0, λ none. ended.1 (parts_nil rest tail more (sym same ∙ nothing_after after t none)))
 
 -- pieces that are read before what follows begin those that read more
-pub begins_with : (pieces others : List Piece) (after rest : List ℕ) → AreReadBefore pieces after → IsBalancedReading pieces (spelled pieces) → IsBalancedReading others (spelled others) → spelled pieces ++ after ≡ spelled others ++ rest → length (spelled pieces) ≤ length (spelled others) → (more : List Piece) × (others ≡ pieces ++ more)
+begins_with : (pieces others : List Piece) (after rest : List ℕ) → AreReadBefore pieces after → IsBalancedReading pieces (spelled pieces) → IsBalancedReading others (spelled others) → spelled pieces ++ after ≡ spelled others ++ rest → length (spelled pieces) ≤ length (spelled others) → (more : List Piece) × (others ≡ pieces ++ more)
 begins_with pieces others after rest fit reading read spell few = go (either (spelled pieces) after (spelled others) rest spell)
   where
     before_mid : (mid : List ℕ) → after ≡ mid ++ rest → AreReadBefore pieces mid
@@ -192,19 +192,18 @@ on_from text more characters tail all t pieces prefix decodes whole =
     }
 
 -- so its lines are the first ones
-pub lines_first : (pieces others : List Piece) (lines : List LogicalLine) → EndsLine pieces → lines ≡ lines_of pieces → (more : List Piece) × (others ≡ pieces ++ more) → (later : List LogicalLine) × (lines_of others ≡ lines ++ later)
-lines_first pieces others lines ended cut begun =
+pub lines_begin : (pieces others : List Piece) (after rest : List ℕ) (lines all : List LogicalLine) → EndsLine pieces → lines ≡ lines_of pieces → all ≡ lines_of others → AreReadBefore pieces after → IsBalancedReading pieces (spelled pieces) → IsBalancedReading others (spelled others) → spelled pieces ++ after ≡ spelled others ++ rest → length (spelled pieces) ≤ length (spelled others) → (later : List LogicalLine) × (all ≡ lines ++ later)
+lines_begin pieces others after rest lines all ended cut whole fit reading read spell few =
+    let begun = begins_with pieces others after rest fit reading read spell few in
     let first = lines_of-more pieces begun.0 ended in
-    (first.0, ap lines_of begun.1 ∙ first.1 ∙ ap (λ l. l ++ first.0) (sym cut))
+    (first.0, whole ∙ ap lines_of begun.1 ∙ first.1 ∙ ap (λ l. l ++ first.0) (sym cut))
 
 -- settled lines begin those that more bytes settle
 pub settled_before_settled : (text more : List ℕ) (lines others : List LogicalLine) → IsSettled text lines → IsSettled (text ++ more) others → (later : List LogicalLine) × (others ≡ lines ++ later)
 settled_before_settled text more lines others first second =
     let on = on_from text more first.characters first.tail second.characters second.tail first.pieces first.prefix first.decodes second.decodes in
     let bound = second.prefix.longest first.pieces on.after on.spell first.prefix.reading (still_ends first.pieces first.prefix.rest first.tail more on.after second.tail on.left first.prefix.ended) in
-    let begun = begins_with first.pieces second.pieces on.after second.prefix.rest on.fit first.prefix.reading second.prefix.reading (on.spell ∙ sym second.prefix.spell) bound in
-    let found = lines_first first.pieces second.pieces lines first.prefix.ended.0 first.cut begun in
-    (found.0, second.cut ∙ found.1)
+    lines_begin first.pieces second.pieces on.after second.prefix.rest lines others first.prefix.ended.0 first.cut second.cut on.fit first.prefix.reading second.prefix.reading (on.spell ∙ sym second.prefix.spell) bound
 
 -- and those of every text that goes on from them, whether it is read whole or has a fault
 pub settled_before_lexed : (text more : List ℕ) (lines others : List LogicalLine) (end : Option Fault) → IsSettled text lines → IsLexed (text ++ more) others end → (later : List LogicalLine) × (others ≡ lines ++ later)
@@ -213,15 +212,11 @@ settled_before_lexed text more lines others None first second =
     let whole : spelled second.pieces ≡ second.characters = second.reading.reads.spell in
     let same_length = ap length (on.spell ∙ sym whole) in
     let bound : length (spelled first.pieces) ≤ length (spelled second.pieces) = omega (arith, same_length, length-append (spelled first.pieces) on.after) in
-    let begun = begins_with first.pieces second.pieces on.after [] on.fit first.prefix.reading (subst (IsBalancedReading second.pieces) (sym whole) second.reading) (on.spell ∙ sym whole ∙ sym (append-nil (spelled second.pieces))) bound in
-    let found = lines_first first.pieces second.pieces lines first.prefix.ended.0 first.cut begun in
-    (found.0, second.cut ∙ found.1)
+    lines_begin first.pieces second.pieces on.after [] lines others first.prefix.ended.0 first.cut second.cut on.fit first.prefix.reading (subst (IsBalancedReading second.pieces) (sym whole) second.reading) (on.spell ∙ sym whole ∙ sym (append-nil (spelled second.pieces))) bound
 settled_before_lexed text more lines others (Some fault) first second =
     let on = on_from text more first.characters first.tail second.characters second.tail first.pieces first.prefix first.decodes second.decodes in
     let bound = second.prefix.longest first.pieces on.after on.spell first.prefix.reading first.prefix.ended.0 in
-    let begun = begins_with first.pieces second.pieces on.after second.prefix.rest on.fit first.prefix.reading second.prefix.reading (on.spell ∙ sym second.prefix.spell) bound in
-    let found = lines_first first.pieces second.pieces lines first.prefix.ended.0 first.cut begun in
-    (found.0, second.cut ∙ found.1)
+    lines_begin first.pieces second.pieces on.after second.prefix.rest lines others first.prefix.ended.0 first.cut second.cut on.fit first.prefix.reading second.prefix.reading (on.spell ∙ sym second.prefix.spell) bound
 
 -- so they begin its lexing
 pub settled_begin : (text more : List ℕ) (lines : List LogicalLine) → IsSettled text lines → BeginsLexing (text ++ more) lines
