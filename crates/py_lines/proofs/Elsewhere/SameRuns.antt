@@ -1,7 +1,7 @@
 -- The machine with fields and the one without go alike through a text that has no prefix of a string with fields before a quote.
 use Rattle.std.proofs.Common.{◌≡◌, ℕ, Bool, true, false, ◌&&◌, Option, None, Some, List, [], ◌∷◌, ◌++◌, refl, sym, ap, ◌∙◌, append_assoc}
 use Rattle.std.specs.Prelude.{if◌then◌else◌}
-use Rattle.std.proofs.lemmas.Bool.{cond_both, both_ways}
+use Rattle.std.proofs.lemmas.Bool.{both_ways}
 use Rattle.py_lines.specs.Character.{is_quote}
 use Rattle.py_lines.specs.Piece.{Piece, spelled}
 use Rattle.py_lines.specs.Balance.{depth_through}
@@ -19,39 +19,22 @@ use Rattle.py_lines.specs.Private.ScanMachine.{is_field_spelling, quote_move, me
 use Rattle.py_lines.proofs.Machine.Soundness.{SoundIf, step_sound}
 use Rattle.py_lines.proofs.ScanMachine.Spellings.{word_tells}
 use Rattle.py_lines.proofs.ScanMachine.LiveTexts.{live_runs, runs_live}
-use Rattle.py_lines.proofs.Fields.Elsewhere.{later, no_field_prefix}
+use Rattle.py_lines.proofs.Fields.Elsewhere.{later, no_field_prefix, none_false}
 use Rattle.py_lines.proofs.Elsewhere.PlainRuns.{plain_live_runs, plain_runs_live, start_is_sound}
 
--- a quote after a word that is no prefix of a string with fields
-same_begin : (s : Spelling) (q : ℕ) → is_field_spelling s ≡ false → quote_move s q ≡ (if is_prefix_spelling s then moves.Grows (modes.Opened q) else moves.Breaks)
+-- what follows a word, which is no prefix of a string with fields where that is a quote
+same_end : (s : Spelling) (c : ℕ) (quotes : Bool) → (quotes ≡ true → is_field_spelling s ≡ false) → (if quotes then quote_move s c else moves.Breaks) ≡ (if is_prefix_spelling s && quotes then moves.Grows (modes.Opened c) else moves.Breaks)
 unfolding quote_move
-same_begin spellings.F q h = absurd (both_ways _ h refl)
-same_begin spellings.Fr q h = absurd (both_ways _ h refl)
-same_begin spellings.T q h = absurd (both_ways _ h refl)
-same_begin spellings.Tr q h = absurd (both_ways _ h refl)
-same_begin s q h = refl
-
-with_quote : (s : Spelling) (c : ℕ) → is_quote c ≡ true → (if is_prefix_spelling s then moves.Grows (modes.Opened c) else moves.Breaks) ≡ (if is_prefix_spelling s && is_quote c then moves.Grows (modes.Opened c) else moves.Breaks)
-with_quote s c quotes = go (is_prefix_spelling s)
-  where
-    go : (b : Bool) → (if b then moves.Grows (modes.Opened c) else moves.Breaks) ≡ (if b && is_quote c then moves.Grows (modes.Opened c) else moves.Breaks)
-    go true = ap (λ (x : Bool). if x then moves.Grows (modes.Opened c) else moves.Breaks) (sym quotes)
-    go false = refl
-
-no_quote : (s : Spelling) (c : ℕ) → is_quote c ≡ false → moves.Breaks ≡ (if is_prefix_spelling s && is_quote c then moves.Grows (modes.Opened c) else moves.Breaks)
-no_quote s c h = go (is_prefix_spelling s)
-  where
-    go : (b : Bool) → moves.Breaks ≡ (if b && is_quote c then moves.Grows (modes.Opened c) else moves.Breaks)
-    go true = ap (λ (x : Bool). if x then moves.Grows (modes.Opened c) else moves.Breaks) (sym h)
-    go false = refl
+same_end spellings.F c true none = absurd (both_ways _ (none refl) refl)
+same_end spellings.Fr c true none = absurd (both_ways _ (none refl) refl)
+same_end spellings.T c true none = absurd (both_ways _ (none refl) refl)
+same_end spellings.Tr c true none = absurd (both_ways _ (none refl) refl)
+same_end s c true none = refl
+same_end s c false none = rw (none_false (is_prefix_spelling s))
 
 same_word : (s : Spelling) (c : ℕ) → (is_quote c ≡ true → is_field_spelling s ≡ false) → meet_of (modes.Word s) c ≡ move_of (modes.Word s) c
 unfolding meet_of move_of
-same_word s c none =
-    let rest : Move = if is_prefix_spelling s && is_quote c then moves.Grows (modes.Opened c) else moves.Breaks in
-    let other : (if is_quote c then quote_move s c else moves.Breaks) ≡ rest =
-    cond_both (is_quote c) (quote_move s c) moves.Breaks (λ (v : Move). v ≡ rest) (λ h. same_begin s c (none h) ∙ with_quote s c h) (λ h. no_quote s c h) in
-    rw other
+same_word s c none = rw (same_end s c (is_quote c) none)
 
 -- one character
 same_move : (m : Mode) (done : List Piece) (depth : ℕ) (held : List ℕ) (c : ℕ) (cs : List ℕ) → Holds m done held → may_have_fields (held ++ c ∷ cs) ≡ false → move_in m depth held c ≡ move_of m c

@@ -1,17 +1,14 @@
 -- What is open where a text with fields ends, and where it starts, are told by the state of the machine there: so they are one.
-use Rattle.std.proofs.Common.{◌≡◌, ℕ, Bool, true, false, not, ◌&&◌, Option, None, Some, List, [], ◌∷◌, ◌++◌, refl, sym, ap, ◌∙◌, subst}
-use Rattle.std.specs.Prelude.{if◌then◌else◌}
+use Rattle.std.proofs.Common.{◌≡◌, ℕ, true, Option, None, Some, List, [], ◌∷◌, ◌++◌, refl, sym, ap, ◌∙◌, subst}
 use Rattle.std.specs.Str.{byte}
-use Rattle.std.proofs.lemmas.Bool.{both_ways}
+use Rattle.std.proofs.lemmas.Bool.{both_ways, not-true}
 use Rattle.std.proofs.lemmas.List.{append_cancel_right}
 use Rattle.py_lines.specs.Piece.{Class, operator, Piece, spelled}
 use Rattle.py_lines.specs.LogicalLine.{byte_len, first_or_zero}
 use Rattle.py_lines.specs.Balance.{is_opening, is_operator_that, is_opener, IsBalanced}
 use Rattle.py_lines.specs.Faults.{Unfinished, open_brace, open_short, open_long, open_join, open_bracket, open_inside, InOpenBracket}
 use Rattle.py_lines.specs.FieldStrings.{Host, literal, specification}
-use Rattle.py_lines.specs.declared.mode.Mode.{Mode}
 use Rattle.py_lines.specs.declared.mode.Mode.TheVariants as modes
-use Rattle.py_lines.specs.Private.Machine.{is_final, in_short, in_long, is_after_backslash}
 use Rattle.py_lines.specs.Private.FieldMachine.{text_place, before, after_brace, in_open_short, in_open_long, after_open_backslash, InSpecificationOf, FieldMode, plain, opened, empty, body, Level, FieldScanned, field_state, field_text_start, field_steps_from, field_pieces, may_end, openers_through}
 use Rattle.py_lines.proofs.Pieces.PieceLists.{spelled-append}
 use Rattle.py_lines.proofs.FieldMachine.Runs.{NoLimit, Goes, steps_of}
@@ -36,16 +33,22 @@ IsPlaced open_brace s characters offset = (start : List ℕ) × (start ++ byte "
 IsPlaced open_inside s characters offset = (start : List ℕ) × (start ++ byte "{" ∷ [] ≡ opened_text s.mode s.outer characters) × (offset ≡ byte_len start)
 IsPlaced other s characters offset = offset ≡ byte_len (before (text_place s.mode) s.outer ++ spelled s.done)
 
--- the innermost open bracket is one
-unclosed : (outer inner : List Piece) (a : Piece) → IsBalanced (outer ++ a ∷ inner) → is_opener a ≡ true → IsBalanced inner → ⊥
-unclosed outer inner a all opens within = go (openers_through (Some []) outer) (sym (openers_through-append (Some []) outer (a ∷ inner)) ∙ balanced_openers (outer ++ a ∷ inner) all [])
+-- a bracket is open after one that no bracket closes
+some_after : (outer inner : List Piece) (a : Piece) (after : List ℕ) → is_opener a ≡ true → IsBalanced inner → openers_through (Some []) (outer ++ a ∷ inner) ≡ Some after → (o : ℕ) × (os : List ℕ) × (after ≡ o ∷ os)
+some_after outer inner a after opens within is = go (openers_through (Some []) outer) (sym (openers_through-append (Some []) outer (a ∷ inner)) ∙ is)
   where
-    go : (o : Option (List ℕ)) → openers_through o (a ∷ inner) ≡ Some [] → ⊥
-    go None is = none_some is
+    go : (o : Option (List ℕ)) → openers_through o (a ∷ inner) ≡ Some after → (c : ℕ) × (os : List ℕ) × (after ≡ c ∷ os)
+    go None is = absurd (none_some is)
     go (Some os) is =
         let c = first_or_zero a.text in
-        let same : Some (c ∷ os) ≡ Some [] = sym (balanced_openers inner within (c ∷ os)) ∙ sym (ap (λ o. openers_through o inner) (opener_pushes os a.class a.text opens)) ∙ is in
-        cc
+        let same : Some (c ∷ os) ≡ Some after = sym (balanced_openers inner within (c ∷ os)) ∙ sym (ap (λ o. openers_through o inner) (opener_pushes os a.class a.text opens)) ∙ is in
+        (c, os, cc)
+
+-- so the innermost open bracket is one
+unclosed : (outer inner : List Piece) (a : Piece) → IsBalanced (outer ++ a ∷ inner) → is_opener a ≡ true → IsBalanced inner → ⊥
+unclosed outer inner a all opens within =
+    let (o, os, some) = some_after outer inner a [] opens within (balanced_openers (outer ++ a ∷ inner) all []) in
+    cc
 
 pub one_bracket : (outer others inner more : List Piece) (a b : Piece) → outer ++ a ∷ inner ≡ others ++ b ∷ more → is_opener a ≡ true → is_opener b ≡ true → IsBalanced inner → IsBalanced more → outer ≡ others
 one_bracket [] [] inner more a b same one two first second = refl
@@ -78,21 +81,13 @@ pub short_unfinished : (outer : List Level) (openers : List ℕ) (m : FieldMode)
 short_unfinished outer openers (plain m) is = rw is
 short_unfinished outer openers (opened host) is = refl
 short_unfinished outer openers (body host literal named after_brace) is = absurd (both_ways _ refl is)
-short_unfinished outer openers (body host literal named at) is = go host.is_long is
-  where
-    go : (b : Bool) → true && not b ≡ true → Some (if b then open_long else open_short) ≡ Some open_short
-    go false h = refl
-    go true h = absurd (both_ways _ refl h)
+short_unfinished outer openers (body host literal named at) is = rw (not-true host.is_long is)
 short_unfinished outer openers m is = absurd (both_ways _ refl is)
 
 pub long_unfinished : (outer : List Level) (openers : List ℕ) (m : FieldMode) → in_open_long m ≡ true → unfinished_in outer openers m ≡ Some open_long
 long_unfinished outer openers (plain m) is = rw ((long_mode m is).1, is)
 long_unfinished outer openers (body host literal named after_brace) is = absurd (both_ways _ refl is)
-long_unfinished outer openers (body host literal named at) is = go host.is_long is
-  where
-    go : (b : Bool) → true && b ≡ true → Some (if b then open_long else open_short) ≡ Some open_long
-    go true h = refl
-    go false h = absurd (both_ways _ refl h)
+long_unfinished outer openers (body host literal named at) is = rw is
 long_unfinished outer openers m is = absurd (both_ways _ refl is)
 
 pub join_unfinished : (outer : List Level) (openers : List ℕ) (m : FieldMode) → after_open_backslash m ≡ true → unfinished_in outer openers m ≡ Some open_join
@@ -101,24 +96,17 @@ join_unfinished outer openers m is = absurd (both_ways _ refl is)
 
 -- where the text may end, brackets and fields aside, code is open
 pub code_unfinished : (outer : List Level) (openers : List ℕ) (m : FieldMode) → may_end m ≡ true → unfinished_in outer openers m ≡ unfinished_code outer openers
-code_unfinished outer openers (plain m) may =
-    let none = neither m may in
-    rw (none.0, none.1, none.2)
-  where
-    neither : (n : Mode) → is_final n ≡ true → (in_short n ≡ false) × (in_long n ≡ false) × (is_after_backslash n ≡ false)
-    neither modes.Start h = (refl, refl, refl)
-    neither modes.Free h = (refl, refl, refl)
-    neither modes.Space h = (refl, refl, refl)
-    neither (modes.Word s) h = (refl, refl, refl)
-    neither modes.Comment h = (refl, refl, refl)
-    neither (modes.Empty q) h = (refl, refl, refl)
-    neither (modes.FieldEmpty f) h = (refl, refl, refl)
-    neither modes.JoinReturn h = (refl, refl, refl)
-    neither modes.Return h = (refl, refl, refl)
-    neither n h = absurd (both_ways _ refl h)
-code_unfinished outer openers (opened host) may = absurd (both_ways _ refl may)
+code_unfinished outer openers (plain modes.Start) may = refl
+code_unfinished outer openers (plain modes.Free) may = refl
+code_unfinished outer openers (plain modes.Space) may = refl
+code_unfinished outer openers (plain (modes.Word s)) may = refl
+code_unfinished outer openers (plain modes.Comment) may = refl
+code_unfinished outer openers (plain (modes.Empty q)) may = refl
+code_unfinished outer openers (plain (modes.FieldEmpty f)) may = refl
+code_unfinished outer openers (plain modes.JoinReturn) may = refl
+code_unfinished outer openers (plain modes.Return) may = refl
 code_unfinished outer openers (empty host) may = refl
-code_unfinished outer openers (body host place named at) may = absurd (both_ways _ refl may)
+code_unfinished outer openers m may = absurd (both_ways _ refl may)
 
 -- a specification
 pub specification_unfinished : (outer : List Level) (openers : List ℕ) (host : Host) (m : FieldMode) → InSpecificationOf host m → unfinished_in outer openers m ≡ Some open_inside
@@ -129,22 +117,9 @@ pub same_state : (characters : List ℕ) (s t : FieldScanned) → field_steps_fr
 same_state characters s t one two = cc
 
 -- a bracket of a list is open at its end
-bracket_code : (outer : List Level) (openers : List ℕ) (o : ℕ) (os : List ℕ) → openers ≡ o ∷ os → unfinished_code outer openers ≡ Some open_bracket
-bracket_code outer openers o os is = subst (λ l. unfinished_code outer l ≡ Some open_bracket) (sym is) (go outer)
-  where
-    go : (ls : List Level) → unfinished_code ls (o ∷ os) ≡ Some open_bracket
-    go [] = refl
-    go (l ∷ ls) = refl
-
-some_after : (outer inner : List Piece) (a : Piece) (after : List ℕ) → is_opener a ≡ true → IsBalanced inner → openers_through (Some []) (outer ++ a ∷ inner) ≡ Some after → (o : ℕ) × (os : List ℕ) × (after ≡ o ∷ os)
-some_after outer inner a after opens within is = go (openers_through (Some []) outer) (sym (openers_through-append (Some []) outer (a ∷ inner)) ∙ is)
-  where
-    go : (o : Option (List ℕ)) → openers_through o (a ∷ inner) ≡ Some after → (c : ℕ) × (os : List ℕ) × (after ≡ c ∷ os)
-    go None is = absurd (none_some is)
-    go (Some os) is =
-        let c = first_or_zero a.text in
-        let same : Some (c ∷ os) ≡ Some after = sym (balanced_openers inner within (c ∷ os)) ∙ sym (ap (λ o. openers_through o inner) (opener_pushes os a.class a.text opens)) ∙ is in
-        (c, os, cc)
+bracket_code : (outer : List Level) (o : ℕ) (os : List ℕ) → unfinished_code outer (o ∷ os) ≡ Some open_bracket
+bracket_code [] o os = refl
+bracket_code (l ∷ ls) o os = refl
 
 opener_text : (p : Piece) → is_opener p ≡ true → (c : ℕ) × (cs : List ℕ) × (p.text ≡ c ∷ cs)
 opener_text p h = go p.class p.text h
@@ -171,7 +146,7 @@ bracket_back characters start s is steps =
     let same : t ≡ s = same_state characters t s (steps_of NoLimit field_text_start t characters goes) steps in
     let some = some_after is.outer is.inner is.opener run.after is.opens is.balanced run.opens in
     let here : (unfinished_at t ≡ Some open_bracket) × IsPlaced open_bracket t characters (byte_len start) = (
-      code_unfinished list.outer run.after run.mode run.stops ∙ bracket_code list.outer run.after some.0 some.1 some.2,
+      code_unfinished list.outer run.after run.mode run.stops ∙ ap (unfinished_code list.outer) some.2 ∙ bracket_code list.outer some.0 some.1,
       (is.outer, is.opener, is.inner, run.pieces_are, is.opens, is.balanced, ap byte_len (sym is.before ∙ ap (λ x. x ++ spelled is.outer) (sym list.start_is))),
     ) in
     subst (λ (x : FieldScanned). (unfinished_at x ≡ Some open_bracket) × IsPlaced open_bracket x characters (byte_len start)) same here
