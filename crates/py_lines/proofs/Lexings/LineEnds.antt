@@ -1,5 +1,5 @@
 -- Pieces that end a line: what they are read before, how deep they are, and how long.
-use Rattle.std.proofs.Common.{◌≡◌, ℕ, ◌+◌, Some, List, [], ◌∷◌, ◌++◌, length, refl, sym, ap, ◌∙◌, subst, inl, inr, append-nil, length-append, arith}
+use Rattle.std.proofs.Common.{◌≡◌, ℕ, ◌+◌, Some, List, [], ◌∷◌, ◌++◌, length, refl, sym, ap, ◌∙◌, subst, inl, inr, length-append, arith}
 use Rattle.std.proofs.lemmas.Bool.{both_ways, and_right, and_from, eq-eqb}
 use Rattle.py_lines.specs.Piece.{Class, string, operator, line_end, Piece, spelled}
 use Rattle.py_lines.specs.Balance.{depth_after, depth_through}
@@ -7,11 +7,9 @@ use Rattle.py_lines.specs.Fields.{fielded, InClass, AreReadBefore}
 use Rattle.py_lines.specs.Reading.{EndsLine}
 use Rattle.py_lines.specs.LogicalLine.{is_line_end_class}
 use Rattle.py_lines.specs.Private.Scan.{EndsNoLine}
-use Rattle.py_lines.specs.declared.mode.Mode.{Mode}
-use Rattle.py_lines.specs.declared.mode.Mode.TheVariants as modes
-use Rattle.py_lines.specs.Private.Machine.{class_of, closed, Bracket, brackets_of}
-use Rattle.py_lines.specs.Private.ScanMachine.{HoldsOpen, StringFits, StringsFit}
-use Rattle.py_lines.proofs.Pieces.PieceLists.{piece, spelled-append, spelled-push}
+use Rattle.py_lines.specs.Private.Machine.{Bracket, brackets_of}
+use Rattle.py_lines.specs.Private.ScanMachine.{StringFits, StringsFit}
+use Rattle.py_lines.proofs.Pieces.PieceLists.{piece, spelled-append}
 use Rattle.py_lines.proofs.Pieces.OpenBrackets.{stands, stack_before, depth_through-append}
 use Rattle.py_lines.proofs.Pieces.OpenBrackets.{EachAtDepth-append}
 use Rattle.py_lines.proofs.Lexings.SettledFits.{line_text, read_on}
@@ -84,9 +82,3 @@ line_string body last class strings = EachAtDepth-append StringFits 0 body (last
 -- the length of pieces, part by part
 pub length_line : (body : List Piece) (p : Piece) (ps : List Piece) → length (spelled (body ++ p ∷ ps)) ≡ length (spelled body) + (length p.text + length (spelled ps))
 length_line body p ps = ap length (spelled-append body (p ∷ ps)) ∙ length-append (spelled body) (p.text ++ spelled ps) ∙ ap (λ (n : ℕ). length (spelled body) + n) (length-append p.text (spelled ps))
-
--- the pieces so far, the open one with them, spell what was read
-pub closed_spells : (m : Mode) (done : List Piece) (held : List ℕ) → HoldsOpen m done held → spelled (closed m done held) ≡ spelled done ++ held
-closed_spells modes.Start done held holds = sym (append-nil (spelled done)) ∙ ap (λ t. spelled done ++ t) (sym holds.1)
-closed_spells modes.Free done held holds = sym (append-nil (spelled done)) ∙ ap (λ t. spelled done ++ t) (sym holds)
-closed_spells m done held holds = spelled-push done (class_of m) held

@@ -20,6 +20,7 @@ use Rattle.py_lines.specs.Private.Machine.{Scanned, fresh, text_start, class_of,
 use Rattle.py_lines.specs.Private.ScanMachine.{meet_of, move_at, scan_steps, IsScanSound, StringFits, StringsFit}
 use Rattle.py_lines.proofs.Text.Splits.{Either, either}
 use Rattle.py_lines.proofs.Text.CharacterTests.{return_is}
+use Rattle.py_lines.proofs.LineScan.PieceEnd.{closed_text}
 use Rattle.py_lines.proofs.Pieces.PieceLists.{piece, spelled-append, AreReadBefore-push, AreReadBefore-first, follows_any}
 use Rattle.py_lines.proofs.Machine.PieceSteps.{scanned, pieces_at, run_before}
 use Rattle.py_lines.proofs.Machine.FinishedPieces.{GrowsIf, closed_grows, started_grows, run_grows}
@@ -31,7 +32,7 @@ use Rattle.py_lines.proofs.ScanMachine.Advance.{RunsTo}
 pub use Rattle.py_lines.proofs.ScanMachine.LiveTexts.{same_state}
 use Rattle.py_lines.proofs.ScanMachine.Soundness.{sound_at}
 use Rattle.py_lines.proofs.ScanMachine.Reaching.{Reaches, reach}
-pub use Rattle.py_lines.proofs.Lexings.LineEnds.{line_first, read-alone, Split, split, no_end_in, depth_prefix, prefix_stack, length_line, closed_spells}
+pub use Rattle.py_lines.proofs.Lexings.LineEnds.{line_first, read-alone, Split, split, no_end_in, depth_prefix, prefix_stack, length_line}
 use Rattle.py_lines.proofs.Lexings.LineEnds.{line_string}
 use Rattle.py_lines.proofs.Lexings.Existence.{reading_live}
 
@@ -211,7 +212,7 @@ prefix_reading before s st prefix others steps pieces ended =
 pub prefix_is : (before later characters : List ℕ) (s : Scanned) (st : List Bracket) (prefix others : List Piece) → RunsTo before s st → before ++ later ≡ characters → ((c : ℕ) (after : List ℕ) → later ≡ c ∷ after → ¬ (IsLive (before ++ c ∷ []))) → pieces_at s ≡ prefix ++ others → EndsLine prefix → EndsNoLine 0 others → IsReadPrefix prefix characters
 prefix_is before later characters s st prefix others steps spell dead pieces ended none =
     let sound = sound_at before s st steps in
-    let read : spelled (pieces_at s) ≡ before = closed_spells s.mode s.done s.held sound.holds ∙ sound.spell in
+    let read : spelled (pieces_at s) ≡ before = closed_text s.mode s.done s.held sound.holds ∙ sound.spell in
     let cut : spelled prefix ++ (spelled others ++ later) ≡ characters =
     sym (append_assoc (spelled prefix) (spelled others) later) ∙ ap (λ t. t ++ later) (sym (spelled-append prefix others) ∙ ap spelled (sym pieces) ∙ read) ∙ spell in
     record {

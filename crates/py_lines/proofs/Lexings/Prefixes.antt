@@ -11,6 +11,7 @@ use Rattle.py_lines.specs.Balance.{depth_through}
 use Rattle.py_lines.specs.Reading.{EndsLine, IsLongest, IsReadPrefix, IsBalancedReading}
 use Rattle.py_lines.specs.Settled.{EndsForGood, IsSettledPrefix}
 use Rattle.py_lines.specs.Private.FieldMachine.{FieldScanned, field_text_start, field_steps_from, have_room, may_end, field_pieces, IsFieldFinal}
+use Rattle.py_lines.proofs.Faults.EndPlaces.{same_state}
 use Rattle.py_lines.proofs.Fields.OneReading.{one_fielded_reading}
 use Rattle.py_lines.proofs.FieldMachine.Completeness.{reading_reached}
 use Rattle.py_lines.proofs.FieldSoundness.WholeTexts.{final_is_reading}
@@ -62,9 +63,6 @@ module _ (Good : List ℕ → List ℕ → Type 0) (decide : (xs ys : List ℕ) 
 -- whether a text is read
 abbrev IsRead : List ℕ → Type 0
 IsRead xs = (pieces : List Piece) × IsBalancedReading pieces xs
-
-same_state : (xs : List ℕ) (s t : FieldScanned) → field_steps_from (Some field_text_start) xs ≡ Some s → field_steps_from (Some field_text_start) xs ≡ Some t → s ≡ t
-same_state xs s t one two = cc
 
 empty_or_not : {A : Type 0} (xs : List A) → (xs ≡ []) ⊎ ¬ (xs ≡ [])
 empty_or_not [] = inl refl

@@ -11,12 +11,13 @@ use Rattle.py_lines.specs.Reading.{IsBalancedReading}
 use Rattle.py_lines.specs.Settled.{EndsForGood, IsSettledPrefix}
 use Rattle.py_lines.specs.Private.Machine.{Scanned, text_start, Bracket}
 use Rattle.py_lines.specs.Private.ScanMachine.{move_at, scan_steps}
+use Rattle.py_lines.proofs.LineScan.PieceEnd.{closed_text}
 use Rattle.py_lines.proofs.Pieces.PieceLists.{piece, spelled-append, AreReadBefore-second}
 use Rattle.py_lines.proofs.Pieces.OpenBrackets.{depth_through-append}
 use Rattle.py_lines.proofs.Machine.PieceSteps.{pieces_at, run_before}
 use Rattle.py_lines.proofs.ScanMachine.Advance.{RunsTo}
 use Rattle.py_lines.proofs.ScanMachine.Soundness.{sound_at}
-use Rattle.py_lines.proofs.Lexings.LinePrefix.{EndsNoLine, Stays, Split, split, closed_spells, depth_prefix, prefix_reading, length_line, line_first, line_stays, no_end_in, same_state, reach_reading, within}
+use Rattle.py_lines.proofs.Lexings.LinePrefix.{EndsNoLine, Stays, Split, split, depth_prefix, prefix_reading, length_line, line_first, line_stays, no_end_in, same_state, reach_reading, within}
 use Rattle.py_lines.proofs.Lexings.SettledLines.{ends-append, ends-line}
 
 -- No line ends in the pieces after the lines given, or only by the CR with which the known bytes end.
@@ -52,7 +53,7 @@ settled_at characters tail s st base others rest steps pieces good yet spell =
     }
   where
     whole : spelled (pieces_at s) ≡ characters
-    whole = closed_spells s.mode s.done s.held (sound_at characters s st steps).holds ∙ (sound_at characters s st steps).spell
+    whole = closed_text s.mode s.done s.held (sound_at characters s st steps).holds ∙ (sound_at characters s st steps).spell
 
     -- a rival that ends with the CR ends with the known bytes, so not for good
     at_return : (rivals : List Piece) (after : List ℕ) (body : List Piece) (last line : Piece) (text : List ℕ) → spelled rivals ++ after ≡ characters → rivals ≡ body ++ last ∷ [] → IsBalancedReading rivals (spelled rivals) → last.class ≡ line_end → (after ++ tail ≡ [] → ends is_return (spelled rivals) ≡ false) → pieces_at s ≡ body ++ line ∷ [] → line ≡ piece line_end text → text ≡ 13 ∷ [] → tail ≡ [] → ⊥

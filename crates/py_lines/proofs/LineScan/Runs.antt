@@ -4,7 +4,7 @@ use Rattle.std.specs.Prelude.{encode_utf8_all, encode_utf8, codes, nat_le, if◌
 use Rattle.std.specs.Str.{IsUtf8}
 use Rattle.std.specs.Char.{IsScalar}
 use Rattle.std.specs.List.{list_all}
-use Rattle.std.proofs.lemmas.Bool.{and_parts, and_from, cases_lt, both_ways, eqb-true, false_from_ne_true, not-true, or_parts, leb-false}
+use Rattle.std.proofs.lemmas.Bool.{and_parts, and_from, cases_lt, both_ways, eqb-true, false_from_ne_true, not-true, leb-false}
 use Rattle.std.proofs.lemmas.List.{get_or-append-add, length-take-le, get_or-take}
 use Rattle.std.proofs.lemmas.Bool.Decides.{nat_tests}
 use Rattle.std.proofs.lemmas.Str.{encodes-append, length-encode, len_utf8_bounds, char_from_byte, byte_from_char}
@@ -33,6 +33,7 @@ use Rattle.py_lines.proofs.LineScan.LineSteps.{sound_steps, under_way}
 use Rattle.py_lines.specs.declared.scan.Progress.TheVariants as progress
 use Rattle.py_lines.proofs.Text.Utf8Prefixes.{all_scalars-append, scalars_more, spell_more}
 use Rattle.py_lines.proofs.LogicalLines.Cuts.{byte_len-append}
+pub use Rattle.py_lines.proofs.LogicalLines.Cuts.{break-return}
 use Rattle.py_lines.proofs.Machine.PieceSteps.{scanned, longer, all_held, steps_by-append, grown_by, run_by}
 use Rattle.py_lines.proofs.Pieces.OpenBrackets.{stands}
 
@@ -227,10 +228,6 @@ line_ends-run before [] all = ap line_ends (append-nil before)
 line_ends-run before (c ∷ cs) all =
     let parts = and_parts (not (is_break c)) (list_all (λ d. not (is_break d)) cs) all in
     ap line_ends (sym (append_assoc before (c ∷ []) cs)) ∙ line_ends-run (before ++ c ∷ []) cs parts.1 ∙ omega (arith, line_ends-step before c, counts_none (ends is_return before) c (not-true (is_break c) parts.0))
-
-pub break-return : (c : ℕ) → is_break c ≡ false → is_return c ≡ false
-unfolding is_break is_return
-break-return c h = (or_parts (c == 10) (is_one_of (codes "\r") c) h).1
 
 pub ends-run : (before run : List ℕ) → IsFull run → list_all (λ d. not (is_break d)) run ≡ true → ends is_return (before ++ run) ≡ false
 ends-run before [] full all = absurd full

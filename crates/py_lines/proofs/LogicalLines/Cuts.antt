@@ -19,10 +19,10 @@ use Rattle.py_lines.proofs.Text.Splits.{Either, either}
 use Rattle.py_lines.specs.Private.Scan.{EndsNoLine}
 
 -- a CR at the end of a piece belongs to no LF after it
-ends-push : (p : ℕ → Bool) (text : List ℕ) (c : ℕ) → ends p (text ++ c ∷ []) ≡ p c
-ends-push p [] c = refl
-ends-push p (d ∷ []) c = refl
-ends-push p (d ∷ e ∷ text) c = ends-push p (e ∷ text) c
+pub ends-last : (p : ℕ → Bool) (text : List ℕ) (c : ℕ) → ends p (text ++ c ∷ []) ≡ p c
+ends-last p [] c = refl
+ends-last p (d ∷ []) c = refl
+ends-last p (d ∷ e ∷ text) c = ends-last p (e ∷ text) c
 
 ends-all : (p q : ℕ → Bool) (text : List ℕ) → ((c : ℕ) → p c ≡ true → q c ≡ false) → list_all p text ≡ true → ends q text ≡ false
 ends-all p q [] apart all = refl
@@ -58,8 +58,8 @@ return-breaks : (c : ℕ) → is_return c ≡ true → is_break c ≡ true
 unfolding is_return is_break
 return-breaks c h = each_of (λ x. is_break x ≡ true) (13 ∷ []) c (refl, tt) h
 
-unbroken-not-return : (c : ℕ) → is_break c ≡ false → is_return c ≡ false
-unbroken-not-return c h = false_from_ne_true _ (λ k. both_ways _ h (return-breaks c k))
+pub break-return : (c : ℕ) → is_break c ≡ false → is_return c ≡ false
+break-return c h = false_from_ne_true _ (λ k. both_ways _ h (return-breaks c k))
 
 hash-not-return : (c : ℕ) → is_hash c ≡ true → is_return c ≡ false
 unfolding is_hash is_return
@@ -78,10 +78,10 @@ ends-word first (c ∷ cs) opens run = ends-all is_word_character is_return (c �
 
 ends-comment : (hash : ℕ) (body : List ℕ) → is_hash hash ≡ true → list_any is_break body ≡ false → ends is_return (hash ∷ body) ≡ false
 ends-comment hash [] opens none = hash-not-return hash opens
-ends-comment hash (c ∷ cs) opens none = ends-none is_break is_return (c ∷ cs) unbroken-not-return none
+ends-comment hash (c ∷ cs) opens none = ends-none is_break is_return (c ∷ cs) break-return none
 
 ends-quote : (prefix body : List ℕ) (q : ℕ) → is_quote q ≡ true → ends is_return (prefix ++ (body ++ q ∷ [])) ≡ false
-ends-quote prefix body q quotes = ap (ends is_return) (sym (append_assoc prefix body (q ∷ []))) ∙ ends-push is_return (prefix ++ body) q ∙ quote-not-return q quotes
+ends-quote prefix body q quotes = ap (ends is_return) (sym (append_assoc prefix body (q ∷ []))) ∙ ends-last is_return (prefix ++ body) q ∙ quote-not-return q quotes
 
 ends-quotes : (prefix : List ℕ) (host : Host) (inside : List ℕ) → is_quote host.quote ≡ true → ends is_return (prefix ++ (quotes_of host ++ (inside ++ quotes_of host))) ≡ false
 ends-quotes prefix host inside quotes =

@@ -30,7 +30,7 @@ use Rattle.py_lines.proofs.Machine.PieceSteps.{scanned, pieces_at}
 use Rattle.py_lines.proofs.Pieces.OpenBrackets.{stands}
 use Rattle.py_lines.proofs.Machine.LiveTexts.{stack_closed}
 use Rattle.py_lines.proofs.ScanMachine.Soundness.{StandsSound, stands_sound, end_sound}
-use Rattle.py_lines.proofs.Lexings.LinePrefix.{closed_spells}
+use Rattle.py_lines.proofs.LineScan.PieceEnd.{closed_text}
 use Rattle.py_lines.proofs.LogicalLines.Cuts.{one_line, last_part, line_depth}
 use Rattle.py_lines.proofs.LineScan.LineCount.{line_ends-bytes}
 use Rattle.py_lines.proofs.LineScan.NextCharacter.{closed_one_line, one_return}
@@ -155,7 +155,7 @@ line_at_close m scan read way sound final empty some end_len whole ends =
 pub line_at_text_end : (m : Mode) (scan : Scan) (read : List ℕ) (way : IsUnderWay m scan read) → StandsSound m read way.state (stack_of scan.brackets) → is_final way.state.mode ≡ true → (way.state.mode ≡ modes.Return → none_open (stack_of scan.brackets) ≡ false) → stack_of scan.brackets ≡ [] → 0 < byte_len read → IsScannedLine (line_start m) scan read 0 (pieces_at way.state)
 line_at_text_end m scan read way sound final open_yet empty some =
     let s = way.state in
-    let spell : spelled (pieces_at s) ≡ read = closed_spells s.mode s.done s.held sound.scan.holds ∙ sound.scan.spell in
+    let spell : spelled (pieces_at s) ≡ read = closed_text s.mode s.done s.held sound.scan.holds ∙ sound.scan.spell in
     let none = closed_one_line s.mode s.done s.held (stack_of scan.brackets) way.stacked way.one_line open_yet in
     let stacked : brackets_of (pieces_at s) ≡ Some [] = stack_closed s.mode s.done s.held (stack_of scan.brackets) way.stacked ∙ ap (λ l. Some l) empty in
     line_at_close m scan read way sound final empty some 0 (one_or (pieces_at s) none (λ e. omega (arith, some, ap byte_len (sym spell ∙ ap spelled e)))) (sym (end_len-none 0 (pieces_at s) none (stands (pieces_at s) [] stacked).depth))
