@@ -1,5 +1,5 @@
 -- The prefix of a text that isn't read: the pieces up to the last line end outside brackets that the machine has found.
-use Rattle.std.proofs.Common.{false, ◌≡◌, ℕ, ◌+◌, ◌≤◌, Option, None, Some, List, [], ◌∷◌, ◌++◌, length, refl, sym, ap, ◌∙◌, subst, inl, inr, append_assoc, append-nil, length-append, arith}
+use Rattle.std.proofs.Common.{false, ◌≡◌, ℕ, ◌+◌, ◌≤◌, Option, Some, List, [], ◌∷◌, ◌++◌, length, refl, sym, ap, ◌∙◌, subst, inl, inr, append_assoc, append-nil, length-append, arith}
 use Rattle.std.proofs.lemmas.List.{same_from_push}
 use Rattle.std.proofs.lemmas.Bool.{and_right, both_ways, cond_both}
 use Rattle.std.specs.Prelude.{codes}
@@ -15,7 +15,6 @@ pub use Rattle.py_lines.specs.Private.Scan.{EndsNoLine}
 use Rattle.py_lines.specs.declared.mode.Mode.{Mode}
 use Rattle.py_lines.specs.declared.mode.Mode.TheVariants as modes
 use Rattle.py_lines.specs.declared.mode.Move.{Move}
-use Rattle.py_lines.specs.declared.mode.Start.{Start}
 use Rattle.py_lines.specs.Private.Machine.{Scanned, fresh, text_start, class_of, closed, started, moved, move_of, start_of, Bracket, brackets_of}
 use Rattle.py_lines.specs.Private.ScanMachine.{meet_of, move_at, scan_steps, IsScanSound, StringFits, StringsFit}
 use Rattle.py_lines.proofs.Text.Splits.{Either, either}
@@ -47,17 +46,6 @@ pub record Stays (body : List Piece) (last : Piece) (all : List Piece) : Type 0 
 stays_as : (body : List Piece) (last : Piece) (all ps : List Piece) → last.class ≡ line_end → all ≡ (body ++ last ∷ []) ++ ps → Stays body last all
 stays_as body last all ps is spell = record { line = last; others = ps; is = spell ∙ append_assoc body (last ∷ []) ps; class = is; longer = omega arith }
 
-pieces_or : Option Scanned → List Piece
-pieces_or None = []
-pieces_or (Some s) = pieces_at s
-
-at_same : (s t : Scanned) → Some s ≡ Some t → pieces_at s ≡ pieces_at t
-unfolding pieces_or
-at_same s t same = ap pieces_or same
-
-started_on : (all : List Piece) (c : ℕ) (st : Start) → GrowsIf all (started all c st)
-started_on all c st = started_grows all all [] c st (sym (append-nil all))
-
 -- after a state, what grows from its finished pieces
 stays_done : (body : List Piece) (last : Piece) (done : List Piece) (x : List ℕ) (o : Option Scanned) (s : Scanned) → last.class ≡ line_end → done ≡ body ++ last ∷ [] → GrowsIf done o → scan_steps o x ≡ Some s → Stays body last (pieces_at s)
 stays_done body last done x o s class is grows steps =
@@ -69,8 +57,9 @@ stays_done body last done x o s class is grows steps =
 stays_return : (body : List Piece) (last : Piece) (done : List Piece) (held : List ℕ) (x : List ℕ) (s : Scanned) → last.class ≡ line_end → done ++ piece line_end held ∷ [] ≡ body ++ last ∷ [] → scan_steps (Some (record { done = done; mode = modes.Return; held = held })) x ≡ Some s → Stays body last (pieces_at s)
 unfolding meet_of move_of
 stays_return body last done held [] s class is steps =
-    let same : pieces_at s ≡ done ++ piece line_end held ∷ [] = sym (at_same (record { done = done; mode = modes.Return; held = held }) s steps) in
-    stays_as body last (pieces_at s) [] class (same ∙ is ∙ sym (append-nil (body ++ last ∷ [])))
+    let from : Scanned = record { done = done; mode = modes.Return; held = held } in
+    let same : s ≡ from = cc in
+    stays_as body last (pieces_at s) [] class (ap pieces_at same ∙ is ∙ sym (append-nil (body ++ last ∷ [])))
 stays_return body last done held (c ∷ cs) s class is steps =
     let parts = same_from_push done body (piece line_end held) last is in
     let from : Scanned = record { done = done; mode = modes.Return; held = held } in
@@ -91,7 +80,7 @@ stays_return body last done held (c ∷ cs) s class is steps =
     })
     (λ h open_runs.
     let all = done ++ piece line_end held ∷ [] in
-    stays_done body last all cs (started all c (start_of c)) s class is (started_on all c (start_of c)) open_runs)
+    stays_done body last all cs (started all c (start_of c)) s class is (started_grows all all [] c (start_of c) (sym (append-nil all))) open_runs)
     steps
 
 -- the open piece is no line end, in a mode of another class
