@@ -1,10 +1,10 @@
 -- The machine with fields at a place in a list of pieces, and at a spot of a string where a field may open.
 use Rattle.std.proofs.Common.{◌≡◌, ℕ, ◌+◌, ◌<◌, true, false, Some, List, [], ◌∷◌, ◌++◌, ◌⊎◌, inl, inr, length, refl, sym, ap, ◌∙◌, subst, append_assoc, append-nil, arith}
 use Rattle.std.specs.Str.{byte}
-use Rattle.py_lines.specs.Character.{is_mark, is_quote}
+use Rattle.py_lines.specs.Character.{is_quote}
 use Rattle.py_lines.specs.Piece.{Piece, spelled}
 use Rattle.py_lines.specs.Balance.{depth_through}
-use Rattle.py_lines.specs.Faults.{IsFieldDue, IsAtDepth}
+use Rattle.py_lines.specs.Faults.{IsFieldDue}
 use Rattle.py_lines.specs.OpenFields.{AreBegun, BeginsList, InFieldCode}
 use Rattle.py_lines.specs.FieldStrings.{Host, Place, literal, specification}
 use Rattle.py_lines.specs.Private.FieldMachine.{before, body, after_brace, Level, FieldScanned, field_state, field_text_start, field_pieces, openers_through, levels_open, frames, may_end}
@@ -108,27 +108,6 @@ code_comes characters start is =
     go : (s : FieldScanned) → IsListEnd (start ++ 123 ∷ []) is.depth is.pieces [] s → CodeAt start s
     go s (inl at) = in_code (subst (λ n. 0 < n) (sym at.deep) is.deep) (closed_all s.openers at.opens) at.stops at.start_is
     go s (inr at) = at_brace at.host at.mode_is at.start_is
-
--- before an opening bracket: in a list, or as the first character of a field's code
-pub depth_comes : (characters : List ℕ) (c depth : ℕ) → is_mark c ≡ false → IsAtDepth characters c depth → Comes characters (λ s. (StopsAt s.mode s.held (c ∷ []) × (frames s ≡ depth)) ⊎ ((host : Host) × (s.mode ≡ body host literal false after_brace) × (frames s + 1 ≡ depth)))
-depth_comes characters c depth no_mark is =
-    let end = list_end is.outside is.base is.pieces (c ∷ []) is.list is.begun (string_begins is.pieces (c ∷ []) no_mark) in
-    record { to = end.to; goes = subst (λ x. Goes NoLimit field_text_start x end.to) is.spell end.goes; such = go end.to end.such }
-  where
-    Such : FieldScanned → Type 0
-    Such s = (StopsAt s.mode s.held (c ∷ []) × (frames s ≡ depth)) ⊎ ((host : Host) × (s.mode ≡ body host literal false after_brace) × (frames s + 1 ≡ depth))
-
-    go : (s : FieldScanned) → IsListEnd is.outside is.base is.pieces (c ∷ []) s → Such s
-    go s (inl at) =
-        let own = at.deep in
-        let many = at.many in
-        let whole = is.deep in
-        inl (at.stops, omega (arith, own, many, whole))
-    go s (inr at) =
-        let own = at.deep in
-        let many = at.many in
-        let whole = is.deep in
-        inr (at.host, at.mode_is, omega (arith, own, many, whole))
 
 -- where a field may open, and so many brackets and fields are open
 pub record DueAt (place : Place) (depth : ℕ) (after : List ℕ) (s : FieldScanned) : Type 0 where
