@@ -37,11 +37,6 @@ pub record KeepsText (old new : Feed) : Type 0 where
   pub line : new.state.line ≡ old.state.line
   pub ended : new.ended ≡ old.ended
 
--- the scan of the line is begun anew
-pub record Restarts (old new : Feed) : Type 0 where
-  pub same : new ≡ record old { state = new.state }
-  pub begins : BeginsAnew old.state new.state
-
 -- so many bytes more can be held, and no place and no line leaves its integer type
 pub record HasRoom (f : Feed) (more : ℕ) : Type 0 where
   pub fits : f.state.place + length f.held.items + more ≤ 2 ^ 62

@@ -28,13 +28,22 @@ goes c =
 
 pub push_in_string-requires-clause-bytes : goal.push_in_string-requires-clause-bytes
 push_in_string-requires-clause-bytes c =
-    omega (arith, c.requires.bytes, goes_room c.args.self.now c.args.bytes.now c.characters.self c.characters.rest.now c.requires.way c.characters.invariant.goes,
-    some c.characters.rest.now (sym c.is_empty.ensures ∙ c.if-is_empty.false), len_utf8_ascii (slice_index c.characters.rest.now 0) (omega (arith, c.if-rest-ge128.false)))
+    omega (
+      arith,
+      c.requires.bytes,
+      goes_room c.args.self.now c.args.bytes.now c.characters.self c.characters.rest.now c.requires.way c.characters.invariant.goes,
+      some c.characters.rest.now (sym c.is_empty.ensures ∙ c.if-is_empty.false),
+      len_utf8_ascii (slice_index c.characters.rest.now 0) (omega (arith, c.if-rest-ge128.false)),
+    )
 
 pub push_in_string-requires-clause-lines : goal.push_in_string-requires-clause-lines
 push_in_string-requires-clause-lines c =
-    omega (arith, c.requires.lines, goes_room c.args.self.now c.args.bytes.now c.characters.self c.characters.rest.now c.requires.way c.characters.invariant.goes,
-    goes_lines c.args.self.now c.args.bytes.now c.characters.self c.characters.rest.now c.requires.way c.characters.invariant.goes)
+    omega (
+      arith,
+      c.requires.lines,
+      goes_room c.args.self.now c.args.bytes.now c.characters.self c.characters.rest.now c.requires.way c.characters.invariant.goes,
+      goes_lines c.args.self.now c.args.bytes.now c.characters.self c.characters.rest.now c.requires.way c.characters.invariant.goes,
+    )
 
 pub push_in_string-requires-clause-placed : goal.push_in_string-requires-clause-placed
 push_in_string-requires-clause-placed c =
