@@ -404,9 +404,9 @@ impl FieldScan {
         len
     }
 
-    /// Takes bytes of ASCII that open and close nothing and end no line, where so many brackets are open round the string, and answers how
-    /// many they are: code where no piece is open, simple text with whole fields, or what leaves all of the open piece as it is except
-    /// its text. The first stands at this byte.
+    /// Takes bytes of ASCII that end no line, after which the same brackets and fields are open, where so many brackets are open round the
+    /// string, and answers how many they are: code where no piece is open, simple text with whole fields, or what leaves all of the open
+    /// piece as it is except its text. The first stands at this byte.
     pub fn hold(&mut self, depth: usize, place: usize, bytes: &[u8]) -> usize
         requires bytes { place + length bytes.now < 2 ^ 64 }
         ensures holds { HoldsField self.old depth place bytes.now result self.new }

@@ -89,9 +89,8 @@ impl<'t> Lines<'t> {
     /// Passes over the next logical lines (2.1.1) without their tokens, one after another, and answers how many bytes they have; 0
     /// where none is passed over, and then nothing changed. It takes no memory, and is quicker than [`Lines::next_unit`].
     ///
-    /// A line is passed over where it ends at byte `before` of the text or before it, and is simple: it is ASCII except in comments
-    /// and in strings without fields, where CR stands before LF alone, and its strings with fields are short, without a field in
-    /// another. Which lines are simple is not promised.
+    /// A line is passed over where it ends at byte `before` of the text or before it, and is simple. Which lines are simple is not
+    /// promised: most are that are ASCII except in comments and in strings without fields, where CR stands before LF alone.
     pub fn pass_lines(&mut self, before: usize) -> usize
         ensures passes { PassesUpTo self.old before result self.new }
     {
