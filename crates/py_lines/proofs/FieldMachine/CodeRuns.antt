@@ -9,6 +9,8 @@ use Rattle.py_lines.specs.FieldStrings.{Host, with_fields}
 use Rattle.py_lines.specs.Private.FieldMachine.{Level, FieldScanned, field_state, field_closed, field_pieces, openers_by, openers_through, levels_open, frames}
 use Rattle.py_lines.proofs.Pieces.PieceLists.{piece}
 use Rattle.py_lines.proofs.Fields.Parts.{BeginOpen}
+use Rattle.py_lines.proofs.Machine.StringSteps.{short_ends, long_ends}
+use Rattle.py_lines.proofs.Fields.Elsewhere.{precede_without}
 use Rattle.py_lines.proofs.FieldMachine.Runs.{StopsAt, goes-append}
 use Rattle.py_lines.proofs.FieldMachine.ListBrackets.{none_some, depth_is}
 use Rattle.py_lines.proofs.FieldMachine.PieceRuns.{FieldFinds, IsNoColon, plain_found, string_found, operator_found}
@@ -56,8 +58,11 @@ module _ (Room : ℕ → Type 0) (F : ℕ → Host → List ℕ → Type 0) (beg
   one_found G from string text after rest unmarked is before room own opens none stops = same_openers from text _ after rest opens (either (own refl))
     where
       either : (with_fields (F (frames from))).IsString text → FieldFinds Room from text (piece string text ∷ []) from.openers rest
-      either (inl (inl short)) = string_found Room G from text short.0.prefix short.0.quote _ rest short.0.spell short.0.begun short.1 short.0.opens (inl short.0) before stops
-      either (inl (inr long)) = string_found Room G from text long.0.prefix long.0.quote _ rest long.0.spell long.0.begun long.1 long.0.opens (inr long.0) before stops
+      either (inl (inl (short, no_field))) =
+          string_found Room from text short.prefix short.quote _ rest short.spell short.begun no_field short.opens
+          (short_ends text short.prefix short.quote short.items rest short.spell short.begun short.opens short.each (precede_without G string text rest before)) stops
+      either (inl (inr (long, no_field))) =
+          string_found Room from text long.prefix long.quote _ rest long.spell long.begun no_field long.opens (long_ends long.quote long.items rest long.opens long.each long.first) stops
       either (inr fields) = field_string_found Room from (F (frames from)) (begin (frames from)) (run from.outer (field_pieces from) from.openers) G text rest fields before stops
   one_found G from class text after rest unmarked is before room own opens none stops = same_openers from text _ after rest opens (plain_found Room G from class text rest tt is before stops)
 

@@ -1,5 +1,5 @@
 -- What is open at a place is told by the state of the machine with fields there, so nothing else is.
-use Rattle.std.proofs.Common.{◌≡◌, ℕ, Bool, true, false, Some, List, [], ◌∷◌, ◌++◌, ◌⊎◌, inl, inr, ⊎_elim, refl, sym, ap, ◌∙◌, subst, append_assoc, arith}
+use Rattle.std.proofs.Common.{◌≡◌, ℕ, Bool, true, false, Some, List, [], ◌∷◌, ◌++◌, ◌⊎◌, inl, inr, ⊎_elim, refl, sym, ap, ◌∙◌, subst, append_assoc}
 use Rattle.std.proofs.lemmas.Bool.{both_ways}
 use Rattle.py_lines.specs.Character.{is_mark, is_quote}
 use Rattle.py_lines.specs.Piece.{begins, spelled}
@@ -8,15 +8,12 @@ use Rattle.py_lines.specs.OpenFields.{IsSlash, Spot, StandsOpen, IsOpenUpTo, IsO
 use Rattle.py_lines.specs.FieldStrings.{is_field_prefix, Host, Place, literal, specification}
 use Rattle.py_lines.specs.declared.mode.Mode.{Mode}
 use Rattle.py_lines.specs.declared.mode.Mode.TheVariants as modes
-use Rattle.py_lines.specs.Private.Machine.{Scanned}
 use Rattle.py_lines.specs.Private.FieldMachine.{before, FieldMode, plain, body, FieldScanned, field_state, field_text_start, field_pieces, field_started, field_steps_from, in_open_short, in_open_long, after_open_backslash, InSpecificationOf}
-use Rattle.py_lines.specs.Private.Machine.{fresh, steps_from}
 use Rattle.py_lines.proofs.Fields.OneReading.{some_head}
 use Rattle.py_lines.proofs.Machine.Starts.{start-slash}
-use Rattle.py_lines.proofs.Machine.PieceSteps.{scanned, stops-free}
-use Rattle.py_lines.proofs.Machine.StringSteps.{opened_steps, long_opened}
+use Rattle.py_lines.proofs.Machine.StringSteps.{GrownTo}
 use Rattle.py_lines.proofs.Machine.OpenStrings.{prefix-unmarked, slash-not-mark, short_end, long_end}
-use Rattle.py_lines.proofs.FieldMachine.PlainSteps.{lifted, one_at_most, follows}
+use Rattle.py_lines.proofs.FieldMachine.PlainSteps.{grown-goes}
 use Rattle.py_lines.proofs.FieldMachine.PieceRuns.{plain_opens}
 use Rattle.py_lines.proofs.FieldMachine.Runs.{NoLimit, Goes, StopsAt, goes-append, goes-begins, steps_of}
 use Rattle.py_lines.proofs.FieldMachine.OpenStrings.{IsHostMode, HasOpened, open_unmarked, open_begins, up_to_runs}
@@ -63,41 +60,31 @@ abbrev pub InLiteral : Bool → FieldMode → Type 0
 InLiteral false mode = in_open_short mode ≡ true
 InLiteral true mode = in_open_long mode ≡ true
 
--- a string without fields, where the other machine is in it
-plain_comes : (characters start front : List ℕ) (at : FrontAt characters start front) (is_long : Bool) (prefix : List ℕ) (q : ℕ) (inner : List ℕ) (m : Mode) → front ≡ prefix ++ q ∷ inner → IsPrefix prefix → is_field_prefix prefix ≡ false → is_quote q ≡ true → InLiteral is_long (plain m) → steps_from (Some (scanned (field_pieces at.from) (modes.Opened q) (prefix ++ q ∷ []))) inner ≡ Some (scanned (field_pieces at.from) m ((prefix ++ q ∷ []) ++ inner)) → Comes characters (λ s. InLiteral is_long s.mode × StartsAfter literal start s)
-plain_comes characters start front at is_long prefix q inner m spell is no_field quotes such steps =
+-- a string without fields, whose text grows so after its first quote
+plain_comes : (characters start front : List ℕ) (at : FrontAt characters start front) (is_long : Bool) (prefix : List ℕ) (q : ℕ) (inner : List ℕ) → front ≡ prefix ++ q ∷ inner → IsPrefix prefix → is_field_prefix prefix ≡ false → is_quote q ≡ true → GrownTo (λ m. InLiteral is_long (plain m)) (modes.Opened q) inner → Comes characters (λ s. InLiteral is_long s.mode × StartsAfter literal start s)
+plain_comes characters start front at is_long prefix q inner spell is no_field quotes (m, such, grown) =
     let from = at.from in
-    let opened_at : Scanned = scanned (field_pieces from) (modes.Opened q) (prefix ++ q ∷ []) in
-    let to : Scanned = scanned (field_pieces from) m ((prefix ++ q ∷ []) ++ inner) in
-    let lift : Scanned → FieldScanned = lifted from.outer from.openers in
-    let run = goes-append NoLimit from (lift opened_at) (lift to) (prefix ++ q ∷ []) inner
+    let state : Mode → List ℕ → FieldScanned = λ n held. field_state from.outer (field_pieces from) from.openers (plain n) held in
+    let to : FieldScanned = state m ((prefix ++ q ∷ []) ++ inner) in
+    let run = goes-append NoLimit from (state (modes.Opened q) (prefix ++ q ∷ [])) to (prefix ++ q ∷ []) inner
     (plain_opens NoLimit from prefix q inner is no_field quotes (subst (StopsAt from.mode from.held) spell at.stops))
-    (follows NoLimit from.outer from.openers inner opened_at to (inl refl) steps (omega (arith, one_at_most m))) in
+    (grown-goes NoLimit from.outer (field_pieces from) from.openers (modes.Opened q) m (prefix ++ q ∷ []) inner (inl refl) grown) in
     let full = some_head prefix q inner in
     record {
-      to = lift to;
-      goes = at.goes (lift to) full.0 full.1 (spell ∙ full.2) (subst (λ t. Goes NoLimit from t (lift to)) (append_assoc prefix (q ∷ []) inner ∙ sym spell) run);
+      to = to;
+      goes = at.goes to full.0 full.1 (spell ∙ full.2) (subst (λ t. Goes NoLimit from t to) (append_assoc prefix (q ∷ []) inner ∙ sym spell) run);
       such = (such, at.start_is);
     }
 
 -- a short one
 short_comes : (characters start front : List ℕ) → FrontAt characters start front → IsPlainShortPrefix front → Comes characters (λ s. InLiteral false s.mode × StartsAfter literal start s)
 short_comes characters start front at (short, no_field) =
-    let end = short_end (field_pieces at.from) short.quote (short.prefix ++ short.quote ∷ []) short.items short.last short.opens short.holds short.escapes in
-    plain_comes characters start front at false short.prefix short.quote (joined short.items ++ short.last) end.to short.spell short.begun no_field short.opens end.such end.steps
+    plain_comes characters start front at false short.prefix short.quote _ short.spell short.begun no_field short.opens (short_end short.quote short.items short.last short.opens short.holds short.escapes)
 
 -- a long one
 long_comes : (characters start front : List ℕ) → FrontAt characters start front → IsPlainLongPrefix front → Comes characters (λ s. InLiteral true s.mode × StartsAfter literal start s)
 long_comes characters start front at (long, no_field) =
-    let q = long.quote in
-    let prefix = long.prefix in
-    let inner : List ℕ = joined long.items ++ long.last in
-    let done = field_pieces at.from in
-    let end = long_end done q (prefix ++ (q ∷ q ∷ q ∷ [])) long.items long.last long.opens long.holds.0 long.holds.1 long.escapes in
-    plain_comes characters start front at true prefix q (q ∷ q ∷ inner) end.to long.spell long.begun no_field long.opens end.such
-    (sym (opened_steps (fresh done) prefix q (q ∷ q ∷ inner) long.begun long.opens (stops-free (prefix ++ q ∷ q ∷ q ∷ inner)))
-    ∙ long_opened (fresh done) prefix q inner long.begun long.opens (stops-free (prefix ++ q ∷ q ∷ q ∷ inner)) ∙ end.steps
-    ∙ ap (λ t. Some (scanned done end.to t)) (append_assoc prefix (q ∷ q ∷ q ∷ []) inner ∙ sym (append_assoc prefix (q ∷ []) (q ∷ q ∷ inner))))
+    plain_comes characters start front at true long.prefix long.quote _ long.spell long.begun no_field long.opens (long_end long.quote long.items long.last long.opens long.holds.0 long.holds.1 long.escapes)
 
 literal_mode : (host : Host) (place : Place) (is_long : Bool) (mode : FieldMode) → IsHostMode host place mode → place ≡ literal → host.is_long ≡ is_long → InLiteral is_long mode
 literal_mode host place true mode (inl (named, at, is, apart)) at_literal long = subst (InLiteral true) (sym (is ∙ ap (λ p. body host p named at) at_literal)) (rw (apart, long))

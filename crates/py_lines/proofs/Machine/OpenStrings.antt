@@ -10,10 +10,10 @@ use Rattle.py_lines.specs.OpenFields.{IsUnescaped, IsOpenPrefix, IsShortPrefix, 
 use Rattle.py_lines.specs.declared.mode.Mode.{Mode}
 use Rattle.py_lines.specs.declared.mode.Mode.TheVariants as modes
 use Rattle.py_lines.specs.declared.mode.Move.TheVariants as moves
-use Rattle.py_lines.specs.Private.Machine.{move_from, move_of, in_short, in_long, is_after_backslash}
+use Rattle.py_lines.specs.Private.Machine.{move_of, in_short, in_long, is_after_backslash}
 use Rattle.py_lines.proofs.Text.CharacterTests.{none_of, prefix_word}
-use Rattle.py_lines.proofs.Machine.PieceSteps.{all_held, grown_by}
-use Rattle.py_lines.proofs.Machine.StringSteps.{RunTo, run_both, IsShortMode, short_escapes, short_body, run_long, mode_at, QuotesBefore, seen_after, long_escapes}
+use Rattle.py_lines.proofs.Machine.PieceSteps.{grown-append}
+use Rattle.py_lines.proofs.Machine.StringSteps.{GrownTo, IsShortMode, short_escapes, short_body, grown-long, grown-opening, mode_at, QuotesBefore, seen_after, long_escapes}
 use Rattle.py_lines.specs.Private.Machine.{Holds, HoldsItems, HoldsPrefix}
 use Rattle.py_lines.proofs.Machine.OpenPieces.{opened_items, opening_none, opening_one, opening_two}
 use Rattle.py_lines.proofs.Machine.Soundness.{returned_items}
@@ -94,30 +94,24 @@ is_long_mode q QuotesBefore.one = refl
 is_long_mode q QuotesBefore.two = refl
 
 -- a backslash that escapes nothing yet, or nothing, at the end of a string
-last_goes : (IsSuch : Mode → Type 0) (done : List Piece) (from escape : Mode) (held last : List ℕ) → IsSuch from → IsSuch escape → ((c : ℕ) → is_backslash c ≡ true → move_of from c ≡ moves.Grows escape) → IsUnescaped last → RunTo IsSuch done from held last
-last_goes IsSuch done from escape held last is after slash (inl empty) = subst (RunTo IsSuch done from held) (sym empty) (record { to = from; such = is; steps = all_held done from held })
-last_goes IsSuch done from escape held last is after slash (inr (c, one, slashes)) =
-    subst (RunTo IsSuch done from held) (sym one) (record { to = escape; such = after; steps = grown_by move_from done from escape held c [] (slash c slashes) })
+last_grows : (IsSuch : Mode → Type 0) (from escape : Mode) (last : List ℕ) → IsSuch from → IsSuch escape → ((c : ℕ) → is_backslash c ≡ true → move_of from c ≡ moves.Grows escape) → IsUnescaped last → GrownTo IsSuch from last
+last_grows IsSuch from escape last is after slash (inl empty) = subst (GrownTo IsSuch from) (sym empty) (from, is, refl)
+last_grows IsSuch from escape last is after slash (inr (c, one, slashes)) = subst (GrownTo IsSuch from) (sym one) (escape, after, (escape, slash c slashes, refl))
 
--- a run into a short string
-abbrev pub ShortEnd : List Piece → Mode → List ℕ → List ℕ → Type 0
-ShortEnd done from held body = RunTo (λ m. in_short m ≡ true) done from held body
+short_last : (q : ℕ) (m : Mode) (last : List ℕ) → IsShortMode q m → is_quote q ≡ true → IsUnescaped last → GrownTo (λ n. in_short n ≡ true) m last
+short_last q m last short quotes escapes = last_grows _ m (modes.Escape q) last (is_short_mode q m short) refl (λ c slashes. short_escapes q c m short quotes slashes) escapes
 
-short_last : (done : List Piece) (q : ℕ) (m : Mode) (held last : List ℕ) → IsShortMode q m → is_quote q ≡ true → IsUnescaped last → ShortEnd done m held last
-short_last done q m held last short quotes escapes = last_goes _ done m (modes.Escape q) held last (is_short_mode q m short) refl (λ c slashes. short_escapes q c m short quotes slashes) escapes
+-- what is open of a short string
+pub short_end : (q : ℕ) (items : List (List ℕ)) (last : List ℕ) → is_quote q ≡ true → list_all (is_short_item q) items ≡ true → IsUnescaped last → GrownTo (λ n. in_short n ≡ true) (modes.Opened q) (joined items ++ last)
+short_end q [] last quotes each escapes = short_last q (modes.Opened q) last (inl refl) quotes escapes
+short_end q (i ∷ is) last quotes each escapes =
+    let body = short_body q i is quotes each in
+    let end = short_last q body.0 last (inr body.1) quotes escapes in
+    (end.0, end.1, grown-append _ body.0 end.0 (joined (i ∷ is)) last body.2 end.2)
 
-pub short_end : (done : List Piece) (q : ℕ) (held : List ℕ) (items : List (List ℕ)) (last : List ℕ) → is_quote q ≡ true → list_all (is_short_item q) items ≡ true → IsUnescaped last → ShortEnd done (modes.Opened q) held (joined items ++ last)
-short_end done q held [] last quotes each escapes = short_last done q (modes.Opened q) held last (inl refl) quotes escapes
-short_end done q held (i ∷ is) last quotes each escapes =
-    let body = short_body done q held i is quotes each in
-    run_both _ done (modes.Opened q) body.to held (joined (i ∷ is)) last body.steps (short_last done q body.to (held ++ joined (i ∷ is)) last (inr body.such) quotes escapes)
-
--- a run into a long string
-abbrev pub LongEnd : List Piece → Mode → List ℕ → List ℕ → Type 0
-LongEnd done from held body = RunTo (λ m. in_long m ≡ true) done from held body
-
-pub long_end : (done : List Piece) (q : ℕ) (held : List ℕ) (items : List (List ℕ)) (last : List ℕ) → is_quote q ≡ true → list_all is_item items ≡ true → has_triple q items ≡ false → IsUnescaped last → LongEnd done (modes.Long q) held (joined items ++ last)
-long_end done q held items last quotes each triple escapes =
+-- and of a long one
+pub long_end : (q : ℕ) (items : List (List ℕ)) (last : List ℕ) → is_quote q ≡ true → list_all is_item items ≡ true → has_triple q items ≡ false → IsUnescaped last → GrownTo (λ n. in_long n ≡ true) (modes.Opened q) (q ∷ q ∷ (joined items ++ last))
+long_end q items last quotes each triple escapes =
     let seen = seen_after q QuotesBefore.none items in
-    run_both _ done (modes.Long q) (mode_at q seen) held (joined items) last (run_long done q QuotesBefore.none held items quotes each triple)
-    (last_goes _ done (mode_at q seen) (modes.LongEscape q) (held ++ joined items) last (is_long_mode q seen) refl (λ c slashes. long_escapes q c seen quotes slashes) escapes)
+    let end = last_grows (λ n. in_long n ≡ true) (mode_at q seen) (modes.LongEscape q) last (is_long_mode q seen) refl (λ c slashes. long_escapes q c seen quotes slashes) escapes in
+    (end.0, end.1, grown-opening q (joined items ++ last) end.0 (grown-append _ (mode_at q seen) end.0 (joined items) last (grown-long q QuotesBefore.none items quotes each triple) end.2))

@@ -1,21 +1,22 @@
--- The machine goes through the text of a space, a word, a comment, an operator, a join, a line end or a mark.
+-- The machine goes through the text of a space, a word, a comment, a join or a line end: how each begins, grows and ends.
 use Rattle.std.proofs.Common.{◌≡◌, ℕ, Bool, true, false, ◌&&◌, Option, None, Some, List, [], ◌∷◌, ◌++◌, refl, sym, ap, ◌∙◌, subst, inl, inr, append_assoc, append-nil, ◌⊎◌}
 use Rattle.std.specs.List.{list_all, list_any}
-use Rattle.std.proofs.lemmas.Bool.{and_parts, or_parts}
-use Rattle.py_lines.specs.Character.{is_space, is_word_character, is_word_start, is_quote, is_operator, is_line_feed, is_return, is_break, is_hash, is_backslash}
-use Rattle.py_lines.specs.Piece.{Class, space, word, operator, comment, join, line_end, Piece, begins, ends}
-use Rattle.py_lines.specs.PieceGrammar.{is_prefix, IsLineEnd, feed, return_feed, return}
+use Rattle.std.proofs.lemmas.Bool.{and_parts, or_parts, or_from, both_ways, false_from_ne_true}
+use Rattle.py_lines.specs.Character.{is_space, is_word_character, is_quote, is_line_feed, is_return, is_break}
+use Rattle.py_lines.specs.Piece.{Class, space, word, comment, join, line_end, Piece, begins, ends}
+use Rattle.py_lines.specs.PieceGrammar.{is_prefix, IsLineEnd, feed, return_feed, return, InPlainClass, MayPrecedePlain}
 use Rattle.py_lines.specs.declared.mode.Spelling.{Spelling}
 use Rattle.py_lines.specs.declared.mode.Mode.{Mode}
 use Rattle.py_lines.specs.declared.mode.Mode.TheVariants as modes
 use Rattle.py_lines.specs.declared.mode.Move.{Move}
 use Rattle.py_lines.specs.declared.mode.Move.TheVariants as moves
 use Rattle.py_lines.specs.declared.mode.Start.{Start}
-use Rattle.py_lines.specs.Private.Machine.{Scanned, fresh, class_of, closed, started, moved, steps_by, move_from, steps_from, move_of, start_of, is_final, first_spelling, spelling_with, is_prefix_spelling}
+use Rattle.py_lines.specs.declared.mode.Start.TheVariants as starts
+use Rattle.py_lines.specs.Private.Machine.{Scanned, fresh, class_of, closed, started, moved, steps_by, move_from, steps_from, move_of, start_of, is_final, first_spelling, spelling_with, spelling_on, is_prefix_spelling}
 use Rattle.py_lines.proofs.Pieces.PieceLists.{piece}
-use Rattle.py_lines.specs.Private.Machine.{spelling_on}
+use Rattle.py_lines.proofs.Text.CharacterTests.{quote-not-word}
 use Rattle.py_lines.proofs.Machine.Spellings.{prefix_spelling}
-use Rattle.py_lines.proofs.Machine.Starts.{start-space, start-word, start-operator, start-feed, start-return, start-hash, start-slash}
+use Rattle.py_lines.proofs.Machine.Starts.{start-space, start-word, start-return, start-hash, start-slash}
 
 abbrev pub scanned : List Piece → Mode → List ℕ → Scanned
 scanned done mode held = record { done = done; mode = mode; held = held }
@@ -96,54 +97,114 @@ pub stops_unless : (m : Mode) (passes : ℕ → Bool) → is_final m ≡ true �
 stops_unless m passes final breaks [] h = final
 stops_unless m passes final breaks (c ∷ cs) h = breaks c h
 
--- a space
-pub find_space : (from : Scanned) (first : ℕ) (others rest : List ℕ) → list_all is_space (first ∷ others) ≡ true → StopsBefore from.mode (first ∷ others ++ rest) → begins is_space rest ≡ false → Finds from (first ∷ others) (piece space (first ∷ others) ∷ []) rest
+-- the open piece grows by each character of a text, from one mode to another
+abbrev pub Grown : Mode → List ℕ → Mode → Type 0
+Grown m [] n = m ≡ n
+Grown m (c ∷ cs) n = (next : Mode) × (move_of m c ≡ moves.Grows next) × Grown next cs n
+
+pub grown-append : (m n o : Mode) (a b : List ℕ) → Grown m a n → Grown n b o → Grown m (a ++ b) o
+grown-append m n o [] b first second = subst (λ x. Grown x b o) (sym first) second
+grown-append m n o (c ∷ a) b (next, grows, others) second = (next, grows, grown-append next n o a b others second)
+
+pub grown-run : (m : Mode) (passes : ℕ → Bool) → ((c : ℕ) → passes c ≡ true → move_of m c ≡ moves.Grows m) → (run : List ℕ) → list_all passes run ≡ true → Grown m run m
+grown-run m passes grows [] all = refl
+grown-run m passes grows (c ∷ cs) all =
+    let parts = and_parts (passes c) (list_all passes cs) all in
+    (m, grows c parts.0, grown-run m passes grows cs parts.1)
+
+pub grown-word : (s : Spelling) (others : List ℕ) → list_all is_word_character others ≡ true → Grown (modes.Word s) others (modes.Word (spelling_on s others))
 unfolding move_of
-find_space from first others rest run stops ends =
-    let parts = and_parts (is_space first) (list_all is_space others) run in
-    record {
-      to = scanned (pieces_at from) modes.Space (first ∷ others);
-      steps = begun_by move_from from first others _ stops (start-space first parts.0) ∙ run_by move_from (pieces_at from) modes.Space is_space (λ held c h. rw h) (first ∷ []) others parts.1;
-      pieces_are = refl;
-      stops = stops_unless modes.Space is_space refl (λ c h. rw h) rest ends;
+grown-word s [] all = refl
+grown-word s (c ∷ cs) all =
+    let parts = and_parts (is_word_character c) (list_all is_word_character cs) all in
+    (modes.Word (spelling_with s c), rw parts.0, grown-word (spelling_with s c) cs parts.1)
+
+grown-comment : (body : List ℕ) → list_any is_break body ≡ false → Grown modes.Comment body modes.Comment
+unfolding move_of
+grown-comment [] none = refl
+grown-comment (c ∷ cs) none =
+    let parts = or_parts (is_break c) (list_any is_break cs) none in
+    (modes.Comment, rw parts.0, grown-comment cs parts.1)
+
+grown-steps : (done : List Piece) (m n : Mode) (held text : List ℕ) → Grown m text n → steps_from (Some (scanned done m held)) text ≡ Some (scanned done n (held ++ text))
+grown-steps done m n held [] grown = ap (λ o. Some (scanned done o held)) grown ∙ all_held done n held
+grown-steps done m n held (c ∷ cs) (next, grows, others) = grown_by move_from done m next held c cs grows ∙ grown-steps done next n (held ++ c ∷ []) cs others ∙ longer done n held c cs
+
+-- a mode in which a piece of this class is open
+abbrev pub IsOpenAs : Class → Mode → Type 0
+IsOpenAs class m = (class_of m ≡ class) × ((done : List Piece) (held : List ℕ) → closed m done held ≡ done ++ piece (class_of m) held ∷ [])
+
+-- the open piece goes on with a text as one of this class, and may end before the rest, or ends with the text's last character
+pub data EndsWith (class : Class) (m : Mode) (text rest : List ℕ) : Type 0 where
+  ends_before : (n : Mode) → Grown m text n → IsOpenAs class n → StopsBefore n rest → EndsWith class m text rest
+  ends_at : (n : Mode) (front : List ℕ) (c : ℕ) → text ≡ front ++ c ∷ [] → Grown m front n → class_of n ≡ class → move_of n c ≡ moves.Closes
+      → EndsWith class m text rest
+
+pub ends_after : (class : Class) (m n : Mode) (a b rest : List ℕ) → Grown m a n → EndsWith class n b rest → EndsWith class m (a ++ b) rest
+ends_after class m n a b rest first (ends_before o grown is stops) = ends_before o (grown-append m n o a b first grown) is stops
+ends_after class m n a b rest first (ends_at o front c cut grown is closing) =
+    ends_at o (a ++ front) c (ap (λ t. a ++ t) cut ∙ sym (append_assoc a front (c ∷ []))) (grown-append m n o a front first grown) is closing
+
+-- a piece is found that a character opens, and that ends so
+pub found_open : (from : Scanned) (class : Class) (text rest : List ℕ) (c : ℕ) (cs : List ℕ) (m : Mode) → text ≡ c ∷ cs → start_of c ≡ starts.Open m → EndsWith class m cs rest → StopsBefore from.mode (text ++ rest) → Finds from text (piece class text ∷ []) rest
+found_open from class text rest c cs m is starts_as ends stops = subst (λ t. Finds from t (piece class t ∷ []) rest) (sym is) (go ends)
+  where
+    done : List Piece
+    done = pieces_at from
+
+    begun : steps_from (Some from) (c ∷ cs) ≡ steps_from (Some (scanned done m (c ∷ []))) cs
+    begun = begun_by move_from from c cs (starts.Open m) (subst (λ t. StopsBefore from.mode (t ++ rest)) is stops) starts_as
+
+    go : EndsWith class m cs rest → Finds from (c ∷ cs) (piece class (c ∷ cs) ∷ []) rest
+    go (ends_before n grown shape stops_so) = record {
+      to = scanned done n (c ∷ cs);
+      steps = begun ∙ grown-steps done m n (c ∷ []) cs grown;
+      pieces_are = shape.1 done (c ∷ cs) ∙ ap (λ k. done ++ piece k (c ∷ cs) ∷ []) shape.0;
+      stops = stops_so;
+    }
+    go (ends_at n front d cut grown shape closing) = record {
+      to = fresh (done ++ piece (class_of n) (c ∷ (front ++ d ∷ [])) ∷ []);
+      steps = begun
+          ∙ ap (steps_from (Some (scanned done m (c ∷ [])))) cut
+          ∙ steps_by-append move_from (Some (scanned done m (c ∷ []))) front (d ∷ [])
+          ∙ ap (λ o. steps_from o (d ∷ [])) (grown-steps done m n (c ∷ []) front grown)
+          ∙ closes done n (c ∷ front) d closing;
+      pieces_are = ap (λ k. done ++ piece k (c ∷ (front ++ d ∷ [])) ∷ []) shape ∙ ap (λ t. done ++ piece class (c ∷ t) ∷ []) (sym cut);
+      stops = stops-free rest;
     }
 
--- a word
-grow-word : (s : Spelling) (c : ℕ) → is_word_character c ≡ true → move_of (modes.Word s) c ≡ moves.Grows (modes.Word (spelling_with s c))
-unfolding move_of
-grow-word s c h = rw h
+-- whether a word is open
+abbrev pub is_word_mode : Mode → Bool
+is_word_mode (modes.Word s) = true
+is_word_mode other = false
 
-pub steps_word : (done : List Piece) (s : Spelling) (held others : List ℕ) → list_all is_word_character others ≡ true → steps_from (Some (scanned done (modes.Word s) held)) others ≡ Some (scanned done (modes.Word (spelling_on s others)) (held ++ others))
-steps_word done s held others run = word_by move_from done (λ t h. grow-word t) s held others run
+-- no string with fields begins in this text: no word is open, or no quote follows
+abbrev pub IsQuiet : Mode → List ℕ → Type 0
+IsQuiet m text = (is_word_mode m ≡ false) ⊎ (list_any is_quote text ≡ false)
 
-pub stops-word : (s : Spelling) (rest : List ℕ) → begins is_word_character rest ≡ false → is_prefix_spelling s && begins is_quote rest ≡ false → StopsBefore (modes.Word s) rest
+pub no_quotes : (text : List ℕ) → list_all is_word_character text ≡ true → list_any is_quote text ≡ false
+no_quotes [] h = refl
+no_quotes (c ∷ cs) h =
+    let parts = and_parts (is_word_character c) (list_all is_word_character cs) h in
+    or_from _ _ (false_from_ne_true _ (λ quotes. both_ways _ (quote-not-word c quotes) parts.0)) (no_quotes cs parts.1)
+
+-- how a piece that is no mark, no operator and no string begins and ends: a line feed is whole, and others are opened
+pub data IsRead (class : Class) (text rest : List ℕ) : Type 0 where
+  at_once : class ≡ line_end → text ≡ 10 ∷ [] → IsRead class text rest
+  opened : (c : ℕ) (cs : List ℕ) (m : Mode) → text ≡ c ∷ cs → start_of c ≡ starts.Open m → IsQuiet m cs → EndsWith class m cs rest → IsRead class text rest
+
+abbrev pub IsPlainClass : Class → Type 0
+IsPlainClass space = Unit {0}
+IsPlainClass word = Unit {0}
+IsPlainClass comment = Unit {0}
+IsPlainClass join = Unit {0}
+IsPlainClass line_end = Unit {0}
+IsPlainClass other = ⊥
+
+stops-word : (s : Spelling) (rest : List ℕ) → begins is_word_character rest ≡ false → is_prefix_spelling s && begins is_quote rest ≡ false → StopsBefore (modes.Word s) rest
 unfolding move_of
 stops-word s [] h k = refl
 stops-word s (c ∷ cs) h k = rw (h, k)
-
-pub find_word : (from : Scanned) (first : ℕ) (others rest : List ℕ) → is_word_start first ≡ true → list_all is_word_character others ≡ true → StopsBefore from.mode (first ∷ others ++ rest) → begins is_word_character rest ≡ false → is_prefix (first ∷ others) && begins is_quote rest ≡ false → Finds from (first ∷ others) (piece word (first ∷ others) ∷ []) rest
-find_word from first others rest opens run stops ends no_prefix = record {
-  to = scanned (pieces_at from) (modes.Word (spelling_on (first_spelling first) others)) (first ∷ others);
-  steps = begun_by move_from from first others _ stops (start-word first opens) ∙ steps_word _ _ (first ∷ []) others run;
-  pieces_are = refl;
-  stops = stops-word _ rest ends (subst (λ (b : Bool). b && begins is_quote rest ≡ false) (prefix_spelling first others) no_prefix);
-}
-
--- a piece that its last character closes
-pub found_closed : (from : Scanned) (class : Class) (text rest : List ℕ) → steps_from (Some from) text ≡ Some (fresh (pieces_at from ++ piece class text ∷ [])) → Finds from text (piece class text ∷ []) rest
-found_closed from class text rest steps = record { to = fresh (pieces_at from ++ piece class text ∷ []); steps = steps; pieces_are = refl; stops = stops-free rest }
-
--- an operator
-pub find_operator : (from : Scanned) (c : ℕ) (rest : List ℕ) → is_operator c ≡ true → StopsBefore from.mode (c ∷ rest) → Finds from (c ∷ []) (piece operator (c ∷ []) ∷ []) rest
-find_operator from c rest passes stops = found_closed from operator (c ∷ []) rest (begun_by move_from from c [] _ stops (start-operator c passes))
-
--- a comment
-run_comment : (done : List Piece) (held body : List ℕ) → list_any is_break body ≡ false → steps_from (Some (scanned done modes.Comment held)) body ≡ Some (scanned done modes.Comment (held ++ body))
-unfolding move_of
-run_comment done held [] h = all_held done modes.Comment held
-run_comment done held (c ∷ cs) h =
-    let parts = or_parts (is_break c) (list_any is_break cs) h in
-    grown_by move_from done modes.Comment modes.Comment held c cs (rw parts.0) ∙ run_comment done (held ++ c ∷ []) cs parts.1 ∙ longer done modes.Comment held c cs
 
 stops-comment : (rest : List ℕ) → (rest ≡ []) ⊎ (begins is_break rest ≡ true) → StopsBefore modes.Comment rest
 unfolding move_of
@@ -151,63 +212,33 @@ stops-comment [] h = refl
 stops-comment (c ∷ cs) (inl none) = absurd (cc)
 stops-comment (c ∷ cs) (inr ends) = rw ends
 
-pub find_comment : (from : Scanned) (hash : ℕ) (body rest : List ℕ) → is_hash hash ≡ true → list_any is_break body ≡ false → StopsBefore from.mode (hash ∷ body ++ rest) → (rest ≡ []) ⊎ (begins is_break rest ≡ true) → Finds from (hash ∷ body) (piece comment (hash ∷ body) ∷ []) rest
-find_comment from hash body rest opens holds stops ends = record {
-  to = scanned (pieces_at from) modes.Comment (hash ∷ body);
-  steps = begun_by move_from from hash body _ stops (start-hash hash opens) ∙ run_comment _ (hash ∷ []) body holds;
-  pieces_are = refl;
-  stops = stops-comment rest ends;
-}
-
--- LF after CR, or after a backslash
-feed-closes : (move_of modes.Return 10 ≡ moves.Closes) × (move_of modes.Backslash 10 ≡ moves.Closes) × (move_of modes.JoinReturn 10 ≡ moves.Closes)
-unfolding move_of is_line_feed
-feed-closes = (refl, refl, refl)
-
--- a line end
-pub return-is-one : is_return 13 ≡ true
-unfolding is_return
-return-is-one = refl
-
 pub feed-is-one : is_line_feed 10 ≡ true
 unfolding is_line_feed
 feed-is-one = refl
 
-pub find_line_end : (from : Scanned) (text rest : List ℕ) → IsLineEnd text → StopsBefore from.mode (text ++ rest) → ends is_return text && begins is_line_feed rest ≡ false → Finds from text (piece line_end text ∷ []) rest
-unfolding move_of
-find_line_end from text rest (feed is) stops before =
-    subst (λ t. Finds from t (piece line_end t ∷ []) rest) (sym is)
-    (found_closed from line_end (10 ∷ []) rest (begun_by move_from from 10 [] _ (subst (λ t. StopsBefore from.mode (t ++ rest)) is stops) (start-feed 10 feed-is-one)))
-find_line_end from text rest (return_feed is) stops before =
-    subst (λ t. Finds from t (piece line_end t ∷ []) rest) (sym is)
-    (found_closed from line_end (13 ∷ 10 ∷ []) rest
-    (begun_by move_from from 13 (10 ∷ []) _ (subst (λ t. StopsBefore from.mode (t ++ rest)) is stops) (start-return 13 return-is-one)
-    ∙ closes (pieces_at from) modes.Return (13 ∷ []) 10 feed-closes.0))
-find_line_end from text rest (return is) stops before =
-    subst (λ t. Finds from t (piece line_end t ∷ []) rest) (sym is) (record {
-      to = scanned (pieces_at from) modes.Return (13 ∷ []);
-      steps = begun_by move_from from 13 [] _ (subst (λ t. StopsBefore from.mode (t ++ rest)) is stops) (start-return 13 return-is-one);
-      pieces_are = refl;
-      stops = stops_unless modes.Return is_line_feed refl (λ c h. rw h) rest (subst (λ (b : Bool). b && begins is_line_feed rest ≡ false) return-is-one (subst (λ t. ends is_return t && begins is_line_feed rest ≡ false) is before));
-    })
-
--- a join
-pub find_join : (from : Scanned) (slash : ℕ) (end rest : List ℕ) → is_backslash slash ≡ true → IsLineEnd end → StopsBefore from.mode (slash ∷ end ++ rest) → ends is_return (slash ∷ end) && begins is_line_feed rest ≡ false → Finds from (slash ∷ end) (piece join (slash ∷ end) ∷ []) rest
+pub is_read : (class : Class) (text rest : List ℕ) → IsPlainClass class → InPlainClass class text → MayPrecedePlain class text rest → IsRead class text rest
 unfolding move_of is_line_feed is_return
-find_join from slash end rest slashes (feed is) stops before =
-    subst (λ t. Finds from (slash ∷ t) (piece join (slash ∷ t) ∷ []) rest) (sym is)
-    (found_closed from join (slash ∷ 10 ∷ []) rest (begun_by move_from from slash (10 ∷ []) _ stops (start-slash slash slashes) ∙ closes (pieces_at from) modes.Backslash (slash ∷ []) 10 feed-closes.1))
-find_join from slash end rest slashes (return_feed is) stops before =
-    subst (λ t. Finds from (slash ∷ t) (piece join (slash ∷ t) ∷ []) rest) (sym is)
-    (found_closed from join (slash ∷ 13 ∷ 10 ∷ []) rest
-    (begun_by move_from from slash (13 ∷ 10 ∷ []) _ stops (start-slash slash slashes)
-    ∙ grown_by move_from (pieces_at from) modes.Backslash modes.JoinReturn (slash ∷ []) 13 (10 ∷ []) refl
-    ∙ closes (pieces_at from) modes.JoinReturn (slash ∷ 13 ∷ []) 10 feed-closes.2))
-find_join from slash end rest slashes (return is) stops before =
-    subst (λ t. Finds from (slash ∷ t) (piece join (slash ∷ t) ∷ []) rest) (sym is) (record {
-      to = scanned (pieces_at from) modes.JoinReturn (slash ∷ 13 ∷ []);
-      steps = begun_by move_from from slash (13 ∷ []) _ stops (start-slash slash slashes)
-          ∙ grown_by move_from (pieces_at from) modes.Backslash modes.JoinReturn (slash ∷ []) 13 [] refl;
-      pieces_are = refl;
-      stops = stops_unless modes.JoinReturn is_line_feed refl (λ c h. rw h) rest (subst (λ (b : Bool). b && begins is_line_feed rest ≡ false) return-is-one (subst (λ t. ends is_return (slash ∷ t) && begins is_line_feed rest ≡ false) is before));
-    })
+is_read space text rest plain_class (c, cs, is, run) before =
+    let parts = and_parts (is_space c) (list_all is_space cs) (subst (λ t. list_all is_space t ≡ true) is run) in
+    opened c cs modes.Space is (start-space c parts.0) (inl refl)
+    (ends_before modes.Space (grown-run modes.Space is_space (λ d h. rw h) cs parts.1) (refl, λ done held. refl) (stops_unless modes.Space is_space refl (λ d h. rw h) rest before))
+is_read word text rest plain_class (c, cs, is, opens, run) before =
+    opened c cs (modes.Word (first_spelling c)) is (start-word c opens) (inr (no_quotes cs run))
+    (ends_before (modes.Word (spelling_on (first_spelling c) cs)) (grown-word (first_spelling c) cs run) (refl, λ done held. refl)
+    (stops-word _ rest before.0 (sym (ap (λ b. b && begins is_quote rest) (ap is_prefix is ∙ prefix_spelling c cs)) ∙ before.1)))
+is_read comment text rest plain_class (c, cs, is, opens, holds) before =
+    opened c cs modes.Comment is (start-hash c opens) (inl refl) (ends_before modes.Comment (grown-comment cs holds) (refl, λ done held. refl) (stops-comment rest before))
+is_read join text rest plain_class (c, cs, is, slashes, line) before = opened c cs modes.Backslash is (start-slash c slashes) (inl refl) (go line)
+  where
+    go : IsLineEnd cs → EndsWith join modes.Backslash cs rest
+    go (feed end) = ends_at modes.Backslash [] 10 end refl refl refl
+    go (return_feed end) = ends_at modes.JoinReturn (13 ∷ []) 10 end (modes.JoinReturn, refl, refl) refl refl
+    go (return end) =
+        subst (λ t. EndsWith join modes.Backslash t rest) (sym end) (ends_before modes.JoinReturn (modes.JoinReturn, refl, refl) (refl, λ done held. refl)
+        (stops_unless modes.JoinReturn is_line_feed refl (λ d h. rw h) rest (subst (λ t. ends is_return t && begins is_line_feed rest ≡ false) (is ∙ ap (λ t. c ∷ t) end) before)))
+is_read line_end text rest plain_class (feed is) before = at_once refl is
+is_read line_end text rest plain_class (return_feed is) before = opened 13 (10 ∷ []) modes.Return is (start-return 13 refl) (inl refl) (ends_at modes.Return [] 10 refl refl refl refl)
+is_read line_end text rest plain_class (return is) before =
+    opened 13 [] modes.Return is (start-return 13 refl) (inl refl) (ends_before modes.Return refl (refl, λ done held. refl)
+    (stops_unless modes.Return is_line_feed refl (λ d h. rw h) rest (subst (λ t. ends is_return t && begins is_line_feed rest ≡ false) is before)))
+is_read class text rest plain_class is before = absurd plain_class

@@ -1,48 +1,51 @@
 -- The machine goes through every list of pieces that is read before what follows, and finds those pieces.
-use Rattle.std.proofs.Common.{◌≡◌, ℕ, true, false, ◌&&◌, Option, None, Some, List, [], ◌∷◌, ◌++◌, refl, sym, ap, ◌∙◌, subst, ⊎_elim, inl, inr, append_assoc, append-nil}
-use Rattle.std.specs.List.{list_all}
+use Rattle.std.proofs.Common.{◌≡◌, ℕ, true, false, Option, None, Some, List, [], ◌∷◌, ◌++◌, refl, sym, ap, ◌∙◌, subst, ⊎_elim, inl, inr, append_assoc, append-nil}
 use Rattle.std.proofs.lemmas.Bool.{both_ways, cases_Bool}
-use Rattle.py_lines.specs.Character.{is_mark, is_space, is_quote, is_return, is_line_feed}
-use Rattle.py_lines.specs.Piece.{Class, mark, space, word, string, operator, comment, join, line_end, Piece, begins, ends, is_mark_class, begins_marked, spelled}
-use Rattle.py_lines.specs.PieceGrammar.{InPlainClass, MayPrecedePlain, is_prefix, AreReadPlain}
+use Rattle.py_lines.specs.Character.{is_mark, is_quote}
+use Rattle.py_lines.specs.Piece.{Class, mark, string, operator, line_end, Piece, begins, is_mark_class, begins_marked, spelled}
+use Rattle.py_lines.specs.PieceGrammar.{InPlainClass, IsPrefix, MayPrecedePlain, AreReadPlain}
 use Rattle.py_lines.specs.declared.mode.Mode.{Mode}
 use Rattle.py_lines.specs.declared.mode.Mode.TheVariants as modes
 use Rattle.py_lines.specs.declared.mode.Move.{Move}
 use Rattle.py_lines.specs.declared.mode.Move.TheVariants as moves
-use Rattle.py_lines.specs.Private.Machine.{Scanned, fresh, text_start, started, moved, steps_by, move_from, steps_from, move_of}
+use Rattle.py_lines.specs.Private.Machine.{Scanned, fresh, text_start, started, moved, steps_by, move_from, steps_from, move_of, start_of, first_spelling}
 use Rattle.py_lines.proofs.Pieces.PieceLists.{piece}
-use Rattle.py_lines.proofs.Machine.Starts.{start-mark}
-use Rattle.py_lines.proofs.Machine.PieceSteps.{pieces_at, StopsBefore, Finds, steps_by-append, stops-free, find_space, find_word, find_operator, find_comment, find_line_end, find_join, stops_unless}
-use Rattle.py_lines.proofs.Machine.StringSteps.{find_short, find_long}
+use Rattle.py_lines.proofs.Text.CharacterTests.{prefix_word}
+use Rattle.py_lines.proofs.Machine.Starts.{start-feed, start-mark, start-operator, start-quote, start-word}
+use Rattle.py_lines.proofs.Machine.PieceSteps.{pieces_at, StopsBefore, Finds, steps_by-append, begun_by, stops-free, stops_unless, EndsWith, ends_after, found_open, IsRead, at_once, opened, is_read, feed-is-one}
+use Rattle.py_lines.proofs.Machine.StringSteps.{grown-prefix, short_ends, long_ends}
+
+-- a string, from its first quote on
+found_string : (from : Scanned) (prefix : List ℕ) (q : ℕ) (text body rest : List ℕ) → text ≡ prefix ++ q ∷ body → IsPrefix prefix → is_quote q ≡ true → EndsWith string (modes.Opened q) body rest → StopsBefore from.mode (text ++ rest) → Finds from text (piece string text ∷ []) rest
+found_string from [] q text body rest is begun quotes ends stops = found_open from string text rest q body (modes.Opened q) is (start-quote q quotes) ends stops
+found_string from (a ∷ bs) q text body rest is (inl none) quotes ends stops = absurd (cc)
+found_string from (a ∷ bs) q text body rest is (inr begun) quotes ends stops =
+    found_open from string text rest a ((bs ++ q ∷ []) ++ body) (modes.Word (first_spelling a)) (is ∙ ap (λ t. a ∷ t) (sym (append_assoc bs (q ∷ []) body))) (start-word a (prefix_word a bs begun).0)
+    (ends_after string _ (modes.Opened q) (bs ++ q ∷ []) body rest (grown-prefix a bs q begun quotes) ends) stops
+
+-- one character that is a piece
+found_whole : (from : Scanned) (class : Class) (c : ℕ) (text rest : List ℕ) → text ≡ c ∷ [] → started (pieces_at from) c (start_of c) ≡ Some (fresh (pieces_at from ++ piece class (c ∷ []) ∷ [])) → StopsBefore from.mode (text ++ rest) → Finds from text (piece class text ∷ []) rest
+found_whole from class c text rest is starts stops = subst (λ t. Finds from t (piece class t ∷ []) rest) (sym is) (record {
+  to = fresh (pieces_at from ++ piece class (c ∷ []) ∷ []);
+  steps = begun_by move_from from c [] _ (subst (λ t. StopsBefore from.mode (t ++ rest)) is stops) refl ∙ ap (λ o. steps_from o []) starts;
+  pieces_are = refl;
+  stops = stops-free rest;
+})
 
 -- a piece of any class but a mark
-pub find : (from : Scanned) (class : Class) (text rest : List ℕ) → is_mark_class class ≡ false → InPlainClass class text → MayPrecedePlain class text rest → StopsBefore from.mode (text ++ rest) → Finds from text (piece class text ∷ []) rest
+find : (from : Scanned) (class : Class) (text rest : List ℕ) → is_mark_class class ≡ false → InPlainClass class text → MayPrecedePlain class text rest → StopsBefore from.mode (text ++ rest) → Finds from text (piece class text ∷ []) rest
 find from mark text rest unmarked is before stops = absurd (both_ways _ unmarked refl)
-find from space text rest unmarked (first, others, is, run) before stops =
-    let P : List ℕ → Type 0 = λ t. Finds from t (piece space t ∷ []) rest in
-    subst P (sym is) (find_space from first others rest (subst (λ t. list_all is_space t ≡ true) is run) (subst (λ t. StopsBefore from.mode (t ++ rest)) is stops) before)
-find from word text rest unmarked (first, others, is, opens, run) before stops =
-    let P : List ℕ → Type 0 = λ t. Finds from t (piece word t ∷ []) rest in
-    subst P (sym is) (find_word from first others rest opens run (subst (λ t. StopsBefore from.mode (t ++ rest)) is stops) before.0 (subst (λ t. is_prefix t && begins is_quote rest ≡ false) is before.1))
 find from string text rest unmarked (inl short) before stops =
-    let P : List ℕ → Type 0 = λ t. Finds from t (piece string t ∷ []) rest in
-    subst P (sym short.spell) (find_short from short.prefix short.quote short.items rest short.begun short.opens short.each
-    (subst (StopsBefore from.mode) (ap (λ t. t ++ rest) short.spell ∙ append_assoc short.prefix _ rest) stops)
-    (subst (λ t. MayPrecedePlain string t rest) short.spell before))
-find from string text rest unmarked (inr long) before stops =
-    let P : List ℕ → Type 0 = λ t. Finds from t (piece string t ∷ []) rest in
-    subst P (sym long.spell) (find_long from long.prefix long.quote long.items rest long.begun long.opens long.each long.first
-    (subst (StopsBefore from.mode) (ap (λ t. t ++ rest) long.spell ∙ append_assoc long.prefix _ rest) stops))
-find from operator text rest unmarked (c, is, passes) before stops =
-    let P : List ℕ → Type 0 = λ t. Finds from t (piece operator t ∷ []) rest in
-    subst P (sym is) (find_operator from c rest passes (subst (λ t. StopsBefore from.mode (t ++ rest)) is stops))
-find from comment text rest unmarked (hash, body, is, opens, holds) before stops =
-    let P : List ℕ → Type 0 = λ t. Finds from t (piece comment t ∷ []) rest in
-    subst P (sym is) (find_comment from hash body rest opens holds (subst (λ t. StopsBefore from.mode (t ++ rest)) is stops) before)
-find from join text rest unmarked (slash, end, is, slashes, line) before stops =
-    let P : List ℕ → Type 0 = λ t. Finds from t (piece join t ∷ []) rest in
-    subst P (sym is) (find_join from slash end rest slashes line (subst (λ t. StopsBefore from.mode (t ++ rest)) is stops) (subst (λ t. ends is_return t && begins is_line_feed rest ≡ false) is before))
-find from line_end text rest unmarked is before stops = find_line_end from text rest is stops before
+    found_string from short.prefix short.quote text _ rest short.spell short.begun short.opens
+    (short_ends text short.prefix short.quote short.items rest short.spell short.begun short.opens short.each before) stops
+find from string text rest unmarked (inr long) before stops = found_string from long.prefix long.quote text _ rest long.spell long.begun long.opens (long_ends long.quote long.items rest long.opens long.each long.first) stops
+find from operator text rest unmarked (c, is, passes) before stops = found_whole from operator c text rest is (ap (started (pieces_at from) c) (start-operator c passes)) stops
+find from class text rest unmarked is before stops = go (is_read class text rest tt is before)
+  where
+    go : IsRead class text rest → Finds from text (piece class text ∷ []) rest
+    go (at_once so feed) =
+        subst (λ k. Finds from text (piece k text ∷ []) rest) (sym so) (found_whole from line_end 10 text rest feed (ap (started (pieces_at from) 10) (start-feed 10 feed-is-one)) stops)
+    go (opened c cs m spell starts quiet ends) = found_open from class text rest c cs m spell starts ends stops
 
 -- pieces that are read before the rest are found, in their order
 pub find_all : (from : Scanned) (pieces : List Piece) (rest : List ℕ) → AreReadPlain pieces rest → begins_marked pieces ≡ false → StopsBefore from.mode (spelled pieces ++ rest) → Finds from (spelled pieces) pieces rest

@@ -23,7 +23,7 @@ use Rattle.py_lines.specs.Private.ScanMachine.{is_field_spelling, is_raw_spellin
 use Rattle.py_lines.proofs.Pieces.PieceLists.{piece}
 use Rattle.py_lines.proofs.Pieces.OpenBrackets.{stack_push}
 use Rattle.py_lines.specs.LogicalLine.{byte_len}
-use Rattle.py_lines.proofs.Machine.PieceSteps.{scanned, pieces_at}
+use Rattle.py_lines.proofs.Machine.PieceSteps.{scanned, pieces_at, is_word_mode}
 use Rattle.py_lines.proofs.Machine.LiveTexts.{keeps, stack_closed}
 use Rattle.py_lines.proofs.Machine.Starts.{StartsSo, starts_so, start-operator}
 use Rattle.py_lines.proofs.Text.CharacterTests.{excluded, quote-not-word, slash-not-break}
@@ -31,7 +31,7 @@ use Rattle.py_lines.proofs.Machine.Spellings.{spelling_on-push}
 use Rattle.py_lines.proofs.Machine.OpenStrings.{start-not-mark}
 use Rattle.py_lines.proofs.FieldMachine.Runs.{steps_of}
 use Rattle.py_lines.proofs.FieldMachine.PieceRuns.{opening_operator, word_goes}
-use Rattle.py_lines.proofs.FieldMachine.PlainSteps.{plain_moves, is_word_mode, is_fielded_mode, NoWord, no_word, IsOpenAfter, open_after}
+use Rattle.py_lines.proofs.FieldMachine.PlainSteps.{plain_moves, is_fielded_mode, NoWord, no_word, IsOpenAfter, open_after}
 use Rattle.py_lines.proofs.ScanMachine.Spellings.{word_tells, other_begins}
 use Rattle.py_lines.proofs.ScanMachine.Steps.{meets}
 use Rattle.py_lines.proofs.ScanMachine.Advance.{kept, kept_if}
