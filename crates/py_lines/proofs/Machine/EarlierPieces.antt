@@ -28,7 +28,7 @@ closed-after ps done modes.Start held = refl
 closed-after ps done modes.Free held = refl
 closed-after ps done m held = append_assoc ps done _
 
-started-after : (ps done : List Piece) (c : ℕ) (st : Start) → started (ps ++ done) c st ≡ after_if ps (started done c st)
+pub started-after : (ps done : List Piece) (c : ℕ) (st : Start) → started (ps ++ done) c st ≡ after_if ps (started done c st)
 started-after ps done c (starts.Open m) = refl
 started-after ps done c starts.Operator = ap (λ l. Some (fresh l)) (append_assoc ps done (piece operator (c ∷ []) ∷ []))
 started-after ps done c starts.LineEnd = ap (λ l. Some (fresh l)) (append_assoc ps done (piece line_end (c ∷ []) ∷ []))

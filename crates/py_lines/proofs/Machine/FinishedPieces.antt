@@ -1,38 +1,31 @@
 -- Finished pieces stay where the machine goes on.
 use Rattle.std.proofs.Common.{◌≡◌, ℕ, Option, None, Some, List, [], ◌∷◌, ◌++◌, refl, sym, ap, ◌∙◌, subst, append_assoc, append-nil}
-use Rattle.py_lines.specs.Piece.{operator, line_end, Piece}
+use Rattle.py_lines.specs.Piece.{Piece}
 use Rattle.py_lines.specs.declared.mode.Mode.{Mode}
-use Rattle.py_lines.specs.declared.mode.Mode.TheVariants as modes
 use Rattle.py_lines.specs.declared.mode.Move.{Move}
-use Rattle.py_lines.specs.declared.mode.Move.TheVariants as moves
 use Rattle.py_lines.specs.declared.mode.Start.{Start}
-use Rattle.py_lines.specs.declared.mode.Start.TheVariants as starts
-use Rattle.py_lines.specs.Private.Machine.{Scanned, class_of, closed, started, moved, steps_by, start_of, Bracket, brackets_of}
-use Rattle.py_lines.proofs.Pieces.PieceLists.{piece}
+use Rattle.py_lines.specs.Private.Machine.{Scanned, closed, started, moved, steps_by, Bracket, brackets_of}
+use Rattle.py_lines.proofs.Machine.EarlierPieces.{after_if, closed-after, started-after, moved-after}
 use Rattle.py_lines.proofs.Pieces.OpenBrackets.{stack_before}
 
 abbrev pub GrowsIf : List Piece → Option Scanned → Type 0
 GrowsIf done None = Unit {0}
 GrowsIf done (Some s) = (ps : List Piece) × (s.done ≡ done ++ ps)
 
+grows_after : (ps : List Piece) (o : Option Scanned) → GrowsIf ps (after_if ps o)
+grows_after ps None = tt
+grows_after ps (Some s) = (s.done, refl)
+
 pub closed_grows : (m : Mode) (done : List Piece) (held : List ℕ) → (ps : List Piece) × (closed m done held ≡ done ++ ps)
-closed_grows modes.Start done held = ([], sym (append-nil done))
-closed_grows modes.Free done held = ([], sym (append-nil done))
-closed_grows m done held = (piece (class_of m) held ∷ [], refl)
+closed_grows m done held = (closed m [] held, ap (λ l. closed m l held) (sym (append-nil done)) ∙ closed-after done [] m held)
 
 pub started_grows : (all done ps : List Piece) (c : ℕ) (s : Start) → all ≡ done ++ ps → GrowsIf done (started all c s)
-started_grows all done ps c (starts.Open m) is = (ps, is)
-started_grows all done ps c starts.Operator is = (ps ++ piece operator (c ∷ []) ∷ [], ap (λ l. l ++ piece operator (c ∷ []) ∷ []) is ∙ append_assoc done ps (piece operator (c ∷ []) ∷ []))
-started_grows all done ps c starts.LineEnd is = (ps ++ piece line_end (c ∷ []) ∷ [], ap (λ l. l ++ piece line_end (c ∷ []) ∷ []) is ∙ append_assoc done ps (piece line_end (c ∷ []) ∷ []))
-started_grows all done ps c starts.Nothing is = tt
+started_grows all done ps c s is = subst (GrowsIf done) (sym (ap (λ l. started l c s) is ∙ started-after done ps c s)) (grows_after done (started ps c s))
 
-pub moved_grows : (s : Scanned) (c : ℕ) (v : Move) → GrowsIf s.done (moved s c v)
-moved_grows s c (moves.Grows m) = ([], sym (append-nil s.done))
-moved_grows s c moves.Closes = (piece (class_of s.mode) (s.held ++ c ∷ []) ∷ [], refl)
-moved_grows s c moves.Breaks =
-    let first = closed_grows s.mode s.done s.held in
-    started_grows (closed s.mode s.done s.held) s.done first.0 c (start_of c) first.1
-moved_grows s c moves.Refused = tt
+moved_grows : (s : Scanned) (c : ℕ) (v : Move) → GrowsIf s.done (moved s c v)
+moved_grows s c v =
+    let own : Scanned = record { done = []; mode = s.mode; held = s.held } in
+    subst (GrowsIf s.done) (sym (ap (λ l. moved (record { done = l; mode = s.mode; held = s.held }) c v) (sym (append-nil s.done)) ∙ moved-after s.done own c v)) (grows_after s.done (moved own c v))
 
 pub grows_on : (done : List Piece) (s : Scanned) (o : Option Scanned) → GrowsIf done (Some s) → GrowsIf s.done o → GrowsIf done o
 grows_on done s None first second = tt

@@ -1,5 +1,5 @@
 -- A text is live exactly where the machine goes through it: what is open can be closed.
-use Rattle.std.proofs.Common.{◌≡◌, ℕ, true, false, ◌==◌, Some, List, [], ◌∷◌, ◌++◌, refl, ap, ◌∙◌}
+use Rattle.std.proofs.Common.{◌≡◌, ℕ, true, false, ◌==◌, Some, List, [], ◌∷◌, ◌++◌, refl, ◌∙◌}
 use Rattle.std.specs.Str.{all_scalars}
 use Rattle.std.specs.Char.{IsScalar}
 use Rattle.std.proofs.lemmas.Bool.{cond_both, and_parts, and_from, and_right, eq-eqb}
@@ -12,19 +12,16 @@ use Rattle.py_lines.specs.declared.mode.Mode.{Mode}
 use Rattle.py_lines.specs.declared.mode.Mode.TheVariants as modes
 use Rattle.py_lines.specs.declared.mode.Move.TheVariants as moves
 use Rattle.py_lines.specs.declared.mode.Start.TheVariants as starts
-use Rattle.py_lines.specs.Private.Machine.{Holds, class_of, closed, move_of, start_of, is_final, is_prefix_spelling, Bracket, brackets_through, brackets_of}
+use Rattle.py_lines.specs.Private.Machine.{Holds, class_of, closed, move_of, start_of, is_final, is_prefix_spelling, Bracket, brackets_of}
 use Rattle.py_lines.proofs.Text.CharacterTests.{each_of, none_of, not_quote, quote-not-feed}
 use Rattle.py_lines.proofs.Pieces.PieceLists.{piece}
 use Rattle.py_lines.proofs.Machine.Starts.{start-feed}
 use Rattle.py_lines.proofs.Machine.PieceSteps.{closes}
-use Rattle.py_lines.proofs.Pieces.OpenBrackets.{through-append, other_keeps}
+use Rattle.py_lines.proofs.Pieces.OpenBrackets.{stack_push, other_keeps}
 
 -- a piece that is no bracket leaves the stack as it was
 pub keeps : (done : List Piece) (p : Piece) (st : List Bracket) → is_opener p ≡ false → is_closer p ≡ false → brackets_of done ≡ Some st → brackets_of (done ++ p ∷ []) ≡ Some st
-keeps done p st opens closes stack =
-    through-append (Some []) [] done (p ∷ [])
-    ∙ ap (λ o. brackets_through o done (p ∷ [])) stack
-    ∙ ap (λ o. brackets_through o (done ++ p ∷ []) []) (other_keeps st (byte_len (spelled done)) p opens closes)
+keeps done p st opens closes stack = stack_push done p st stack ∙ other_keeps st (byte_len (spelled done)) p opens closes
 
 pub stack_closed : (m : Mode) (done : List Piece) (held : List ℕ) (st : List Bracket) → brackets_of done ≡ Some st → brackets_of (closed m done held) ≡ Some st
 stack_closed modes.Start done held st stack = stack
@@ -40,29 +37,21 @@ pub ready-free : IsReady modes.Free
 unfolding move_of
 ready-free = record { ends = refl; breaks = λ c h. refl }
 
+-- what a closing bracket is not, and what it is
+closing_is : (c : ℕ) → is_closing c ≡ true → (is_word_character c ≡ false) × (is_mark c ≡ false) × (is_space c ≡ false) × (is_line_feed c ≡ false) × (is_quote c ≡ false) × (is_operator c ≡ true) × IsScalar c
+unfolding unicode_ident is_closing is_word_character is_mark is_space is_line_feed is_quote is_operator
+closing_is c h =
+    each_of (λ x. (is_word_character x ≡ false) × (is_mark x ≡ false) × (is_space x ≡ false) × (is_line_feed x ≡ false) × (is_quote x ≡ false) × (is_operator x ≡ true) × IsScalar x) (41 ∷ 93 ∷ 125 ∷ []) c
+    ((refl, refl, refl, refl, refl, refl, refl), ((refl, refl, refl, refl, refl, refl, refl), ((refl, refl, refl, refl, refl, refl, refl), tt))) h
+
 pub closing-not-quote : (c : ℕ) → is_closing c ≡ true → is_quote c ≡ false
-unfolding is_closing is_quote
-closing-not-quote c h = none_of is_quote (41 ∷ 93 ∷ 125 ∷ []) c refl h
-
-closing-not-word : (c : ℕ) → is_closing c ≡ true → is_word_character c ≡ false
-unfolding unicode_ident is_closing is_word_character
-closing-not-word c h = none_of is_word_character (41 ∷ 93 ∷ 125 ∷ []) c refl h
-
-closing-not-mark : (c : ℕ) → is_closing c ≡ true → is_mark c ≡ false
-unfolding is_closing is_mark
-closing-not-mark c h = none_of is_mark (41 ∷ 93 ∷ 125 ∷ []) c refl h
-
-closing-not-space : (c : ℕ) → is_closing c ≡ true → is_space c ≡ false
-unfolding is_closing is_space
-closing-not-space c h = none_of is_space (41 ∷ 93 ∷ 125 ∷ []) c refl h
-
-closing-not-feed : (c : ℕ) → is_closing c ≡ true → is_line_feed c ≡ false
-unfolding is_closing is_line_feed
-closing-not-feed c h = none_of is_line_feed (41 ∷ 93 ∷ 125 ∷ []) c refl h
+closing-not-quote c h = (closing_is c h).4
 
 pub closing-operator : (c : ℕ) → is_closing c ≡ true → is_operator c ≡ true
-unfolding is_closing is_operator
-closing-operator c h = each_of (λ x. is_operator x ≡ true) (41 ∷ 93 ∷ 125 ∷ []) c (refl, (refl, (refl, tt))) h
+closing-operator c h = (closing_is c h).5
+
+pub closing-scalar : (c : ℕ) → is_closing c ≡ true → IsScalar c
+closing-scalar c h = (closing_is c h).6
 
 pub quote-scalar : (q : ℕ) → is_quote q ≡ true → IsScalar q
 unfolding is_quote
@@ -87,10 +76,6 @@ feed-starts = start-feed 10 refl
 pub closing_of-closing : (c : ℕ) → is_closing (closing_of c) ≡ true
 unfolding is_closing
 closing_of-closing c = cond_both (c == 40) _ _ (λ x. is_closing x ≡ true) (λ h. refl) (λ h. cond_both (c == 91) _ _ (λ x. is_closing x ≡ true) (λ k. refl) (λ k. refl))
-
-pub closing-scalar : (c : ℕ) → is_closing c ≡ true → IsScalar c
-unfolding is_closing
-closing-scalar c h = each_of (λ x. IsScalar x) (41 ∷ 93 ∷ 125 ∷ []) c (refl, (refl, (refl, tt))) h
 
 pub scalars-append : (xs ys : List ℕ) → all_scalars xs ≡ true → all_scalars ys ≡ true → all_scalars (xs ++ ys) ≡ true
 scalars-append [] ys first second = second
@@ -127,11 +112,11 @@ module _ (Comes : Mode → List ℕ → Type 0)
 
   pub completes : (m : Mode) (done : List Piece) (held : List ℕ) → Holds m done held → Comes m held
   unfolding move_of
-  completes modes.Start done held holds = once modes.Start held (record { ends = refl; breaks = λ c h. rw (closing-not-mark c h) })
+  completes modes.Start done held holds = once modes.Start held (record { ends = refl; breaks = λ c h. rw (closing_is c h).1 })
   completes modes.Free done held holds = once modes.Free held ready-free
-  completes modes.Space done held holds = once modes.Space held (record { ends = refl; breaks = λ c h. rw (closing-not-space c h) })
+  completes modes.Space done held holds = once modes.Space held (record { ends = refl; breaks = λ c h. rw (closing_is c h).2 })
   completes (modes.Word s) done held holds =
-      once (modes.Word s) held (record { ends = refl; breaks = λ c h. rw (closing-not-word c h, and_right (is_prefix_spelling s) (is_quote c) (closing-not-quote c h)) })
+      once (modes.Word s) held (record { ends = refl; breaks = λ c h. rw ((closing_is c h).0, and_right (is_prefix_spelling s) (is_quote c) (closing-not-quote c h)) })
   completes modes.Comment done held holds = commented held
   completes (modes.Opened q) done held holds =
       on (modes.Opened q) (modes.Empty q) held q refl (quote-scalar q holds.opens) (rw (eq-eqb q q refl)) (empty q (held ++ q ∷ []) holds.opens)
@@ -147,6 +132,6 @@ module _ (Comes : Mode → List ℕ → Type 0)
   completes (modes.LongEscape q) done held holds =
       on (modes.LongEscape q) (modes.Long q) held q refl (quote-scalar q holds.3.opens) refl (long q (held ++ q ∷ []) holds.3.opens)
   completes modes.Backslash done held holds = last modes.Backslash held 10 refl refl slash-closes
-  completes modes.JoinReturn done held holds = once modes.JoinReturn held (record { ends = refl; breaks = λ c h. rw (closing-not-feed c h) })
-  completes modes.Return done held holds = once modes.Return held (record { ends = refl; breaks = λ c h. rw (closing-not-feed c h) })
+  completes modes.JoinReturn done held holds = once modes.JoinReturn held (record { ends = refl; breaks = λ c h. rw (closing_is c h).3 })
+  completes modes.Return done held holds = once modes.Return held (record { ends = refl; breaks = λ c h. rw (closing_is c h).3 })
   completes m done held holds = absurd holds
