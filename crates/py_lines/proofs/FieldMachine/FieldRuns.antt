@@ -6,10 +6,10 @@ use Rattle.py_lines.specs.Piece.{Piece, spelled}
 use Rattle.py_lines.specs.PieceGrammar.{joined, has_triple, AreReadIn}
 use Rattle.py_lines.specs.Balance.{is_opening}
 use Rattle.py_lines.specs.Fields.{AreInside, IsSpecification, IsField, simple, specified}
-use Rattle.py_lines.specs.FieldStrings.{Host, Place, literal, specification, begins_double, named_through, with_fields}
+use Rattle.py_lines.specs.FieldStrings.{Host, Place, literal, specification, begins_double, named_through, AreParts, with_fields}
 use Rattle.py_lines.specs.declared.mode.Start.TheVariants as starts
 use Rattle.py_lines.specs.Private.Machine.{start_of}
-use Rattle.py_lines.specs.Private.FieldMachine.{At, between, after_brace, body, begins_code, opens_field, ends_field, Level, FieldScanned, field_state, field_fresh, field_ended, field_pieces, between_move, body_move, field_move, field_moved, field_started, code_operator, levels_open, frames}
+use Rattle.py_lines.specs.Private.FieldMachine.{At, between, after_brace, FieldMode, body, begins_code, ends_field, Level, FieldScanned, field_state, field_fresh, field_ended, field_pieces, opening_move, between_move, body_move, field_move, field_moved, field_started, code_operator, levels_open, frames}
 use Rattle.py_lines.proofs.Text.CharacterTests.{not_quote}
 use Rattle.py_lines.proofs.Machine.Starts.{start-operator}
 use Rattle.py_lines.proofs.Fields.Parts.{BeginOpen}
@@ -70,24 +70,30 @@ module _ (Room : ℕ → Type 0) (outer : List Level) (done : List Piece) (opene
   deeper place held = omega arith
 
   -- the `{` and the first character of the code
-  opens : (place : Place) (at : At) (held : List ℕ) (c : ℕ) (cs : List ℕ) (t : FieldScanned) → is_quote host.quote ≡ true → Room depth → (place ≡ literal → (c == 123) ≡ false) → MayGoOn host place false at (123 ∷ c ∷ cs) → Goes Room (in_field place held) (c ∷ cs) t → Goes Room (in_string place at held) (123 ∷ c ∷ cs) t
-  opens specification at held c cs t quotes room single here goes =
-      let move : field_move (body host specification false at) held 123 ≡ opens_field host = body_moves host specification false at held 123 (c ∷ cs) here ∙ open_moves host specification (settled at) quotes in
-      (in_field specification held, ap (field_moved (in_string specification at held) 123) move, subst (HasRoomFor Room (frames (in_string specification at held)) 123) (sym move) room, goes)
-  opens literal at held c cs t quotes room single here (next, step, has_room, others) =
+  opens : (place : Place) (mode : FieldMode) (held : List ℕ) (c : ℕ) (cs : List ℕ) (t : FieldScanned) → field_move mode held 123 ≡ opening_move host place → Room depth → (place ≡ literal → (c == 123) ≡ false) → Goes Room (in_field place held) (c ∷ cs) t → Goes Room (field_state outer done openers mode held) (123 ∷ c ∷ cs) t
+  opens specification mode held c cs t move room single goes =
+      let s : FieldScanned = field_state outer done openers mode held in
+      (in_field specification held, ap (field_moved s 123) move, subst (HasRoomFor Room (frames s) 123) (sym move) room, goes)
+  opens literal mode held c cs t move room single (next, step, has_room, others) =
       let braced : FieldScanned = in_string literal after_brace (held ++ 123 ∷ []) in
-      let move : field_move (body host literal false after_brace) (held ++ 123 ∷ []) c ≡ begins_code host = code_moves host false (held ++ 123 ∷ []) c (single refl) in
-      goes-grows Room (in_string literal at held) t (body host literal false after_brace) 123 (c ∷ cs) (body_moves host literal false at held 123 (c ∷ cs) here ∙ open_moves host literal (settled at) quotes) (
+      let begun : field_move (body host literal false after_brace) (held ++ 123 ∷ []) c ≡ begins_code host = code_moves host false (held ++ 123 ∷ []) c (single refl) in
+      goes-grows Room (field_state outer done openers mode held) t (body host literal false after_brace) 123 (c ∷ cs) move (
         next,
-        ap (field_moved braced c) move ∙ sym (ap (field_moved (in_field literal held) c) (stops-fresh (c ∷ []))) ∙ step,
-        subst (HasRoomFor Room (frames braced) c) (sym move) (room, λ is. subst Room (deeper literal held) (subst (HasRoomFor Room (frames (in_field literal held)) c) (stops-fresh (c ∷ [])) has_room is)),
+        ap (field_moved braced c) begun ∙ sym (ap (field_moved (in_field literal held) c) (stops-fresh (c ∷ []))) ∙ step,
+        subst (HasRoomFor Room (frames braced) c) (sym begun) (room, λ is. subst Room (deeper literal held) (subst (HasRoomFor Room (frames (in_field literal held)) c) (stops-fresh (c ∷ [])) has_room is)),
         others,
       )
 
-  pub opens_text : (place : Place) (at : At) (held code : List ℕ) (c : ℕ) (cs : List ℕ) (t : FieldScanned) → code ≡ c ∷ cs → is_quote host.quote ≡ true → Room depth → (place ≡ literal → begins_double (123 ∷ code) ≡ false) → MayGoOn host place false at (123 ∷ code) → Goes Room (in_field place held) code t → Goes Room (in_string place at held) (123 ∷ code) t
-  opens_text place at held code c cs t is quotes room single here goes =
-      let P : List ℕ → Type 0 = λ x. (place ≡ literal → begins_double (123 ∷ x) ≡ false) → MayGoOn host place false at (123 ∷ x) → Goes Room (in_field place held) x t → Goes Room (in_string place at held) (123 ∷ x) t in
-      subst P (sym is) (λ s h g. opens place at held c cs t quotes room s h g) single here goes
+  pub opens_text : (place : Place) (mode : FieldMode) (held code : List ℕ) (c : ℕ) (cs : List ℕ) (t : FieldScanned) → code ≡ c ∷ cs → field_move mode held 123 ≡ opening_move host place → Room depth → (place ≡ literal → begins_double (123 ∷ code) ≡ false) → Goes Room (in_field place held) code t → Goes Room (field_state outer done openers mode held) (123 ∷ code) t
+  opens_text place mode held code c cs t is move room single goes =
+      let P : List ℕ → Type 0 = λ x. (place ≡ literal → begins_double (123 ∷ x) ≡ false) → Goes Room (in_field place held) x t → Goes Room (field_state outer done openers mode held) (123 ∷ x) t in
+      subst P (sym is) (λ s g. opens place mode held c cs t move room s g) single goes
+
+  -- the machine goes through a field's code, its `:`, and parts of its specification
+  pub record SpecificationGoes (place : Place) (held : List ℕ) (inside : List Piece) (parts : List (List ℕ)) (rest : List ℕ) : Type 0 where
+    pub to : At
+    pub goes : Goes Room (in_field place held) (spelled inside ++ (58 ∷ joined parts)) (field_state (level_at place held ∷ outer) [] [] (body host specification (named_through false parts) to) (held ++ (123 ∷ spelled inside ++ (58 ∷ joined parts))))
+    pub on : MayGoOn host specification (named_through false parts) to rest
 
   module _ (F : ℕ → Host → List ℕ → Type 0) (begin : (depth : ℕ) → BeginOpen (F depth)) (run : FieldsRun Room F) (G : Host → List ℕ → Type 0) where
     -- the field's code, before the character that ends it
@@ -97,7 +103,7 @@ module _ (Room : ℕ → Type 0) (outer : List Level) (done : List Piece) (opene
         (balanced_openers inside is.balanced []) is.colon (stops-fresh (spelled inside ++ e ∷ []))
 
     -- and that character
-    pub code_goes : (place : Place) (held : List ℕ) (inside : List Piece) (e : ℕ) (t : List Piece → FieldScanned) → AreInside (with_fields G) inside (e ∷ []) → ArePassed Room F (depth + 1) inside → start_of e ≡ starts.Operator → is_opening e ≡ false → ((ps : List Piece) → code_operator (level_at place held) outer ps e ≡ Some (t ps)) → Goes Room (in_field place held) (spelled inside ++ e ∷ []) (t inside)
+    code_goes : (place : Place) (held : List ℕ) (inside : List Piece) (e : ℕ) (t : List Piece → FieldScanned) → AreInside (with_fields G) inside (e ∷ []) → ArePassed Room F (depth + 1) inside → start_of e ≡ starts.Operator → is_opening e ≡ false → ((ps : List Piece) → code_operator (level_at place held) outer ps e ≡ Some (t ps)) → Goes Room (in_field place held) (spelled inside ++ e ∷ []) (t inside)
     code_goes place held inside e t is passed starts_as no_bracket ends =
         let found = code_found place held inside e is passed in
         let level : Level = level_at place held in
@@ -116,48 +122,50 @@ module _ (Room : ℕ → Type 0) (outer : List Level) (done : List Piece) (opene
         let ended : List Piece → FieldScanned = λ ps. field_ended level outer (level.front ++ (spelled ps ++ 125 ∷ [])) in
         let full = some_head (spelled inside) 125 [] in
         goes-to Room (in_string place at held) (ended inside) _ (123 ∷ code)
-        (opens_text place at held code full.0 full.1 (ended inside) full.2 quotes room single here (code_goes place held inside 125 ended is passed brace_is.0 brace_is.1 (λ ps. brace_ends level outer ps)))
+        (opens_text place (body host place false at) held code full.0 full.1 (ended inside) full.2 (body_moves host place false at held 123 code here ∙ open_moves host place (settled at) quotes) room single
+        (code_goes place held inside 125 ended is passed brace_is.0 brace_is.1 (λ ps. brace_ends level outer ps)))
         (ap (in_string place between) (append_assoc held (123 ∷ []) code))
 
-    -- a specification, up to the field's `}`
-    specification_goes : (place : Place) (held text : List ℕ) (parts : List (List ℕ)) → is_quote host.quote ≡ true → IsSpecification (F (depth + 1)) host parts → Goes Room (field_state (level_at place held ∷ outer) [] [] (body host specification false between) text) (joined parts ++ 125 ∷ []) (in_string place between (text ++ (joined parts ++ 125 ∷ [])))
-    specification_goes place held text parts quotes is =
+    pub specification_goes : (place : Place) (held : List ℕ) (inside : List Piece) (parts : List (List ℕ)) (rest : List ℕ) → is_quote host.quote ≡ true → AreInside (with_fields G) inside (58 ∷ []) → ArePassed Room F (depth + 1) inside → AreParts (F (depth + 1)) host specification false parts rest → has_triple host.quote parts ≡ false → SpecificationGoes place held inside parts rest
+    specification_goes place held inside parts rest quotes is passed each open_yet =
         let inner : List Level = level_at place held ∷ outer in
-        let same : depth + 1 ≡ length {A = ℕ} [] + levels_open inner = sym (deeper place held) in
-        let each = subst (λ n. IsSpecification (F n) host parts) same is in
+        let front : List ℕ = held ++ 123 ∷ [] in
         let d = length {A = ℕ} [] + levels_open inner in
-        let parts_run = parts_go Room inner [] [] (F d) (begin d) (run inner [] []) host specification false between text parts (125 ∷ []) [] quotes each.each
-        (goes_on host specification false (joined parts ++ 125 ∷ [])) (subst (λ l. has_triple host.quote l ≡ false) (sym (append-nil parts)) each.open_yet) in
-        let to = parts_run.to in
-        let held_then : List ℕ = text ++ joined parts in
-        let s : FieldScanned = field_state inner [] [] (body host specification (named_through false parts) to) held_then in
-        let on : MayGoOn host specification false to (125 ∷ []) = subst (λ n. MayGoOn host specification n to (125 ∷ [])) each.ended parts_run.on in
-        let move : field_move (body host specification (named_through false parts) to) held_then 125 ≡ ends_field =
-        ap (λ n. field_move (body host specification n to) held_then 125) each.ended ∙ body_moves host specification false to held_then 125 [] on ∙ end_moves host (settled to) quotes in
-        let t : FieldScanned = in_string place between (held_then ++ 125 ∷ []) in
-        let last : Goes Room s (125 ∷ []) t = (t, ap (field_moved s 125) move, subst (HasRoomFor Room (frames s) 125) (sym move) tt, refl) in
-        goes-to Room (field_state inner [] [] (body host specification false between) text) t _ (joined parts ++ 125 ∷ [])
-        (goes-append Room (field_state inner [] [] (body host specification false between) text) s t (joined parts) (125 ∷ []) parts_run.goes last)
-        (ap (in_string place between) (append_assoc text (joined parts) (125 ∷ [])))
+        let begun : List Piece → FieldScanned = λ ps. field_state inner [] [] (body host specification false between) (front ++ (spelled ps ++ 58 ∷ [])) in
+        let parts_run = parts_go Room inner [] [] (F d) (begin d) (run inner [] []) host specification false between (front ++ (spelled inside ++ 58 ∷ [])) parts rest [] quotes
+        (subst (λ n. AreParts (F n) host specification false parts rest) (sym (deeper place held)) each) (goes_on host specification false (joined parts ++ rest))
+        (subst (λ l. has_triple host.quote l ≡ false) (sym (append-nil parts)) open_yet) in
+        let ended : List ℕ → FieldScanned = field_state inner [] [] (body host specification (named_through false parts) parts_run.to) in
+        let code : List ℕ = spelled inside ++ (58 ∷ joined parts) in
+        let cut : (spelled inside ++ 58 ∷ []) ++ joined parts ≡ code = append_assoc (spelled inside) (58 ∷ []) (joined parts) in
+        record {
+          to = parts_run.to;
+          goes = goes-to Room (in_field place held) _ _ code
+              (subst (λ t. Goes Room (in_field place held) t (ended ((front ++ (spelled inside ++ 58 ∷ [])) ++ joined parts))) cut
+              (goes-append Room (in_field place held) (begun inside) _ (spelled inside ++ 58 ∷ []) (joined parts)
+              (code_goes place held inside 58 begun is passed colon_is.0 colon_is.1 (λ ps. colon_opens (level_at place held) outer ps)) parts_run.goes))
+              (ap ended (append_assoc front (spelled inside ++ 58 ∷ []) (joined parts) ∙ ap (λ x. front ++ x) cut ∙ append_assoc held (123 ∷ []) code));
+          on = parts_run.on;
+        }
 
     -- a field with one
     specified_goes : (place : Place) (at : At) (held : List ℕ) (inside : List Piece) (parts : List (List ℕ)) → is_quote host.quote ≡ true → Room depth → AreInside (with_fields G) inside (58 ∷ []) → ArePassed Room F (depth + 1) inside → IsSpecification (F (depth + 1)) host parts → (place ≡ literal → begins_double (123 ∷ spelled inside ++ (58 ∷ joined parts ++ 125 ∷ [])) ≡ false) → MayGoOn host place false at (123 ∷ spelled inside ++ (58 ∷ joined parts ++ 125 ∷ [])) → Goes Room (in_string place at held) (123 ∷ spelled inside ++ (58 ∷ joined parts ++ 125 ∷ [])) (in_string place between (held ++ (123 ∷ spelled inside ++ (58 ∷ joined parts ++ 125 ∷ []))))
     specified_goes place at held inside parts quotes room is passed own single here =
-        let later : List ℕ = joined parts ++ 125 ∷ [] in
-        let code : List ℕ = spelled inside ++ 58 ∷ later in
-        let level : Level = level_at place held in
-        let begun : List Piece → FieldScanned = λ ps. field_state (level ∷ outer) [] [] (body host specification false between) (level.front ++ (spelled ps ++ 58 ∷ [])) in
-        let text : List ℕ = level.front ++ (spelled inside ++ 58 ∷ []) in
-        let ended : FieldScanned = in_string place between (text ++ later) in
-        let full = some_head (spelled inside) 58 later in
-        let all : Goes Room (in_field place held) code ended =
-        subst (λ x. Goes Room (in_field place held) x ended) (append_assoc (spelled inside) (58 ∷ []) later)
-        (goes-append Room (in_field place held) (begun inside) ended (spelled inside ++ 58 ∷ []) later
-        (code_goes place held inside 58 begun is passed colon_is.0 colon_is.1 (λ ps. colon_opens level outer ps))
-        (specification_goes place held text parts quotes own)) in
-        goes-to Room (in_string place at held) ended _ (123 ∷ code) (opens_text place at held code full.0 full.1 ended full.2 quotes room single here all)
-        (ap (in_string place between)
-        (append_assoc level.front (spelled inside ++ 58 ∷ []) later ∙ ap (λ x. level.front ++ x) (append_assoc (spelled inside) (58 ∷ []) later) ∙ append_assoc held (123 ∷ []) code))
+        let code : List ℕ = spelled inside ++ (58 ∷ joined parts) in
+        let text : List ℕ = held ++ (123 ∷ code) in
+        let whole : code ++ 125 ∷ [] ≡ spelled inside ++ (58 ∷ joined parts ++ 125 ∷ []) = append_assoc (spelled inside) (58 ∷ joined parts) (125 ∷ []) in
+        let first = specification_goes place held inside parts (125 ∷ []) quotes is passed own.each own.open_yet in
+        let s : FieldScanned = field_state (level_at place held ∷ outer) [] [] (body host specification (named_through false parts) first.to) text in
+        let move : field_move (body host specification (named_through false parts) first.to) text 125 ≡ ends_field =
+        ap (λ n. field_move (body host specification n first.to) text 125) own.ended
+        ∙ body_moves host specification false first.to text 125 [] (subst (λ n. MayGoOn host specification n first.to (125 ∷ [])) own.ended first.on) ∙ end_moves host (settled first.to) quotes in
+        let ended : FieldScanned = in_string place between (text ++ 125 ∷ []) in
+        let last : Goes Room s (125 ∷ []) ended = (ended, ap (field_moved s 125) move, subst (HasRoomFor Room (frames s) 125) (sym move) tt, refl) in
+        let full = some_head (spelled inside) 58 (joined parts ++ 125 ∷ []) in
+        goes-to Room (in_string place at held) ended _ (123 ∷ spelled inside ++ (58 ∷ joined parts ++ 125 ∷ []))
+        (opens_text place (body host place false at) held _ full.0 full.1 ended full.2 (body_moves host place false at held 123 (code ++ 125 ∷ []) here ∙ open_moves host place (settled at) quotes) room single
+        (subst (λ x. Goes Room (in_field place held) x ended) whole (goes-append Room (in_field place held) s ended code (125 ∷ []) first.goes last)))
+        (ap (in_string place between) (append_assoc held (123 ∷ code) (125 ∷ []) ∙ ap (λ x. held ++ (123 ∷ x)) whole))
 
     -- a field, whose pieces meet a condition by which what opens in them may open there
     pub field_goes : (Passes : List Piece → Type 0) → ((ps : List Piece) (rest : List ℕ) → AreReadIn (with_fields G) ps rest → Passes ps → ArePassed Room F (depth + 1) ps) → (place : Place) (at : At) (held text : List ℕ) → is_quote host.quote ≡ true → Room depth → IsField (with_fields G) Passes (F (depth + 1)) host text → (place ≡ literal → begins_double text ≡ false) → MayGoOn host place false at text → Goes Room (in_string place at held) text (in_string place between (held ++ text))

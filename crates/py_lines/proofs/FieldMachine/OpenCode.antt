@@ -9,7 +9,7 @@ use Rattle.py_lines.specs.Private.FieldMachine.{before, body, after_brace, Level
 use Rattle.py_lines.proofs.FieldMachine.Completeness.{may_begin}
 use Rattle.py_lines.proofs.FieldMachine.Runs.{NoLimit, Goes, goes-append}
 use Rattle.py_lines.proofs.FieldMachine.ListBrackets.{balanced_openers}
-use Rattle.py_lines.proofs.FieldMachine.OpenStrings.{IsInString, open_quotes, open_unmarked, string_runs}
+use Rattle.py_lines.proofs.FieldMachine.OpenStrings.{IsInString, open_quotes, open_unmarked, brace_opens, string_runs}
 use Rattle.py_lines.proofs.FieldMachine.OpenLists.{pieces_run, IsBraced, alike, alike_after, ListRun, list_runs, after_pieces, string_begins, level_of, braces}
 use Rattle.py_lines.proofs.FieldMachine.WhatIsOpen.{Comes}
 
@@ -60,7 +60,8 @@ brace_comes depth start after is =
     let run = string_runs pieces_at.from is.host is.spot is.front (123 ∷ after) is.string pieces_at.stops in
     let stands = subst (λ n. IsInString is.host literal n run.mode (123 ∷ after)) is.may.unnamed (subst (λ p. IsInString is.host p is.spot.named run.mode (123 ∷ after)) is.place_is run.stands) in
     let s : FieldScanned = field_state run.outer run.done run.openers run.mode is.front in
-    let braced = braces run.outer run.done run.openers is.host literal run.mode is.front after stands (open_quotes is.host is.spot is.front (123 ∷ after) is.string) in
+    let move = brace_opens is.host literal run.mode is.front after stands (open_quotes is.host is.spot is.front (123 ∷ after) is.string) in
+    let braced = braces run.outer run.done run.openers is.host literal run.mode is.front move in
     record {
       to = braced.0;
       goes = subst (λ x. Goes NoLimit field_text_start x braced.0)

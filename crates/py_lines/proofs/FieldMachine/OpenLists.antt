@@ -1,20 +1,18 @@
 -- The machine with fields goes from the text's start to a list of pieces that begins in fields, and through its first pieces.
-use Rattle.std.proofs.Common.{◌≡◌, ℕ, ◌+◌, true, false, Option, None, Some, List, [], ◌∷◌, ◌++◌, ◌⊎◌, inl, inr, length, refl, sym, ap, ◌∙◌, subst, append_assoc, append-nil, add-zero, arith}
-use Rattle.py_lines.specs.Character.{is_mark, is_quote}
+use Rattle.std.proofs.Common.{◌≡◌, ℕ, ◌+◌, false, Option, None, Some, List, [], ◌∷◌, ◌++◌, ◌⊎◌, inl, inr, length, refl, sym, ap, ◌∙◌, subst, append_assoc, append-nil, add-zero, arith}
+use Rattle.py_lines.specs.Character.{is_mark}
 use Rattle.py_lines.specs.Piece.{Piece, begins, spelled}
 use Rattle.py_lines.specs.Balance.{IsBalanced, depth_through}
 use Rattle.py_lines.specs.OpenFields.{AreBegun, BeginsList, at_start, in_field}
 use Rattle.py_lines.specs.FieldStrings.{Host, Place, literal, specification, begins_open}
-use Rattle.py_lines.specs.Private.FieldMachine.{before, At, between, after_brace, FieldMode, opened, body, opens_field, Level, FieldScanned, field_state, field_fresh, field_text_start, field_closed, field_pieces, field_move, field_moved, frames, openers_by, openers_through, levels_open}
-use Rattle.py_lines.proofs.Text.CharacterTests.{not_quote}
+use Rattle.py_lines.specs.Private.FieldMachine.{before, after_brace, FieldMode, body, Level, FieldScanned, field_state, field_fresh, field_text_start, field_closed, field_pieces, opening_move, field_move, field_moved, frames, openers_by, openers_through, levels_open}
 use Rattle.py_lines.proofs.Machine.ReadingSteps.{MayBegin}
 use Rattle.py_lines.proofs.FieldMachine.Runs.{NoLimit, Goes, StopsAt, HasRoomFor, goes-append, goes-grows, stops-fresh}
 use Rattle.py_lines.proofs.FieldMachine.ListBrackets.{none_some, openers_through-append, balanced_openers, depth_is}
-use Rattle.py_lines.proofs.FieldMachine.StringParts.{settled, MayGoOn, goes_on, body_moves, open_moves, open_no_quote}
-use Rattle.py_lines.proofs.FieldMachine.StringRuns.{opened_goes}
+use Rattle.py_lines.proofs.FieldMachine.FieldRuns.{opens_text}
 use Rattle.py_lines.proofs.FieldMachine.Nesting.{fields_found}
 use Rattle.py_lines.proofs.FieldMachine.Completeness.{fields_reached}
-use Rattle.py_lines.proofs.FieldMachine.OpenStrings.{IsInString, in_part, at_first, open_quotes, open_unmarked, open_code, string_runs}
+use Rattle.py_lines.proofs.FieldMachine.OpenStrings.{IsInString, open_quotes, open_unmarked, brace_opens, string_runs}
 
 -- where a list of pieces begins: at the text's start, or in a field
 abbrev pub list_start : List Level → FieldScanned
@@ -139,25 +137,14 @@ string_begins (p ∷ ps) front h = tt
 abbrev pub level_of : List Piece → List ℕ → Host → Place → List ℕ → Level
 level_of done openers host place held = record { done = done; openers = openers; host = host; place = place; front = held ++ 123 ∷ [] }
 
-part_braces : (outer : List Level) (done : List Piece) (openers : List ℕ) (host : Host) (place : Place) (at : At) (held rest : List ℕ) → MayGoOn host place false at (123 ∷ rest) → is_quote host.quote ≡ true → (t : FieldScanned) × Goes NoLimit (field_state outer done openers (body host place false at) held) (123 ∷ []) t × IsBraced (level_of done openers host place held ∷ outer) t
-part_braces outer done openers host literal at held rest on quotes =
+pub braces : (outer : List Level) (done : List Piece) (openers : List ℕ) (host : Host) (place : Place) (mode : FieldMode) (held : List ℕ) → field_move mode held 123 ≡ opening_move host place → (t : FieldScanned) × Goes NoLimit (field_state outer done openers mode held) (123 ∷ []) t × IsBraced (level_of done openers host place held ∷ outer) t
+braces outer done openers host literal mode held move =
     let t : FieldScanned = field_state outer done openers (body host literal false after_brace) (held ++ 123 ∷ []) in
-    (t, goes-grows NoLimit (field_state outer done openers (body host literal false at) held) t (body host literal false after_brace) 123 [] (body_moves host literal false at held 123 [] on ∙ open_moves host literal (settled at) quotes) refl, inl (refl, refl))
-part_braces outer done openers host specification at held rest on quotes =
-    let s : FieldScanned = field_state outer done openers (body host specification false at) held in
+    (t, goes-grows NoLimit (field_state outer done openers mode held) t (body host literal false after_brace) 123 [] move refl, inl (refl, refl))
+braces outer done openers host specification mode held move =
+    let s : FieldScanned = field_state outer done openers mode held in
     let t : FieldScanned = field_fresh (level_of done openers host specification held ∷ outer) [] [] in
-    let move : field_move (body host specification false at) held 123 ≡ opens_field host = body_moves host specification false at held 123 [] on ∙ open_moves host specification (settled at) quotes in
     (t, (t, ap (field_moved s 123) move, subst (HasRoomFor NoLimit (frames s) 123) (sym move) tt, refl), inr (refl, refl))
-
-pub braces : (outer : List Level) (done : List Piece) (openers : List ℕ) (host : Host) (place : Place) (mode : FieldMode) (held rest : List ℕ) → IsInString host place false mode (123 ∷ rest) → is_quote host.quote ≡ true → (t : FieldScanned) × Goes NoLimit (field_state outer done openers mode held) (123 ∷ []) t × IsBraced (level_of done openers host place held ∷ outer) t
-braces outer done openers host place mode held rest (in_part at is on) quotes =
-    let P : FieldMode → Type 0 = λ m. (t : FieldScanned) × Goes NoLimit (field_state outer done openers m held) (123 ∷ []) t × IsBraced (level_of done openers host place held ∷ outer) t in
-    subst P (sym is) (part_braces outer done openers host place at held rest on quotes)
-braces outer done openers host place mode held rest (at_first is place_is unnamed short) quotes =
-    let P : Place → FieldMode → Type 0 = λ p m. (t : FieldScanned) × Goes NoLimit (field_state outer done openers m held) (123 ∷ []) t × IsBraced (level_of done openers host p held ∷ outer) t in
-    let run = part_braces outer done openers host literal between held rest (goes_on host literal false (123 ∷ rest)) quotes in
-    let first : P literal (opened host) = (run.0, opened_goes NoLimit (field_fresh outer done openers) host held 123 [] run.0 (not_quote 123 host.quote quotes open_no_quote) run.1, run.2) in
-    subst (λ p. P p mode) (sym place_is) (subst (P literal) (sym is) first)
 
 pub list_runs : (outside rest : List ℕ) (depth : ℕ) → BeginsList outside rest depth → ListRun outside rest depth
 list_runs outside rest depth (at_start _ _ _ none zero) = record {
@@ -174,11 +161,10 @@ list_runs all rest depth (in_field _ _ _ outside base pieces front host spot spe
     let later : List ℕ = front ++ 123 ∷ rest in
     let pieces_at = after_pieces outside base pieces later (list_runs outside (spelled pieces ++ later) base list) begun (string_begins pieces later (open_unmarked host spot front (123 ∷ rest) (123 ∷ rest) string)) in
     let run = string_runs pieces_at.from host spot front (123 ∷ rest) string pieces_at.stops in
-    let quotes = open_quotes host spot front (123 ∷ rest) string in
-    let stands = subst (λ n. IsInString host spot.place n run.mode (123 ∷ rest)) may.unnamed run.stands in
+    let move = brace_opens host spot.place run.mode front rest (subst (λ n. IsInString host spot.place n run.mode (123 ∷ rest)) may.unnamed run.stands) (open_quotes host spot front (123 ∷ rest) string) in
     let level : Level = level_of run.done run.openers host spot.place front in
     let s : FieldScanned = field_state run.outer run.done run.openers run.mode front in
-    let braced = braces run.outer run.done run.openers host spot.place run.mode front rest stands quotes in
+    let braced = braces run.outer run.done run.openers host spot.place run.mode front move in
     let whole : (r : List ℕ) → outside ++ (spelled pieces ++ (front ++ 123 ∷ r)) ≡ all ++ r = λ r. whole_text all outside (spelled pieces) front r spell in
     record {
       outer = level ∷ run.outer;
@@ -191,7 +177,7 @@ list_runs all rest depth (in_field _ _ _ outside base pieces front host spot spe
           ∙ append_assoc outside (spelled pieces) (front ++ 123 ∷ []) ∙ sym spell;
       goes = λ t text alike_so goes.
           let single : spot.place ≡ literal → begins_open text ≡ false = λ at. ap begins_open alike_so.two_is ∙ sym (ap begins_open alike_so.one_is) ∙ may.single at in
-          let code = open_code run.outer run.done run.openers host spot.place run.mode front text rest alike_so.first alike_so.more t stands quotes alike_so.two_is single goes in
+          let code = opens_text NoLimit run.outer run.done run.openers host spot.place run.mode front text alike_so.first alike_so.more t alike_so.two_is move tt single goes in
           subst (λ x. Goes NoLimit field_text_start x t) (whole text)
           (pieces_at.goes t (front ++ 123 ∷ text) (alike_after front (123 ∷ rest) (123 ∷ text) (alike 123 rest text)) (goes-append NoLimit pieces_at.from s t front (123 ∷ text) run.goes code));
       begins_at = (

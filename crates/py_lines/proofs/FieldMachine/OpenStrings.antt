@@ -1,22 +1,22 @@
 -- The machine with fields goes from the start of a string that is open up to a spot into that spot.
-use Rattle.std.proofs.Common.{◌≡◌, ℕ, ◌+◌, ◌==◌, Bool, true, false, List, [], ◌∷◌, ◌++◌, ◌⊎◌, inl, inr, length, refl, sym, ap, ◌∙◌, subst, append_assoc, append-nil, arith}
-use Rattle.py_lines.specs.Character.{is_mark, is_quote, is_backslash}
+use Rattle.std.proofs.Common.{◌≡◌, ℕ, ◌+◌, ◌==◌, eqb, Bool, true, false, List, [], ◌∷◌, ◌++◌, inl, inr, length, refl, sym, ap, ◌∙◌, subst, append_assoc, append-nil, arith}
+use Rattle.py_lines.specs.Character.{is_mark, is_quote}
 use Rattle.py_lines.specs.Piece.{Piece, begins, spelled}
 use Rattle.py_lines.specs.PieceGrammar.{joined, has_triple}
 use Rattle.py_lines.specs.Fields.{Fields}
 use Rattle.py_lines.specs.OpenFields.{Spot, literal_after, specification_after, IsOpenString, in_literal, in_specification, IsOpenUpTo, IsUnescaped}
 use Rattle.py_lines.specs.FieldStrings.{Host, Place, literal, specification, quotes_of, begins_open, named_through}
-use Rattle.py_lines.specs.Private.FieldMachine.{before, At, between, after_slash, FieldMode, opened, body, Level, FieldScanned, field_state, field_fresh, field_pieces, is_after_brace, levels_open}
+use Rattle.py_lines.specs.Private.FieldMachine.{before, At, between, after_slash, FieldMode, opened, body, Level, FieldScanned, field_state, field_pieces, field_move, opening_move, between_move, levels_open}
 use Rattle.py_lines.proofs.Text.CharacterTests.{not_quote, slash-not-quote}
 use Rattle.py_lines.proofs.Machine.OpenStrings.{start-not-mark}
 use Rattle.py_lines.proofs.Fields.Elsewhere.{quotes_begin}
 use Rattle.py_lines.proofs.Fields.Prefixes.{field_letters}
 use Rattle.py_lines.proofs.Fields.Parts.{begins_same}
 use Rattle.py_lines.proofs.Fields.OneReading.{some_head, fields_begin}
-use Rattle.py_lines.proofs.FieldMachine.Runs.{NoLimit, Goes, StopsAt, goes-append, goes-to, goes-grows}
-use Rattle.py_lines.proofs.FieldMachine.StringParts.{settled, MayGoOn, goes_on, body_moves, slash_grows, parts_go, open_no_quote}
-use Rattle.py_lines.proofs.FieldMachine.StringRuns.{opened_goes, IsInLiteral, in_body, at_quote, literal_goes}
-use Rattle.py_lines.proofs.FieldMachine.FieldRuns.{opens_text, code_goes, colon_is, colon_opens}
+use Rattle.py_lines.proofs.FieldMachine.Runs.{NoLimit, Goes, StopsAt, goes-append, goes-grows}
+use Rattle.py_lines.proofs.FieldMachine.StringParts.{settled, MayGoOn, goes_on, body_moves, slash_grows, open_moves, open_no_quote}
+use Rattle.py_lines.proofs.FieldMachine.StringRuns.{opened_moves, IsInLiteral, in_body, at_quote, literal_goes}
+use Rattle.py_lines.proofs.FieldMachine.FieldRuns.{opens_text, specification_goes}
 use Rattle.py_lines.proofs.FieldMachine.Nesting.{fields_run, passed_any}
 
 -- The mode of a string that is open up to a spot, before the rest: in its body; or after its first quote, if it is short and
@@ -47,21 +47,20 @@ open_unmarked host spot front rest more string =
     let first = open_begins host spot front rest more string in
     subst (λ t. begins is_mark t ≡ false) (sym first.2) first.3
 
--- the `{` of a field, and its code
-pub open_code : (outer : List Level) (done : List Piece) (openers : List ℕ) (host : Host) (place : Place) (mode : FieldMode) (held code after : List ℕ) (c : ℕ) (cs : List ℕ) (t : FieldScanned) → IsInString host place false mode (123 ∷ after) → is_quote host.quote ≡ true → code ≡ c ∷ cs → (place ≡ literal → begins_open code ≡ false) → Goes NoLimit (field_fresh (record { done = done; openers = openers; host = host; place = place; front = held ++ 123 ∷ [] } ∷ outer) [] []) code t → Goes NoLimit (field_state outer done openers mode held) (123 ∷ code) t
-open_code outer done openers host place mode held code after c cs t (in_part at is on) quotes full single goes =
-    subst (λ (m : FieldMode). Goes NoLimit (field_state outer done openers m held) (123 ∷ code) t) (sym is)
-    (opens_text NoLimit outer done openers host place at held code c cs t full quotes tt single on goes)
-open_code outer done openers host place mode held code after c cs t (at_first is place_is unnamed short) quotes full single goes =
-    subst (λ (m : FieldMode). Goes NoLimit (field_state outer done openers m held) (123 ∷ code) t) (sym is)
-    (opened_goes NoLimit (field_fresh outer done openers) host held 123 code t (not_quote 123 host.quote quotes open_no_quote)
-    (subst (λ p. Goes NoLimit (field_state outer done openers (body host p false between) held) (123 ∷ code) t) place_is
-    (opens_text NoLimit outer done openers host place between held code c cs t full quotes tt single (goes_on host place false (123 ∷ code)) goes)))
+-- what another character than its quote does there
+string_moves : (host : Host) (place : Place) (named : Bool) (mode : FieldMode) (held : List ℕ) (c : ℕ) (rest : List ℕ) → IsInString host place named mode (c ∷ rest) → eqb c host.quote ≡ false → (at : At) × (field_move mode held c ≡ between_move host place named at c)
+string_moves host place named mode held c rest (in_part at is on) other = (settled at, ap (λ m. field_move m held c) is ∙ body_moves host place named at held c rest on)
+string_moves host place named mode held c rest (at_first is place_is unnamed short) other = (
+  between,
+  ap (λ m. field_move m held c) is ∙ opened_moves host held c other ∙ body_moves host literal false between held c rest (goes_on host literal false (c ∷ rest))
+      ∙ ap (λ p. between_move host p false between c) (sym place_is) ∙ ap (λ n. between_move host place n between c) (sym unnamed),
+)
 
--- the mode of a string that is open at this place
-abbrev pub IsHostMode : Host → Place → FieldMode → Type 0
-IsHostMode host place mode =
-    ((named : Bool) × (at : At) × (mode ≡ body host place named at) × (is_after_brace at ≡ false)) ⊎ ((mode ≡ opened host) × (place ≡ literal) × (host.is_long ≡ false))
+-- the `{` of a field
+pub brace_opens : (host : Host) (place : Place) (mode : FieldMode) (held rest : List ℕ) → IsInString host place false mode (123 ∷ rest) → is_quote host.quote ≡ true → field_move mode held 123 ≡ opening_move host place
+brace_opens host place mode held rest stands quotes =
+    let move = string_moves host place false mode held 123 rest stands (not_quote 123 host.quote quotes open_no_quote) in
+    move.1 ∙ open_moves host place move.0 quotes
 
 -- in a specification, the field whose specification it is opened after this text of the string
 abbrev pub HasOpened : Place → List Level → List ℕ → Type 0
@@ -110,32 +109,21 @@ string_runs from host spot front rest (in_specification _ round _ _ opening insi
     ap (λ t. t ++ rest) spell ∙ append_assoc opening (123 ∷ code) rest ∙ ap (λ t. opening ++ (123 ∷ t)) (append_assoc (spelled inside) (58 ∷ joined parts) rest) in
     let inner = string_runs from host round opening later string (subst (StopsAt from.mode from.held) whole stops) in
     let quotes = open_quotes host round opening later string in
-    let level : Level = record { done = inner.done; openers = inner.openers; host = host; place = round.place; front = opening ++ 123 ∷ [] } in
-    let outer : List Level = level ∷ inner.outer in
-    let begun : List Piece → FieldScanned = λ ps. field_state outer [] [] (body host specification false between) (level.front ++ (spelled ps ++ 58 ∷ [])) in
-    let text : List ℕ = level.front ++ (spelled inside ++ 58 ∷ []) in
-    let depth = length inner.openers + levels_open inner.outer in
-    let code_run = code_goes NoLimit inner.outer inner.done inner.openers host (λ d. Fields) (λ d. fields_begin) fields_run Fields round.place opening inside 58 begun are_inside
-    (passed_any Fields (depth + 1) inside (58 ∷ []) are_inside.fit) colon_is.0 colon_is.1 (λ ps. colon_opens level inner.outer ps) in
-    let run = parts_go NoLimit outer [] [] Fields fields_begin (fields_run outer [] []) host specification false between text parts rest [] quotes each (goes_on host specification false (joined parts ++ rest))
-    (subst (λ l. has_triple host.quote l ≡ false) (sym (append-nil parts)) open_yet) in
+    let outer : List Level = record { done = inner.done; openers = inner.openers; host = host; place = round.place; front = opening ++ 123 ∷ [] } ∷ inner.outer in
+    let run = specification_goes NoLimit inner.outer inner.done inner.openers host (λ d. Fields) (λ d. fields_begin) fields_run Fields round.place opening inside parts rest quotes are_inside
+    (passed_any Fields _ inside (58 ∷ []) are_inside.fit) each open_yet in
     let mode : FieldMode = body host specification (named_through false parts) run.to in
-    let last : FieldScanned = field_state outer [] [] mode (text ++ joined parts) in
-    let in_field = subst (λ t. Goes NoLimit (field_fresh outer [] []) t last) (append_assoc (spelled inside) (58 ∷ []) (joined parts))
-    (goes-append NoLimit (field_fresh outer [] []) (begun inside) last (spelled inside ++ 58 ∷ []) (joined parts) code_run run.goes) in
+    let last : FieldScanned = field_state outer [] [] mode (opening ++ (123 ∷ code)) in
     let full = some_head (spelled inside) 58 (joined parts) in
     let stands = subst (λ n. IsInString host round.place n inner.mode later) may.unnamed inner.stands in
     let single : round.place ≡ literal → begins_open code ≡ false = λ at. begins_same (λ c. c == 123) (spelled inside) 58 (joined parts) [] ∙ may.single at in
-    let opened_run = open_code inner.outer inner.done inner.openers host round.place inner.mode opening code _ full.0 full.1 last stands quotes full.2 single in_field in
-    let all = goes-append NoLimit from (field_state inner.outer inner.done inner.openers inner.mode opening) last opening (123 ∷ code) inner.goes opened_run in
-    let held_is : text ++ joined parts ≡ opening ++ (123 ∷ code) =
-    append_assoc level.front (spelled inside ++ 58 ∷ []) (joined parts) ∙ ap (λ t. level.front ++ t) (append_assoc (spelled inside) (58 ∷ []) (joined parts)) ∙ append_assoc opening (123 ∷ []) code in
+    let opened_run = opens_text NoLimit inner.outer inner.done inner.openers host round.place inner.mode opening code full.0 full.1 last full.2 (brace_opens host round.place inner.mode opening _ stands quotes) tt single run.goes in
     subst (λ s. StringRun from host s front rest) (sym is) (subst (λ t. StringRun from host (specification_after round opening parts) t rest) (sym spell) (record {
       outer = outer;
       done = [];
       openers = [];
       mode = mode;
-      goes = goes-to NoLimit from last (field_state outer [] [] mode (opening ++ (123 ∷ code))) (opening ++ (123 ∷ code)) all (ap (field_state outer [] [] mode) held_is);
+      goes = goes-append NoLimit from (field_state inner.outer inner.done inner.openers inner.mode opening) last opening (123 ∷ code) inner.goes opened_run;
       stands = in_part run.to refl run.on;
       start_is = append-nil _ ∙ inner.start_is;
       depth_is =
@@ -151,28 +139,10 @@ pub record UpToRun (from : FieldScanned) (host : Host) (spot : Spot) (front : Li
   pub openers : List ℕ
   pub mode : FieldMode
   pub goes : Goes NoLimit from front (field_state outer done openers mode front)
-  pub mode_is : IsHostMode host spot.place mode
+  pub named : Bool
+  pub mode_is : IsInString host spot.place named mode []
   pub start_is : before spot.place outer ++ spelled done ≡ before literal from.outer ++ spelled (field_pieces from)
   pub field_is : HasOpened spot.place outer spot.field
-
-string_mode : (host : Host) (place : Place) (named : Bool) (mode : FieldMode) → IsInString host place named mode [] → IsHostMode host place mode
-string_mode host place named mode (in_part at is on) = inl (named, at, is, on)
-string_mode host place named mode (at_first is place_is unnamed short) = inr (is, place_is, short)
-
--- one backslash more
-slash_run : (outer : List Level) (done : List Piece) (openers : List ℕ) (host : Host) (place : Place) (named : Bool) (mode : FieldMode) (held : List ℕ) (s : ℕ) → IsInString host place named mode (s ∷ []) → is_quote host.quote ≡ true → is_backslash s ≡ true → Goes NoLimit (field_state outer done openers mode held) (s ∷ []) (field_state outer done openers (body host place named after_slash) (held ++ s ∷ []))
-slash_run outer done openers host place named mode held s (in_part at is on) quotes slashes =
-    subst (λ (m : FieldMode). Goes NoLimit (field_state outer done openers m held) (s ∷ []) (field_state outer done openers (body host place named after_slash) (held ++ s ∷ []))) (sym is)
-    (goes-grows NoLimit (field_state outer done openers (body host place named at) held) _ (body host place named after_slash) s []
-    (body_moves host place named at held s [] on ∙ slash_grows host place named (settled at) s quotes slashes) refl)
-slash_run outer done openers host place named mode held s (at_first is place_is unnamed short) quotes slashes =
-    let to : FieldScanned = field_state outer done openers (body host literal false after_slash) (held ++ s ∷ []) in
-    subst (λ (m : FieldMode). Goes NoLimit (field_state outer done openers m held) (s ∷ []) (field_state outer done openers (body host place named after_slash) (held ++ s ∷ []))) (sym is)
-    (goes-to NoLimit (field_state outer done openers (opened host) held) to _ (s ∷ [])
-    (opened_goes NoLimit (field_fresh outer done openers) host held s [] to (not_quote s host.quote quotes (slash-not-quote s slashes))
-    (goes-grows NoLimit (field_state outer done openers (body host literal false between) held) to (body host literal false after_slash) s []
-    (body_moves host literal false between held s [] (goes_on host literal false (s ∷ [])) ∙ slash_grows host literal false between s quotes slashes) refl))
-    (ap (λ p. field_state outer done openers (body host p false after_slash) (held ++ s ∷ [])) (sym place_is) ∙ ap (λ n. field_state outer done openers (body host place n after_slash) (held ++ s ∷ [])) (sym unnamed)))
 
 pub up_to_runs : (from : FieldScanned) (host : Host) (spot : Spot) (front : List ℕ) → IsOpenUpTo host spot front → StopsAt from.mode from.held front → UpToRun from host spot front
 up_to_runs from host spot front is stops = go is.escapes
@@ -180,7 +150,7 @@ up_to_runs from host spot front is stops = go is.escapes
     run : StringRun from host spot is.body is.last
     run = string_runs from host spot is.body is.last is.string (subst (StopsAt from.mode from.held) is.spell stops)
 
-    at : (mode : FieldMode) (text : List ℕ) → text ≡ front → Goes NoLimit from text (field_state run.outer run.done run.openers mode text) → IsHostMode host spot.place mode → UpToRun from host spot front
+    at : (mode : FieldMode) (text : List ℕ) → text ≡ front → Goes NoLimit from text (field_state run.outer run.done run.openers mode text) → IsInString host spot.place spot.named mode [] → UpToRun from host spot front
     at mode text same goes mode_is =
         subst (UpToRun from host spot) same (record {
           outer = run.outer;
@@ -188,6 +158,7 @@ up_to_runs from host spot front is stops = go is.escapes
           openers = run.openers;
           mode = mode;
           goes = goes;
+          named = spot.named;
           mode_is = mode_is;
           start_is = run.start_is;
           field_is = run.field_is;
@@ -196,9 +167,12 @@ up_to_runs from host spot front is stops = go is.escapes
     go : IsUnescaped is.last → UpToRun from host spot front
     go (inl none) =
         at run.mode is.body (sym (append-nil is.body) ∙ ap (λ t. is.body ++ t) (sym none) ∙ sym is.spell) run.goes
-        (string_mode host spot.place spot.named run.mode (subst (IsInString host spot.place spot.named run.mode) none run.stands))
+        (subst (IsInString host spot.place spot.named run.mode) none run.stands)
     go (inr (s, one, slashes)) =
-        let stands = subst (IsInString host spot.place spot.named run.mode) one run.stands in
-        let slashed = slash_run run.outer run.done run.openers host spot.place spot.named run.mode is.body s stands (open_quotes host spot is.body is.last is.string) slashes in
+        let quotes = open_quotes host spot is.body is.last is.string in
+        let other = not_quote s host.quote quotes (slash-not-quote s slashes) in
+        let move = string_moves host spot.place spot.named run.mode is.body s [] (subst (IsInString host spot.place spot.named run.mode) one run.stands) other in
+        let before_slash : FieldScanned = field_state run.outer run.done run.openers run.mode is.body in
         at (body host spot.place spot.named after_slash) (is.body ++ s ∷ []) (ap (λ t. is.body ++ t) (sym one) ∙ sym is.spell)
-        (goes-append NoLimit from (field_state run.outer run.done run.openers run.mode is.body) _ is.body (s ∷ []) run.goes slashed) (inl (spot.named, after_slash, refl, refl))
+        (goes-append NoLimit from before_slash _ is.body (s ∷ []) run.goes
+        (goes-grows NoLimit before_slash _ (body host spot.place spot.named after_slash) s [] (move.1 ∙ slash_grows host spot.place spot.named move.0 s quotes slashes) refl)) (in_part after_slash refl refl)

@@ -20,8 +20,8 @@ use Rattle.py_lines.proofs.Machine.PieceSteps.{StopsBefore, EndsWith, ends_befor
 use Rattle.py_lines.proofs.Machine.Spellings.{prefix_spelling}
 use Rattle.py_lines.proofs.Machine.StringSteps.{opens_at}
 use Rattle.py_lines.proofs.Fields.Elsewhere.{precede_without}
-use Rattle.py_lines.proofs.FieldMachine.Runs.{Goes, StopsAt, goes-append, goes-to, goes-grows, goes-closes, goes-begins, stops-fresh}
-use Rattle.py_lines.proofs.FieldMachine.PlainSteps.{no_host, plain_moves, grown-goes, grown-quiet, front_quiet}
+use Rattle.py_lines.proofs.FieldMachine.Runs.{Goes, StopsAt, goes-append, goes-grown, goes-to, goes-grows, goes-closes, goes-begins, stops-fresh}
+use Rattle.py_lines.proofs.FieldMachine.PlainSteps.{no_host, plain_moves, grown-alike, grown-quiet, front_quiet}
 use Rattle.py_lines.proofs.FieldMachine.ListBrackets.{none_some}
 
 -- the machine goes from a state through a text, finds these pieces after those it had, with these brackets open after them, and
@@ -105,7 +105,7 @@ module _ (Room : ℕ → Type 0) where
     mode = plain n;
     held = text;
     goes = subst (λ t. Goes Room from t (open_at from n t)) (sym is)
-        (goes-append Room from (open_at from m first) _ first others goes (grown-goes Room from.outer (field_pieces from) from.openers m n first others quiet grown));
+        (goes-append Room from (open_at from m first) _ first others goes (goes-grown Room from.outer (field_pieces from) from.openers (plain m) (plain n) first others (grown-alike m n others quiet grown)));
     pieces_are = shape.1 (field_pieces from) text ∙ ap (λ k. field_pieces from ++ piece k text ∷ []) shape.0;
     stops = stops_after n class text rest shape.0 none stops;
   }
@@ -114,7 +114,7 @@ module _ (Room : ℕ → Type 0) where
       let whole : first ++ others ≡ (first ++ front) ++ c ∷ [] = ap (λ t. first ++ t) cut ∙ sym (append_assoc first front (c ∷ [])) in
       let silent = grown-quiet m n front (c ∷ []) (subst (IsQuiet m) cut quiet) grown in
       let run = goes-append Room from (open_at from m first) last first front goes
-      (grown-goes Room from.outer (field_pieces from) from.openers m n first front (front_quiet m front (c ∷ []) (subst (IsQuiet m) cut quiet)) grown) in
+      (goes-grown Room from.outer (field_pieces from) from.openers (plain m) (plain n) first front (grown-alike m n front (front_quiet m front (c ∷ []) (subst (IsQuiet m) cut quiet)) grown)) in
       record {
         done = field_pieces from ++ piece class text ∷ [];
         mode = plain modes.Free;
@@ -148,7 +148,7 @@ module _ (Room : ℕ → Type 0) where
   pub word_goes : (from : FieldScanned) (a : ℕ) (bs after : List ℕ) → is_word_start a ≡ true → list_all is_word_character bs ≡ true → StopsAt from.mode from.held (a ∷ bs ++ after) → Goes Room from (a ∷ bs) (open_at from (modes.Word (spelling_on (first_spelling a) bs)) (a ∷ bs))
   word_goes from a bs after starts_so run stops =
       goes-append Room from (open_at from (modes.Word (first_spelling a)) (a ∷ [])) _ (a ∷ []) bs (goes-opens from a (bs ++ after) _ stops (start-word a starts_so))
-      (grown-goes Room from.outer (field_pieces from) from.openers (modes.Word (first_spelling a)) _ (a ∷ []) bs (inr (no_quotes bs run)) (grown-word (first_spelling a) bs run))
+      (goes-grown Room from.outer (field_pieces from) from.openers (plain (modes.Word (first_spelling a))) (plain _) (a ∷ []) bs (grown-alike (modes.Word (first_spelling a)) _ bs (inr (no_quotes bs run)) (grown-word (first_spelling a) bs run)))
 
   -- a prefix without `f` and `t`, and the quote after it
   pub plain_opens : (from : FieldScanned) (prefix : List ℕ) (q : ℕ) (after : List ℕ) → IsPrefix prefix → is_field_prefix prefix ≡ false → is_quote q ≡ true → StopsAt from.mode from.held (prefix ++ q ∷ after) → Goes Room from (prefix ++ q ∷ []) (open_at from (modes.Opened q) (prefix ++ q ∷ []))

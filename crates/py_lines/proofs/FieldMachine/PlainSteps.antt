@@ -1,5 +1,5 @@
 -- The machine with fields goes through the text of a piece without fields as the other machine does.
-use Rattle.std.proofs.Common.{◌≡◌, ℕ, Bool, true, false, ◌&&◌, List, [], ◌∷◌, ◌++◌, ◌==◌, refl, sym, ap, ◌∙◌, subst, inl, inr, append_assoc, append-nil}
+use Rattle.std.proofs.Common.{◌≡◌, ℕ, Bool, true, false, ◌&&◌, List, [], ◌∷◌, ◌++◌, ◌==◌, refl, sym, ap, ◌∙◌, subst, inl, inr}
 use Rattle.std.specs.List.{list_any}
 use Rattle.std.proofs.lemmas.List.Folds.{list_any-append}
 use Rattle.std.proofs.lemmas.Bool.{or_parts, both_ways, cond_both}
@@ -9,12 +9,12 @@ use Rattle.py_lines.specs.declared.mode.Mode.{Mode}
 use Rattle.py_lines.specs.declared.mode.Mode.TheVariants as modes
 use Rattle.py_lines.specs.declared.mode.Move.{Move}
 use Rattle.py_lines.specs.declared.mode.Move.TheVariants as moves
-use Rattle.py_lines.specs.Piece.{Class, space, string, comment, join, line_end, Piece}
+use Rattle.py_lines.specs.Piece.{Class, space, string, comment, join, line_end}
 use Rattle.py_lines.specs.Private.Machine.{class_of, move_of, short_move, long_move, is_prefix_spelling}
-use Rattle.py_lines.specs.Private.FieldMachine.{plain, Level, field_state, plain_move, begins_host, field_move}
+use Rattle.py_lines.specs.Private.FieldMachine.{plain, plain_move, begins_host, field_move}
 use Rattle.py_lines.proofs.Machine.PieceSteps.{Grown, is_word_mode, IsQuiet}
 use Rattle.py_lines.proofs.Fields.Elsewhere.{none_false}
-use Rattle.py_lines.proofs.FieldMachine.Runs.{Goes, goes-to, goes-grows}
+use Rattle.py_lines.proofs.FieldMachine.Runs.{GrowsTo}
 
 -- whether a string with fields is open
 abbrev pub is_fielded_mode : Mode → Bool
@@ -92,12 +92,10 @@ still_quiet m n c cs is (inl other) = inl (subst (NoWord (class_of m)) is (no_wo
 still_quiet m n c cs is (inr none) = inr (or_parts (is_quote c) (list_any is_quote cs) none).1
 
 -- while the open piece grows, both machines go through a text alike
-pub grown-goes : (Room : ℕ → Type 0) (outer : List Level) (done : List Piece) (openers : List ℕ) (m n : Mode) (held text : List ℕ) → IsQuiet m text → Grown m text n → Goes Room (field_state outer done openers (plain m) held) text (field_state outer done openers (plain n) (held ++ text))
-grown-goes Room outer done openers m n held [] quiet grown = ap (λ o. field_state outer done openers (plain o) held) grown ∙ ap (field_state outer done openers (plain n)) (sym (append-nil held))
-grown-goes Room outer done openers m n held (c ∷ cs) quiet (next, grows, others) =
-    goes-grows Room _ _ (plain next) c cs (plain_moves m held c (no_host m held c cs quiet) ∙ ap plain_move grows)
-    (goes-to Room _ _ _ cs (grown-goes Room outer done openers next n (held ++ c ∷ []) cs (still_quiet m next c cs grows quiet) others)
-    (ap (field_state outer done openers (plain n)) (append_assoc held (c ∷ []) cs)))
+pub grown-alike : (m n : Mode) (text : List ℕ) → IsQuiet m text → Grown m text n → GrowsTo (plain m) text (plain n)
+grown-alike m n [] quiet grown = ap plain grown
+grown-alike m n (c ∷ cs) quiet (next, grows, others) =
+    (plain next, λ held. plain_moves m held c (no_host m held c cs quiet) ∙ ap plain_move grows, grown-alike next n cs (still_quiet m next c cs grows quiet) others)
 
 pub grown-quiet : (m n : Mode) (text rest : List ℕ) → IsQuiet m (text ++ rest) → Grown m text n → IsQuiet n rest
 grown-quiet m n [] rest quiet grown = subst (λ o. IsQuiet o rest) grown quiet

@@ -1,11 +1,12 @@
 -- The machine with fields goes through a text: from one state to another, with room for what each character opens.
-use Rattle.std.proofs.Common.{◌≡◌, ℕ, ◌+◌, ◌<◌, Bool, true, false, not, ◌||◌, Some, List, [], ◌∷◌, ◌++◌, nat_lt, refl, sym, ap, ◌∙◌, subst}
+use Rattle.std.proofs.Common.{◌≡◌, ℕ, ◌+◌, ◌<◌, Bool, true, false, not, ◌||◌, Some, List, [], ◌∷◌, ◌++◌, nat_lt, refl, sym, ap, ◌∙◌, subst, append_assoc, append-nil}
 use Rattle.std.specs.Prelude.{if◌then◌else◌}
 use Rattle.std.proofs.lemmas.Bool.{and_from, lt-ltb}
+use Rattle.py_lines.specs.Piece.{Piece}
 use Rattle.py_lines.specs.Balance.{is_opening}
 use Rattle.py_lines.specs.declared.mode.Mode.TheVariants as modes
 use Rattle.py_lines.specs.Private.Machine.{move_of, start_of}
-use Rattle.py_lines.specs.Private.FieldMachine.{FieldMode, plain, FieldMove, grows, closes, breaks, begins_code, opens_field, FieldScanned, field_state, field_fresh, field_class_of, field_pieces, field_move, field_moved, field_started, field_step, field_steps_from, frames, has_room_at, has_room, have_room, may_end}
+use Rattle.py_lines.specs.Private.FieldMachine.{FieldMode, plain, FieldMove, grows, closes, breaks, begins_code, opens_field, Level, FieldScanned, field_state, field_fresh, field_class_of, field_pieces, field_move, field_moved, field_started, field_step, field_steps_from, frames, has_room_at, has_room, have_room, may_end}
 use Rattle.py_lines.proofs.Pieces.PieceLists.{piece}
 
 -- a bracket or field may open at a depth that is no limit
@@ -77,6 +78,16 @@ goes-grows Room s t m c cs move others = (
   subst (HasRoomFor Room (frames s) c) (sym move) tt,
   others,
 )
+
+-- the open piece grows by each character of a text, whatever its text before
+abbrev pub GrowsTo : FieldMode → List ℕ → FieldMode → Type 0
+GrowsTo m [] n = m ≡ n
+GrowsTo m (c ∷ cs) n = (next : FieldMode) × ((held : List ℕ) → field_move m held c ≡ grows next) × GrowsTo next cs n
+
+pub goes-grown : (Room : ℕ → Type 0) (outer : List Level) (done : List Piece) (openers : List ℕ) (m n : FieldMode) (held text : List ℕ) → GrowsTo m text n → Goes Room (field_state outer done openers m held) text (field_state outer done openers n (held ++ text))
+goes-grown Room outer done openers m n held [] grown = ap (λ o. field_state outer done openers o held) grown ∙ ap (field_state outer done openers n) (sym (append-nil held))
+goes-grown Room outer done openers m n held (c ∷ cs) (next, moves, others) =
+    goes-grows Room _ _ next c cs (moves held) (goes-to Room _ _ _ cs (goes-grown Room outer done openers next n (held ++ c ∷ []) cs others) (ap (field_state outer done openers n) (append_assoc held (c ∷ []) cs)))
 
 -- the last character of the open piece
 pub goes-closes : (Room : ℕ → Type 0) (s : FieldScanned) (c : ℕ) → field_move s.mode s.held c ≡ closes → Goes Room s (c ∷ []) (field_fresh s.outer (s.done ++ piece (field_class_of s.mode) (s.held ++ c ∷ []) ∷ []) s.openers)

@@ -1,7 +1,8 @@
 -- The machine with fields goes through the parts of a string, where it goes through the fields among them.
-use Rattle.std.proofs.Common.{◌≡◌, ℕ, Bool, true, false, not, ◌&&◌, ◌||◌, ◌==◌, eqb, List, [], ◌∷◌, ◌++◌, refl, sym, ap, ◌∙◌, subst, ⊎_elim, append_assoc, append-nil}
+use Rattle.std.proofs.Common.{◌≡◌, ℕ, Bool, true, false, not, ◌&&◌, ◌||◌, ◌==◌, eqb, List, [], ◌∷◌, ◌++◌, refl, sym, ap, ◌∙◌, subst, append_assoc, append-nil}
 use Rattle.std.specs.Prelude.{if◌then◌else◌}
-use Rattle.std.proofs.lemmas.Bool.{or_parts, both_ways, eq-eqb, eqb-true, cases_Bool, or_left, or_right, and_right, and_from}
+use Rattle.std.proofs.Math.Bool.{and-true}
+use Rattle.std.proofs.lemmas.Bool.{or_parts, both_ways, eq-eqb, eqb-true, or_left, or_right, and_right, and_from}
 use Rattle.py_lines.specs.Character.{is_one_of, is_quote, is_line_feed, is_return, is_break, is_backslash, is_barred, is_brace}
 use Rattle.py_lines.specs.Piece.{Piece, begins}
 use Rattle.py_lines.specs.PieceGrammar.{joined, begins_triple, has_triple}
@@ -10,15 +11,12 @@ use Rattle.py_lines.specs.Private.FieldMachine.{At, between, after_one, after_tw
 use Rattle.py_lines.proofs.Text.CharacterTests.{none_of, not_quote, slash-not-quote, return-not-brace}
 use Rattle.py_lines.proofs.Fields.Elsewhere.{none_false}
 use Rattle.py_lines.proofs.Fields.Parts.{BeginOpen, ordinary, names_is, name-not-brace, name-not-return}
-use Rattle.py_lines.proofs.FieldMachine.Runs.{Goes, goes-append, goes-to, goes-grows}
+use Rattle.py_lines.proofs.Machine.StringSteps.{tail_triple}
+use Rattle.py_lines.proofs.FieldMachine.Runs.{Goes, GrowsTo, goes-append, goes-to, goes-grown}
 
 pub kept_or : (a b : Bool) → b ≡ false → a || b ≡ a
 kept_or true b h = refl
 kept_or false b h = h
-
-and_true : (x : Bool) → x && true ≡ x
-and_true true = refl
-and_true false = refl
 
 -- what counts of a place for the next quote of the string: how many stand directly before
 abbrev pub settled : At → At
@@ -95,16 +93,13 @@ itself_grows host place named at c other no_slash no_break itself = rw (other, n
   where
     go : (b : Bool) → b ≡ (c == 125) → (if b then ending_move host place named else grows (body host place named between)) ≡ grows (body host place (named && not b) between)
     go true is = brace_stays host place named c (sym is) itself
-    go false is = ap (λ n. grows (body host place n between)) (sym (and_true named))
+    go false is = ap (λ n. grows (body host place n between)) (sym (and-true named))
 
 -- what stays open after one part more
-triple_later : (q : ℕ) (part : List ℕ) (tail : List (List ℕ)) → has_triple q (part ∷ tail) ≡ false → has_triple q tail ≡ false
-triple_later q part tail h = (or_parts (begins_triple q (part ∷ tail)) (has_triple q tail) h).1
-
 seen_later : (q : ℕ) (at : At) (part : List ℕ) (tail : List (List ℕ)) → has_triple q (quotes_seen q at ++ part ∷ tail) ≡ false → has_triple q tail ≡ false
-seen_later q after_one part tail h = triple_later q part tail (triple_later q (q ∷ []) (part ∷ tail) h)
-seen_later q after_two part tail h = triple_later q part tail (triple_later q (q ∷ []) (part ∷ tail) (triple_later q (q ∷ []) ((q ∷ []) ∷ part ∷ tail) h))
-seen_later q at part tail h = triple_later q part tail h
+seen_later q after_one part tail h = tail_triple q part tail (tail_triple q (q ∷ []) (part ∷ tail) h)
+seen_later q after_two part tail h = tail_triple q part tail (tail_triple q (q ∷ []) (part ∷ tail) (tail_triple q (q ∷ []) ((q ∷ []) ∷ part ∷ tail) h))
+seen_later q at part tail h = tail_triple q part tail h
 
 pub three_quotes : (q : ℕ) (tail : List (List ℕ)) → begins_triple q ((q ∷ []) ∷ (q ∷ []) ∷ (q ∷ []) ∷ tail) ≡ true
 three_quotes q tail = rw (eq-eqb q q refl)
@@ -138,25 +133,12 @@ quote_in_long host stands = go host.is_long (subst (λ b. host.is_long || not (b
     go false h = h
 
 -- after a backslash
-return_escaped : (host : Host) (place : Place) (named : Bool) (held : List ℕ) (c : ℕ) → is_brace c ≡ false → may_be_escaped host place c ≡ true → is_return c ≡ true → field_move (body host place named after_slash) held c ≡ grows (body host place named after_return)
+escaped : (host : Host) (place : Place) (named : Bool) (held : List ℕ) (c : ℕ) → is_brace c ≡ false → may_be_escaped host place c ≡ true → field_move (body host place named after_slash) held c ≡ (if is_return c then grows (body host place named after_return) else (if names host c then grows (body host place named after_name) else grows (body host place named between)))
 unfolding field_move body_move escape_move
-return_escaped host place named held c no_brace may returns = rw (no_brace, may_escape host place c may, returns)
-
-name_escaped : (host : Host) (place : Place) (named : Bool) (held : List ℕ) (c : ℕ) → is_brace c ≡ false → may_be_escaped host place c ≡ true → is_return c ≡ false → names host c ≡ true → field_move (body host place named after_slash) held c ≡ grows (body host place named after_name)
-unfolding field_move body_move escape_move
-name_escaped host place named held c no_brace may other is_name = rw (no_brace, may_escape host place c may, other, is_name)
+escaped host place named held c no_brace may = rw (no_brace, may_escape host place c may)
 
 pub other_escaped : (host : Host) (place : Place) (named : Bool) (held : List ℕ) (c : ℕ) → is_brace c ≡ false → may_be_escaped host place c ≡ true → is_return c ≡ false → names host c ≡ false → field_move (body host place named after_slash) held c ≡ grows (body host place named between)
-unfolding field_move body_move escape_move
-other_escaped host place named held c no_brace may other no_name = rw (no_brace, may_escape host place c may, other, no_name)
-
-feed_after_return : (host : Host) (place : Place) (named : Bool) (held : List ℕ) (c : ℕ) → is_line_feed c ≡ true → field_move (body host place named after_return) held c ≡ grows (body host place named between)
-unfolding field_move body_move
-feed_after_return host place named held c feeds = rw feeds
-
-brace_after_name : (host : Host) (place : Place) (named : Bool) (held : List ℕ) → field_move (body host place named after_name) held 123 ≡ grows (body host place true between)
-unfolding field_move body_move
-brace_after_name host place named held = refl
+other_escaped host place named held c no_brace may other no_name = escaped host place named held c no_brace may ∙ rw (other, no_name)
 
 pub second_brace : (host : Host) (place : Place) (named : Bool) (held : List ℕ) → field_move (body host place named after_brace) held 123 ≡ grows (body host place named between)
 unfolding field_move body_move
@@ -183,11 +165,11 @@ quote_no_end q quotes = none_of (λ d. eqb d 125) (39 ∷ 34 ∷ []) q refl quot
 
 -- a quote ends no name
 quote_unnamed : (named : Bool) (q : ℕ) → is_quote q ≡ true → named_after named (q ∷ []) ≡ named
-quote_unnamed named q quotes = ap (λ b. named && not b) (quote_no_end q quotes) ∙ and_true named
+quote_unnamed named q quotes = ap (λ b. named && not b) (quote_no_end q quotes) ∙ and-true named
 
 slash_unnamed : (named : Bool) (s : ℕ) → is_backslash s ≡ true → named_after named (s ∷ []) ≡ named
 unfolding is_backslash
-slash_unnamed named s slashes = ap (λ b. named && not b) (none_of (λ d. eqb d 125) (92 ∷ []) s refl slashes) ∙ and_true named
+slash_unnamed named s slashes = ap (λ b. named && not b) (none_of (λ d. eqb d 125) (92 ∷ []) s refl slashes) ∙ and-true named
 
 return_unnamed : (named : Bool) (s r f : ℕ) → is_return r ≡ true → named_after named (s ∷ r ∷ f ∷ []) ≡ named
 unfolding is_return
@@ -204,6 +186,109 @@ field_unnamed [] = refl
 field_unnamed (c ∷ []) = refl
 field_unnamed (c ∷ d ∷ []) = refl
 field_unnamed (c ∷ d ∷ e ∷ cs) = refl
+
+-- a part by each character of which the string's text grows, and other parts or the string's end may follow
+record PartGrows (host : Host) (place : Place) (named after : Bool) (at : At) (part rest : List ℕ) (tail : List (List ℕ)) : Type 0 where
+  to : At
+  grown : GrowsTo (body host place named at) part (body host place after to)
+  on : MayGoOn host place after to rest
+  open_yet : has_triple host.quote (quotes_seen host.quote to ++ tail) ≡ false
+
+-- the part before the rest, as far as it is known
+abbrev Passes : Host → Place → Bool → At → List ℕ → List (List ℕ) → List ℕ → Type 0
+Passes host place named at rest tail part =
+    MayGoOn host place named at (part ++ rest) → has_triple host.quote (quotes_seen host.quote at ++ part ∷ tail) ≡ false
+    → PartGrows host place named (named_after named part) at part rest tail
+
+module _ (host : Host) (place : Place) (named : Bool) (at : At) (rest : List ℕ) (tail : List (List ℕ)) (quotes : is_quote host.quote ≡ true) where
+  -- one character
+  one_grows : (after : Bool) (to : At) (c : ℕ) → MayGoOn host place named at (c ∷ rest) → between_move host place named (settled at) c ≡ grows (body host place after to) → MayGoOn host place after to rest → has_triple host.quote (quotes_seen host.quote to ++ tail) ≡ false → PartGrows host place named after at (c ∷ []) rest tail
+  one_grows after to c here moves on open_yet = record { to = to; grown = (body host place after to, λ held. body_moves host place named at held c rest here ∙ moves, refl); on = on; open_yet = open_yet }
+
+  -- one that stands for itself
+  bare_grows : (c : ℕ) → is_backslash c ≡ false → may_stand host c ≡ true → is_ordinary place named c ≡ true → Passes host place named at rest tail (c ∷ [])
+  bare_grows c no_slash stands itself = go (eqb c host.quote) refl
+    where
+      own_quote : may_stand host host.quote ≡ true → Passes host place named at rest tail (host.quote ∷ [])
+      own_quote may here open_yet =
+          let seen = quote_seen host.quote at tail open_yet in
+          subst (λ n. PartGrows host place named n at (host.quote ∷ []) rest tail) (sym (quote_unnamed named host.quote quotes))
+          (one_grows named (with_quote (settled at)) host.quote here (quote_grows host place named (settled at) (quote_in_long host may) seen.0) (goes_on-quotes host place named (settled at) rest) seen.1)
+
+      go : (b : Bool) → eqb c host.quote ≡ b → Passes host place named at rest tail (c ∷ [])
+      go true same = subst (λ x. may_stand host x ≡ true → Passes host place named at rest tail (x ∷ [])) (sym (eqb-true c host.quote same)) own_quote stands
+      go false other = λ here open_yet.
+          one_grows _ between c here (itself_grows host place named (settled at) c other no_slash (no_break_in_short host c other stands) itself)
+          (goes_on host place _ rest) (seen_later host.quote at (c ∷ []) tail open_yet)
+
+  -- a backslash, and what the string's text grows by after it
+  slash_then : (text : List ℕ) (s : ℕ) (to : FieldMode) → is_backslash s ≡ true → MayGoOn host place named at (s ∷ text ++ rest) → GrowsTo (body host place named after_slash) text to → GrowsTo (body host place named at) (s ∷ text) to
+  slash_then text s to slashes here grown =
+      (body host place named after_slash, λ held. body_moves host place named at held s (text ++ rest) here ∙ slash_grows host place named (settled at) s quotes slashes, grown)
+
+  slash_grows_part : (s : ℕ) → is_backslash s ≡ true → begins is_brace rest ≡ true → Passes host place named at rest tail (s ∷ [])
+  slash_grows_part s slashes braces here open_yet = record {
+    to = after_slash;
+    grown = slash_then [] s _ slashes here (ap (λ n. body host place n after_slash) (sym (slash_unnamed named s slashes)));
+    on = goes_on-slash host place _ rest braces;
+    open_yet = seen_later host.quote at (s ∷ []) tail open_yet;
+  }
+
+  -- a backslash and a character that is no brace
+  escape_grows : (s c : ℕ) → is_backslash s ≡ true → is_brace c ≡ false → may_be_escaped host place c ≡ true → names host c && begins_open rest ≡ false → is_return c && begins is_line_feed rest ≡ false → Passes host place named at rest tail (s ∷ c ∷ [])
+  escape_grows s c slashes brace may none ended here open_yet = go (is_return c) (names host c) refl refl
+    where
+      yet : has_triple host.quote tail ≡ false
+      yet = seen_later host.quote at (s ∷ c ∷ []) tail open_yet
+
+      by : (to : At) → ((held : List ℕ) → field_move (body host place named after_slash) held c ≡ grows (body host place named to)) → MayGoOn host place named to rest → has_triple host.quote (quotes_seen host.quote to ++ tail) ≡ false → PartGrows host place named named at (s ∷ c ∷ []) rest tail
+      by to moves on seen = record { to = to; grown = slash_then (c ∷ []) s _ slashes here (body host place named to, moves, refl); on = on; open_yet = seen }
+
+      go : (r n : Bool) → is_return c ≡ r → names host c ≡ n → PartGrows host place named named at (s ∷ c ∷ []) rest tail
+      go true n returns is_name = by after_return (λ held. escaped host place named held c brace may ∙ rw returns) (goes_on-return host place named rest (subst (λ b. b && begins is_line_feed rest ≡ false) returns ended)) yet
+      go false true other is_name = by after_name (λ held. escaped host place named held c brace may ∙ rw (other, is_name)) (goes_on-name host place named rest (subst (λ b. b && begins_open rest ≡ false) is_name none)) yet
+      go false false other no_name = by between (λ held. other_escaped host place named held c brace may other no_name) (goes_on host place named rest) yet
+
+  -- a backslash, CR and LF
+  end_grows : (s r f : ℕ) → is_backslash s ≡ true → is_return r ≡ true → is_line_feed f ≡ true → may_be_escaped host place r ≡ true → Passes host place named at rest tail (s ∷ r ∷ f ∷ [])
+  unfolding field_move body_move
+  end_grows s r f slashes returns feeds may here open_yet = record {
+    to = between;
+    grown = slash_then (r ∷ f ∷ []) s _ slashes here (
+      body host place named after_return,
+      λ held. escaped host place named held r (return-not-brace r returns) may ∙ rw returns,
+      (body host place named between, λ held. rw feeds, ap (λ n. body host place n between) (sym (return_unnamed named s r f returns))),
+    );
+    on = goes_on host place _ rest;
+    open_yet = seen_later host.quote at (s ∷ r ∷ f ∷ []) tail open_yet;
+  }
+
+  -- `\N{`
+  name_grows : (s c : ℕ) → is_backslash s ≡ true → names host c ≡ true → Passes host place named at rest tail (s ∷ c ∷ 123 ∷ [])
+  unfolding field_move body_move
+  name_grows s c slashes is_name here open_yet = record {
+    to = between;
+    grown = slash_then (c ∷ 123 ∷ []) s _ slashes here (
+      body host place named after_name,
+      λ held. escaped host place named held c (name-not-brace host c is_name) (name_may host place c is_name) ∙ rw (name-not-return host c is_name, is_name),
+      (body host place true between, λ held. refl, ap (λ n. body host place n between) (sym (name_named host named s c 123 slashes is_name))),
+    );
+    on = goes_on host place _ rest;
+    open_yet = seen_later host.quote at (s ∷ c ∷ 123 ∷ []) tail open_yet;
+  }
+
+-- `{{`
+double_grows : (host : Host) (at : At) (rest : List ℕ) (tail : List (List ℕ)) → is_quote host.quote ≡ true → Passes host literal false at rest tail (123 ∷ 123 ∷ [])
+double_grows host at rest tail quotes here open_yet = record {
+  to = between;
+  grown = (
+    body host literal false after_brace,
+    λ held. body_moves host literal false at held 123 (123 ∷ rest) here ∙ open_moves host literal (settled at) quotes,
+    (body host literal false between, λ held. second_brace host literal false held, refl),
+  );
+  on = goes_on host literal false rest;
+  open_yet = seen_later host.quote at (123 ∷ 123 ∷ []) tail open_yet;
+}
 
 module _ (Room : ℕ → Type 0) (outer : List Level) (done : List Piece) (openers : List ℕ) where
   -- the string is open in this list
@@ -224,113 +309,8 @@ module _ (Room : ℕ → Type 0) (outer : List Level) (done : List Piece) (opene
     pub on : MayGoOn host place after to rest
     pub open_yet : has_triple host.quote (quotes_seen host.quote to ++ tail) ≡ false
 
-  -- one character
-  one_goes : (host : Host) (place : Place) (named after : Bool) (at to : At) (held : List ℕ) (c : ℕ) (rest : List ℕ) (tail : List (List ℕ)) → MayGoOn host place named at (c ∷ rest) → between_move host place named (settled at) c ≡ grows (body host place after to) → MayGoOn host place after to rest → has_triple host.quote (quotes_seen host.quote to ++ tail) ≡ false → PartGoes host place named after at held (c ∷ []) rest tail
-  one_goes host place named after at to held c rest tail here moves on open_yet = record {
-    to = to;
-    goes = goes-grows Room _ _ (body host place after to) c [] (body_moves host place named at held c rest here ∙ moves) refl;
-    on = on;
-    open_yet = open_yet;
-  }
-
-  -- and after it one more
-  two_held : (held : List ℕ) (mode : FieldMode) (c d : ℕ) → within mode ((held ++ c ∷ []) ++ d ∷ []) ≡ within mode (held ++ c ∷ d ∷ [])
-  two_held held mode c d = ap (within mode) (append_assoc held (c ∷ []) (d ∷ []))
-
-  -- a backslash and a character
-  escape_goes : (host : Host) (place : Place) (named : Bool) (at to : At) (held : List ℕ) (s c : ℕ) (rest : List ℕ) → is_quote host.quote ≡ true → is_backslash s ≡ true → MayGoOn host place named at (s ∷ c ∷ rest) → field_move (body host place named after_slash) (held ++ s ∷ []) c ≡ grows (body host place named to) → Goes Room (within (body host place named at) held) (s ∷ c ∷ []) (within (body host place named to) (held ++ s ∷ c ∷ []))
-  escape_goes host place named at to held s c rest quotes slashes here moves =
-      goes-grows Room _ _ (body host place named after_slash) s (c ∷ []) (body_moves host place named at held s (c ∷ rest) here ∙ slash_grows host place named (settled at) s quotes slashes)
-      (goes-grows Room _ _ (body host place named to) c [] moves (two_held held (body host place named to) s c))
-
-  -- the part is a character that stands for itself
-  bare_goes : (host : Host) (place : Place) (named : Bool) (at : At) (held : List ℕ) (c : ℕ) (rest : List ℕ) (tail : List (List ℕ)) → is_quote host.quote ≡ true → MayGoOn host place named at (c ∷ rest) → has_triple host.quote (quotes_seen host.quote at ++ (c ∷ []) ∷ tail) ≡ false → is_backslash c ≡ false → may_stand host c ≡ true → is_ordinary place named c ≡ true → PartGoes host place named (named_after named (c ∷ [])) at held (c ∷ []) rest tail
-  bare_goes host place named at held c rest tail quotes here open_yet no_slash stands itself =
-      ⊎_elim
-      (λ (same : eqb c host.quote ≡ true).
-      let P : ℕ → Type 0 = λ x. MayGoOn host place named at (x ∷ rest) → has_triple host.quote (quotes_seen host.quote at ++ (x ∷ []) ∷ tail) ≡ false → may_stand host x ≡ true → PartGoes host place named (named_after named (x ∷ [])) at held (x ∷ []) rest tail in
-      subst P (sym (eqb-true c host.quote same)) quote_goes here open_yet stands)
-      (λ (other : eqb c host.quote ≡ false).
-      one_goes host place named _ at between held c rest tail here
-      (itself_grows host place named (settled at) c other no_slash (no_break_in_short host c other stands) itself)
-      (goes_on host place _ rest) (seen_later host.quote at (c ∷ []) tail open_yet))
-      (cases_Bool (eqb c host.quote))
-    where
-      quote_goes : MayGoOn host place named at (host.quote ∷ rest) → has_triple host.quote (quotes_seen host.quote at ++ (host.quote ∷ []) ∷ tail) ≡ false → may_stand host host.quote ≡ true → PartGoes host place named (named_after named (host.quote ∷ [])) at held (host.quote ∷ []) rest tail
-      quote_goes at_quote yet may =
-          let seen = quote_seen host.quote at tail yet in
-          let same : named ≡ named_after named (host.quote ∷ []) = sym (quote_unnamed named host.quote quotes) in
-          subst (λ n. PartGoes host place named n at held (host.quote ∷ []) rest tail) same
-          (one_goes host place named named at (with_quote (settled at)) held host.quote rest tail at_quote
-          (quote_grows host place named (settled at) (quote_in_long host may) seen.0) (goes_on-quotes host place named (settled at) rest) seen.1)
-
-  -- the part before the rest, as far as it is known
-  abbrev Passes : Host → Place → Bool → At → List ℕ → List ℕ → List (List ℕ) → List ℕ → Type 0
-  Passes host place named at held rest tail part =
-      MayGoOn host place named at (part ++ rest) → has_triple host.quote (quotes_seen host.quote at ++ part ∷ tail) ≡ false
-      → PartGoes host place named (named_after named part) at held part rest tail
-
-  -- a backslash and a character that is no brace
-  escaped_goes : (host : Host) (place : Place) (named : Bool) (at : At) (held : List ℕ) (s c : ℕ) (rest : List ℕ) (tail : List (List ℕ)) → is_quote host.quote ≡ true → is_backslash s ≡ true → is_brace c ≡ false → may_be_escaped host place c ≡ true → names host c && begins_open rest ≡ false → is_return c && begins is_line_feed rest ≡ false → Passes host place named at held rest tail (s ∷ c ∷ [])
-  escaped_goes host place named at held s c rest tail quotes slashes brace may none ended here open_yet =
-      ⊎_elim
-      (λ (returns : is_return c ≡ true).
-      goes after_return (return_escaped host place named _ c brace may returns)
-      (goes_on-return host place named rest (subst (λ b. b && begins is_line_feed rest ≡ false) returns ended)) yet)
-      (λ (other : is_return c ≡ false).
-      ⊎_elim
-      (λ (is_name : names host c ≡ true).
-      goes after_name (name_escaped host place named _ c brace may other is_name)
-      (goes_on-name host place named rest (subst (λ b. b && begins_open rest ≡ false) is_name none)) yet)
-      (λ (no_name : names host c ≡ false). goes between (other_escaped host place named _ c brace may other no_name) (goes_on host place named rest) yet)
-      (cases_Bool (names host c)))
-      (cases_Bool (is_return c))
-    where
-      yet : has_triple host.quote tail ≡ false
-      yet = seen_later host.quote at (s ∷ c ∷ []) tail open_yet
-
-      goes : (to : At) → field_move (body host place named after_slash) (held ++ s ∷ []) c ≡ grows (body host place named to) → MayGoOn host place named to rest → has_triple host.quote (quotes_seen host.quote to ++ tail) ≡ false → PartGoes host place named named at held (s ∷ c ∷ []) rest tail
-      goes to moves on seen = record { to = to; goes = escape_goes host place named at to held s c rest quotes slashes here moves; on = on; open_yet = seen }
-
-  -- a backslash, CR and LF
-  end_goes : (host : Host) (place : Place) (named : Bool) (at : At) (held : List ℕ) (s r f : ℕ) (rest : List ℕ) (tail : List (List ℕ)) → is_quote host.quote ≡ true → is_backslash s ≡ true → is_return r ≡ true → is_line_feed f ≡ true → may_be_escaped host place r ≡ true → Passes host place named at held rest tail (s ∷ r ∷ f ∷ [])
-  end_goes host place named at held s r f rest tail quotes slashes returns feeds may here open_yet = record {
-    to = between;
-    goes = goes-to Room _ _ _ (s ∷ r ∷ f ∷ [])
-        (goes-append Room _ _ _ (s ∷ r ∷ []) (f ∷ [])
-        (escape_goes host place named at after_return held s r (f ∷ rest) quotes slashes here (return_escaped host place named _ r (return-not-brace r returns) may returns))
-        (goes-grows Room _ _ (body host place named between) f [] (feed_after_return host place named _ f feeds) refl))
-        (ap (within (body host place named between)) (append_assoc held (s ∷ r ∷ []) (f ∷ [])) ∙ ap (λ n. within (body host place n between) (held ++ s ∷ r ∷ f ∷ [])) (sym (return_unnamed named s r f returns)));
-    on = goes_on host place _ rest;
-    open_yet = seen_later host.quote at (s ∷ r ∷ f ∷ []) tail open_yet;
-  }
-
-  -- `\N{`
-  name_goes : (host : Host) (place : Place) (named : Bool) (at : At) (held : List ℕ) (s c : ℕ) (rest : List ℕ) (tail : List (List ℕ)) → is_quote host.quote ≡ true → is_backslash s ≡ true → names host c ≡ true → Passes host place named at held rest tail (s ∷ c ∷ 123 ∷ [])
-  name_goes host place named at held s c rest tail quotes slashes is_name here open_yet = record {
-    to = between;
-    goes = goes-to Room _ _ _ (s ∷ c ∷ 123 ∷ [])
-        (goes-append Room _ _ _ (s ∷ c ∷ []) (123 ∷ [])
-        (escape_goes host place named at after_name held s c (123 ∷ rest) quotes slashes here
-        (name_escaped host place named _ c (name-not-brace host c is_name) (name_may host place c is_name) (name-not-return host c is_name) is_name))
-        (goes-grows Room _ _ (body host place true between) 123 [] (brace_after_name host place named _) refl))
-        (ap (within (body host place true between)) (append_assoc held (s ∷ c ∷ []) (123 ∷ [])) ∙ ap (λ n. within (body host place n between) (held ++ s ∷ c ∷ 123 ∷ [])) (sym (name_named host named s c 123 slashes is_name)));
-    on = goes_on host place _ rest;
-    open_yet = seen_later host.quote at (s ∷ c ∷ 123 ∷ []) tail open_yet;
-  }
-
-  -- `{{`
-  double_goes : (host : Host) (at : At) (held rest : List ℕ) (tail : List (List ℕ)) → is_quote host.quote ≡ true → Passes host literal false at held rest tail (123 ∷ 123 ∷ [])
-  double_goes host at held rest tail quotes here open_yet = record {
-    to = between;
-    goes = goes-grows Room _ _ (body host literal false after_brace) 123 (123 ∷ []) (body_moves host literal false at held 123 (123 ∷ rest) here ∙ open_moves host literal (settled at) quotes)
-        (goes-grows Room _ _ (body host literal false between) 123 [] (second_brace host literal false _) (two_held held (body host literal false between) 123 123));
-    on = goes_on host literal false rest;
-    open_yet = seen_later host.quote at (123 ∷ 123 ∷ []) tail open_yet;
-  }
-
   -- a field
-  field_goes : (F : Host → List ℕ → Type 0) → BeginOpen F → FieldsGo F → (host : Host) (place : Place) (at : At) (held part rest : List ℕ) (tail : List (List ℕ)) → is_quote host.quote ≡ true → F host part → (place ≡ literal → begins_double part ≡ false) → Passes host place false at held rest tail part
+  field_goes : (F : Host → List ℕ → Type 0) → BeginOpen F → FieldsGo F → (host : Host) (place : Place) (at : At) (held part rest : List ℕ) (tail : List (List ℕ)) → is_quote host.quote ≡ true → F host part → (place ≡ literal → begins_double part ≡ false) → MayGoOn host place false at (part ++ rest) → has_triple host.quote (quotes_seen host.quote at ++ part ∷ tail) ≡ false → PartGoes host place false (named_after false part) at held part rest tail
   field_goes F begin go host place at held part rest tail quotes is single here open_yet =
       let head = begin host part is in
       record {
@@ -345,32 +325,32 @@ module _ (Room : ℕ → Type 0) (outer : List Level) (done : List Piece) (opene
       first c cs t so on = subst (MayGoOn host place false at) (sym so) (subst (λ x. MayGoOn host place false at (x ++ rest)) so on)
 
   -- a part
-  part_goes : (F : Host → List ℕ → Type 0) → BeginOpen F → FieldsGo F → (host : Host) (place : Place) (named : Bool) (at : At) (held part rest : List ℕ) (tail : List (List ℕ)) → is_quote host.quote ≡ true → IsPart F host place named part rest → Passes host place named at held rest tail part
-  part_goes F begin go host place named at held part rest tail quotes (bare c is no_slash stands itself) =
-      subst (Passes host place named at held rest tail) (sym is) (λ here yet. bare_goes host place named at held c rest tail quotes here yet no_slash stands itself)
-  part_goes F begin go host place named at held part rest tail quotes (slash s is slashes braces) =
-      subst (Passes host place named at held rest tail) (sym is)
-      (λ here yet. subst (λ n. PartGoes host place named n at held (s ∷ []) rest tail) (sym (slash_unnamed named s slashes))
-      (one_goes host place named named at after_slash held s rest tail here (slash_grows host place named (settled at) s quotes slashes)
-      (goes_on-slash host place named rest braces) (seen_later host.quote at (s ∷ []) tail yet)))
-  part_goes F begin go host place named at held part rest tail quotes (escape s c is slashes brace may none ended) =
-      subst (Passes host place named at held rest tail) (sym is) (escaped_goes host place named at held s c rest tail quotes slashes brace may none ended)
-  part_goes F begin go host place named at held part rest tail quotes (escaped_end s r f is slashes returns feeds may) =
-      subst (Passes host place named at held rest tail) (sym is) (end_goes host place named at held s r f rest tail quotes slashes returns feeds may)
-  part_goes F begin go host place named at held part rest tail quotes (name s c b is slashes is_name braces) =
-      subst (Passes host place named at held rest tail) (sym (is ∙ ap (λ x. s ∷ c ∷ x ∷ []) braces)) (name_goes host place named at held s c rest tail quotes slashes is_name)
-  part_goes F begin go host place named at held part rest tail quotes (double b c is one two at_literal unnamed) =
-      let P : Place → Bool → Type 0 = λ p n. Passes host p n at held rest tail (123 ∷ 123 ∷ []) in
-      subst (Passes host place named at held rest tail) (sym (is ∙ ap (λ x. x ∷ c ∷ []) one ∙ ap (λ x. 123 ∷ x ∷ []) two))
-      (subst (λ p. P p named) (sym at_literal) (subst (P literal) (sym unnamed) (double_goes host at held rest tail quotes)))
-  part_goes F begin go host place named at held part rest tail quotes (field is single unnamed) =
-      subst (λ n. Passes host place n at held rest tail part) (sym unnamed) (field_goes F begin go host place at held part rest tail quotes is single)
+  part_goes : (F : Host → List ℕ → Type 0) → BeginOpen F → FieldsGo F → (host : Host) (place : Place) (named : Bool) (at : At) (held part rest : List ℕ) (tail : List (List ℕ)) → is_quote host.quote ≡ true → MayGoOn host place named at (part ++ rest) → has_triple host.quote (quotes_seen host.quote at ++ part ∷ tail) ≡ false → IsPart F host place named part rest → PartGoes host place named (named_after named part) at held part rest tail
+  part_goes F begin go host place named at held part rest tail quotes here open_yet is_part = by is_part
+    where
+      grown : (text : List ℕ) → part ≡ text → Passes host place named at rest tail text → PartGoes host place named (named_after named part) at held part rest tail
+      grown text is passes =
+          let own = subst (Passes host place named at rest tail) (sym is) passes here open_yet in
+          record { to = own.to; goes = goes-grown Room outer done openers _ _ held part own.grown; on = own.on; open_yet = own.open_yet }
+
+      by : IsPart F host place named part rest → PartGoes host place named (named_after named part) at held part rest tail
+      by (bare c is no_slash stands itself) = grown (c ∷ []) is (bare_grows host place named at rest tail quotes c no_slash stands itself)
+      by (slash s is slashes braces) = grown (s ∷ []) is (slash_grows_part host place named at rest tail quotes s slashes braces)
+      by (escape s c is slashes brace may none ended) = grown (s ∷ c ∷ []) is (escape_grows host place named at rest tail quotes s c slashes brace may none ended)
+      by (escaped_end s r f is slashes returns feeds may) = grown (s ∷ r ∷ f ∷ []) is (end_grows host place named at rest tail quotes s r f slashes returns feeds may)
+      by (name s c b is slashes is_name braces) = grown (s ∷ c ∷ 123 ∷ []) (is ∙ ap (λ x. s ∷ c ∷ x ∷ []) braces) (name_grows host place named at rest tail quotes s c slashes is_name)
+      by (double b c is one two at_literal unnamed) =
+          let P : Place → Bool → Type 0 = λ p n. Passes host p n at rest tail (123 ∷ 123 ∷ []) in
+          grown (123 ∷ 123 ∷ []) (is ∙ ap (λ x. x ∷ c ∷ []) one ∙ ap (λ x. 123 ∷ x ∷ []) two) (subst (λ p. P p named) (sym at_literal) (subst (P literal) (sym unnamed) (double_grows host at rest tail quotes)))
+      by (field is single unnamed) =
+          let P : Bool → Type 0 = λ n. MayGoOn host place n at (part ++ rest) → PartGoes host place n (named_after n part) at held part rest tail in
+          subst P (sym unnamed) (λ h. field_goes F begin go host place at held part rest tail quotes is single h open_yet) here
 
   -- parts, one after another
   pub parts_go : (F : Host → List ℕ → Type 0) → BeginOpen F → FieldsGo F → (host : Host) (place : Place) (named : Bool) (at : At) (held : List ℕ) (parts : List (List ℕ)) (rest : List ℕ) (tail : List (List ℕ)) → is_quote host.quote ≡ true → AreParts F host place named parts rest → MayGoOn host place named at (joined parts ++ rest) → has_triple host.quote (quotes_seen host.quote at ++ (parts ++ tail)) ≡ false → PartGoes host place named (named_through named parts) at held (joined parts) rest tail
   parts_go F begin go host place named at held [] rest tail quotes each here yet = record { to = at; goes = ap (within (body host place named at)) (sym (append-nil held)); on = here; open_yet = yet }
   parts_go F begin go host place named at held (p ∷ ps) rest tail quotes each here yet =
-      let first = part_goes F begin go host place named at held p (joined ps ++ rest) (ps ++ tail) quotes each.0 (subst (MayGoOn host place named at) (append_assoc p (joined ps) rest) here) yet in
+      let first = part_goes F begin go host place named at held p (joined ps ++ rest) (ps ++ tail) quotes (subst (MayGoOn host place named at) (append_assoc p (joined ps) rest) here) yet each.0 in
       let others = parts_go F begin go host place (named_after named p) first.to (held ++ p) ps rest tail quotes each.1 first.on first.open_yet in
       record {
         to = others.to;

@@ -14,7 +14,7 @@ use Rattle.py_lines.proofs.Fields.Prefixes.{field_letters}
 use Rattle.py_lines.proofs.Fields.Parts.{BeginOpen}
 use Rattle.py_lines.proofs.Fields.Elsewhere.{none_false, quotes_begin}
 use Rattle.py_lines.proofs.Fields.Ends.{short_part}
-use Rattle.py_lines.proofs.FieldMachine.Runs.{Goes, HasRoomFor, StopsAt, goes-append, goes-to, goes-grows, goes-closes, stops-fresh}
+use Rattle.py_lines.proofs.FieldMachine.Runs.{Goes, HasRoomFor, StopsAt, goes-append, goes-grown, goes-to, goes-grows, goes-closes, stops-fresh}
 use Rattle.py_lines.proofs.FieldMachine.PieceRuns.{FieldFinds, word_goes}
 use Rattle.py_lines.proofs.FieldMachine.StringParts.{settled, quotes_seen, MayGoOn, goes_on, body_moves, quote_grows, goes_on-quotes, three_quotes, FieldsGo, parts_go}
 
@@ -52,9 +52,6 @@ part_begins F begin host place named part rest (field is a b) =
     let head = begin host part is in
     (123, head.0 ∷ head.1, head.2)
 
-three_more : (xs : List ℕ) (q : ℕ) → ((xs ++ q ∷ []) ++ q ∷ []) ++ q ∷ [] ≡ xs ++ (q ∷ q ∷ q ∷ [])
-three_more xs q = append_assoc (xs ++ q ∷ []) (q ∷ []) (q ∷ []) ∙ append_assoc xs (q ∷ []) (q ∷ q ∷ [])
-
 -- the string with this prefix and this quote
 abbrev host_in : ℕ → Bool → List ℕ → Host
 host_in q long prefix = record { quote = q; is_long = long; is_raw = list_any is_r prefix }
@@ -71,6 +68,10 @@ pub data IsInLiteral (host : Host) (named : Bool) (mode : FieldMode) (text rest 
 pub moved_between : (outer : List Level) (done : List Piece) (openers : List ℕ) (host : Host) (held : List ℕ) (c : ℕ) (v : FieldMove) → field_moved (field_state outer done openers (opened host) held) c v ≡ field_moved (field_state outer done openers (body host literal false between) held) c v
 moved_between outer done openers host held c (grows m) = refl
 moved_between outer done openers host held c v = refl
+
+pub opened_moves : (host : Host) (held : List ℕ) (c : ℕ) → eqb c host.quote ≡ false → field_move (opened host) held c ≡ field_move (body host literal false between) held c
+unfolding field_move
+opened_moves host held c other = rw other
 
 module _ (Room : ℕ → Type 0) (from : FieldScanned) where
   -- the string is open after the pieces before
@@ -92,11 +93,7 @@ module _ (Room : ℕ → Type 0) (from : FieldScanned) where
       head : {x y : ℕ} {xs ys : List ℕ} → x ∷ xs ≡ y ∷ ys → y ≡ x
       head h = cc
 
-  opened_moves : (host : Host) (held : List ℕ) (c : ℕ) → eqb c host.quote ≡ false → field_move (opened host) held c ≡ field_move (body host literal false between) held c
-  unfolding field_move
-  opened_moves host held c other = rw other
-
-  pub opened_goes : (host : Host) (held : List ℕ) (c : ℕ) (cs : List ℕ) (t : FieldScanned) → eqb c host.quote ≡ false → Goes Room (inside (body host literal false between) held) (c ∷ cs) t → Goes Room (inside (opened host) held) (c ∷ cs) t
+  opened_goes : (host : Host) (held : List ℕ) (c : ℕ) (cs : List ℕ) (t : FieldScanned) → eqb c host.quote ≡ false → Goes Room (inside (body host literal false between) held) (c ∷ cs) t → Goes Room (inside (opened host) held) (c ∷ cs) t
   opened_goes host held c cs t other (next, step, room, others) = (
     next,
     ap (field_moved (inside (opened host) held) c) (opened_moves host held c other) ∙ moved_between from.outer (field_pieces from) from.openers host held c (field_move (body host literal false between) held c) ∙ step,
@@ -135,21 +132,21 @@ module _ (Room : ℕ → Type 0) (from : FieldScanned) where
     by_length true q prefix parts rest after tail is quotes each none stops =
         let host : Host = host_in q true prefix in
         let begun : List ℕ = prefix ++ q ∷ [] in
-        let held : List ℕ = (begun ++ q ∷ []) ++ q ∷ [] in
+        let held : List ℕ = begun ++ q ∷ q ∷ [] in
         let run = parts_go Room from.outer (field_pieces from) from.openers F begin go host literal false between held parts rest tail quotes each (goes_on host literal false (joined parts ++ rest)) none in
         let mode : FieldMode = body host literal (named_through false parts) run.to in
         let opened_at : FieldScanned = inside (opened (host_of prefix q)) begun in
         let body_at : FieldScanned = inside (body host literal false between) held in
         let last : FieldScanned = inside mode (held ++ joined parts) in
         let quotes_go : Goes Room opened_at (q ∷ q ∷ []) body_at =
-        goes-grows Room opened_at body_at (empty (host_of prefix q)) q (q ∷ []) (second_quote (host_of prefix q) begun)
-        (goes-grows Room (inside (empty (host_of prefix q)) (begun ++ q ∷ [])) body_at (body host literal false between) q [] (rw (eq-eqb q q refl)) refl) in
+        goes-grown Room from.outer (field_pieces from) from.openers (opened (host_of prefix q)) (body host literal false between) begun (q ∷ q ∷ [])
+        (empty (host_of prefix q), second_quote (host_of prefix q), (body host literal false between, λ h. rw (eq-eqb q q refl), refl)) in
         let all = goes-append Room from opened_at last begun (q ∷ q ∷ joined parts) (prefix_goes prefix q after is quotes stops)
         (goes-append Room opened_at body_at last (q ∷ q ∷ []) (joined parts) quotes_go run.goes) in
         record {
           mode = mode;
           goes = goes-to Room from last _ (prefix ++ (q ∷ q ∷ q ∷ joined parts)) (subst (λ t. Goes Room from t last) (append_assoc prefix (q ∷ []) (q ∷ q ∷ joined parts)) all)
-              (ap (inside mode) (ap (λ t. t ++ joined parts) (three_more prefix q) ∙ append_assoc prefix (q ∷ q ∷ q ∷ []) (joined parts)));
+              (ap (inside mode) (append_assoc begun (q ∷ q ∷ []) (joined parts) ∙ append_assoc prefix (q ∷ []) (q ∷ q ∷ joined parts)));
           stands = in_body run.to refl run.on run.open_yet;
         }
     by_length false q prefix [] rest after tail is quotes each none stops =
@@ -177,25 +174,27 @@ module _ (Room : ℕ → Type 0) (from : FieldScanned) where
         subst P (sym raw) (λ e. by_length host.is_long host.quote prefix parts rest after tail is quotes e none stops) each
 
     -- the last three quotes of a long string
-    long_closes : (host : Host) (named : Bool) (at : At) (held : List ℕ) → host.is_long ≡ true → MayGoOn host literal named at (host.quote ∷ []) → settled at ≡ between → Goes Room (inside (body host literal named at) held) (host.quote ∷ host.quote ∷ host.quote ∷ []) (closed_at (((held ++ host.quote ∷ []) ++ host.quote ∷ []) ++ host.quote ∷ []))
+    long_closes : (host : Host) (named : Bool) (at : At) (held : List ℕ) → host.is_long ≡ true → MayGoOn host literal named at (host.quote ∷ []) → settled at ≡ between → Goes Room (inside (body host literal named at) held) (host.quote ∷ host.quote ∷ host.quote ∷ []) (closed_at ((held ++ host.quote ∷ host.quote ∷ []) ++ host.quote ∷ []))
     long_closes host named at held long on none =
         let q = host.quote in
-        let end : FieldScanned = closed_at (((held ++ q ∷ []) ++ q ∷ []) ++ q ∷ []) in
-        goes-grows Room (inside (body host literal named at) held) end (body host literal named after_one) q (q ∷ q ∷ [])
-        (body_moves host literal named at held q [] on ∙ ap (λ x. between_move host literal named x q) none ∙ quote_grows host literal named between long refl)
-        (goes-grows Room (inside (body host literal named after_one) (held ++ q ∷ [])) end (body host literal named after_two) q (q ∷ [])
-        (body_moves host literal named after_one (held ++ q ∷ []) q [] (goes_on-quotes host literal named between (q ∷ [])) ∙ quote_grows host literal named after_one long refl)
-        (goes-closes Room (inside (body host literal named after_two) ((held ++ q ∷ []) ++ q ∷ [])) q
-        (body_moves host literal named after_two ((held ++ q ∷ []) ++ q ∷ []) q [] (goes_on-quotes host literal named after_one (q ∷ [])) ∙ quote_closes host named after_two (none_false host.is_long))))
+        let two : FieldMode = body host literal named after_two in
+        let first : (h : List ℕ) → field_move (body host literal named at) h q ≡ grows (body host literal named after_one) =
+        λ h. body_moves host literal named at h q [] on ∙ ap (λ x. between_move host literal named x q) none ∙ quote_grows host literal named between long refl in
+        let second : (h : List ℕ) → field_move (body host literal named after_one) h q ≡ grows two =
+        λ h. body_moves host literal named after_one h q [] (goes_on-quotes host literal named between (q ∷ [])) ∙ quote_grows host literal named after_one long refl in
+        goes-append Room _ (inside two (held ++ q ∷ q ∷ [])) _ (q ∷ q ∷ []) (q ∷ [])
+        (goes-grown Room from.outer (field_pieces from) from.openers (body host literal named at) two held (q ∷ q ∷ []) (body host literal named after_one, first, (two, second, refl)))
+        (goes-closes Room (inside two (held ++ q ∷ q ∷ [])) q
+        (body_moves host literal named after_two (held ++ q ∷ q ∷ []) q [] (goes_on-quotes host literal named after_one (q ∷ [])) ∙ quote_closes host named after_two (none_false host.is_long)))
 
     -- the end of a string, from its literal part
     ends_found : (G : Host → List ℕ → Type 0) (long : Bool) (q : ℕ) (raw named : Bool) (mode : FieldMode) (text rest : List ℕ) → Goes Room from text (inside mode text) → IsInLiteral (record { quote = q; is_long = long; is_raw = raw }) named mode text (quotes_of (record { quote = q; is_long = long; is_raw = raw })) ((q ∷ []) ∷ (q ∷ []) ∷ []) → is_quote q ≡ true → MayPrecedeIn (with_fields G) string (text ++ quotes_of (record { quote = q; is_long = long; is_raw = raw })) rest → FieldFinds Room from (text ++ quotes_of (record { quote = q; is_long = long; is_raw = raw })) (piece string (text ++ quotes_of (record { quote = q; is_long = long; is_raw = raw })) ∷ []) from.openers rest
     ends_found G true q raw named mode text rest goes (in_body at is on open_yet) quotes before =
         let host : Host = record { quote = q; is_long = true; is_raw = raw } in
         let three : List ℕ = q ∷ q ∷ q ∷ [] in
-        let last : FieldScanned = closed_at (((text ++ q ∷ []) ++ q ∷ []) ++ q ∷ []) in
+        let last : FieldScanned = closed_at ((text ++ q ∷ q ∷ []) ++ q ∷ []) in
         let closing = subst (λ (m : FieldMode). Goes Room (inside m text) three last) (sym is) (long_closes host named at text refl on (none_before q at open_yet)) in
-        finished (text ++ three) rest (goes-to Room from last _ (text ++ three) (goes-append Room from (inside mode text) last text three goes closing) (ap closed_at (three_more text q)))
+        finished (text ++ three) rest (goes-to Room from last _ (text ++ three) (goes-append Room from (inside mode text) last text three goes closing) (ap closed_at (append_assoc text (q ∷ q ∷ []) (q ∷ []))))
     ends_found G true q raw named mode text rest goes (at_quote prefix is spell begun short unnamed) quotes before = absurd (both_ways _ short refl)
     ends_found G false q raw named mode text rest goes (in_body at is on open_yet) quotes before =
         let host : Host = record { quote = q; is_long = false; is_raw = raw } in

@@ -1,5 +1,5 @@
 -- What is open at a place is told by the state of the machine with fields there, so nothing else is.
-use Rattle.std.proofs.Common.{◌≡◌, ℕ, Bool, true, false, Some, List, [], ◌∷◌, ◌++◌, ◌⊎◌, inl, inr, ⊎_elim, refl, sym, ap, ◌∙◌, subst, append_assoc}
+use Rattle.std.proofs.Common.{◌≡◌, ℕ, Bool, true, false, Some, List, [], ◌∷◌, ◌++◌, ◌⊎◌, inl, ⊎_elim, refl, sym, ap, ◌∙◌, subst, append_assoc}
 use Rattle.std.proofs.lemmas.Bool.{both_ways}
 use Rattle.py_lines.specs.Character.{is_mark, is_quote}
 use Rattle.py_lines.specs.Piece.{begins, spelled}
@@ -8,15 +8,15 @@ use Rattle.py_lines.specs.OpenFields.{IsSlash, Spot, StandsOpen, IsOpenUpTo, IsO
 use Rattle.py_lines.specs.FieldStrings.{is_field_prefix, Host, Place, literal, specification}
 use Rattle.py_lines.specs.declared.mode.Mode.{Mode}
 use Rattle.py_lines.specs.declared.mode.Mode.TheVariants as modes
-use Rattle.py_lines.specs.Private.FieldMachine.{before, FieldMode, plain, body, FieldScanned, field_state, field_text_start, field_pieces, field_started, field_steps_from, in_open_short, in_open_long, after_open_backslash, InSpecificationOf}
+use Rattle.py_lines.specs.Private.FieldMachine.{before, FieldMode, plain, FieldScanned, field_state, field_text_start, field_pieces, field_started, field_steps_from, in_open_short, in_open_long, after_open_backslash, InSpecificationOf}
 use Rattle.py_lines.proofs.Fields.OneReading.{some_head}
 use Rattle.py_lines.proofs.Machine.Starts.{start-slash}
 use Rattle.py_lines.proofs.Machine.StringSteps.{GrownTo}
 use Rattle.py_lines.proofs.Machine.OpenStrings.{prefix-unmarked, slash-not-mark, short_end, long_end}
-use Rattle.py_lines.proofs.FieldMachine.PlainSteps.{grown-goes}
+use Rattle.py_lines.proofs.FieldMachine.PlainSteps.{grown-alike}
 use Rattle.py_lines.proofs.FieldMachine.PieceRuns.{plain_opens}
-use Rattle.py_lines.proofs.FieldMachine.Runs.{NoLimit, Goes, StopsAt, goes-append, goes-begins, steps_of}
-use Rattle.py_lines.proofs.FieldMachine.OpenStrings.{IsHostMode, HasOpened, open_unmarked, open_begins, up_to_runs}
+use Rattle.py_lines.proofs.FieldMachine.Runs.{NoLimit, Goes, StopsAt, goes-append, goes-grown, goes-begins, steps_of}
+use Rattle.py_lines.proofs.FieldMachine.OpenStrings.{IsInString, in_part, at_first, HasOpened, open_unmarked, open_begins, up_to_runs}
 use Rattle.py_lines.proofs.FieldMachine.OpenLists.{list_runs, after_pieces, string_begins}
 
 -- the machine comes from the text's start through these characters to such a state
@@ -68,7 +68,7 @@ plain_comes characters start front at is_long prefix q inner spell is no_field q
     let to : FieldScanned = state m ((prefix ++ q ∷ []) ++ inner) in
     let run = goes-append NoLimit from (state (modes.Opened q) (prefix ++ q ∷ [])) to (prefix ++ q ∷ []) inner
     (plain_opens NoLimit from prefix q inner is no_field quotes (subst (StopsAt from.mode from.held) spell at.stops))
-    (grown-goes NoLimit from.outer (field_pieces from) from.openers (modes.Opened q) m (prefix ++ q ∷ []) inner (inl refl) grown) in
+    (goes-grown NoLimit from.outer (field_pieces from) from.openers (plain (modes.Opened q)) (plain m) (prefix ++ q ∷ []) inner (grown-alike (modes.Opened q) m inner (inl refl) grown)) in
     let full = some_head prefix q inner in
     record {
       to = to;
@@ -86,17 +86,18 @@ long_comes : (characters start front : List ℕ) → FrontAt characters start fr
 long_comes characters start front at (long, no_field) =
     plain_comes characters start front at true long.prefix long.quote _ long.spell long.begun no_field long.opens (long_end long.quote long.items long.last long.opens long.holds.0 long.holds.1 long.escapes)
 
-literal_mode : (host : Host) (place : Place) (is_long : Bool) (mode : FieldMode) → IsHostMode host place mode → place ≡ literal → host.is_long ≡ is_long → InLiteral is_long mode
-literal_mode host place true mode (inl (named, at, is, apart)) at_literal long = subst (InLiteral true) (sym (is ∙ ap (λ p. body host p named at) at_literal)) (rw (apart, long))
-literal_mode host place false mode (inl (named, at, is, apart)) at_literal long = subst (InLiteral false) (sym (is ∙ ap (λ p. body host p named at) at_literal)) (rw (apart, long))
-literal_mode host place true mode (inr (is, place_is, short)) at_literal long = absurd (both_ways _ short long)
-literal_mode host place false mode (inr (is, place_is, short)) at_literal long = subst (InLiteral false) (sym is) refl
+literal_mode : (host : Host) (named : Bool) (is_long : Bool) (mode : FieldMode) → IsInString host literal named mode [] → host.is_long ≡ is_long → InLiteral is_long mode
+literal_mode host named true mode (in_part at is apart) long = subst (InLiteral true) (sym is) (rw (apart, long))
+literal_mode host named false mode (in_part at is apart) long = subst (InLiteral false) (sym is) (rw (apart, long))
+literal_mode host named true mode (at_first is place_is unnamed short) long = absurd (both_ways _ short long)
+literal_mode host named false mode (at_first is place_is unnamed short) long = subst (InLiteral false) (sym is) refl
 
 -- the state of a string with fields that is open
 pub record HostAt (characters start front : List ℕ) (host : Host) (spot : Spot) : Type 0 where
   pub to : FieldScanned
   pub goes : Goes NoLimit field_text_start characters to
-  pub mode_is : IsHostMode host spot.place to.mode
+  pub named : Bool
+  pub mode_is : IsInString host spot.place named to.mode []
   pub start_is : StartsAfter spot.place start to
   pub field_is : HasOpened spot.place to.outer spot.field
 
@@ -107,6 +108,7 @@ host_at characters start front host spot at is =
     record {
       to = field_state run.outer run.done run.openers run.mode front;
       goes = at.goes (field_state run.outer run.done run.openers run.mode front) full.0 full.1 (is.spell ∙ full.2) run.goes;
+      named = run.named;
       mode_is = run.mode_is;
       start_is = run.start_is ∙ at.start_is;
       field_is = run.field_is;
@@ -118,7 +120,7 @@ literal_comes characters start front is_long at (host, spot, is, at_literal, lon
     record {
       to = own.to;
       goes = own.goes;
-      such = (literal_mode host spot.place is_long own.to.mode own.mode_is at_literal long, subst (λ p. StartsAfter p start own.to) at_literal own.start_is);
+      such = (literal_mode host own.named is_long own.to.mode (subst (λ p. IsInString host p own.named own.to.mode []) at_literal own.mode_is) long, subst (λ p. StartsAfter p start own.to) at_literal own.start_is);
     }
 
 -- what is open is no mark
@@ -165,10 +167,10 @@ pub record SpecificationAt (host : Host) (start : List ℕ) (s : FieldScanned) :
   pub field_is : HasOpened specification s.outer field
   pub before : string ++ field ≡ start
 
-specification_mode : (host : Host) (place : Place) (mode : FieldMode) → IsHostMode host place mode → place ≡ specification → InSpecificationOf host mode
-specification_mode host place mode (inl (named, at, is, apart)) at_place = subst (InSpecificationOf host) (sym (is ∙ ap (λ p. body host p named at) at_place)) (refl, apart)
-specification_mode host place mode (inr (is, place_is, short)) at_place =
-    let none : literal ≡ specification = sym place_is ∙ at_place in
+specification_mode : (host : Host) (named : Bool) (mode : FieldMode) → IsInString host specification named mode [] → InSpecificationOf host mode
+specification_mode host named mode (in_part at is apart) = subst (InSpecificationOf host) (sym is) (refl, apart)
+specification_mode host named mode (at_first is place_is unnamed short) =
+    let none : specification ≡ literal = place_is in
     absurd (cc)
 
 pub specification_comes : (host : Host) (characters start : List ℕ) (at : InSpecification host characters start) → Comes characters (λ s. (own : SpecificationAt host start s) × (own.string ≡ at.string))
@@ -183,7 +185,7 @@ specification_comes host characters start at =
         record {
           string = at.string;
           field = at.spot.field;
-          mode_is = specification_mode host at.spot.place own.to.mode own.mode_is at.place;
+          mode_is = specification_mode host own.named own.to.mode (subst (λ p. IsInString host p own.named own.to.mode []) at.place own.mode_is);
           string_is = subst (λ p. StartsAfter p at.string own.to) at.place own.start_is;
           field_is = subst (λ p. HasOpened p own.to.outer at.spot.field) at.place own.field_is;
           before = at.before;
