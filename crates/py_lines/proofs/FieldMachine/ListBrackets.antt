@@ -1,7 +1,7 @@
 -- The brackets that are open in a list of pieces.
 use Rattle.std.proofs.Common.{◌≡◌, ℕ, ◌+◌, ◌-◌, Bool, true, false, ◌==◌, Option, None, Some, List, [], ◌∷◌, ◌++◌, length, refl, sym, ap, ◌∙◌, arith}
 use Rattle.std.specs.Prelude.{if◌then◌else◌}
-use Rattle.std.proofs.lemmas.Bool.{cond_both, or_parts, both_ways}
+use Rattle.std.proofs.lemmas.Bool.{or_parts, both_ways}
 use Rattle.py_lines.specs.Piece.{Class, operator, Piece}
 use Rattle.py_lines.specs.Balance as balance
 use Rattle.py_lines.specs.Balance.{is_opening, is_closing, closing_of, is_operator_that, is_opener, is_closer, ArePair, IsBalanced, depth_after}
@@ -71,35 +71,25 @@ some_list a b h =
     let same : a ≡ b = cc in
     ap length same
 
-nothing_closed : (c : ℕ) → is_opening c ≡ false → is_closing c ≡ true → openers_with [] c ≡ None
-unfolding openers_with
-nothing_closed c other closing = rw (other, closing)
-
 pub none_some : {A : Type 0} {a : A} → None ≡ Some a → ⊥
 none_some h = absurd (cc)
 
-closed_one : (b : Bool) (o : ℕ) (os : List ℕ) (c : ℕ) (after : List ℕ) → is_opening c ≡ false → is_closing c ≡ true → c == closing_of o ≡ b → openers_with (o ∷ os) c ≡ Some after → Some os ≡ Some after
-unfolding openers_with
-closed_one true o os c after other closing same h = sym (closing_pops o os c closing same) ∙ h
-closed_one false o os c after other closing same h =
-    let wrong : openers_with (o ∷ os) c ≡ None = rw (other, closing, same) in
-    absurd (none_some (sym wrong ∙ h))
-
 -- as many are open as the depth says, with others round the list
 operator_depth : (os after : List ℕ) (c k : ℕ) → openers_with os c ≡ Some after → (if is_opening c then length os + k + 1 else (if is_closing c then length os + k - 1 else length os + k)) ≡ length after + k
-operator_depth os after c k h =
-    let Q : ℕ → Type 0 = λ n. n ≡ length after + k in
-    cond_both (is_opening c) _ _ Q
-    (λ opens. let same = some_list (c ∷ os) after (sym (opening_pushes os c opens) ∙ h) in omega (arith, same))
-    (λ other. cond_both (is_closing c) _ _ Q
-    (λ closing. popped os other closing h)
-    (λ neither. let same = some_list os after (sym (others_keep os c other neither) ∙ h) in omega (arith, same)))
+unfolding openers_with
+operator_depth [] after c k h = go (is_opening c) (is_closing c) h
   where
-    popped : (xs : List ℕ) → is_opening c ≡ false → is_closing c ≡ true → openers_with xs c ≡ Some after → length xs + k - 1 ≡ length after + k
-    popped [] other closing at = absurd (none_some (sym (nothing_closed c other closing) ∙ at))
-    popped (o ∷ xs) other closing at =
-        let same = some_list xs after (closed_one (c == closing_of o) o xs c after other closing refl at) in
-        omega (arith, same)
+    go : (opens closing : Bool) → (if opens then Some (c ∷ []) else (if closing then None else Some [])) ≡ Some after → (if opens then 0 + k + 1 else (if closing then 0 + k - 1 else 0 + k)) ≡ length after + k
+    go true closing is = omega (arith, some_list (c ∷ []) after is)
+    go false true is = absurd (none_some is)
+    go false false is = omega (arith, some_list [] after is)
+operator_depth (o ∷ os) after c k h = go (is_opening c) (is_closing c) (c == closing_of o) h
+  where
+    go : (opens closing same : Bool) → (if opens then Some (c ∷ o ∷ os) else (if closing then (if same then Some os else None) else Some (o ∷ os))) ≡ Some after → (if opens then length (o ∷ os) + k + 1 else (if closing then length (o ∷ os) + k - 1 else length (o ∷ os) + k)) ≡ length after + k
+    go true closing same is = omega (arith, some_list (c ∷ o ∷ os) after is)
+    go false true true is = omega (arith, some_list os after is)
+    go false true false is = absurd (none_some is)
+    go false false same is = omega (arith, some_list (o ∷ os) after is)
 
 pub depth_is : (os after : List ℕ) (class : Class) (text : List ℕ) (k : ℕ) → openers_by os class text ≡ Some after → depth_after (length os + k) (piece class text) ≡ length after + k
 depth_is os after operator [] k h = ap (λ n. n + k) (some_list os after (sym (no_character os) ∙ h))
