@@ -2,14 +2,14 @@
 use Rattle.std.proofs.Common.{◌≡◌, ℕ, true, false, None, Some, List, [], ◌∷◌, ◌++◌, refl, sym, ap, ◌∙◌, subst, ⊎_elim}
 use Rattle.std.proofs.lemmas.Bool.{cases_Bool}
 use Rattle.py_lines.specs.Character.{is_mark}
-use Rattle.py_lines.specs.Piece.{Class, mark, Piece, begins, is_mark_class, spelled}
+use Rattle.py_lines.specs.Piece.{Class, mark, Piece, begins, spelled}
 use Rattle.py_lines.specs.PieceGrammar.{AreReadIn}
 use Rattle.py_lines.specs.Fields.{Fields, fielded, ShallowFields}
 use Rattle.py_lines.specs.Reading.{IsBalancedReading}
 use Rattle.py_lines.specs.FieldStrings.{Host, with_fields}
 use Rattle.py_lines.specs.declared.mode.Mode.TheVariants as modes
 use Rattle.py_lines.specs.Private.Machine.{move_of}
-use Rattle.py_lines.specs.Private.FieldMachine.{FieldMode, plain, closes, breaks, FieldScanned, field_state, field_fresh, field_text_start, field_closed, field_pieces, field_move, field_moved, field_started, field_step, field_steps_from, openers_through, have_room, IsFieldFinal}
+use Rattle.py_lines.specs.Private.FieldMachine.{plain, closes, breaks, FieldScanned, field_state, field_fresh, field_text_start, field_pieces, field_move, field_moved, field_started, field_step, field_steps_from, openers_through, have_room, IsFieldFinal}
 use Rattle.py_lines.proofs.Pieces.PieceLists.{piece}
 use Rattle.py_lines.proofs.Machine.Starts.{start-mark}
 use Rattle.py_lines.proofs.Machine.ReadingSteps.{MayBegin}
@@ -17,18 +17,9 @@ use Rattle.py_lines.proofs.Fields.Parts.{BeginOpen}
 use Rattle.py_lines.proofs.Fields.OneReading.{fields_begin}
 use Rattle.py_lines.proofs.FieldMachine.Runs.{NoLimit, BelowLimit, HasRoomFor, Goes, StopsAt, goes-append, goes-closes, stops-fresh, steps_of, room_of}
 use Rattle.py_lines.proofs.FieldMachine.ListBrackets.{none_some, balanced_openers}
+use Rattle.py_lines.proofs.FieldMachine.PieceRuns.{FieldFinds}
 use Rattle.py_lines.proofs.FieldMachine.CodeRuns.{ArePassed, FieldsRun, all_found}
 use Rattle.py_lines.proofs.FieldMachine.Nesting.{fields_run, passed_any, begin_shallow, shallow_run, passed_shallow}
-
--- the machine goes through a text from its start, finds these pieces, with these brackets open after them, and may stop before
--- the rest
-pub record FieldReaches (Room : ℕ → Type 0) (text : List ℕ) (pieces : List Piece) (after rest : List ℕ) : Type 0 where
-  pub done : List Piece
-  pub mode : FieldMode
-  pub held : List ℕ
-  pub goes : Goes Room field_text_start text (field_state [] done after mode held)
-  pub pieces_are : field_closed mode done held ≡ pieces
-  pub stops : MayBegin pieces rest → StopsAt mode held rest
 
 start_breaks : (c : ℕ) → is_mark c ≡ false → field_move (plain modes.Start) [] c ≡ breaks
 unfolding field_move move_of
@@ -60,24 +51,22 @@ start_goes Room (c ∷ cs) t p ps (next, step, room, others) found =
     )
 
 module _ (Room : ℕ → Type 0) (F : ℕ → Host → List ℕ → Type 0) (begin : (depth : ℕ) → BeginOpen (F depth)) (run : FieldsRun Room F) (G : Host → List ℕ → Type 0) where
-  others_reached : (p : Piece) (ps : List Piece) (after rest : List ℕ) → AreReadIn (with_fields G) (p ∷ ps) rest → ArePassed Room F 0 (p ∷ ps) → openers_through (Some []) (p ∷ ps) ≡ Some after → is_mark_class p.class ≡ false → FieldReaches Room (spelled (p ∷ ps)) (p ∷ ps) after rest
-  others_reached p ps after rest fit passed opens unmarked =
-      let found = all_found Room F begin run G (field_fresh [] [] []) (p ∷ ps) after rest fit unmarked passed opens tt (stops-fresh _) in
-      record {
-        done = found.done;
-        mode = found.mode;
-        held = found.held;
-        goes = start_goes Room (spelled (p ∷ ps)) (field_state [] found.done after found.mode found.held) p ps found.goes found.pieces_are;
-        pieces_are = found.pieces_are;
-        stops = λ h. found.stops;
-      }
+  others_reached : (p : Piece) (ps : List Piece) (after rest : List ℕ) → FieldFinds Room (field_fresh [] [] []) (spelled (p ∷ ps)) (p ∷ ps) after rest → FieldFinds Room field_text_start (spelled (p ∷ ps)) (p ∷ ps) after rest
+  others_reached p ps after rest found = record {
+    done = found.done;
+    mode = found.mode;
+    held = found.held;
+    goes = start_goes Room (spelled (p ∷ ps)) (field_state [] found.done after found.mode found.held) p ps found.goes found.pieces_are;
+    pieces_are = found.pieces_are;
+    stops = found.stops;
+  }
 
-  marked_reached : (text : List ℕ) (ps : List Piece) (after rest : List ℕ) → AreReadIn (with_fields G) (piece mark text ∷ ps) rest → ArePassed Room F 0 (piece mark text ∷ ps) → openers_through (Some []) (piece mark text ∷ ps) ≡ Some after → FieldReaches Room (spelled (piece mark text ∷ ps)) (piece mark text ∷ ps) after rest
+  marked_reached : (text : List ℕ) (ps : List Piece) (after rest : List ℕ) → AreReadIn (with_fields G) (piece mark text ∷ ps) rest → ArePassed Room F 0 (piece mark text ∷ ps) → openers_through (Some []) (piece mark text ∷ ps) ≡ Some after → FieldFinds Room field_text_start (spelled (piece mark text ∷ ps)) (piece mark text ∷ ps) after rest
   unfolding field_move move_of
   marked_reached text ps after rest fit passed opens =
       let c = fit.0.0 in
       let move : field_move (plain modes.Start) [] c ≡ closes = rw fit.0.2 in
-      let P : List ℕ → Type 0 = λ t. FieldReaches Room (t ++ spelled ps) (piece mark t ∷ ps) after rest in
+      let P : List ℕ → Type 0 = λ t. FieldFinds Room field_text_start (t ++ spelled ps) (piece mark t ∷ ps) after rest in
       let marked : FieldScanned = field_fresh [] (piece mark (c ∷ []) ∷ []) [] in
       let found = all_found Room F begin run G marked ps after rest fit.3 fit.2 passed.2 opens tt (stops-fresh _) in
       let last : FieldScanned = field_state [] found.done after found.mode found.held in
@@ -87,23 +76,23 @@ module _ (Room : ℕ → Type 0) (F : ℕ → Host → List ℕ → Type 0) (beg
         held = found.held;
         goes = goes-append Room field_text_start marked last (c ∷ []) (spelled ps) (goes-closes Room field_text_start c move) found.goes;
         pieces_are = found.pieces_are;
-        stops = λ h. found.stops;
+        stops = found.stops;
       })
 
-  pub reached : (ps : List Piece) (after rest : List ℕ) → AreReadIn (with_fields G) ps rest → ArePassed Room F 0 ps → openers_through (Some []) ps ≡ Some after → FieldReaches Room (spelled ps) ps after rest
-  reached [] after rest fit passed opens = nothing (cc)
+  -- the machine goes through pieces from the text's start and finds them, where the rest begins with no mark if they are none
+  pub reached : (ps : List Piece) (after rest : List ℕ) → AreReadIn (with_fields G) ps rest → ArePassed Room F 0 ps → openers_through (Some []) ps ≡ Some after → MayBegin ps rest → FieldFinds Room field_text_start (spelled ps) ps after rest
+  reached [] after rest fit passed opens may =
+      let same : [] ≡ after = cc in
+      record { done = []; mode = plain modes.Start; held = []; goes = ap (λ os. field_state [] [] os (plain modes.Start) []) same; pieces_are = refl; stops = stops_start rest may }
+  reached (p ∷ ps) after rest fit passed opens may = go p.class p.text fit passed opens
     where
-      nothing : [] ≡ after → FieldReaches Room [] [] after rest
-      nothing same = record { done = []; mode = plain modes.Start; held = []; goes = ap (λ os. field_state [] [] os (plain modes.Start) []) same; pieces_are = refl; stops = stops_start rest }
-  reached (p ∷ ps) after rest fit passed opens = go p.class p.text fit passed opens
-    where
-      go : (class : Class) (text : List ℕ) → AreReadIn (with_fields G) (piece class text ∷ ps) rest → ArePassed Room F 0 (piece class text ∷ ps) → openers_through (Some []) (piece class text ∷ ps) ≡ Some after → FieldReaches Room (spelled (piece class text ∷ ps)) (piece class text ∷ ps) after rest
+      go : (class : Class) (text : List ℕ) → AreReadIn (with_fields G) (piece class text ∷ ps) rest → ArePassed Room F 0 (piece class text ∷ ps) → openers_through (Some []) (piece class text ∷ ps) ≡ Some after → FieldFinds Room field_text_start (spelled (piece class text ∷ ps)) (piece class text ∷ ps) after rest
       go mark text h k l = marked_reached text ps after rest h k l
-      go class text h k l = others_reached (piece class text) ps after rest h k l refl
+      go class text h k l = others_reached (piece class text) ps after rest (all_found Room F begin run G (field_fresh [] [] []) (piece class text ∷ ps) after rest h refl k l tt (stops-fresh _))
 
 -- The machine goes through pieces that are read before the rest, however deep they are.
-pub fields_reached : (ps : List Piece) (after rest : List ℕ) → AreReadIn fielded ps rest → openers_through (Some []) ps ≡ Some after → FieldReaches NoLimit (spelled ps) ps after rest
-fields_reached ps after rest fit opens = reached NoLimit (λ d. Fields) (λ d. fields_begin) fields_run Fields ps after rest fit (passed_any Fields 0 ps rest fit) opens
+pub fields_reached : (ps : List Piece) (after rest : List ℕ) → AreReadIn fielded ps rest → openers_through (Some []) ps ≡ Some after → MayBegin ps rest → FieldFinds NoLimit field_text_start (spelled ps) ps after rest
+fields_reached ps after rest fit opens may = reached NoLimit (λ d. Fields) (λ d. fields_begin) fields_run Fields ps after rest fit (passed_any Fields 0 ps rest fit) opens may
 
 -- The machine reads a text: it goes through it within the limit, to a state where it may end, and finds these pieces.
 pub record FieldReads (pieces : List Piece) (characters : List ℕ) : Type 0 where
@@ -121,12 +110,12 @@ may_begin (p ∷ ps) = tt
 -- So every text that has a reading is read.
 pub reading_reached : (pieces : List Piece) (characters : List ℕ) → IsBalancedReading pieces characters → FieldReads pieces characters
 reading_reached pieces characters is =
-    let found = reached BelowLimit ShallowFields begin_shallow shallow_run Fields pieces [] [] is.reads.fit (passed_shallow ShallowFields 0 pieces is.shallow) (balanced_openers pieces is.balanced []) in
+    let found = reached BelowLimit ShallowFields begin_shallow shallow_run Fields pieces [] [] is.reads.fit (passed_shallow ShallowFields 0 pieces is.shallow) (balanced_openers pieces is.balanced []) (may_begin pieces) in
     let to : FieldScanned = field_state [] found.done [] found.mode found.held in
     record {
       to = to;
       steps = ap (field_steps_from (Some field_text_start)) (sym is.reads.spell) ∙ steps_of BelowLimit field_text_start to (spelled pieces) found.goes;
       room = ap (have_room (Some field_text_start)) (sym is.reads.spell) ∙ room_of field_text_start to (spelled pieces) found.goes;
-      final = record { outside = refl; closed_all = refl; ends = found.stops (may_begin pieces) };
+      final = record { outside = refl; closed_all = refl; ends = found.stops };
       pieces_are = found.pieces_are;
     }

@@ -61,8 +61,8 @@ pieces_run outer depth pieces rest deep begun may = go outer deep
 
     go : (ls : List Level) → levels_open ls ≡ depth → PiecesRun ls pieces rest
     go [] is =
-        let found = fields_reached pieces open_after.0 rest begun.fit open_after.1 in
-        record { done = found.done; after = open_after.0; mode = found.mode; held = found.held; goes = found.goes; pieces_are = found.pieces_are; stops = found.stops may; opens = open_after.1; deep = many }
+        let found = fields_reached pieces open_after.0 rest begun.fit open_after.1 may in
+        record { done = found.done; after = open_after.0; mode = found.mode; held = found.held; goes = found.goes; pieces_are = found.pieces_are; stops = found.stops; opens = open_after.1; deep = many }
     go (l ∷ ls) is =
         let inside = begun.inside (omega (arith, is)) in
         let found = fields_found (field_fresh (l ∷ ls) [] []) pieces open_after.0 rest begun.fit inside.0 open_after.1 inside.1 (stops-fresh (spelled pieces ++ rest)) in

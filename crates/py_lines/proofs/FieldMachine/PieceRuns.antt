@@ -16,9 +16,10 @@ use Rattle.py_lines.specs.Private.FieldMachine.{FieldMode, plain, grows, Level, 
 use Rattle.py_lines.proofs.Pieces.PieceLists.{piece}
 use Rattle.py_lines.proofs.Text.CharacterTests.{each_of, prefix_word}
 use Rattle.py_lines.proofs.Machine.Starts.{start-word, start-operator, start-feed, start-quote}
-use Rattle.py_lines.proofs.Machine.PieceSteps.{StopsBefore, EndsWith, ends_before, ends_at, grown-word, IsQuiet, no_quotes, IsRead, at_once, opened, IsPlainClass, is_read, feed-is-one}
+use Rattle.py_lines.proofs.Machine.PieceSteps.{StopsBefore, EndsWith, ends_before, ends_at, grown-word, IsQuiet, IsRead, at_once, opened, IsPlainClass, is_read, feed-is-one}
 use Rattle.py_lines.proofs.Machine.Spellings.{prefix_spelling}
 use Rattle.py_lines.proofs.Machine.StringSteps.{opens_at}
+use Rattle.py_lines.proofs.Fields.Prefixes.{word_quotes}
 use Rattle.py_lines.proofs.Fields.Elsewhere.{precede_without}
 use Rattle.py_lines.proofs.FieldMachine.Runs.{Goes, StopsAt, goes-append, goes-grown, goes-to, goes-grows, goes-closes, goes-begins, stops-fresh}
 use Rattle.py_lines.proofs.FieldMachine.PlainSteps.{no_host, plain_moves, grown-alike, grown-quiet, front_quiet}
@@ -148,7 +149,7 @@ module _ (Room : ℕ → Type 0) where
   pub word_goes : (from : FieldScanned) (a : ℕ) (bs after : List ℕ) → is_word_start a ≡ true → list_all is_word_character bs ≡ true → StopsAt from.mode from.held (a ∷ bs ++ after) → Goes Room from (a ∷ bs) (open_at from (modes.Word (spelling_on (first_spelling a) bs)) (a ∷ bs))
   word_goes from a bs after starts_so run stops =
       goes-append Room from (open_at from (modes.Word (first_spelling a)) (a ∷ [])) _ (a ∷ []) bs (goes-opens from a (bs ++ after) _ stops (start-word a starts_so))
-      (goes-grown Room from.outer (field_pieces from) from.openers (plain (modes.Word (first_spelling a))) (plain _) (a ∷ []) bs (grown-alike (modes.Word (first_spelling a)) _ bs (inr (no_quotes bs run)) (grown-word (first_spelling a) bs run)))
+      (goes-grown Room from.outer (field_pieces from) from.openers (plain (modes.Word (first_spelling a))) (plain _) (a ∷ []) bs (grown-alike (modes.Word (first_spelling a)) _ bs (inr (word_quotes bs run)) (grown-word (first_spelling a) bs run)))
 
   -- a prefix without `f` and `t`, and the quote after it
   pub plain_opens : (from : FieldScanned) (prefix : List ℕ) (q : ℕ) (after : List ℕ) → IsPrefix prefix → is_field_prefix prefix ≡ false → is_quote q ≡ true → StopsAt from.mode from.held (prefix ++ q ∷ after) → Goes Room from (prefix ++ q ∷ []) (open_at from (modes.Opened q) (prefix ++ q ∷ []))

@@ -1,14 +1,15 @@
 -- What the open piece spells in each mode of the machine, and how it grows.
-use Rattle.std.proofs.Common.{◌≡◌, ℕ, Bool, true, false, cond, ◌==◌, eqb, List, [], ◌∷◌, ◌++◌, refl, sym, ap, ◌∙◌, subst, inl, inr, append_assoc, append-nil}
+use Rattle.std.proofs.Common.{◌≡◌, ℕ, Bool, true, false, cond, ◌==◌, eqb, List, [], ◌∷◌, ◌++◌, refl, sym, ap, ◌∙◌, subst, append_assoc, append-nil}
 use Rattle.std.specs.List.{list_all, list_any}
 use Rattle.std.proofs.lemmas.List.Folds.{list_all-append, list_any-append}
-use Rattle.std.proofs.lemmas.Bool.{and_parts, and_from, or_from, eqb-true, both_ways, false_from_ne_true, not_from_false}
-use Rattle.py_lines.specs.Character.{is_word_character, is_quote, is_backslash}
+use Rattle.std.proofs.lemmas.Bool.{and_from, or_from, or_parts, eqb-true, both_ways, false_from_ne_true, not_from_false}
+use Rattle.py_lines.specs.Character.{is_quote, is_backslash}
 use Rattle.py_lines.specs.Piece.{string}
 use Rattle.py_lines.specs.PieceGrammar.{IsPrefix, is_item, is_bare, is_short_item, joined, has_triple, IsShortString, IsLongString, MayPrecedePlain}
 use Rattle.py_lines.specs.Private.Machine.{IsFull, HoldsItems, HoldsSome, HoldsQuotes, HoldsItemsBefore, HoldsPrefix, HoldsLong}
 use Rattle.py_lines.proofs.Pieces.PieceLists.{joined-append}
-use Rattle.py_lines.proofs.Text.CharacterTests.{prefix_word, quote-not-start, quote-not-word, slash-not-quote}
+use Rattle.py_lines.proofs.Text.CharacterTests.{slash-not-quote}
+use Rattle.py_lines.proofs.Fields.Prefixes.{plain_quotes}
 use Rattle.py_lines.proofs.Pieces.TripleQuotes.{triple-left, triple-other}
 
 pub full-append : (xs ys : List ℕ) → IsFull ys → IsFull (xs ++ ys)
@@ -32,24 +33,17 @@ from_quote : List ℕ → List ℕ
 from_quote [] = []
 from_quote (c ∷ cs) = cond (is_quote c) (c ∷ cs) (from_quote cs)
 
-past_letters : (letters : List ℕ) (q : ℕ) (body : List ℕ) → list_all is_word_character letters ≡ true → is_quote q ≡ true → from_quote (letters ++ q ∷ body) ≡ q ∷ body
+-- past characters that are no quotes
+past_quoteless : (letters : List ℕ) (q : ℕ) (body : List ℕ) → list_any is_quote letters ≡ false → is_quote q ≡ true → from_quote (letters ++ q ∷ body) ≡ q ∷ body
 unfolding from_quote
-past_letters [] q body h quotes = rw quotes
-past_letters (c ∷ cs) q body h quotes =
-    let parts = and_parts (is_word_character c) (list_all is_word_character cs) h in
-    rw (false_from_ne_true (is_quote c) (λ k. both_ways _ (quote-not-word c k) parts.0)) (past_letters cs q body parts.1 quotes)
-
-past_prefix : (prefix : List ℕ) (q : ℕ) (body : List ℕ) → IsPrefix prefix → is_quote q ≡ true → from_quote (prefix ++ q ∷ body) ≡ q ∷ body
-unfolding from_quote
-past_prefix [] q body is quotes = rw quotes
-past_prefix (a ∷ bs) q body (inl none) quotes = absurd (cc)
-past_prefix (a ∷ bs) q body (inr is) quotes =
-    let letters = prefix_word a bs is in
-    rw (false_from_ne_true (is_quote a) (λ k. both_ways _ (quote-not-start a k) letters.0)) (past_letters bs q body letters.1 quotes)
+past_quoteless [] q body none quotes = rw quotes
+past_quoteless (c ∷ cs) q body none quotes =
+    let parts = or_parts (is_quote c) (list_any is_quote cs) none in
+    rw parts.0 (past_quoteless cs q body parts.1 quotes)
 
 -- the quote that a string begins with, and what follows, are the same however its prefix is told
 pub same_quotes : (prefix other : List ℕ) (q r : ℕ) (body rest : List ℕ) → prefix ++ q ∷ body ≡ other ++ r ∷ rest → IsPrefix prefix → IsPrefix other → is_quote q ≡ true → is_quote r ≡ true → q ∷ body ≡ r ∷ rest
-same_quotes prefix other q r body rest same one two quotes also = sym (past_prefix prefix q body one quotes) ∙ ap from_quote same ∙ past_prefix other r rest two also
+same_quotes prefix other q r body rest same one two quotes also = sym (past_quoteless prefix q body (plain_quotes prefix one) quotes) ∙ ap from_quote same ∙ past_quoteless other r rest (plain_quotes other two) also
 
 pub not_one : (b : ℕ) (bs : List ℕ) (q r : ℕ) → b ∷ (bs ++ q ∷ []) ≡ r ∷ [] → ⊥
 not_one b [] q r h = cc

@@ -1,7 +1,7 @@
 -- The machine goes through the text of a space, a word, a comment, a join or a line end: how each begins, grows and ends.
 use Rattle.std.proofs.Common.{◌≡◌, ℕ, Bool, true, false, ◌&&◌, Option, None, Some, List, [], ◌∷◌, ◌++◌, refl, sym, ap, ◌∙◌, subst, inl, inr, append_assoc, append-nil, ◌⊎◌}
 use Rattle.std.specs.List.{list_all, list_any}
-use Rattle.std.proofs.lemmas.Bool.{and_parts, or_parts, or_from, both_ways, false_from_ne_true}
+use Rattle.std.proofs.lemmas.Bool.{and_parts, or_parts}
 use Rattle.py_lines.specs.Character.{is_space, is_word_character, is_quote, is_line_feed, is_return, is_break}
 use Rattle.py_lines.specs.Piece.{Class, space, word, comment, join, line_end, Piece, begins, ends}
 use Rattle.py_lines.specs.PieceGrammar.{is_prefix, IsLineEnd, feed, return_feed, return, InPlainClass, MayPrecedePlain}
@@ -14,7 +14,7 @@ use Rattle.py_lines.specs.declared.mode.Start.{Start}
 use Rattle.py_lines.specs.declared.mode.Start.TheVariants as starts
 use Rattle.py_lines.specs.Private.Machine.{Scanned, fresh, class_of, closed, started, moved, steps_by, move_from, steps_from, move_of, start_of, is_final, first_spelling, spelling_with, spelling_on, is_prefix_spelling}
 use Rattle.py_lines.proofs.Pieces.PieceLists.{piece}
-use Rattle.py_lines.proofs.Text.CharacterTests.{quote-not-word}
+use Rattle.py_lines.proofs.Fields.Prefixes.{word_quotes}
 use Rattle.py_lines.proofs.Machine.Spellings.{prefix_spelling}
 use Rattle.py_lines.proofs.Machine.Starts.{start-space, start-word, start-return, start-hash, start-slash}
 
@@ -182,12 +182,6 @@ is_word_mode other = false
 abbrev pub IsQuiet : Mode → List ℕ → Type 0
 IsQuiet m text = (is_word_mode m ≡ false) ⊎ (list_any is_quote text ≡ false)
 
-pub no_quotes : (text : List ℕ) → list_all is_word_character text ≡ true → list_any is_quote text ≡ false
-no_quotes [] h = refl
-no_quotes (c ∷ cs) h =
-    let parts = and_parts (is_word_character c) (list_all is_word_character cs) h in
-    or_from _ _ (false_from_ne_true _ (λ quotes. both_ways _ (quote-not-word c quotes) parts.0)) (no_quotes cs parts.1)
-
 -- how a piece that is no mark, no operator and no string begins and ends: a line feed is whole, and others are opened
 pub data IsRead (class : Class) (text rest : List ℕ) : Type 0 where
   at_once : class ≡ line_end → text ≡ 10 ∷ [] → IsRead class text rest
@@ -223,7 +217,7 @@ is_read space text rest plain_class (c, cs, is, run) before =
     opened c cs modes.Space is (start-space c parts.0) (inl refl)
     (ends_before modes.Space (grown-run modes.Space is_space (λ d h. rw h) cs parts.1) (refl, λ done held. refl) (stops_unless modes.Space is_space refl (λ d h. rw h) rest before))
 is_read word text rest plain_class (c, cs, is, opens, run) before =
-    opened c cs (modes.Word (first_spelling c)) is (start-word c opens) (inr (no_quotes cs run))
+    opened c cs (modes.Word (first_spelling c)) is (start-word c opens) (inr (word_quotes cs run))
     (ends_before (modes.Word (spelling_on (first_spelling c) cs)) (grown-word (first_spelling c) cs run) (refl, λ done held. refl)
     (stops-word _ rest before.0 (sym (ap (λ b. b && begins is_quote rest) (ap is_prefix is ∙ prefix_spelling c cs)) ∙ before.1)))
 is_read comment text rest plain_class (c, cs, is, opens, holds) before =

@@ -3,7 +3,7 @@ use Rattle.std.proofs.Common.{◌≡◌, ℕ, Bool, true, false, ◌&&◌, eqb, 
 use Rattle.std.proofs.lemmas.Bool.{cond_both, and_parts, and_from, and_left, and_right, eqb-true, both_ways, not_from_false}
 use Rattle.py_lines.specs.Character.{is_mark, is_space, is_word_character, is_quote, is_line_feed, is_return, is_break, is_backslash}
 use Rattle.py_lines.specs.Piece.{Class, mark, space, word, string, operator, comment, join, line_end, Piece, ends, is_mark_class, spelled}
-use Rattle.py_lines.specs.PieceGrammar.{feed, return_feed, return, InPlainClass, is_prefix, is_short_item, joined, MayPrecedePlain, AreReadPlain}
+use Rattle.py_lines.specs.PieceGrammar.{feed, return_feed, return, without_fields, InPlainClass, is_prefix, is_short_item, joined, MayPrecedePlain, AreReadPlain}
 use Rattle.py_lines.specs.declared.mode.Spelling.{Spelling}
 use Rattle.py_lines.specs.declared.mode.Mode.{Mode}
 use Rattle.py_lines.specs.declared.mode.Mode.TheVariants as modes
@@ -11,7 +11,7 @@ use Rattle.py_lines.specs.declared.mode.Move.{Move}
 use Rattle.py_lines.specs.declared.mode.Start.{Start}
 use Rattle.py_lines.specs.declared.mode.Start.TheVariants as starts
 use Rattle.py_lines.specs.Private.Machine.{IsSound, Holds, HoldsItems, HoldsSome, HoldsQuotes, HoldsPrefix, HoldsLong, Scanned, fresh, closed, started, moved, step, move_of, short_move, long_move, start_of, first_spelling, spelling_with, is_prefix_spelling, is_final}
-use Rattle.py_lines.proofs.Pieces.PieceLists.{piece, spelled-push, AreReadPlain-push, MayFollow, follows_any}
+use Rattle.py_lines.proofs.Pieces.PieceLists.{piece, spelled-push, AreReadIn-push, MayFollow, follows_any}
 use Rattle.py_lines.proofs.Machine.Starts.{StartsSo, starts_so}
 use Rattle.py_lines.proofs.Machine.Spellings.{spelling_on-push, prefix_spelling}
 use Rattle.py_lines.proofs.Text.CharacterTests.{feed_is, return_is, barred, feed-not-return}
@@ -39,7 +39,7 @@ finished : (done : List Piece) (class : Class) (text read : List ℕ) → spelle
 finished done class text read spell fit is before follows = record {
   spell = append-nil (spelled (done ++ piece class text ∷ [])) ∙ spelled-push done class text ∙ spell;
   holds = refl;
-  fit = λ more. AreReadPlain-push done class text more (fit more) is (before more) follows;
+  fit = λ more. AreReadIn-push without_fields done class text more (fit more) is (before more) follows;
 }
 
 -- the open piece is finished by a character
@@ -70,7 +70,7 @@ start_sound done read c starts.Nothing so spell fit = tt
 -- the open piece ends before a character, which begins a new one
 break_sound : (done : List Piece) (m : Mode) (class : Class) (held read : List ℕ) (c : ℕ) → IsSound (scanned done m held) read → is_mark_class class ≡ false → InPlainClass class held → ((more : List ℕ) → MayPrecedePlain class held (c ∷ more)) → SoundIf (started (done ++ piece class held ∷ []) c (start_of c)) (read ++ c ∷ [])
 break_sound done m class held read c sound unmarked is before =
-    start_sound (done ++ piece class held ∷ []) read c (start_of c) (starts_so c) (spelled-push done class held ∙ sound.spell) (λ more. AreReadPlain-push done class held (c ∷ more) (sound.fit (c ∷ more)) is (before more) (follows_any done class held unmarked))
+    start_sound (done ++ piece class held ∷ []) read c (start_of c) (starts_so c) (spelled-push done class held ∙ sound.spell) (λ more. AreReadIn-push without_fields done class held (c ∷ more) (sound.fit (c ∷ more)) is (before more) (follows_any done class held unmarked))
 
 pub prefix_held : (s : Spelling) (done : List Piece) (held : List ℕ) → Holds (modes.Word s) done held → is_prefix held ≡ is_prefix_spelling s
 prefix_held s done held (first, others, is, opens, run, so) = ap is_prefix is ∙ prefix_spelling first others ∙ ap is_prefix_spelling (sym so)
@@ -245,7 +245,7 @@ step_sound done m held read c sound = absurd sound.holds
 
 -- where the text may end, the pieces, the open one with them, are read to the text's end
 end_with : (done : List Piece) (m : Mode) (class : Class) (held read : List ℕ) → IsSound (scanned done m held) read → is_mark_class class ≡ false → InPlainClass class held → MayPrecedePlain class held [] → (spelled (done ++ piece class held ∷ []) ≡ read) × AreReadPlain (done ++ piece class held ∷ []) []
-end_with done m class held read sound unmarked is before = (spelled-push done class held ∙ sound.spell, AreReadPlain-push done class held [] (sound.fit []) is before (follows_any done class held unmarked))
+end_with done m class held read sound unmarked is before = (spelled-push done class held ∙ sound.spell, AreReadIn-push without_fields done class held [] (sound.fit []) is before (follows_any done class held unmarked))
 
 end_none : (done : List Piece) (m : Mode) (held read : List ℕ) → IsSound (scanned done m held) read → held ≡ [] → (spelled done ≡ read) × AreReadPlain done []
 end_none done m held read sound empty = (sym (append-nil (spelled done)) ∙ ap (λ t. spelled done ++ t) (sym empty) ∙ sound.spell, subst (λ t. AreReadPlain done (t ++ [])) empty (sound.fit []))

@@ -1,7 +1,7 @@
 -- Lists of pieces one after another.
 use Rattle.std.proofs.Common.{◌≡◌, ℕ, false, List, [], ◌∷◌, ◌++◌, refl, sym, ap, ◌∙◌, subst, append_assoc, append-nil}
 use Rattle.py_lines.specs.Piece.{Class, Piece, is_mark_class, begins_marked, spelled}
-use Rattle.py_lines.specs.PieceGrammar.{Grammar, without_fields, InPlainClass, InClassIn, MayPrecedePlain, MayPrecedeIn, AreReadIn, AreReadPlain, joined}
+use Rattle.py_lines.specs.PieceGrammar.{Grammar, without_fields, InClassIn, MayPrecedeIn, AreReadIn, AreReadPlain, joined}
 use Rattle.py_lines.specs.Fields.{fielded, InClass, MayPrecede, AreReadBefore}
 
 abbrev pub piece : Class → List ℕ → Piece
@@ -52,9 +52,6 @@ AreReadIn-push grammar ps class text rest fit is before follows =
 
 pub AreReadBefore-push : (ps : List Piece) (class : Class) (text rest : List ℕ) → AreReadBefore ps (text ++ rest) → InClass class text → MayPrecede class text rest → MayFollow ps (piece class text ∷ []) → AreReadBefore (ps ++ piece class text ∷ []) rest
 AreReadBefore-push ps class text rest fit is before follows = AreReadIn-push fielded ps class text rest fit is before follows
-
-pub AreReadPlain-push : (ps : List Piece) (class : Class) (text rest : List ℕ) → AreReadPlain ps (text ++ rest) → InPlainClass class text → MayPrecedePlain class text rest → MayFollow ps (piece class text ∷ []) → AreReadPlain (ps ++ piece class text ∷ []) rest
-AreReadPlain-push ps class text rest fit is before follows = AreReadIn-push without_fields ps class text rest fit is before follows
 
 pub spelled-push : (ps : List Piece) (class : Class) (text : List ℕ) → spelled (ps ++ piece class text ∷ []) ≡ spelled ps ++ text
 spelled-push ps class text = spelled-append ps (piece class text ∷ []) ∙ ap (λ t. spelled ps ++ t) (append-nil text)

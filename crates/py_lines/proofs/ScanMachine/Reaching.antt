@@ -19,7 +19,8 @@ use Rattle.py_lines.proofs.Machine.ReadingSteps.{ReachesBy}
 use Rattle.py_lines.proofs.FieldMachine.Runs.{BelowLimit, StopsAt, steps_of, room_of}
 use Rattle.py_lines.proofs.FieldMachine.ListBrackets.{openers_through-append, opener_pushes, balanced_openers}
 use Rattle.py_lines.proofs.FieldMachine.Nesting.{passed_shallow, begin_shallow, shallow_run}
-use Rattle.py_lines.proofs.FieldMachine.Completeness.{FieldReaches, reached}
+use Rattle.py_lines.proofs.FieldMachine.PieceRuns.{FieldFinds}
+use Rattle.py_lines.proofs.FieldMachine.Completeness.{reached}
 use Rattle.py_lines.proofs.ScanMachine.Steps.{StopsBefore}
 use Rattle.py_lines.proofs.ScanMachine.Rebased.{rebased, rebased_if, mode_based, none_based}
 use Rattle.py_lines.proofs.ScanMachine.Follows.{openers_of, flat, Own, IsTied, some_is}
@@ -66,11 +67,11 @@ stops_start [] h = refl
 stops_start (c ∷ cs) h = rw h
 
 -- it finds what the machine with fields finds
-reach_by : (pieces : List Piece) (os rest : List ℕ) (found : FieldReaches BelowLimit (spelled pieces) pieces os rest) → StopsAt found.mode found.held rest → Reaches (spelled pieces) pieces rest
-reach_by pieces os rest found stops =
+reach_by : (pieces : List Piece) (os rest : List ℕ) → FieldFinds BelowLimit field_text_start (spelled pieces) pieces os rest → Reaches (spelled pieces) pieces rest
+reach_by pieces os rest found =
     let t : FieldScanned = field_state [] found.done os found.mode found.held in
     let along = goes_along (spelled pieces) text_start [] field_text_start t start_tied (steps_of BelowLimit field_text_start t (spelled pieces) found.goes) (room_of field_text_start t (spelled pieces) found.goes) in
-    let alike = stops_alike rest t along.state along.brackets along.tied refl stops in
+    let alike = stops_alike rest t along.state along.brackets along.tied refl found.stops in
     record { to = along.state; steps = along.goes.run; pieces_are = sym alike.1 ∙ found.pieces_are; stops = λ begin. alike.0 }
 
 -- pieces that are read before the rest are found from the start
@@ -79,5 +80,5 @@ reach [] st rest fit stack strings = record { to = text_start; steps = refl; pie
 reach (p ∷ ps) st rest fit stack strings =
     let at = stands (p ∷ ps) st stack in
     let shallow = passed_shallow ShallowFields 0 (p ∷ ps) (shallow_both 0 (p ∷ ps) at.shallow strings) in
-    let found = reached BelowLimit ShallowFields begin_shallow shallow_run Fields (p ∷ ps) (openers_of st) rest fit shallow (stack_openers (p ∷ ps) st at.at) in
-    reach_by (p ∷ ps) (openers_of st) rest found (found.stops tt)
+    let found = reached BelowLimit ShallowFields begin_shallow shallow_run Fields (p ∷ ps) (openers_of st) rest fit shallow (stack_openers (p ∷ ps) st at.at) tt in
+    reach_by (p ∷ ps) (openers_of st) rest found
