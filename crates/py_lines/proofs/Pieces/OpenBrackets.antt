@@ -24,14 +24,11 @@ operator-closing class text h = refl
 pub closer-not-opener : (p : Piece) → is_closer p ≡ true → is_opener p ≡ false
 closer-not-opener p h = operator-closing p.class p.text h
 
--- the first character of a piece that passes a test
-begins_first : (p q : ℕ → Bool) (text : List ℕ) → begins p text ≡ true → begins q text ≡ true → q (first_or_zero text) ≡ true
-begins_first p q [] h k = absurd (both_ways _ refl k)
-begins_first p q (c ∷ cs) h k = k
-
-first_begins : (p q : ℕ → Bool) (text : List ℕ) → begins p text ≡ true → q (first_or_zero text) ≡ true → begins q text ≡ true
-first_begins p q [] h k = absurd (both_ways _ refl h)
-first_begins p q (c ∷ cs) h k = k
+-- a text that begins with an opening bracket, and one that begins with a closing one, are of one kind where their first characters are
+kinds_agree : (s t : List ℕ) → begins is_opening s ≡ true → begins is_closing t ≡ true → begins (λ c. begins (λ d. d == closing_of c) t) s ≡ (first_or_zero t == closing_of (first_or_zero s))
+kinds_agree [] t opens closes = absurd (both_ways _ refl opens)
+kinds_agree (c ∷ cs) [] opens closes = absurd (both_ways _ refl closes)
+kinds_agree (c ∷ cs) (d ∷ ds) opens closes = refl
 
 operator_begins : (p : ℕ → Bool) (class : Class) (text : List ℕ) → is_operator_that p class text ≡ true → begins p text ≡ true
 operator_begins p operator text h = h
@@ -101,9 +98,7 @@ unfolding brackets_after
 other_keeps st place p h k = rw (h, k)
 
 pub pair_kind : (a b : Piece) → ArePair a b → first_or_zero b.text == closing_of (first_or_zero a.text) ≡ true
-pair_kind a b both =
-    begins_first is_closing (λ d. d == closing_of (first_or_zero a.text)) b.text (operator_begins is_closing b.class b.text both.closes)
-    (begins_first is_opening (λ c. begins (λ d. d == closing_of c) b.text) a.text (operator_begins is_opening a.class a.text both.opens) both.kind)
+pair_kind a b both = sym (kinds_agree a.text b.text (operator_begins is_opening a.class a.text both.opens) (operator_begins is_closing b.class b.text both.closes)) ∙ both.kind
 
 -- a balanced list leaves the stack as it was
 pub balanced_through : (ps : List Piece) → IsBalanced ps → (st : List Bracket) (done : List Piece) → IsShallowPlain (length st) ps → brackets_through (Some st) done ps ≡ Some st
@@ -174,9 +169,8 @@ stands-pops b bs ps p (inside _ _ c others outer inner a is spell out opens kind
     let both : ArePair a p = record {
       opens = opens;
       closes = closes;
-      kind = first_begins is_opening (λ x. begins (λ d. d == closing_of x) p.text) a.text (operator_begins is_opening a.class a.text opens)
-          (first_begins is_closing (λ d. d == closing_of (first_or_zero a.text)) p.text (operator_begins is_closing p.class p.text closes)
-          (subst (λ (x : ℕ). first_or_zero p.text == closing_of x ≡ true) (ap (λ (x : Bracket). x.opener) top ∙ kind) same));
+      kind = kinds_agree a.text p.text (operator_begins is_opening a.class a.text opens) (operator_begins is_closing p.class p.text closes)
+          ∙ subst (λ (x : ℕ). first_or_zero p.text == closing_of x ≡ true) (ap (λ (x : Bracket). x.opener) top ∙ kind) same;
     } in
     subst (StandsAt bs) (sym (ap (λ l. l ++ p ∷ []) spell ∙ append_assoc outer (a ∷ inner) (p ∷ [])))
     (stands-more bs outer (a ∷ inner ++ p ∷ []) (subst (λ l. StandsAt l outer) rest out) (balance.pair (a ∷ inner ++ p ∷ []) inner a p refl both within))
