@@ -133,46 +133,29 @@ string_runs from host spot front rest (in_specification _ round _ _ opening insi
     }))
 
 -- where the string is open up to a backslash after the spot
-pub record UpToRun (from : FieldScanned) (host : Host) (spot : Spot) (front : List ℕ) : Type 0 where
-  pub outer : List Level
-  pub done : List Piece
-  pub openers : List ℕ
-  pub mode : FieldMode
-  pub goes : Goes NoLimit from front (field_state outer done openers mode front)
-  pub named : Bool
-  pub mode_is : IsInString host spot.place named mode []
-  pub start_is : before spot.place outer ++ spelled done ≡ before literal from.outer ++ spelled (field_pieces from)
-  pub field_is : HasOpened spot.place outer spot.field
-
-pub up_to_runs : (from : FieldScanned) (host : Host) (spot : Spot) (front : List ℕ) → IsOpenUpTo host spot front → StopsAt from.mode from.held front → UpToRun from host spot front
+pub up_to_runs : (from : FieldScanned) (host : Host) (spot : Spot) (front : List ℕ) → IsOpenUpTo host spot front → StopsAt from.mode from.held front → StringRun from host spot front []
 up_to_runs from host spot front is stops = go is.escapes
   where
     run : StringRun from host spot is.body is.last
     run = string_runs from host spot is.body is.last is.string (subst (StopsAt from.mode from.held) is.spell stops)
 
-    at : (mode : FieldMode) (text : List ℕ) → text ≡ front → Goes NoLimit from text (field_state run.outer run.done run.openers mode text) → IsInString host spot.place spot.named mode [] → UpToRun from host spot front
-    at mode text same goes mode_is =
-        subst (UpToRun from host spot) same (record {
-          outer = run.outer;
-          done = run.done;
-          openers = run.openers;
-          mode = mode;
-          goes = goes;
-          named = spot.named;
-          mode_is = mode_is;
-          start_is = run.start_is;
-          field_is = run.field_is;
-        })
-
-    go : IsUnescaped is.last → UpToRun from host spot front
+    go : IsUnescaped is.last → StringRun from host spot front []
     go (inl none) =
-        at run.mode is.body (sym (append-nil is.body) ∙ ap (λ t. is.body ++ t) (sym none) ∙ sym is.spell) run.goes
-        (subst (IsInString host spot.place spot.named run.mode) none run.stands)
+        subst (λ t. StringRun from host spot t []) (sym (append-nil is.body) ∙ ap (λ t. is.body ++ t) (sym none) ∙ sym is.spell) (subst (StringRun from host spot is.body) none run)
     go (inr (s, one, slashes)) =
         let quotes = open_quotes host spot is.body is.last is.string in
         let other = not_quote s host.quote quotes (slash-not-quote s slashes) in
         let move = string_moves host spot.place spot.named run.mode is.body s [] (subst (IsInString host spot.place spot.named run.mode) one run.stands) other in
         let before_slash : FieldScanned = field_state run.outer run.done run.openers run.mode is.body in
-        at (body host spot.place spot.named after_slash) (is.body ++ s ∷ []) (ap (λ t. is.body ++ t) (sym one) ∙ sym is.spell)
-        (goes-append NoLimit from before_slash _ is.body (s ∷ []) run.goes
-        (goes-grows NoLimit before_slash _ (body host spot.place spot.named after_slash) s [] (move.1 ∙ slash_grows host spot.place spot.named move.0 s quotes slashes) refl)) (in_part after_slash refl refl)
+        subst (λ t. StringRun from host spot t []) (ap (λ t. is.body ++ t) (sym one) ∙ sym is.spell) (record {
+          outer = run.outer;
+          done = run.done;
+          openers = run.openers;
+          mode = body host spot.place spot.named after_slash;
+          goes = goes-append NoLimit from before_slash _ is.body (s ∷ []) run.goes
+              (goes-grows NoLimit before_slash _ (body host spot.place spot.named after_slash) s [] (move.1 ∙ slash_grows host spot.place spot.named move.0 s quotes slashes) refl);
+          stands = in_part after_slash refl refl;
+          start_is = run.start_is;
+          depth_is = run.depth_is;
+          field_is = run.field_is;
+        })

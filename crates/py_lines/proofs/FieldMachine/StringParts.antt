@@ -206,8 +206,8 @@ module _ (host : Host) (place : Place) (named : Bool) (at : At) (rest : List ℕ
   one_grows after to c here moves on open_yet = record { to = to; grown = (body host place after to, λ held. body_moves host place named at held c rest here ∙ moves, refl); on = on; open_yet = open_yet }
 
   -- one that stands for itself
-  bare_grows : (c : ℕ) → is_backslash c ≡ false → may_stand host c ≡ true → is_ordinary place named c ≡ true → Passes host place named at rest tail (c ∷ [])
-  bare_grows c no_slash stands itself = go (eqb c host.quote) refl
+  bare_passes : (c : ℕ) → is_backslash c ≡ false → may_stand host c ≡ true → is_ordinary place named c ≡ true → Passes host place named at rest tail (c ∷ [])
+  bare_passes c no_slash stands itself = go (eqb c host.quote) refl
     where
       own_quote : may_stand host host.quote ≡ true → Passes host place named at rest tail (host.quote ∷ [])
       own_quote may here open_yet =
@@ -226,17 +226,21 @@ module _ (host : Host) (place : Place) (named : Bool) (at : At) (rest : List ℕ
   slash_then text s to slashes here grown =
       (body host place named after_slash, λ held. body_moves host place named at held s (text ++ rest) here ∙ slash_grows host place named (settled at) s quotes slashes, grown)
 
-  slash_grows_part : (s : ℕ) → is_backslash s ≡ true → begins is_brace rest ≡ true → Passes host place named at rest tail (s ∷ [])
-  slash_grows_part s slashes braces here open_yet = record {
+  slash_passes : (s : ℕ) → is_backslash s ≡ true → begins is_brace rest ≡ true → Passes host place named at rest tail (s ∷ [])
+  slash_passes s slashes braces here open_yet = record {
     to = after_slash;
     grown = slash_then [] s _ slashes here (ap (λ n. body host place n after_slash) (sym (slash_unnamed named s slashes)));
     on = goes_on-slash host place _ rest braces;
     open_yet = seen_later host.quote at (s ∷ []) tail open_yet;
   }
 
+  -- a part after which the string stands between two
+  passes_between : (part : List ℕ) → (MayGoOn host place named at (part ++ rest) → GrowsTo (body host place named at) part (body host place (named_after named part) between)) → Passes host place named at rest tail part
+  passes_between part grown here open_yet = record { to = between; grown = grown here; on = goes_on host place _ rest; open_yet = seen_later host.quote at part tail open_yet }
+
   -- a backslash and a character that is no brace
-  escape_grows : (s c : ℕ) → is_backslash s ≡ true → is_brace c ≡ false → may_be_escaped host place c ≡ true → names host c && begins_open rest ≡ false → is_return c && begins is_line_feed rest ≡ false → Passes host place named at rest tail (s ∷ c ∷ [])
-  escape_grows s c slashes brace may none ended here open_yet = go (is_return c) (names host c) refl refl
+  escape_passes : (s c : ℕ) → is_backslash s ≡ true → is_brace c ≡ false → may_be_escaped host place c ≡ true → names host c && begins_open rest ≡ false → is_return c && begins is_line_feed rest ≡ false → Passes host place named at rest tail (s ∷ c ∷ [])
+  escape_passes s c slashes brace may none ended here open_yet = go (is_return c) (names host c) refl refl
     where
       yet : has_triple host.quote tail ≡ false
       yet = seen_later host.quote at (s ∷ c ∷ []) tail open_yet
@@ -250,45 +254,34 @@ module _ (host : Host) (place : Place) (named : Bool) (at : At) (rest : List ℕ
       go false false other no_name = by between (λ held. other_escaped host place named held c brace may other no_name) (goes_on host place named rest) yet
 
   -- a backslash, CR and LF
-  end_grows : (s r f : ℕ) → is_backslash s ≡ true → is_return r ≡ true → is_line_feed f ≡ true → may_be_escaped host place r ≡ true → Passes host place named at rest tail (s ∷ r ∷ f ∷ [])
+  end_passes : (s r f : ℕ) → is_backslash s ≡ true → is_return r ≡ true → is_line_feed f ≡ true → may_be_escaped host place r ≡ true → Passes host place named at rest tail (s ∷ r ∷ f ∷ [])
   unfolding field_move body_move
-  end_grows s r f slashes returns feeds may here open_yet = record {
-    to = between;
-    grown = slash_then (r ∷ f ∷ []) s _ slashes here (
-      body host place named after_return,
-      λ held. escaped host place named held r (return-not-brace r returns) may ∙ rw returns,
-      (body host place named between, λ held. rw feeds, ap (λ n. body host place n between) (sym (return_unnamed named s r f returns))),
-    );
-    on = goes_on host place _ rest;
-    open_yet = seen_later host.quote at (s ∷ r ∷ f ∷ []) tail open_yet;
-  }
+  end_passes s r f slashes returns feeds may =
+      passes_between (s ∷ r ∷ f ∷ []) (λ here.
+      slash_then (r ∷ f ∷ []) s _ slashes here (
+        body host place named after_return,
+        λ held. escaped host place named held r (return-not-brace r returns) may ∙ rw returns,
+        (body host place named between, λ held. rw feeds, ap (λ n. body host place n between) (sym (return_unnamed named s r f returns))),
+      ))
 
   -- `\N{`
-  name_grows : (s c : ℕ) → is_backslash s ≡ true → names host c ≡ true → Passes host place named at rest tail (s ∷ c ∷ 123 ∷ [])
+  name_passes : (s c : ℕ) → is_backslash s ≡ true → names host c ≡ true → Passes host place named at rest tail (s ∷ c ∷ 123 ∷ [])
   unfolding field_move body_move
-  name_grows s c slashes is_name here open_yet = record {
-    to = between;
-    grown = slash_then (c ∷ 123 ∷ []) s _ slashes here (
-      body host place named after_name,
-      λ held. escaped host place named held c (name-not-brace host c is_name) (name_may host place c is_name) ∙ rw (name-not-return host c is_name, is_name),
-      (body host place true between, λ held. refl, ap (λ n. body host place n between) (sym (name_named host named s c 123 slashes is_name))),
-    );
-    on = goes_on host place _ rest;
-    open_yet = seen_later host.quote at (s ∷ c ∷ 123 ∷ []) tail open_yet;
-  }
+  name_passes s c slashes is_name =
+      passes_between (s ∷ c ∷ 123 ∷ []) (λ here.
+      slash_then (c ∷ 123 ∷ []) s _ slashes here (
+        body host place named after_name,
+        λ held. escaped host place named held c (name-not-brace host c is_name) (name_may host place c is_name) ∙ rw (name-not-return host c is_name, is_name),
+        (body host place true between, λ held. refl, ap (λ n. body host place n between) (sym (name_named host named s c 123 slashes is_name))),
+      ))
 
 -- `{{`
-double_grows : (host : Host) (at : At) (rest : List ℕ) (tail : List (List ℕ)) → is_quote host.quote ≡ true → Passes host literal false at rest tail (123 ∷ 123 ∷ [])
-double_grows host at rest tail quotes here open_yet = record {
-  to = between;
-  grown = (
-    body host literal false after_brace,
-    λ held. body_moves host literal false at held 123 (123 ∷ rest) here ∙ open_moves host literal (settled at) quotes,
-    (body host literal false between, λ held. second_brace host literal false held, refl),
-  );
-  on = goes_on host literal false rest;
-  open_yet = seen_later host.quote at (123 ∷ 123 ∷ []) tail open_yet;
-}
+double_passes : (host : Host) (at : At) (rest : List ℕ) (tail : List (List ℕ)) → is_quote host.quote ≡ true → Passes host literal false at rest tail (123 ∷ 123 ∷ [])
+double_passes host at rest tail quotes = passes_between host literal false at rest tail quotes (123 ∷ 123 ∷ []) (λ here. (
+  body host literal false after_brace,
+  λ held. body_moves host literal false at held 123 (123 ∷ rest) here ∙ open_moves host literal (settled at) quotes,
+  (body host literal false between, λ held. second_brace host literal false held, refl),
+))
 
 module _ (Room : ℕ → Type 0) (outer : List Level) (done : List Piece) (openers : List ℕ) where
   -- the string is open in this list
@@ -334,14 +327,14 @@ module _ (Room : ℕ → Type 0) (outer : List Level) (done : List Piece) (opene
           record { to = own.to; goes = goes-grown Room outer done openers _ _ held part own.grown; on = own.on; open_yet = own.open_yet }
 
       by : IsPart F host place named part rest → PartGoes host place named (named_after named part) at held part rest tail
-      by (bare c is no_slash stands itself) = grown (c ∷ []) is (bare_grows host place named at rest tail quotes c no_slash stands itself)
-      by (slash s is slashes braces) = grown (s ∷ []) is (slash_grows_part host place named at rest tail quotes s slashes braces)
-      by (escape s c is slashes brace may none ended) = grown (s ∷ c ∷ []) is (escape_grows host place named at rest tail quotes s c slashes brace may none ended)
-      by (escaped_end s r f is slashes returns feeds may) = grown (s ∷ r ∷ f ∷ []) is (end_grows host place named at rest tail quotes s r f slashes returns feeds may)
-      by (name s c b is slashes is_name braces) = grown (s ∷ c ∷ 123 ∷ []) (is ∙ ap (λ x. s ∷ c ∷ x ∷ []) braces) (name_grows host place named at rest tail quotes s c slashes is_name)
+      by (bare c is no_slash stands itself) = grown (c ∷ []) is (bare_passes host place named at rest tail quotes c no_slash stands itself)
+      by (slash s is slashes braces) = grown (s ∷ []) is (slash_passes host place named at rest tail quotes s slashes braces)
+      by (escape s c is slashes brace may none ended) = grown (s ∷ c ∷ []) is (escape_passes host place named at rest tail quotes s c slashes brace may none ended)
+      by (escaped_end s r f is slashes returns feeds may) = grown (s ∷ r ∷ f ∷ []) is (end_passes host place named at rest tail quotes s r f slashes returns feeds may)
+      by (name s c b is slashes is_name braces) = grown (s ∷ c ∷ 123 ∷ []) (is ∙ ap (λ x. s ∷ c ∷ x ∷ []) braces) (name_passes host place named at rest tail quotes s c slashes is_name)
       by (double b c is one two at_literal unnamed) =
           let P : Place → Bool → Type 0 = λ p n. Passes host p n at rest tail (123 ∷ 123 ∷ []) in
-          grown (123 ∷ 123 ∷ []) (is ∙ ap (λ x. x ∷ c ∷ []) one ∙ ap (λ x. 123 ∷ x ∷ []) two) (subst (λ p. P p named) (sym at_literal) (subst (P literal) (sym unnamed) (double_grows host at rest tail quotes)))
+          grown (123 ∷ 123 ∷ []) (is ∙ ap (λ x. x ∷ c ∷ []) one ∙ ap (λ x. 123 ∷ x ∷ []) two) (subst (λ p. P p named) (sym at_literal) (subst (P literal) (sym unnamed) (double_passes host at rest tail quotes)))
       by (field is single unnamed) =
           let P : Bool → Type 0 = λ n. MayGoOn host place n at (part ++ rest) → PartGoes host place n (named_after n part) at held part rest tail in
           subst P (sym unnamed) (λ h. field_goes F begin go host place at held part rest tail quotes is single h open_yet) here

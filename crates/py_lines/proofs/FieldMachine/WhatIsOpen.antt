@@ -1,9 +1,9 @@
 -- What is open at a place is told by the state of the machine with fields there, so nothing else is.
-use Rattle.std.proofs.Common.{◌≡◌, ℕ, Bool, true, false, Some, List, [], ◌∷◌, ◌++◌, ◌⊎◌, inl, ⊎_elim, refl, sym, ap, ◌∙◌, subst, append_assoc}
+use Rattle.std.proofs.Common.{◌≡◌, ℕ, Bool, true, false, Some, List, [], ◌∷◌, ◌++◌, ◌⊎◌, inl, inr, refl, sym, ap, ◌∙◌, subst, append_assoc}
 use Rattle.std.proofs.lemmas.Bool.{both_ways}
 use Rattle.py_lines.specs.Character.{is_mark, is_quote}
 use Rattle.py_lines.specs.Piece.{begins, spelled}
-use Rattle.py_lines.specs.PieceGrammar.{joined, IsPrefix}
+use Rattle.py_lines.specs.PieceGrammar.{IsPrefix}
 use Rattle.py_lines.specs.OpenFields.{IsSlash, Spot, StandsOpen, IsOpenUpTo, IsOpenLiteral, IsPlainShortPrefix, IsPlainLongPrefix, InOpenShort, InOpenLong, AfterOpenBackslash, InSpecification}
 use Rattle.py_lines.specs.FieldStrings.{is_field_prefix, Host, Place, literal, specification}
 use Rattle.py_lines.specs.declared.mode.Mode.{Mode}
@@ -61,30 +61,21 @@ InLiteral false mode = in_open_short mode ≡ true
 InLiteral true mode = in_open_long mode ≡ true
 
 -- a string without fields, whose text grows so after its first quote
-plain_comes : (characters start front : List ℕ) (at : FrontAt characters start front) (is_long : Bool) (prefix : List ℕ) (q : ℕ) (inner : List ℕ) → front ≡ prefix ++ q ∷ inner → IsPrefix prefix → is_field_prefix prefix ≡ false → is_quote q ≡ true → GrownTo (λ m. InLiteral is_long (plain m)) (modes.Opened q) inner → Comes characters (λ s. InLiteral is_long s.mode × StartsAfter literal start s)
-plain_comes characters start front at is_long prefix q inner spell is no_field quotes (m, such, grown) =
-    let from = at.from in
+plain_comes : (IsOpen : List ℕ → Type 0) (characters start : List ℕ) (at : StandsOpen IsOpen characters start) (is_long : Bool) (prefix : List ℕ) (q : ℕ) (inner : List ℕ) → at.front ≡ prefix ++ q ∷ inner → IsPrefix prefix → is_field_prefix prefix ≡ false → is_quote q ≡ true → GrownTo (λ m. InLiteral is_long (plain m)) (modes.Opened q) inner → Comes characters (λ s. InLiteral is_long s.mode × StartsAfter literal start s)
+plain_comes IsOpen characters start at is_long prefix q inner spell is no_field quotes (m, such, grown) =
+    let front = front_at IsOpen characters start at (subst (λ t. begins is_mark t ≡ false) (sym spell) (prefix-unmarked prefix q inner is quotes)) in
+    let from = front.from in
     let state : Mode → List ℕ → FieldScanned = λ n held. field_state from.outer (field_pieces from) from.openers (plain n) held in
     let to : FieldScanned = state m ((prefix ++ q ∷ []) ++ inner) in
     let run = goes-append NoLimit from (state (modes.Opened q) (prefix ++ q ∷ [])) to (prefix ++ q ∷ []) inner
-    (plain_opens NoLimit from prefix q inner is no_field quotes (subst (StopsAt from.mode from.held) spell at.stops))
+    (plain_opens NoLimit from prefix q inner is no_field quotes (subst (StopsAt from.mode from.held) spell front.stops))
     (goes-grown NoLimit from.outer (field_pieces from) from.openers (plain (modes.Opened q)) (plain m) (prefix ++ q ∷ []) inner (grown-alike (modes.Opened q) m inner (inl refl) grown)) in
     let full = some_head prefix q inner in
     record {
       to = to;
-      goes = at.goes to full.0 full.1 (spell ∙ full.2) (subst (λ t. Goes NoLimit from t to) (append_assoc prefix (q ∷ []) inner ∙ sym spell) run);
-      such = (such, at.start_is);
+      goes = front.goes to full.0 full.1 (spell ∙ full.2) (subst (λ t. Goes NoLimit from t to) (append_assoc prefix (q ∷ []) inner ∙ sym spell) run);
+      such = (such, front.start_is);
     }
-
--- a short one
-short_comes : (characters start front : List ℕ) → FrontAt characters start front → IsPlainShortPrefix front → Comes characters (λ s. InLiteral false s.mode × StartsAfter literal start s)
-short_comes characters start front at (short, no_field) =
-    plain_comes characters start front at false short.prefix short.quote _ short.spell short.begun no_field short.opens (short_end short.quote short.items short.last short.opens short.holds short.escapes)
-
--- a long one
-long_comes : (characters start front : List ℕ) → FrontAt characters start front → IsPlainLongPrefix front → Comes characters (λ s. InLiteral true s.mode × StartsAfter literal start s)
-long_comes characters start front at (long, no_field) =
-    plain_comes characters start front at true long.prefix long.quote _ long.spell long.begun no_field long.opens (long_end long.quote long.items long.last long.opens long.holds.0 long.holds.1 long.escapes)
 
 literal_mode : (host : Host) (named : Bool) (is_long : Bool) (mode : FieldMode) → IsInString host literal named mode [] → host.is_long ≡ is_long → InLiteral is_long mode
 literal_mode host named true mode (in_part at is apart) long = subst (InLiteral true) (sym is) (rw (apart, long))
@@ -92,58 +83,40 @@ literal_mode host named false mode (in_part at is apart) long = subst (InLiteral
 literal_mode host named true mode (at_first is place_is unnamed short) long = absurd (both_ways _ short long)
 literal_mode host named false mode (at_first is place_is unnamed short) long = subst (InLiteral false) (sym is) refl
 
--- the state of a string with fields that is open
-pub record HostAt (characters start front : List ℕ) (host : Host) (spot : Spot) : Type 0 where
-  pub to : FieldScanned
-  pub goes : Goes NoLimit field_text_start characters to
-  pub named : Bool
-  pub mode_is : IsInString host spot.place named to.mode []
-  pub start_is : StartsAfter spot.place start to
-  pub field_is : HasOpened spot.place to.outer spot.field
-
-host_at : (characters start front : List ℕ) (host : Host) (spot : Spot) → FrontAt characters start front → IsOpenUpTo host spot front → HostAt characters start front host spot
-host_at characters start front host spot at is =
-    let run = up_to_runs at.from host spot front is at.stops in
+-- a string with fields that is open
+host_comes : (IsOpen : List ℕ → Type 0) (characters start : List ℕ) (at : StandsOpen IsOpen characters start) (host : Host) (spot : Spot) → IsOpenUpTo host spot at.front → Comes characters (λ s. IsInString host spot.place spot.named s.mode [] × StartsAfter spot.place start s × HasOpened spot.place s.outer spot.field)
+host_comes IsOpen characters start at host spot is =
+    let front = front_at IsOpen characters start at (subst (λ t. begins is_mark t ≡ false) (sym is.spell) (open_unmarked host spot is.body is.last is.last is.string)) in
+    let run = up_to_runs front.from host spot at.front is front.stops in
+    let to : FieldScanned = field_state run.outer run.done run.openers run.mode at.front in
     let full = open_begins host spot is.body is.last is.last is.string in
-    record {
-      to = field_state run.outer run.done run.openers run.mode front;
-      goes = at.goes (field_state run.outer run.done run.openers run.mode front) full.0 full.1 (is.spell ∙ full.2) run.goes;
-      named = run.named;
-      mode_is = run.mode_is;
-      start_is = run.start_is ∙ at.start_is;
-      field_is = run.field_is;
-    }
+    record { to = to; goes = front.goes to full.0 full.1 (is.spell ∙ full.2) run.goes; such = (run.stands, run.start_is ∙ front.start_is, run.field_is) }
 
-literal_comes : (characters start front : List ℕ) (is_long : Bool) → FrontAt characters start front → IsOpenLiteral is_long front → Comes characters (λ s. InLiteral is_long s.mode × StartsAfter literal start s)
-literal_comes characters start front is_long at (host, spot, is, at_literal, long) =
-    let own = host_at characters start front host spot at is in
+literal_comes : (IsOpen : List ℕ → Type 0) (characters start : List ℕ) (at : StandsOpen IsOpen characters start) (is_long : Bool) → IsOpenLiteral is_long at.front → Comes characters (λ s. InLiteral is_long s.mode × StartsAfter literal start s)
+literal_comes IsOpen characters start at is_long (host, spot, is, at_literal, long) =
+    let own = host_comes IsOpen characters start at host spot is in
     record {
       to = own.to;
       goes = own.goes;
-      such = (literal_mode host own.named is_long own.to.mode (subst (λ p. IsInString host p own.named own.to.mode []) at_literal own.mode_is) long, subst (λ p. StartsAfter p start own.to) at_literal own.start_is);
+      such = (literal_mode host spot.named is_long own.to.mode (subst (λ p. IsInString host p spot.named own.to.mode []) at_literal own.such.0) long, subst (λ p. StartsAfter p start own.to) at_literal own.such.1);
     }
 
--- what is open is no mark
-literal_unmarked : (is_long : Bool) (front : List ℕ) → IsOpenLiteral is_long front → begins is_mark front ≡ false
-literal_unmarked is_long front (host, spot, is, at_literal, long) = subst (λ t. begins is_mark t ≡ false) (sym is.spell) (open_unmarked host spot is.body is.last is.last is.string)
-
 -- a string that is open: one without fields, or the literal part of one with fields
-string_open_comes : (IsPlain : List ℕ → Type 0) (is_long : Bool) (characters start : List ℕ) → ((front : List ℕ) → IsPlain front → begins is_mark front ≡ false) → ((front : List ℕ) → FrontAt characters start front → IsPlain front → Comes characters (λ s. InLiteral is_long s.mode × StartsAfter literal start s)) → StandsOpen (λ front. IsPlain front ⊎ IsOpenLiteral is_long front) characters start → Comes characters (λ s. InLiteral is_long s.mode × StartsAfter literal start s)
-string_open_comes IsPlain is_long characters start unmarked comes at =
-    ⊎_elim (λ is. comes at.front (front_at _ characters start at (unmarked at.front is)) is)
-    (λ is. literal_comes characters start at.front is_long (front_at _ characters start at (literal_unmarked is_long at.front is)) is) at.open_yet
-
-short_unmarked : (front : List ℕ) → IsPlainShortPrefix front → begins is_mark front ≡ false
-short_unmarked front (short, no_field) = subst (λ t. begins is_mark t ≡ false) (sym short.spell) (prefix-unmarked short.prefix short.quote (joined short.items ++ short.last) short.begun short.opens)
-
-long_unmarked : (front : List ℕ) → IsPlainLongPrefix front → begins is_mark front ≡ false
-long_unmarked front (long, no_field) = subst (λ t. begins is_mark t ≡ false) (sym long.spell) (prefix-unmarked long.prefix long.quote (long.quote ∷ long.quote ∷ (joined long.items ++ long.last)) long.begun long.opens)
-
 pub short_open_comes : (characters start : List ℕ) → InOpenShort characters start → Comes characters (λ s. (in_open_short s.mode ≡ true) × StartsAfter literal start s)
-short_open_comes characters start at = string_open_comes IsPlainShortPrefix false characters start short_unmarked (short_comes characters start) at
+short_open_comes characters start at = go at.open_yet
+  where
+    go : IsPlainShortPrefix at.front ⊎ IsOpenLiteral false at.front → Comes characters (λ s. (in_open_short s.mode ≡ true) × StartsAfter literal start s)
+    go (inl (short, no_field)) =
+        plain_comes _ characters start at false short.prefix short.quote _ short.spell short.begun no_field short.opens (short_end short.quote short.items short.last short.opens short.holds short.escapes)
+    go (inr is) = literal_comes _ characters start at false is
 
 pub long_open_comes : (characters start : List ℕ) → InOpenLong characters start → Comes characters (λ s. (in_open_long s.mode ≡ true) × StartsAfter literal start s)
-long_open_comes characters start at = string_open_comes IsPlainLongPrefix true characters start long_unmarked (long_comes characters start) at
+long_open_comes characters start at = go at.open_yet
+  where
+    go : IsPlainLongPrefix at.front ⊎ IsOpenLiteral true at.front → Comes characters (λ s. (in_open_long s.mode ≡ true) × StartsAfter literal start s)
+    go (inl (long, no_field)) =
+        plain_comes _ characters start at true long.prefix long.quote _ long.spell long.begun no_field long.opens (long_end long.quote long.items long.last long.opens long.holds.0 long.holds.1 long.escapes)
+    go (inr is) = literal_comes _ characters start at true is
 
 -- a backslash outside strings and comments
 pub backslash_comes : (characters start : List ℕ) → AfterOpenBackslash characters start → Comes characters (λ s. (after_open_backslash s.mode ≡ true) × StartsAfter literal start s)
@@ -175,9 +148,7 @@ specification_mode host named mode (at_first is place_is unnamed short) =
 
 pub specification_comes : (host : Host) (characters start : List ℕ) (at : InSpecification host characters start) → Comes characters (λ s. (own : SpecificationAt host start s) × (own.string ≡ at.string))
 specification_comes host characters start at =
-    let up = at.stands.open_yet in
-    let unmarked = subst (λ t. begins is_mark t ≡ false) (sym up.spell) (open_unmarked host at.spot up.body up.last up.last up.string) in
-    let own = host_at characters at.string at.stands.front host at.spot (front_at _ characters at.string at.stands unmarked) up in
+    let own = host_comes _ characters at.string at.stands host at.spot at.stands.open_yet in
     record {
       to = own.to;
       goes = own.goes;
@@ -185,9 +156,9 @@ specification_comes host characters start at =
         record {
           string = at.string;
           field = at.spot.field;
-          mode_is = specification_mode host own.named own.to.mode (subst (λ p. IsInString host p own.named own.to.mode []) at.place own.mode_is);
-          string_is = subst (λ p. StartsAfter p at.string own.to) at.place own.start_is;
-          field_is = subst (λ p. HasOpened p own.to.outer at.spot.field) at.place own.field_is;
+          mode_is = specification_mode host at.spot.named own.to.mode (subst (λ p. IsInString host p at.spot.named own.to.mode []) at.place own.such.0);
+          string_is = subst (λ p. StartsAfter p at.string own.to) at.place own.such.1;
+          field_is = subst (λ p. HasOpened p own.to.outer at.spot.field) at.place own.such.2;
           before = at.before;
         },
         refl,
