@@ -6,6 +6,7 @@ use Rattle.py_lines.specs.Balance.{IsBalanced, depth_through}
 use Rattle.py_lines.specs.OpenFields.{AreBegun, BeginsList, at_start, in_field}
 use Rattle.py_lines.specs.FieldStrings.{Host, Place, literal, specification, begins_open}
 use Rattle.py_lines.specs.Private.FieldMachine.{before, after_brace, FieldMode, body, Level, FieldScanned, field_state, field_fresh, field_text_start, field_closed, field_pieces, opening_move, field_move, field_moved, frames, openers_by, openers_through, levels_open}
+use Rattle.py_lines.proofs.Pieces.OpenBrackets.{some_before}
 use Rattle.py_lines.proofs.Machine.ReadingSteps.{MayBegin}
 use Rattle.py_lines.proofs.FieldMachine.Runs.{NoLimit, Goes, StopsAt, HasRoomFor, goes-append, goes-grows, stops-fresh}
 use Rattle.py_lines.proofs.FieldMachine.ListBrackets.{none_some, openers_through-append, balanced_openers, depth_is}
@@ -21,11 +22,7 @@ list_start (level ∷ outer) = field_fresh (level ∷ outer) [] []
 
 -- the brackets that are open after the first pieces of a balanced list
 some_open : (ps others : List Piece) → IsBalanced (ps ++ others) → (after : List ℕ) × (openers_through (Some []) ps ≡ Some after)
-some_open ps others balanced = go (openers_through (Some []) ps) refl (sym (openers_through-append (Some []) ps others) ∙ balanced_openers (ps ++ others) balanced [])
-  where
-    go : (o : Option (List ℕ)) → openers_through (Some []) ps ≡ o → openers_through o others ≡ Some [] → (after : List ℕ) × (openers_through (Some []) ps ≡ Some after)
-    go None is all = absurd (none_some all)
-    go (Some after) is all = (after, is)
+some_open ps others balanced = some_before (λ o. openers_through o others) refl (openers_through (Some []) ps) [] (sym (openers_through-append (Some []) ps others) ∙ balanced_openers (ps ++ others) balanced [])
 
 -- and how many there are
 depth_of : (ps : List Piece) (os after : List ℕ) (k : ℕ) → openers_through (Some os) ps ≡ Some after → depth_through (length os + k) ps ≡ length after + k

@@ -99,6 +99,10 @@ module _ (Room : ℕ → Type 0) where
           let both : starts.Operator ≡ starts.Open m = sym (start-operator c (opening_operator c opens)) ∙ starts_as in
           cc
 
+  -- a piece is found that a character ends, with none open after it
+  pub fresh_found : (from : FieldScanned) (class : Class) (text after rest : List ℕ) → Goes Room from text (field_fresh from.outer (field_pieces from ++ piece class text ∷ []) after) → FieldFinds Room from text (piece class text ∷ []) after rest
+  fresh_found from class text after rest goes = record { done = field_pieces from ++ piece class text ∷ []; mode = plain modes.Free; held = []; goes = goes; pieces_are = refl; stops = stops-fresh rest }
+
   -- the open piece goes on and ends as in the other machine
   ends_found : (from : FieldScanned) (class : Class) (text first others rest : List ℕ) (m : Mode) → text ≡ first ++ others → Goes Room from first (open_at from m first) → IsQuiet m others → EndsWith class m others rest → EndsNoPrefix class text rest → FieldFinds Room from text (piece class text ∷ []) from.openers rest
   ends_found from class text first others rest m is goes quiet (ends_before n grown shape stops) none = record {
@@ -116,32 +120,22 @@ module _ (Room : ℕ → Type 0) where
       let silent = grown-quiet m n front (c ∷ []) (subst (IsQuiet m) cut quiet) grown in
       let run = goes-append Room from (open_at from m first) last first front goes
       (goes-grown Room from.outer (field_pieces from) from.openers (plain m) (plain n) first front (grown-alike m n front (front_quiet m front (c ∷ []) (subst (IsQuiet m) cut quiet)) grown)) in
-      record {
-        done = field_pieces from ++ piece class text ∷ [];
-        mode = plain modes.Free;
-        held = [];
-        goes = subst (λ t. Goes Room from t (field_fresh from.outer (field_pieces from ++ piece class t ∷ []) from.openers)) (sym (is ∙ whole))
-            (goes-to Room from _ _ ((first ++ front) ++ c ∷ []) (goes-append Room from last _ (first ++ front) (c ∷ []) run
-            (goes-closes Room last c (plain_moves n (first ++ front) c (no_host n (first ++ front) c [] silent) ∙ ap plain_move closing)))
-            (ap (λ k. field_fresh from.outer (field_pieces from ++ piece k ((first ++ front) ++ c ∷ []) ∷ []) from.openers) class_is));
-        pieces_are = refl;
-        stops = stops-fresh rest;
-      }
+      fresh_found from class text from.openers rest
+      (subst (λ t. Goes Room from t (field_fresh from.outer (field_pieces from ++ piece class t ∷ []) from.openers)) (sym (is ∙ whole))
+      (goes-to Room from _ _ ((first ++ front) ++ c ∷ []) (goes-append Room from last _ (first ++ front) (c ∷ []) run
+      (goes-closes Room last c (plain_moves n (first ++ front) c (no_host n (first ++ front) c [] silent) ∙ ap plain_move closing)))
+      (ap (λ k. field_fresh from.outer (field_pieces from ++ piece k ((first ++ front) ++ c ∷ []) ∷ []) from.openers) class_is)))
 
   -- a space, a word, a comment, a join or a line end
   pub plain_found : (F : Host → List ℕ → Type 0) (from : FieldScanned) (class : Class) (text rest : List ℕ) → IsPlainClass class → InPlainClass class text → MayPrecedeIn (with_fields F) class text rest → StopsAt from.mode from.held (text ++ rest) → FieldFinds Room from text (piece class text ∷ []) from.openers rest
   plain_found F from class text rest plain_class is before stops = go (is_read class text rest plain_class is (precede_without F class text rest before))
     where
       go : IsRead class text rest → FieldFinds Room from text (piece class text ∷ []) from.openers rest
-      go (at_once so feed) = subst (λ p. FieldFinds Room from p.text (p ∷ []) from.openers rest) (ap (λ k. piece k (10 ∷ [])) (sym so) ∙ ap (piece class) (sym feed)) (record {
-        done = field_pieces from ++ piece line_end (10 ∷ []) ∷ [];
-        mode = plain modes.Free;
-        held = [];
-        goes = goes-begins Room from _ _ 10 [] (subst (λ t. StopsAt from.mode from.held (t ++ rest)) feed stops)
-            (ap (field_started from.outer (field_pieces from) from.openers 10) (start-feed 10 feed-is-one)) (λ opens. absurd (both_ways _ feed-opens-nothing opens)) refl;
-        pieces_are = refl;
-        stops = stops-fresh rest;
-      })
+      go (at_once so feed) =
+          subst (λ p. FieldFinds Room from p.text (p ∷ []) from.openers rest) (ap (λ k. piece k (10 ∷ [])) (sym so) ∙ ap (piece class) (sym feed))
+          (fresh_found from line_end (10 ∷ []) from.openers rest
+          (goes-begins Room from _ _ 10 [] (subst (λ t. StopsAt from.mode from.held (t ++ rest)) feed stops)
+          (ap (field_started from.outer (field_pieces from) from.openers 10) (start-feed 10 feed-is-one)) (λ opens. absurd (both_ways _ feed-opens-nothing opens)) refl))
       go (opened c cs m spell starts_as quiet ends) =
           ends_found from class text (c ∷ []) cs rest m spell (goes-opens from c (cs ++ rest) m (subst (λ t. StopsAt from.mode from.held (t ++ rest)) spell stops) starts_as) quiet ends (ends_no_prefix F class text rest before)
 
@@ -172,12 +166,7 @@ module _ (Room : ℕ → Type 0) where
 
   -- an operator in its list
   pub operator_found : (from : FieldScanned) (c : ℕ) (after rest : List ℕ) → is_operator c ≡ true → openers_with from.openers c ≡ Some after → IsNoColon from.outer from.openers c → (is_opening c ≡ true → Room (frames from)) → StopsAt from.mode from.held (c ∷ rest) → FieldFinds Room from (c ∷ []) (piece operator (c ∷ []) ∷ []) after rest
-  operator_found from c after rest passes opens none room stops = record {
-    done = field_pieces from ++ piece operator (c ∷ []) ∷ [];
-    mode = plain modes.Free;
-    held = [];
-    goes = goes-begins Room from (field_fresh from.outer (field_pieces from ++ piece operator (c ∷ []) ∷ []) after) _ c [] stops
-        (ap (field_started from.outer (field_pieces from) from.openers c) (start-operator c passes) ∙ operator_stays from.outer (field_pieces from) from.openers after c opens none) room refl;
-    pieces_are = refl;
-    stops = stops-fresh rest;
-  }
+  operator_found from c after rest passes opens none room stops =
+      fresh_found from operator (c ∷ []) after rest
+      (goes-begins Room from (field_fresh from.outer (field_pieces from ++ piece operator (c ∷ []) ∷ []) after) _ c [] stops
+      (ap (field_started from.outer (field_pieces from) from.openers c) (start-operator c passes) ∙ operator_stays from.outer (field_pieces from) from.openers after c opens none) room refl)

@@ -14,8 +14,8 @@ use Rattle.py_lines.proofs.Fields.Prefixes.{field_letters}
 use Rattle.py_lines.proofs.Fields.Parts.{BeginOpen}
 use Rattle.py_lines.proofs.Fields.Elsewhere.{none_false, quotes_begin}
 use Rattle.py_lines.proofs.Fields.Ends.{short_part}
-use Rattle.py_lines.proofs.FieldMachine.Runs.{Goes, HasRoomFor, StopsAt, goes-append, goes-grown, goes-to, goes-grows, goes-closes, stops-fresh}
-use Rattle.py_lines.proofs.FieldMachine.PieceRuns.{FieldFinds, word_goes}
+use Rattle.py_lines.proofs.FieldMachine.Runs.{Goes, HasRoomFor, StopsAt, goes-append, goes-grown, goes-to, goes-grows, goes-closes}
+use Rattle.py_lines.proofs.FieldMachine.PieceRuns.{FieldFinds, fresh_found, word_goes}
 use Rattle.py_lines.proofs.FieldMachine.StringParts.{settled, quotes_seen, MayGoOn, goes_on, body_moves, quote_grows, goes_on-quotes, three_quotes, FieldsGo, parts_go}
 
 -- the second quote
@@ -105,9 +105,6 @@ module _ (Room : ℕ → Type 0) (from : FieldScanned) where
   abbrev closed_at : List ℕ → FieldScanned
   closed_at text = field_fresh from.outer (field_pieces from ++ piece string text ∷ []) from.openers
 
-  finished : (text rest : List ℕ) → Goes Room from text (closed_at text) → FieldFinds Room from text (piece string text ∷ []) from.openers rest
-  finished text rest goes = record { done = field_pieces from ++ piece string text ∷ []; mode = plain modes.Free; held = []; goes = goes; pieces_are = refl; stops = stops-fresh rest }
-
   module _ (F : Host → List ℕ → Type 0) (begin : BeginOpen F) (go : FieldsGo Room from.outer (field_pieces from) from.openers F) where
     -- the machine goes from the string's start through this text of it, into its literal part
     pub record LiteralGoes (host : Host) (named : Bool) (text rest : List ℕ) (tail : List (List ℕ)) : Type 0 where
@@ -194,13 +191,13 @@ module _ (Room : ℕ → Type 0) (from : FieldScanned) where
         let three : List ℕ = q ∷ q ∷ q ∷ [] in
         let last : FieldScanned = closed_at ((text ++ q ∷ q ∷ []) ++ q ∷ []) in
         let closing = subst (λ (m : FieldMode). Goes Room (inside m text) three last) (sym is) (long_closes host named at text refl on (none_before q at open_yet)) in
-        finished (text ++ three) rest (goes-to Room from last _ (text ++ three) (goes-append Room from (inside mode text) last text three goes closing) (ap closed_at (append_assoc text (q ∷ q ∷ []) (q ∷ []))))
+        fresh_found Room from string (text ++ three) from.openers rest (goes-to Room from last _ (text ++ three) (goes-append Room from (inside mode text) last text three goes closing) (ap closed_at (append_assoc text (q ∷ q ∷ []) (q ∷ []))))
     ends_found G true q raw named mode text rest goes (at_quote prefix is spell begun short unnamed) quotes before = absurd (both_ways _ short refl)
     ends_found G false q raw named mode text rest goes (in_body at is on open_yet) quotes before =
         let host : Host = record { quote = q; is_long = false; is_raw = raw } in
         let move = body_moves host literal named at text q [] on ∙ quote_closes host named (settled at) refl in
         let closing = subst (λ (m : FieldMode). Goes Room (inside m text) (q ∷ []) (closed_at (text ++ q ∷ []))) (sym is) (goes-closes Room (inside (body host literal named at) text) q move) in
-        finished (text ++ q ∷ []) rest (goes-append Room from (inside mode text) (closed_at (text ++ q ∷ [])) text (q ∷ []) goes closing)
+        fresh_found Room from string (text ++ q ∷ []) from.openers rest (goes-append Room from (inside mode text) (closed_at (text ++ q ∷ [])) text (q ∷ []) goes closing)
     ends_found G false q raw named mode text rest goes (at_quote prefix is spell begun short unnamed) quotes before =
         let host : Host = record { quote = q; is_long = false; is_raw = raw } in
         let held : List ℕ = text ++ q ∷ [] in

@@ -145,6 +145,10 @@ ends_after class m n a b rest first (ends_before o grown is stops) = ends_before
 ends_after class m n a b rest first (ends_at o front c cut grown is closing) =
     ends_at o (a ++ front) c (ap (λ t. a ++ t) cut ∙ sym (append_assoc a front (c ∷ []))) (grown-append m n o a front first grown) is closing
 
+-- a piece is found that its last character ends
+pub found_fresh : (from : Scanned) (class : Class) (text rest : List ℕ) → steps_from (Some from) text ≡ Some (fresh (pieces_at from ++ piece class text ∷ [])) → Finds from text (piece class text ∷ []) rest
+found_fresh from class text rest steps = record { to = fresh (pieces_at from ++ piece class text ∷ []); steps = steps; pieces_are = refl; stops = stops-free rest }
+
 -- a piece is found that a character opens, and that ends so
 pub found_open : (from : Scanned) (class : Class) (text rest : List ℕ) (c : ℕ) (cs : List ℕ) (m : Mode) → text ≡ c ∷ cs → start_of c ≡ starts.Open m → EndsWith class m cs rest → StopsBefore from.mode (text ++ rest) → Finds from text (piece class text ∷ []) rest
 found_open from class text rest c cs m is starts_as ends stops = subst (λ t. Finds from t (piece class t ∷ []) rest) (sym is) (go ends)
@@ -162,16 +166,14 @@ found_open from class text rest c cs m is starts_as ends stops = subst (λ t. Fi
       pieces_are = shape.1 done (c ∷ cs) ∙ ap (λ k. done ++ piece k (c ∷ cs) ∷ []) shape.0;
       stops = stops_so;
     }
-    go (ends_at n front d cut grown shape closing) = record {
-      to = fresh (done ++ piece (class_of n) (c ∷ (front ++ d ∷ [])) ∷ []);
-      steps = begun
-          ∙ ap (steps_from (Some (scanned done m (c ∷ [])))) cut
-          ∙ steps_by-append move_from (Some (scanned done m (c ∷ []))) front (d ∷ [])
-          ∙ ap (λ o. steps_from o (d ∷ [])) (grown-steps done m n (c ∷ []) front grown)
-          ∙ closes done n (c ∷ front) d closing;
-      pieces_are = ap (λ k. done ++ piece k (c ∷ (front ++ d ∷ [])) ∷ []) shape ∙ ap (λ t. done ++ piece class (c ∷ t) ∷ []) (sym cut);
-      stops = stops-free rest;
-    }
+    go (ends_at n front d cut grown shape closing) =
+        found_fresh from class (c ∷ cs) rest
+        (begun
+        ∙ ap (steps_from (Some (scanned done m (c ∷ [])))) cut
+        ∙ steps_by-append move_from (Some (scanned done m (c ∷ []))) front (d ∷ [])
+        ∙ ap (λ o. steps_from o (d ∷ [])) (grown-steps done m n (c ∷ []) front grown)
+        ∙ closes done n (c ∷ front) d closing
+        ∙ ap (λ k. Some (fresh (done ++ piece k (c ∷ (front ++ d ∷ [])) ∷ []))) shape ∙ ap (λ t. Some (fresh (done ++ piece class (c ∷ t) ∷ []))) (sym cut))
 
 -- whether a word is open
 abbrev pub is_word_mode : Mode → Bool

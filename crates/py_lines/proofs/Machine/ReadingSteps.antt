@@ -12,7 +12,7 @@ use Rattle.py_lines.specs.Private.Machine.{Scanned, fresh, text_start, started, 
 use Rattle.py_lines.proofs.Pieces.PieceLists.{piece}
 use Rattle.py_lines.proofs.Text.CharacterTests.{prefix_word}
 use Rattle.py_lines.proofs.Machine.Starts.{start-feed, start-mark, start-operator, start-quote, start-word}
-use Rattle.py_lines.proofs.Machine.PieceSteps.{pieces_at, StopsBefore, Finds, steps_by-append, begun_by, stops-free, stops_unless, EndsWith, ends_after, found_open, IsRead, at_once, opened, is_read, feed-is-one}
+use Rattle.py_lines.proofs.Machine.PieceSteps.{pieces_at, StopsBefore, Finds, steps_by-append, begun_by, stops-free, stops_unless, EndsWith, ends_after, found_fresh, found_open, IsRead, at_once, opened, is_read, feed-is-one}
 use Rattle.py_lines.proofs.Machine.StringSteps.{grown-prefix, short_ends, long_ends}
 
 -- a string, from its first quote on
@@ -25,12 +25,9 @@ found_string from (a ∷ bs) q text body rest is (inr begun) quotes ends stops =
 
 -- one character that is a piece
 found_whole : (from : Scanned) (class : Class) (c : ℕ) (text rest : List ℕ) → text ≡ c ∷ [] → started (pieces_at from) c (start_of c) ≡ Some (fresh (pieces_at from ++ piece class (c ∷ []) ∷ [])) → StopsBefore from.mode (text ++ rest) → Finds from text (piece class text ∷ []) rest
-found_whole from class c text rest is starts stops = subst (λ t. Finds from t (piece class t ∷ []) rest) (sym is) (record {
-  to = fresh (pieces_at from ++ piece class (c ∷ []) ∷ []);
-  steps = begun_by move_from from c [] _ (subst (λ t. StopsBefore from.mode (t ++ rest)) is stops) refl ∙ ap (λ o. steps_from o []) starts;
-  pieces_are = refl;
-  stops = stops-free rest;
-})
+found_whole from class c text rest is starts stops =
+    subst (λ t. Finds from t (piece class t ∷ []) rest) (sym is)
+    (found_fresh from class (c ∷ []) rest (begun_by move_from from c [] _ (subst (λ t. StopsBefore from.mode (t ++ rest)) is stops) refl ∙ ap (λ o. steps_from o []) starts))
 
 -- a piece of any class but a mark
 find : (from : Scanned) (class : Class) (text rest : List ℕ) → is_mark_class class ≡ false → InPlainClass class text → MayPrecedePlain class text rest → StopsBefore from.mode (text ++ rest) → Finds from text (piece class text ∷ []) rest

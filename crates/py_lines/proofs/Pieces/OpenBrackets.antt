@@ -228,15 +228,16 @@ balanced-from_stack ps steps =
 pub stack-from_balanced : (ps : List Piece) → IsBalanced ps → IsShallowPlain 0 ps → brackets_of ps ≡ Some []
 stack-from_balanced ps balanced shallow = balanced_through ps balanced [] [] shallow
 
+-- what comes to something comes from something
+pub some_before : {A B : Type 0} (f : Option A → Option B) → f None ≡ None → (o : Option A) (b : B) → f o ≡ Some b → (a : A) × (o ≡ Some a)
+some_before f none None b is =
+    let stuck : None ≡ Some b = sym none ∙ is in
+    absurd (cc)
+some_before f none (Some a) b is = (a, refl)
+
 -- the stack of the first pieces
 pub stack_before : (ps qs : List Piece) (bs : List Bracket) → brackets_of (ps ++ qs) ≡ Some bs → (first : List Bracket) × (brackets_of ps ≡ Some first)
-stack_before ps qs bs steps = go (brackets_of ps) refl
-  where
-    go : (o : Option (List Bracket)) → brackets_of ps ≡ o → (first : List Bracket) × (brackets_of ps ≡ Some first)
-    go None is =
-        let stuck : None ≡ Some bs = sym (ap (λ x. brackets_through x ps qs) is) ∙ sym (through-append (Some []) [] ps qs) ∙ steps in
-        absurd (cc)
-    go (Some first) is = (first, is)
+stack_before ps qs bs steps = some_before (λ o. brackets_through o ps qs) refl (brackets_of ps) bs (sym (through-append (Some []) [] ps qs) ∙ steps)
 
 -- the stack after one more piece
 pub stack_push : (done : List Piece) (p : Piece) (st : List Bracket) → brackets_of done ≡ Some st → brackets_of (done ++ p ∷ []) ≡ brackets_after st (byte_len (spelled done)) p
