@@ -1,5 +1,5 @@
 -- The machine with fields goes through lists of pieces, and so through fields.
-use Rattle.std.proofs.Common.{◌≡◌, ℕ, ◌+◌, true, false, Option, None, Some, List, [], ◌∷◌, ◌++◌, length, refl, sym, ap, ◌∙◌, subst, inl, inr, append_assoc, append-nil, add-zero}
+use Rattle.std.proofs.Common.{◌≡◌, ℕ, ◌+◌, true, false, Some, List, [], ◌∷◌, ◌++◌, length, refl, sym, ap, ◌∙◌, subst, inl, inr, append_assoc, append-nil, add-zero}
 use Rattle.std.proofs.lemmas.Bool.{both_ways}
 use Rattle.py_lines.specs.Piece.{Class, mark, string, operator, Piece, is_mark_class, begins_marked, spelled}
 use Rattle.py_lines.specs.PieceGrammar.{InClassIn, MayPrecedeIn, AreReadIn}
@@ -9,10 +9,11 @@ use Rattle.py_lines.specs.FieldStrings.{Host, with_fields}
 use Rattle.py_lines.specs.Private.FieldMachine.{Level, FieldScanned, field_state, field_closed, field_pieces, openers_by, openers_through, levels_open, frames}
 use Rattle.py_lines.proofs.Pieces.PieceLists.{piece}
 use Rattle.py_lines.proofs.Fields.Parts.{BeginOpen}
+use Rattle.py_lines.proofs.Pieces.OpenBrackets.{some_before}
 use Rattle.py_lines.proofs.Machine.StringSteps.{short_ends, long_ends}
 use Rattle.py_lines.proofs.Fields.Elsewhere.{precede_without}
 use Rattle.py_lines.proofs.FieldMachine.Runs.{StopsAt, goes-append}
-use Rattle.py_lines.proofs.FieldMachine.ListBrackets.{none_some, depth_is}
+use Rattle.py_lines.proofs.FieldMachine.ListBrackets.{depth_is}
 use Rattle.py_lines.proofs.FieldMachine.PieceRuns.{FieldFinds, IsNoColon, plain_found, string_found, operator_found}
 use Rattle.py_lines.proofs.FieldMachine.StringParts.{FieldsGo}
 use Rattle.py_lines.proofs.FieldMachine.StringRuns.{field_string_found}
@@ -71,11 +72,20 @@ module _ (Room : ℕ → Type 0) (F : ℕ → Host → List ℕ → Type 0) (beg
   all_found G from [] after rest fit unmarked passed opens none stops =
       same_openers from [] [] after rest opens (record { done = from.done; mode = from.mode; held = from.held; goes = refl; pieces_are = sym (append-nil (field_pieces from)); stops = stops })
   all_found G from (p ∷ ps) after rest fit unmarked passed opens none stops =
-      go (λ s room so no_colon at. all_found G s ps after rest fit.3 fit.2 room so no_colon at) (openers_by from.openers p.class p.text) refl opens
+      let (mid, is) = some_before (λ o. openers_through o ps) refl (openers_by from.openers p.class p.text) after opens in
+      let first = one_found G from p.class p.text mid (spelled ps ++ rest) unmarked fit.0 fit.1 passed.0 passed.1 is (first_colon from.outer none) (subst (StopsAt from.mode from.held) (append_assoc p.text (spelled ps) rest) stops) in
+      let s : FieldScanned = field_state from.outer first.done mid first.mode first.held in
+      let found = all_found G s ps after rest fit.3 fit.2 (subst (λ n. ArePassed Room F n ps) (depth_is from.openers mid p.class p.text (levels_open from.outer) is) passed.2)
+      (sym (ap (λ o. openers_through o ps) is) ∙ opens) (later_colon from.outer mid is none) first.stops in
+      record {
+        done = found.done;
+        mode = found.mode;
+        held = found.held;
+        goes = goes-append Room from s (field_state from.outer found.done after found.mode found.held) p.text (spelled ps) first.goes found.goes;
+        pieces_are = one_more (field_pieces from) (field_pieces s) (field_closed found.mode found.done found.held) p ps found.pieces_are first.pieces_are;
+        stops = found.stops;
+      }
     where
-      Others : Type 0
-      Others = (s : FieldScanned) → ArePassed Room F (frames s) ps → openers_through (Some s.openers) ps ≡ Some after → HasNoColonIn s.outer (length s.openers) ps → StopsAt s.mode s.held (spelled ps ++ rest) → FieldFinds Room s (spelled ps) ps after rest
-
       later_colon : (outer : List Level) (mid : List ℕ) → openers_by from.openers p.class p.text ≡ Some mid → HasNoColonIn outer (length from.openers) (p ∷ ps) → HasNoColonIn outer (length mid) ps
       later_colon [] mid is h = tt
       later_colon (level ∷ outer) mid is h =
@@ -84,18 +94,3 @@ module _ (Room : ℕ → Type 0) (F : ℕ → Host → List ℕ → Type 0) (beg
       first_colon : (outer : List Level) → HasNoColonIn outer (length from.openers) (p ∷ ps) → HasNoColonIn outer (length from.openers) (p ∷ [])
       first_colon [] h = tt
       first_colon (level ∷ outer) h = (h.0, tt)
-
-      go : Others → (o : Option (List ℕ)) → openers_by from.openers p.class p.text ≡ o → openers_through o ps ≡ Some after → FieldFinds Room from (spelled (p ∷ ps)) (p ∷ ps) after rest
-      go others None is so = absurd (none_some so)
-      go others (Some mid) is so =
-          let first = one_found G from p.class p.text mid (spelled ps ++ rest) unmarked fit.0 fit.1 passed.0 passed.1 is (first_colon from.outer none) (subst (StopsAt from.mode from.held) (append_assoc p.text (spelled ps) rest) stops) in
-          let s : FieldScanned = field_state from.outer first.done mid first.mode first.held in
-          let found = others s (subst (λ n. ArePassed Room F n ps) (depth_is from.openers mid p.class p.text (levels_open from.outer) is) passed.2) so (later_colon from.outer mid is none) first.stops in
-          record {
-            done = found.done;
-            mode = found.mode;
-            held = found.held;
-            goes = goes-append Room from s (field_state from.outer found.done after found.mode found.held) p.text (spelled ps) first.goes found.goes;
-            pieces_are = one_more (field_pieces from) (field_pieces s) (field_closed found.mode found.done found.held) p ps found.pieces_are first.pieces_are;
-            stops = found.stops;
-          }

@@ -1,5 +1,5 @@
 -- The machine with fields goes from the text's start to a list of pieces that begins in fields, and through its first pieces.
-use Rattle.std.proofs.Common.{◌≡◌, ℕ, ◌+◌, false, Option, None, Some, List, [], ◌∷◌, ◌++◌, ◌⊎◌, inl, inr, length, refl, sym, ap, ◌∙◌, subst, append_assoc, append-nil, add-zero, arith}
+use Rattle.std.proofs.Common.{◌≡◌, ℕ, ◌+◌, false, Some, List, [], ◌∷◌, ◌++◌, ◌⊎◌, inl, inr, length, refl, sym, ap, ◌∙◌, subst, append_assoc, append-nil, add-zero, arith}
 use Rattle.py_lines.specs.Character.{is_mark}
 use Rattle.py_lines.specs.Piece.{Piece, begins, spelled}
 use Rattle.py_lines.specs.Balance.{IsBalanced, depth_through}
@@ -9,7 +9,7 @@ use Rattle.py_lines.specs.Private.FieldMachine.{before, after_brace, FieldMode, 
 use Rattle.py_lines.proofs.Pieces.OpenBrackets.{some_before}
 use Rattle.py_lines.proofs.Machine.ReadingSteps.{MayBegin}
 use Rattle.py_lines.proofs.FieldMachine.Runs.{NoLimit, Goes, StopsAt, HasRoomFor, goes-append, goes-grows, stops-fresh}
-use Rattle.py_lines.proofs.FieldMachine.ListBrackets.{none_some, openers_through-append, balanced_openers, depth_is}
+use Rattle.py_lines.proofs.FieldMachine.ListBrackets.{openers_through-append, balanced_openers, depth_is}
 use Rattle.py_lines.proofs.FieldMachine.FieldRuns.{opens_text}
 use Rattle.py_lines.proofs.FieldMachine.Nesting.{fields_found}
 use Rattle.py_lines.proofs.FieldMachine.Completeness.{fields_reached}
@@ -29,11 +29,9 @@ depth_of : (ps : List Piece) (os after : List ℕ) (k : ℕ) → openers_through
 depth_of [] os after k is =
     let same : os ≡ after = cc in
     ap (λ l. length l + k) same
-depth_of (p ∷ ps) os after k is = go (λ mid so. depth_of ps mid after k so) (openers_by os p.class p.text) refl is
-  where
-    go : ((mid : List ℕ) → openers_through (Some mid) ps ≡ Some after → depth_through (length mid + k) ps ≡ length after + k) → (o : Option (List ℕ)) → openers_by os p.class p.text ≡ o → openers_through o ps ≡ Some after → depth_through (length os + k) (p ∷ ps) ≡ length after + k
-    go others None at so = absurd (none_some so)
-    go others (Some mid) at so = ap (λ n. depth_through n ps) (depth_is os mid p.class p.text k at) ∙ others mid so
+depth_of (p ∷ ps) os after k is =
+    let mid = some_before (λ o. openers_through o ps) refl (openers_by os p.class p.text) after is in
+    ap (λ n. depth_through n ps) (depth_is os mid.0 p.class p.text k mid.1) ∙ depth_of ps mid.0 after k (sym (ap (λ o. openers_through o ps) mid.1) ∙ is)
 
 -- the first pieces of a list
 pub record PiecesRun (outer : List Level) (pieces : List Piece) (rest : List ℕ) : Type 0 where

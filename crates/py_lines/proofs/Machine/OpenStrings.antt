@@ -19,45 +19,39 @@ use Rattle.py_lines.proofs.Machine.OpenPieces.{opened_items, opening_none, openi
 use Rattle.py_lines.proofs.Machine.Soundness.{returned_items}
 
 -- whole items, with nothing after them, or a backslash
-still_open : (opening : ℕ → List ℕ) (MayHold : ℕ → List (List ℕ) → Type 0) (q : ℕ) (prefix before last : List ℕ) (items : List (List ℕ)) → before ≡ prefix ++ (opening q ++ joined items) → IsPrefix prefix → is_quote q ≡ true → MayHold q items → IsUnescaped last → IsOpenPrefix opening MayHold (before ++ last)
-still_open opening MayHold q prefix before last items spell begun opens holds escapes = record {
+still_open : (opening : ℕ → List ℕ) (MayHold : ℕ → List (List ℕ) → Type 0) (q : ℕ) (text prefix before last : List ℕ) (items : List (List ℕ)) → text ≡ before ++ last → before ≡ prefix ++ (opening q ++ joined items) → IsPrefix prefix → is_quote q ≡ true → MayHold q items → IsUnescaped last → IsOpenPrefix opening MayHold text
+still_open opening MayHold q text prefix before last items is spell begun opens holds escapes = record {
   prefix = prefix;
   quote = q;
   items = items;
   last = last;
-  spell = ap (λ t. t ++ last) spell ∙ append_assoc prefix (opening q ++ joined items) last;
+  spell = is ∙ ap (λ t. t ++ last) spell ∙ append_assoc prefix (opening q ++ joined items) last;
   begun = begun;
   opens = opens;
   holds = holds;
   escapes = escapes;
 }
 
-short_open : (q : ℕ) (before last : List ℕ) → HoldsItems q before → IsUnescaped last → IsShortPrefix (before ++ last)
-short_open q before last held escapes = still_open (λ c. c ∷ []) _ q held.prefix before last held.items held.spell held.begun held.opens held.each escapes
+short_open : (q : ℕ) (text before last : List ℕ) → text ≡ before ++ last → HoldsItems q before → IsUnescaped last → IsShortPrefix text
+short_open q text before last is held escapes = still_open (λ c. c ∷ []) _ q text held.prefix before last held.items is held.spell held.begun held.opens held.each escapes
 
-short_opening : (q : ℕ) (held : List ℕ) → HoldsItems q held → IsShortPrefix held
-short_opening q held items = subst IsShortPrefix (append-nil held) (short_open q held [] items (inl refl))
-
-long_open : (q : ℕ) (before last : List ℕ) → HoldsPrefix q before → IsUnescaped last → IsLongPrefix (before ++ last)
-long_open q before last held escapes =
-    still_open (λ c. c ∷ c ∷ c ∷ []) _ q held.prefix before last held.items held.spell held.begun held.opens (held.each, ap (has_triple q) (sym (append-nil held.items)) ∙ held.open_yet) escapes
-
-long_opening : (q : ℕ) (held : List ℕ) → HoldsPrefix q held → IsLongPrefix held
-long_opening q held holds = subst IsLongPrefix (append-nil held) (long_open q held [] holds (inl refl))
+long_open : (q : ℕ) (text before last : List ℕ) → text ≡ before ++ last → HoldsPrefix q before → IsUnescaped last → IsLongPrefix text
+long_open q text before last is held escapes =
+    still_open (λ c. c ∷ c ∷ c ∷ []) _ q text held.prefix before last held.items is held.spell held.begun held.opens (held.each, ap (has_triple q) (sym (append-nil held.items)) ∙ held.open_yet) escapes
 
 pub short_held : (m : Mode) (done : List Piece) (held : List ℕ) → Holds m done held → in_short m ≡ true → IsShortPrefix held
-short_held (modes.Opened q) done held holds is = short_opening q held (opened_items q held holds)
-short_held (modes.Inside q) done held holds is = short_opening q held holds.all
-short_held (modes.Escape q) done held holds is = subst IsShortPrefix (sym holds.2) (short_open q holds.0 (holds.1 ∷ []) holds.3 (inr (holds.1, refl, holds.4)))
-short_held (modes.EscapeReturn q) done held holds is = short_opening q held (returned_items q done held holds).all
+short_held (modes.Opened q) done held holds is = short_open q held held [] (sym (append-nil held)) (opened_items q held holds) (inl refl)
+short_held (modes.Inside q) done held holds is = short_open q held held [] (sym (append-nil held)) holds.all (inl refl)
+short_held (modes.Escape q) done held holds is = short_open q held holds.0 (holds.1 ∷ []) holds.2 holds.3 (inr (holds.1, refl, holds.4))
+short_held (modes.EscapeReturn q) done held holds is = short_open q held held [] (sym (append-nil held)) (returned_items q done held holds).all (inl refl)
 short_held (modes.FieldOpened h) done held holds is = absurd holds
 short_held m done held holds is = absurd (both_ways _ refl is)
 
 pub long_held : (m : Mode) (done : List Piece) (held : List ℕ) → Holds m done held → in_long m ≡ true → IsLongPrefix held
-long_held (modes.Long q) done held holds is = long_opening q held (opening_none q held holds)
-long_held (modes.LongOne q) done held holds is = long_opening q held (subst (HoldsPrefix q) (sym holds.1) (opening_one q holds.0 holds.2))
-long_held (modes.LongTwo q) done held holds is = long_opening q held (subst (HoldsPrefix q) (sym holds.1) (opening_two q holds.0 holds.2))
-long_held (modes.LongEscape q) done held holds is = subst IsLongPrefix (sym holds.2) (long_open q holds.0 (holds.1 ∷ []) holds.3 (inr (holds.1, refl, holds.4)))
+long_held (modes.Long q) done held holds is = long_open q held held [] (sym (append-nil held)) (opening_none q held holds) (inl refl)
+long_held (modes.LongOne q) done held holds is = long_open q held (holds.0 ++ q ∷ []) [] (holds.1 ∙ sym (append-nil _)) (opening_one q holds.0 holds.2) (inl refl)
+long_held (modes.LongTwo q) done held holds is = long_open q held (holds.0 ++ q ∷ q ∷ []) [] (holds.1 ∙ sym (append-nil _)) (opening_two q holds.0 holds.2) (inl refl)
+long_held (modes.LongEscape q) done held holds is = long_open q held holds.0 (holds.1 ∷ []) holds.2 holds.3 (inr (holds.1, refl, holds.4))
 long_held modes.Fielded done held holds is = absurd holds
 long_held m done held holds is = absurd (both_ways _ refl is)
 

@@ -13,16 +13,13 @@ pub closing-not-opening : (c : ℕ) → is_closing c ≡ true → is_opening c �
 unfolding is_closing is_opening
 closing-not-opening c h = none_of is_opening (41 ∷ 93 ∷ 125 ∷ []) c refl h
 
-begins-closing : (text : List ℕ) → begins is_closing text ≡ true → begins is_opening text ≡ false
-begins-closing [] h = refl
-begins-closing (c ∷ cs) h = closing-not-opening c h
-
-operator-closing : (class : Class) (text : List ℕ) → is_operator_that is_closing class text ≡ true → is_operator_that is_opening class text ≡ false
-operator-closing operator text h = begins-closing text h
-operator-closing class text h = refl
-
 pub closer-not-opener : (p : Piece) → is_closer p ≡ true → is_opener p ≡ false
-closer-not-opener p h = operator-closing p.class p.text h
+closer-not-opener p closes = go p.class p.text closes
+  where
+    go : (class : Class) (text : List ℕ) → is_operator_that is_closing class text ≡ true → is_operator_that is_opening class text ≡ false
+    go operator [] h = refl
+    go operator (c ∷ cs) h = closing-not-opening c h
+    go class text h = refl
 
 -- a text that begins with an opening bracket, and one that begins with a closing one, are of one kind where their first characters are
 kinds_agree : (s t : List ℕ) → begins is_opening s ≡ true → begins is_closing t ≡ true → begins (λ c. begins (λ d. d == closing_of c) t) s ≡ (first_or_zero t == closing_of (first_or_zero s))
