@@ -1,8 +1,7 @@
 -- Where the machine with fields can't go on, its state and the character tell the cause of the fault, and the fault's byte.
-use Rattle.std.proofs.Common.{◌≡◌, ℕ, ◌+◌, ◌-◌, ◌≤◌, Bool, true, false, not, ◌&&◌, ◌||◌, ◌==◌, None, Some, List, [], ◌∷◌, ◌++◌, ◌⊎◌, inl, inr, length, nat_lt, refl, sym, ap, ◌∙◌, subst, ⊎_elim, length-append, arith}
-use Rattle.std.specs.Prelude.{if◌then◌else◌, encode_utf8_all}
+use Rattle.std.proofs.Common.{◌≡◌, ℕ, ◌+◌, ◌-◌, ◌≤◌, Bool, true, false, not, ◌&&◌, ◌||◌, ◌==◌, None, Some, List, [], ◌∷◌, ◌++◌, ◌⊎◌, inl, inr, length, nat_lt, refl, sym, ap, ◌∙◌, subst, ⊎_elim, arith}
+use Rattle.std.specs.Prelude.{if◌then◌else◌}
 use Rattle.std.proofs.Math.Utf8.{encode}
-use Rattle.std.proofs.lemmas.Str.{encodes-append}
 use Rattle.std.proofs.lemmas.Bool.{both_ways, cond_both, and_parts, and_from, or_cases, or_left, eqb-true, eq-eqb, ltb-false}
 use Rattle.py_lines.specs.Character.{is_line_feed, is_return, is_break}
 use Rattle.py_lines.specs.Piece.{Piece, spelled}
@@ -11,11 +10,13 @@ use Rattle.py_lines.specs.Faults.{IsFieldDue, OpensBraceTooDeep, InShortSpecific
 use Rattle.py_lines.specs.OpenFields.{InOpenShort}
 use Rattle.py_lines.specs.LogicalLine.{byte_len}
 use Rattle.py_lines.specs.FieldStrings.{Host, literal, specification}
+use Rattle.py_lines.specs.declared.mode.Mode.TheVariants as modes
 use Rattle.py_lines.specs.Private.Machine.{start_of}
-use Rattle.py_lines.specs.Private.FieldMachine.{text_place, before, between, after_brace, FieldMode, plain, body, FieldMove, grows, closes, breaks, begins_code, opens_field, ends_field, refused, Level, FieldScanned, field_state, field_text_start, field_pieces, field_move, field_moved, field_started, field_step, opened_level, field_steps_from, levels_open, frames, has_room_at, have_room, body_move, after_open_backslash, InSpecificationOf}
+use Rattle.py_lines.specs.Private.FieldMachine.{text_place, before, between, after_brace, FieldMode, plain, body, FieldMove, grows, closes, breaks, begins_code, opens_field, ends_field, refused, Level, FieldScanned, field_state, field_text_start, field_pieces, field_move, field_moved, field_started, field_step, opened_level, field_steps_from, levels_open, frames, has_room_at, have_room, body_move, in_open_short, after_open_backslash, InSpecificationOf}
 use Rattle.py_lines.specs.Private.FieldFaults.{is_waiting, quotes_specification, cause_in, cause_place, here, piece_start}
 use Rattle.py_lines.proofs.Text.CharacterTests.{break-not-opening, break-not-closing, break-not-quote, opening-not-quote}
 use Rattle.py_lines.proofs.Machine.Starts.{start-feed, start-return}
+use Rattle.py_lines.proofs.LogicalLines.Cuts.{byte_len-append}
 use Rattle.py_lines.proofs.FieldMachine.WhatIsOpen.{Comes, comes_to, short_open_comes, backslash_comes, specification_comes}
 use Rattle.py_lines.proofs.FieldMachine.OpenCode.{brace_comes}
 use Rattle.py_lines.proofs.FieldSoundness.Holds.{IsFieldSound}
@@ -29,12 +30,14 @@ use Rattle.py_lines.proofs.Faults.Ends.{sound_to, short_place, join_place, start
 use Rattle.py_lines.proofs.Faults.CharacterFaults.{IsStuck, grows_free, bracket_at, started, short_in, short_specification, specification_mode, stuck_dies}
 use Rattle.py_lines.proofs.Faults.Refusals.{IsShortHere, Refuses, Reason, reason}
 
--- the byte of a `{` is the one before the end
-pub brace_last : (start read : List ℕ) → start ++ 123 ∷ [] ≡ read → byte_len start ≡ byte_len read - 1
+-- a `{` is one byte more
+pub brace_more : (start read : List ℕ) → start ++ 123 ∷ [] ≡ read → byte_len start + 1 ≡ byte_len read
 unfolding encode
-brace_last start read is =
-    let one : byte_len (start ++ 123 ∷ []) ≡ byte_len start + 1 = ap length (encodes-append start (123 ∷ [])) ∙ length-append (encode_utf8_all start) (encode_utf8_all (123 ∷ [])) in
-    omega (arith, ap byte_len is, one)
+brace_more start read is = sym (byte_len-append start (123 ∷ [])) ∙ ap byte_len is
+
+-- so its byte is the one before the end
+brace_last : (start read : List ℕ) → start ++ 123 ∷ [] ≡ read → byte_len start ≡ byte_len read - 1
+brace_last start read is = omega (arith, brace_more start read is)
 
 -- a line end begins a piece
 some_none : {A : Type 0} {a : A} → Some a ≡ None → ⊥
@@ -61,6 +64,18 @@ end_brace_closes = refl
 not_second : (host : Host) (named : Bool) (held : List ℕ) (c : ℕ) → ((n : FieldMode) → field_move (body host literal named after_brace) held c ≡ grows n → ⊥) → c == 123 ≡ false
 unfolding field_move body_move
 not_second host named held c = cond_both (c == 123) (grows (body host literal named between)) (begins_code host) (λ v. ((n : FieldMode) → v ≡ grows n → ⊥) → c == 123 ≡ false) (λ h none. absurd (none _ refl)) (λ other none. other)
+
+-- where a short string is open, no `{` waits, and neither a backslash nor a specification is open
+record IsShortAlone (m : FieldMode) : Type 0 where
+  waits : is_waiting m ≡ false
+  slash : after_open_backslash m ≡ false
+  quotes : (c : ℕ) → quotes_specification m c ≡ false
+
+short_alone : (m : FieldMode) → in_open_short m ≡ true → IsShortAlone m
+short_alone (plain modes.Backslash) short = absurd (both_ways _ refl short)
+short_alone (body host literal named after_brace) short = absurd (both_ways _ refl short)
+short_alone (body host specification named at) short = absurd (both_ways _ refl short)
+short_alone m short = record { waits = refl; slash = refl; quotes = λ c. refl }
 
 module _ (read : List ℕ) (s : FieldScanned) (steps : field_steps_from (Some field_text_start) read ≡ Some s) (room : have_room (Some field_text_start) read ≡ true) where
   pub text_is : here s ≡ byte_len read
@@ -147,24 +162,16 @@ module _ (s : FieldScanned) (read : List ℕ) (c : ℕ) (after : List ℕ) (step
       let full : frames s ≡ 200 = omega (arith, few, many) in
       both_ways _ other (and_from _ _ waits (eq-eqb (frames s) 200 full))
 
-  -- a line end that is refused
-  pub break_fits : is_deep ≡ false → is_break c ≡ true → (offset : ℕ) × BreaksString read c offset
+  -- a line end is refused where a short string is open, or a specification of one
+  pub short_here : is_deep ≡ false → is_break c ≡ true → IsShortHere s.mode
   unfolding has_room_at
-  break_fits shallow break = go (field_move s.mode s.held c) refl
+  short_here shallow break = go (field_move s.mode s.held c) refl
     where
       no_opening : is_opening c ≡ false
       no_opening = break-not-opening c break
 
-      inside : IsShortHere s.mode → (offset : ℕ) × BreaksString read c offset
-      inside (inl short) =
-          let start : List ℕ = before literal s.outer ++ spelled s.done in
-          (byte_len start, record { start = start; breaks = break; inside = inl (short_in s read c sound steps s.mode short sound); place = refl })
-      inside (inr (host, is, short)) =
-          let own = short_specification s read c sound steps s.mode host is short sound in
-          (byte_len own.0, record { start = own.0; breaks = break; inside = inr own.1; place = refl })
-
-      refuses : Refuses s.mode c → (offset : ℕ) × BreaksString read c offset
-      refuses (inl (at, short)) = inside short
+      refuses : Refuses s.mode c → IsShortHere s.mode
+      refuses (inl (at, short)) = short
       refuses (inr (inl (slash, other))) = absurd (both_ways _ other break)
       refuses (inr (inr (same, quotes))) = absurd (both_ways _ (break-not-quote c break) quotes)
 
@@ -176,14 +183,47 @@ module _ (s : FieldScanned) (read : List ℕ) (c : ℕ) (after : List ℕ) (step
       coded (inl none) h is = break_starts (opened_level s h literal s.held ∷ s.outer) [] [] c break (sym (ap (field_moved s c) is) ∙ none)
       coded (inr full) h is = not_deep shallow (reason_is (begins_code h) is) (full_code (is_opening c) (frames s) (sym (ap (has_room_at (frames s) c) is) ∙ full) no_opening)
 
-      go : (v : FieldMove) → field_move s.mode s.held c ≡ v → (offset : ℕ) × BreaksString read c offset
+      go : (v : FieldMove) → field_move s.mode s.held c ≡ v → IsShortHere s.mode
       go (grows n) is = absurd (no_grows n is)
       go closes is = absurd (no_closes is)
       go breaks is = absurd (begun stuck is)
       go (begins_code h) is = absurd (coded stuck h is)
       go (opens_field h) is = absurd (both_ways _ no_opening (ap is_opening (reason_is (opens_field h) is).0 ∙ open_brace_opens))
-      go ends_field is = absurd (both_ways _ (break-not-closing c break) (ap is_closing (reason_is ends_field is) ∙ end_brace_closes))
+      go ends_field is = absurd (both_ways _ (break-not-closing c break) (ap is_closing (reason_is ends_field is).0 ∙ end_brace_closes))
       go refused is = refuses (reason_is refused is)
+
+  -- and in a short string nothing else is
+  pub only_breaks : in_open_short s.mode ≡ true → is_break c ≡ true
+  only_breaks short = go (field_move s.mode s.held c) refl
+    where
+      own : IsShortAlone s.mode
+      own = short_alone s.mode short
+
+      refuses : Refuses s.mode c → is_break c ≡ true
+      refuses (inl (break, at)) = break
+      refuses (inr (inl (slash, other))) = absurd (both_ways _ own.slash slash)
+      refuses (inr (inr (same, quotes))) = absurd (both_ways _ (own.quotes c) same)
+
+      go : (v : FieldMove) → field_move s.mode s.held c ≡ v → is_break c ≡ true
+      go (grows n) is = absurd (no_grows n is)
+      go closes is = absurd (no_closes is)
+      go breaks is = absurd (both_ways _ (reason_is breaks is) short)
+      go (begins_code h) is = absurd (both_ways _ own.waits (reason_is (begins_code h) is))
+      go (opens_field h) is = not_specification (sym (short_place s.mode short) ∙ (reason_is (opens_field h) is).1)
+      go ends_field is = not_specification (sym (short_place s.mode short) ∙ (reason_is ends_field is).1)
+      go refused is = refuses (reason_is refused is)
+
+  -- a line end that is refused
+  break_fits : is_deep ≡ false → is_break c ≡ true → (offset : ℕ) × BreaksString read c offset
+  break_fits shallow break = inside (short_here shallow break)
+    where
+      inside : IsShortHere s.mode → (offset : ℕ) × BreaksString read c offset
+      inside (inl short) =
+          let start : List ℕ = before literal s.outer ++ spelled s.done in
+          (byte_len start, record { start = start; breaks = break; inside = inl (short_in s read c sound steps s.mode short sound); place = refl })
+      inside (inr (host, is, short)) =
+          let own = short_specification s read c sound steps s.mode host is short sound in
+          (byte_len own.0, record { start = own.0; breaks = break; inside = inr own.1; place = refl })
 
   -- the character opens a field at depth 200, in a specification
   opens_due : (m : FieldMode) (h : Host) → text_place m ≡ specification → field_move m s.held c ≡ opens_field h → IsFieldSound two_hundred (field_state s.outer s.done s.openers m s.held) read → frames s ≡ 200 → IsFieldDue specification 200 read []
@@ -239,7 +279,7 @@ module _ (s : FieldScanned) (read : List ℕ) (c : ℕ) (after : List ℕ) (step
       go breaks is = by_breaks is stuck
       go (begins_code h) is = by_code h is stuck
       go (opens_field h) is = by_field h is stuck
-      go ends_field is = absurd (both_ways _ no_closing (ap is_closing (reason_is ends_field is) ∙ end_brace_closes))
+      go ends_field is = absurd (both_ways _ no_closing (ap is_closing (reason_is ends_field is).0 ∙ end_brace_closes))
       go refused is = absurd (refuses (reason_is refused is))
 
   -- what follows a backslash

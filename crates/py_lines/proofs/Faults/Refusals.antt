@@ -27,7 +27,8 @@ abbrev pub Reason : FieldMode → ℕ → FieldMove → Type 0
 Reason m c refused = Refuses m c
 Reason m c (begins_code host) = is_waiting m ≡ true
 Reason m c (opens_field host) = (c ≡ 123) × (text_place m ≡ specification)
-Reason m c ends_field = c ≡ 125
+Reason m c ends_field = (c ≡ 125) × (text_place m ≡ specification)
+Reason m c breaks = in_open_short m ≡ false
 Reason m c other = Unit {0}
 
 not_break : (c : ℕ) → is_line_feed c ≡ false → is_return c ≡ false → is_break c ≡ false
@@ -37,6 +38,7 @@ not_break c feed return = or_from (c == 10) ((c == 13) || false) (or_parts (c ==
 -- in a piece without fields
 abbrev PlainReason : Mode → ℕ → Move → Type 0
 PlainReason m c moves.Refused = Refuses (plain m) c
+PlainReason m c moves.Breaks = in_short m ≡ false
 PlainReason m c other = Unit {0}
 
 short_reason : (m : Mode) (q c : ℕ) → in_short m ≡ true → PlainReason m c (short_move q c)
@@ -49,19 +51,19 @@ long_reason m q c = cond_both (is_backslash c) _ _ (PlainReason m c) (λ h. tt) 
 
 plain_reason : (m : Mode) (held : List ℕ) (c : ℕ) → Holds m [] held → PlainReason m c (move_of m c)
 unfolding move_of
-plain_reason modes.Start held c holds = cond_both (is_mark c) moves.Closes moves.Breaks (PlainReason modes.Start c) (λ k. tt) (λ k. tt)
-plain_reason modes.Free held c holds = tt
-plain_reason modes.Space held c holds = cond_both (is_space c) _ moves.Breaks (PlainReason modes.Space c) (λ k. tt) (λ k. tt)
+plain_reason modes.Start held c holds = cond_both (is_mark c) moves.Closes moves.Breaks (PlainReason modes.Start c) (λ k. tt) (λ k. refl)
+plain_reason modes.Free held c holds = refl
+plain_reason modes.Space held c holds = cond_both (is_space c) _ moves.Breaks (PlainReason modes.Space c) (λ k. tt) (λ k. refl)
 plain_reason (modes.Word s) held c holds =
-    cond_both (is_word_character c) _ _ (PlainReason (modes.Word s) c) (λ k. tt) (λ k. cond_both (is_prefix_spelling s && is_quote c) _ moves.Breaks (PlainReason (modes.Word s) c) (λ l. tt) (λ l. tt))
-plain_reason modes.Comment held c holds = cond_both (is_break c) moves.Breaks _ (PlainReason modes.Comment c) (λ k. tt) (λ k. tt)
+    cond_both (is_word_character c) _ _ (PlainReason (modes.Word s) c) (λ k. tt) (λ k. cond_both (is_prefix_spelling s && is_quote c) _ moves.Breaks (PlainReason (modes.Word s) c) (λ l. tt) (λ l. refl))
+plain_reason modes.Comment held c holds = cond_both (is_break c) moves.Breaks _ (PlainReason modes.Comment c) (λ k. refl) (λ k. tt)
 plain_reason (modes.Opened q) held c holds = cond_both (c == q) _ _ (PlainReason (modes.Opened q) c) (λ k. tt) (λ k. short_reason (modes.Opened q) q c refl)
 plain_reason (modes.Inside q) held c holds = cond_both (c == q) moves.Closes _ (PlainReason (modes.Inside q) c) (λ k. tt) (λ k. short_reason (modes.Inside q) q c refl)
 plain_reason (modes.Escape q) held c holds = cond_both (is_return c) _ _ (PlainReason (modes.Escape q) c) (λ k. tt) (λ k. tt)
 plain_reason (modes.EscapeReturn q) held c holds =
     cond_both (is_line_feed c) _ _ (PlainReason (modes.EscapeReturn q) c) (λ k. tt)
     (λ k. cond_both (c == q) moves.Closes _ (PlainReason (modes.EscapeReturn q) c) (λ l. tt) (λ l. short_reason (modes.EscapeReturn q) q c refl))
-plain_reason (modes.Empty q) held c holds = cond_both (c == q) _ moves.Breaks (PlainReason (modes.Empty q) c) (λ k. tt) (λ k. tt)
+plain_reason (modes.Empty q) held c holds = cond_both (c == q) _ moves.Breaks (PlainReason (modes.Empty q) c) (λ k. tt) (λ k. refl)
 plain_reason (modes.Long q) held c holds = cond_both (c == q) _ _ (PlainReason (modes.Long q) c) (λ k. tt) (λ k. long_reason (modes.Long q) q c)
 plain_reason (modes.LongOne q) held c holds = cond_both (c == q) _ _ (PlainReason (modes.LongOne q) c) (λ k. tt) (λ k. long_reason (modes.LongOne q) q c)
 plain_reason (modes.LongTwo q) held c holds = cond_both (c == q) moves.Closes _ (PlainReason (modes.LongTwo q) c) (λ k. tt) (λ k. long_reason (modes.LongTwo q) q c)
@@ -72,13 +74,13 @@ plain_reason modes.Fielded held c holds = absurd holds
 plain_reason modes.Backslash held c holds =
     cond_both (is_line_feed c) moves.Closes _ (PlainReason modes.Backslash c) (λ k. tt)
     (λ k. cond_both (is_return c) _ moves.Refused (PlainReason modes.Backslash c) (λ l. tt) (λ l. inr (inl (refl, not_break c k l))))
-plain_reason modes.JoinReturn held c holds = cond_both (is_line_feed c) moves.Closes moves.Breaks (PlainReason modes.JoinReturn c) (λ k. tt) (λ k. tt)
-plain_reason modes.Return held c holds = cond_both (is_line_feed c) moves.Closes moves.Breaks (PlainReason modes.Return c) (λ k. tt) (λ k. tt)
+plain_reason modes.JoinReturn held c holds = cond_both (is_line_feed c) moves.Closes moves.Breaks (PlainReason modes.JoinReturn c) (λ k. tt) (λ k. refl)
+plain_reason modes.Return held c holds = cond_both (is_line_feed c) moves.Closes moves.Breaks (PlainReason modes.Return c) (λ k. tt) (λ k. refl)
 
 with_reason : (m : Mode) (c : ℕ) (v : Move) → PlainReason m c v → Reason (plain m) c (plain_move v)
 with_reason m c (moves.Grows n) h = tt
 with_reason m c moves.Closes h = tt
-with_reason m c moves.Breaks h = tt
+with_reason m c moves.Breaks h = h
 with_reason m c moves.Refused h = h
 
 -- in a string with fields, of which this is the mode
@@ -87,10 +89,10 @@ module _ (m : FieldMode) (host : Host) (place : Place) (c : ℕ) (at_place : tex
   opening_reason literal at braces = tt
   opening_reason specification at braces = (eqb-true c 123 braces, at)
 
-  ending_reason : (p : Place) (named : Bool) → c == 125 ≡ true → Reason m c (ending_move host p named)
-  ending_reason specification false braces = eqb-true c 125 braces
-  ending_reason specification true braces = tt
-  ending_reason literal named braces = tt
+  ending_reason : (p : Place) (named : Bool) → text_place m ≡ p → c == 125 ≡ true → Reason m c (ending_move host p named)
+  ending_reason specification false at braces = (eqb-true c 125 braces, at)
+  ending_reason specification true at braces = tt
+  ending_reason literal named at braces = tt
 
   between_reason : (named : Bool) (at : At) → Reason m c (between_move host place named at c)
   unfolding between_move
@@ -103,7 +105,7 @@ module _ (m : FieldMode) (host : Host) (place : Place) (c : ℕ) (at_place : tex
       let parts = and_parts (is_break c) (not host.is_long) l in
       inl (parts.0, short (not-true host.is_long parts.1)))
       (λ l. cond_both ((c == 123) && not named) _ _ (Reason m c) (λ n. opening_reason place at_place (and_parts (c == 123) (not named) n).0)
-      (λ n. cond_both (c == 125) _ _ (Reason m c) (λ o. ending_reason place named o) (λ o. tt)))))
+      (λ n. cond_both (c == 125) _ _ (Reason m c) (λ o. ending_reason place named at_place o) (λ o. tt)))))
 
 -- where no `{` waits, in its body
 short_body : (host : Host) (place : Place) (named : Bool) (at : At) → is_after_brace at ≡ false → host.is_long ≡ false → IsShortHere (body host place named at)
@@ -155,5 +157,5 @@ reason limit outer depth (plain m) held c holds =
     cond_both (begins_host m held c) _ _ (Reason (plain m) c) (λ h. tt) (λ h. with_reason m c (move_of m c) (plain_reason m held c holds.0))
 reason limit outer depth (opened host) held c holds =
     cond_both (c == host.quote) _ _ (Reason (opened host) c) (λ h. tt) (λ h. between_reason (opened host) host literal c refl (λ short. inl refl) (λ same. tt) false between)
-reason limit outer depth (empty host) held c holds = cond_both (c == host.quote) _ breaks (Reason (empty host) c) (λ h. tt) (λ h. tt)
+reason limit outer depth (empty host) held c holds = cond_both (c == host.quote) _ breaks (Reason (empty host) c) (λ h. tt) (λ h. refl)
 reason limit outer depth (body host place named at) held c holds = body_reason limit outer depth host place named at held c (quotes_at limit outer depth host place named at held holds) holds

@@ -1,5 +1,5 @@
 -- Where a live text ends, the state of the machine with fields tells what is open and where its fault stands, or that it is read.
-use Rattle.std.proofs.Common.{◌≡◌, ℕ, ◌+◌, ◌-◌, Bool, true, false, Some, List, [], ◌∷◌, ◌++◌, refl, sym, ap, ◌∙◌, subst, append_assoc, append-nil, length, length-append}
+use Rattle.std.proofs.Common.{◌≡◌, ℕ, ◌+◌, Bool, true, false, Some, List, [], ◌∷◌, ◌++◌, refl, sym, ap, ◌∙◌, subst, append_assoc, append-nil, length, length-append}
 use Rattle.std.specs.Prelude.{if◌then◌else◌}
 use Rattle.std.proofs.lemmas.Str.{encodes-append}
 use Rattle.py_lines.specs.Piece.{string, Piece, spelled}
@@ -11,20 +11,22 @@ use Rattle.py_lines.specs.FieldStrings.{literal}
 use Rattle.py_lines.specs.declared.mode.Mode.TheVariants as modes
 use Rattle.py_lines.specs.Private.Machine.{Bracket, brackets_of, class_of}
 use Rattle.py_lines.specs.Private.FieldMachine.{before, after_brace, FieldMode, plain, body, Level, FieldScanned, field_text_start, field_steps_from, field_closed, have_room}
-use Rattle.py_lines.specs.Private.FieldFaults.{is_waiting, unfinished_at, unfinished_place, here, field_start}
+use Rattle.py_lines.specs.Private.FieldFaults.{is_waiting, unfinished_at, here, piece_start}
 use Rattle.py_lines.proofs.Pieces.PieceLists.{piece}
 use Rattle.py_lines.proofs.Pieces.OpenBrackets.{StandsAt, level, inside, stands}
 use Rattle.py_lines.proofs.FieldSoundness.LiveTexts.{goes_live}
 use Rattle.py_lines.proofs.Faults.EndFaults.{EndsSo, open_in}
 use Rattle.py_lines.proofs.Faults.EndPlaces.{IsPlaced, opened_text, one_bracket}
 use Rattle.py_lines.proofs.Faults.Ends.{sound_to, deep_state, named}
-use Rattle.py_lines.proofs.Faults.CauseAt.{brace_last, text_is}
+use Rattle.py_lines.proofs.Faults.CauseAt.{brace_more, text_is}
 
--- The fault of what is open stands at this byte. Where that is a bracket, it is the innermost of those that the finished pieces of
--- the innermost list leave open.
+-- The fault of what is open stands at this byte, that of a field directly before the text up to its `{` ends. Where that is a bracket,
+-- it is the innermost of those that the finished pieces of the innermost list leave open.
 abbrev pub StandsThere : FieldScanned → Unfinished → ℕ → Type 0
 StandsThere s open_bracket offset = (b : Bracket) (bs : List Bracket) → brackets_of s.done ≡ Some (b ∷ bs) → offset ≡ byte_len (before literal s.outer) + b.place
-StandsThere s what offset = offset ≡ unfinished_place s what
+StandsThere s open_brace offset = offset + 1 ≡ here s
+StandsThere s open_inside offset = offset + 1 ≡ (if is_waiting s.mode then here s else byte_len (before literal s.outer))
+StandsThere s what offset = offset ≡ piece_start s
 
 -- a piece that is open is no bracket
 open_other : (m : FieldMode) (done : List Piece) (held : List ℕ) → (more : List Piece) × (field_closed m done held ≡ done ++ more) × IsBalanced more
@@ -51,15 +53,15 @@ opened_here (body host literal named after_brace) outer read = refl
 opened_here m outer read = refl
 
 module _ (read : List ℕ) (s : FieldScanned) (steps : field_steps_from (Some field_text_start) read ≡ Some s) (room : have_room (Some field_text_start) read ≡ true) where
-  bytes_are : (waits : Bool) → byte_len (if waits then read else before literal s.outer) - 1 ≡ (if waits then here s - 1 else field_start s)
-  bytes_are true = ap (λ n. n - 1) (sym (text_is read s steps room))
+  bytes_are : (waits : Bool) → byte_len (if waits then read else before literal s.outer) ≡ (if waits then here s else byte_len (before literal s.outer))
+  bytes_are true = sym (text_is read s steps room)
   bytes_are false = refl
 
   -- the byte that the definitions name is that of the state
   there : (what : Unfinished) (offset : ℕ) → IsPlaced what s read offset → StandsThere s what offset
-  there open_brace offset (start, whole, at) = at ∙ brace_last start read whole ∙ ap (λ n. n - 1) (sym (text_is read s steps room))
+  there open_brace offset (start, whole, at) = ap (λ n. n + 1) at ∙ brace_more start read whole ∙ sym (text_is read s steps room)
   there open_inside offset (start, whole, at) =
-      at ∙ brace_last start (opened_text s.mode s.outer read) whole ∙ ap (λ t. byte_len t - 1) (opened_here s.mode s.outer read) ∙ bytes_are (is_waiting s.mode)
+      ap (λ n. n + 1) at ∙ brace_more start (opened_text s.mode s.outer read) whole ∙ ap byte_len (opened_here s.mode s.outer read) ∙ bytes_are (is_waiting s.mode)
   there open_short offset at = at
   there open_long offset at = at
   there open_join offset at = at

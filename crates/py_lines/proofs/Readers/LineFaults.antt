@@ -33,7 +33,7 @@ use Rattle.py_lines.proofs.Faults.FaultPrefixes.{PrefixTo, explained, field_faul
 use Rattle.py_lines.proofs.LineScan.LineSteps.{sound_steps, way_stop}
 use Rattle.py_lines.proofs.LineScan.StringSteps.{InString, in_string, string_move_is}
 use Rattle.py_lines.proofs.LineScan.TextSteps.{begun_sound, Base, way_goes, Joined, joined, refused_at}
-use Rattle.py_lines.proofs.Readers.StateFaults.{refused_plain, refused_fielded, ends_plain, ends_fielded}
+use Rattle.py_lines.proofs.Readers.StateFaults.{refused_plain, refused_fielded, IsOpenAt, ends_plain, ends_fielded}
 
 -- a place in what was scanned
 pub record Within (read : List ℕ) (offset : ℕ) : Type 0 where
@@ -41,9 +41,6 @@ pub record Within (read : List ℕ) (offset : ℕ) : Type 0 where
   pub later : List ℕ
   pub split : prefix ++ later ≡ read
   pub size : offset ≡ byte_len prefix
-
-pub same_kind : (m n : Mode) (c : ℕ) → in_short m ≡ in_short n → is_after_backslash m ≡ is_after_backslash n → character_kind m c ≡ character_kind n c
-same_kind m n c short slash = rw (short, slash) refl
 
 -- outside strings with fields
 refusal_plain : (m : Mode) (scan : Scan) (c : ℕ) (line_fault : LineFault) → (m ≡ modes.Fielded → ⊥) → IsRefusalIn m scan c line_fault → (line_fault.kind ≡ character_kind m c) × (line_fault.place ≡ refused_place scan)
@@ -62,9 +59,9 @@ finished scan is = go scan.piece.mode is
     go modes.Fielded h = absurd h
     go m h = h
 
-place_by : (b : Bool) (k start stop done whole : ℕ) → (b ≡ true → done ≡ k + start) → whole ≡ k + stop → k + (if b then start else stop) ≡ (if b then done else whole)
-place_by true k start stop done whole first second = sym (first refl)
-place_by false k start stop done whole first second = sym second
+place_by : (b : Bool) (k start stop done whole : ℕ) → (b ≡ true → done ≡ k + start) → whole ≡ k + stop → (if b then done else whole) ≡ k + (if b then start else stop)
+place_by true k start stop done whole first second = first refl
+place_by false k start stop done whole first second = second
 
 -- a string that refuses a character
 no_break : (outer : List Level) (move : FieldMove) (next : Option FieldScanned) → string_move outer move next ≡ moves.Breaks → ⊥
@@ -125,9 +122,6 @@ module _ (n : ℕ) (base : List Piece) (level : brackets_of base ≡ Some []) (s
     abbrev HasFault : Type 0
     HasFault = IsCharacterFault line_fault.kind ((spelled base ++ read) ++ c ∷ after) (byte_len (spelled base) + line_fault.place)
 
-    has_fault : (kind : FaultKind) (place : ℕ) → line_fault.kind ≡ kind → byte_len (spelled base) + line_fault.place ≡ place → IsCharacterFault kind ((spelled base ++ read) ++ c ∷ after) place → HasFault
-    has_fault kind place same at fault = subst (λ k. IsCharacterFault k ((spelled base ++ read) ++ c ∷ after) (byte_len (spelled base) + line_fault.place)) (sym same) (subst (λ o. IsCharacterFault kind ((spelled base ++ read) ++ c ∷ after) o) (sym at) fault)
-
     here : Joined base read way.state (stack_of scan.brackets) (c ∷ after)
     here = joined n base (c ∷ after) level strings read way.state (stack_of scan.brackets) fit is (way_goes way)
 
@@ -135,16 +129,12 @@ module _ (n : ℕ) (base : List Piece) (level : brackets_of base ≡ Some []) (s
     elsewhere j other =
         let own = refusal_plain scan.piece.mode scan c line_fault (λ h. other (sym way.tallies.counts.mode ∙ h)) is_line_fault in
         let stopped = refused_at base read (c ∷ after) after way.state (stack_of scan.brackets) c j level refl refuses in
-        let flags : in_short scan.piece.mode || is_after_backslash scan.piece.mode ≡ in_short way.state.mode || is_after_backslash way.state.mode = ap (λ (m : Mode). in_short m || is_after_backslash m) way.tallies.counts.mode in
-        let state_flags : in_short way.state.mode || is_after_backslash way.state.mode ≡ in_short j.state.mode || is_after_backslash j.state.mode = ap (λ (b : Bool). b || is_after_backslash way.state.mode) (sym j.short) ∙ ap (λ (b : Bool). in_short j.state.mode || b) (sym j.slash) in
-        has_fault _ _ (own.0 ∙ ap (λ m. character_kind m c) way.tallies.counts.mode ∙ same_kind way.state.mode j.state.mode c (sym j.short) (sym j.slash))
-        (ap (λ k. byte_len (spelled base) + k) own.1
-        ∙ ap (λ (b : Bool). byte_len (spelled base) + (if b then scan.piece.start else scan.stop)) flags
-        ∙ place_by (in_short way.state.mode || is_after_backslash way.state.mode) (byte_len (spelled base)) scan.piece.start scan.stop (byte_len (spelled j.state.done)) (byte_len (spelled base ++ read))
-        (λ h. j.start h ∙ ap (λ k. byte_len (spelled base) + k) (sym way.tallies.counts.start))
-        (byte_len-append (spelled base) read ∙ ap (λ k. byte_len (spelled base) + k) (sym (way_stop (first_mode n) scan read way (begun_sound n))))
-        ∙ ap (λ (b : Bool). if b then byte_len (spelled j.state.done) else byte_len (spelled base ++ read)) state_flags)
-        (refused_plain (spelled base ++ read) j.state j.st j.steps c after stopped (j.plain other))
+        let stop : byte_len (spelled base ++ read) ≡ byte_len (spelled base) + scan.stop = byte_len-append (spelled base) read ∙ ap (λ k. byte_len (spelled base) + k) (sym (way_stop (first_mode n) scan read way (begun_sound n))) in
+        rw (own.0, own.1, way.tallies.counts.mode, ← j.short, ← j.slash)
+        (subst (IsCharacterFault (character_kind j.state.mode c) ((spelled base ++ read) ++ c ∷ after))
+        (place_by (in_short j.state.mode || is_after_backslash j.state.mode) (byte_len (spelled base)) scan.piece.start scan.stop (byte_len (spelled j.state.done)) (byte_len (spelled base ++ read))
+        (λ h. j.start (rw (j.short, j.slash) at h) ∙ ap (λ k. byte_len (spelled base) + k) (sym way.tallies.counts.start)) stop)
+        (refused_plain (spelled base ++ read) j.state j.st j.steps c after stopped (j.plain other)))
 
     inside : (j : Joined base read way.state (stack_of scan.brackets) (c ∷ after)) → way.state.mode ≡ modes.Fielded → HasFault
     inside j fielded =
@@ -157,9 +147,10 @@ module _ (n : ℕ) (base : List Piece) (level : brackets_of base ≡ Some []) (s
         let named = told u own.stands stuck in
         let depth : length j.st ≡ depth_of scan.brackets = stack_is j.state j.st at j.steps.stack in
         let cause_same = ap (λ k. cause_in (k + frames u) u.mode c) (sym depth) in
-        has_fault _ _ (named.0 ∙ ap kind_of_cause cause_same)
-        (omega (arith, named.1, ap (cause_place u) cause_same, ap (λ (x : Scanned). byte_len (spelled x.done)) at, done_bytes))
-        (refused_fielded (spelled base ++ read) j.state j.st j.steps c after stopped (ap (λ (x : Scanned). x.mode) at ∙ fielded) u (ap (λ (x : Scanned). string_state x.held) at ∙ own.steps))
+        let place : byte_len (spelled j.state.done) + cause_place u (cause_in (length j.st + frames u) u.mode c) ≡ byte_len (spelled base) + line_fault.place = omega (arith, named.1, ap (cause_place u) cause_same, ap (λ (x : Scanned). byte_len (spelled x.done)) at, done_bytes) in
+        rw (named.0, cause_same)
+        (subst (IsCharacterFault _ _) place
+        (refused_fielded (spelled base ++ read) j.state j.st j.steps c after stopped (ap (λ (x : Scanned). x.mode) at ∙ fielded) u (ap (λ (x : Scanned). string_state x.held) at ∙ own.steps)))
 
     pub refused_fault : HasFault
     refused_fault = ⊎_elim (inside here) (elsewhere here) (fielded_or way.state.mode)
@@ -169,30 +160,24 @@ module _ (n : ℕ) (base : List Piece) (level : brackets_of base ≡ Some []) (s
     abbrev EndsSo : Type 0
     EndsSo = IsEndFault line_fault.kind (spelled base ++ read) [] (byte_len (spelled base) + line_fault.place)
 
-    ends_so : (kind : FaultKind) (place : ℕ) → line_fault.kind ≡ kind → byte_len (spelled base) + line_fault.place ≡ place → IsEndFault kind (spelled base ++ read) [] place → EndsSo
-    ends_so kind place same at fault = subst (λ k. IsEndFault k (spelled base ++ read) [] (byte_len (spelled base) + line_fault.place)) (sym same) (subst (λ o. IsEndFault kind (spelled base ++ read) [] o) (sym at) fault)
-
     ending : Joined base read way.state (stack_of scan.brackets) []
     ending = joined n base [] level strings read way.state (stack_of scan.brackets) fit is (way_goes way)
 
-    open_from : (j : Joined base read way.state (stack_of scan.brackets) []) → IsOpenFrom scan line_fault.place → ((is_final j.state.mode ≡ false) ⊎ ((b : Bracket) × (others : List Bracket) × (j.st ≡ b ∷ others))) × (byte_len (spelled base) + line_fault.place ≡ end_place j.state j.st)
-    open_from j (inl (unfinal, at)) =
-        let both = j.same some in
-        let end_is : is_final j.state.mode ≡ false = ap (λ (x : Scanned). is_final x.mode) both.0 ∙ ap is_final (sym way.tallies.counts.mode) ∙ unfinal in
-        (inl end_is, omega (arith, at, done_bytes, ap (λ (x : Scanned). byte_len (spelled x.done)) both.0) ∙ sym (ap (λ (b : Bool). if b then top_place j.st else byte_len (spelled j.state.done)) end_is))
-    open_from j (inr (final, (b, others, top, at))) =
-        let both = j.same some in
-        let k = byte_len (spelled base) in
-        let end_is : is_final j.state.mode ≡ true = ap (λ (x : Scanned). is_final x.mode) both.0 ∙ ap is_final (sym way.tallies.counts.mode) ∙ final in
-        let stack : j.st ≡ shift k (b ∷ others) = both.1 ∙ ap (shift k) top in
-        (inr (record { opener = b.opener; place = k + b.place }, shift k others, stack), ap (λ p. k + p) at ∙ sym (ap (λ (x : Bool). if x then top_place j.st else byte_len (spelled j.state.done)) end_is ∙ ap top_place stack))
-
     ends_elsewhere : (j : Joined base read way.state (stack_of scan.brackets) []) → (way.state.mode ≡ modes.Fielded → ⊥) → EndsSo
     ends_elsewhere j other =
-        let own = unfinished_plain scan.piece.mode scan line_fault (λ h. other (sym way.tallies.counts.mode ∙ h)) is_line_fault in
-        let found = open_from j own.1 in
-        ends_so _ _ (own.0 ∙ ap end_kind way.tallies.counts.mode ∙ sym (ap (λ (x : Scanned). end_kind x.mode) (j.same some).0)) found.1
-        (ends_plain (spelled base ++ read) j.state j.st j.steps (j.plain other) found.0)
+        rw (own.0 ∙ ap end_kind (sym mode_is)) (ends_plain (spelled base ++ read) j.state j.st j.steps (j.plain other) (byte_len (spelled base) + line_fault.place) (open_from own.1))
+      where
+        own : IsPlainUnfinished scan (Some line_fault)
+        own = unfinished_plain scan.piece.mode scan line_fault (λ h. other (sym way.tallies.counts.mode ∙ h)) is_line_fault
+
+        mode_is : j.state.mode ≡ scan.piece.mode
+        mode_is = ap (λ (x : Scanned). x.mode) (j.same some).0 ∙ sym way.tallies.counts.mode
+
+        open_from : IsOpenFrom scan line_fault.place → IsOpenAt (spelled base ++ read) j.state j.st j.steps (byte_len (spelled base) + line_fault.place)
+        open_from (inl (unfinal, at)) = inl (ap is_final mode_is ∙ unfinal, omega (arith, at, done_bytes, ap (λ (x : Scanned). byte_len (spelled x.done)) (j.same some).0))
+        open_from (inr (final, (b, others, top, at))) =
+            let k = byte_len (spelled base) in
+            inr (ap is_final mode_is ∙ final, (record { opener = b.opener; place = k + b.place }, shift k others, (j.same some).1 ∙ ap (shift k) top, ap (λ p. k + p) at))
 
     ends_inside : (j : Joined base read way.state (stack_of scan.brackets) []) → way.state.mode ≡ modes.Fielded → EndsSo
     ends_inside j fielded =
@@ -203,7 +188,7 @@ module _ (n : ℕ) (base : List Piece) (level : brackets_of base ≡ Some []) (s
         let named = told u own.stands in
         let depth : length j.st ≡ depth_of scan.brackets = stack_is j.state j.st at j.steps.stack in
         let start : byte_len (spelled base) + scan.piece.start ≡ byte_len (spelled j.state.done) = sym done_bytes ∙ sym (ap (λ (x : Scanned). byte_len (spelled x.done)) at) in
-        ends_so _ _ named.2 refl
+        rw named.2
         (ends_fielded (spelled base ++ read) j.state j.st j.steps (ap (λ (x : Scanned). x.mode) at ∙ fielded) u (ap (λ (x : Scanned). string_state x.held) at ∙ own.steps) named.0
         (ap (λ k. unfinished_round k u) depth ∙ named.1) (byte_len (spelled base) + line_fault.place)
         (subst (λ k. IsUnfinishedAt k u named.0 (byte_len (spelled base) + line_fault.place)) start (unfinished_shift (byte_len (spelled base)) scan.piece.start u named.0 line_fault.place named.3)))
