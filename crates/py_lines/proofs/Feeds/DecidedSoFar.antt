@@ -96,6 +96,7 @@ module _ (text : List ℕ) (state : LineState) (lines : List LogicalLine) (read 
     prefix_of = record {
       others = pieces_at way.state;
       spell = joined_here.pieces;
+      reading = of.reading text state.place state.line lines read rest k;
       ended = k.ended;
       none = closed_one_line way.state.mode way.state.done way.state.held (stack_of state.scan.brackets) way.stacked way.one_line (way_open (first_mode state.place) state.scan read way not_yet);
     }
@@ -152,7 +153,7 @@ module _ (text : List ℕ) (state : LineState) (lines : List LogicalLine) (read 
       let spell : (spelled k.base ++ read) ++ c ∷ [] ≡ characters = append_assoc (spelled k.base) read (c ∷ []) in
       let decodes : Decodes all_known characters [] = of.decodes text state.place state.line lines (read ++ c ∷ []) [] k nothing_bad in
       let open_yet = open_return s.mode s.done s.held c st way.stacked refuses (ap (λ (m : Mode). (is_return_mode m && none_open st) && not (is_line_feed c)) (sym way.tallies.counts.mode) ∙ not_yet) in
-      let prefix : HasPrefix j.state k.base = record { others = pieces_at s; spell = j.pieces; ended = k.ended; none = closed_one_line s.mode s.done s.held st way.stacked way.one_line open_yet } in
+      let prefix : HasPrefix j.state k.base = record { others = pieces_at s; spell = j.pieces; reading = of.reading text state.place state.line lines (read ++ c ∷ []) [] k; ended = k.ended; none = closed_one_line s.mode s.done s.held st way.stacked way.one_line open_yet } in
       let found = refused_fault state.place k.base level strings base state.scan read way c [] (alone read fit) refuses line_fault is_line_fault in
       let place : fault.offset ≡ byte_len (spelled k.base) + line_fault.place = at.place ∙ ap (λ (n : ℕ). n + line_fault.place) k.here in
       let is : IsCharacterFault fault.kind characters fault.offset = rw (at.is, place) (subst (λ t. IsCharacterFault line_fault.kind t (byte_len (spelled k.base) + line_fault.place)) spell found) in

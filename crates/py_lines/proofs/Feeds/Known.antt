@@ -8,7 +8,7 @@ use Rattle.std.proofs.Math.Seq.{take-add, take-append_seam, drop-append_seam}
 use Rattle.py_lines.specs.Piece.{Piece, spelled}
 use Rattle.py_lines.specs.Balance.{IsBalanced}
 use Rattle.py_lines.specs.Fields.{fielded, AreReadBefore, IsShallow}
-use Rattle.py_lines.specs.Reading.{Decodes, EndsLine}
+use Rattle.py_lines.specs.Reading.{Decodes, EndsLine, IsBalancedReading}
 use Rattle.py_lines.specs.Given.{AreFirstLines}
 use Rattle.py_lines.specs.LogicalLine.{LogicalLine, lines_of, byte_len, line_ends}
 use Rattle.py_lines.specs.ScannerState.{GoesOnWith}
@@ -22,6 +22,7 @@ use Rattle.py_lines.proofs.Pieces.OpenBrackets.{stack-from_balanced}
 use Rattle.py_lines.proofs.Pieces.ShallowPieces.{brackets_shallow, strings_shallow}
 use Rattle.py_lines.proofs.Fields.OneReading.{read_before}
 use Rattle.py_lines.proofs.ScanMachine.Advance.{GoesTo}
+use Rattle.py_lines.proofs.Lexings.LineEnds.{ended_reading}
 use Rattle.py_lines.proofs.LineScan.TextSteps.{Base, base_of, Joined, joined}
 
 pub both_none : (a b : List ℕ) → a ++ b ≡ [] → (a ≡ []) × (b ≡ [])
@@ -131,6 +132,9 @@ module _ (text : List ℕ) (place line : ℕ) (lines : List LogicalLine) (read r
 
   pub strings : StringsFit 0 k.base
   strings = strings_shallow 0 k.base k.shallow
+
+  pub reading : IsBalancedReading k.base (spelled k.base)
+  reading = ended_reading k.base (read ++ k.more) k.fit k.balanced k.shallow k.ended
 
   pub stands : Base place k.base
   stands = base_of place k.base (read ++ k.more) k.fit k.ended k.here

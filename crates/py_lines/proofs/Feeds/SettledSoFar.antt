@@ -65,7 +65,7 @@ module _ (text : List ℕ) (place line : ℕ) (lines : List LogicalLine) (read r
         tail = rest;
         pieces = k.base;
         decodes = of.decodes text place line lines read rest k bad;
-        prefix = settled_at (spelled k.base ++ read) rest j.state j.st k.base (pieces_at s) read j.steps j.pieces good (ends_none s.mode s.done s.held read rest st sound goes.stack one_line last) refl;
+        prefix = settled_at (spelled k.base ++ read) rest j.state j.st k.base (pieces_at s) read j.steps j.pieces (of.reading text place line lines read rest k) good (ends_none s.mode s.done s.held read rest st sound goes.stack one_line last) refl;
         cut = k.cut;
       }
 

@@ -1,8 +1,8 @@
 -- What a reader answers in the end, from where the machine stands.
 use Rattle.std.proofs.Common.{◌≡◌, ℕ, ◌+◌, true, List, [], ◌∷◌, ◌++◌, refl, sym, ap, ◌∙◌, subst, append-nil}
-use Rattle.py_lines.specs.Piece.{Piece}
+use Rattle.py_lines.specs.Piece.{Piece, spelled}
 use Rattle.py_lines.specs.LogicalLine.{lines_of, byte_len, line_ends}
-use Rattle.py_lines.specs.Reading.{Decodes, EndsLine}
+use Rattle.py_lines.specs.Reading.{Decodes, EndsLine, IsBalancedReading}
 use Rattle.py_lines.specs.Faults.{IsLive, IsCharacterFault, IsEndFault, at_character, at_bytes, at_end}
 use Rattle.py_lines.specs.Lexed.{IsLexedWhole, IsLexedToFault}
 use Rattle.py_lines.specs.declared.fault.FaultKind.TheVariants as faults
@@ -37,6 +37,7 @@ read_at text characters s decodes steps may = record { characters = characters; 
 pub record HasPrefix (s : Scanned) (prefix : List Piece) : Type 0 where
   pub others : List Piece
   pub spell : pieces_at s ≡ prefix ++ others
+  pub reading : IsBalancedReading prefix (spelled prefix)
   pub ended : EndsLine prefix
   pub none : EndsNoLine 0 others
 
@@ -47,7 +48,7 @@ refused_at_character text characters tail before after c s st prefix fault decod
   tail = tail;
   pieces = prefix;
   decodes = decodes;
-  prefix = prefix_is before (c ∷ after) characters s st prefix has.others steps spell (λ d ds same. subst (λ (x : ℕ). ¬ (IsLive (before ++ x ∷ []))) (head_same c d after ds same) dead) has.spell has.ended has.none;
+  prefix = prefix_is before (c ∷ after) characters s st prefix has.others steps spell (λ d ds same. subst (λ (x : ℕ). ¬ (IsLive (before ++ x ∷ []))) (head_same c d after ds same) dead) has.spell has.reading has.ended has.none;
   refused = record {
     unread = λ whole pieces reading. not_live characters fault.kind fault.offset is (reading_live pieces characters reading);
     place = at_character is;
@@ -69,7 +70,7 @@ refused_at_end text characters s st prefix fault decodes steps has is line = rec
   tail = [];
   pieces = prefix;
   decodes = decodes;
-  prefix = prefix_is characters [] characters s st prefix has.others steps (append-nil characters) (nothing_later characters) has.spell has.ended has.none;
+  prefix = prefix_is characters [] characters s st prefix has.others steps (append-nil characters) (nothing_later characters) has.spell has.reading has.ended has.none;
   refused = record {
     unread = λ whole. end_unread characters [] fault.kind fault.offset is;
     place = at_end is;
@@ -85,7 +86,7 @@ refused_at_bytes text characters d ds s st prefix fault decodes steps has kind p
   tail = d ∷ ds;
   pieces = prefix;
   decodes = decodes;
-  prefix = prefix_is characters [] characters s st prefix has.others steps (append-nil characters) (nothing_later characters) has.spell has.ended has.none;
+  prefix = prefix_is characters [] characters s st prefix has.others steps (append-nil characters) (nothing_later characters) has.spell has.reading has.ended has.none;
   refused = record {
     unread = λ (whole : d ∷ ds ≡ []). absurd (cc);
     place = at_bytes (record { is = kind; bad = λ (h : d ∷ ds ≡ []). cc; live = runs_live characters s st steps; place = place });

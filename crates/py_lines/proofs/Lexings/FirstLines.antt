@@ -13,19 +13,10 @@ use Rattle.py_lines.specs.LogicalLine.{LogicalLine, byte_len}
 use Rattle.py_lines.specs.Reader.{Reader, HasGiven}
 use Rattle.py_lines.specs.declared.fault.Fault.{Fault}
 use Rattle.py_lines.proofs.Text.Decoding.{decoded}
-use Rattle.py_lines.proofs.Lexings.SettledFits.{read_on}
+use Rattle.py_lines.proofs.Lexings.LineEnds.{ended_reading}
 use Rattle.py_lines.proofs.Lexings.Existence.{some_lexing_of}
 use Rattle.py_lines.proofs.Lexings.SettledLines.{lines_begin}
 use Rattle.py_lines.proofs.Lexings.GivenLines.{none_both, all_given}
-
--- pieces that end a line are a reading of their own
-pub ended_reading : (base : List Piece) (rest : List ℕ) → AreReadBefore base rest → IsBalanced base → IsShallow 0 base → EndsLine base → IsBalancedReading base (spelled base)
-ended_reading base rest fit balanced shallow (inl none) = record { reads = record { spell = refl; fit = subst (λ l. AreReadBefore l []) (sym none) tt }; balanced = balanced; shallow = shallow }
-ended_reading base rest fit balanced shallow (inr (body, last, is, class, deep)) = record {
-  reads = record { spell = refl; fit = subst (λ l. AreReadBefore l []) (sym is) (read_on fielded body last rest [] class (subst (λ l. AreReadBefore l rest) is fit) (and_right _ _ refl)) };
-  balanced = balanced;
-  shallow = shallow;
-}
 
 -- lines that end a line begin every lexing of their text
 module _ (text : List ℕ) (place line : ℕ) (lines : List LogicalLine) (f : AreFirstLines text place line lines) (ended : EndsLine f.pieces) where

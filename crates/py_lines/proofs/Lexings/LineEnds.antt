@@ -2,9 +2,9 @@
 use Rattle.std.proofs.Common.{◌≡◌, ℕ, ◌+◌, Some, List, [], ◌∷◌, ◌++◌, length, refl, sym, ap, ◌∙◌, subst, inl, inr, length-append, arith}
 use Rattle.std.proofs.lemmas.Bool.{both_ways, and_right, and_from, eq-eqb}
 use Rattle.py_lines.specs.Piece.{Class, string, operator, line_end, Piece, spelled}
-use Rattle.py_lines.specs.Balance.{depth_after, depth_through}
-use Rattle.py_lines.specs.Fields.{fielded, InClass, AreReadBefore}
-use Rattle.py_lines.specs.Reading.{EndsLine}
+use Rattle.py_lines.specs.Balance.{IsBalanced, depth_after, depth_through}
+use Rattle.py_lines.specs.Fields.{fielded, InClass, AreReadBefore, IsShallow}
+use Rattle.py_lines.specs.Reading.{EndsLine, IsBalancedReading}
 use Rattle.py_lines.specs.LogicalLine.{is_line_end_class}
 use Rattle.py_lines.specs.Private.Scan.{EndsNoLine}
 use Rattle.py_lines.specs.Private.Machine.{Bracket, brackets_of}
@@ -21,6 +21,14 @@ line_first p is holds = line_text p.text (subst (λ x. InClass x p.text) is hold
 -- pieces that end a line are read to the text's end too
 pub read-alone : (body : List Piece) (last : Piece) (rest : List ℕ) → last.class ≡ line_end → AreReadBefore (body ++ last ∷ []) rest → AreReadBefore (body ++ last ∷ []) []
 read-alone body last rest is fit = read_on fielded body last rest [] is fit (and_right _ _ refl)
+
+-- so they are a reading of their own
+pub ended_reading : (base : List Piece) (rest : List ℕ) → AreReadBefore base rest → IsBalanced base → IsShallow 0 base → EndsLine base → IsBalancedReading base (spelled base)
+ended_reading base rest fit balanced shallow ended = record { reads = record { spell = refl; fit = alone ended }; balanced = balanced; shallow = shallow }
+  where
+    alone : EndsLine base → AreReadBefore base []
+    alone (inl none) = subst (λ l. AreReadBefore l []) (sym none) tt
+    alone (inr (body, last, is, class, deep)) = subst (λ l. AreReadBefore l []) (sym is) (read-alone body last rest class (subst (λ l. AreReadBefore l rest) is fit))
 
 -- two lists that are one list together
 pub data Split (xs ys zs : List Piece) (w : Piece) (ws : List Piece) : Type 0 where

@@ -99,66 +99,15 @@ line_stays modes.Return done held x s body last steps is class = stays_return bo
 line_stays m done held x s body last steps is class =
     absurd (held_ends done body (piece (class_of m) held) last is class refl)
 
-nil_left : (k others : List Piece) → [] ≡ k ++ others → k ≡ []
-nil_left [] others h = refl
-nil_left (p ∷ k) others h = absurd (cc)
+-- so does the line end of pieces that are read whole, where the machine goes on from them
+pub reading_stays : (pieces : List Piece) (more before : List ℕ) (s : Scanned) (body : List Piece) (last : Piece) → scan_steps (Some text_start) before ≡ Some s → spelled pieces ++ more ≡ before → IsBalancedReading pieces (spelled pieces) → pieces ≡ body ++ last ∷ [] → last.class ≡ line_end → Stays body last (pieces_at s)
+reading_stays pieces more before s body last steps spell reading is class =
+    let found = reach pieces [] [] reading.reads.fit (stack-from_balanced pieces reading.balanced (brackets_shallow 0 pieces reading.shallow)) (strings_shallow 0 pieces reading.shallow) in
+    let through = run_before move_at (Some text_start) (spelled pieces) more s (ap (scan_steps (Some text_start)) spell ∙ steps) in
+    let same = same_state (spelled pieces) through.0 found.to through.1 found.steps in
+    line_stays found.to.mode found.to.done found.to.held more s body last (ap (λ (t : Scanned). scan_steps (Some t) more) (sym same) ∙ through.2) (found.pieces_are ∙ is) class
 
-read_part : (prefix others body : List Piece) (last : Piece) (rest : List ℕ) → prefix ≡ body ++ last ∷ [] → last.class ≡ line_end → AreReadBefore (prefix ++ others) rest → AreReadBefore prefix []
-read_part prefix others body last rest is class fit =
-    let first = AreReadBefore-first prefix others rest fit in
-    subst (λ l. AreReadBefore l []) (sym is) (read-alone body last (spelled others ++ rest) class (subst (λ l. AreReadBefore l (spelled others ++ rest)) is first))
-
-part_before : (prefix others body : List Piece) (last : Piece) (done : List Piece) (p : Piece) (rest : List ℕ) → prefix ≡ body ++ last ∷ [] → last.class ≡ line_end → prefix ++ others ≡ done ++ p ∷ [] → (p.class ≡ line_end → ⊥) → AreReadBefore done rest → AreReadBefore prefix []
-part_before prefix others body last done p rest is class spell other fit = go (split prefix others done p [] spell)
-  where
-    go : Split prefix others done p [] → AreReadBefore prefix []
-    go (Split.in_second k one two) = read_part prefix k body last rest is class (subst (λ l. AreReadBefore l rest) one fit)
-    go (Split.in_first k one two) =
-        let same : done ++ p ∷ [] ≡ body ++ last ∷ [] = ap (λ l. done ++ p ∷ l) (sym (nil_left k others two)) ∙ sym one ∙ is in
-        let parts = same_from_push done body p last same in
-        absurd (other (ap (λ (x : Piece). x.class) parts.1 ∙ class))
-
--- the pieces up to a line end are read to the text's end
-prefix_read : (m : Mode) (done : List Piece) (held before : List ℕ) (prefix others body : List Piece) (last : Piece) → IsScanSound (scanned done m held) before → closed m done held ≡ prefix ++ others → prefix ≡ body ++ last ∷ [] → last.class ≡ line_end → AreReadBefore prefix []
-prefix_read modes.Start done held before prefix others body last sound spell is class = read_part prefix others body last (held ++ []) is class (subst (λ l. AreReadBefore l (held ++ [])) spell (sound.fit []))
-prefix_read modes.Free done held before prefix others body last sound spell is class = read_part prefix others body last (held ++ []) is class (subst (λ l. AreReadBefore l (held ++ [])) spell (sound.fit []))
-prefix_read modes.Return done held before prefix others body last sound spell is class =
-    let text : held ≡ codes "\r" = sound.holds.1 ∙ ap (λ c. c ∷ []) (return_is sound.holds.0 sound.holds.2) in
-    let fit = AreReadBefore-push done line_end held [] (sound.fit []) (return text) (and_right _ _ refl) (follows_any done line_end held refl) in
-    read_part prefix others body last [] is class (subst (λ l. AreReadBefore l []) spell fit)
-prefix_read m done held before prefix others body last sound spell is class =
-    part_before prefix others body last done (piece (class_of m) held) (held ++ []) is class (sym spell) (no_line_end (class_of m) refl) (sound.fit [])
-
-prefix_fits : (before : List ℕ) (s : Scanned) (st : List Bracket) (prefix others : List Piece) → RunsTo before s st → pieces_at s ≡ prefix ++ others → EndsLine prefix → AreReadBefore prefix []
-prefix_fits before s st prefix others steps pieces (inl none) = subst (λ l. AreReadBefore l []) (sym none) tt
-prefix_fits before s st prefix others steps pieces (inr (body, last, is, class, deep)) = prefix_read s.mode s.done s.held before prefix others body last (sound_at before s st steps) pieces is class
-
--- no string before that line end opens anything too deep
-last_one : (k others : List Piece) (p last : Piece) → p ∷ [] ≡ k ++ last ∷ others → k ≡ []
-last_one [] others p last is = refl
-last_one (q ∷ k) others p last is = absurd (omega (arith, ap length is, length-append k (last ∷ others)))
-
-strings_body : (done others body : List Piece) (p last : Piece) → done ++ p ∷ [] ≡ (body ++ last ∷ []) ++ others → StringsFit 0 done → StringsFit 0 body
-strings_body done others body p last is strings = go (split done (p ∷ []) body last others (is ∙ append_assoc body (last ∷ []) others))
-  where
-    go : Split done (p ∷ []) body last others → StringsFit 0 body
-    go (Split.in_second k one two) = subst (StringsFit 0) (sym (one ∙ ap (λ l. done ++ l) (last_one k others p last two) ∙ append-nil done)) strings
-    go (Split.in_first k one two) = (EachAtDepth-parts StringFits 0 body (last ∷ k) (subst (StringsFit 0) one strings)).0
-
-strings_at : (m : Mode) (done : List Piece) (held : List ℕ) (others body : List Piece) (last : Piece) → closed m done held ≡ (body ++ last ∷ []) ++ others → StringsFit 0 done → StringsFit 0 body
-strings_at modes.Start done held others body last is strings = (EachAtDepth-parts StringFits 0 body (last ∷ others) (subst (StringsFit 0) (is ∙ append_assoc body (last ∷ []) others) strings)).0
-strings_at modes.Free done held others body last is strings = (EachAtDepth-parts StringFits 0 body (last ∷ others) (subst (StringsFit 0) (is ∙ append_assoc body (last ∷ []) others) strings)).0
-strings_at m done held others body last is strings = strings_body done others body (piece (class_of m) held) last is strings
-
-pub prefix_strings : (s : Scanned) (read : List ℕ) (prefix others : List Piece) → IsScanSound s read → pieces_at s ≡ prefix ++ others → EndsLine prefix → StringsFit 0 prefix
-prefix_strings s read prefix others sound pieces (inl none) = subst (StringsFit 0) (sym none) tt
-prefix_strings s read prefix others sound pieces (inr (body, last, is, class, deep)) =
-    subst (StringsFit 0) (sym is) (line_string body last class (strings_at s.mode s.done s.held others body last (pieces ∙ ap (λ l. l ++ others) is) sound.strings))
-
--- the run over pieces that are read whole
-pub reach_reading : (pieces : List Piece) → IsBalancedReading pieces (spelled pieces) → Reaches (spelled pieces) pieces []
-reach_reading pieces reading = reach pieces [] [] reading.reads.fit (stack-from_balanced pieces reading.balanced (brackets_shallow 0 pieces reading.shallow)) (strings_shallow 0 pieces reading.shallow)
-
+-- no line end stays after a prefix after which none ends a line
 pub within : (prefix others rivals body : List Piece) (last : Piece) (all : List Piece) → all ≡ prefix ++ others → EndsLine prefix → EndsNoLine 0 others → rivals ≡ body ++ last ∷ [] → depth_through 0 body ≡ 0 → Stays body last all → length (spelled rivals) ≤ length (spelled prefix)
 within prefix others rivals body last all pieces ended none is deep stays = go (split prefix others body stays.line stays.others (sym pieces ∙ stays.is))
   where
@@ -183,31 +132,17 @@ no_longer before later characters s prefix others steps spell dead pieces ended 
     go (Either.longer c k rest one two) =
         let live = subst IsLive (one ∙ sym (append_assoc before (c ∷ []) k)) (reading_live rivals (spelled rivals) reading) in
         absurd (dead c rest two (live_before (before ++ c ∷ []) k live))
-    go (Either.shorter k one) =
-        let found = reach_reading rivals reading in
-        let through = run_before move_at (Some text_start) (spelled rivals) k s (ap (scan_steps (Some text_start)) (sym one) ∙ steps) in
-        let same = same_state (spelled rivals) through.0 found.to through.1 found.steps in
-        let run : scan_steps (Some found.to) k ≡ Some s = ap (λ (t : Scanned). scan_steps (Some t) k) (sym same) ∙ through.2 in
-        within prefix others rivals body last (pieces_at s) pieces ended none is deep (line_stays found.to.mode found.to.done found.to.held k s body last run (found.pieces_are ∙ is) class)
-
--- the pieces up to a line end are a reading
-pub prefix_reading : (before : List ℕ) (s : Scanned) (st : List Bracket) (prefix others : List Piece) → RunsTo before s st → pieces_at s ≡ prefix ++ others → EndsLine prefix → IsBalancedReading prefix (spelled prefix)
-prefix_reading before s st prefix others steps pieces ended =
-    let stack = stack_closed s.mode s.done s.held st steps.stack in
-    let level = fits_reading prefix (prefix_stack prefix others st (ap brackets_of (sym pieces) ∙ stack) ended) (prefix_strings s before prefix others (sound_at before s st steps) pieces ended) in
-    record { reads = record { spell = refl; fit = prefix_fits before s st prefix others steps pieces ended }; balanced = level.0; shallow = level.1 }
+    go (Either.shorter k one) = within prefix others rivals body last (pieces_at s) pieces ended none is deep (reading_stays rivals k before s body last steps (sym one) reading is class)
 
 -- the prefix of a text that isn't read further
-pub prefix_is : (before later characters : List ℕ) (s : Scanned) (st : List Bracket) (prefix others : List Piece) → RunsTo before s st → before ++ later ≡ characters → ((c : ℕ) (after : List ℕ) → later ≡ c ∷ after → ¬ (IsLive (before ++ c ∷ []))) → pieces_at s ≡ prefix ++ others → EndsLine prefix → EndsNoLine 0 others → IsReadPrefix prefix characters
-prefix_is before later characters s st prefix others steps spell dead pieces ended none =
+pub prefix_is : (before later characters : List ℕ) (s : Scanned) (st : List Bracket) (prefix others : List Piece) → RunsTo before s st → before ++ later ≡ characters → ((c : ℕ) (after : List ℕ) → later ≡ c ∷ after → ¬ (IsLive (before ++ c ∷ []))) → pieces_at s ≡ prefix ++ others → IsBalancedReading prefix (spelled prefix) → EndsLine prefix → EndsNoLine 0 others → IsReadPrefix prefix characters
+prefix_is before later characters s st prefix others steps spell dead pieces reading ended none =
     let sound = sound_at before s st steps in
     let read : spelled (pieces_at s) ≡ before = closed_text s.mode s.done s.held sound.holds ∙ sound.spell in
-    let cut : spelled prefix ++ (spelled others ++ later) ≡ characters =
-    sym (append_assoc (spelled prefix) (spelled others) later) ∙ ap (λ t. t ++ later) (sym (spelled-append prefix others) ∙ ap spelled (sym pieces) ∙ read) ∙ spell in
     record {
       rest = spelled others ++ later;
-      spell = cut;
-      reading = prefix_reading before s st prefix others steps pieces ended;
+      spell = sym (append_assoc (spelled prefix) (spelled others) later) ∙ ap (λ t. t ++ later) (sym (spelled-append prefix others) ∙ ap spelled (sym pieces) ∙ read) ∙ spell;
+      reading = reading;
       ended = ended;
-      longest = λ rivals after spells reading rivals_ended. no_longer before later characters s prefix others steps.run spell dead pieces ended none rivals after spells reading rivals_ended;
+      longest = λ rivals after spells reads rivals_ended. no_longer before later characters s prefix others steps.run spell dead pieces ended none rivals after spells reads rivals_ended;
     }

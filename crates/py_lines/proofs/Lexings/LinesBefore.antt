@@ -13,8 +13,7 @@ use Rattle.py_lines.proofs.Pieces.ShallowPieces.{IsShallow-append, IsShallow-par
 use Rattle.py_lines.proofs.Machine.EarlierPieces.{shift_if, stack-after}
 use Rattle.py_lines.proofs.Lexings.SettledFits.{read_on}
 use Rattle.py_lines.proofs.Lexings.SettledLines.{ends-line}
-use Rattle.py_lines.proofs.Lexings.FirstLines.{ended_reading}
-use Rattle.py_lines.proofs.Lexings.LinePrefix.{depth_prefix, prefix_stack}
+use Rattle.py_lines.proofs.Lexings.LineEnds.{ended_reading, depth_prefix, prefix_stack}
 
 follows_lines : (lines rest : List Piece) → begins_marked rest ≡ false → MayFollow lines rest
 follows_lines [] rest h = tt

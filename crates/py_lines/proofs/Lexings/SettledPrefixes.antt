@@ -1,7 +1,7 @@
 -- What the known bytes settle, by where the machine has come with them.
-use Rattle.std.proofs.Common.{◌≡◌, ℕ, ◌+◌, ◌≤◌, ◌⊎◌, true, false, Some, List, [], ◌∷◌, ◌++◌, length, refl, sym, ap, ◌∙◌, subst, inl, inr, append-nil, length-append, arith}
+use Rattle.std.proofs.Common.{◌≡◌, ℕ, ◌+◌, ◌≤◌, ◌⊎◌, true, false, Some, List, [], ◌∷◌, ◌++◌, length, refl, sym, ap, ◌∙◌, subst, inl, inr, append_assoc, append-nil, length-append, arith}
 use Rattle.std.proofs.lemmas.Bool.{both_ways}
-use Rattle.std.proofs.lemmas.List.{nil_from_length}
+use Rattle.std.proofs.lemmas.List.{append_cancel_left}
 use Rattle.py_lines.specs.Character.{is_line_feed, is_return}
 use Rattle.py_lines.specs.Piece.{line_end, Piece, ends, spelled}
 use Rattle.py_lines.specs.PieceGrammar.{IsLineEnd, feed, return_feed, return}
@@ -12,12 +12,13 @@ use Rattle.py_lines.specs.Settled.{EndsForGood, IsSettledPrefix}
 use Rattle.py_lines.specs.Private.Machine.{Scanned, text_start, Bracket}
 use Rattle.py_lines.specs.Private.ScanMachine.{move_at, scan_steps}
 use Rattle.py_lines.proofs.LineScan.PieceEnd.{closed_text}
-use Rattle.py_lines.proofs.Pieces.PieceLists.{piece, spelled-append, AreReadBefore-second}
+use Rattle.py_lines.proofs.Pieces.PieceLists.{piece, spelled-push, AreReadBefore-second}
 use Rattle.py_lines.proofs.Pieces.OpenBrackets.{depth_through-append}
 use Rattle.py_lines.proofs.Machine.PieceSteps.{pieces_at, run_before}
 use Rattle.py_lines.proofs.ScanMachine.Advance.{RunsTo}
 use Rattle.py_lines.proofs.ScanMachine.Soundness.{sound_at}
-use Rattle.py_lines.proofs.Lexings.LinePrefix.{EndsNoLine, Stays, Split, split, depth_prefix, prefix_reading, length_line, line_first, line_stays, no_end_in, same_state, reach_reading, within}
+use Rattle.py_lines.proofs.Lexings.LinePrefix.{EndsNoLine, Stays, Split, split, line_first, reading_stays, within}
+use Rattle.py_lines.proofs.Lexings.GivenLines.{none_both}
 use Rattle.py_lines.proofs.Lexings.SettledLines.{ends-append, ends-line}
 
 -- No line ends in the pieces after the lines given, or only by the CR with which the known bytes end.
@@ -25,29 +26,22 @@ pub data EndsNoneYet (others : List Piece) (tail : List ℕ) : Type 0 where
   none : EndsNoLine 0 others → EndsNoneYet others tail
   by_return : (local : List Piece) (text : List ℕ) → others ≡ local ++ piece line_end text ∷ [] → EndsNoLine 0 local → text ≡ 13 ∷ [] → tail ≡ [] → EndsNoneYet others tail
 
--- the one piece of a list that holds it and more
-data OneOf (p w : Piece) (k ws : List Piece) : Type 0 where
-  first : k ≡ [] → w ≡ p → ws ≡ [] → OneOf p w k ws
+-- a piece of a list of one
+one_of : (p w : Piece) (k ws : List Piece) → p ∷ [] ≡ k ++ w ∷ ws → (w ≡ p) × (ws ≡ [])
+one_of p w [] ws same = (cc, cc)
+one_of p w (q ∷ k) ws same = absurd (omega (arith, ap length same, length-append k (w ∷ ws)))
 
-one_of : (p w : Piece) (k ws : List Piece) → p ∷ [] ≡ k ++ w ∷ ws → OneOf p w k ws
-one_of p w [] ws same =
-    let head : p ≡ w = cc in
-    let rest : [] ≡ ws = cc in
-    OneOf.first refl (sym head) (sym rest)
-one_of p w (q ∷ []) ws same = absurd (omega (arith, ap length same))
-one_of p w (q ∷ r ∷ k) ws same = absurd (omega (arith, ap length same))
-
-thirteen : (text : List ℕ) → text ≡ 13 ∷ [] → ends is_return text ≡ true
+thirteen : ends is_return (13 ∷ []) ≡ true
 unfolding is_return
-thirteen text same = ap (ends is_return) same
+thirteen = refl
 
 -- the machine has read the known characters: the lines given are settled, and no more
-pub settled_at : (characters tail : List ℕ) (s : Scanned) (st : List Bracket) (base others : List Piece) (rest : List ℕ) → RunsTo characters s st → pieces_at s ≡ base ++ others → EndsForGood base (rest ++ tail) → EndsNoneYet others tail → spelled base ++ rest ≡ characters → IsSettledPrefix base characters tail
-settled_at characters tail s st base others rest steps pieces good yet spell =
+pub settled_at : (characters tail : List ℕ) (s : Scanned) (st : List Bracket) (base others : List Piece) (rest : List ℕ) → RunsTo characters s st → pieces_at s ≡ base ++ others → IsBalancedReading base (spelled base) → EndsForGood base (rest ++ tail) → EndsNoneYet others tail → spelled base ++ rest ≡ characters → IsSettledPrefix base characters tail
+settled_at characters tail s st base others rest steps pieces reading good yet spell =
     record {
       rest = rest;
       spell = spell;
-      reading = prefix_reading characters s st base others steps pieces good.0;
+      reading = reading;
       ended = good;
       longest = longest;
     }
@@ -56,51 +50,32 @@ settled_at characters tail s st base others rest steps pieces good yet spell =
     whole = closed_text s.mode s.done s.held (sound_at characters s st steps).holds ∙ (sound_at characters s st steps).spell
 
     -- a rival that ends with the CR ends with the known bytes, so not for good
-    at_return : (rivals : List Piece) (after : List ℕ) (body : List Piece) (last line : Piece) (text : List ℕ) → spelled rivals ++ after ≡ characters → rivals ≡ body ++ last ∷ [] → IsBalancedReading rivals (spelled rivals) → last.class ≡ line_end → (after ++ tail ≡ [] → ends is_return (spelled rivals) ≡ false) → pieces_at s ≡ body ++ line ∷ [] → line ≡ piece line_end text → text ≡ 13 ∷ [] → tail ≡ [] → ⊥
-    at_return rivals after body last line text spells is reading class settles at is_line cr bare =
-        let fit = subst (λ l. AreReadBefore l []) is reading.reads.fit in
-        let some = line_first last class (AreReadBefore-second body (last ∷ []) [] fit).0 in
-        let one : length line.text ≡ 1 = ap (λ (p : Piece). length p.text) is_line ∙ ap length cr in
-        let mine : length characters ≡ length (spelled body) + (length line.text + 0) = ap length (sym whole) ∙ ap (λ l. length (spelled l)) at ∙ length_line body line [] in
-        let theirs : length (spelled rivals) ≡ length (spelled body) + (length last.text + 0) = ap (λ l. length (spelled l)) is ∙ length_line body last [] in
-        let sum : length (spelled rivals) + length after ≡ length characters = sym (length-append (spelled rivals) after) ∙ ap length spells in
-        let none : after ≡ [] = nil_from_length after (omega (arith, one, mine, theirs, sum, ap length some.2)) in
-        let all : spelled rivals ≡ spelled (body ++ line ∷ []) = sym (append-nil (spelled rivals)) ∙ ap (λ t. spelled rivals ++ t) (sym none) ∙ spells ∙ sym whole ∙ ap spelled at in
-        let cr_text : line.text ≡ 13 ∷ [] = ap (λ (p : Piece). p.text) is_line ∙ cr in
-        let ending : ends is_return (spelled rivals) ≡ true = ap (ends is_return) (all ∙ spelled-append body (line ∷ []) ∙ ap (λ t. spelled body ++ t) (append-nil line.text ∙ cr_text)) ∙ ends-append is_return (spelled body) 13 [] ∙ thirteen (13 ∷ []) refl in
-        both_ways _ (settles (ap (λ t. t ++ tail) none ∙ bare)) ending
+    at_return : (rivals : List Piece) (after : List ℕ) (body : List Piece) (last line : Piece) → spelled rivals ++ after ≡ characters → rivals ≡ body ++ last ∷ [] → IsBalancedReading rivals (spelled rivals) → last.class ≡ line_end → (after ++ tail ≡ [] → ends is_return (spelled rivals) ≡ false) → pieces_at s ≡ body ++ line ∷ [] → line.text ≡ 13 ∷ [] → tail ≡ [] → ⊥
+    at_return rivals after body last line spells is reads class settles at cr bare =
+        let holds = (AreReadBefore-second body (last ∷ []) [] (subst (λ l. AreReadBefore l []) is reads.reads.fit)).0 in
+        let some = line_first last class holds in
+        let left : last.text ++ after ≡ 13 ∷ [] = append_cancel_left (spelled body) (last.text ++ after) (13 ∷ []) (sym (append_assoc (spelled body) last.text after) ∙ ap (λ t. t ++ after) (sym (spelled-push body last.class last.text) ∙ ap spelled (sym is)) ∙ spells ∙ sym whole ∙ ap spelled at ∙ spelled-push body line.class line.text ∙ ap (λ t. spelled body ++ t) cr) in
+        let first : some.0 ∷ (some.1 ++ after) ≡ 13 ∷ [] = ap (λ t. t ++ after) (sym some.2) ∙ left in
+        let none = none_both some.1 after (cc) in
+        let text : last.text ≡ 13 ∷ [] = some.2 ∙ cc in
+        both_ways _ (settles (ap (λ t. t ++ tail) none.1 ∙ bare)) (ap (λ l. ends is_return (spelled l)) is ∙ ends-line is_return body last class holds ∙ ap (ends is_return) text ∙ thirteen)
 
     bounded : (rivals : List Piece) (after : List ℕ) (body : List Piece) (last : Piece) → spelled rivals ++ after ≡ characters → rivals ≡ body ++ last ∷ [] → IsBalancedReading rivals (spelled rivals) → last.class ≡ line_end → depth_through 0 body ≡ 0 → (after ++ tail ≡ [] → ends is_return (spelled rivals) ≡ false) → Stays body last (pieces_at s) → EndsNoneYet others tail → length (spelled rivals) ≤ length (spelled base)
-    bounded rivals after body last spells is reading class deep settles stays (EndsNoneYet.none free) = within base others rivals body last (pieces_at s) pieces good.0 free is deep stays
-    bounded rivals after body last spells is reading class deep settles stays (EndsNoneYet.by_return local text split_at free cr bare) = go (split base others body stays.line stays.others (sym pieces ∙ stays.is))
+    bounded rivals after body last spells is reads class deep settles stays (EndsNoneYet.none free) = within base others rivals body last (pieces_at s) pieces good.0 free is deep stays
+    bounded rivals after body last spells is reads class deep settles stays (EndsNoneYet.by_return local text split_at free cr bare) =
+        go (split (base ++ local) (piece line_end text ∷ []) body stays.line stays.others (append_assoc base local (piece line_end text ∷ []) ∙ ap (λ l. base ++ l) (sym split_at) ∙ sym pieces ∙ stays.is))
       where
-        second : (k : List Piece) → body ≡ base ++ k → others ≡ k ++ stays.line ∷ stays.others → depth_through 0 k ≡ 0 → Split local (piece line_end text ∷ []) k stays.line stays.others → length (spelled rivals) ≤ length (spelled base)
-        second k one two level (Split.in_first m is_local rest_is) = absurd (no_end_in 0 k stays.line m (subst (EndsNoLine 0) is_local free) level stays.class)
-        second k one two level (Split.in_second m is_k is_cr) = third (one_of (piece line_end text) stays.line m stays.others is_cr)
-          where
-            third : OneOf (piece line_end text) stays.line m stays.others → length (spelled rivals) ≤ length (spelled base)
-            third (OneOf.first nothing line_is no_more) = absurd (at_return rivals after body last stays.line text spells is reading class settles (stays.is ∙ ap (λ l. body ++ stays.line ∷ l) no_more) line_is cr bare)
-
-        go : Split base others body stays.line stays.others → length (spelled rivals) ≤ length (spelled base)
+        go : Split (base ++ local) (piece line_end text ∷ []) body stays.line stays.others → length (spelled rivals) ≤ length (spelled base)
+        go (Split.in_first k one two) = within base local rivals body last (base ++ local) refl good.0 free is deep (record { line = stays.line; others = k; is = one; class = stays.class; longer = stays.longer })
         go (Split.in_second k one two) =
-            let level : depth_through 0 k ≡ 0 = ap (λ (d : ℕ). depth_through d k) (sym (depth_prefix base good.0)) ∙ sym (depth_through-append 0 base k) ∙ ap (depth_through 0) (sym one) ∙ deep in
-            second k one two level (split local (piece line_end text ∷ []) k stays.line stays.others (sym split_at ∙ two))
-        go (Split.in_first k one two) =
-            let mine : length (spelled base) ≡ length (spelled body) + (length stays.line.text + length (spelled k)) = ap (λ l. length (spelled l)) one ∙ length_line body stays.line k in
-            let theirs : length (spelled rivals) ≡ length (spelled body) + (length last.text + 0) = ap (λ l. length (spelled l)) is ∙ length_line body last [] in
-            let more : length last.text ≤ length stays.line.text = stays.longer in
-            omega arith
+            let (line, nothing) = one_of (piece line_end text) stays.line k stays.others two in
+            absurd (at_return rivals after body last stays.line spells is reads class settles (stays.is ∙ ap (λ l. body ++ stays.line ∷ l) nothing) (ap (λ (p : Piece). p.text) line ∙ cr) bare)
 
     longest : (rivals : List Piece) (after : List ℕ) → spelled rivals ++ after ≡ characters → IsBalancedReading rivals (spelled rivals) → EndsForGood rivals (after ++ tail) → length (spelled rivals) ≤ length (spelled base)
-    longest rivals after spells reading (inl empty, settles) =
+    longest rivals after spells reads (inl empty, settles) =
         let short : length (spelled rivals) ≡ 0 = ap (λ l. length (spelled l)) empty in
         omega arith
-    longest rivals after spells reading (inr (body, last, is, class, deep), settles) =
-        let found = reach_reading rivals reading in
-        let through = run_before move_at (Some text_start) (spelled rivals) after s (ap (scan_steps (Some text_start)) spells ∙ steps.run) in
-        let same = same_state (spelled rivals) through.0 found.to through.1 found.steps in
-        let run : scan_steps (Some found.to) after ≡ Some s = ap (λ (t : Scanned). scan_steps (Some t) after) (sym same) ∙ through.2 in
-        bounded rivals after body last spells is reading class deep settles (line_stays found.to.mode found.to.done found.to.held after s body last run (found.pieces_are ∙ is) class) yet
+    longest rivals after spells reads (inr (body, last, is, class, deep), settles) = bounded rivals after body last spells is reads class deep settles (reading_stays rivals after characters s body last steps.run spells reads is class) yet
 
 -- a line end ends in LF or CR
 line_end-breaks : (text : List ℕ) → IsLineEnd text → ends is_return text ≡ false → ends is_line_feed text ≡ true
