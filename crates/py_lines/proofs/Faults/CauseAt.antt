@@ -26,18 +26,10 @@ use Rattle.py_lines.proofs.FieldSoundness.Lists.{not_specification}
 use Rattle.py_lines.proofs.FieldSoundness.WholeTexts.{two_hundred}
 use Rattle.py_lines.proofs.FieldSoundness.OpenEnds.{specification_is_open, slash_is_open}
 use Rattle.py_lines.proofs.Faults.EndFaults.{due_at, brace_is_due, no_brace_at, few_frames}
-use Rattle.py_lines.proofs.Faults.Ends.{sound_to, short_place, join_place, starts_there, opened_in_specification, specification_named}
+use Rattle.py_lines.proofs.Faults.EndPlaces.{brace_more}
+use Rattle.py_lines.proofs.Faults.Ends.{deep_state, sound_to, short_place, join_place, starts_there, opened_in_specification, specification_named}
 use Rattle.py_lines.proofs.Faults.CharacterFaults.{IsStuck, grows_free, bracket_at, started, short_in, short_specification, specification_mode, stuck_dies}
 use Rattle.py_lines.proofs.Faults.Refusals.{IsShortHere, Refuses, Reason, reason}
-
--- a `{` is one byte more
-pub brace_more : (start read : List ℕ) → start ++ 123 ∷ [] ≡ read → byte_len start + 1 ≡ byte_len read
-unfolding encode
-brace_more start read is = sym (byte_len-append start (123 ∷ [])) ∙ ap byte_len is
-
--- so its byte is the one before the end
-brace_last : (start read : List ℕ) → start ++ 123 ∷ [] ≡ read → byte_len start ≡ byte_len read - 1
-brace_last start read is = omega (arith, brace_more start read is)
 
 -- a line end begins a piece
 some_none : {A : Type 0} {a : A} → Some a ≡ None → ⊥
@@ -83,7 +75,7 @@ module _ (read : List ℕ) (s : FieldScanned) (steps : field_steps_from (Some fi
 
   -- where a cause fits, its byte is that of the state
   pub place_is : (cause : Cause) (c offset : ℕ) → Explains cause read c offset → offset ≡ cause_place s cause
-  place_is brace_too_deep c offset fits = fits.place ∙ brace_last fits.start read fits.spell ∙ ap (λ n. n - 1) (sym text_is)
+  place_is brace_too_deep c offset fits = omega (arith, fits.place, brace_more fits.start read fits.spell, text_is)
   place_is breaks_string c offset fits = go fits.inside
     where
       go : InOpenShort read fits.start ⊎ InShortSpecification read fits.start → offset ≡ piece_start s
@@ -101,26 +93,28 @@ module _ (read : List ℕ) (s : FieldScanned) (steps : field_steps_from (Some fi
   place_is ends_specification c offset fits =
       let own = comes_to read _ s (specification_comes fits.host read fits.start fits.inside) steps in
       let found = specification_named read s steps room fits.host fits.start offset own.0 fits.place in
-      let opened_is = (opened_in_specification fits.host s.mode s.outer read own.0.mode_is).0 in
-      found.1.2 ∙ brace_last found.1.0 (before literal s.outer) (found.1.1 ∙ opened_is)
+      omega (arith, found.1, ap byte_len (opened_in_specification fits.host s.mode s.outer read own.0.mode_is).0)
   place_is begins_nothing c offset fits = fits ∙ sym text_is
 
--- a character that has no room opens a bracket
-no_room : (opens : Bool) (depth : ℕ) → not opens || nat_lt depth 200 ≡ false → opens ≡ false → ⊥
-no_room false depth full other = both_ways _ full refl
-no_room true depth full other = both_ways _ other refl
+-- a character that has no room opens a bracket, at depth 200 with the field whose code it begins
+begun_room : (opens : Bool) (depth : ℕ) → not opens || nat_lt depth 200 ≡ false → depth ≤ 200 → (opens ≡ true) × (depth ≡ 200)
+begun_room true depth full few = (refl, omega (arith, few, ltb-false depth 200 full))
+begun_room false depth full few = absurd (both_ways _ full refl)
 
-few_left : (opens : Bool) (depth : ℕ) → not opens || nat_lt depth 200 ≡ false → 200 ≤ depth
-few_left true depth full = ltb-false depth 200 full
-few_left false depth full = absurd (both_ways _ full refl)
+code_room : (opens : Bool) (depth : ℕ) → nat_lt (if opens then depth + 1 else depth) 200 ≡ false → depth ≤ 200 → (200 ≤ depth → ⊥) → (opens ≡ true) × (depth + 1 ≡ 200)
+code_room true depth full few fewer = (refl, at_most depth (ltb-false (depth + 1) 200 full) few fewer)
+  where
+    at_most : (n : ℕ) → 200 ≤ n + 1 → n ≤ 200 → (200 ≤ n → ⊥) → n + 1 ≡ 200
+    at_most n many most other = omega arith
+code_room false depth full few fewer = absurd (fewer (ltb-false depth 200 full))
 
-full_code : (opens : Bool) (depth : ℕ) → nat_lt (if opens then depth + 1 else depth) 200 ≡ false → opens ≡ false → 200 ≤ depth
-full_code false depth full other = ltb-false depth 200 full
-full_code true depth full other = absurd (both_ways _ other refl)
-
-nearly_full : (opens : Bool) (depth : ℕ) → nat_lt (if opens then depth + 1 else depth) 200 ≡ false → 200 ≤ depth + 1
-nearly_full true depth full = ltb-false (depth + 1) 200 full
-nearly_full false depth full = let many = ltb-false depth 200 full in omega (arith, many)
+-- Why a character is stuck, where no `{` waits at depth 200: it begins no piece, or a bracket too deep; it opens a field too deep; it
+-- is the `}` of a specification; or it is refused.
+data Why (s : FieldScanned) (c : ℕ) : Type 0 where
+  begins : (outer : List Level) (ps : List Piece) (os : List ℕ) → field_step s c ≡ field_started outer ps os c (start_of c) → (field_step s c ≡ None) ⊎ ((is_opening c ≡ true) × (length os + levels_open outer ≡ 200)) → (in_open_short s.mode ≡ true → ⊥) → Why s c
+  deep_field : (h : Host) → field_move s.mode s.held c ≡ opens_field h → frames s ≡ 200 → Why s c
+  closes_field : c ≡ 125 → text_place s.mode ≡ specification → Why s c
+  refuses : Refuses s.mode c → Why s c
 
 module _ (s : FieldScanned) (read : List ℕ) (c : ℕ) (after : List ℕ) (steps : field_steps_from (Some field_text_start) read ≡ Some s) (room : have_room (Some field_text_start) read ≡ true) (stuck : IsStuck s c) where
   sound : IsFieldSound two_hundred s read
@@ -146,8 +140,8 @@ module _ (s : FieldScanned) (read : List ℕ) (c : ℕ) (after : List ℕ) (step
 
   deep_back : (offset : ℕ) → OpensBraceTooDeep read (c ∷ []) offset → is_deep ≡ true
   deep_back offset fits =
-      let at = comes_to read _ s (subst (λ t. Comes t (λ x. (host : Host) × (x.mode ≡ body host literal false after_brace) × (frames x ≡ 200))) fits.spell (brace_comes 200 fits.start (c ∷ []) fits.due)) steps in
-      and_from _ _ (ap is_waiting at.1) (ap (λ n. n == 200) at.2)
+      let at = deep_state read s (c ∷ []) offset steps fits in
+      and_from _ _ at.0 (eq-eqb (frames s) 200 at.1)
 
   brace_fits : is_deep ≡ true → (offset : ℕ) × OpensBraceTooDeep read (c ∷ []) offset
   brace_fits is = go s.mode (and_parts (is_waiting s.mode) (frames s == 200) is).0 no_grows sound
@@ -162,56 +156,57 @@ module _ (s : FieldScanned) (read : List ℕ) (c : ℕ) (after : List ℕ) (step
       let full : frames s ≡ 200 = omega (arith, few, many) in
       both_ways _ other (and_from _ _ waits (eq-eqb (frames s) 200 full))
 
+  why : is_deep ≡ false → Why s c
+  unfolding has_room_at
+  why shallow = go (field_move s.mode s.held c) refl stuck
+    where
+      go : (v : FieldMove) → field_move s.mode s.held c ≡ v → IsStuck s c → Why s c
+      go (grows n) is at = absurd (no_grows n is)
+      go closes is at = absurd (no_closes is)
+      go breaks is (inl none) = Why.begins s.outer (field_pieces s) s.openers (ap (field_moved s c) is) (inl none) (both_ways _ (reason_is breaks is))
+      go breaks is (inr full) = Why.begins s.outer (field_pieces s) s.openers (ap (field_moved s c) is) (inr (begun_room (is_opening c) (frames s) (sym (ap (has_room_at (frames s) c) is) ∙ full) few)) (both_ways _ (reason_is breaks is))
+      go (begins_code h) is at =
+          Why.begins (opened_level s h literal s.held ∷ s.outer) [] [] (ap (field_moved s c) is)
+          (⊎_elim (λ none. inl none)
+          (λ full.
+          let room = code_room (is_opening c) (frames s) (sym (ap (has_room_at (frames s) c) is) ∙ full) few (not_deep shallow (reason_is (begins_code h) is)) in
+          inr (room.0, omega (arith, room.1))) at)
+          (λ short. both_ways _ (short_alone s.mode short).waits (reason_is (begins_code h) is))
+      go (opens_field h) is (inl none) = absurd (some_none (sym (ap (field_moved s c) is) ∙ none))
+      go (opens_field h) is (inr full) = Why.deep_field h is (omega (arith, few, ltb-false (frames s) 200 (sym (ap (has_room_at (frames s) c) is) ∙ full)))
+      go ends_field is at = Why.closes_field (reason_is ends_field is).0 (reason_is ends_field is).1
+      go refused is at = Why.refuses (reason_is refused is)
+
   -- a line end is refused where a short string is open, or a specification of one
   pub short_here : is_deep ≡ false → is_break c ≡ true → IsShortHere s.mode
-  unfolding has_room_at
-  short_here shallow break = go (field_move s.mode s.held c) refl
+  short_here shallow break = by (why shallow)
     where
       no_opening : is_opening c ≡ false
       no_opening = break-not-opening c break
 
-      refuses : Refuses s.mode c → IsShortHere s.mode
-      refuses (inl (at, short)) = short
-      refuses (inr (inl (slash, other))) = absurd (both_ways _ other break)
-      refuses (inr (inr (same, quotes))) = absurd (both_ways _ (break-not-quote c break) quotes)
-
-      begun : IsStuck s c → field_move s.mode s.held c ≡ breaks → ⊥
-      begun (inl none) is = break_starts s.outer (field_pieces s) s.openers c break (sym (ap (field_moved s c) is) ∙ none)
-      begun (inr full) is = no_room (is_opening c) (frames s) (sym (ap (has_room_at (frames s) c) is) ∙ full) no_opening
-
-      coded : IsStuck s c → (h : Host) → field_move s.mode s.held c ≡ begins_code h → ⊥
-      coded (inl none) h is = break_starts (opened_level s h literal s.held ∷ s.outer) [] [] c break (sym (ap (field_moved s c) is) ∙ none)
-      coded (inr full) h is = not_deep shallow (reason_is (begins_code h) is) (full_code (is_opening c) (frames s) (sym (ap (has_room_at (frames s) c) is) ∙ full) no_opening)
-
-      go : (v : FieldMove) → field_move s.mode s.held c ≡ v → IsShortHere s.mode
-      go (grows n) is = absurd (no_grows n is)
-      go closes is = absurd (no_closes is)
-      go breaks is = absurd (begun stuck is)
-      go (begins_code h) is = absurd (coded stuck h is)
-      go (opens_field h) is = absurd (both_ways _ no_opening (ap is_opening (reason_is (opens_field h) is).0 ∙ open_brace_opens))
-      go ends_field is = absurd (both_ways _ (break-not-closing c break) (ap is_closing (reason_is ends_field is).0 ∙ end_brace_closes))
-      go refused is = refuses (reason_is refused is)
+      by : Why s c → IsShortHere s.mode
+      by (Why.begins outer ps os step (inl none) apart) = absurd (break_starts outer ps os c break (sym step ∙ none))
+      by (Why.begins outer ps os step (inr (opens, full)) apart) = absurd (both_ways _ no_opening opens)
+      by (Why.deep_field h is full) = absurd (both_ways _ no_opening (ap is_opening (reason_is (opens_field h) is).0 ∙ open_brace_opens))
+      by (Why.closes_field brace at) = absurd (both_ways _ (break-not-closing c break) (ap is_closing brace ∙ end_brace_closes))
+      by (Why.refuses (inl (at, short))) = short
+      by (Why.refuses (inr (inl (slash, other)))) = absurd (both_ways _ other break)
+      by (Why.refuses (inr (inr (same, quotes)))) = absurd (both_ways _ (break-not-quote c break) quotes)
 
   -- and in a short string nothing else is
   pub only_breaks : in_open_short s.mode ≡ true → is_break c ≡ true
-  only_breaks short = go (field_move s.mode s.held c) refl
+  only_breaks short = by (why (ap (λ b. b && (frames s == 200)) own.waits))
     where
       own : IsShortAlone s.mode
       own = short_alone s.mode short
 
-      refuses : Refuses s.mode c → is_break c ≡ true
-      refuses (inl (break, at)) = break
-      refuses (inr (inl (slash, other))) = absurd (both_ways _ own.slash slash)
-      refuses (inr (inr (same, quotes))) = absurd (both_ways _ (own.quotes c) same)
-
-      go : (v : FieldMove) → field_move s.mode s.held c ≡ v → is_break c ≡ true
-      go (grows n) is = absurd (no_grows n is)
-      go closes is = absurd (no_closes is)
-      go breaks is = absurd (both_ways _ (reason_is breaks is) short)
-      go (begins_code h) is = absurd (both_ways _ own.waits (reason_is (begins_code h) is))
-      go (opens_field h) is = not_specification (sym (short_place s.mode short) ∙ (reason_is (opens_field h) is).1)
-      go ends_field is = not_specification (sym (short_place s.mode short) ∙ (reason_is ends_field is).1)
-      go refused is = refuses (reason_is refused is)
+      by : Why s c → is_break c ≡ true
+      by (Why.begins outer ps os step none apart) = absurd (apart short)
+      by (Why.deep_field h is full) = not_specification (sym (short_place s.mode short) ∙ (reason_is (opens_field h) is).1)
+      by (Why.closes_field brace at) = not_specification (sym (short_place s.mode short) ∙ at)
+      by (Why.refuses (inl (break, at))) = break
+      by (Why.refuses (inr (inl (slash, other)))) = absurd (both_ways _ own.slash slash)
+      by (Why.refuses (inr (inr (same, quotes)))) = absurd (both_ways _ (own.quotes c) same)
 
   -- a line end that is refused
   break_fits : is_deep ≡ false → is_break c ≡ true → (offset : ℕ) × BreaksString read c offset
@@ -236,51 +231,18 @@ module _ (s : FieldScanned) (read : List ℕ) (c : ℕ) (after : List ℕ) (step
 
   -- an opening bracket that is refused, or the `{` of a field
   opening_fits : is_deep ≡ false → is_break c ≡ false → after_open_backslash s.mode ≡ false → is_closing c ≡ false → is_opening c ≡ true → (offset : ℕ) × OpensTooDeep read c offset
-  unfolding has_room_at
-  opening_fits shallow no_break no_slash no_closing opens = go (field_move s.mode s.held c) refl
+  opening_fits shallow no_break no_slash no_closing opens = by (why shallow)
     where
-      begun : (outer : List Level) (ps : List Piece) (os : List ℕ) → field_step s c ≡ field_started outer ps os c (start_of c) → field_step s c ≡ None → ⊥
-      begun outer ps os step none = some_none (sym (started s read c sound steps outer ps os opens) ∙ sym step ∙ none)
-
-      full_at : (outer : List Level) (ps : List Piece) (os : List ℕ) → field_step s c ≡ field_started outer ps os c (start_of c) → length os + levels_open outer ≡ 200 → (offset : ℕ) × OpensTooDeep read c offset
-      full_at outer ps os step full =
+      by : Why s c → (offset : ℕ) × OpensTooDeep read c offset
+      by (Why.begins outer ps os step (inl none) apart) = absurd (some_none (sym (started s read c sound steps outer ps os opens) ∙ sym step ∙ none))
+      by (Why.begins outer ps os step (inr (also, full)) apart) =
           (byte_len read, record { opens = opens; deep = inl (bracket_at s read c sound steps outer ps os opens (step ∙ started s read c sound steps outer ps os opens) full); place = refl })
-
-      by_breaks : field_move s.mode s.held c ≡ breaks → IsStuck s c → (offset : ℕ) × OpensTooDeep read c offset
-      by_breaks is (inl none) = absurd (begun s.outer (field_pieces s) s.openers (ap (field_moved s c) is) none)
-      by_breaks is (inr full) =
-          let many = few_left (is_opening c) (frames s) (sym (ap (has_room_at (frames s) c) is) ∙ full) in
-          full_at s.outer (field_pieces s) s.openers (ap (field_moved s c) is) (omega (arith, few, many))
-
-      by_code : (h : Host) → field_move s.mode s.held c ≡ begins_code h → IsStuck s c → (offset : ℕ) × OpensTooDeep read c offset
-      by_code h is (inl none) = absurd (begun (opened_level s h literal s.held ∷ s.outer) [] [] (ap (field_moved s c) is) none)
-      by_code h is (inr full) =
-          let many = nearly_full (is_opening c) (frames s) (sym (ap (has_room_at (frames s) c) is) ∙ full) in
-          let fewer : frames s ≡ 200 → ⊥ = λ same. not_deep shallow (reason_is (begins_code h) is) (omega (arith, same)) in
-          full_at (opened_level s h literal s.held ∷ s.outer) [] [] (ap (field_moved s c) is) (count (frames s) many few fewer)
-        where
-          count : (n : ℕ) → 200 ≤ n + 1 → n ≤ 200 → (n ≡ 200 → ⊥) → length {A = ℕ} [] + (n + 1) ≡ 200
-          count n many most other = omega arith
-
-      by_field : (h : Host) → field_move s.mode s.held c ≡ opens_field h → IsStuck s c → (offset : ℕ) × OpensTooDeep read c offset
-      by_field h is (inl none) = absurd (some_none (sym (ap (field_moved s c) is) ∙ none))
-      by_field h is (inr full) =
-          let many = ltb-false (frames s) 200 (sym (ap (has_room_at (frames s) c) is) ∙ full) in
-          (byte_len read, record { opens = opens; deep = inr ((reason_is (opens_field h) is).0, opens_due s.mode h (reason_is (opens_field h) is).1 is sound (omega (arith, few, many))); place = refl })
-
-      refuses : Refuses s.mode c → ⊥
-      refuses (inl (break, short)) = both_ways _ no_break break
-      refuses (inr (inl (slash, other))) = both_ways _ no_slash slash
-      refuses (inr (inr (same, quotes))) = both_ways _ (opening-not-quote c opens) quotes
-
-      go : (v : FieldMove) → field_move s.mode s.held c ≡ v → (offset : ℕ) × OpensTooDeep read c offset
-      go (grows n) is = absurd (no_grows n is)
-      go closes is = absurd (no_closes is)
-      go breaks is = by_breaks is stuck
-      go (begins_code h) is = by_code h is stuck
-      go (opens_field h) is = by_field h is stuck
-      go ends_field is = absurd (both_ways _ no_closing (ap is_closing (reason_is ends_field is).0 ∙ end_brace_closes))
-      go refused is = absurd (refuses (reason_is refused is))
+      by (Why.deep_field h is full) =
+          (byte_len read, record { opens = opens; deep = inr ((reason_is (opens_field h) is).0, opens_due s.mode h (reason_is (opens_field h) is).1 is sound full); place = refl })
+      by (Why.closes_field brace at) = absurd (both_ways _ no_closing (ap is_closing brace ∙ end_brace_closes))
+      by (Why.refuses (inl (break, short))) = absurd (both_ways _ no_break break)
+      by (Why.refuses (inr (inl (slash, other)))) = absurd (both_ways _ no_slash slash)
+      by (Why.refuses (inr (inr (same, quotes)))) = absurd (both_ways _ (opening-not-quote c opens) quotes)
 
   -- what follows a backslash
   join_fits : after_open_backslash s.mode ≡ true → (offset : ℕ) × Explains breaks_join read c offset

@@ -13,7 +13,8 @@ use Rattle.py_lines.specs.declared.mode.Mode.{Mode}
 use Rattle.py_lines.specs.declared.mode.Mode.TheVariants as modes
 use Rattle.py_lines.specs.Private.Machine.{is_final, in_short, in_long, is_after_backslash}
 use Rattle.py_lines.specs.Private.FieldMachine.{text_place, before, At, after_brace, FieldMode, plain, opened, empty, body, Level, FieldScanned, field_state, field_closed, levels_open, may_end, IsFieldFinal}
-use Rattle.py_lines.specs.Private.FieldFaults.{unfinished_code, unfinished_literal, unfinished_in}
+use Rattle.py_lines.specs.Private.FieldFaults.{is_waiting, unfinished_code, unfinished_literal, unfinished_in}
+use Rattle.py_lines.proofs.Faults.EndPlaces.{final_by}
 use Rattle.py_lines.proofs.Pieces.PieceLists.{piece}
 use Rattle.py_lines.proofs.FieldSoundness.OpenLists.{Opens, level, inside, opens-depth}
 use Rattle.py_lines.proofs.FieldSoundness.Holds.{Limit, HoldsAt, HoldsParts, HoldsList, HoldsLevels, IsFieldSound}
@@ -143,24 +144,9 @@ pub no_brace_at : (outer : List Level) (depth : ℕ) (held : List ℕ) (host : H
 no_brace_at outer depth held host named after_brace holds same = not_specification (sym holds.2)
 no_brace_at outer depth held host named at holds same = absurd (cc)
 
--- a mode in which nothing of the kind is open is one in which the text may end
-final_mode : (m : Mode) → in_short m ≡ false → in_long m ≡ false → is_after_backslash m ≡ false → is_final m ≡ true
-final_mode (modes.Opened q) short long slash = absurd (both_ways _ short refl)
-final_mode (modes.Inside q) short long slash = absurd (both_ways _ short refl)
-final_mode (modes.Escape q) short long slash = absurd (both_ways _ short refl)
-final_mode (modes.EscapeReturn q) short long slash = absurd (both_ways _ short refl)
-final_mode (modes.FieldOpened h) short long slash = absurd (both_ways _ short refl)
-final_mode modes.Fielded short long slash = absurd (both_ways _ long refl)
-final_mode (modes.Long q) short long slash = absurd (both_ways _ long refl)
-final_mode (modes.LongOne q) short long slash = absurd (both_ways _ long refl)
-final_mode (modes.LongTwo q) short long slash = absurd (both_ways _ long refl)
-final_mode (modes.LongEscape q) short long slash = absurd (both_ways _ long refl)
-final_mode modes.Backslash short long slash = absurd (both_ways _ slash refl)
-final_mode m short long slash = refl
-
 -- the machine stands directly after the `{` of a literal part, with 200 brackets and fields open
 abbrev pub IsDeepBrace : List Level → List ℕ → FieldMode → Type 0
-IsDeepBrace outer openers m = (host : Host) × (m ≡ body host literal false after_brace) × (length openers + levels_open outer ≡ 200)
+IsDeepBrace outer openers m = (is_waiting m ≡ true) × (length openers + levels_open outer ≡ 200)
 
 -- where a text ends in a state of the machine, it may end there, or this is open
 abbrev pub EndsSo : FieldScanned → List ℕ → Option Unfinished → Type 0
@@ -188,7 +174,7 @@ plain_open outer done openers m held read sound none =
     (λ is. (byte_len start, (start, long_is_open two_hundred outer done openers m held read sound is, refl)))
     (λ long. cond_both (is_after_backslash m) _ _ P
     (λ is. (byte_len start, (start, slash_is_open two_hundred outer done openers m held read sound is, refl)))
-    (λ slash. code_open outer done openers (plain m) held read sound (final_mode m short long slash) none)))
+    (λ slash. code_open outer done openers (plain m) held read sound (final_by m ∙ rw (short, long, slash) refl) none)))
 
 literal_open : (outer : List Level) (done : List Piece) (openers : List ℕ) (host : Host) (named : Bool) (at : At) (held read : List ℕ) → IsFieldSound two_hundred (field_state outer done openers (body host literal named at) held) read → (at ≡ after_brace → ⊥) → (offset : ℕ) × IsOpenAtEnd (if host.is_long then open_long else open_short) read offset
 literal_open outer done openers host named at held read sound other = go host.is_long (literal_is_open two_hundred outer done openers host named at held read sound other)
@@ -207,36 +193,24 @@ brace_open outer done openers host named held read sound deep =
     (λ less.
     let at = brace_is_open two_hundred outer done openers host named held read sound in
     let room = ltb-true depth 200 less in
-    (byte_len at.0, (at.0, inl at.1, refl, λ place due. not_full room (deep place due))))
+    (byte_len at.0, (at.0, inl at.1, refl, λ place due. omega (arith, room, (deep place due).1))))
     (λ full.
     let few = few_frames outer done openers (body host literal named after_brace) held read sound in
     let many = ltb-false depth 200 full in
     let is : depth ≡ 200 = omega (arith, few, many) in
     brace_is_due two_hundred outer done openers host named held read sound [] refl is)
-  where
-    not_full : length openers + levels_open outer < 200 → IsDeepBrace outer openers (body host literal named after_brace) → ⊥
-    not_full room (other, same, full) = omega (arith, room, full)
 
 specification_at : (outer : List Level) (done : List Piece) (openers : List ℕ) (host : Host) (named : Bool) (at : At) (held read : List ℕ) → IsFieldSound two_hundred (field_state outer done openers (body host specification named at) held) read → ((place : ℕ) → OpensBraceTooDeep read [] place → IsDeepBrace outer openers (body host specification named at)) → (offset : ℕ) × IsOpenAtEnd open_inside read offset
 specification_at outer done openers host named at held read sound deep =
     let own = specification_is_open two_hundred outer done openers host named at held read sound (no_brace_at outer _ held host named at sound.mode) in
-    (byte_len own.0, (own.0, inr (host, own.1), refl, λ place due. not_literal (deep place due)))
-  where
-    not_literal : IsDeepBrace outer openers (body host specification named at) → ⊥
-    not_literal (h, same, full) = cc
+    (byte_len own.0, (own.0, inr (host, own.1), refl, λ place due. both_ways _ refl (deep place due).0))
 
 pub open_in : (outer : List Level) (done : List Piece) (openers : List ℕ) (m : FieldMode) (held read : List ℕ) → IsFieldSound two_hundred (field_state outer done openers m held) read → ((place : ℕ) → OpensBraceTooDeep read [] place → IsDeepBrace outer openers m) → EndsSo (field_state outer done openers m held) read (unfinished_in outer openers m)
-open_in outer done openers (plain m) held read sound deep = plain_open outer done openers m held read sound (λ place due. not_body (deep place due))
-  where
-    not_body : IsDeepBrace outer openers (plain m) → ⊥
-    not_body (h, at, full) = cc
+open_in outer done openers (plain m) held read sound deep = plain_open outer done openers m held read sound (λ place due. both_ways _ refl (deep place due).0)
 open_in outer done openers (opened host) held read sound deep =
     let start = before literal outer ++ spelled done in
     (byte_len start, (start, stands_map (IsOpenLiteral false) (λ front. IsPlainShortPrefix front ⊎ IsOpenLiteral false front) read start (λ front is. inr is) (opened_is_open two_hundred outer done openers host held read sound), refl))
-open_in outer done openers (empty host) held read sound deep = code_open outer done openers (empty host) held read sound refl (λ place due. not_body (deep place due))
-  where
-    not_body : IsDeepBrace outer openers (empty host) → ⊥
-    not_body (h, at, full) = cc
+open_in outer done openers (empty host) held read sound deep = code_open outer done openers (empty host) held read sound refl (λ place due. both_ways _ refl (deep place due).0)
 open_in outer done openers (body host specification named at) held read sound deep = specification_at outer done openers host named at held read sound deep
 open_in outer done openers (body host literal named after_brace) held read sound deep = brace_open outer done openers host named held read sound deep
 open_in outer done openers (body host literal named at) held read sound deep = literal_open outer done openers host named at held read sound (λ is. absurd (cc))

@@ -1,19 +1,22 @@
 -- What is open where a text with fields ends, and where it starts, are told by the state of the machine there: so they are one.
-use Rattle.std.proofs.Common.{◌≡◌, ℕ, true, Option, None, Some, List, [], ◌∷◌, ◌++◌, refl, sym, ap, ◌∙◌, subst}
-use Rattle.std.specs.Str.{byte}
+use Rattle.std.specs.Prelude.{if◌then◌else◌}
+use Rattle.std.proofs.Math.Utf8.{encode}
+use Rattle.std.proofs.Common.{◌≡◌, ℕ, ◌+◌, Bool, true, false, not, ◌||◌, arith, Option, None, Some, List, [], ◌∷◌, ◌++◌, refl, sym, ap, ◌∙◌, subst}
 use Rattle.std.proofs.lemmas.Bool.{both_ways, not-true}
-use Rattle.std.proofs.lemmas.List.{append_cancel_right}
 use Rattle.py_lines.specs.Piece.{Class, operator, Piece, spelled}
 use Rattle.py_lines.specs.LogicalLine.{byte_len, first_or_zero}
 use Rattle.py_lines.specs.Balance.{is_opening, is_operator_that, is_opener, IsBalanced}
 use Rattle.py_lines.specs.Faults.{Unfinished, open_brace, open_short, open_long, open_join, open_bracket, open_inside, InOpenBracket}
 use Rattle.py_lines.specs.FieldStrings.{Host, literal, specification}
+use Rattle.py_lines.specs.declared.mode.Mode.{Mode}
 use Rattle.py_lines.specs.declared.mode.Mode.TheVariants as modes
+use Rattle.py_lines.specs.Private.Machine.{is_final, in_short, in_long, is_after_backslash}
 use Rattle.py_lines.specs.Private.FieldMachine.{text_place, before, after_brace, in_open_short, in_open_long, after_open_backslash, InSpecificationOf, FieldMode, plain, opened, empty, body, Level, FieldScanned, field_state, field_text_start, field_steps_from, field_pieces, may_end, openers_through}
 use Rattle.py_lines.proofs.Pieces.PieceLists.{spelled-append}
 use Rattle.py_lines.proofs.FieldMachine.Runs.{NoLimit, Goes, steps_of}
 use Rattle.py_lines.proofs.FieldMachine.OpenLists.{pieces_run, list_runs}
 use Rattle.py_lines.proofs.Machine.ReadingSteps.{MayBegin}
+use Rattle.py_lines.proofs.LogicalLines.Cuts.{byte_len-append}
 use Rattle.py_lines.proofs.FieldSoundness.OpenEnds.{long_mode}
 use Rattle.py_lines.proofs.Fields.OneReading.{some_head}
 use Rattle.py_lines.proofs.FieldMachine.ListBrackets.{openers_through-append, opener_pushes, balanced_openers, none_some}
@@ -29,8 +32,8 @@ abbrev pub IsPlaced : Unfinished → FieldScanned → List ℕ → ℕ → Type 
 IsPlaced open_bracket s characters offset =
     (outer : List Piece) × (opener : Piece) × (inner : List Piece) × (field_pieces s ≡ outer ++ opener ∷ inner) × (is_opener opener ≡ true)
     × IsBalanced inner × (offset ≡ byte_len (before literal s.outer ++ spelled outer))
-IsPlaced open_brace s characters offset = (start : List ℕ) × (start ++ byte "{" ∷ [] ≡ characters) × (offset ≡ byte_len start)
-IsPlaced open_inside s characters offset = (start : List ℕ) × (start ++ byte "{" ∷ [] ≡ opened_text s.mode s.outer characters) × (offset ≡ byte_len start)
+IsPlaced open_brace s characters offset = offset + 1 ≡ byte_len characters
+IsPlaced open_inside s characters offset = offset + 1 ≡ byte_len (opened_text s.mode s.outer characters)
 IsPlaced other s characters offset = offset ≡ byte_len (before (text_place s.mode) s.outer ++ spelled s.done)
 
 -- a bracket is open after one that no bracket closes
@@ -63,18 +66,18 @@ one_bracket (x ∷ xs) (z ∷ zs) inner more a b same one two first second =
     let later : xs ++ a ∷ inner ≡ zs ++ b ∷ more = cc in
     ap (λ p. p ∷ xs) here ∙ ap (λ l. z ∷ l) (one_bracket xs zs inner more a b later one two first second)
 
--- so the place is one
-one_start : (start other text : List ℕ) (offset place : ℕ) → start ++ 123 ∷ [] ≡ text → other ++ 123 ∷ [] ≡ text → offset ≡ byte_len start → place ≡ byte_len other → offset ≡ place
-one_start start other text offset place one two at also = at ∙ ap byte_len (append_cancel_right start other (123 ∷ []) (one ∙ sym two)) ∙ sym also
+-- a `{` is one byte more
+pub brace_more : (start read : List ℕ) → start ++ 123 ∷ [] ≡ read → byte_len start + 1 ≡ byte_len read
+unfolding encode
+brace_more start read is = sym (byte_len-append start (123 ∷ [])) ∙ ap byte_len is
 
+-- so the place is one
 pub one_place : (what : Unfinished) (s : FieldScanned) (characters : List ℕ) (offset place : ℕ) → IsPlaced what s characters offset → IsPlaced what s characters place → offset ≡ place
 one_place open_bracket s characters offset place (outer, a, inner, is, opens, within, at) (others, b, more, also, two, second, there) =
     at ∙ ap (λ l. byte_len (before literal s.outer ++ spelled l)) (one_bracket outer others inner more a b (sym is ∙ also) opens two within second) ∙ sym there
-one_place open_brace s characters offset place one two = one_start one.0 two.0 characters offset place one.1 two.1 one.2 two.2
-one_place open_inside s characters offset place one two = one_start one.0 two.0 (opened_text s.mode s.outer characters) offset place one.1 two.1 one.2 two.2
-one_place open_short s characters offset place one two = one ∙ sym two
-one_place open_long s characters offset place one two = one ∙ sym two
-one_place open_join s characters offset place one two = one ∙ sym two
+one_place open_brace s characters offset place one two = omega (arith, one, two)
+one_place open_inside s characters offset place one two = omega (arith, one, two)
+one_place what s characters offset place one two = one ∙ sym two
 
 -- the kinds, by the mode
 pub short_unfinished : (outer : List Level) (openers : List ℕ) (m : FieldMode) → in_open_short m ≡ true → unfinished_in outer openers m ≡ Some open_short
@@ -94,17 +97,18 @@ pub join_unfinished : (outer : List Level) (openers : List ℕ) (m : FieldMode) 
 join_unfinished outer openers (plain modes.Backslash) is = refl
 join_unfinished outer openers m is = absurd (both_ways _ refl is)
 
--- where the text may end, brackets and fields aside, code is open
+-- the text may end in a mode in which nothing of the kind is open
+pub final_by : (m : Mode) → is_final m ≡ not (in_short m || (in_long m || is_after_backslash m))
+final_by modes.Fielded = refl
+final_by m = refl
+
+none_open : (short long slash : Bool) (o : Option Unfinished) → not (short || (long || slash)) ≡ true → (if short then Some open_short else (if long then Some open_long else (if slash then Some open_join else o))) ≡ o
+none_open false false false o ends = refl
+none_open short long slash o ends = absurd (both_ways _ refl ends)
+
+-- where it may end, brackets and fields aside, code is open
 pub code_unfinished : (outer : List Level) (openers : List ℕ) (m : FieldMode) → may_end m ≡ true → unfinished_in outer openers m ≡ unfinished_code outer openers
-code_unfinished outer openers (plain modes.Start) may = refl
-code_unfinished outer openers (plain modes.Free) may = refl
-code_unfinished outer openers (plain modes.Space) may = refl
-code_unfinished outer openers (plain (modes.Word s)) may = refl
-code_unfinished outer openers (plain modes.Comment) may = refl
-code_unfinished outer openers (plain (modes.Empty q)) may = refl
-code_unfinished outer openers (plain (modes.FieldEmpty f)) may = refl
-code_unfinished outer openers (plain modes.JoinReturn) may = refl
-code_unfinished outer openers (plain modes.Return) may = refl
+code_unfinished outer openers (plain m) may = none_open (in_short m) (in_long m) (is_after_backslash m) _ (sym (final_by m) ∙ may)
 code_unfinished outer openers (empty host) may = refl
 code_unfinished outer openers m may = absurd (both_ways _ refl may)
 

@@ -18,21 +18,22 @@ use Rattle.py_lines.proofs.FieldSoundness.HostSteps.{sound_at}
 use Rattle.py_lines.proofs.FieldSoundness.WholeTexts.{two_hundred, rooms_at, final_is_reading}
 use Rattle.py_lines.proofs.FieldSoundness.LiveTexts.{live_goes, goes_live}
 use Rattle.py_lines.proofs.Faults.EndFaults.{IsDeepBrace, EndsSo, brace_open, open_in}
-use Rattle.py_lines.specs.Private.FieldFaults.{unfinished_code, unfinished_in, unfinished_at}
-use Rattle.py_lines.proofs.Faults.EndPlaces.{same_state, opened_text, IsPlaced, one_place, short_unfinished, long_unfinished, join_unfinished, code_unfinished, specification_unfinished, bracket_back}
+use Rattle.py_lines.specs.Private.FieldFaults.{is_waiting, unfinished_code, unfinished_literal, unfinished_in, unfinished_at}
+use Rattle.py_lines.proofs.Faults.EndPlaces.{same_state, opened_text, IsPlaced, brace_more, one_place, short_unfinished, long_unfinished, join_unfinished, code_unfinished, specification_unfinished, bracket_back}
 
 -- directly after a `{` at depth 200 the machine stands there
-pub deep_state : (characters : List ℕ) (s : FieldScanned) (place : ℕ) → field_steps_from (Some field_text_start) characters ≡ Some s → OpensBraceTooDeep characters [] place → IsDeepBrace s.outer s.openers s.mode
-deep_state characters s place steps deep =
+pub deep_state : (characters : List ℕ) (s : FieldScanned) (after : List ℕ) (place : ℕ) → field_steps_from (Some field_text_start) characters ≡ Some s → OpensBraceTooDeep characters after place → IsDeepBrace s.outer s.openers s.mode
+deep_state characters s after place steps deep =
     let Such : FieldScanned → Type 0 = λ t. (host : Host) × (t.mode ≡ body host literal false after_brace) × (frames t ≡ 200) in
-    comes_to characters Such s (subst (λ t. Comes t Such) deep.spell (brace_comes 200 deep.start [] deep.due)) steps
+    let at = comes_to characters Such s (subst (λ t. Comes t Such) deep.spell (brace_comes 200 deep.start after deep.due)) steps in
+    (ap is_waiting at.1, at.2)
 
 pub sound_to : (characters : List ℕ) (s : FieldScanned) → field_steps_from (Some field_text_start) characters ≡ Some s → have_room (Some field_text_start) characters ≡ true → IsFieldSound two_hundred s characters
 sound_to characters s steps room = sound_at two_hundred characters s (rooms_at (Some field_text_start) characters room) steps
 
 -- a live text is read, or has a fault at its end
 pub read_or_open : (characters : List ℕ) (s : FieldScanned) → field_steps_from (Some field_text_start) characters ≡ Some s → have_room (Some field_text_start) characters ≡ true → IsBalancedReading (field_pieces s) characters ⊎ ((kind : FaultKind) × (offset : ℕ) × IsEndFault kind characters [] offset)
-read_or_open characters s steps room = go (unfinished_at s) (open_in s.outer s.done s.openers s.mode s.held characters (sound_to characters s steps room) (λ place deep. deep_state characters s place steps deep))
+read_or_open characters s steps room = go (unfinished_at s) (open_in s.outer s.done s.openers s.mode s.held characters (sound_to characters s steps room) (λ place deep. deep_state characters s [] place steps deep))
   where
     go : (o : Option Unfinished) → EndsSo s characters o → IsBalancedReading (field_pieces s) characters ⊎ ((kind : FaultKind) × (offset : ℕ) × IsEndFault kind characters [] offset)
     go None final = inl (final_is_reading characters s steps room final)
@@ -77,16 +78,16 @@ module _ (characters : List ℕ) (s : FieldScanned) (steps : field_steps_from (S
   code_named : (start : List ℕ) (offset : ℕ) → CodeAt start s → offset ≡ byte_len start → ((place : ℕ) → ¬ (OpensBraceTooDeep characters [] place)) → IsNamed open_inside offset
   code_named start offset (in_code deep none may is) place other = (
     code_unfinished s.outer s.openers s.mode may ∙ code_inside s.outer s.openers deep none,
-    (start, sym is ∙ sym (opened_at_end s.mode s.outer characters may), place),
+    ap (λ n. n + 1) place ∙ brace_more start _ (sym is ∙ sym (opened_at_end s.mode s.outer characters may)),
   )
   code_named start offset (at_brace host mode_is is) place other = go s.mode mode_is sound
     where
-      go : (m : FieldMode) → m ≡ body host literal false after_brace → IsFieldSound two_hundred (field_state s.outer s.done s.openers m s.held) characters → (unfinished_in s.outer s.openers m ≡ Some open_inside) × ((first : List ℕ) × (first ++ 123 ∷ [] ≡ opened_text m s.outer characters) × (offset ≡ byte_len first))
+      go : (m : FieldMode) → m ≡ body host literal false after_brace → IsFieldSound two_hundred (field_state s.outer s.done s.openers m s.held) characters → (unfinished_in s.outer s.openers m ≡ Some open_inside) × (offset + 1 ≡ byte_len (opened_text m s.outer characters))
       go (body own literal named after_brace) same here =
           let depth = length s.openers + levels_open s.outer in (
             cond_both (nat_lt depth 200) open_inside open_brace (λ (w : Unfinished). (at : ℕ) × IsOpenAtEnd w characters at → Some w ≡ Some open_inside) (λ less due. refl) (λ full due. absurd (other due.0 due.1))
                 (brace_open s.outer s.done s.openers own named s.held characters here (λ at due. absurd (other at due))),
-            (start, sym is ∙ append_assoc (before literal s.outer) (spelled s.done) s.held ∙ here.spell, place),
+            ap (λ n. n + 1) place ∙ brace_more start _ (sym is ∙ append_assoc (before literal s.outer) (spelled s.done) s.held ∙ here.spell),
           )
       go m same here = absurd (cc)
 
@@ -94,7 +95,7 @@ module _ (characters : List ℕ) (s : FieldScanned) (steps : field_steps_from (S
   specification_named host start offset at place =
       let open_text = opened_in_specification host s.mode s.outer characters at.mode_is in
       let none = sound.list.no_list open_text.1 in
-      (specification_unfinished s.outer s.openers host s.mode at.mode_is, (start, whole s.outer at.string_is at.field_is none.0 ∙ sym open_text.0, place))
+      (specification_unfinished s.outer s.openers host s.mode at.mode_is, ap (λ n. n + 1) place ∙ brace_more start _ (whole s.outer at.string_is at.field_is none.0 ∙ sym open_text.0))
     where
       whole : (outer : List Level) → before specification outer ++ spelled s.done ≡ at.string → HasOpened specification outer at.field → s.done ≡ [] → start ++ 123 ∷ [] ≡ before literal outer
       whole [] string_is field_is none = absurd field_is
@@ -107,11 +108,11 @@ module _ (characters : List ℕ) (s : FieldScanned) (steps : field_steps_from (S
 
   pub named : (what : Unfinished) (offset : ℕ) → IsOpenAtEnd what characters offset → IsNamed what offset
   named open_brace offset deep =
-      let at = deep_state characters s offset steps deep in
-      (brace_named s.outer s.openers s.mode at, (deep.start, deep.spell, deep.place))
+      (brace_named s.outer s.openers s.mode (deep_state characters s [] offset steps deep), ap (λ n. n + 1) deep.place ∙ brace_more deep.start characters deep.spell)
     where
       brace_named : (outer : List Level) (openers : List ℕ) (m : FieldMode) → IsDeepBrace outer openers m → unfinished_in outer openers m ≡ Some open_brace
-      brace_named outer openers m (host, is, full) = ap (unfinished_in outer openers) is ∙ ap (λ (n : ℕ). Some (if nat_lt n 200 then open_inside else open_brace)) full
+      brace_named outer openers (body host literal named after_brace) (waits, full) = ap (λ n. Some (unfinished_literal host after_brace n)) full
+      brace_named outer openers m (waits, full) = absurd (both_ways _ refl waits)
   named open_short offset (start, is, place) =
       let own = comes_to characters _ s (short_open_comes characters start is) steps in
       (short_unfinished s.outer s.openers s.mode own.0, starts_there s start offset (short_place s.mode own.0) own.1 place)

@@ -37,9 +37,7 @@ not_break c feed return = or_from (c == 10) ((c == 13) || false) (or_parts (c ==
 
 -- in a piece without fields
 abbrev PlainReason : Mode → ℕ → Move → Type 0
-PlainReason m c moves.Refused = Refuses (plain m) c
-PlainReason m c moves.Breaks = in_short m ≡ false
-PlainReason m c other = Unit {0}
+PlainReason m c v = Reason (plain m) c (plain_move v)
 
 short_reason : (m : Mode) (q c : ℕ) → in_short m ≡ true → PlainReason m c (short_move q c)
 unfolding short_move
@@ -76,12 +74,6 @@ plain_reason modes.Backslash held c holds =
     (λ k. cond_both (is_return c) _ moves.Refused (PlainReason modes.Backslash c) (λ l. tt) (λ l. inr (inl (refl, not_break c k l))))
 plain_reason modes.JoinReturn held c holds = cond_both (is_line_feed c) moves.Closes moves.Breaks (PlainReason modes.JoinReturn c) (λ k. tt) (λ k. refl)
 plain_reason modes.Return held c holds = cond_both (is_line_feed c) moves.Closes moves.Breaks (PlainReason modes.Return c) (λ k. tt) (λ k. refl)
-
-with_reason : (m : Mode) (c : ℕ) (v : Move) → PlainReason m c v → Reason (plain m) c (plain_move v)
-with_reason m c (moves.Grows n) h = tt
-with_reason m c moves.Closes h = tt
-with_reason m c moves.Breaks h = h
-with_reason m c moves.Refused h = h
 
 -- in a string with fields, of which this is the mode
 module _ (m : FieldMode) (host : Host) (place : Place) (c : ℕ) (at_place : text_place m ≡ place) (short : host.is_long ≡ false → IsShortHere m) (closing : c == host.quote ≡ true → Reason m c (closing_move place)) where
@@ -154,7 +146,7 @@ body_reason limit outer depth host place named after_brace held c quotes holds =
 pub reason : (limit : Limit) (outer : List Level) (depth : ℕ) (m : FieldMode) (held : List ℕ) (c : ℕ) → HoldsMode limit outer depth m held → Reason m c (field_move m held c)
 unfolding field_move body_move
 reason limit outer depth (plain m) held c holds =
-    cond_both (begins_host m held c) _ _ (Reason (plain m) c) (λ h. tt) (λ h. with_reason m c (move_of m c) (plain_reason m held c holds.0))
+    cond_both (begins_host m held c) _ _ (Reason (plain m) c) (λ h. tt) (λ h. plain_reason m held c holds.0)
 reason limit outer depth (opened host) held c holds =
     cond_both (c == host.quote) _ _ (Reason (opened host) c) (λ h. tt) (λ h. between_reason (opened host) host literal c refl (λ short. inl refl) (λ same. tt) false between)
 reason limit outer depth (empty host) held c holds = cond_both (c == host.quote) _ breaks (Reason (empty host) c) (λ h. tt) (λ h. refl)

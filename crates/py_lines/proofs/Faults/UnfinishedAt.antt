@@ -1,7 +1,6 @@
 -- Where a live text ends, the state of the machine with fields tells what is open and where its fault stands, or that it is read.
 use Rattle.std.proofs.Common.{◌≡◌, ℕ, ◌+◌, Bool, true, false, Some, List, [], ◌∷◌, ◌++◌, refl, sym, ap, ◌∙◌, subst, append_assoc, append-nil, length, length-append}
 use Rattle.std.specs.Prelude.{if◌then◌else◌}
-use Rattle.std.proofs.lemmas.Str.{encodes-append}
 use Rattle.py_lines.specs.Piece.{string, Piece, spelled}
 use Rattle.py_lines.specs.Balance as balance
 use Rattle.py_lines.specs.Balance.{is_opener, is_closer, IsBalanced}
@@ -12,13 +11,14 @@ use Rattle.py_lines.specs.declared.mode.Mode.TheVariants as modes
 use Rattle.py_lines.specs.Private.Machine.{Bracket, brackets_of, class_of}
 use Rattle.py_lines.specs.Private.FieldMachine.{before, after_brace, FieldMode, plain, body, Level, FieldScanned, field_text_start, field_steps_from, field_closed, have_room}
 use Rattle.py_lines.specs.Private.FieldFaults.{is_waiting, unfinished_at, here, piece_start}
+use Rattle.py_lines.proofs.LogicalLines.Cuts.{byte_len-append}
 use Rattle.py_lines.proofs.Pieces.PieceLists.{piece}
 use Rattle.py_lines.proofs.Pieces.OpenBrackets.{StandsAt, level, inside, stands}
 use Rattle.py_lines.proofs.FieldSoundness.LiveTexts.{goes_live}
 use Rattle.py_lines.proofs.Faults.EndFaults.{EndsSo, open_in}
 use Rattle.py_lines.proofs.Faults.EndPlaces.{IsPlaced, opened_text, one_bracket}
 use Rattle.py_lines.proofs.Faults.Ends.{sound_to, deep_state, named}
-use Rattle.py_lines.proofs.Faults.CauseAt.{brace_more, text_is}
+use Rattle.py_lines.proofs.Faults.CauseAt.{text_is}
 
 -- The fault of what is open stands at this byte, that of a field directly before the text up to its `{` ends. Where that is a bracket,
 -- it is the innermost of those that the finished pieces of the innermost list leave open.
@@ -47,34 +47,26 @@ innermost done more outer inner opener b bs after shape opens within stack = go 
         ap (λ (x : Bracket). x.place) top ∙ place
         ∙ ap (λ l. byte_len (spelled l)) (one_bracket first outer (second ++ more) inner a opener whole begun opens (balance.both (second ++ more) second more refl all after) within)
 
--- the text up to and with a `{`
-opened_here : (m : FieldMode) (outer : List Level) (read : List ℕ) → opened_text m outer read ≡ (if is_waiting m then read else before literal outer)
-opened_here (body host literal named after_brace) outer read = refl
-opened_here m outer read = refl
-
 module _ (read : List ℕ) (s : FieldScanned) (steps : field_steps_from (Some field_text_start) read ≡ Some s) (room : have_room (Some field_text_start) read ≡ true) where
-  bytes_are : (waits : Bool) → byte_len (if waits then read else before literal s.outer) ≡ (if waits then here s else byte_len (before literal s.outer))
-  bytes_are true = sym (text_is read s steps room)
-  bytes_are false = refl
+  opened_bytes : (m : FieldMode) → byte_len (opened_text m s.outer read) ≡ (if is_waiting m then here s else byte_len (before literal s.outer))
+  opened_bytes (body host literal named after_brace) = sym (text_is read s steps room)
+  opened_bytes m = refl
 
   -- the byte that the definitions name is that of the state
   there : (what : Unfinished) (offset : ℕ) → IsPlaced what s read offset → StandsThere s what offset
-  there open_brace offset (start, whole, at) = ap (λ n. n + 1) at ∙ brace_more start read whole ∙ sym (text_is read s steps room)
-  there open_inside offset (start, whole, at) =
-      ap (λ n. n + 1) at ∙ brace_more start (opened_text s.mode s.outer read) whole ∙ ap byte_len (opened_here s.mode s.outer read) ∙ bytes_are (is_waiting s.mode)
-  there open_short offset at = at
-  there open_long offset at = at
-  there open_join offset at = at
+  there open_brace offset at = at ∙ sym (text_is read s steps room)
+  there open_inside offset at = at ∙ opened_bytes s.mode
   there open_bracket offset (outer, opener, inner, shape, opens, within, at) =
       λ b bs stack.
       let other = open_other s.mode s.done s.held in
       let place = innermost s.done other.0 outer inner opener b bs other.2 (sym other.1 ∙ shape) opens within stack in
-      at ∙ ap length (encodes-append (before literal s.outer) (spelled outer)) ∙ length-append _ _ ∙ ap (λ n. byte_len (before literal s.outer) + n) (sym place)
+      at ∙ byte_len-append (before literal s.outer) (spelled outer) ∙ ap (λ n. byte_len (before literal s.outer) + n) (sym place)
+  there what offset at = at
 
   -- what is open at the end, and where
   pub unfinished_fits : (what : Unfinished) → unfinished_at s ≡ Some what → (offset : ℕ) × IsEndFault (kind_of_unfinished what) read [] offset × StandsThere s what offset
   unfinished_fits what is =
-      let found = subst (EndsSo s read) is (open_in s.outer s.done s.openers s.mode s.held read (sound_to read s steps room) (λ place deep. deep_state read s place steps deep)) in (
+      let found = subst (EndsSo s read) is (open_in s.outer s.done s.openers s.mode s.held read (sound_to read s steps room) (λ place deep. deep_state read s [] place steps deep)) in (
         found.0,
         record { unfinished = what; is = refl; whole = refl; live = goes_live read s steps room; ends_in = found.1 },
         there what found.0 (named read s steps room what found.0 found.1).1,

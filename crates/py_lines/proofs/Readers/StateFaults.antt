@@ -26,6 +26,7 @@ use Rattle.py_lines.proofs.FieldSoundness.HostSteps.{sound_at}
 use Rattle.py_lines.proofs.FieldSoundness.WholeTexts.{no_limit, any_rooms}
 use Rattle.py_lines.proofs.Faults.CharacterFaults.{IsStuck}
 use Rattle.py_lines.proofs.Faults.CauseAt.{cause_fits, short_here, only_breaks, text_is}
+use Rattle.py_lines.proofs.Faults.EndPlaces.{final_by}
 use Rattle.py_lines.proofs.Faults.Refusals.{IsShortHere}
 use Rattle.py_lines.proofs.Faults.UnfinishedAt.{StandsThere, unfinished_fits}
 use Rattle.py_lines.proofs.ScanMachine.Advance.{RunsTo, advance}
@@ -57,10 +58,6 @@ record IsFlat (m : Mode) : Type 0 where
 is_flat : (m : Mode) → IsFlat m
 is_flat modes.Fielded = record { waits = refl; slash = refl; quotes = λ c. refl; short = refl; no_specification = λ host is. is; unfinished = λ openers. refl }
 is_flat m = record { waits = refl; slash = refl; quotes = λ c. refl; short = refl; no_specification = λ host is. is; unfinished = λ openers. refl }
-
-final_by : (m : Mode) → is_final m ≡ not (in_short m || (in_long m || is_after_backslash m))
-final_by modes.Fielded = refl
-final_by m = refl
 
 -- the cause there, by what the mode and the character are
 abbrev flat_cause : (short slash shuts opens : Bool) → Cause
