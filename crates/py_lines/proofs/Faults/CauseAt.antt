@@ -1,7 +1,6 @@
 -- Where the machine with fields can't go on, its state and the character tell the cause of the fault, and the fault's byte.
-use Rattle.std.proofs.Common.{◌≡◌, ℕ, ◌+◌, ◌-◌, ◌≤◌, Bool, true, false, not, ◌&&◌, ◌||◌, ◌==◌, None, Some, List, [], ◌∷◌, ◌++◌, ◌⊎◌, inl, inr, length, nat_lt, refl, sym, ap, ◌∙◌, subst, ⊎_elim, arith}
+use Rattle.std.proofs.Common.{◌≡◌, ℕ, ◌+◌, ◌≤◌, Bool, true, false, not, ◌&&◌, ◌||◌, ◌==◌, None, Some, List, [], ◌∷◌, ◌++◌, ◌⊎◌, inl, inr, length, nat_lt, refl, sym, ap, ◌∙◌, subst, ⊎_elim, arith}
 use Rattle.std.specs.Prelude.{if◌then◌else◌}
-use Rattle.std.proofs.Math.Utf8.{encode}
 use Rattle.std.proofs.lemmas.Bool.{both_ways, cond_both, and_parts, and_from, or_cases, or_left, eqb-true, eq-eqb, ltb-false}
 use Rattle.py_lines.specs.Character.{is_line_feed, is_return, is_break}
 use Rattle.py_lines.specs.Piece.{Piece, spelled}
@@ -16,9 +15,7 @@ use Rattle.py_lines.specs.Private.FieldMachine.{text_place, before, between, aft
 use Rattle.py_lines.specs.Private.FieldFaults.{is_waiting, quotes_specification, cause_in, cause_place, here, piece_start}
 use Rattle.py_lines.proofs.Text.CharacterTests.{break-not-opening, break-not-closing, break-not-quote, opening-not-quote}
 use Rattle.py_lines.proofs.Machine.Starts.{start-feed, start-return}
-use Rattle.py_lines.proofs.LogicalLines.Cuts.{byte_len-append}
-use Rattle.py_lines.proofs.FieldMachine.WhatIsOpen.{Comes, comes_to, short_open_comes, backslash_comes, specification_comes}
-use Rattle.py_lines.proofs.FieldMachine.OpenCode.{brace_comes}
+use Rattle.py_lines.proofs.FieldMachine.WhatIsOpen.{comes_to, short_open_comes, backslash_comes, specification_comes}
 use Rattle.py_lines.proofs.FieldSoundness.Holds.{IsFieldSound}
 use Rattle.py_lines.proofs.FieldSoundness.Bodies.{Moved}
 use Rattle.py_lines.proofs.FieldSoundness.BodyMoves.{body_moves}

@@ -1,15 +1,15 @@
 -- Where a live text ends, the state of the machine with fields tells what is open and where its fault stands, or that it is read.
-use Rattle.std.proofs.Common.{◌≡◌, ℕ, ◌+◌, Bool, true, false, Some, List, [], ◌∷◌, ◌++◌, refl, sym, ap, ◌∙◌, subst, append_assoc, append-nil, length, length-append}
+use Rattle.std.proofs.Common.{◌≡◌, ℕ, ◌+◌, true, Some, List, [], ◌∷◌, ◌++◌, refl, sym, ap, ◌∙◌, subst, append_assoc, append-nil}
 use Rattle.std.specs.Prelude.{if◌then◌else◌}
 use Rattle.py_lines.specs.Piece.{string, Piece, spelled}
 use Rattle.py_lines.specs.Balance as balance
 use Rattle.py_lines.specs.Balance.{is_opener, is_closer, IsBalanced}
-use Rattle.py_lines.specs.Faults.{Unfinished, open_brace, open_short, open_long, open_join, open_bracket, open_inside, kind_of_unfinished, IsEndFault}
+use Rattle.py_lines.specs.Faults.{Unfinished, open_brace, open_bracket, open_inside, kind_of_unfinished, IsEndFault}
 use Rattle.py_lines.specs.LogicalLine.{byte_len}
 use Rattle.py_lines.specs.FieldStrings.{literal}
 use Rattle.py_lines.specs.declared.mode.Mode.TheVariants as modes
 use Rattle.py_lines.specs.Private.Machine.{Bracket, brackets_of, class_of}
-use Rattle.py_lines.specs.Private.FieldMachine.{before, after_brace, FieldMode, plain, body, Level, FieldScanned, field_text_start, field_steps_from, field_closed, have_room}
+use Rattle.py_lines.specs.Private.FieldMachine.{before, after_brace, FieldMode, plain, body, FieldScanned, field_text_start, field_steps_from, field_closed, have_room}
 use Rattle.py_lines.specs.Private.FieldFaults.{is_waiting, unfinished_at, here, piece_start}
 use Rattle.py_lines.proofs.LogicalLines.Cuts.{byte_len-append}
 use Rattle.py_lines.proofs.Pieces.PieceLists.{piece}

@@ -1,10 +1,7 @@
 -- Lines that a reader has given begin the lexing of the whole text.
-use Rattle.std.proofs.Common.{◌≡◌, ℕ, ◌≤◌, Option, None, Some, List, [], ◌++◌, length, refl, sym, ap, ◌∙◌, subst, inl, inr, ◌⊎◌, append-nil, length-append, arith}
+use Rattle.std.proofs.Common.{◌≡◌, ℕ, ◌≤◌, Option, None, Some, List, [], ◌++◌, length, sym, ap, ◌∙◌, subst, inl, inr, ◌⊎◌, append-nil, length-append, arith}
 use Rattle.std.specs.Prelude.{encode_utf8_all}
-use Rattle.std.proofs.lemmas.Bool.{and_right}
-use Rattle.py_lines.specs.Piece.{Piece, spelled}
-use Rattle.py_lines.specs.Balance.{IsBalanced}
-use Rattle.py_lines.specs.Fields.{fielded, AreReadBefore, IsShallow}
+use Rattle.py_lines.specs.Piece.{spelled}
 use Rattle.py_lines.specs.Reading.{EndsLine, IsBalancedReading}
 use Rattle.py_lines.specs.Lexed.{IsLexed, BeginsLexing}
 use Rattle.py_lines.specs.Settled.{EndsForGood}

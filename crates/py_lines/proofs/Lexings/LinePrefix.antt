@@ -1,38 +1,32 @@
 -- The prefix of a text that isn't read: the pieces up to the last line end outside brackets that the machine has found.
 use Rattle.std.proofs.Common.{false, ◌≡◌, ℕ, ◌+◌, ◌≤◌, Option, Some, List, [], ◌∷◌, ◌++◌, length, refl, sym, ap, ◌∙◌, subst, inl, inr, append_assoc, append-nil, length-append, arith}
 use Rattle.std.proofs.lemmas.List.{same_from_push}
-use Rattle.std.proofs.lemmas.Bool.{and_right, both_ways, cond_both}
-use Rattle.std.specs.Prelude.{codes}
+use Rattle.std.proofs.lemmas.Bool.{both_ways, cond_both}
 use Rattle.py_lines.specs.Character.{is_line_feed}
 use Rattle.py_lines.specs.Piece.{Class, line_end, Piece, spelled}
 use Rattle.py_lines.specs.LogicalLine.{is_line_end_class}
-use Rattle.py_lines.specs.PieceGrammar.{return}
 use Rattle.py_lines.specs.Balance.{depth_through}
-use Rattle.py_lines.specs.Fields.{AreReadBefore}
 use Rattle.py_lines.specs.Reading.{IsBalancedReading, EndsLine, IsReadPrefix}
 use Rattle.py_lines.specs.Faults.{IsLive}
 pub use Rattle.py_lines.specs.Private.Scan.{EndsNoLine}
 use Rattle.py_lines.specs.declared.mode.Mode.{Mode}
 use Rattle.py_lines.specs.declared.mode.Mode.TheVariants as modes
 use Rattle.py_lines.specs.declared.mode.Move.{Move}
-use Rattle.py_lines.specs.Private.Machine.{Scanned, fresh, text_start, class_of, closed, started, moved, move_of, start_of, Bracket, brackets_of}
-use Rattle.py_lines.specs.Private.ScanMachine.{meet_of, move_at, scan_steps, IsScanSound, StringFits, StringsFit}
+use Rattle.py_lines.specs.Private.Machine.{Scanned, fresh, text_start, class_of, closed, started, moved, move_of, start_of, Bracket}
+use Rattle.py_lines.specs.Private.ScanMachine.{meet_of, move_at, scan_steps}
 use Rattle.py_lines.proofs.Text.Splits.{Either, either}
-use Rattle.py_lines.proofs.Text.CharacterTests.{return_is}
 use Rattle.py_lines.proofs.LineScan.PieceEnd.{closed_text}
-use Rattle.py_lines.proofs.Pieces.PieceLists.{piece, spelled-append, AreReadBefore-push, AreReadBefore-first, follows_any}
-use Rattle.py_lines.proofs.Machine.PieceSteps.{scanned, pieces_at, run_before}
+use Rattle.py_lines.proofs.Pieces.PieceLists.{piece, spelled-append}
+use Rattle.py_lines.proofs.Machine.PieceSteps.{pieces_at, run_before}
 use Rattle.py_lines.proofs.Machine.FinishedPieces.{GrowsIf, closed_grows, started_grows, run_grows}
-use Rattle.py_lines.proofs.Machine.LiveTexts.{stack_closed}
-use Rattle.py_lines.proofs.Pieces.OpenBrackets.{stack-from_balanced, depth_through-append, EachAtDepth-parts}
-use Rattle.py_lines.proofs.Pieces.ShallowPieces.{brackets_shallow, strings_shallow, fits_reading}
+use Rattle.py_lines.proofs.Pieces.OpenBrackets.{stack-from_balanced, depth_through-append}
+use Rattle.py_lines.proofs.Pieces.ShallowPieces.{brackets_shallow, strings_shallow}
 use Rattle.py_lines.proofs.FieldSoundness.LiveTexts.{live_before}
 use Rattle.py_lines.proofs.ScanMachine.Advance.{RunsTo}
 pub use Rattle.py_lines.proofs.ScanMachine.LiveTexts.{same_state}
 use Rattle.py_lines.proofs.ScanMachine.Soundness.{sound_at}
-use Rattle.py_lines.proofs.ScanMachine.Reaching.{Reaches, reach}
+use Rattle.py_lines.proofs.ScanMachine.Reaching.{reach}
 pub use Rattle.py_lines.proofs.Lexings.LineEnds.{line_first, read-alone, Split, split, no_end_in, depth_prefix, prefix_stack, length_line}
-use Rattle.py_lines.proofs.Lexings.LineEnds.{line_string}
 use Rattle.py_lines.proofs.Lexings.Existence.{reading_live}
 
 -- a line end that the machine has found stays, though CR may get LF after it

@@ -1,5 +1,5 @@
 -- What the known bytes settle, by where the machine has come with them.
-use Rattle.std.proofs.Common.{◌≡◌, ℕ, ◌+◌, ◌≤◌, ◌⊎◌, true, false, Some, List, [], ◌∷◌, ◌++◌, length, refl, sym, ap, ◌∙◌, subst, inl, inr, append_assoc, append-nil, length-append, arith}
+use Rattle.std.proofs.Common.{◌≡◌, ℕ, ◌+◌, ◌≤◌, ◌⊎◌, true, false, List, [], ◌∷◌, ◌++◌, length, refl, sym, ap, ◌∙◌, subst, inl, inr, append_assoc, append-nil, length-append, arith}
 use Rattle.std.proofs.lemmas.Bool.{both_ways}
 use Rattle.std.proofs.lemmas.List.{append_cancel_left}
 use Rattle.py_lines.specs.Character.{is_line_feed, is_return}
@@ -9,12 +9,10 @@ use Rattle.py_lines.specs.Balance.{depth_through}
 use Rattle.py_lines.specs.Fields.{InClass, AreReadBefore}
 use Rattle.py_lines.specs.Reading.{IsBalancedReading}
 use Rattle.py_lines.specs.Settled.{EndsForGood, IsSettledPrefix}
-use Rattle.py_lines.specs.Private.Machine.{Scanned, text_start, Bracket}
-use Rattle.py_lines.specs.Private.ScanMachine.{move_at, scan_steps}
+use Rattle.py_lines.specs.Private.Machine.{Scanned, Bracket}
 use Rattle.py_lines.proofs.LineScan.PieceEnd.{closed_text}
 use Rattle.py_lines.proofs.Pieces.PieceLists.{piece, spelled-push, AreReadBefore-second}
-use Rattle.py_lines.proofs.Pieces.OpenBrackets.{depth_through-append}
-use Rattle.py_lines.proofs.Machine.PieceSteps.{pieces_at, run_before}
+use Rattle.py_lines.proofs.Machine.PieceSteps.{pieces_at}
 use Rattle.py_lines.proofs.ScanMachine.Advance.{RunsTo}
 use Rattle.py_lines.proofs.ScanMachine.Soundness.{sound_at}
 use Rattle.py_lines.proofs.Lexings.LinePrefix.{EndsNoLine, Stays, Split, split, line_first, reading_stays, within}

@@ -7,7 +7,7 @@ use Rattle.py_lines.specs.Character.{is_return}
 use Rattle.py_lines.specs.Piece.{line_end, string, Piece, spelled}
 use Rattle.py_lines.specs.PieceGrammar.{feed}
 use Rattle.py_lines.specs.Fields.{AreReadBefore}
-use Rattle.py_lines.specs.Faults.{kind_of_cause, Unfinished, open_brace, open_short, open_long, open_join, open_bracket, open_inside, IsCharacterFault, IsEndFault, at_end}
+use Rattle.py_lines.specs.Faults.{Unfinished, open_bracket, IsCharacterFault, IsEndFault, at_end}
 use Rattle.py_lines.specs.LogicalLine.{byte_len}
 use Rattle.py_lines.specs.declared.fault.FaultKind.{FaultKind}
 use Rattle.py_lines.specs.declared.mode.Mode.{Mode}
@@ -16,8 +16,8 @@ use Rattle.py_lines.specs.declared.mode.Move.{Move}
 use Rattle.py_lines.specs.declared.mode.Move.TheVariants as moves
 use Rattle.py_lines.specs.declared.scan.LineFault.{LineFault}
 use Rattle.py_lines.specs.declared.scan.Scan.{Scan}
-use Rattle.py_lines.specs.Private.Machine.{Scanned, moved, in_short, is_after_backslash, is_final, character_kind, end_kind, end_place, top_place, Bracket, brackets_after, brackets_of}
-use Rattle.py_lines.specs.Private.FieldMachine.{FieldMove, closes, Level, FieldScanned, frames}
+use Rattle.py_lines.specs.Private.Machine.{Scanned, moved, in_short, is_after_backslash, is_final, character_kind, end_kind, Bracket, brackets_after, brackets_of}
+use Rattle.py_lines.specs.Private.FieldMachine.{FieldMove, closes, Level, FieldScanned, field_move, field_step, frames}
 use Rattle.py_lines.specs.Private.FieldFaults.{cause_in, cause_place}
 use Rattle.py_lines.specs.Private.FieldScan.{unfinished_round, IsUnfinishedAt}
 use Rattle.py_lines.specs.Private.ScanMachine.{string_state, string_move, fielded_move, has_room_in, scan_step, StringsFit, IsScanSound}
@@ -64,36 +64,25 @@ place_by true k start stop done whole first second = first refl
 place_by false k start stop done whole first second = second
 
 -- a string that refuses a character
-no_break : (outer : List Level) (move : FieldMove) (next : Option FieldScanned) → string_move outer move next ≡ moves.Breaks → ⊥
-no_break [] closes next is = cc
-no_break outer move None is = cc
-no_break outer move (Some next) is = cc
-
-never_breaks : (depth : ℕ) (u : FieldScanned) (c : ℕ) → fielded_move depth (Some u) c ≡ moves.Breaks → ⊥
-never_breaks depth u c = cond_both (has_room_in depth u c) _ moves.Refused (λ v. v ≡ moves.Breaks → ⊥) (λ h is. no_break u.outer _ _ is) (λ h is. cc)
-
 some_none : {A : Type 0} {a : A} → Some a ≡ None → ⊥
 some_none h = cc
 
-refused_string : (scan : Scan) (done : List Piece) (held : List ℕ) (u : FieldScanned) (c : ℕ) → brackets_of done ≡ Some (stack_of scan.brackets) → string_state held ≡ Some u → stack_if (scan_step (scanned done modes.Fielded held) c) ≡ None → fielded_move (depth_of scan.brackets) (Some u) c ≡ moves.Refused
-refused_string scan done held u c stacked at refuses = go (fielded_move (depth_of scan.brackets) (Some u) c) refl
-  where
-    step_is : (v : Move) → fielded_move (depth_of scan.brackets) (Some u) c ≡ v → stack_if (moved (scanned done modes.Fielded held) c v) ≡ None
-    step_is v is = ap (λ w. stack_if (moved (scanned done modes.Fielded held) c w)) (sym (string_move_is scan done held u c v stacked at is)) ∙ refuses
+abbrev RefusesIf : List Piece → List ℕ → ℕ → Move → Type 0
+RefusesIf done held c v = stack_if (moved (scanned done modes.Fielded held) c v) ≡ None → v ≡ moves.Refused
 
-    go : (v : Move) → fielded_move (depth_of scan.brackets) (Some u) c ≡ v → fielded_move (depth_of scan.brackets) (Some u) c ≡ moves.Refused
-    go (moves.Grows m) is = absurd (some_none (sym stacked ∙ step_is (moves.Grows m) is))
-    go moves.Closes is = absurd (some_none (sym (keeps done (piece string (held ++ c ∷ [])) (stack_of scan.brackets) refl refl stacked) ∙ step_is moves.Closes is))
-    go moves.Breaks is = absurd (never_breaks (depth_of scan.brackets) u c is)
-    go moves.Refused is = is
+refused_string : (scan : Scan) (done : List Piece) (held : List ℕ) (u : FieldScanned) (c : ℕ) → brackets_of done ≡ Some (stack_of scan.brackets) → string_state held ≡ Some u → stack_if (scan_step (scanned done modes.Fielded held) c) ≡ None → fielded_move (depth_of scan.brackets) (Some u) c ≡ moves.Refused
+refused_string scan done held u c stacked at refuses =
+    cond_both (has_room_in (depth_of scan.brackets) u c) _ moves.Refused (RefusesIf done held c) (λ room. by u.outer (field_move u.mode u.held c) (field_step u c)) (λ full none. refl)
+    (ap (λ v. stack_if (moved (scanned done modes.Fielded held) c v)) (sym (string_move_is scan done held u c _ stacked at refl)) ∙ refuses)
+  where
+    by : (outer : List Level) (move : FieldMove) (next : Option FieldScanned) → RefusesIf done held c (string_move outer move next)
+    by [] closes next none = absurd (some_none (sym (keeps done (piece string (held ++ c ∷ [])) (stack_of scan.brackets) refl refl stacked) ∙ none))
+    by outer move None none = refl
+    by outer move (Some next) none = absurd (some_none (sym stacked ∙ none))
 
 unfinished_shift : (k start : ℕ) (u : FieldScanned) (what : Unfinished) (place : ℕ) → IsUnfinishedAt start u what place → IsUnfinishedAt (k + start) u what (k + place)
 unfinished_shift k start u open_bracket place (b, others, stack, at) = (b, others, stack, omega (arith, at))
-unfinished_shift k start u open_brace place at = omega (arith, at)
-unfinished_shift k start u open_short place at = omega (arith, at)
-unfinished_shift k start u open_long place at = omega (arith, at)
-unfinished_shift k start u open_join place at = omega (arith, at)
-unfinished_shift k start u open_inside place at = omega (arith, at)
+unfinished_shift k start u what place at = omega (arith, at)
 
 fielded_or : (m : Mode) → (m ≡ modes.Fielded) ⊎ (m ≡ modes.Fielded → ⊥)
 fielded_or modes.Fielded = inl refl

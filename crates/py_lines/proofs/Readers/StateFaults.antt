@@ -2,7 +2,7 @@
 -- strings with fields by its mode, and in such a string by the machine with fields over the string's text.
 use Rattle.std.proofs.Common.{◌≡◌, ℕ, ◌+◌, ◌-◌, ◌<◌, Bool, true, false, not, ◌||◌, ◌&&◌, ◌==◌, Option, None, Some, List, [], ◌∷◌, ◌++◌, ◌⊎◌, inl, inr, length, nat_lt, refl, sym, ap, ◌∙◌, subst, append_assoc, append-nil, length-append, zero-add, arith}
 use Rattle.std.specs.Prelude.{if◌then◌else◌}
-use Rattle.std.proofs.lemmas.Bool.{both_ways, cond_both, and_parts}
+use Rattle.std.proofs.lemmas.Bool.{both_ways, cond_both}
 use Rattle.std.proofs.lemmas.Str.{length-le-encodes}
 use Rattle.py_lines.specs.Character.{is_break}
 use Rattle.py_lines.specs.Piece.{Piece, spelled}
@@ -10,13 +10,12 @@ use Rattle.py_lines.specs.Balance.{is_opening, is_closing, depth_through}
 use Rattle.py_lines.specs.LogicalLine.{byte_len}
 use Rattle.py_lines.specs.Faults.{Cause, breaks_string, breaks_join, closes_wrong, opens_too_deep, begins_nothing, kind_of_cause, Unfinished, open_brace, open_short, open_long, open_join, open_bracket, open_inside, kind_of_unfinished, IsCharacterFault, IsEndFault}
 use Rattle.py_lines.specs.FieldStrings.{Host, Place, literal, specification}
-use Rattle.py_lines.specs.declared.fault.FaultKind.{FaultKind}
 use Rattle.py_lines.specs.declared.fault.FaultKind.TheVariants as faults
 use Rattle.py_lines.specs.declared.mode.Mode.{Mode}
 use Rattle.py_lines.specs.declared.mode.Mode.TheVariants as modes
 use Rattle.py_lines.specs.Private.Machine.{Scanned, in_short, in_long, is_after_backslash, is_final, character_kind, character_place, end_kind, Bracket, brackets_of}
 use Rattle.py_lines.specs.Private.FieldMachine.{after_brace, FieldMode, plain, opened, empty, body, Level, FieldScanned, field_state, field_text_start, field_step, has_room, frames, before, text_place, after_open_backslash, in_open_short, InSpecificationOf}
-use Rattle.py_lines.specs.Private.FieldFaults.{is_waiting, quotes_specification, cause_in, cause_place, here, piece_start, field_start, unfinished_code, unfinished_literal, unfinished_in, unfinished_at, unfinished_place}
+use Rattle.py_lines.specs.Private.FieldFaults.{is_waiting, quotes_specification, cause_in, cause_place, here, piece_start, field_start, unfinished_code, unfinished_literal, unfinished_in, unfinished_at}
 use Rattle.py_lines.specs.Private.ScanMachine.{string_state, host_in}
 use Rattle.py_lines.specs.Private.FieldScan.{unfinished_with, unfinished_round, IsUnfinishedAt}
 use Rattle.py_lines.specs.Private.Scan.{HasInnermostAt}
