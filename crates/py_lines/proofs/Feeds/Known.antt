@@ -75,6 +75,7 @@ pub record IsKnown (text : List ℕ) (place line : ℕ) (lines : List LogicalLin
   pub scalars : all_scalars (spelled base ++ read) ≡ true
   pub known : take (place + length (encode_utf8_all read ++ rest)) text ≡ encode_utf8_all (spelled base ++ read) ++ rest
   pub tail : List ℕ
+  pub decodes : Decodes text (spelled base ++ (read ++ more)) tail
   pub beyond : List ℕ
   pub follow : encode_utf8_all more ++ tail ≡ rest ++ beyond
 
@@ -105,6 +106,7 @@ known_after text place line lines read rest first fine goes ends =
       scalars = all_scalars-append (spelled base) read parts.0 fine;
       known = take-add place (length held) text ∙ ap (λ t. t ++ take (length held) (drop place text)) prefix ∙ ap (λ t. bytes ++ t) goes ∙ sym (append_assoc bytes (encode_utf8_all read) rest) ∙ ap (λ t. t ++ rest) (sym (encodes-append (spelled base) read));
       tail = first.tail;
+      decodes = subst (λ t. Decodes text t first.tail) (sym first.spell ∙ ap (λ t. spelled base ++ t) on.split) first.decodes;
       beyond = drop (length held) left;
       follow = on.left;
     }

@@ -36,10 +36,9 @@ use Rattle.py_lines.proofs.LineScan.LineCount.{line_ends-bytes}
 use Rattle.py_lines.proofs.LineScan.NextCharacter.{closed_one_line, one_return}
 use Rattle.py_lines.proofs.LineScan.LineSteps.{way_stop}
 use Rattle.py_lines.proofs.LineScan.TextSteps.{begun_sound}
-use Rattle.py_lines.proofs.Lexings.GivenLines.{IsEnded}
 use Rattle.py_lines.proofs.Feeds.DecidedSoFar.{way_open, by_character}
 use Rattle.py_lines.proofs.Feeds.Ended.{ended_bytes, ended_unfinished}
-use Rattle.py_lines.proofs.Readers.LineAnswers.{IsScannedLine, Within, continues, end_len-push, prefix_spells, rest_text, text_from}
+use Rattle.py_lines.proofs.Readers.LineAnswers.{IsScannedLine, IsEnded, Within, tail, left, all_spell, goes, known, whole, continues, end_len-push, prefix_spells, rest_characters}
 use Rattle.py_lines.proofs.Readers.LineFaults.{unfinished_within, Within, refused_within}
 use Rattle.std.specs.Borrow.{Bor}
 use Rattle.std.specs.Char.{IsScalar}
@@ -64,27 +63,6 @@ fails old new kind offset error at no_fault left all = record {
 }
 
 module _ (old : Source) (stop : Stop) (has : HasScanned old stop) where
-  -- the bytes that begin no character, and what comes after the characters that were read
-  abbrev pub tail : List ℕ
-  tail = drop (length old.characters.now) old.bytes.now
-
-  abbrev pub left : List ℕ
-  left = has.scans.rest ++ tail
-
-  all_spell : encode_utf8_all has.scans.read ++ left ≡ drop old.state.place old.bytes.now
-  all_spell = sym (append_assoc (encode_utf8_all has.scans.read) has.scans.rest tail) ∙ ap (λ t. t ++ tail) has.scans.spell ∙ text_from old
-
-  goes : GoesOnWith old.bytes.now old.state.place (drop old.state.place old.bytes.now)
-  goes = take_all (length (drop old.state.place old.bytes.now)) (drop old.state.place old.bytes.now) (omega arith)
-
-  -- all of the text is known
-  pub known : (lines : List LogicalLine) → HasGiven (reader_of old) lines → IsKnown old.bytes.now old.state.place old.state.line lines has.scans.read left
-  known lines given = is_known old.bytes.now old.state.place old.state.line lines has.scans.read left given.first has.scans.scalars (subst (GoesOnWith old.bytes.now old.state.place) (sym all_spell) goes)
-      (omega (arith, ap length all_spell, length-drop old.state.place old.bytes.now, has.more))
-
-  pub whole : length old.bytes.now ≡ old.state.place + length (encode_utf8_all has.scans.read ++ left)
-  whole = omega (arith, ap length all_spell, length-drop old.state.place old.bytes.now, has.more)
-
   -- the fault as the reader keeps it
   pub fault_in : (new : Source) (kind : FaultKind) (offset : ℕ) (error : LexError) (at : FailsAfter old kind offset error new) (w : Within has.scans.read offset) → IsFaultAfter old.state kind offset (encode_utf8_all w.prefix) at.keeps.fault
   fault_in new kind offset error at w =
@@ -103,7 +81,7 @@ fails_at_character old new c line_fault error has at is_line_fault =
     let read = has.scans.read in
     let more = has.scans.stops.1 in
     let w = refused_place_within old c has line_fault is_line_fault in
-    let next = rest_text old stop has _ (record { prefix = read; later = []; split = append-nil read; size = refl }) in
+    let next = rest_characters old stop has in
     let follows : next.0 ≡ c ∷ more = encodes_same next.0 (c ∷ more) (next.1.1 ∙ has.scans.stops.2) in
     let scalar : IsScalar c = (and_parts _ _ (ap all_scalars (sym follows) ∙ next.1.0)).0 in
     let spell : left old stop has ≡ encode_utf8 c ++ (encode_utf8_all more ++ tail old stop has) = ap (λ t. t ++ tail old stop has) has.scans.stops.2 ∙ append_assoc (encode_utf8 c) (encode_utf8_all more) (tail old stop has) in
@@ -218,9 +196,12 @@ module _ (old : Source) (has : HasScanned old stops.TextEnd) where
   pub continues_text : (new : Source) → is_final has.scans.stops.0.state.mode ≡ true → stack_of old.state.scan.brackets ≡ [] → length old.bytes.now ≤ length old.characters.now → GivesTokens old 0 new → Continues (reader_of old) (line_of_source new) (reader_of new) × EachLiesIn (line_of_source new).text new.state.tokens.tokens.items
   continues_text new final empty full gives =
       let s = has.scans.stops.0.state in
-      continues old new stops.TextEnd has 0 (pieces_at s) (last_line final empty full) gives
-      (λ lines sit. subst (AreReadBefore (pieces_at s)) (sym (all_taken sit.after has.scans.rest sit.follow has.scans.stops.1)) (end_sound (first_mode old.state.place) has.scans.read s (stack_of old.state.scan.brackets) way_sound final).fit)
-      (λ lines sit. IsEnded.by_text (λ i. all_taken sit.after has.scans.rest sit.follow has.scans.stops.1 i ++ (sit.tail_is ∙ drop_all (length old.characters.now) old.bytes.now full) i))
+      continues old stops.TextEnd has new 0 (pieces_at s) (last_line final empty full) gives
+      (λ after is.
+      let none = all_taken after has.scans.rest is has.scans.stops.1 in (
+        subst (AreReadBefore (pieces_at s)) (sym none) (end_sound (first_mode old.state.place) has.scans.read s (stack_of old.state.scan.brackets) way_sound final).fit,
+        IsEnded.by_text (λ i. none i ++ drop_all (length old.characters.now) old.bytes.now full i),
+      ))
 
   pub few_lines_text : old.state.scan.count.line ≤ old.state.place + old.state.scan.stop + 1
   few_lines_text = omega (arith, stop_size, has.scans.stops.0.tallies.counts.here, ap line_ends way_sound.scan.spell, line_ends-bytes has.scans.read, has.line, old.few_lines)

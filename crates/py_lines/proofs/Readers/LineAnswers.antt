@@ -1,15 +1,15 @@
 -- The reader's state after a line.
-use Rattle.std.proofs.Common.{◌≡◌, ℕ, ◌+◌, ◌-◌, ◌<◌, ◌≤◌, true, None, Some, List, [], ◌∷◌, ◌++◌, length, take, drop, refl, sym, ap, ◌∙◌, subst, append_assoc, append-nil, arith, length-append, length-drop, length-take}
+use Rattle.std.proofs.Common.{◌≡◌, ℕ, ◌+◌, ◌-◌, ◌<◌, ◌≤◌, ◌⊎◌, inl, inr, true, None, Some, List, [], ◌∷◌, ◌++◌, length, take, drop, refl, sym, ap, ◌∙◌, subst, append_assoc, append-nil, arith, length-append, length-drop, length-take}
 use Rattle.std.specs.Prelude.{encode_utf8_all, IsUtf8}
 use Rattle.std.specs.Str.{all_scalars, IsCharBoundary}
 use Rattle.std.specs.Borrow.{Bor}
-use Rattle.std.proofs.lemmas.List.{drop-append-le, take-append-drop}
+use Rattle.std.proofs.lemmas.List.{append_cancel_left, drop-append-le, take-append-drop, take_all}
 use Rattle.std.proofs.lemmas.Str.{length-le-encodes, encodes-append, IsUtf8-drop, IsUtf8-had, IsCharBoundary-from_rest, IsCharBoundary-at_seam}
 use Rattle.std.proofs.Math.Seq.{take-append_seam}
 use Rattle.py_lines.specs.Piece.{Class, line_end, Piece, spelled}
-use Rattle.py_lines.specs.Fields.{InClass, AreReadBefore}
+use Rattle.py_lines.specs.Fields.{InClass, AreReadBefore, IsShallow}
 use Rattle.py_lines.specs.Reading.{Decodes}
-use Rattle.py_lines.specs.LogicalLine.{LogicalLine, cut, byte_len, line_ends, line_of, end_len_of}
+use Rattle.py_lines.specs.LogicalLine.{LogicalLine, cut, byte_len, line_ends, line_of, lines_of, end_len_of}
 use Rattle.py_lines.specs.Reader.{HasGiven, Continues, standing_at}
 use Rattle.py_lines.specs.Private.Machine.{Scanned, brackets_of}
 use Rattle.py_lines.specs.Private.ScanMachine.{scan_steps, StringsFit}
@@ -27,13 +27,22 @@ use Rattle.py_lines.specs.Private.Source.{line_of_source, scanned_text, GivesTok
 use Rattle.py_lines.specs.Token.{EachLiesIn}
 use Rattle.py_lines.proofs.Lexings.Existence.{first_at}
 use Rattle.py_lines.proofs.Text.Utf8Prefixes.{prefix_chars, all_scalars-parts, one_decoding}
-use Rattle.py_lines.proofs.Pieces.PieceLists.{spelled-append, AreReadBefore-second}
+use Rattle.py_lines.proofs.Pieces.PieceLists.{spelled-append, AreReadBefore-append, AreReadBefore-second, MayFollow}
 use Rattle.py_lines.proofs.Lexings.LinePrefix.{line_first}
 use Rattle.py_lines.proofs.LogicalLines.TokenPlaces.{tokens_lie}
 use Rattle.py_lines.proofs.LogicalLines.Cuts.{byte_len-append, one_line}
 use Rattle.py_lines.proofs.LineScan.LineCount.{line_ends-bytes}
 use Rattle.py_lines.proofs.LineScan.TextSteps.{base_of, follows_base}
-use Rattle.py_lines.proofs.Lexings.GivenLines.{Situation, situate, IsEnded, one_more}
+use Rattle.py_lines.proofs.Lexings.GivenLines.{base_lines, ends_for_good}
+use Rattle.py_lines.proofs.Feeds.Known.{IsKnown, is_known}
+use Rattle.py_lines.proofs.LogicalLines.NextLine.{lines_of-push}
+use Rattle.py_lines.proofs.Pieces.OpenBrackets.{balanced_depth, depth_through-append}
+use Rattle.py_lines.proofs.Pieces.ShallowPieces.{IsShallow-append, fits_reading}
+use Rattle.py_lines.specs.Balance.{depth_through}
+use Rattle.py_lines.specs.Balance as brackets
+use Rattle.py_lines.specs.Given.{AreFirstLines}
+use Rattle.py_lines.specs.Settled.{EndsForGood}
+use Rattle.py_lines.specs.ScannerState.{GoesOnWith}
 use Rattle.py_lines.proofs.LineScan.PieceEnd.{no_class_bracket}
 use Rattle.py_lines.proofs.Lexings.FirstLines.{given_begin}
 pub use Rattle.py_lines.proofs.Readers.LineFaults.{Within}
@@ -93,6 +102,11 @@ place_room s stop has offset w = omega (arith, w.size, ap length (prefix_spells 
 pub all_within : (read : List ℕ) (n : ℕ) → n ≡ byte_len read → Within read n
 all_within read n size = record { prefix = read; later = []; split = append-nil read; size = size }
 
+-- the characters after the scanned line
+pub rest_characters : (s : Source) (stop : Stop) (has : HasScanned s stop) → IsUtf8 has.scans.rest
+unfolding all_within
+rest_characters s stop has = rest_text s stop has (byte_len has.scans.read) (all_within has.scans.read (byte_len has.scans.read) refl)
+
 -- the text that was scanned
 pub scanned_is : (s : Source) (stop : Stop) (has : HasScanned s stop) → s.state.scan.stop ≡ byte_len has.scans.read → scanned_text s ≡ encode_utf8_all has.scans.read
 scanned_is s stop has size = ap (λ (n : ℕ). take n (drop s.state.place s.characters.now)) size ∙ ap (take (byte_len has.scans.read)) (sym has.scans.spell) ∙ take-append_seam (encode_utf8_all has.scans.read) has.scans.rest
@@ -120,37 +134,109 @@ given_line old new stop has end_len u line gives =
 lie_in_line : (new : Source) (offset number : ℕ) (u : List Piece) → line_of_source new ≡ line_of offset number u → all_scalars (spelled u) ≡ true → EachLiesIn (line_of_source new).text new.state.tokens.tokens.items
 lie_in_line new offset number u is scalars = subst (λ (l : LogicalLine). EachLiesIn l.text l.tokens) (sym is) (tokens_lie number u scalars)
 
--- one more line was given
-pub continues : (old new : Source) (stop : Stop) (has : HasScanned old stop) (end_len : ℕ) (u : List Piece) → IsScannedLine (line_start (first_mode old.state.place)) old.state.scan has.scans.read end_len u → GivesTokens old end_len new
-    → ((lines : List LogicalLine) (s : Situation (reader_of old) old.characters.now lines has.scans.read has.scans.rest) → AreReadBefore u s.after)
-    → ((lines : List LogicalLine) (s : Situation (reader_of old) old.characters.now lines has.scans.read has.scans.rest) → IsEnded u (s.after ++ s.given.first.tail ≡ []))
-    → Continues (reader_of old) (line_of_source new) (reader_of new) × EachLiesIn (line_of_source new).text new.state.tokens.tokens.items
-continues old new stop has end_len u line gives fit ended =
-    let read = has.scans.read in
-    let next = line_of old.state.place old.state.line u in
-    let is = given_line old new stop has end_len u line gives in
-    let text : new.bytes.now ≡ old.bytes.now = ap (λ (b : Bor (List ℕ)). b.now) gives.bytes in
-    let here : new.state.place ≡ old.state.place + byte_len read = ap (λ (s : LineState). s.place) gives.state ∙ ap (λ (n : ℕ). old.state.place + n) line.stop in
-    let no_fault : new.state.fault ≡ None = ap (λ (s : LineState). s.fault) gives.state ∙ has.no_fault in
-    let reached : new.state.line ≡ old.state.line + line_ends read = ap (λ (s : LineState). s.line) gives.state ∙ line.here ∙ ap (λ (n : ℕ). n + line_ends read) has.line in
-    let size : byte_len (spelled u) ≡ byte_len read = ap byte_len line.line.spell in
-    let given : (lines : List LogicalLine) → HasGiven (reader_of old) lines → HasGiven (reader_of new) (lines ++ next ∷ []) = λ lines had.
-    let s = situate (reader_of old) old.characters.now lines read has.scans.rest had (IsUtf8-had _ old.text) old.prefix old.bad has.more has.scans.spell in
-    let base = base_of old.state.place s.given.first.pieces (read ++ s.after) (subst (AreReadBefore s.given.first.pieces) s.split s.given.first.fit) s.ends s.given.first.here in
-    one_more (reader_of old) (reader_of new) old.characters.now lines read has.scans.rest u s line.line.spell (fit lines s) (follows_base old.state.place s.given.first.pieces u read s.after line.line.to base line.line.spell (fit lines s) line.line.steps) line.line.stacked line.line.strings line.line.whole (ended lines s) text here reached no_fault in
-    let goes_on : Continues (reader_of old) next (reader_of new) = record {
-      given = given;
-      begins = λ lines had. given_begin (reader_of new) (lines ++ next ∷ []) (given lines had);
-      text = text;
-      place = here ∙ ap (λ (n : ℕ). old.state.place + n) (sym size);
-      some_text = omega (arith, size, line.line.some);
-      within = omega (arith, new.within, ap length new.prefix, length-take (length new.characters.now) new.bytes.now);
-      fault = has.no_fault;
-      no_fault = no_fault;
-    } in (
-      subst (λ (l : LogicalLine). Continues (reader_of old) l (reader_of new)) (sym is) goes_on,
-      lie_in_line new old.state.place old.state.line u is (ap all_scalars line.line.spell ∙ has.scans.scalars),
-    )
+-- a line that its end closed, or the text's end
+pub data IsEnded (u : List Piece) (nothing : Type 0) : Type 0 where
+  by_line : (body : List Piece) (last : Piece) → u ≡ body ++ last ∷ [] → last.class ≡ line_end → depth_through 0 body ≡ 0 → IsEnded u nothing
+  by_text : nothing → IsEnded u nothing
+
+-- the lines given, and one more
+one_more : (text : List ℕ) (place line : ℕ) (lines : List LogicalLine) (read rest : List ℕ) (k : IsKnown text place line lines read rest) (m : Scanned) (u : List Piece) → IsReadLine m read u → AreReadBefore u k.more → MayFollow k.base u → IsEnded u (k.more ++ k.tail ≡ []) → AreFirstLines text (place + byte_len read) (line + line_ends read) (lines ++ line_of place line u ∷ [])
+one_more text place line lines read rest k m u own fit follows ended =
+    let all : AreReadBefore (k.base ++ u) k.more = AreReadBefore-append k.base u k.more (subst (λ t. AreReadBefore k.base (t ++ k.more)) (sym own.spell) k.fit) fit follows in
+    let spelled_all : spelled (k.base ++ u) ≡ spelled k.base ++ read = spelled-append k.base u ∙ ap (λ t. spelled k.base ++ t) own.spell in
+    let balanced = fits_reading u own.stacked own.strings in
+    record {
+      characters = spelled k.base ++ (read ++ k.more);
+      tail = k.tail;
+      pieces = k.base ++ u;
+      rest = k.more;
+      decodes = k.decodes;
+      spell = ap (λ t. t ++ k.more) spelled_all ∙ append_assoc (spelled k.base) read k.more;
+      fit = all;
+      balanced = brackets.both (k.base ++ u) k.base u refl k.balanced balanced.0;
+      shallow = IsShallow-append 0 k.base u k.shallow (subst (λ (d : ℕ). IsShallow d u) (sym level) balanced.1);
+      ended = ends ended;
+      here = omega (arith, k.here, byte_len-append (spelled k.base) read, ap byte_len spelled_all);
+      number = omega (arith, k.number, base_lines k.base read k.more k.fit, ap line_ends spelled_all);
+      cut = ap (λ l. l ++ line_of place line u ∷ []) k.cut ∙ ap (λ (n : ℕ). lines_of k.base ++ line_of n line u ∷ []) k.here ∙ ap (λ (n : ℕ). lines_of k.base ++ line_of (byte_len (spelled k.base)) n u ∷ []) k.number
+          ∙ sym (lines_of-push k.base u k.more k.ended own.whole all);
+    }
+  where
+    level : depth_through 0 k.base ≡ 0
+    level = balanced_depth k.base k.balanced 0
+
+    ends : IsEnded u (k.more ++ k.tail ≡ []) → EndsForGood (k.base ++ u) (k.more ++ k.tail) ⊎ (k.more ++ k.tail ≡ [])
+    ends (IsEnded.by_line body last is class deep) =
+        ends_for_good (k.base ++ u) (k.more ++ k.tail) (inr (k.base ++ body, last, ap (λ l. k.base ++ l) is ∙ sym (append_assoc k.base body (last ∷ [])), class, depth_through-append 0 k.base body ∙ ap (λ (d : ℕ). depth_through d body) level ∙ deep))
+    ends (IsEnded.by_text none) = inr none
+
+module _ (old : Source) (stop : Stop) (has : HasScanned old stop) where
+  -- the bytes that begin no character, and what comes after the characters that were read
+  abbrev pub tail : List ℕ
+  tail = drop (length old.characters.now) old.bytes.now
+
+  abbrev pub left : List ℕ
+  left = has.scans.rest ++ tail
+
+  pub all_spell : encode_utf8_all has.scans.read ++ left ≡ drop old.state.place old.bytes.now
+  all_spell = sym (append_assoc (encode_utf8_all has.scans.read) has.scans.rest tail) ∙ ap (λ t. t ++ tail) has.scans.spell ∙ text_from old
+
+  pub goes : GoesOnWith old.bytes.now old.state.place (drop old.state.place old.bytes.now)
+  goes = take_all (length (drop old.state.place old.bytes.now)) (drop old.state.place old.bytes.now) (omega arith)
+
+  -- all of the text is known
+  pub known : (lines : List LogicalLine) → HasGiven (reader_of old) lines → IsKnown old.bytes.now old.state.place old.state.line lines has.scans.read left
+  known lines given = is_known old.bytes.now old.state.place old.state.line lines has.scans.read left given.first has.scans.scalars (subst (GoesOnWith old.bytes.now old.state.place) (sym all_spell) goes)
+      (omega (arith, ap length all_spell, length-drop old.state.place old.bytes.now, has.more))
+
+  pub whole : length old.bytes.now ≡ old.state.place + length (encode_utf8_all has.scans.read ++ left)
+  whole = omega (arith, ap length all_spell, length-drop old.state.place old.bytes.now, has.more)
+
+  -- what comes after the line is decoded as the scan has it
+  rest_is : (lines : List LogicalLine) (given : HasGiven (reader_of old) lines) → (encode_utf8_all (known lines given).more ≡ has.scans.rest) × ((known lines given).tail ≡ tail)
+  rest_is lines given =
+      let k = known lines given in
+      let next = rest_characters old stop has in
+      let scalars = (all_scalars-parts has.scans.read k.more (all_scalars-parts (spelled k.base) (has.scans.read ++ k.more) k.decodes.are).1).1 in
+      let front = encode_utf8_all (spelled k.base ++ has.scans.read) in
+      let text : front ++ (encode_utf8_all k.more ++ k.tail) ≡ front ++ left =
+      sym (append_assoc front (encode_utf8_all k.more) k.tail) ∙ ap (λ t. t ++ k.tail) (sym (encodes-append (spelled k.base ++ has.scans.read) k.more) ∙ ap encode_utf8_all (append_assoc (spelled k.base) has.scans.read k.more)) ∙ k.decodes.spell
+      ∙ sym (take_all _ old.bytes.now (omega (arith, whole))) ∙ k.known in
+      let same = one_decoding k.more next.0 k.tail tail scalars next.1.0 k.decodes.bad old.bad (append_cancel_left front _ _ text ∙ ap (λ t. t ++ tail) (sym next.1.1)) in
+      (ap encode_utf8_all same.0 ∙ next.1.1, same.1)
+
+  -- one more line was given
+  pub continues : (new : Source) (end_len : ℕ) (u : List Piece) → IsScannedLine (line_start (first_mode old.state.place)) old.state.scan has.scans.read end_len u → GivesTokens old end_len new
+      → ((after : List ℕ) → encode_utf8_all after ≡ has.scans.rest → AreReadBefore u after × IsEnded u (after ++ tail ≡ []))
+      → Continues (reader_of old) (line_of_source new) (reader_of new) × EachLiesIn (line_of_source new).text new.state.tokens.tokens.items
+  continues new end_len u line gives follows =
+      let read = has.scans.read in
+      let next = line_of old.state.place old.state.line u in
+      let is = given_line old new stop has end_len u line gives in
+      let text : new.bytes.now ≡ old.bytes.now = ap (λ (b : Bor (List ℕ)). b.now) gives.bytes in
+      let here : new.state.place ≡ old.state.place + byte_len read = ap (λ (s : LineState). s.place) gives.state ∙ ap (λ (n : ℕ). old.state.place + n) line.stop in
+      let no_fault : new.state.fault ≡ None = ap (λ (s : LineState). s.fault) gives.state ∙ has.no_fault in
+      let reached : new.state.line ≡ old.state.line + line_ends read = ap (λ (s : LineState). s.line) gives.state ∙ line.here ∙ ap (λ (n : ℕ). n + line_ends read) has.line in
+      let size : byte_len (spelled u) ≡ byte_len read = ap byte_len line.line.spell in
+      let given : (lines : List LogicalLine) → HasGiven (reader_of old) lines → HasGiven (reader_of new) (lines ++ next ∷ []) = λ lines had.
+      let k = known lines had in
+      let rest = rest_is lines had in
+      let own = follows k.more rest.0 in
+      let begin = follows_base old.state.place k.base u read k.more line.line.to (base_of old.state.place k.base (read ++ k.more) k.fit k.ended k.here) line.line.spell own.0 line.line.steps in
+      record { first = rw (text, here, reached) (one_more old.bytes.now old.state.place old.state.line lines read left k (line_start (first_mode old.state.place)) u line.line own.0 begin (subst (λ t. IsEnded u (k.more ++ t ≡ [])) (sym rest.1) own.1)); no_fault = no_fault } in
+      let goes_on : Continues (reader_of old) next (reader_of new) = record {
+        given = given;
+        begins = λ lines had. given_begin (reader_of new) (lines ++ next ∷ []) (given lines had);
+        text = text;
+        place = here ∙ ap (λ (n : ℕ). old.state.place + n) (sym size);
+        some_text = omega (arith, size, line.line.some);
+        within = omega (arith, new.within, ap length new.prefix, length-take (length new.characters.now) new.bytes.now);
+        fault = has.no_fault;
+        no_fault = no_fault;
+      } in (
+        subst (λ (l : LogicalLine). Continues (reader_of old) l (reader_of new)) (sym is) goes_on,
+        lie_in_line new old.state.place old.state.line u is (ap all_scalars line.line.spell ∙ has.scans.scalars),
+      )
 
 -- the bytes of the line end after pieces
 pub end_len-push : (ps : List Piece) (p : Piece) → p.class ≡ line_end → end_len_of (ps ++ p ∷ []) ≡ byte_len p.text
@@ -167,14 +253,6 @@ first_bytes last class holds =
 full_line : (body : List Piece) (last : Piece) (read : List ℕ) → last.class ≡ line_end → spelled (body ++ last ∷ []) ≡ read → InClass last.class last.text → 0 < byte_len read
 full_line body last read class spell holds =
     omega (arith, ap byte_len (sym spell ∙ spelled-append body (last ∷ [])), byte_len-append (spelled body) (last.text ++ []), ap byte_len (append-nil last.text), first_bytes last class holds)
-
--- the characters after the scanned line
-has_after : (old : Source) (len : ℕ) → HasScanned old (stops.LineEnd len) → List ℕ
-has_after old len has = (rest_text old (stops.LineEnd len) has (byte_len has.scans.read) (all_within has.scans.read (byte_len has.scans.read) refl)).0
-
-after_is : (old : Source) (len : ℕ) (has : HasScanned old (stops.LineEnd len)) → encode_utf8_all (has_after old len has) ≡ has.scans.rest
-unfolding has_after all_within
-after_is old len has = (rest_text old (stops.LineEnd len) has (byte_len has.scans.read) (all_within has.scans.read (byte_len has.scans.read) refl)).1.1
 
 -- a line with its line end
 pub line_at_end : (m : Mode) (scan : Scan) (read rest : List ℕ) (len : ℕ) (at : IsAtLineEnd m scan read rest len) (after : List ℕ) → encode_utf8_all after ≡ rest → IsScannedLine (line_start m) scan read len (at.body ++ at.last ∷ [])
@@ -199,13 +277,15 @@ line_at_end m scan read rest len at after is =
     }
 
 pub line_ended : (old : Source) (len : ℕ) (has : HasScanned old (stops.LineEnd len)) → IsScannedLine (line_start (first_mode old.state.place)) old.state.scan has.scans.read len (has.scans.stops.body ++ has.scans.stops.last ∷ [])
-line_ended old len has = line_at_end (first_mode old.state.place) old.state.scan has.scans.read has.scans.rest len has.scans.stops (has_after old len has) (after_is old len has)
+line_ended old len has =
+    let next = rest_characters old (stops.LineEnd len) has in
+    line_at_end (first_mode old.state.place) old.state.scan has.scans.read has.scans.rest len has.scans.stops next.0 next.1.1
 
 -- a line that its line end closed
 pub continues_line : (old new : Source) (len : ℕ) (has : HasScanned old (stops.LineEnd len)) → GivesTokens old len new → Continues (reader_of old) (line_of_source new) (reader_of new) × EachLiesIn (line_of_source new).text new.state.tokens.tokens.items
 continues_line old new len has gives =
     let at = has.scans.stops in
-    continues old new (stops.LineEnd len) has len (at.body ++ at.last ∷ []) (line_ended old len has) gives (λ lines s. at.fit s.after s.follow) (λ lines s. IsEnded.by_line at.body at.last refl at.are.class at.are.level)
+    continues old (stops.LineEnd len) has new len (at.body ++ at.last ∷ []) (line_ended old len has) gives (λ after is. (at.fit after is, IsEnded.by_line at.body at.last refl at.are.class at.are.level))
 
 pub few_lines_line : (old : Source) (len : ℕ) (has : HasScanned old (stops.LineEnd len)) → old.state.scan.count.line ≤ old.state.place + old.state.scan.stop + 1
 few_lines_line old len has =
