@@ -4,7 +4,7 @@ use Rattle.std.proofs.lemmas.Bool.{both_ways, and_right}
 use Rattle.py_lines.specs.Character.{is_return, is_line_feed}
 use Rattle.py_lines.specs.Piece.{line_end, Piece, ends, begins, is_mark_class, spelled}
 use Rattle.py_lines.specs.PieceGrammar.{Grammar, InClassIn, IsLineEnd, feed, return_feed, return, MayPrecedeIn, AreReadIn}
-use Rattle.py_lines.proofs.Pieces.PieceLists.{spelled-append, AreReadIn-append, AreReadIn-first, AreReadIn-second, follows_any}
+use Rattle.py_lines.proofs.Pieces.PieceLists.{piece, spelled-append, AreReadIn-append, AreReadIn-first, AreReadIn-second, follows_any}
 use Rattle.py_lines.proofs.Fields.OneReading.{read_before}
 
 -- a line end has a first character
@@ -24,12 +24,19 @@ ends-last p body last holds =
     let text = line_text last.text holds in
     ap (ends p) (spelled-append body (last ∷ []) ∙ ap (λ t. spelled body ++ t) (append-nil last.text ∙ text.2)) ∙ ends-append p (spelled body) text.0 text.1 ∙ ap (ends p) (sym text.2)
 
--- a line end that ends in CR is CR, and with LF it is a line end too
-pub with_feed : (text : List ℕ) (c : ℕ) → IsLineEnd text → ends is_return text ≡ true → c ≡ 10 → IsLineEnd (text ++ c ∷ [])
+pub feed_unreturned : is_return 10 ≡ false
 unfolding is_return
-with_feed text c (feed same) cr ten = absurd (both_ways _ (ap (ends is_return) same) cr)
-with_feed text c (return_feed same) cr ten = absurd (both_ways _ (ap (ends is_return) same) cr)
-with_feed text c (return same) cr ten = return_feed (ap (λ t. t ++ c ∷ []) same ∙ ap (λ (n : ℕ). 13 ∷ n ∷ []) ten)
+feed_unreturned = refl
+
+pub return_returns : is_return 13 ≡ true
+unfolding is_return
+return_returns = refl
+
+-- a line end that ends in CR is CR
+pub returned_text : (text : List ℕ) → IsLineEnd text → ends is_return text ≡ true → text ≡ 13 ∷ []
+returned_text text (feed same) cr = absurd (both_ways _ (ap (ends is_return) same ∙ feed_unreturned) cr)
+returned_text text (return_feed same) cr = absurd (both_ways _ (ap (ends is_return) same ∙ feed_unreturned) cr)
+returned_text text (return same) cr = same
 
 module _ (grammar : Grammar) where
   -- the line end at the end of pieces
@@ -48,13 +55,9 @@ module _ (grammar : Grammar) where
       (second.0, subst (λ x. MayPrecedeIn grammar x last.text after) (sym is) apart, refl, tt)
       (follows_any body last.class last.text (ap is_mark_class is))
 
-  -- the same pieces before another line end
-  pub another_line : (body : List Piece) (last other : Piece) (c : ℕ) (cs ds : List ℕ) → other.class ≡ line_end → IsLineEnd other.text → last.text ≡ c ∷ cs → other.text ≡ c ∷ ds → AreReadIn grammar (body ++ last ∷ []) [] → AreReadIn grammar (body ++ other ∷ []) []
-  another_line body last other c cs ds also holds one two fit =
-      let first = AreReadIn-first grammar body (last ∷ []) [] fit in
-      let mine : (last.text ++ []) ++ [] ≡ c ∷ cs = append-nil (last.text ++ []) ∙ append-nil last.text ∙ one in
-      let theirs : (other.text ++ []) ++ [] ≡ c ∷ ds = append-nil (other.text ++ []) ∙ append-nil other.text ∙ two in
-      AreReadIn-append grammar body (other ∷ []) []
-      (subst (AreReadIn grammar body) (sym theirs) (read_before grammar body c cs ds (subst (AreReadIn grammar body) mine first)))
-      (subst (λ k. InClassIn grammar k other.text) (sym also) holds, subst (λ k. MayPrecedeIn grammar k other.text []) (sym also) (and_right _ _ refl), refl, tt)
-      (follows_any body other.class other.text (ap is_mark_class also))
+  -- the same pieces, with LF after the CR at their end
+  pub fed_line : (body : List Piece) (last : Piece) → last.text ≡ 13 ∷ [] → AreReadIn grammar (body ++ last ∷ []) [] → AreReadIn grammar (body ++ piece line_end (13 ∷ 10 ∷ []) ∷ []) []
+  fed_line body last text fit =
+      AreReadIn-append grammar body (piece line_end (13 ∷ 10 ∷ []) ∷ []) []
+      (read_before grammar body 13 [] (10 ∷ []) (subst (AreReadIn grammar body) (append-nil (last.text ++ []) ∙ append-nil last.text ∙ text) (AreReadIn-first grammar body (last ∷ []) [] fit)))
+      (return_feed refl, and_right _ _ refl, refl, tt) (follows_any body line_end (13 ∷ 10 ∷ []) refl)

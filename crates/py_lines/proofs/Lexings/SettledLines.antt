@@ -1,9 +1,9 @@
 -- The lines that the known bytes of a text settle begin every text that begins with them.
-use Rattle.std.proofs.Common.{◌≡◌, ℕ, ◌≤◌, Bool, true, false, Option, None, Some, List, [], ◌∷◌, ◌++◌, ◌&&◌, ⊎_elim, inl, inr, length, refl, sym, ap, ◌∙◌, subst, append_assoc, append-nil, length-append, arith}
+use Rattle.std.proofs.Common.{◌≡◌, ℕ, ◌+◌, ◌≤◌, Bool, true, false, Option, None, Some, List, [], ◌∷◌, ◌++◌, ◌&&◌, ⊎_elim, inl, inr, length, refl, sym, ap, ◌∙◌, subst, append_assoc, append-nil, length-append, arith}
 use Rattle.std.specs.Prelude.{encode_utf8_all}
 use Rattle.std.specs.Str.{StartsWithNoChar, all_scalars}
-use Rattle.std.proofs.lemmas.Bool.{both_ways, cases_Bool}
-use Rattle.std.proofs.lemmas.List.{append_cancel_left}
+use Rattle.std.proofs.lemmas.Bool.{both_ways, false_from_ne_true}
+use Rattle.std.proofs.lemmas.List.{append_cancel_left, nil_from_length}
 use Rattle.std.proofs.lemmas.Str.{encodes-append, length-le-encodes}
 use Rattle.py_lines.specs.Character.{is_return, is_line_feed}
 use Rattle.std.proofs.lemmas.Str.{encode_ascii}
@@ -14,12 +14,12 @@ use Rattle.py_lines.specs.Fields.{InClass, fielded, AreReadBefore, Fields}
 use Rattle.py_lines.specs.Reading.{Decodes, EndsLine, IsBalancedReading}
 use Rattle.py_lines.specs.Lexed.{IsLexed, BeginsLexing}
 use Rattle.py_lines.specs.Settled.{EndsForGood, IsSettledPrefix, IsSettled}
-use Rattle.py_lines.specs.LogicalLine.{LogicalLine, lines_of}
+use Rattle.py_lines.specs.LogicalLine.{LogicalLine, byte_len, lines_of}
 use Rattle.py_lines.specs.declared.fault.Fault.{Fault}
 use Rattle.py_lines.specs.Private.Machine.{brackets_of}
 use Rattle.py_lines.proofs.Text.Continued.{IsContinued, goes_on}
 use Rattle.py_lines.proofs.Text.Utf8Prefixes.{all_scalars-parts}
-use Rattle.py_lines.proofs.Pieces.PieceLists.{piece, spelled-append}
+use Rattle.py_lines.proofs.Pieces.PieceLists.{piece, spelled-append, spelled-push}
 use Rattle.py_lines.proofs.Pieces.OpenBrackets.{stack-from_balanced, balanced-from_stack}
 use Rattle.py_lines.proofs.Pieces.ShallowPieces.{IsShallow-parts, brackets_shallow}
 use Rattle.py_lines.proofs.Machine.LiveTexts.{keeps}
@@ -28,8 +28,9 @@ use Rattle.py_lines.proofs.Fields.Prefixes.{Compared}
 use Rattle.py_lines.proofs.Fields.SamePieces.{compare_pieces}
 use Rattle.py_lines.proofs.Fields.OneReading.{fields_begin, fields_agree, read_before, ends_there}
 use Rattle.py_lines.proofs.FieldSoundness.WholeTexts.{shallow-push}
-pub use Rattle.py_lines.proofs.Lexings.SettledFits.{ends-append, with_feed}
-use Rattle.py_lines.proofs.Lexings.SettledFits.{ends-last, another_line, line_end_of, line_text, read_on}
+pub use Rattle.py_lines.proofs.Lexings.SettledFits.{ends-append}
+use Rattle.py_lines.proofs.Lexings.SettledFits.{ends-last, feed_unreturned, returned_text, fed_line, line_end_of, read_on}
+use Rattle.py_lines.proofs.Lexings.GivenLines.{none_both}
 use Rattle.py_lines.proofs.Lexings.LineEnds.{level_stack}
 use Rattle.py_lines.proofs.Text.Splits.{Either, either}
 use Rattle.py_lines.proofs.Text.CharacterTests.{feed_is, feed-not-return}
@@ -39,90 +40,74 @@ use Rattle.py_lines.proofs.Lexings.Existence.{some_lexing_of}
 pub ends-line : (p : ℕ → Bool) (body : List Piece) (last : Piece) → last.class ≡ line_end → InClass last.class last.text → ends p (spelled (body ++ last ∷ [])) ≡ ends p last.text
 ends-line p body last is holds = ends-last p body last (subst (λ k. InClass k last.text) is holds)
 
--- before a line end at depth 0 no bracket is open
-pub body_stack : (body : List Piece) (last : Piece) → brackets_of (body ++ last ∷ []) ≡ Some [] → depth_through 0 body ≡ 0 → brackets_of body ≡ Some []
-body_stack body last whole deep = level_stack body (last ∷ []) [] whole deep
-
--- the same pieces, with another line end at the end, are a reading of their own
-another_end : (body : List Piece) (last other : Piece) (c : ℕ) (cs ds : List ℕ) → last.class ≡ line_end → other.class ≡ line_end → IsLineEnd other.text → last.text ≡ c ∷ cs → other.text ≡ c ∷ ds → depth_through 0 body ≡ 0 → IsBalancedReading (body ++ last ∷ []) (spelled (body ++ last ∷ [])) → IsBalancedReading (body ++ other ∷ []) (spelled (body ++ other ∷ []))
-another_end body last other c cs ds is also holds one two deep reading =
+-- the same pieces, with LF after the CR at their end, are a reading of their own
+fed_reading : (body : List Piece) (last : Piece) → last.text ≡ 13 ∷ [] → depth_through 0 body ≡ 0 → IsBalancedReading (body ++ last ∷ []) (spelled (body ++ last ∷ [])) → IsBalancedReading (body ++ piece line_end (13 ∷ 10 ∷ []) ∷ []) (spelled (body ++ piece line_end (13 ∷ 10 ∷ []) ∷ []))
+fed_reading body last text deep reading =
     let all = body ++ last ∷ [] in
-    let level = body_stack body last (stack-from_balanced all reading.balanced (brackets_shallow 0 all reading.shallow)) deep in
-    let no_opener : is_opener other ≡ false = ap (λ k. is_opener (piece k other.text)) also in
-    let stack = keeps body other [] no_opener (ap (λ k. is_closer (piece k other.text)) also) level in
+    let other = piece line_end (13 ∷ 10 ∷ []) in
+    let level = level_stack body (last ∷ []) [] (stack-from_balanced all reading.balanced (brackets_shallow 0 all reading.shallow)) deep in
     record {
-      reads = record { spell = refl; fit = another_line fielded body last other c cs ds also holds one two reading.reads.fit };
-      balanced = (balanced-from_stack (body ++ other ∷ []) stack).0;
-      shallow = shallow-push 0 body other (IsShallow-parts 0 body (last ∷ []) reading.shallow).0 (λ opens. absurd (both_ways _ no_opener opens)) (λ at. no_string (sym also ∙ at));
+      reads = record { spell = refl; fit = fed_line fielded body last text reading.reads.fit };
+      balanced = (balanced-from_stack (body ++ other ∷ []) (keeps body other [] refl refl level)).0;
+      shallow = shallow-push 0 body other (IsShallow-parts 0 body (last ∷ []) reading.shallow).0 (λ opens. absurd (both_ways _ refl opens)) (λ at. absurd (cc));
     }
-  where
-    no_string : {A : Type 0} → line_end ≡ string → A
-    no_string at = absurd (cc)
 
 -- the text goes on: what follows the settled pieces doesn't begin with LF where they end in CR
 module _ (characters tail more : List ℕ) (pieces : List Piece) (settled : IsSettledPrefix pieces characters tail) (fine : all_scalars settled.rest ≡ true) (bad : StartsWithNoChar tail) (after t : List ℕ) (are : all_scalars after ≡ true) (none : StartsWithNoChar t) (same : encode_utf8_all after ++ t ≡ (encode_utf8_all settled.rest ++ tail) ++ more) where
-  -- they are read
-  read_as : (body : List Piece) (last : Piece) → pieces ≡ body ++ last ∷ [] → IsBalancedReading (body ++ last ∷ []) (spelled (body ++ last ∷ []))
-  read_as body last is = subst (λ l. IsBalancedReading l (spelled l)) is settled.reading
+  module _ (body : List Piece) (last : Piece) (is : pieces ≡ body ++ last ∷ []) (class : last.class ≡ line_end) where
+    reading : IsBalancedReading (body ++ last ∷ []) (spelled (body ++ last ∷ []))
+    reading = subst (λ l. IsBalancedReading l (spelled l)) is settled.reading
 
-  line_end_last : (body : List Piece) (last : Piece) → pieces ≡ body ++ last ∷ [] → last.class ≡ line_end → IsLineEnd last.text
-  line_end_last body last is class = line_end_of fielded body last [] class (read_as body last is).reads.fit
+    end : IsLineEnd last.text
+    end = line_end_of fielded body last [] class reading.reads.fit
 
-  -- a longer prefix would end a line, if LF followed
-  no_feed : (body : List Piece) (last : Piece) → pieces ≡ body ++ last ∷ [] → last.class ≡ line_end → depth_through 0 body ≡ 0 → ends is_return last.text ≡ true → (c : ℕ) (cs : List ℕ) → settled.rest ≡ c ∷ cs → is_line_feed c ≡ false
-  no_feed body last is class deep cr c cs left = ⊎_elim (λ (feeds : is_line_feed c ≡ true). absurd (too_long feeds)) (λ h. h) (cases_Bool (is_line_feed c))
-    where
-      end : IsLineEnd last.text
-      end = line_end_last body last is class
+    module _ (deep : depth_through 0 body ≡ 0) (cr : ends is_return last.text ≡ true) (later : List ℕ) (feeds : after ≡ 10 ∷ later) where
+      -- a longer prefix would end a line, if LF were known
+      not_known : (cs : List ℕ) → settled.rest ≡ 10 ∷ cs → ⊥
+      not_known cs left =
+          let others = body ++ piece line_end (13 ∷ 10 ∷ []) ∷ [] in
+          let text = returned_text last.text end cr in
+          let whole : spelled pieces ≡ spelled body ++ 13 ∷ [] = ap spelled is ∙ spelled-push body last.class last.text ∙ ap (λ x. spelled body ++ x) text in
+          let longer : spelled others ≡ spelled pieces ++ 10 ∷ [] = spelled-push body line_end (13 ∷ 10 ∷ []) ∙ sym (append_assoc (spelled body) (13 ∷ []) (10 ∷ [])) ∙ ap (λ x. x ++ 10 ∷ []) (sym whole) in
+          let spell : spelled others ++ cs ≡ characters = ap (λ x. x ++ cs) longer ∙ append_assoc (spelled pieces) (10 ∷ []) cs ∙ ap (λ x. spelled pieces ++ x) (sym left) ∙ settled.spell in
+          let unreturned : ends is_return (spelled others) ≡ false = ap (ends is_return) longer ∙ ends-append is_return (spelled pieces) 10 [] ∙ feed_unreturned in
+          let bound = settled.longest others cs spell (fed_reading body last text deep reading) (inr (body, piece line_end (13 ∷ 10 ∷ []), refl, refl, deep), λ nothing. unreturned) in
+          omega (arith, bound, ap length longer, length-append (spelled pieces) (10 ∷ []))
 
-      too_long : is_line_feed c ≡ true → ⊥
-      too_long feeds =
-          let other = piece line_end (last.text ++ c ∷ []) in
-          let others = body ++ other ∷ [] in
-          let holds = with_feed last.text c end cr (feed_is c feeds) in
-          let text = line_text last.text end in
-          let read = another_end body last other text.0 text.1 (text.1 ++ c ∷ []) class refl holds text.2 (ap (λ x. x ++ c ∷ []) text.2) deep (read_as body last is) in
-          let longer : spelled others ≡ spelled pieces ++ c ∷ [] = spelled-append body (other ∷ []) ∙ ap (λ x. spelled body ++ x) (append-nil (last.text ++ c ∷ [])) ∙ sym (append_assoc (spelled body) last.text (c ∷ [])) ∙ ap (λ x. (spelled body ++ x) ++ c ∷ []) (sym (append-nil last.text)) ∙ ap (λ x. x ++ c ∷ []) (sym (spelled-append body (last ∷ []))) ∙ ap (λ (l : List Piece). spelled l ++ c ∷ []) (sym is) in
-          let spell : spelled others ++ cs ≡ characters = ap (λ x. x ++ cs) longer ∙ append_assoc (spelled pieces) (c ∷ []) cs ∙ ap (λ x. spelled pieces ++ x) (sym left) ∙ settled.spell in
-          let ended : EndsForGood others (cs ++ tail) = (inr (body, other, refl, refl, deep), λ nothing. ends-last is_return body other holds ∙ ends-append is_return last.text c [] ∙ feed-not-return c feeds) in
-          let bound = settled.longest others cs spell read ended in
-          omega (arith, bound, ap length longer, length-append (spelled pieces) (c ∷ []))
+      -- nor does it stand in the bytes that begin no character, or after all that are known
+      not_next : (d : List ℕ) → d ≡ tail → settled.rest ≡ [] → ⊥
+      not_next [] known left = both_ways _ (settled.ended.1 (ap (λ x. x ++ tail) left ∙ sym known)) (ap (λ (l : List Piece). ends is_return (spelled l)) is ∙ ends-last is_return body last end ∙ cr)
+      not_next (d ∷ ds) known left =
+          let one = encode_ascii 10 (omega arith) in
+          let bytes : ((10 ∷ []) ++ encode_utf8_all later) ++ t ≡ (d ∷ ds) ++ more = ap (λ x. (x ++ encode_utf8_all later) ++ t) (sym one) ∙ ap (λ x. encode_utf8_all x ++ t) (sym feeds) ∙ same ∙ ap (λ x. (encode_utf8_all x ++ tail) ++ more) left ∙ ap (λ x. x ++ more) (sym known) in
+          let first : d ≡ 10 = cc in
+          bad 10 ds refl (sym known ∙ ap (λ (n : ℕ). n ∷ ds) first ∙ ap (λ x. x ++ ds) (sym one))
 
-  follows : (body : List Piece) (last : Piece) → pieces ≡ body ++ last ∷ [] → last.class ≡ line_end → depth_through 0 body ≡ 0 → ends is_return last.text ≡ true → (left : List ℕ) → settled.rest ≡ left → IsContinued settled.rest (tail ++ more) after t → begins is_line_feed after ≡ false
-  follows body last is class deep cr (c ∷ cs) left on = ap (begins is_line_feed) (on.split ∙ ap (λ x. x ++ on.rest) left) ∙ no_feed body last is class deep cr c cs left
-  follows body last is class deep cr [] left on = by_tail tail refl after refl
-    where
-      by_tail : (d : List ℕ) → d ≡ tail → (a : List ℕ) → after ≡ a → begins is_line_feed a ≡ false
-      by_tail d known [] is_a = refl
-      by_tail [] known (a ∷ as') is_a =
-          let nothing : settled.rest ++ tail ≡ [] = ap (λ x. x ++ tail) left ∙ sym known in
-          let ending = ap (λ (l : List Piece). ends is_return (spelled l)) (sym is) ∙ settled.ended.1 nothing in
-          absurd (both_ways _ (sym (ends-last is_return body last (line_end_last body last is class)) ∙ ending) cr)
-      by_tail (d ∷ ds) known (a ∷ as') is_a = ⊎_elim (λ (feeds : is_line_feed a ≡ true). absurd (whole feeds)) (λ h. h) (cases_Bool (is_line_feed a))
+      never_fed : ⊥
+      never_fed = by settled.rest refl
         where
-          whole : is_line_feed a ≡ true → ⊥
-          whole feeds =
-              let ten : a ≡ 10 = feed_is a feeds in
-              let one = encode_ascii 10 (omega arith) in
-              let bytes : ((10 ∷ []) ++ encode_utf8_all as') ++ t ≡ (d ∷ ds) ++ more = ap (λ x. (x ++ encode_utf8_all as') ++ t) (sym one) ∙ ap (λ (n : ℕ). encode_utf8_all (n ∷ as') ++ t) (sym ten) ∙ ap (λ x. encode_utf8_all x ++ t) (sym is_a) ∙ same ∙ ap (λ x. (encode_utf8_all x ++ tail) ++ more) left ∙ ap (λ x. x ++ more) (sym known) in
-              let first : d ≡ 10 = cc in
-              bad 10 ds refl (sym known ∙ ap (λ (n : ℕ). n ∷ ds) first ∙ ap (λ x. x ++ ds) (sym one))
+          on : IsContinued settled.rest (tail ++ more) after t
+          on = goes_on settled.rest (tail ++ more) after t fine are none (sym (append_assoc (encode_utf8_all settled.rest) tail more) ∙ sym same)
+
+          by : (left : List ℕ) → settled.rest ≡ left → ⊥
+          by [] left = not_next tail refl left
+          by (c ∷ cs) left =
+              let first : 10 ∷ later ≡ c ∷ (cs ++ on.rest) = sym feeds ∙ on.split ∙ ap (λ x. x ++ on.rest) left in
+              let ten : c ≡ 10 = cc in
+              not_known cs (left ∙ ap (λ (n : ℕ). n ∷ cs) ten)
 
   pub settled_fits : AreReadBefore pieces after
   settled_fits = by_end settled.ended.0
     where
-      on : IsContinued settled.rest (tail ++ more) after t
-      on = goes_on settled.rest (tail ++ more) after t fine are none (sym (append_assoc (encode_utf8_all settled.rest) tail more) ∙ sym same)
-
       by_end : EndsLine pieces → AreReadBefore pieces after
       by_end (inl empty) = subst (λ l. AreReadBefore l after) (sym empty) tt
       by_end (inr (body, last, is, class, deep)) =
-          subst (λ l. AreReadBefore l after) (sym is)
-          (read_on fielded body last [] after class (read_as body last is).reads.fit
-          (⊎_elim
-          (λ (cr : ends is_return last.text ≡ true). ap (λ (b : Bool). b && begins is_line_feed after) cr ∙ follows body last is class deep cr settled.rest refl on)
-          (λ (other : ends is_return last.text ≡ false). ap (λ (b : Bool). b && begins is_line_feed after) other)
-          (cases_Bool (ends is_return last.text))))
+          subst (λ l. AreReadBefore l after) (sym is) (read_on fielded body last [] after class (reading body last is class).reads.fit (apart (ends is_return last.text) refl after refl))
+        where
+          apart : (cr : Bool) → ends is_return last.text ≡ cr → (all : List ℕ) → after ≡ all → cr && begins is_line_feed all ≡ false
+          apart false returned all begin = refl
+          apart true returned [] begin = refl
+          apart true returned (c ∷ cs) begin = false_from_ne_true _ (λ feeds. never_fed body last is class deep returned cs (begin ∙ ap (λ (n : ℕ). n ∷ cs) (feed_is c feeds)))
 
 -- the bytes of the settled pieces, and those after them
 pub spelled_first : (text more : List ℕ) (pieces : List Piece) (rest characters tail : List ℕ) → spelled pieces ++ rest ≡ characters → encode_utf8_all characters ++ tail ≡ text → encode_utf8_all (spelled pieces) ++ ((encode_utf8_all rest ++ tail) ++ more) ≡ text ++ more
@@ -130,19 +115,15 @@ spelled_first text more pieces rest characters tail spell bytes =
     sym (append_assoc (encode_utf8_all (spelled pieces)) (encode_utf8_all rest ++ tail) more)
     ∙ ap (λ x. x ++ more) (sym (append_assoc (encode_utf8_all (spelled pieces)) (encode_utf8_all rest) tail) ∙ ap (λ x. x ++ tail) (sym (encodes-append (spelled pieces) rest) ∙ ap encode_utf8_all spell) ∙ bytes)
 
--- no bytes, of no characters
-nothing_after : (a b : List ℕ) → a ++ b ≡ [] → encode_utf8_all a ++ b ≡ []
-nothing_after [] b none = none
-nothing_after (c ∷ cs) b none = absurd (cc)
-
-parts_nil : (a b more : List ℕ) → (encode_utf8_all a ++ b) ++ more ≡ [] → a ++ b ≡ []
-parts_nil [] [] more h = refl
-parts_nil [] (d ∷ ds) more h = absurd (cc)
-parts_nil (c ∷ cs) b more h = absurd (omega (arith, ap length h, length-append (encode_utf8_all (c ∷ cs) ++ b) more, length-append (encode_utf8_all (c ∷ cs)) b, length-le-encodes (c ∷ cs)))
-
 -- pieces that end a line for good do so where the text goes on
 pub still_ends : (pieces : List Piece) (rest tail more after t : List ℕ) → encode_utf8_all after ++ t ≡ (encode_utf8_all rest ++ tail) ++ more → EndsForGood pieces (rest ++ tail) → EndsForGood pieces (after ++ t)
-still_ends pieces rest tail more after t same ended = (ended.0, λ none. ended.1 (parts_nil rest tail more (sym same ∙ nothing_after after t none)))
+still_ends pieces rest tail more after t same ended = (
+  ended.0,
+  λ none.
+      let parts = none_both after t none in
+      let bytes : length (encode_utf8_all rest) + length tail + length more ≡ 0 = omega (arith, ap length same, ap byte_len parts.0, ap length parts.1, length-append (encode_utf8_all after) t, length-append (encode_utf8_all rest ++ tail) more, length-append (encode_utf8_all rest) tail) in
+      ended.1 (nil_from_length (rest ++ tail) (omega (arith, bytes, length-append rest tail, length-le-encodes rest))),
+)
 
 -- pieces that are read before what follows begin those that read more
 begins_with : (pieces others : List Piece) (after rest : List ℕ) → AreReadBefore pieces after → IsBalancedReading pieces (spelled pieces) → IsBalancedReading others (spelled others) → spelled pieces ++ after ≡ spelled others ++ rest → length (spelled pieces) ≤ length (spelled others) → (more : List Piece) × (others ≡ pieces ++ more)
@@ -152,19 +133,12 @@ begins_with pieces others after rest fit reading read spell few = go (either (sp
     before_mid [] is = reading.reads.fit
     before_mid (c ∷ cs) is = read_before fielded pieces c (cs ++ rest) cs (subst (AreReadBefore pieces) is fit)
 
-    nil_left : (xs ys zs : List ℕ) → (xs ++ ys) ++ zs ≡ xs → ys ≡ []
-    nil_left xs [] zs at = refl
-    nil_left xs (y ∷ ys) zs at =
-        let none : (y ∷ ys) ++ zs ≡ [] = append_cancel_left xs ((y ∷ ys) ++ zs) [] (sym (append_assoc xs (y ∷ ys) zs) ∙ at ∙ sym (append-nil xs)) in
-        absurd (cc)
-
     by : (mid : List ℕ) → spelled pieces ++ mid ≡ spelled others → Compared Piece pieces others → (more : List Piece) × (others ≡ pieces ++ more)
     by mid at (Compared.same is) = ([], sym is ∙ sym (append-nil pieces))
     by mid at (Compared.shorter x xs is) = (x ∷ xs, is)
     by mid at (Compared.longer y ys is) =
-        let whole : (spelled others ++ spelled (y ∷ ys)) ++ mid ≡ spelled others = ap (λ t. t ++ mid) (sym (spelled-append others (y ∷ ys)) ∙ ap spelled (sym is)) ∙ at in
-        let none = nil_left (spelled others) (spelled (y ∷ ys)) mid whole in
-        absurd (ends_there pieces others ys y reading.reads.fit is (ap spelled is ∙ spelled-append others (y ∷ ys) ∙ ap (λ t. spelled others ++ t) none ∙ append-nil (spelled others)))
+        let nothing : mid ≡ [] = nil_from_length mid (omega (arith, ap length at, length-append (spelled pieces) mid, ap length (ap spelled is ∙ spelled-append others (y ∷ ys)), length-append (spelled others) (spelled (y ∷ ys)))) in
+        absurd (ends_there pieces others ys y reading.reads.fit is (sym (append-nil (spelled pieces)) ∙ ap (λ t. spelled pieces ++ t) (sym nothing) ∙ at))
 
     go : Either (spelled pieces) (spelled others) rest → (more : List Piece) × (others ≡ pieces ++ more)
     go (Either.shorter mid at) =

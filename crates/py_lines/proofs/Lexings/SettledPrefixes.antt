@@ -16,6 +16,7 @@ use Rattle.py_lines.proofs.Machine.PieceSteps.{pieces_at}
 use Rattle.py_lines.proofs.ScanMachine.Advance.{RunsTo}
 use Rattle.py_lines.proofs.ScanMachine.Soundness.{sound_at}
 use Rattle.py_lines.proofs.Lexings.LinePrefix.{EndsNoLine, Stays, Split, split, line_first, reading_stays, within}
+use Rattle.py_lines.proofs.Lexings.SettledFits.{return_returns}
 use Rattle.py_lines.proofs.Lexings.GivenLines.{none_both}
 use Rattle.py_lines.proofs.Lexings.SettledLines.{ends-append, ends-line}
 
@@ -28,10 +29,6 @@ pub data EndsNoneYet (others : List Piece) (tail : List ℕ) : Type 0 where
 one_of : (p w : Piece) (k ws : List Piece) → p ∷ [] ≡ k ++ w ∷ ws → (w ≡ p) × (ws ≡ [])
 one_of p w [] ws same = (cc, cc)
 one_of p w (q ∷ k) ws same = absurd (omega (arith, ap length same, length-append k (w ∷ ws)))
-
-thirteen : ends is_return (13 ∷ []) ≡ true
-unfolding is_return
-thirteen = refl
 
 -- the machine has read the known characters: the lines given are settled, and no more
 pub settled_at : (characters tail : List ℕ) (s : Scanned) (st : List Bracket) (base others : List Piece) (rest : List ℕ) → RunsTo characters s st → pieces_at s ≡ base ++ others → IsBalancedReading base (spelled base) → EndsForGood base (rest ++ tail) → EndsNoneYet others tail → spelled base ++ rest ≡ characters → IsSettledPrefix base characters tail
@@ -56,7 +53,7 @@ settled_at characters tail s st base others rest steps pieces reading good yet s
         let first : some.0 ∷ (some.1 ++ after) ≡ 13 ∷ [] = ap (λ t. t ++ after) (sym some.2) ∙ left in
         let none = none_both some.1 after (cc) in
         let text : last.text ≡ 13 ∷ [] = some.2 ∙ cc in
-        both_ways _ (settles (ap (λ t. t ++ tail) none.1 ∙ bare)) (ap (λ l. ends is_return (spelled l)) is ∙ ends-line is_return body last class holds ∙ ap (ends is_return) text ∙ thirteen)
+        both_ways _ (settles (ap (λ t. t ++ tail) none.1 ∙ bare)) (ap (λ l. ends is_return (spelled l)) is ∙ ends-line is_return body last class holds ∙ ap (ends is_return) text ∙ return_returns)
 
     bounded : (rivals : List Piece) (after : List ℕ) (body : List Piece) (last : Piece) → spelled rivals ++ after ≡ characters → rivals ≡ body ++ last ∷ [] → IsBalancedReading rivals (spelled rivals) → last.class ≡ line_end → depth_through 0 body ≡ 0 → (after ++ tail ≡ [] → ends is_return (spelled rivals) ≡ false) → Stays body last (pieces_at s) → EndsNoneYet others tail → length (spelled rivals) ≤ length (spelled base)
     bounded rivals after body last spells is reads class deep settles stays (EndsNoneYet.none free) = within base others rivals body last (pieces_at s) pieces good.0 free is deep stays
