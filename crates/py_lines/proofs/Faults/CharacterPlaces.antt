@@ -14,36 +14,30 @@ one_offset cause before c offset place live one two =
     let at = live_goes before live in
     place_is before at.0 at.1 at.2 cause c offset one ∙ sym (place_is before at.0 at.1 at.2 cause c place two)
 
--- of two causes one goes before the other, if they differ
-abbrev IsAmong : Cause → List Cause → Type 0
-IsAmong cause [] = ⊥
-IsAmong cause (other ∷ others) = (cause ≡ other) ⊎ IsAmong cause others
+-- the first of these causes that fits the character
+abbrev IsFirst : List Cause → List ℕ → ℕ → Cause → Type 0
+IsFirst [] before c cause = ⊥
+IsFirst (other ∷ others) before c cause = (cause ≡ other) ⊎ (((offset : ℕ) → ¬ (Explains other before c offset)) × IsFirst others before c cause)
 
-ordered : (one two : Cause) → (one ≡ two) ⊎ (IsAmong one (causes_before two) ⊎ IsAmong two (causes_before one))
-ordered brace_too_deep brace_too_deep = inl refl
-ordered brace_too_deep two = inr (inl (inl refl))
-ordered one brace_too_deep = inr (inr (inl refl))
-ordered breaks_string breaks_string = inl refl
-ordered breaks_string two = inr (inl (inr (inl refl)))
-ordered one breaks_string = inr (inr (inr (inl refl)))
-ordered breaks_join breaks_join = inl refl
-ordered breaks_join two = inr (inl (inr (inr (inl refl))))
-ordered one breaks_join = inr (inr (inr (inr (inl refl))))
-ordered closes_wrong closes_wrong = inl refl
-ordered closes_wrong two = inr (inl (inr (inr (inr (inl refl)))))
-ordered one closes_wrong = inr (inr (inr (inr (inr (inl refl)))))
-ordered opens_too_deep opens_too_deep = inl refl
-ordered opens_too_deep two = inr (inl (inr (inr (inr (inr (inl refl))))))
-ordered one opens_too_deep = inr (inr (inr (inr (inr (inr (inl refl))))))
-ordered ends_specification ends_specification = inl refl
-ordered ends_specification two = inr (inl (inr (inr (inr (inr (inr (inl refl)))))))
-ordered one ends_specification = inr (inr (inr (inr (inr (inr (inr (inl refl)))))))
-ordered begins_nothing begins_nothing = inl refl
+abbrev all_causes : List Cause
+all_causes = brace_too_deep ∷ breaks_string ∷ breaks_join ∷ closes_wrong ∷ opens_too_deep ∷ ends_specification ∷ begins_nothing ∷ []
 
-none_among : (cause : Cause) (causes : List Cause) (before : List ℕ) (c offset : ℕ) → IsAmong cause causes → NoneExplains causes before c → Explains cause before c offset → ⊥
-none_among cause [] before c offset among none fits = among
-none_among cause (other ∷ others) before c offset (inl is) none fits = none.0 offset (subst (λ x. Explains x before c offset) is fits)
-none_among cause (other ∷ others) before c offset (inr later) none fits = none_among cause others before c offset later none.1 fits
+is_first : (cause : Cause) (before : List ℕ) (c : ℕ) → NoneExplains (causes_before cause) before c → IsFirst all_causes before c cause
+is_first brace_too_deep before c none = inl refl
+is_first breaks_string before c (a, none) = inr (a, inl refl)
+is_first breaks_join before c (a, (b, none)) = inr (a, inr (b, inl refl))
+is_first closes_wrong before c (a, (b, (d, none))) = inr (a, inr (b, inr (d, inl refl)))
+is_first opens_too_deep before c (a, (b, (d, (e, none)))) = inr (a, inr (b, inr (d, inr (e, inl refl))))
+is_first ends_specification before c (a, (b, (d, (e, (f, none))))) = inr (a, inr (b, inr (d, inr (e, inr (f, inl refl)))))
+is_first begins_nothing before c (a, (b, (d, (e, (f, (g, none)))))) = inr (a, inr (b, inr (d, inr (e, inr (f, inr (g, inl refl))))))
+
+-- is one
+one_first : (causes : List Cause) (before : List ℕ) (c : ℕ) (one two : Cause) (offset place : ℕ) → IsFirst causes before c one → IsFirst causes before c two → Explains one before c offset → Explains two before c place → one ≡ two
+one_first [] before c one two offset place first second fits also = absurd first
+one_first (x ∷ xs) before c one two offset place (inl is) (inl same) fits also = is ∙ sym same
+one_first (x ∷ xs) before c one two offset place (inl is) (inr (none, later)) fits also = absurd (none offset (subst (λ y. Explains y before c offset) is fits))
+one_first (x ∷ xs) before c one two offset place (inr (none, later)) (inl is) fits also = absurd (none place (subst (λ y. Explains y before c place) is also))
+one_first (x ∷ xs) before c one two offset place (inr (none, later)) (inr (other, last)) fits also = one_first xs before c one two offset place later last fits also
 
 -- so the fault at a character is one
 pub one_character_fault : (characters : List ℕ) (kind other : FaultKind) (offset place : ℕ) → IsCharacterFault kind characters offset → IsCharacterFault other characters place → (kind ≡ other) × (offset ≡ place)
@@ -51,10 +45,5 @@ one_character_fault characters kind other offset place one two =
     let same = same_dying IsLive live_before one.before two.before one.c two.c one.dies.after two.dies.after (one.dies.spell ∙ sym two.dies.spell) one.dies.live two.dies.live one.dies.dead two.dies.dead in
     let fits = subst (λ x. Explains two.cause one.before x place) (sym same.1) (subst (λ b. Explains two.cause b two.c place) (sym same.0) two.fits) in
     let first = subst (λ x. NoneExplains (causes_before two.cause) one.before x) (sym same.1) (subst (λ b. NoneExplains (causes_before two.cause) b two.c) (sym same.0) two.first) in
-    go fits first (ordered one.cause two.cause)
-  where
-    go : Explains two.cause one.before one.c place → NoneExplains (causes_before two.cause) one.before one.c → (one.cause ≡ two.cause) ⊎ (IsAmong one.cause (causes_before two.cause) ⊎ IsAmong two.cause (causes_before one.cause)) → (kind ≡ other) × (offset ≡ place)
-    go fits first (inl is) =
-        (one.is ∙ ap kind_of_cause is ∙ sym two.is, one_offset two.cause one.before one.c offset place one.dies.live (subst (λ x. Explains x one.before one.c offset) is one.fits) fits)
-    go fits first (inr (inl among)) = absurd (none_among one.cause _ one.before one.c offset among first one.fits)
-    go fits first (inr (inr among)) = absurd (none_among two.cause _ one.before one.c place among one.first fits)
+    let is = one_first all_causes one.before one.c one.cause two.cause offset place (is_first one.cause one.before one.c one.first) (is_first two.cause one.before one.c first) one.fits fits in
+    (one.is ∙ ap kind_of_cause is ∙ sym two.is, one_offset two.cause one.before one.c offset place one.dies.live (subst (λ x. Explains x one.before one.c offset) is one.fits) fits)

@@ -30,28 +30,6 @@ use Rattle.py_lines.proofs.Feeds.Known as of
 use Rattle.py_lines.proofs.Feeds.Known.{IsKnown}
 use Rattle.py_lines.proofs.Feeds.DecidedSoFar.{joined_here, line_after, prefix_of, refused_bytes}
 
--- nothing was fed after the lines released: they are all of the text
-pub ended_empty : (text : List ℕ) (place line : ℕ) (lines : List LogicalLine) → AreFirstLines text place line lines → place ≡ length text → IsLexed text lines None
-ended_empty text place line lines first ends =
-    let bytes : byte_len first.characters ≡ byte_len (spelled first.pieces) + byte_len first.rest = ap byte_len (sym first.spell) ∙ byte_len-append (spelled first.pieces) first.rest in
-    let total = ap length (sym first.decodes.spell) ∙ length-append (encode_utf8_all first.characters) first.tail in
-    let no_tail : first.tail ≡ [] = nil_from_length first.tail (omega (arith, first.here, ends, bytes, total)) in
-    let no_rest : first.rest ≡ [] = nil_from_length first.rest (omega (arith, first.here, ends, bytes, total, length-le-encodes first.rest)) in
-    record {
-      characters = first.characters;
-      pieces = first.pieces;
-      decodes = subst (λ t. Decodes text first.characters t) no_tail first.decodes;
-      reading = record {
-        reads = record {
-          spell = sym (append-nil (spelled first.pieces)) ∙ ap (λ t. spelled first.pieces ++ t) (sym no_rest) ∙ first.spell;
-          fit = subst (AreReadBefore first.pieces) no_rest first.fit;
-        };
-        balanced = first.balanced;
-        shallow = first.shallow;
-      };
-      cut = first.cut;
-    }
-
 module _ (text : List ℕ) (state : LineState) (lines : List LogicalLine) (read rest : List ℕ) (k : IsKnown text state.place state.line lines read rest) (whole : length text ≡ state.place + length (encode_utf8_all read ++ rest)) (way : IsUnderWay (first_mode state.place) state.scan read) where
   all : of.bytes text state.place state.line lines read rest k ≡ text
   all = take_all (state.place + length (encode_utf8_all read ++ rest)) text (omega (arith, whole))

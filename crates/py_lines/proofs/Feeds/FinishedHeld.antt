@@ -14,7 +14,7 @@ use Rattle.py_lines.specs.Private.Feed.{KeepsText, IsScanned, ScansHeld, EndsLin
 use Rattle.py_lines.specs.Private.Feed.{EndsText, HasReadTokens, HoldsLine, HoldsMore, IsSoundFeed, ReadsTokens, StandsSo}
 use Rattle.py_lines.specs.Private.Feed.{line_held}
 use Rattle.py_lines.proofs.Feeds.Known.{first_at, goes_at}
-use Rattle.py_lines.proofs.Feeds.Ended.{ended_empty}
+use Rattle.py_lines.proofs.Lexings.GivenLines.{all_first}
 use Rattle.py_lines.proofs.Feeds.Loops.{keeps_on}
 use Rattle.py_lines.proofs.Feeds.ReadyLines.{ended_holds, held_text, read_ready, some_is, with_line}
 use Rattle.py_lines.proofs.Feeds.FedScanner.{dropped, none_ended, runs_short, sound_unchanged}
@@ -54,7 +54,7 @@ text_empty old mid none not_ready keeps fault scanned =
       holds = subst (λ r. HoldsSo mid r None) (sym not_ready) (refl, λ no_fault. (s.0, s.1, s.2));
       lexed = λ text lines scanning whole.
           let empty : length old.held.items ≡ 0 = ap length (sym (items_kept old mid keeps) ∙ none) in
-          let lexed : IsLexed text lines None = ended_empty text old.state.place old.state.line lines scanning.first
+          let lexed : IsLexed text lines None = all_first text old.state.place old.state.line lines scanning.first
           (omega (arith, whole, empty)) in
           (subst (λ l. IsLexed text l None) (sym (append-nil lines)) lexed, tt);
     }

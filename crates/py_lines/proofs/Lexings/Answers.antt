@@ -3,7 +3,7 @@ use Rattle.std.proofs.Common.{◌≡◌, ℕ, ◌+◌, true, List, [], ◌∷◌
 use Rattle.py_lines.specs.Piece.{Piece, spelled}
 use Rattle.py_lines.specs.LogicalLine.{lines_of, byte_len, line_ends}
 use Rattle.py_lines.specs.Reading.{Decodes, EndsLine, IsBalancedReading}
-use Rattle.py_lines.specs.Faults.{IsLive, IsCharacterFault, IsEndFault, at_character, at_bytes, at_end}
+use Rattle.py_lines.specs.Faults.{IsLive, IsCharacterFault, IsEndFault, IsFaultAt, at_character, at_bytes, at_end}
 use Rattle.py_lines.specs.Lexed.{IsLexedWhole, IsLexedToFault}
 use Rattle.py_lines.specs.declared.fault.FaultKind.TheVariants as faults
 use Rattle.py_lines.specs.declared.fault.Fault.{Fault}
@@ -41,56 +41,32 @@ pub record HasPrefix (s : Scanned) (prefix : List Piece) : Type 0 where
   pub ended : EndsLine prefix
   pub none : EndsNoLine 0 others
 
--- the text is refused at a character
-pub refused_at_character : (text characters tail before after : List ℕ) (c : ℕ) (s : Scanned) (st : List Bracket) (prefix : List Piece) (fault : Fault) → Decodes text characters tail → before ++ c ∷ after ≡ characters → RunsTo before s st → ¬ (IsLive (before ++ c ∷ [])) → HasPrefix s prefix → IsCharacterFault fault.kind characters fault.offset → IsLineOf fault characters → IsLexedToFault text (lines_of prefix) fault
-refused_at_character text characters tail before after c s st prefix fault decodes spell steps dead has is line = record {
+-- the text is refused where the machine has come, and may not go on
+refused : (text characters tail before later : List ℕ) (s : Scanned) (st : List Bracket) (prefix : List Piece) (fault : Fault) → Decodes text characters tail → before ++ later ≡ characters → RunsTo before s st → ((c : ℕ) (after : List ℕ) → later ≡ c ∷ after → ¬ (IsLive (before ++ c ∷ []))) → HasPrefix s prefix
+    → (tail ≡ [] → (pieces : List Piece) → ¬ (IsBalancedReading pieces characters)) → IsFaultAt fault.kind characters tail fault.offset → IsLineOf fault characters → IsLexedToFault text (lines_of prefix) fault
+refused text characters tail before later s st prefix fault decodes spell steps dead has unread place line = record {
   characters = characters;
   tail = tail;
   pieces = prefix;
   decodes = decodes;
-  prefix = prefix_is before (c ∷ after) characters s st prefix has.others steps spell (λ d ds same. subst (λ (x : ℕ). ¬ (IsLive (before ++ x ∷ []))) (head_same c d after ds same) dead) has.spell has.reading has.ended has.none;
-  refused = record {
-    unread = λ whole pieces reading. not_live characters fault.kind fault.offset is (reading_live pieces characters reading);
-    place = at_character is;
-    line = line_at fault characters line;
-  };
+  prefix = prefix_is before later characters s st prefix has.others steps spell dead has.spell has.reading has.ended has.none;
+  refused = record { unread = unread; place = place; line = line_at fault characters line };
   cut = refl;
 }
-  where
-    head_same : (x d : ℕ) (xs ds : List ℕ) → x ∷ xs ≡ d ∷ ds → x ≡ d
-    head_same x d xs ds same = cc
 
-nothing_later : (characters : List ℕ) (c : ℕ) (after : List ℕ) → [] ≡ c ∷ after → ¬ (IsLive (characters ++ c ∷ []))
-nothing_later characters c after same = absurd (cc)
+-- at a character
+pub refused_at_character : (text characters tail before after : List ℕ) (c : ℕ) (s : Scanned) (st : List Bracket) (prefix : List Piece) (fault : Fault) → Decodes text characters tail → before ++ c ∷ after ≡ characters → RunsTo before s st → ¬ (IsLive (before ++ c ∷ [])) → HasPrefix s prefix → IsCharacterFault fault.kind characters fault.offset → IsLineOf fault characters → IsLexedToFault text (lines_of prefix) fault
+refused_at_character text characters tail before after c s st prefix fault decodes spell steps dead has is line =
+    refused text characters tail before (c ∷ after) s st prefix fault decodes spell steps (λ d ds same. let first : c ≡ d = cc in subst (λ (x : ℕ). ¬ (IsLive (before ++ x ∷ []))) first dead) has
+    (λ whole pieces reading. not_live characters fault.kind fault.offset is (reading_live pieces characters reading)) (at_character is) line
 
--- the text is refused at its end
+-- at its end
 pub refused_at_end : (text characters : List ℕ) (s : Scanned) (st : List Bracket) (prefix : List Piece) (fault : Fault) → Decodes text characters [] → RunsTo characters s st → HasPrefix s prefix → IsEndFault fault.kind characters [] fault.offset → IsLineOf fault characters → IsLexedToFault text (lines_of prefix) fault
-refused_at_end text characters s st prefix fault decodes steps has is line = record {
-  characters = characters;
-  tail = [];
-  pieces = prefix;
-  decodes = decodes;
-  prefix = prefix_is characters [] characters s st prefix has.others steps (append-nil characters) (nothing_later characters) has.spell has.reading has.ended has.none;
-  refused = record {
-    unread = λ whole. end_unread characters [] fault.kind fault.offset is;
-    place = at_end is;
-    line = line_at fault characters line;
-  };
-  cut = refl;
-}
+refused_at_end text characters s st prefix fault decodes steps has is line =
+    refused text characters [] characters [] s st prefix fault decodes (append-nil characters) steps (λ c after same. absurd (cc)) has (λ whole. end_unread characters [] fault.kind fault.offset is) (at_end is) line
 
--- the text is refused at bytes that begin no character
+-- at bytes that begin no character
 pub refused_at_bytes : (text characters : List ℕ) (d : ℕ) (ds : List ℕ) (s : Scanned) (st : List Bracket) (prefix : List Piece) (fault : Fault) → Decodes text characters (d ∷ ds) → RunsTo characters s st → HasPrefix s prefix → fault.kind ≡ faults.BadUtf8 → fault.offset ≡ byte_len characters → IsLineOf fault characters → IsLexedToFault text (lines_of prefix) fault
-refused_at_bytes text characters d ds s st prefix fault decodes steps has kind place line = record {
-  characters = characters;
-  tail = d ∷ ds;
-  pieces = prefix;
-  decodes = decodes;
-  prefix = prefix_is characters [] characters s st prefix has.others steps (append-nil characters) (nothing_later characters) has.spell has.reading has.ended has.none;
-  refused = record {
-    unread = λ (whole : d ∷ ds ≡ []). absurd (cc);
-    place = at_bytes (record { is = kind; bad = λ (h : d ∷ ds ≡ []). cc; live = runs_live characters s st steps; place = place });
-    line = line_at fault characters line;
-  };
-  cut = refl;
-}
+refused_at_bytes text characters d ds s st prefix fault decodes steps has kind place line =
+    refused text characters (d ∷ ds) characters [] s st prefix fault decodes (append-nil characters) steps (λ c after same. absurd (cc)) has (λ whole. absurd (cc))
+    (at_bytes (record { is = kind; bad = λ (h : d ∷ ds ≡ []). cc; live = runs_live characters s st steps; place = place })) line

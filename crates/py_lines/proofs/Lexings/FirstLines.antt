@@ -13,7 +13,7 @@ use Rattle.py_lines.proofs.Text.Decoding.{decoded}
 use Rattle.py_lines.proofs.Lexings.LineEnds.{ended_reading}
 use Rattle.py_lines.proofs.Lexings.Existence.{some_lexing_of}
 use Rattle.py_lines.proofs.Lexings.SettledLines.{lines_begin}
-use Rattle.py_lines.proofs.Lexings.GivenLines.{none_both, all_given}
+use Rattle.py_lines.proofs.Lexings.GivenLines.{none_both, all_first}
 
 -- lines that end a line begin every lexing of their text
 module _ (text : List ℕ) (place line : ℕ) (lines : List LogicalLine) (f : AreFirstLines text place line lines) (ended : EndsLine f.pieces) where
@@ -48,4 +48,4 @@ given_begin reader lines given = go given.first.ended
         let all : spelled given.first.pieces ≡ given.first.characters = sym (append-nil (spelled given.first.pieces)) ∙ ap (λ t. spelled given.first.pieces ++ t) (sym nothing.0) ∙ given.first.spell in
         let text : encode_utf8_all given.first.characters ≡ reader.text = sym (append-nil (encode_utf8_all given.first.characters)) ∙ ap (λ t. encode_utf8_all given.first.characters ++ t) (sym nothing.1) ∙ given.first.decodes.spell in
         let place : reader.place ≡ length reader.text = given.first.here ∙ ap byte_len all ∙ ap length text in
-        record { more = []; end = None; lexed = subst (λ l. IsLexed reader.text l None) (sym (append-nil lines)) (all_given reader lines given place) }
+        record { more = []; end = None; lexed = subst (λ l. IsLexed reader.text l None) (sym (append-nil lines)) (all_first reader.text reader.place reader.line lines given.first place) }

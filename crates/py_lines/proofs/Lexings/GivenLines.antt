@@ -13,7 +13,7 @@ use Rattle.py_lines.specs.Lexed.{IsLexed}
 use Rattle.py_lines.specs.Settled.{EndsForGood}
 use Rattle.py_lines.specs.Balance as brackets
 use Rattle.py_lines.specs.LogicalLine.{LogicalLine, cut, byte_len, line_ends, line_of, lines_of}
-use Rattle.py_lines.specs.Reader.{Reader, HasGiven}
+use Rattle.py_lines.specs.Given.{AreFirstLines}
 use Rattle.py_lines.specs.Private.Machine.{brackets_of}
 use Rattle.py_lines.specs.Private.ScanMachine.{StringsFit}
 use Rattle.py_lines.proofs.Text.Utf8Prefixes.{one_decoding, prefix_chars}
@@ -40,24 +40,24 @@ pub ends_for_good : (pieces : List Piece) (left : List ℕ) → EndsLine pieces 
 ends_for_good pieces [] ended = inr refl
 ends_for_good pieces (c ∷ cs) ended = inl (ended, λ none. absurd (cc))
 
--- where the lines given reach to the text's end, they are all its lines
-pub all_given : (r : Reader) (lines : List LogicalLine) → HasGiven r lines → r.place ≡ length r.text → IsLexed r.text lines None
-all_given r lines given ends =
-    let bytes : byte_len given.first.characters ≡ byte_len (spelled given.first.pieces) + byte_len given.first.rest = ap byte_len (sym given.first.spell) ∙ byte_len-append (spelled given.first.pieces) given.first.rest in
-    let total = ap length (sym given.first.decodes.spell) ∙ length-append (encode_utf8_all given.first.characters) given.first.tail in
-    let no_tail : given.first.tail ≡ [] = nil_from_length given.first.tail (omega (arith, given.first.here, ends, bytes, total)) in
-    let no_rest : given.first.rest ≡ [] = nil_from_length given.first.rest (omega (arith, given.first.here, ends, bytes, total, length-le-encodes given.first.rest)) in
+-- where the first lines reach to the text's end, they are all its lines
+pub all_first : (text : List ℕ) (place line : ℕ) (lines : List LogicalLine) → AreFirstLines text place line lines → place ≡ length text → IsLexed text lines None
+all_first text place line lines first ends =
+    let bytes : byte_len first.characters ≡ byte_len (spelled first.pieces) + byte_len first.rest = ap byte_len (sym first.spell) ∙ byte_len-append (spelled first.pieces) first.rest in
+    let total = ap length (sym first.decodes.spell) ∙ length-append (encode_utf8_all first.characters) first.tail in
+    let no_tail : first.tail ≡ [] = nil_from_length first.tail (omega (arith, first.here, ends, bytes, total)) in
+    let no_rest : first.rest ≡ [] = nil_from_length first.rest (omega (arith, first.here, ends, bytes, total, length-le-encodes first.rest)) in
     record {
-      characters = given.first.characters;
-      pieces = given.first.pieces;
-      decodes = subst (λ t. Decodes r.text given.first.characters t) no_tail given.first.decodes;
+      characters = first.characters;
+      pieces = first.pieces;
+      decodes = subst (λ t. Decodes text first.characters t) no_tail first.decodes;
       reading = record {
         reads = record {
-          spell = sym (append-nil (spelled given.first.pieces)) ∙ ap (λ t. spelled given.first.pieces ++ t) (sym no_rest) ∙ given.first.spell;
-          fit = subst (AreReadBefore given.first.pieces) no_rest given.first.fit;
+          spell = sym (append-nil (spelled first.pieces)) ∙ ap (λ t. spelled first.pieces ++ t) (sym no_rest) ∙ first.spell;
+          fit = subst (AreReadBefore first.pieces) no_rest first.fit;
         };
-        balanced = given.first.balanced;
-        shallow = given.first.shallow;
+        balanced = first.balanced;
+        shallow = first.shallow;
       };
-      cut = given.first.cut;
+      cut = first.cut;
     }

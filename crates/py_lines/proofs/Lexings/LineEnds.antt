@@ -82,10 +82,7 @@ prefix_stack prefix others st steps ended = level_stack prefix others st steps (
 
 -- a line end opens nothing
 pub line_string : (body : List Piece) (last : Piece) → last.class ≡ line_end → StringsFit 0 body → StringsFit 0 (body ++ last ∷ [])
-line_string body last class strings = EachAtDepth-append StringFits 0 body (last ∷ []) strings ((λ is. absurd (other (sym class ∙ is))), tt)
-  where
-    other : line_end ≡ string → ⊥
-    other is = cc
+line_string body last class strings = EachAtDepth-append StringFits 0 body (last ∷ []) strings ((λ is. absurd (cc)), tt)
 
 -- the length of pieces, part by part
 pub length_line : (body : List Piece) (p : Piece) (ps : List Piece) → length (spelled (body ++ p ∷ ps)) ≡ length (spelled body) + (length p.text + length (spelled ps))

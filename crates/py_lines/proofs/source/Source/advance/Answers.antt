@@ -6,7 +6,7 @@ use Rattle.py_lines.specs.Private.LineState.{BeginsAnew, first_mode}
 use Rattle.py_lines.specs.Private.Scan.{Scans}
 use Rattle.py_lines.specs.Private.Source.{HasScanned}
 use Rattle.py_lines.specs.Reader.View.{reader_of}
-use Rattle.py_lines.proofs.Lexings.GivenLines.{all_given}
+use Rattle.py_lines.proofs.Lexings.GivenLines.{all_first}
 use Rattle.py_lines.proofs.source.Source.advance.Goals as goal
 
 -- the next line was begun, and its scan has stopped
@@ -31,7 +31,7 @@ is_before_end s other = omega (arith, other, s.within, ap length s.prefix, lengt
 
 pub returns-then-self : goal.returns-then-self
 returns-then-self c = record {
-  all = λ lines given. all_given (reader_of c.args.self.now) lines given c.if-self.true;
+  all = λ lines given. all_first _ _ _ lines given.first c.if-self.true;
   place = c.if-self.true;
   fault = c.in_default.is;
   same = refl;
