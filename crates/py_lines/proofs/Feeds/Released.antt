@@ -1,7 +1,6 @@
 -- A settled line is released, or the text's last: the lines before it and this one are the first of the whole text.
-use Rattle.std.proofs.Common.{◌≡◌, ℕ, ◌+◌, List, [], ◌∷◌, ◌++◌, length, take, drop, refl, sym, ap, ◌∙◌, subst, inl, inr, append-nil, arith, ◌<◌, Option, None, Some, length-append}
+use Rattle.std.proofs.Common.{◌≡◌, ℕ, ◌+◌, List, [], ◌∷◌, ◌++◌, length, take, drop, refl, sym, ap, ◌∙◌, subst, inr, append-nil, arith, ◌<◌, Option, None, Some, length-append}
 use Rattle.std.specs.Prelude.{encode_utf8_all, IsSome}
-use Rattle.std.specs.Str.{all_scalars}
 use Rattle.std.proofs.lemmas.List.{take-append-drop, append_cancel_left, drop-drop}
 use Rattle.std.proofs.lemmas.Str.{encodes-append, encodes_same}
 use Rattle.py_lines.specs.Piece.{spelled}
@@ -10,13 +9,11 @@ use Rattle.py_lines.specs.Lexed.{IsLexedWhole, IsLexed}
 use Rattle.py_lines.specs.Settled.{IsSettled}
 use Rattle.py_lines.specs.Given.{AreFirstLines}
 use Rattle.py_lines.specs.LogicalLine.{LogicalLine, byte_len, line_ends}
-use Rattle.py_lines.proofs.Text.Continued.{goes_on}
-use Rattle.py_lines.proofs.Text.Decoding.{decoding}
-use Rattle.py_lines.proofs.Text.Utf8Prefixes.{all_scalars-parts, one_decoding}
+use Rattle.py_lines.proofs.Text.Utf8Prefixes.{one_decoding}
 use Rattle.py_lines.proofs.LogicalLines.Cuts.{byte_len-append}
 use Rattle.py_lines.proofs.LogicalLines.NextLine.{texts, texts-append, texts-lines}
 use Rattle.py_lines.proofs.Lexings.GivenLines.{base_lines}
-use Rattle.py_lines.proofs.Lexings.SettledLines.{spelled_first, settled_fits, still_ends}
+use Rattle.py_lines.proofs.Lexings.SettledLines.{settled_first}
 use Rattle.py_lines.proofs.Feeds.Known as of
 use Rattle.py_lines.proofs.Feeds.Known.{IsKnown, first_at, goes_after, goes_at, is_known}
 use Rattle.std.proofs.lemmas.Bool.{both_ways}
@@ -28,29 +25,6 @@ use Rattle.py_lines.specs.Private.Feed.{HasRoom, HoldsLine, IsReady, StandsSo, I
 use Rattle.py_lines.proofs.LineScan.LineCount.{line_ends-bytes}
 use Rattle.py_lines.proofs.Feeds.ReadyLines.{ready_seen, with_line}
 
--- settled lines are the first of every text that goes on
-pub settled_first : (text more : List ℕ) (lines : List LogicalLine) (s : IsSettled text lines) → AreFirstLines (text ++ more) (byte_len (spelled s.pieces)) (1 + line_ends (spelled s.pieces)) lines
-settled_first text more lines s =
-    let prefix = s.prefix in
-    let whole = decoding (text ++ more) in
-    let parts = all_scalars-parts (spelled s.pieces) prefix.rest (ap all_scalars prefix.spell ∙ s.decodes.are) in
-    let on = goes_on (spelled s.pieces) ((encode_utf8_all prefix.rest ++ s.tail) ++ more) whole.characters whole.tail parts.0 whole.decodes.are whole.decodes.bad (spelled_first text more s.pieces prefix.rest s.characters s.tail prefix.spell s.decodes.spell ∙ sym whole.decodes.spell) in
-    record {
-      characters = whole.characters;
-      tail = whole.tail;
-      pieces = s.pieces;
-      rest = on.rest;
-      decodes = whole.decodes;
-      spell = sym on.split;
-      fit = settled_fits s.characters s.tail more s.pieces prefix parts.1 s.decodes.bad on.rest whole.tail (all_scalars-parts (spelled s.pieces) on.rest (ap all_scalars (sym on.split) ∙ whole.decodes.are)).1 whole.decodes.bad on.left;
-      balanced = prefix.reading.balanced;
-      shallow = prefix.reading.shallow;
-      ended = inl (still_ends s.pieces prefix.rest s.tail more on.rest whole.tail on.left prefix.ended);
-      here = refl;
-      number = refl;
-      cut = s.cut;
-    }
-
 -- the settled lines are those given and one more: it reaches as far as its text
 module _ (text : List ℕ) (place line : ℕ) (lines : List LogicalLine) (read rest : List ℕ) (k : IsKnown text place line lines read rest) (l : LogicalLine) (same : l.text ≡ encode_utf8_all read) (s : IsSettled (of.bytes text place line lines read rest k) (lines ++ l ∷ [])) where
   spells : spelled s.pieces ≡ spelled k.base ++ read
@@ -60,7 +34,7 @@ module _ (text : List ℕ) (place line : ℕ) (lines : List LogicalLine) (read r
   pub released : AreFirstLines text (place + byte_len read) (line + line_ends read) (lines ++ l ∷ [])
   released =
       let n = place + length (encode_utf8_all read ++ rest) in
-      let first = settled_first (take n text) (drop n text) (lines ++ l ∷ []) s in
+      let first = (settled_first (take n text) (drop n text) (lines ++ l ∷ []) s).0 in
       let here : byte_len (spelled s.pieces) ≡ place + byte_len read = ap byte_len spells ∙ byte_len-append (spelled k.base) read ∙ ap (λ (m : ℕ). m + byte_len read) (sym k.here) in
       let lines_sum = base_lines k.base read k.more k.fit in
       let lines_here : 1 + line_ends (spelled s.pieces) ≡ line + line_ends read = omega (arith, ap line_ends spells, lines_sum, k.number) in

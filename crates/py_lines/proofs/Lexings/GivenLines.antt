@@ -1,27 +1,17 @@
 -- The next logical line, and how it follows the lines given so far.
-use Rattle.std.proofs.Common.{◌≡◌, ℕ, ◌+◌, ◌<◌, None, Some, List, [], ◌∷◌, ◌++◌, length, take, drop, refl, sym, ap, ◌∙◌, subst, ⊎_elim, inl, inr, append_assoc, append-nil, add_assoc, add-zero, arith, length-append, ◌⊎◌}
-use Rattle.std.specs.Prelude.{encode_utf8_all, IsUtf8}
-use Rattle.std.specs.Str.{StartsWithNoChar}
-use Rattle.std.proofs.lemmas.List.{take-append-drop, nil_from_length}
-use Rattle.std.proofs.lemmas.Str.{encodes-append, length-le-encodes}
-use Rattle.std.proofs.Math.Seq.{drop-append_seam}
-use Rattle.py_lines.specs.Piece.{line_end, Piece, spelled}
-use Rattle.py_lines.specs.Balance.{IsBalanced, depth_through}
-use Rattle.py_lines.specs.Fields.{fielded, AreReadBefore, IsShallow}
+use Rattle.std.proofs.Common.{◌≡◌, ℕ, ◌+◌, None, List, [], ◌∷◌, ◌++◌, length, refl, sym, ap, ◌∙◌, subst, inl, inr, append-nil, add-zero, arith, length-append, ◌⊎◌}
+use Rattle.std.specs.Prelude.{encode_utf8_all}
+use Rattle.std.proofs.lemmas.List.{nil_from_length}
+use Rattle.std.proofs.lemmas.Str.{length-le-encodes}
+use Rattle.py_lines.specs.Piece.{Piece, spelled}
+use Rattle.py_lines.specs.Fields.{fielded, AreReadBefore}
 use Rattle.py_lines.specs.Reading.{Decodes, EndsLine}
 use Rattle.py_lines.specs.Lexed.{IsLexed}
 use Rattle.py_lines.specs.Settled.{EndsForGood}
-use Rattle.py_lines.specs.Balance as brackets
-use Rattle.py_lines.specs.LogicalLine.{LogicalLine, cut, byte_len, line_ends, line_of, lines_of}
+use Rattle.py_lines.specs.LogicalLine.{LogicalLine, byte_len, line_ends}
 use Rattle.py_lines.specs.Given.{AreFirstLines}
-use Rattle.py_lines.specs.Private.Machine.{brackets_of}
-use Rattle.py_lines.specs.Private.ScanMachine.{StringsFit}
-use Rattle.py_lines.proofs.Text.Utf8Prefixes.{one_decoding, prefix_chars}
-use Rattle.py_lines.proofs.Pieces.PieceLists.{spelled-append, AreReadBefore-append, MayFollow}
 use Rattle.py_lines.proofs.LogicalLines.Cuts.{byte_len-append, line_ends-pieces}
-use Rattle.py_lines.proofs.LogicalLines.NextLine.{line_ends-spelled, lines_of-push}
-use Rattle.py_lines.proofs.Pieces.OpenBrackets.{balanced_depth, depth_through-append}
-use Rattle.py_lines.proofs.Pieces.ShallowPieces.{IsShallow-append, fits_reading}
+use Rattle.py_lines.proofs.LogicalLines.NextLine.{line_ends-spelled}
 use Rattle.py_lines.proofs.Fields.OneReading.{read_before}
 
 pub none_both : (a b : List ℕ) → a ++ b ≡ [] → (a ≡ []) × (b ≡ [])

@@ -1,7 +1,7 @@
 -- Pieces that end a line: what they are read before, how deep they are, and how long.
 use Rattle.std.proofs.Common.{◌≡◌, ℕ, ◌+◌, Some, List, [], ◌∷◌, ◌++◌, length, refl, sym, ap, ◌∙◌, subst, inl, inr, length-append, arith}
 use Rattle.std.proofs.lemmas.Bool.{both_ways, and_right, and_from, eq-eqb}
-use Rattle.py_lines.specs.Piece.{Class, string, operator, line_end, Piece, spelled}
+use Rattle.py_lines.specs.Piece.{Class, operator, line_end, Piece, spelled}
 use Rattle.py_lines.specs.Balance.{IsBalanced, depth_after, depth_through}
 use Rattle.py_lines.specs.Fields.{fielded, InClass, AreReadBefore, IsShallow}
 use Rattle.py_lines.specs.Reading.{EndsLine, IsBalancedReading}

@@ -1,5 +1,5 @@
 -- The lines that the known bytes of a text settle begin every text that begins with them.
-use Rattle.std.proofs.Common.{◌≡◌, ℕ, ◌+◌, ◌≤◌, Bool, true, false, Option, None, Some, List, [], ◌∷◌, ◌++◌, ◌&&◌, ⊎_elim, inl, inr, length, refl, sym, ap, ◌∙◌, subst, append_assoc, append-nil, length-append, arith}
+use Rattle.std.proofs.Common.{◌≡◌, ℕ, ◌+◌, ◌≤◌, Bool, true, false, List, [], ◌∷◌, ◌++◌, ◌&&◌, inl, inr, length, refl, sym, ap, ◌∙◌, subst, append_assoc, append-nil, length-append, arith}
 use Rattle.std.specs.Prelude.{encode_utf8_all}
 use Rattle.std.specs.Str.{StartsWithNoChar, all_scalars}
 use Rattle.std.proofs.lemmas.Bool.{both_ways, false_from_ne_true}
@@ -7,17 +7,16 @@ use Rattle.std.proofs.lemmas.List.{append_cancel_left, nil_from_length}
 use Rattle.std.proofs.lemmas.Str.{encodes-append, length-le-encodes}
 use Rattle.py_lines.specs.Character.{is_return, is_line_feed}
 use Rattle.std.proofs.lemmas.Str.{encode_ascii}
-use Rattle.py_lines.specs.Piece.{begins, line_end, string, Piece, ends, spelled}
+use Rattle.py_lines.specs.Piece.{begins, line_end, Piece, ends, spelled}
 use Rattle.py_lines.specs.PieceGrammar.{IsLineEnd}
-use Rattle.py_lines.specs.Balance.{is_opener, is_closer, depth_through}
+use Rattle.py_lines.specs.Balance.{depth_through}
 use Rattle.py_lines.specs.Fields.{InClass, fielded, AreReadBefore, Fields}
-use Rattle.py_lines.specs.Reading.{Decodes, EndsLine, IsBalancedReading}
-use Rattle.py_lines.specs.Lexed.{IsLexed, BeginsLexing}
+use Rattle.py_lines.specs.Reading.{EndsLine, IsBalancedReading}
 use Rattle.py_lines.specs.Settled.{EndsForGood, IsSettledPrefix, IsSettled}
-use Rattle.py_lines.specs.LogicalLine.{LogicalLine, byte_len, lines_of}
-use Rattle.py_lines.specs.declared.fault.Fault.{Fault}
-use Rattle.py_lines.specs.Private.Machine.{brackets_of}
+use Rattle.py_lines.specs.Given.{AreFirstLines}
+use Rattle.py_lines.specs.LogicalLine.{LogicalLine, byte_len, line_ends, lines_of}
 use Rattle.py_lines.proofs.Text.Continued.{IsContinued, goes_on}
+use Rattle.py_lines.proofs.Text.Decoding.{decoding}
 use Rattle.py_lines.proofs.Text.Utf8Prefixes.{all_scalars-parts}
 use Rattle.py_lines.proofs.Pieces.PieceLists.{piece, spelled-append, spelled-push}
 use Rattle.py_lines.proofs.Pieces.OpenBrackets.{stack-from_balanced, balanced-from_stack}
@@ -33,8 +32,7 @@ use Rattle.py_lines.proofs.Lexings.SettledFits.{ends-last, feed_unreturned, retu
 use Rattle.py_lines.proofs.Lexings.GivenLines.{none_both}
 use Rattle.py_lines.proofs.Lexings.LineEnds.{level_stack}
 use Rattle.py_lines.proofs.Text.Splits.{Either, either}
-use Rattle.py_lines.proofs.Text.CharacterTests.{feed_is, feed-not-return}
-use Rattle.py_lines.proofs.Lexings.Existence.{some_lexing_of}
+use Rattle.py_lines.proofs.Text.CharacterTests.{feed_is}
 
 -- the last characters of pieces are those of the last one
 pub ends-line : (p : ℕ → Bool) (body : List Piece) (last : Piece) → last.class ≡ line_end → InClass last.class last.text → ends p (spelled (body ++ last ∷ [])) ≡ ends p last.text
@@ -96,7 +94,7 @@ module _ (characters tail more : List ℕ) (pieces : List Piece) (settled : IsSe
               let ten : c ≡ 10 = cc in
               not_known cs (left ∙ ap (λ (n : ℕ). n ∷ cs) ten)
 
-  pub settled_fits : AreReadBefore pieces after
+  settled_fits : AreReadBefore pieces after
   settled_fits = by_end settled.ended.0
     where
       by_end : EndsLine pieces → AreReadBefore pieces after
@@ -110,13 +108,13 @@ module _ (characters tail more : List ℕ) (pieces : List Piece) (settled : IsSe
           apart true returned (c ∷ cs) begin = false_from_ne_true _ (λ feeds. never_fed body last is class deep returned cs (begin ∙ ap (λ (n : ℕ). n ∷ cs) (feed_is c feeds)))
 
 -- the bytes of the settled pieces, and those after them
-pub spelled_first : (text more : List ℕ) (pieces : List Piece) (rest characters tail : List ℕ) → spelled pieces ++ rest ≡ characters → encode_utf8_all characters ++ tail ≡ text → encode_utf8_all (spelled pieces) ++ ((encode_utf8_all rest ++ tail) ++ more) ≡ text ++ more
+spelled_first : (text more : List ℕ) (pieces : List Piece) (rest characters tail : List ℕ) → spelled pieces ++ rest ≡ characters → encode_utf8_all characters ++ tail ≡ text → encode_utf8_all (spelled pieces) ++ ((encode_utf8_all rest ++ tail) ++ more) ≡ text ++ more
 spelled_first text more pieces rest characters tail spell bytes =
     sym (append_assoc (encode_utf8_all (spelled pieces)) (encode_utf8_all rest ++ tail) more)
     ∙ ap (λ x. x ++ more) (sym (append_assoc (encode_utf8_all (spelled pieces)) (encode_utf8_all rest) tail) ∙ ap (λ x. x ++ tail) (sym (encodes-append (spelled pieces) rest) ∙ ap encode_utf8_all spell) ∙ bytes)
 
 -- pieces that end a line for good do so where the text goes on
-pub still_ends : (pieces : List Piece) (rest tail more after t : List ℕ) → encode_utf8_all after ++ t ≡ (encode_utf8_all rest ++ tail) ++ more → EndsForGood pieces (rest ++ tail) → EndsForGood pieces (after ++ t)
+still_ends : (pieces : List Piece) (rest tail more after t : List ℕ) → encode_utf8_all after ++ t ≡ (encode_utf8_all rest ++ tail) ++ more → EndsForGood pieces (rest ++ tail) → EndsForGood pieces (after ++ t)
 still_ends pieces rest tail more after t same ended = (
   ended.0,
   λ none.
@@ -146,25 +144,6 @@ begins_with pieces others after rest fit reading read spell few = go (either (sp
         by mid (sym at) (compare_pieces Fields Fields fields_begin fields_begin fields_agree pieces others mid [] (before_mid mid is) read.reads.fit (sym at ∙ sym (append-nil (spelled others))))
     go (Either.longer c k later at left) = absurd (omega (arith, few, ap length at, length-append (spelled others) (c ∷ k)))
 
--- the text goes on from the settled pieces
-record OnFrom (pieces : List Piece) (all t : List ℕ) (rest tail more : List ℕ) : Type 0 where
-  after : List ℕ
-  spell : spelled pieces ++ after ≡ all
-  left : encode_utf8_all after ++ t ≡ (encode_utf8_all rest ++ tail) ++ more
-  fit : AreReadBefore pieces after
-
-on_from : (text more characters tail all t : List ℕ) (pieces : List Piece) (prefix : IsSettledPrefix pieces characters tail) → Decodes text characters tail → Decodes (text ++ more) all t → OnFrom pieces all t prefix.rest tail more
-on_from text more characters tail all t pieces prefix decodes whole =
-    let parts = all_scalars-parts (spelled pieces) prefix.rest (ap all_scalars prefix.spell ∙ decodes.are) in
-    let on = goes_on (spelled pieces) ((encode_utf8_all prefix.rest ++ tail) ++ more) all t parts.0 whole.are whole.bad (spelled_first text more pieces prefix.rest characters tail prefix.spell decodes.spell ∙ sym whole.spell) in
-    let later = all_scalars-parts (spelled pieces) on.rest (ap all_scalars (sym on.split) ∙ whole.are) in
-    record {
-      after = on.rest;
-      spell = sym on.split;
-      left = on.left;
-      fit = settled_fits characters tail more pieces prefix parts.1 decodes.bad on.rest t later.1 whole.bad on.left;
-    }
-
 -- so its lines are the first ones
 pub lines_begin : (pieces others : List Piece) (after rest : List ℕ) (lines all : List LogicalLine) → EndsLine pieces → lines ≡ lines_of pieces → all ≡ lines_of others → AreReadBefore pieces after → IsBalancedReading pieces (spelled pieces) → IsBalancedReading others (spelled others) → spelled pieces ++ after ≡ spelled others ++ rest → length (spelled pieces) ≤ length (spelled others) → (later : List LogicalLine) × (all ≡ lines ++ later)
 lines_begin pieces others after rest lines all ended cut whole fit reading read spell few =
@@ -172,29 +151,28 @@ lines_begin pieces others after rest lines all ended cut whole fit reading read 
     let first = lines_of-more pieces begun.0 ended in
     (first.0, whole ∙ ap lines_of begun.1 ∙ first.1 ∙ ap (λ l. l ++ first.0) (sym cut))
 
--- settled lines begin those that more bytes settle
-pub settled_before_settled : (text more : List ℕ) (lines others : List LogicalLine) → IsSettled text lines → IsSettled (text ++ more) others → (later : List LogicalLine) × (others ≡ lines ++ later)
-settled_before_settled text more lines others first second =
-    let on = on_from text more first.characters first.tail second.characters second.tail first.pieces first.prefix first.decodes second.decodes in
-    let bound = second.prefix.longest first.pieces on.after on.spell first.prefix.reading (still_ends first.pieces first.prefix.rest first.tail more on.after second.tail on.left first.prefix.ended) in
-    lines_begin first.pieces second.pieces on.after second.prefix.rest lines others first.prefix.ended.0 first.cut second.cut on.fit first.prefix.reading second.prefix.reading (on.spell ∙ sym second.prefix.spell) bound
-
--- and those of every text that goes on from them, whether it is read whole or has a fault
-pub settled_before_lexed : (text more : List ℕ) (lines others : List LogicalLine) (end : Option Fault) → IsSettled text lines → IsLexed (text ++ more) others end → (later : List LogicalLine) × (others ≡ lines ++ later)
-settled_before_lexed text more lines others None first second =
-    let on = on_from text more first.characters first.tail second.characters [] first.pieces first.prefix first.decodes second.decodes in
-    let whole : spelled second.pieces ≡ second.characters = second.reading.reads.spell in
-    let same_length = ap length (on.spell ∙ sym whole) in
-    let bound : length (spelled first.pieces) ≤ length (spelled second.pieces) = omega (arith, same_length, length-append (spelled first.pieces) on.after) in
-    lines_begin first.pieces second.pieces on.after [] lines others first.prefix.ended.0 first.cut second.cut on.fit first.prefix.reading (subst (IsBalancedReading second.pieces) (sym whole) second.reading) (on.spell ∙ sym whole ∙ sym (append-nil (spelled second.pieces))) bound
-settled_before_lexed text more lines others (Some fault) first second =
-    let on = on_from text more first.characters first.tail second.characters second.tail first.pieces first.prefix first.decodes second.decodes in
-    let bound = second.prefix.longest first.pieces on.after on.spell first.prefix.reading first.prefix.ended.0 in
-    lines_begin first.pieces second.pieces on.after second.prefix.rest lines others first.prefix.ended.0 first.cut second.cut on.fit first.prefix.reading second.prefix.reading (on.spell ∙ sym second.prefix.spell) bound
-
--- so they begin its lexing
-pub settled_begin : (text more : List ℕ) (lines : List LogicalLine) → IsSettled text lines → BeginsLexing (text ++ more) lines
-settled_begin text more lines settled =
-    let all = some_lexing_of (text ++ more) in
-    let first = settled_before_lexed text more lines all.0 all.1 settled all.2 in
-    record { more = first.0; end = all.1; lexed = subst (λ l. IsLexed (text ++ more) l all.1) first.1 all.2 }
+-- settled lines are the first of every text that goes on
+pub settled_first : (text more : List ℕ) (lines : List LogicalLine) (s : IsSettled text lines) → (f : AreFirstLines (text ++ more) (byte_len (spelled s.pieces)) (1 + line_ends (spelled s.pieces)) lines) × EndsForGood f.pieces (f.rest ++ f.tail)
+settled_first text more lines s =
+    let prefix = s.prefix in
+    let whole = decoding (text ++ more) in
+    let parts = all_scalars-parts (spelled s.pieces) prefix.rest (ap all_scalars prefix.spell ∙ s.decodes.are) in
+    let on = goes_on (spelled s.pieces) ((encode_utf8_all prefix.rest ++ s.tail) ++ more) whole.characters whole.tail parts.0 whole.decodes.are whole.decodes.bad (spelled_first text more s.pieces prefix.rest s.characters s.tail prefix.spell s.decodes.spell ∙ sym whole.decodes.spell) in
+    let good = still_ends s.pieces prefix.rest s.tail more on.rest whole.tail on.left prefix.ended in (
+      record {
+        characters = whole.characters;
+        tail = whole.tail;
+        pieces = s.pieces;
+        rest = on.rest;
+        decodes = whole.decodes;
+        spell = sym on.split;
+        fit = settled_fits s.characters s.tail more s.pieces prefix parts.1 s.decodes.bad on.rest whole.tail (all_scalars-parts (spelled s.pieces) on.rest (ap all_scalars (sym on.split) ∙ whole.decodes.are)).1 whole.decodes.bad on.left;
+        balanced = prefix.reading.balanced;
+        shallow = prefix.reading.shallow;
+        ended = inl good;
+        here = refl;
+        number = refl;
+        cut = s.cut;
+      },
+      good,
+    )

@@ -3,7 +3,7 @@ use Rattle.std.proofs.Common.{◌≡◌, ℕ, ◌+◌, ◌-◌, ◌<◌, ◌≤�
 use Rattle.std.specs.Prelude.{encode_utf8_all, if◌then◌else◌, encode_utf8}
 use Rattle.std.specs.Str.{StartsWithNoChar, all_scalars}
 use Rattle.std.proofs.lemmas.Bool.{both_ways, and_from, eq-eqb, and_parts}
-use Rattle.std.proofs.lemmas.List.{drop_all, nil_from_length, take_all}
+use Rattle.std.proofs.lemmas.List.{drop_all, nil_from_length}
 use Rattle.std.proofs.lemmas.Str.{length-le-encodes, encodes_same}
 use Rattle.py_lines.specs.Piece.{Piece, line_end, spelled}
 use Rattle.py_lines.specs.Balance.{depth_after, depth_through}
@@ -44,11 +44,9 @@ use Rattle.std.specs.Borrow.{Bor}
 use Rattle.std.specs.Char.{IsScalar}
 use Rattle.std.proofs.Math.Seq.{take-append_seam}
 use Rattle.py_lines.specs.Lexed.{IsLexed}
-use Rattle.py_lines.specs.ScannerState.{GoesOnWith}
 use Rattle.py_lines.specs.declared.fault.FaultKind.{FaultKind}
 use Rattle.py_lines.specs.declared.line_state.LineState.{LineState}
 use Rattle.py_lines.specs.declared.scan.Stop.{Stop}
-use Rattle.py_lines.proofs.Feeds.Known.{IsKnown, is_known}
 
 -- the reader failed
 pub fails : (old new : Source) (kind : FaultKind) (offset : ℕ) (error : LexError) (at : FailsAfter old kind offset error new) → old.state.fault ≡ None → old.state.place < length old.bytes.now → ((lines : List LogicalLine) → HasGiven (reader_of old) lines → IsLexed old.bytes.now lines (Some at.keeps.fault)) → Fails (reader_of old) at.keeps.fault (reader_of new)
