@@ -2,11 +2,9 @@
 pub mod EndFaults
 pub mod EndPlaces
 pub mod Ends
-pub mod CharacterPlaces
 pub mod CharacterFaults
 pub mod Refusals
 pub mod CauseAt
-pub mod UnfinishedAt
 pub mod FaultPrefixes
 pub mod Verdict
 pub mod WorkedRows

@@ -39,7 +39,7 @@ use Rattle.py_lines.proofs.ScanMachine.LiveTexts.{runs_live}
 use Rattle.py_lines.proofs.Faults.Verdict.{not_live}
 use Rattle.py_lines.proofs.Lexings.Answers.{IsLineOf, HasPrefix, refused_at_character, refused_at_bytes}
 use Rattle.py_lines.proofs.Lexings.DecidedFaults.{decided_lexing}
-use Rattle.py_lines.proofs.Lexings.GivenLines.{base_lines}
+use Rattle.py_lines.proofs.Lexings.FirstLines.{base_lines}
 use Rattle.py_lines.proofs.LogicalLines.Cuts.{byte_len-append}
 use Rattle.py_lines.proofs.LineScan.LineSteps.{way_stop}
 use Rattle.py_lines.proofs.LineScan.NextCharacter.{closed_one_line}

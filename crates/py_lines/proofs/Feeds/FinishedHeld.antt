@@ -14,7 +14,7 @@ use Rattle.py_lines.specs.Private.Feed.{KeepsText, IsScanned, ScansHeld, EndsLin
 use Rattle.py_lines.specs.Private.Feed.{EndsText, HasReadTokens, HoldsLine, HoldsMore, IsSoundFeed, ReadsTokens, StandsSo}
 use Rattle.py_lines.specs.Private.Feed.{line_held}
 use Rattle.py_lines.proofs.Feeds.Known.{first_at, goes_at}
-use Rattle.py_lines.proofs.Lexings.GivenLines.{all_first}
+use Rattle.py_lines.proofs.Lexings.FirstLines.{all_first}
 use Rattle.py_lines.proofs.Feeds.Loops.{keeps_on}
 use Rattle.py_lines.proofs.Feeds.ReadyLines.{ended_holds, held_text, read_ready, some_is, with_line}
 use Rattle.py_lines.proofs.Feeds.FedScanner.{dropped, none_ended, runs_short, sound_unchanged}

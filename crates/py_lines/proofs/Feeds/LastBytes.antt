@@ -8,7 +8,7 @@ use Rattle.py_lines.specs.Piece.{ends}
 use Rattle.py_lines.specs.ScannerState.{EndsExactly}
 use Rattle.py_lines.proofs.Text.CharacterTests.{return_is}
 use Rattle.py_lines.proofs.Text.Utf8Shapes.{one, two, three, four}
-use Rattle.py_lines.proofs.Lexings.SettledFits.{ends-append}
+use Rattle.py_lines.proofs.Lexings.LineEnds.{ends-append}
 
 -- a byte or character of this size is no CR
 no_return : (c : ℕ) → 128 ≤ c → is_return c ≡ false

@@ -22,7 +22,7 @@ use Rattle.py_lines.specs.Private.Scan.{EndsWhole}
 use Rattle.py_lines.specs.Private.Outline.{AreWholeLines, BeginWithLines}
 use Rattle.py_lines.proofs.SimpleLines.Tails.{return_returns}
 use Rattle.py_lines.proofs.SimpleLines.Lines.{lines_few}
-use Rattle.py_lines.proofs.Lexings.SettledFits.{ends-append}
+use Rattle.py_lines.proofs.Lexings.LineEnds.{ends-append}
 use Rattle.py_lines.proofs.LineScan.LineCount.{ends-last}
 use Rattle.py_lines.proofs.Text.CharacterTests.{return_is}
 use Rattle.py_lines.proofs.Readers.PassedLines.{AreSettledAt, line_settled, lines_at, lines_spell, shown, take_slice}

@@ -12,7 +12,7 @@ use Rattle.py_lines.specs.LogicalLine.{LogicalLine, byte_len, line_ends}
 use Rattle.py_lines.proofs.Text.Utf8Prefixes.{one_decoding}
 use Rattle.py_lines.proofs.LogicalLines.Cuts.{byte_len-append}
 use Rattle.py_lines.proofs.LogicalLines.NextLine.{texts, texts-append, texts-lines}
-use Rattle.py_lines.proofs.Lexings.GivenLines.{base_lines}
+use Rattle.py_lines.proofs.Lexings.FirstLines.{base_lines}
 use Rattle.py_lines.proofs.Lexings.SettledLines.{settled_first}
 use Rattle.py_lines.proofs.Feeds.Known as of
 use Rattle.py_lines.proofs.Feeds.Known.{IsKnown, first_at, goes_after, goes_at, is_known}

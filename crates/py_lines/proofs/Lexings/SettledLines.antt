@@ -27,10 +27,8 @@ use Rattle.py_lines.proofs.Fields.Prefixes.{Compared}
 use Rattle.py_lines.proofs.Fields.SamePieces.{compare_pieces}
 use Rattle.py_lines.proofs.Fields.OneReading.{fields_begin, fields_agree, read_before, ends_there}
 use Rattle.py_lines.proofs.FieldSoundness.WholeTexts.{shallow-push}
-pub use Rattle.py_lines.proofs.Lexings.SettledFits.{ends-append}
-use Rattle.py_lines.proofs.Lexings.SettledFits.{ends-last, feed_unreturned, returned_text, fed_line, line_end_of, read_on}
-use Rattle.py_lines.proofs.Lexings.GivenLines.{none_both}
-use Rattle.py_lines.proofs.Lexings.LineEnds.{level_stack}
+pub use Rattle.py_lines.proofs.Lexings.LineEnds.{ends-append}
+use Rattle.py_lines.proofs.Lexings.LineEnds.{ends-last, feed_unreturned, returned_text, fed_line, line_end_of, read_on, level_stack, none_both}
 use Rattle.py_lines.proofs.Text.Splits.{Either, either}
 use Rattle.py_lines.proofs.Text.CharacterTests.{feed_is}
 

@@ -16,8 +16,7 @@ use Rattle.py_lines.proofs.Machine.PieceSteps.{pieces_at}
 use Rattle.py_lines.proofs.ScanMachine.Advance.{RunsTo}
 use Rattle.py_lines.proofs.ScanMachine.Soundness.{sound_at}
 use Rattle.py_lines.proofs.Lexings.LinePrefix.{EndsNoLine, Stays, Split, split, line_first, reading_stays, within}
-use Rattle.py_lines.proofs.Lexings.SettledFits.{return_returns}
-use Rattle.py_lines.proofs.Lexings.GivenLines.{none_both}
+use Rattle.py_lines.proofs.Lexings.LineEnds.{return_returns, none_both}
 use Rattle.py_lines.proofs.Lexings.SettledLines.{ends-append, ends-line}
 
 -- No line ends in the pieces after the lines given, or only by the CR with which the known bytes end.

@@ -25,7 +25,7 @@ use Rattle.py_lines.proofs.Pieces.PieceLists.{piece}
 use Rattle.py_lines.proofs.Text.Incomplete.{text_none}
 use Rattle.py_lines.proofs.Text.Utf8Prefixes.{prefix_chars, all_scalars-parts}
 use Rattle.py_lines.proofs.ScanMachine.Follows.{some_is}
-use Rattle.py_lines.proofs.Lexings.SettledOrder.{piece_some}
+use Rattle.py_lines.proofs.Lexings.FirstLines.{piece_some}
 use Rattle.py_lines.proofs.LogicalLines.Cuts.{byte_len-append}
 use Rattle.py_lines.proofs.ScanMachine.Advance.{steps_push}
 use Rattle.py_lines.proofs.LineScan.PieceEnd.{no_class_bracket}

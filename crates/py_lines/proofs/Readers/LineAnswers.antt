@@ -33,7 +33,7 @@ use Rattle.py_lines.proofs.LogicalLines.TokenPlaces.{tokens_lie}
 use Rattle.py_lines.proofs.LogicalLines.Cuts.{byte_len-append, one_line}
 use Rattle.py_lines.proofs.LineScan.LineCount.{line_ends-bytes}
 use Rattle.py_lines.proofs.LineScan.TextSteps.{base_of, follows_base}
-use Rattle.py_lines.proofs.Lexings.GivenLines.{base_lines, ends_for_good}
+use Rattle.py_lines.proofs.Lexings.FirstLines.{base_lines, ends_for_good, given_begin}
 use Rattle.py_lines.proofs.Feeds.Known.{IsKnown, is_known}
 use Rattle.py_lines.proofs.LogicalLines.NextLine.{lines_of-push}
 use Rattle.py_lines.proofs.Pieces.OpenBrackets.{balanced_depth, depth_through-append}
@@ -44,7 +44,6 @@ use Rattle.py_lines.specs.Given.{AreFirstLines}
 use Rattle.py_lines.specs.Settled.{EndsForGood}
 use Rattle.py_lines.specs.ScannerState.{GoesOnWith}
 use Rattle.py_lines.proofs.LineScan.PieceEnd.{no_class_bracket}
-use Rattle.py_lines.proofs.Lexings.FirstLines.{given_begin}
 pub use Rattle.py_lines.proofs.Readers.LineFaults.{Within}
 
 -- the pieces of a line that was read whole

@@ -1,5 +1,5 @@
 -- The fault that the scan of a line names is that of the whole text, whatever lines stand before it; and it stands in the line.
-use Rattle.std.proofs.Common.{◌≡◌, ℕ, zero, suc, ◌+◌, ◌<◌, Bool, true, false, ◌||◌, Option, None, Some, List, [], ◌∷◌, ◌++◌, ◌⊎◌, ⊎_elim, inl, inr, length, refl, sym, ap, ◌∙◌, subst, append_assoc, append-nil, length-append, arith}
+use Rattle.std.proofs.Common.{◌≡◌, ℕ, zero, suc, ◌+◌, ◌<◌, Bool, true, false, ◌||◌, Option, None, Some, List, [], ◌∷◌, ◌++◌, ◌⊎◌, ⊎_elim, inl, inr, length, refl, sym, ap, ◌∙◌, subst, append_assoc, length-append, arith}
 use Rattle.std.specs.Prelude.{if◌then◌else◌}
 use Rattle.std.proofs.lemmas.Bool.{cond_both}
 use Rattle.std.proofs.lemmas.List.{append_cancel_left}
@@ -189,11 +189,8 @@ module _ (n : ℕ) (base : List Piece) (level : brackets_of base ≡ Some []) (s
 before_character : (read : List ℕ) (c : ℕ) (kind : FaultKind) (offset : ℕ) → IsCharacterFault kind (read ++ c ∷ []) offset → PrefixTo read offset
 before_character read c kind offset fault = go (either fault.before (fault.c ∷ fault.dies.after) read (c ∷ []) fault.dies.spell)
   where
-    p : PrefixTo fault.before offset
-    p = explained fault.cause fault.before [] fault.before fault.c offset (append-nil fault.before) fault.fits
-
     go : Either fault.before read (c ∷ []) → PrefixTo read offset
-    go (Either.shorter k one) = record { prefix = p.prefix; rest = p.rest ++ k; spell = sym (append_assoc p.prefix p.rest k) ∙ ap (λ t. t ++ k) p.spell ∙ sym one; place = p.place }
+    go (Either.shorter k one) = explained fault.cause fault.before k read fault.c offset (sym one) fault.fits
     go (Either.longer d k later one two) =
         absurd (omega (arith, ap length fault.dies.spell, length-append fault.before (fault.c ∷ fault.dies.after), length-append read (c ∷ []), ap length one, length-append read (d ∷ k)))
 

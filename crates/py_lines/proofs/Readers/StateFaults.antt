@@ -27,7 +27,7 @@ use Rattle.py_lines.proofs.Faults.CharacterFaults.{IsStuck}
 use Rattle.py_lines.proofs.Faults.CauseAt.{cause_fits, short_here, only_breaks, text_is}
 use Rattle.py_lines.proofs.Faults.EndPlaces.{final_by}
 use Rattle.py_lines.proofs.Faults.Refusals.{IsShortHere}
-use Rattle.py_lines.proofs.Faults.UnfinishedAt.{StandsThere, unfinished_fits}
+use Rattle.py_lines.proofs.Faults.Ends.{StandsThere, unfinished_fits}
 use Rattle.py_lines.proofs.ScanMachine.Advance.{RunsTo, advance}
 use Rattle.py_lines.proofs.ScanMachine.BodyMoves.{IsBodyMode}
 use Rattle.py_lines.proofs.ScanMachine.Rebased.{rebased, rebased_in, rebased_if, based, frames_more}

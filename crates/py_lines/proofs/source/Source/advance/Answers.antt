@@ -5,7 +5,7 @@ use Rattle.py_lines.specs.declared.source.Source.{Source}
 use Rattle.py_lines.specs.Private.LineState.{BeginsAnew, first_mode}
 use Rattle.py_lines.specs.Private.Scan.{Scans}
 use Rattle.py_lines.specs.Private.Source.{HasScanned}
-use Rattle.py_lines.proofs.Lexings.GivenLines.{all_first}
+use Rattle.py_lines.proofs.Lexings.FirstLines.{all_first}
 use Rattle.py_lines.proofs.source.Source.advance.Goals as goal
 
 -- the next line was begun, and its scan has stopped
