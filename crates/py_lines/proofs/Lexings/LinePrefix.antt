@@ -66,32 +66,19 @@ stays_return body last done held (c ∷ cs) s class is steps =
       others = more.others;
       is = more.is;
       class = more.class;
-      longer =
-          let one : length last.text ≡ length held = ap (λ (p : Piece). length p.text) (sym parts.1) in
-          let two : length (held ++ c ∷ []) ≡ length held + length (c ∷ []) = length-append held (c ∷ []) in
-          let three = more.longer in
-          omega arith;
+      longer = omega (arith, ap (λ (p : Piece). length p.text) parts.1, length-append held (c ∷ []), more.longer);
     })
     (λ h open_runs.
     let all = done ++ piece line_end held ∷ [] in
     stays_done body last all cs (started all c (start_of c)) s class is (started_grows all all [] c (start_of c) (sym (append-nil all))) open_runs)
     steps
 
--- the open piece is no line end, in a mode of another class
-no_line_end : (c : Class) → is_line_end_class c ≡ false → c ≡ line_end → ⊥
-no_line_end c other is = both_ways _ other (ap is_line_end_class is)
-
-held_ends : (done body : List Piece) (p last : Piece) → done ++ p ∷ [] ≡ body ++ last ∷ [] → last.class ≡ line_end → is_line_end_class p.class ≡ false → ⊥
-held_ends done body p last is class other =
-    no_line_end p.class other (ap (λ (x : Piece). x.class) (same_from_push done body p last is).1 ∙ class)
-
 -- a line end at the end of the pieces that a state has found
 pub line_stays : (m : Mode) (done : List Piece) (held x : List ℕ) (s : Scanned) (body : List Piece) (last : Piece) → scan_steps (Some (record { done = done; mode = m; held = held })) x ≡ Some s → closed m done held ≡ body ++ last ∷ [] → last.class ≡ line_end → Stays body last (pieces_at s)
 line_stays modes.Start done held x s body last steps is class = stays_done body last done x (Some (record { done = done; mode = modes.Start; held = held })) s class is ([], sym (append-nil done)) steps
 line_stays modes.Free done held x s body last steps is class = stays_done body last done x (Some (record { done = done; mode = modes.Free; held = held })) s class is ([], sym (append-nil done)) steps
 line_stays modes.Return done held x s body last steps is class = stays_return body last done held x s class is steps
-line_stays m done held x s body last steps is class =
-    absurd (held_ends done body (piece (class_of m) held) last is class refl)
+line_stays m done held x s body last steps is class = absurd (both_ways _ refl (ap is_line_end_class (ap (λ (p : Piece). p.class) (same_from_push done body (piece (class_of m) held) last is).1 ∙ class)))
 
 -- so does the line end of pieces that are read whole, where the machine goes on from them
 pub reading_stays : (pieces : List Piece) (more before : List ℕ) (s : Scanned) (body : List Piece) (last : Piece) → scan_steps (Some text_start) before ≡ Some s → spelled pieces ++ more ≡ before → IsBalancedReading pieces (spelled pieces) → pieces ≡ body ++ last ∷ [] → last.class ≡ line_end → Stays body last (pieces_at s)
@@ -112,21 +99,7 @@ within prefix others rivals body last all pieces ended none is deep stays = go (
     go (Split.in_first k one two) =
         let mine : length (spelled prefix) ≡ length (spelled body) + (length stays.line.text + length (spelled k)) = ap (λ l. length (spelled l)) one ∙ length_line body stays.line k in
         let theirs : length (spelled rivals) ≡ length (spelled body) + (length last.text + 0) = ap (λ l. length (spelled l)) is ∙ length_line body last [] in
-        let more : length last.text ≤ length stays.line.text = stays.longer in
-        omega arith
-
--- no longer prefix ends a line
-no_longer : (before later characters : List ℕ) (s : Scanned) (prefix others : List Piece) → scan_steps (Some text_start) before ≡ Some s → before ++ later ≡ characters → ((c : ℕ) (after : List ℕ) → later ≡ c ∷ after → ¬ (IsLive (before ++ c ∷ []))) → pieces_at s ≡ prefix ++ others → EndsLine prefix → EndsNoLine 0 others → (rivals : List Piece) (after : List ℕ) → spelled rivals ++ after ≡ characters → IsBalancedReading rivals (spelled rivals) → EndsLine rivals → length (spelled rivals) ≤ length (spelled prefix)
-no_longer before later characters s prefix others steps spell dead pieces ended none rivals after spells reading (inl empty) =
-    let short : length (spelled rivals) ≡ 0 = ap (λ l. length (spelled l)) empty in
-    omega arith
-no_longer before later characters s prefix others steps spell dead pieces ended none rivals after spells reading (inr (body, last, is, class, deep)) = go (either (spelled rivals) after before later (spells ∙ sym spell))
-  where
-    go : Either (spelled rivals) before later → length (spelled rivals) ≤ length (spelled prefix)
-    go (Either.longer c k rest one two) =
-        let live = subst IsLive (one ∙ sym (append_assoc before (c ∷ []) k)) (reading_live rivals (spelled rivals) reading) in
-        absurd (dead c rest two (live_before (before ++ c ∷ []) k live))
-    go (Either.shorter k one) = within prefix others rivals body last (pieces_at s) pieces ended none is deep (reading_stays rivals k before s body last steps (sym one) reading is class)
+        omega (arith, mine, theirs, stays.longer)
 
 -- the prefix of a text that isn't read further
 pub prefix_is : (before later characters : List ℕ) (s : Scanned) (st : List Bracket) (prefix others : List Piece) → RunsTo before s st → before ++ later ≡ characters → ((c : ℕ) (after : List ℕ) → later ≡ c ∷ after → ¬ (IsLive (before ++ c ∷ []))) → pieces_at s ≡ prefix ++ others → IsBalancedReading prefix (spelled prefix) → EndsLine prefix → EndsNoLine 0 others → IsReadPrefix prefix characters
@@ -138,5 +111,16 @@ prefix_is before later characters s st prefix others steps spell dead pieces rea
       spell = sym (append_assoc (spelled prefix) (spelled others) later) ∙ ap (λ t. t ++ later) (sym (spelled-append prefix others) ∙ ap spelled (sym pieces) ∙ read) ∙ spell;
       reading = reading;
       ended = ended;
-      longest = λ rivals after spells reads rivals_ended. no_longer before later characters s prefix others steps.run spell dead pieces ended none rivals after spells reads rivals_ended;
+      longest = longest;
     }
+  where
+    -- no longer prefix ends a line
+    longest : (rivals : List Piece) (after : List ℕ) → spelled rivals ++ after ≡ characters → IsBalancedReading rivals (spelled rivals) → EndsLine rivals → length (spelled rivals) ≤ length (spelled prefix)
+    longest rivals after spells reads (inl empty) = omega (arith, ap (λ l. length (spelled l)) empty)
+    longest rivals after spells reads (inr (body, last, is, class, deep)) = go (either (spelled rivals) after before later (spells ∙ sym spell))
+      where
+        go : Either (spelled rivals) before later → length (spelled rivals) ≤ length (spelled prefix)
+        go (Either.longer c k rest one two) =
+            let live = subst IsLive (one ∙ sym (append_assoc before (c ∷ []) k)) (reading_live rivals (spelled rivals) reads) in
+            absurd (dead c rest two (live_before (before ++ c ∷ []) k live))
+        go (Either.shorter k one) = within prefix others rivals body last (pieces_at s) pieces ended none is deep (reading_stays rivals k before s body last steps.run (sym one) reads is class)

@@ -66,9 +66,7 @@ settled_at characters tail s st base others rest steps pieces reading good yet s
             absurd (at_return rivals after body last stays.line spells is reads class settles (stays.is ∙ ap (λ l. body ++ stays.line ∷ l) nothing) (ap (λ (p : Piece). p.text) line ∙ cr) bare)
 
     longest : (rivals : List Piece) (after : List ℕ) → spelled rivals ++ after ≡ characters → IsBalancedReading rivals (spelled rivals) → EndsForGood rivals (after ++ tail) → length (spelled rivals) ≤ length (spelled base)
-    longest rivals after spells reads (inl empty, settles) =
-        let short : length (spelled rivals) ≡ 0 = ap (λ l. length (spelled l)) empty in
-        omega arith
+    longest rivals after spells reads (inl empty, settles) = omega (arith, ap (λ l. length (spelled l)) empty)
     longest rivals after spells reads (inr (body, last, is, class, deep), settles) = bounded rivals after body last spells is reads class deep settles (reading_stays rivals after characters s body last steps.run spells reads is class) yet
 
 -- a line end ends in LF or CR
@@ -86,9 +84,7 @@ settled_line characters tail prefix rest spell reading good near = record { rest
     total others after spells = sym (length-append (spelled others) after) ∙ ap length (spells ∙ sym spell) ∙ length-append (spelled prefix) rest
 
     not_last : (c : ℕ) (others : List Piece) → rest ≡ c ∷ [] → is_line_feed c ≡ false → tail ≡ [] → spelled others ++ [] ≡ characters → IsBalancedReading others (spelled others) → EndsForGood others ([] ++ tail) → length (spelled others) ≤ length (spelled prefix)
-    not_last c others is other bare spells read (inl empty, settles) =
-        let short : length (spelled others) ≡ 0 = ap (λ l. length (spelled l)) empty in
-        omega arith
+    not_last c others is other bare spells read (inl empty, settles) = omega (arith, ap (λ l. length (spelled l)) empty)
     not_last c others is other bare spells read (inr (body, last, split_at, class, deep), settles) =
         let fit = subst (λ l. AreReadBefore l []) split_at read.reads.fit in
         let holds = (AreReadBefore-second body (last ∷ []) [] fit).0 in
