@@ -8,5 +8,4 @@ pub mod SettledLines
 pub mod FirstLines
 pub mod LinesBefore
 pub mod Answers
-pub mod SettledPrefixes
 pub mod DecidedFaults

@@ -27,11 +27,10 @@ use Rattle.py_lines.proofs.Pieces.PieceLists.{spelled-append, AreReadBefore-appe
 use Rattle.py_lines.proofs.Pieces.OpenBrackets.{balanced_depth, depth_through-append}
 use Rattle.py_lines.proofs.Pieces.ShallowPieces.{IsShallow-append, fits_reading}
 use Rattle.py_lines.proofs.LogicalLines.NextLine.{lines_of-push, texts, texts-lines}
-use Rattle.py_lines.proofs.Lexings.LinePrefix.{read-alone}
+use Rattle.py_lines.proofs.Lexings.LinePrefix.{read-alone, EndsNoneYet, settled_at, settled_line}
 use Rattle.py_lines.proofs.Lexings.SettledLines.{ends-line}
 use Rattle.py_lines.proofs.Machine.PieceSteps.{scanned, pieces_at}
 use Rattle.py_lines.proofs.ScanMachine.Advance.{GoesTo}
-use Rattle.py_lines.proofs.Lexings.SettledPrefixes.{EndsNoneYet, settled_at, settled_line}
 use Rattle.py_lines.proofs.LineScan.NextCharacter.{closed_one_line}
 use Rattle.py_lines.proofs.LineScan.LineSteps.{sound_steps}
 use Rattle.py_lines.proofs.LineScan.TextSteps.{begun_sound, follows_base}

@@ -86,15 +86,11 @@ module _ (done : List Piece) (os : List ℕ) where
 -- the brackets before it count in the depth
 levels_more : (done : List Piece) (os : List ℕ) (l : Level) (ls : List Level) → levels_open (based done os l ls) ≡ length os + levels_open (based [] [] l ls)
 levels_more done os l [] = omega arith
-levels_more done os l (k ∷ ks) =
-    let later = levels_more done os k ks in
-    omega (arith, later)
+levels_more done os l (k ∷ ks) = omega (arith, levels_more done os k ks)
 
 pub frames_more : (done : List Piece) (os : List ℕ) (t : FieldScanned) → frames (rebased done os t) ≡ length os + frames (rebased [] [] t)
 frames_more done os t = go t.outer
   where
     go : (outer : List Level) → frames (rebased_in done os outer t.done t.openers t.mode t.held) ≡ length os + frames (rebased_in [] [] outer t.done t.openers t.mode t.held)
     go [] = omega arith
-    go (l ∷ ls) =
-        let later = levels_more done os l ls in
-        omega (arith, later)
+    go (l ∷ ls) = omega (arith, levels_more done os l ls)

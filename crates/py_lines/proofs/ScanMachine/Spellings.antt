@@ -72,12 +72,8 @@ word_tells first (b ∷ c ∷ cs) =
 
 -- other words are prefixes as the machine without fields has them
 pub other_begins : (s : Spelling) → is_field_spelling s ≡ false → begins_string s ≡ is_prefix_spelling s
-other_begins spellings.Number h = refl
-other_begins spellings.R h = refl
-other_begins spellings.B h = refl
 other_begins spellings.F h = absurd (both_ways _ h refl)
 other_begins spellings.Fr h = absurd (both_ways _ h refl)
 other_begins spellings.T h = absurd (both_ways _ h refl)
 other_begins spellings.Tr h = absurd (both_ways _ h refl)
-other_begins spellings.Prefix h = refl
-other_begins spellings.Name h = refl
+other_begins s h = refl
