@@ -1,19 +1,19 @@
 -- What a reader answers in the end, from where the machine stands.
-use Rattle.std.proofs.Common.{◌≡◌, ℕ, ◌+◌, true, List, [], ◌∷◌, ◌++◌, refl, sym, ap, ◌∙◌, subst, append-nil}
+use Rattle.std.proofs.Common.{◌≡◌, ℕ, ◌+◌, List, [], ◌∷◌, ◌++◌, refl, sym, ap, ◌∙◌, subst, append-nil}
 use Rattle.py_lines.specs.Piece.{Piece, spelled}
 use Rattle.py_lines.specs.LogicalLine.{lines_of, byte_len, line_ends}
 use Rattle.py_lines.specs.Reading.{Decodes, EndsLine, IsBalancedReading}
 use Rattle.py_lines.specs.Faults.{IsLive, IsCharacterFault, IsEndFault, IsFaultAt, at_character, at_bytes, at_end}
-use Rattle.py_lines.specs.Lexed.{IsLexedWhole, IsLexedToFault}
+use Rattle.py_lines.specs.Lexed.{IsLexedToFault}
 use Rattle.py_lines.specs.declared.fault.FaultKind.TheVariants as faults
 use Rattle.py_lines.specs.declared.fault.Fault.{Fault}
-use Rattle.py_lines.specs.Private.Machine.{Scanned, is_final, Bracket}
+use Rattle.py_lines.specs.Private.Machine.{Scanned, Bracket}
 use Rattle.py_lines.proofs.Machine.PieceSteps.{pieces_at}
 use Rattle.py_lines.proofs.LogicalLines.Cuts.{same_place}
 use Rattle.py_lines.proofs.Faults.Ends.{end_unread}
 use Rattle.py_lines.proofs.Faults.Verdict.{not_live}
 use Rattle.py_lines.proofs.ScanMachine.Advance.{RunsTo}
-use Rattle.py_lines.proofs.ScanMachine.LiveTexts.{reading_at, runs_live}
+use Rattle.py_lines.proofs.ScanMachine.LiveTexts.{runs_live}
 use Rattle.py_lines.proofs.Lexings.Existence.{reading_live}
 use Rattle.py_lines.proofs.Lexings.LinePrefix.{EndsNoLine, prefix_is}
 
@@ -28,10 +28,6 @@ pub record IsLineOf (fault : Fault) (characters : List ℕ) : Type 0 where
 line_at : (fault : Fault) (characters : List ℕ) → IsLineOf fault characters → (before after : List ℕ) → before ++ after ≡ characters → byte_len before ≡ fault.offset → fault.line ≡ 1 + line_ends before
 line_at fault characters is before after spell place =
     is.line ∙ ap (λ t. 1 + line_ends t) (same_place is.prefix is.rest before after (is.spell ∙ sym spell) (is.place ∙ sym place))
-
--- the text is read, where the machine may stop with no bracket open
-pub read_at : (text characters : List ℕ) (s : Scanned) → Decodes text characters [] → RunsTo characters s [] → is_final s.mode ≡ true → IsLexedWhole text (lines_of (pieces_at s))
-read_at text characters s decodes steps may = record { characters = characters; pieces = pieces_at s; decodes = decodes; reading = reading_at characters s steps may; cut = refl }
 
 -- the prefix that a reader has given: up to the last line end at depth 0
 pub record HasPrefix (s : Scanned) (prefix : List Piece) : Type 0 where

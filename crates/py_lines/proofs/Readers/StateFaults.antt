@@ -193,7 +193,7 @@ module _ (read : List ℕ) (s : Scanned) (st : List Bracket) (runs : RunsTo read
     some = go s.held at
       where
         go : (held : List ℕ) → string_state held ≡ Some u → 0 < here u
-        go [] none = 
+        go [] none =
             let begun : u ≡ field_text_start = cc in
             let stuck = (inside (ap (λ (x : FieldScanned). x.outer) begun)).4 in
             let mode = ap (λ (x : FieldScanned). x.mode) begun in

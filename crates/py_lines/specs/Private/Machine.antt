@@ -260,15 +260,6 @@ brackets_through (Some brackets) done (p ∷ ps) = brackets_through (brackets_af
 abbrev pub brackets_of : List Piece → Option (List Bracket)
 brackets_of pieces = brackets_through (Some []) [] pieces
 
--- the byte of the innermost open bracket
-abbrev pub top_place : List Bracket → ℕ
-top_place [] = 0
-top_place (b ∷ bs) = b.place
-
--- the place of the fault at the text's end
-abbrev pub end_place : Scanned → List Bracket → ℕ
-end_place s brackets = if is_final s.mode then top_place brackets else byte_len (spelled s.done)
-
 -- a text that isn't empty
 abbrev pub IsFull : List ℕ → Type 0
 IsFull [] = ⊥
