@@ -60,6 +60,17 @@ fn import_may_begin(text: &[u8], start: usize, place: usize) -> bool
     rest.starts_with(b"import") || rest.starts_with(b"from")
 }
 
+/// Whether one of the lanes is 0.
+#[inline(always)]
+fn holds_zero(lanes: u8x64) -> bool
+    ensures { (k : ℕ) → k < 64 → slice_index lanes k ≡ 0 → IsTrue result }
+{
+    // The lesser of two lanes is 0 where one of them is.
+    let half = lanes.extract::<0, 32>().simd_min(lanes.extract::<32, 32>());
+    let quarter = half.extract::<0, 16>().simd_min(half.extract::<16, 16>());
+    quarter.simd_eq(u8x16::splat(0)).any()
+}
+
 /// At which of the first 64 bytes stand the first two letters of `import` or `from`, a bit for each. More bits may be set.
 #[inline(always)]
 fn words64(bytes: &[u8]) -> u64
@@ -71,7 +82,13 @@ fn words64(bytes: &[u8]) -> u64
     // A lane is 0 where both letters are those of the word.
     let import = (first ^ u8x64::splat(b'i')) | (second ^ u8x64::splat(b'm'));
     let from = (first ^ u8x64::splat(b'f')) | (second ^ u8x64::splat(b'r'));
-    import.simd_min(from).simd_eq(u8x64::splat(0)).to_bitmask()
+    let lanes = import.simd_min(from);
+    // Mostly none is 0.
+    if holds_zero(lanes) {
+        lanes.simd_eq(u8x64::splat(0)).to_bitmask()
+    } else {
+        0
+    }
 }
 
 /// A byte, from `place` on, before which neither word begins. The last 64 bytes are not looked at.
