@@ -18,7 +18,7 @@ use Rattle.py_lines.proofs.FieldMachine.OpenLists.{pieces_run, list_runs}
 use Rattle.py_lines.proofs.Machine.ReadingSteps.{MayBegin}
 use Rattle.py_lines.proofs.LogicalLines.Cuts.{byte_len-append}
 use Rattle.py_lines.proofs.FieldSoundness.OpenEnds.{long_mode}
-use Rattle.py_lines.proofs.Fields.OneReading.{some_head}
+use Rattle.py_lines.proofs.Fields.Parts.{some_head}
 use Rattle.py_lines.proofs.FieldMachine.ListBrackets.{openers_through-append, opener_pushes, balanced_openers, none_some}
 use Rattle.py_lines.specs.Private.FieldFaults.{unfinished_code, unfinished_in, unfinished_at}
 

@@ -13,15 +13,14 @@ use Rattle.py_lines.specs.Private.FieldMachine.{plain, closes, breaks, FieldScan
 use Rattle.py_lines.proofs.Pieces.PieceLists.{piece}
 use Rattle.py_lines.proofs.Machine.Starts.{start-mark}
 use Rattle.py_lines.proofs.Machine.ReadingSteps.{MayBegin}
-use Rattle.py_lines.proofs.Fields.Parts.{BeginOpen}
-use Rattle.py_lines.proofs.Fields.OneReading.{fields_begin}
+use Rattle.py_lines.proofs.Fields.Parts.{BeginOpen, fields_begin}
 use Rattle.py_lines.proofs.FieldMachine.Runs.{NoLimit, BelowLimit, HasRoomFor, Goes, StopsAt, goes-append, goes-closes, stops-fresh, steps_of, room_of}
 use Rattle.py_lines.proofs.FieldMachine.ListBrackets.{none_some, balanced_openers}
 use Rattle.py_lines.proofs.FieldMachine.PieceRuns.{FieldFinds}
 use Rattle.py_lines.proofs.FieldMachine.CodeRuns.{ArePassed, FieldsRun, all_found}
 use Rattle.py_lines.proofs.FieldMachine.Nesting.{fields_run, passed_any, begin_shallow, shallow_run, passed_shallow}
 
-start_breaks : (c : ℕ) → is_mark c ≡ false → field_move (plain modes.Start) [] c ≡ breaks
+pub start_breaks : (c : ℕ) → is_mark c ≡ false → field_move (plain modes.Start) [] c ≡ breaks
 unfolding field_move move_of
 start_breaks c h = rw h
 

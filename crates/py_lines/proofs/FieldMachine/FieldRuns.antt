@@ -12,8 +12,7 @@ use Rattle.py_lines.specs.Private.Machine.{start_of}
 use Rattle.py_lines.specs.Private.FieldMachine.{At, between, after_brace, FieldMode, body, begins_code, ends_field, Level, FieldScanned, field_state, field_fresh, field_ended, field_pieces, opening_move, between_move, body_move, field_move, field_moved, field_started, code_operator, levels_open, frames}
 use Rattle.py_lines.proofs.Text.CharacterTests.{not_quote}
 use Rattle.py_lines.proofs.Machine.Starts.{start-operator}
-use Rattle.py_lines.proofs.Fields.Parts.{BeginOpen}
-use Rattle.py_lines.proofs.Fields.OneReading.{some_head}
+use Rattle.py_lines.proofs.Fields.Parts.{BeginOpen, some_head}
 use Rattle.py_lines.proofs.FieldMachine.Runs.{Goes, HasRoomFor, goes-append, goes-to, goes-grows, goes-begins, stops-fresh}
 use Rattle.py_lines.proofs.FieldMachine.ListBrackets.{balanced_openers}
 use Rattle.py_lines.proofs.FieldMachine.PieceRuns.{FieldFinds}

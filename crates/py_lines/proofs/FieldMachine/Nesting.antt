@@ -6,8 +6,7 @@ use Rattle.py_lines.specs.Balance.{depth_after}
 use Rattle.py_lines.specs.Fields.{AnyPieces, FieldsWithin, Fields, fielded, IsShallowWith, ShallowWithin, ShallowFields}
 use Rattle.py_lines.specs.FieldStrings.{Host, with_fields}
 use Rattle.py_lines.specs.Private.FieldMachine.{FieldScanned, openers_through, frames}
-use Rattle.py_lines.proofs.Fields.Parts.{BeginOpen}
-use Rattle.py_lines.proofs.Fields.OneReading.{field_begins, within_begin, fields_begin}
+use Rattle.py_lines.proofs.Fields.Parts.{BeginOpen, field_begins, within_begin, fields_begin}
 use Rattle.py_lines.proofs.FieldMachine.Runs.{NoLimit, BelowLimit, StopsAt}
 use Rattle.py_lines.proofs.FieldMachine.PieceRuns.{FieldFinds}
 use Rattle.py_lines.proofs.FieldMachine.CodeRuns.{ArePassed, FieldsRun, HasNoColonIn, all_found}

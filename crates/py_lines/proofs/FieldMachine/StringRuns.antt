@@ -11,10 +11,10 @@ use Rattle.py_lines.specs.Private.Machine.{first_spelling, spelling_on}
 use Rattle.py_lines.specs.Private.FieldMachine.{Level, At, between, after_one, after_two, FieldMode, plain, opened, empty, body, FieldMove, grows, closes, FieldScanned, field_state, field_fresh, host_of, is_after_two, between_move, field_move, field_pieces, field_moved, frames}
 use Rattle.py_lines.proofs.Pieces.PieceLists.{piece}
 use Rattle.py_lines.proofs.Fields.Prefixes.{field_letters}
-use Rattle.py_lines.proofs.Fields.Parts.{BeginOpen}
+use Rattle.py_lines.proofs.Fields.Parts.{BeginOpen, short_part}
 use Rattle.py_lines.proofs.Fields.Elsewhere.{none_false, quotes_begin}
 use Rattle.py_lines.proofs.Fields.Ends.{short_part}
-use Rattle.py_lines.proofs.FieldMachine.Runs.{Goes, HasRoomFor, StopsAt, goes-append, goes-grown, goes-to, goes-grows, goes-closes}
+use Rattle.py_lines.proofs.FieldMachine.Runs.{Goes, HasRoomFor, StopsAt, goes-append, goes-grown, goes-to, goes-grows, goes-closes, stops-fresh}
 use Rattle.py_lines.proofs.FieldMachine.PieceRuns.{FieldFinds, fresh_found, word_goes}
 use Rattle.py_lines.proofs.FieldMachine.StringParts.{settled, quotes_seen, MayGoOn, goes_on, body_moves, quote_grows, goes_on-quotes, three_quotes, FieldsGo, parts_go}
 

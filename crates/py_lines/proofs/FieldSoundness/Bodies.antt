@@ -14,8 +14,7 @@ use Rattle.py_lines.specs.Private.FieldMachine.{At, between, after_one, after_tw
 use Rattle.py_lines.proofs.Pieces.TripleQuotes.{triple-left, triple-other}
 use Rattle.py_lines.proofs.Text.CharacterTests.{none_of, barred}
 use Rattle.py_lines.proofs.Machine.OpenPieces.{full-append, joined-push, not_one, quote-not-slash}
-use Rattle.py_lines.proofs.Fields.Prefixes.{plain_quotes, field_letters}
-use Rattle.py_lines.proofs.Fields.SameStrings.{first_quote}
+use Rattle.py_lines.proofs.Fields.Prefixes.{plain_quotes, field_letters, first_quote}
 use Rattle.py_lines.proofs.FieldSoundness.Holds.{Limit, refit, HoldsParts, HoldsBetween, HoldsAt, HoldsMode}
 use Rattle.py_lines.proofs.FieldMachine.StringParts.{quote_no_end}
 

@@ -12,8 +12,7 @@ use Rattle.py_lines.specs.declared.mode.Mode.TheVariants as modes
 use Rattle.py_lines.specs.Private.FieldMachine.{text_place, before, between, FieldMode, plain, opened, empty, body, FieldMove, grows, closes, breaks, begins_code, opens_field, ends_field, refused, Level, FieldScanned, field_state, field_text_start, begins_host, long_host, field_move, body_move, field_moved, field_step, field_steps_from, field_class_of, levels_open, frames}
 use Rattle.py_lines.proofs.Pieces.PieceLists.{piece, spelled-push}
 use Rattle.py_lines.proofs.Fields.Nesting.{string_map}
-use Rattle.py_lines.proofs.Fields.Prefixes.{field_letters}
-use Rattle.py_lines.proofs.Fields.SameStrings.{first_quote}
+use Rattle.py_lines.proofs.Fields.Prefixes.{field_letters, first_quote}
 use Rattle.py_lines.proofs.FieldSoundness.OpenLists.{opens-none, opens-depth}
 use Rattle.py_lines.proofs.FieldSoundness.Holds.{Limit, OpensHost, HoldsParts, HoldsBetween, HoldsList, HoldsLevel, HoldsLevels, AtStart, IsFieldSound}
 use Rattle.py_lines.proofs.FieldSoundness.Bodies.{quoted_prefix, short_quotes, IsIn, Moved, between_moves}

@@ -18,8 +18,7 @@ use Rattle.py_lines.proofs.Pieces.PieceLists.{piece, AreReadPlain-first}
 use Rattle.py_lines.proofs.Machine.Starts.{starts_so}
 use Rattle.py_lines.proofs.Machine.PieceSteps.{scanned}
 use Rattle.py_lines.proofs.Machine.Soundness.{SoundIf, step_sound, start_sound, end_sound}
-use Rattle.py_lines.proofs.Fields.Prefixes.{plain_quotes, field_letters}
-use Rattle.py_lines.proofs.Fields.SameStrings.{first_quote}
+use Rattle.py_lines.proofs.Fields.Prefixes.{plain_quotes, field_letters, first_quote}
 
 -- a text whose first quote comes after no prefix of a string with fields stays so where it goes on
 pub begins_plain-more : (text : List ℕ) (c : ℕ) → BeginsPlain text → BeginsPlain (text ++ c ∷ [])

@@ -1,54 +1,52 @@
 -- Two hundred fields may be open one in another, and no more.
-use Rattle.std.proofs.Common.{◌≡◌, ◌==◌, ℕ, zero, suc, ◌+◌, ◌<◌, ◌≤◌, true, false, List, [], ◌∷◌, ◌++◌, refl, inr, arith, append_assoc, append-nil, sym, ap, ◌∙◌, subst}
+use Rattle.std.proofs.Common.{◌≡◌, ◌==◌, ℕ, zero, suc, ◌+◌, ◌<◌, ◌≤◌, true, false, List, Some, [], ◌∷◌, ◌++◌, length, refl, inr, arith, append_assoc, append-nil, sym, ap, ◌∙◌, subst}
 use Rattle.std.specs.Prelude.{codes}
+use Rattle.std.specs.Str.{byte}
 use Rattle.std.proofs.lemmas.Bool.{both_ways}
-use Rattle.std.proofs.lemmas.List.{append_cancel_left}
-use Rattle.py_lines.specs.Character.{is_quote, is_backslash}
-use Rattle.py_lines.specs.Piece.{string, spelled}
-use Rattle.py_lines.specs.PieceGrammar.{has_triple, joined, InClassIn, MayPrecedeIn}
-use Rattle.py_lines.specs.Fields.{IsShallow, AreInside, IsField, simple, specified, FieldsWithin, Fields, fielded, ShallowWithin, ShallowFields}
+use Rattle.py_lines.specs.Character.{is_quote}
+use Rattle.py_lines.specs.Piece.{string}
+use Rattle.py_lines.specs.PieceGrammar.{InClassIn}
+use Rattle.py_lines.specs.Fields.{AreInside, simple, FieldsWithin, Fields, ShallowWithin, ShallowFields}
 use Rattle.py_lines.specs.Balance as balance
-use Rattle.py_lines.specs.FieldStrings.{Host, literal, quotes_of, IsPart, bare, slash, escape, escaped_end, name, double, field, begins_double, AreParts, IsFieldString, with_fields}
+use Rattle.py_lines.specs.declared.mode.Mode.TheVariants as modes
+use Rattle.py_lines.specs.declared.mode.Spelling.TheVariants as spellings
+use Rattle.py_lines.specs.Private.FieldMachine.{after_brace, plain, opened, body, Level, FieldScanned, field_state, field_text_start, opened_level, field_move, field_step, levels_open, frames}
+use Rattle.py_lines.specs.FieldStrings.{Host, literal, field, IsFieldString, with_fields}
 use Rattle.py_lines.proofs.Text.CharacterTests.{not_quote}
-use Rattle.py_lines.proofs.Fields.Parts.{BeginOpen, Agree}
-use Rattle.py_lines.proofs.Fields.SameStrings.{alike_strings}
-use Rattle.py_lines.proofs.Fields.SamePieces.{fielded_alone}
-use Rattle.py_lines.proofs.Fields.OneReading.{same_inside, no_colon, fields_begin, fields_agree, brace, colon}
-use Rattle.py_lines.proofs.Fields.Nesting.{string_map, shallow_of, any_shallow}
+use Rattle.py_lines.proofs.FieldMachine.Runs.{BelowLimit, HasRoomFor, Goes}
+use Rattle.py_lines.proofs.FieldMachine.Completeness.{reached}
+use Rattle.py_lines.proofs.FieldMachine.Nesting.{begin_shallow, shallow_run}
+use Rattle.py_lines.proofs.Fields.Nesting.{string_map}
 use Rattle.py_lines.proofs.Fields.WorkedRows.{tested, piece, short}
 
--- strings with so many fields one in another: f"", f"{f""}", f"{f"{f""}"}" and so on
-nested : ℕ → List ℕ
-nested zero = codes "f\"\""
-nested (suc n) = codes "f\"{" ++ (nested n ++ codes "}\"")
+-- strings with so many fields one in another: f"", f"{f""}", f"{f"{f""}"}" and so on, after their `f`
+quoted : ℕ → List ℕ
+quoted zero = codes "\"\""
+quoted (suc n) = codes "\"{f" ++ (quoted n ++ codes "}\"")
+
+abbrev nested : ℕ → List ℕ
+nested n = byte "f" ∷ quoted n
 
 -- these strings, of which fields they may be
 abbrev around : List ℕ → List ℕ
 around text = codes "{" ++ (text ++ codes "}")
 
-begun_nested : (n : ℕ) → (cs : List ℕ) × (nested n ≡ 102 ∷ cs)
-unfolding nested
-begun_nested zero = (_, refl)
-begun_nested (suc n) = (_, refl)
-
 string_round : (F : Host → List ℕ → Type 0) (n : ℕ) → F short (around (nested n)) → IsFieldString F (nested (suc n))
-unfolding nested tested
-string_round F n is =
-    let begun = begun_nested n in
-    record {
-      prefix = codes "f";
-      host = short;
-      parts = around (nested n) ∷ [];
-      spell = ap (λ t. 102 ∷ 34 ∷ 123 ∷ t) (sym (append_assoc (nested n) (codes "}") (codes "\"")) ∙ ap (λ t. t ++ codes "\"") (sym (append-nil (nested n ++ codes "}"))));
-      begun = refl;
-      raw = refl;
-      opens = refl;
-      each = (field is (λ h. subst (λ t. begins_double (around t) ≡ false) (sym begun.1) refl) refl, tt);
-      first = subst (λ t. has_triple 34 (around t ∷ (34 ∷ []) ∷ (34 ∷ []) ∷ []) ≡ false) (sym begun.1) refl;
-    }
+unfolding quoted tested
+string_round F n is = record {
+  prefix = codes "f";
+  host = short;
+  parts = around (nested n) ∷ [];
+  spell = ap (λ t. 102 ∷ 34 ∷ 123 ∷ 102 ∷ t) (sym (append_assoc (quoted n) (codes "}") (codes "\"")) ∙ ap (λ t. t ++ codes "\"") (sym (append-nil (quoted n ++ codes "}"))));
+  begun = refl;
+  raw = refl;
+  opens = refl;
+  each = (field is (λ h. refl) refl, tt);
+  first = refl;
+}
 
 no_field : (F : Host → List ℕ → Type 0) → IsFieldString F (nested zero)
-unfolding nested tested
+unfolding quoted tested
 no_field F = record { prefix = codes "f"; host = short; parts = []; spell = refl; begun = refl; raw = refl; opens = refl; each = tt; first = refl }
 
 not_before_brace : (q : ℕ) → is_quote q ≡ true → (125 == q) ≡ false
@@ -89,69 +87,41 @@ shallow (suc n) depth room =
           ((λ h. absurd (both_ways _ refl h)), (λ h. inr (shallow n (depth + 1) (omega arith))), tt),
     )
 
--- and no deeper: the string has the one field, which has the one string
-own_field : (F : Host → List ℕ → Type 0) (host : Host) (n : ℕ) (rest : List ℕ) → IsPart F host literal false (around (nested n)) rest → F host (around (nested n))
-unfolding tested
-own_field F host n rest is = go (begun_nested n) is
-  where
-    go : (cs : List ℕ) × (nested n ≡ 102 ∷ cs) → IsPart F host literal false (around (nested n)) rest → F host (around (nested n))
-    go begun (bare c shape a b d) =
-        let more : 123 ∷ (102 ∷ (begun.0 ++ 125 ∷ [])) ≡ c ∷ [] = ap around (sym begun.1) ∙ shape in
-        absurd (cc)
-    go begun (slash s shape a b) =
-        let more : 123 ∷ (102 ∷ (begun.0 ++ 125 ∷ [])) ≡ s ∷ [] = ap around (sym begun.1) ∙ shape in
-        absurd (cc)
-    go begun (escape s c shape a b d e f) =
-        let here : 123 ≡ s = cc in
-        absurd (both_ways _ refl (ap is_backslash here ∙ a))
-    go begun (escaped_end s c d shape a b e f) =
-        let here : 123 ≡ s = cc in
-        absurd (both_ways _ refl (ap is_backslash here ∙ a))
-    go begun (name s c d shape a b e) =
-        let here : 123 ≡ s = cc in
-        absurd (both_ways _ refl (ap is_backslash here ∙ a))
-    go begun (double b c shape one two d e) =
-        let more : 123 ∷ (102 ∷ (begun.0 ++ 125 ∷ [])) ≡ b ∷ c ∷ [] = ap around (sym begun.1) ∙ shape in
-        let here : 102 ≡ c = cc in
-        absurd (both_ways _ refl (ap (λ x. x == 123) (here ∙ two)))
-    go begun (field own a b) = own
+-- and no deeper: the machine goes through such a string only where each of its fields has room
+next_of : (s t to : FieldScanned) (c : ℕ) (cs : List ℕ) → field_step s c ≡ Some t → Goes BelowLimit s (c ∷ cs) to → HasRoomFor BelowLimit (frames s) c (field_move s.mode s.held c) × Goes BelowLimit t cs to
+next_of s t to c cs step (next, also, room, others) =
+    let both : Some next ≡ Some t = sym also ∙ step in
+    let is : next ≡ t = cc in
+    (room, subst (λ x. Goes BelowLimit x cs to) is others)
 
--- the field's pieces are that string
-own_string : (n depth : ℕ) (host : Host) → IsField fielded (IsShallow (depth + 1)) (ShallowFields (depth + 1)) host (around (nested n)) → InClassIn (with_fields (ShallowFields (depth + 1))) string (nested n)
-own_string n depth host (simple pieces shape is passes) =
-    let known = inside Fields (nested n) (string_nested n) in
-    let text : spelled pieces ++ 125 ∷ [] ≡ (nested n ++ []) ++ 125 ∷ [] = append_cancel_left (123 ∷ []) _ _ (sym shape ∙ in_braces (nested n)) in
-    let same = same_inside Fields Fields fields_begin fields_begin fields_agree pieces (piece string (nested n) ∷ []) 125 125 [] [] brace brace is known text in
-    (subst (IsShallow (depth + 1)) same.0 passes).1 refl
-own_string n depth host (specified pieces parts shape is passes specification) =
-    let known = inside Fields (nested n) (string_nested n) in
-    let text : spelled pieces ++ 58 ∷ (joined parts ++ 125 ∷ []) ≡ (nested n ++ []) ++ 125 ∷ [] = append_cancel_left (123 ∷ []) _ _ (sym shape ∙ in_braces (nested n)) in
-    let same = same_inside Fields Fields fields_begin fields_begin fields_agree pieces (piece string (nested n) ∷ []) 58 125 (joined parts ++ 125 ∷ []) [] colon brace is known text in
-    absurd (no_colon [] (joined parts ++ 125 ∷ []) (sym same.1))
+-- after the `f` of a string in these fields, and where a field in it opens
+after_letter : List Level → FieldScanned
+after_letter outer = field_state outer [] [] (plain (modes.Word spellings.F)) (codes "f")
 
-one_deeper : (n depth : ℕ) → InClassIn (with_fields (ShallowFields depth)) string (nested (suc n)) → (depth < 200) × InClassIn (with_fields (ShallowFields (depth + 1))) string (nested n)
-unfolding string_nested string_round
-one_deeper n depth is =
-    let before : MayPrecedeIn fielded string (nested (suc n)) [] = λ prefix q spell begun quotes. refl in
-    let after : MayPrecedeIn (with_fields (ShallowFields depth)) string (nested (suc n)) [] = λ prefix q spell begun quotes. refl in
-    let known = string_nested (suc n) in
-    let own = (fielded_alone Fields (ShallowFields depth) string (nested (suc n)) (nested (suc n)) [] [] known is after refl).1 in
-    let begin : BeginOpen (ShallowFields depth) = λ host text f. fields_begin host text (any_shallow depth host text f) in
-    let agree : Agree Fields (ShallowFields depth) = λ host s t r u one two at. fields_agree host s t r u one (any_shallow depth host t two) at in
-    let alike = alike_strings Fields (ShallowFields depth) fields_begin begin agree (nested (suc n)) (nested (suc n)) [] [] known own before after refl in
-    let parts : AreParts (ShallowFields depth) own.host literal false (around (nested n) ∷ []) (quotes_of own.host) = subst (λ ps. AreParts (ShallowFields depth) own.host literal false ps (quotes_of own.host)) (sym alike.parts) own.each in
-    let deep = shallow_of depth own.host (around (nested n)) (own_field (ShallowFields depth) own.host n _ parts.0) in
-    (deep.0, own_string n depth own.host deep.1)
+at_brace : List Level → FieldScanned
+at_brace outer = field_state outer [] [] (body short literal false after_brace) (codes "f\"{")
 
-no_deeper : (n depth : ℕ) → InClassIn (with_fields (ShallowFields depth)) string (nested n) → depth < 200 → depth + n ≤ 200
-no_deeper zero depth is room = omega arith
-no_deeper (suc n) depth is room =
-    let one = one_deeper n depth is in
-    go n one.0 one.1 (no_deeper n (depth + 1) one.1)
-  where
-    go : (m : ℕ) → depth < 200 → InClassIn (with_fields (ShallowFields (depth + 1))) string (nested m) → (depth + 1 < 200 → depth + 1 + m ≤ 200) → depth + suc m ≤ 200
-    go zero less deeper later = omega arith
-    go (suc m) less deeper later = omega (arith, later (one_deeper m (depth + 1) deeper).0)
+deeper : (n : ℕ) (outer : List Level) (rest : List ℕ) (to : FieldScanned) → levels_open outer ≤ 200 → Goes BelowLimit (after_letter outer) (quoted n ++ rest) to → levels_open outer + n ≤ 200
+unfolding quoted tested after_letter at_brace
+deeper zero outer rest to room goes = omega arith
+deeper (suc n) outer rest to room goes =
+    let text = (quoted n ++ codes "}\"") ++ rest in
+    let opened_at = field_state outer [] [] (opened short) (codes "f\"") in
+    let one = next_of (after_letter outer) opened_at to 34 (codes "{f" ++ text) refl goes in
+    let two = next_of opened_at (at_brace outer) to 123 (codes "f" ++ text) refl one.1 in
+    let inner = opened_level (at_brace outer) short literal (codes "f\"{") ∷ outer in
+    let three = next_of (at_brace outer) (after_letter inner) to 102 text refl two.1 in
+    let less : length {A = ℕ} [] + levels_open outer < 200 = three.0.0 in
+    let later = deeper n inner (codes "}\"" ++ rest) to (omega arith) (subst (λ t. Goes BelowLimit (after_letter inner) t to) (append_assoc (quoted n) (codes "}\"") rest) three.1) in
+    omega (arith, later)
+
+no_deeper : (n : ℕ) → InClassIn (with_fields (ShallowFields 0)) string (nested n) → n ≤ 200
+unfolding tested after_letter
+no_deeper n is =
+    let found = reached BelowLimit ShallowFields begin_shallow shallow_run (ShallowFields 0) (piece string (nested n) ∷ []) [] [] (is, λ prefix q spell begun quotes. refl, refl, tt) ((λ h. absurd (both_ways _ refl h)), (λ h. is), tt) refl in
+    let to = field_state [] found.done [] found.mode found.held in
+    let own = deeper n [] [] to (omega arith) (next_of field_text_start (after_letter []) to 102 (quoted n ++ []) refl found.goes).1 in
+    omega (arith, own)
 
 -- 200 and 201, from the text's start
 two_hundred : InClassIn (with_fields (ShallowFields 0)) string (nested 200)
@@ -159,5 +129,5 @@ two_hundred = string_map (ShallowWithin 200 0) (ShallowFields 0) (λ h t one. (2
 
 one_more : ¬ (InClassIn (with_fields (ShallowFields 0)) string (nested 201))
 one_more is =
-    let few = no_deeper 201 0 is (omega arith) in
+    let few = no_deeper 201 is in
     omega (arith, few)

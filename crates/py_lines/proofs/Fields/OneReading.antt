@@ -1,73 +1,28 @@
--- A text has one reading with fields.
-use Rattle.std.proofs.Common.{◌≡◌, ◌==◌, ℕ, zero, suc, true, false, ◌&&◌, Option, None, Some, List, [], ◌∷◌, ◌++◌, refl, sym, ap, ◌∙◌, subst, inl, inr, ◌⊎◌, append_assoc, append-nil}
-use Rattle.std.specs.Prelude.{if◌then◌else◌}
-use Rattle.std.proofs.lemmas.Bool.{or_parts, both_ways}
+-- A text has one reading with fields: the machine with fields goes over one piece, and then over no other.
+use Rattle.std.proofs.Common.{◌≡◌, ◌==◌, ℕ, true, false, ◌&&◌, Option, None, Some, List, [], ◌∷◌, ◌++◌, refl, sym, ap, ◌∙◌, subst, inl, inr, append_assoc, append-nil}
+use Rattle.std.proofs.lemmas.Bool.{cond_both, both_ways, false_from_ne_true}
 use Rattle.std.proofs.lemmas.List.{append_cancel_left}
-use Rattle.py_lines.specs.Character.{is_operator, is_quote, is_return, is_line_feed}
-use Rattle.py_lines.specs.Piece.{Class, mark, space, word, string, operator, comment, join, line_end, Piece, ends, spelled}
-use Rattle.py_lines.specs.PieceGrammar.{feed, return_feed, return, joined, Grammar, InClassIn, MayPrecedeIn, AreReadIn, ReadsIn}
-use Rattle.py_lines.specs.Balance.{is_opening, is_closing, is_opener, is_closer, IsBalanced, depth_after, depth_through}
-use Rattle.py_lines.specs.Fields.{ReadsText, HasNoColon, AreInside, IsField, simple, specified, FieldsWithin, Fields, fielded}
 use Rattle.std.specs.Str.{chars}
 use Rattle.std.proofs.lemmas.Str.{chars-encodes}
-use Rattle.py_lines.specs.LogicalLine.{first_or_zero}
-use Rattle.py_lines.specs.Balance as balance
-use Rattle.py_lines.specs.FieldStrings.{Host, quotes_of, with_fields}
+use Rattle.py_lines.specs.Character.{is_mark, is_operator, is_quote, is_return, is_line_feed}
+use Rattle.py_lines.specs.Piece.{Class, mark, space, word, string, operator, comment, join, line_end, Piece, ends, spelled}
+use Rattle.py_lines.specs.PieceGrammar.{feed, return_feed, return, joined, Grammar, InClassIn, MayPrecedeIn, AreReadIn, ReadsIn}
+use Rattle.py_lines.specs.Fields.{ReadsText, Fields, fielded}
+use Rattle.py_lines.specs.FieldStrings.{Host, literal, quotes_of, with_fields}
+use Rattle.py_lines.specs.declared.mode.Mode.TheVariants as modes
+use Rattle.py_lines.specs.declared.mode.Start.{Start}
+use Rattle.py_lines.specs.declared.mode.Start.TheVariants as starts
+use Rattle.py_lines.specs.Private.Machine.{start_of}
+use Rattle.py_lines.specs.Private.FieldMachine.{FieldMode, plain, FieldMove, grows, closes, breaks, begins_code, opens_field, ends_field, refused, Level, FieldScanned, field_state, field_text_start, field_closed, openers_with, after_operator, code_operator, field_operator, field_started, opened_level, specification_ended, field_move, field_moved, field_step, field_pieces}
 use Rattle.py_lines.proofs.Pieces.PieceLists.{piece, spelled-append, AreReadIn-second}
-use Rattle.py_lines.proofs.Pieces.OpenBrackets.{closer-not-opener, balanced_depth}
+use Rattle.py_lines.proofs.Text.CharacterTests.{none_of}
+use Rattle.py_lines.proofs.Text.Splits.{Either, either}
+use Rattle.py_lines.proofs.Machine.Starts.{start-operator}
 use Rattle.py_lines.proofs.Fields.Elsewhere.{quotes_begin}
-use Rattle.py_lines.proofs.Fields.Prefixes.{Compared, same, longer, shorter}
-use Rattle.py_lines.proofs.Fields.Parts.{BeginOpen, Agree, begins_same}
-use Rattle.py_lines.proofs.Fields.Ends.{same_specification}
-use Rattle.py_lines.proofs.Fields.SamePieces.{same_piece, compare_pieces}
-
--- how many brackets are open after pieces; None after a closing one where none is
-abbrev lower : ℕ → Option ℕ
-lower zero = None
-lower (suc n) = Some n
-
-abbrev level_of : ℕ → Piece → Option ℕ
-level_of n p = if is_opener p then Some (suc n) else (if is_closer p then lower n else Some n)
-
-abbrev level_through : Option ℕ → List Piece → Option ℕ
-level_through None ps = None
-level_through (Some n) [] = Some n
-level_through (Some n) (p ∷ ps) = level_through (level_of n p) ps
-
-level-append : (o : Option ℕ) (ps qs : List Piece) → level_through o (ps ++ qs) ≡ level_through (level_through o ps) qs
-level-append None ps qs = refl
-level-append (Some n) [] qs = refl
-level-append (Some n) (p ∷ ps) qs = level-append (level_of n p) ps qs
-
--- a balanced list leaves it as it was
-balanced_level : (ps : List Piece) → IsBalanced ps → (n : ℕ) → level_through (Some n) ps ≡ Some n
-balanced_level ps (balance.none _ is) n = ap (level_through (Some n)) is
-balanced_level ps (balance.one _ p is other) n =
-    let parts = or_parts (is_opener p) (is_closer p) other in
-    ap (level_through (Some n)) is ∙ ap (λ (o : Option ℕ). level_through o []) (stays n p parts.0 parts.1)
-  where
-    stays : (n : ℕ) (p : Piece) → is_opener p ≡ false → is_closer p ≡ false → level_of n p ≡ Some n
-    stays n p h k = rw (h, k)
-balanced_level ps (balance.pair _ inner a b is both within) n =
-    ap (level_through (Some n)) is
-    ∙ ap (λ (o : Option ℕ). level_through o (inner ++ b ∷ [])) (opens n a both.opens)
-    ∙ level-append (Some (suc n)) inner (b ∷ [])
-    ∙ ap (λ (o : Option ℕ). level_through o (b ∷ [])) (balanced_level inner within (suc n))
-    ∙ ap (λ (o : Option ℕ). level_through o []) (closes n b both.closes)
-  where
-    opens : (n : ℕ) (p : Piece) → is_opener p ≡ true → level_of n p ≡ Some (suc n)
-    opens n p h = rw h
-
-    closes : (n : ℕ) (p : Piece) → is_closer p ≡ true → level_of (suc n) p ≡ Some n
-    closes n p h = rw (closer-not-opener p h, h)
-balanced_level ps (balance.both _ first second is left right) n =
-    ap (level_through (Some n)) is ∙ level-append (Some n) first second
-    ∙ ap (λ (o : Option ℕ). level_through o second) (balanced_level first left n) ∙ balanced_level second right n
-
--- the last pieces
-no_colon_after : (depth : ℕ) (ps qs : List Piece) → HasNoColon depth (ps ++ qs) → HasNoColon (depth_through depth ps) qs
-no_colon_after depth [] qs none = none
-no_colon_after depth (p ∷ ps) qs none = no_colon_after (depth_after depth p) ps qs none.1
+use Rattle.py_lines.proofs.Fields.Prefixes.{Compared, same, longer, shorter, compared_more}
+use Rattle.py_lines.proofs.Fields.Parts.{begins_same}
+use Rattle.py_lines.proofs.FieldMachine.Runs.{NoLimit, Goes, StopsAt}
+use Rattle.py_lines.proofs.FieldMachine.Completeness.{FieldReaches, start_breaks, fields_reached}
 
 -- what follows pieces counts by its first character
 not_nothing : (x : List ℕ) (c : ℕ) (r : List ℕ) → x ++ c ∷ r ≡ [] → ⊥
@@ -81,7 +36,7 @@ precede_before grammar word text x c r s before = (sym (begins_same _ x c r s) �
 precede_before grammar string text x c r s before = λ prefix q is begun quotes. sym (begins_same _ x c r s) ∙ before prefix q is begun quotes
 precede_before grammar operator text x c r s before = before
 precede_before grammar comment text x c r s (inl none) = absurd (not_nothing x c r none)
-precede_before grammar comment text x c r s (inr breaks) = inr (sym (begins_same _ x c r s) ∙ breaks)
+precede_before grammar comment text x c r s (inr broken) = inr (sym (begins_same _ x c r s) ∙ broken)
 precede_before grammar join text x c r s before = ap (λ b. ends is_return text && b) (sym (begins_same is_line_feed x c r s)) ∙ before
 precede_before grammar line_end text x c r s before = ap (λ b. ends is_return text && b) (sym (begins_same is_line_feed x c r s)) ∙ before
 
@@ -89,132 +44,161 @@ pub read_before : (grammar : Grammar) (ps : List Piece) (c : ℕ) (r s : List �
 read_before grammar [] c r s fit = tt
 read_before grammar (p ∷ ps) c r s fit = (fit.0, precede_before grammar p.class p.text (spelled ps) c r s fit.1, fit.2, read_before grammar ps c r s fit.3)
 
--- `}` or `:`, which ends the pieces in a field
-abbrev pub IsEnd : ℕ → Type 0
-IsEnd c = (c ≡ 125) ⊎ (c ≡ 58)
+-- the finished pieces of the outermost list
+abbrev first_done : List Level → List Piece → List Piece
+first_done [] done = done
+first_done (l ∷ ls) done = first_done ls l.done
 
-end_operator : (c : ℕ) → IsEnd c → is_operator c ≡ true
-unfolding is_operator
-end_operator c (inl brace) = ap is_operator brace
-end_operator c (inr colon) = ap is_operator colon
+-- they begin with some pieces
+abbrev BeginWith : List Piece → List Level → List Piece → Type 0
+BeginWith first outer done = (ps : List Piece) × (first_done outer done ≡ first ++ ps)
 
-brace_closes : (zs : List Piece) → level_through (Some zero) (piece operator (125 ∷ []) ∷ zs) ≡ None
-unfolding is_opening is_closing
-brace_closes zs = refl
+abbrev BeginIf : List Piece → Option FieldScanned → Type 0
+BeginIf first None = Unit {0}
+BeginIf first (Some s) = BeginWith first s.outer s.done
 
--- the pieces in a field don't go on with it
-no_end : (ps qs zs : List Piece) (y : Piece) (c : ℕ) → IsEnd c → y ≡ piece operator (c ∷ []) → ps ≡ qs ++ y ∷ zs → IsBalanced ps → IsBalanced qs → HasNoColon 0 ps → ⊥
-no_end ps qs zs y c (inl brace) here is balanced before colon =
-    let end : y ≡ piece operator (125 ∷ []) = here ∙ ap (λ x. piece operator (x ∷ [])) brace in
-    let stuck : None ≡ Some zero =
-    sym (brace_closes zs) ∙ ap (λ (x : Piece). level_through (Some zero) (x ∷ zs)) (sym end)
-    ∙ ap (λ (o : Option ℕ). level_through o (y ∷ zs)) (sym (balanced_level qs before zero))
-    ∙ sym (level-append (Some zero) qs (y ∷ zs)) ∙ ap (level_through (Some zero)) (sym is) ∙ balanced_level ps balanced zero in
-    cc
-no_end ps qs zs y c (inr colon_is) here is balanced before colon =
-    let end : y ≡ piece operator (58 ∷ []) = here ∙ ap (λ x. piece operator (x ∷ [])) colon_is in
-    let own = no_colon_after 0 qs (y ∷ zs) (subst (HasNoColon 0) is colon) in
-    let at : HasNoColon 0 (piece operator (58 ∷ []) ∷ zs) = subst (λ d. HasNoColon d (piece operator (58 ∷ []) ∷ zs)) (balanced_depth qs before 0) (subst (λ (x : Piece). HasNoColon (depth_through 0 qs) (x ∷ zs)) end own) in
-    both_ways _ at.0 refl
+-- and do so whatever each character does
+module _ (first : List Piece) where
+  one_more : (outer : List Level) (done : List Piece) (p : Piece) → BeginWith first outer done → BeginWith first outer (done ++ p ∷ [])
+  one_more [] done p (ps, is) = (ps ++ p ∷ [], ap (λ l. l ++ p ∷ []) is ∙ append_assoc first ps (p ∷ []))
+  one_more (l ∷ ls) done p begin = begin
 
-module _ (F G : Host → List ℕ → Type 0) (begin_f : BeginOpen F) (begin_g : BeginOpen G) (agree : Agree F G) where
-  no_longer : (ps qs zs : List Piece) (y : Piece) (a b : ℕ) (r u : List ℕ) → IsEnd b → AreInside (with_fields F) ps (a ∷ []) → AreInside (with_fields G) qs (b ∷ []) → ps ≡ qs ++ y ∷ zs → spelled ps ++ a ∷ r ≡ spelled qs ++ b ∷ u → ⊥
-  no_longer ps qs zs y a b r u end one two is at =
-      let fit = AreReadIn-second (with_fields F) qs (y ∷ zs) (a ∷ r) (subst (λ l. AreReadIn (with_fields F) l (a ∷ r)) is (read_before (with_fields F) ps a [] r one.fit)) in
-      let here : y.text ++ (spelled zs ++ a ∷ r) ≡ b ∷ u =
-      append_cancel_left (spelled qs) _ _
-      (ap (λ t. spelled qs ++ t) (sym (append_assoc y.text (spelled zs) (a ∷ r))) ∙ sym (append_assoc (spelled qs) (y.text ++ spelled zs) (a ∷ r))
-      ∙ ap (λ t. t ++ a ∷ r) (sym (spelled-append qs (y ∷ zs)) ∙ ap spelled (sym is)) ∙ at) in
-      let same_end = same_piece F G begin_f begin_g agree y.class operator y.text (b ∷ []) (spelled zs ++ a ∷ r) u fit.0 fit.1 (b, refl, end_operator b end) tt here in
-      no_end ps qs zs y b end same_end is one.balanced two.balanced one.colon
+  closed_begin : (outer : List Level) (m : FieldMode) (done : List Piece) (held : List ℕ) → BeginWith first outer done → BeginWith first outer (field_closed m done held)
+  closed_begin outer (plain modes.Start) done held begin = begin
+  closed_begin outer (plain modes.Free) done held begin = begin
+  closed_begin outer (plain m) done held begin = one_more outer done _ begin
+  closed_begin outer m done held begin = one_more outer done _ begin
 
-agree_back : (F G : Host → List ℕ → Type 0) → Agree F G → Agree G F
-agree_back F G agree host s t r u one two at = sym (agree host t s u r two one (sym at))
+  operator_begin : (outer : List Level) (done : List Piece) (openers : List ℕ) (c : ℕ) → BeginWith first outer done → BeginIf first (field_operator outer done openers c)
+  unfolding code_operator
+  operator_begin outer done openers c begin = go outer openers begin
+    where
+      after : (ls : List Level) (o : Option (List ℕ)) → BeginWith first ls done → BeginIf first (after_operator ls done c o)
+      after ls None own = tt
+      after ls (Some os) own = one_more ls done (piece operator (c ∷ [])) own
 
--- the pieces in a field, and what follows
-pub same_inside : (F G : Host → List ℕ → Type 0) → BeginOpen F → BeginOpen G → Agree F G → (ps qs : List Piece) (a b : ℕ) (r u : List ℕ) → IsEnd a → IsEnd b → AreInside (with_fields F) ps (a ∷ []) → AreInside (with_fields G) qs (b ∷ []) → spelled ps ++ a ∷ r ≡ spelled qs ++ b ∷ u → (ps ≡ qs) × (a ∷ r ≡ b ∷ u)
-same_inside F G begin_f begin_g agree ps qs a b r u end_a end_b one two at =
-    let is = go (compare_pieces F G begin_f begin_g agree ps qs (a ∷ r) (b ∷ u) (read_before (with_fields F) ps a [] r one.fit) (read_before (with_fields G) qs b [] u two.fit) at) in
-    (is, append_cancel_left (spelled ps) _ _ (at ∙ ap (λ (l : List Piece). spelled l ++ b ∷ u) (sym is)))
+      go : (ls : List Level) (os : List ℕ) → BeginWith first ls done → BeginIf first (field_operator ls done os c)
+      go [] os own = after [] (openers_with os c) own
+      go (l ∷ ls) [] own = cond_both (c == 125) _ _ (BeginIf first) (λ h. own) (λ h. cond_both (c == 58) _ _ (BeginIf first) (λ k. own) (λ k. after (l ∷ ls) (openers_with [] c) own))
+      go (l ∷ ls) (o ∷ os) own = after (l ∷ ls) (openers_with (o ∷ os) c) own
+
+  started_begin : (outer : List Level) (done : List Piece) (openers : List ℕ) (c : ℕ) (s : Start) → BeginWith first outer done → BeginIf first (field_started outer done openers c s)
+  started_begin outer done openers c (starts.Open m) begin = begin
+  started_begin outer done openers c starts.Operator begin = operator_begin outer done openers c begin
+  started_begin outer done openers c starts.LineEnd begin = one_more outer done _ begin
+  started_begin outer done openers c starts.Nothing begin = tt
+
+  moved_begin : (s : FieldScanned) (c : ℕ) (v : FieldMove) → BeginWith first s.outer s.done → BeginIf first (field_moved s c v)
+  moved_begin s c (grows m) begin = begin
+  moved_begin s c closes begin = one_more s.outer s.done _ begin
+  moved_begin s c breaks begin = started_begin s.outer (field_pieces s) s.openers c (start_of c) (closed_begin s.outer s.mode s.done s.held begin)
+  moved_begin s c (begins_code host) begin = started_begin (opened_level s host literal s.held ∷ s.outer) [] [] c (start_of c) begin
+  moved_begin s c (opens_field host) begin = begin
+  moved_begin s c ends_field begin = go s.outer begin
+    where
+      go : (ls : List Level) → BeginWith first ls s.done → BeginIf first (specification_ended ls (s.held ++ c ∷ []))
+      go [] own = tt
+      go (l ∷ ls) own = own
+  moved_begin s c refused begin = tt
+
+  run_begin : (s : FieldScanned) (text : List ℕ) (t : FieldScanned) → Goes NoLimit s text t → BeginWith first s.outer s.done → BeginWith first t.outer t.done
+  run_begin s [] t goes begin = subst (λ (x : FieldScanned). BeginWith first x.outer x.done) goes begin
+  run_begin s (c ∷ cs) t (next, step, room, others) begin = run_begin next cs t others (subst (BeginIf first) step (moved_begin s c (field_move s.mode s.held c) begin))
+
+-- over the second of two texts, the machine goes from where it has come over the first
+goes_rest : (s t u : FieldScanned) (a b : List ℕ) → Goes NoLimit s a t → Goes NoLimit s (a ++ b) u → Goes NoLimit t b u
+goes_rest s t u [] b one two = subst (λ x. Goes NoLimit x b u) one two
+goes_rest s t u (c ∷ a) b (next, step, room, later) (mid, also, more, others) =
+    let both : Some mid ≡ Some next = sym also ∙ step in
+    let is : mid ≡ next = cc in
+    goes_rest next t u a b later (subst (λ x. Goes NoLimit x (a ++ b) u) is others)
+
+-- the machine goes over a piece, and may stop there; or the piece is an operator
+data IsAlone (class : Class) (text rest : List ℕ) : Type 0 where
+  single : (c : ℕ) → piece class text ≡ piece operator (c ∷ []) → is_operator c ≡ true → IsAlone class text rest
+  over : FieldReaches NoLimit text (piece class text ∷ []) [] rest → IsAlone class text rest
+
+is_alone : (class : Class) (text rest : List ℕ) → InClassIn fielded class text → MayPrecedeIn fielded class text rest → IsAlone class text rest
+is_alone operator text rest (c, is, passes) before = single c (ap (piece operator) is) passes
+is_alone class text rest is before = over (subst (λ t. FieldReaches NoLimit t (piece class text ∷ []) [] rest) (append-nil text) (fields_reached (piece class text ∷ []) [] rest (is, before, refl, tt) refl))
+
+-- where it goes on from one piece to another one alone, that is the same
+module _ (p q : Piece) (t u : List ℕ) (two : FieldReaches NoLimit t (q ∷ []) [] u) where
+  abbrev end_of : FieldScanned
+  end_of = field_state [] two.done [] two.mode two.held
+
+  goes_on : (s : FieldScanned) (text : List ℕ) → Goes NoLimit s text end_of → BeginWith (p ∷ []) s.outer s.done → p ≡ q
+  goes_on s text goes begin =
+      let all = closed_begin (p ∷ []) [] two.mode two.done two.held (run_begin (p ∷ []) s text end_of goes begin) in
+      let is : p ∷ all.0 ≡ q ∷ [] = sym all.1 ∙ two.pieces_are in
+      cc
+
+  after_piece : (s r x : List ℕ) → FieldReaches NoLimit s (p ∷ []) [] r → t ≡ s ++ x → r ≡ x ++ u → p ≡ q
+  after_piece s r x one is left = go x left (goes_rest field_text_start end end_of s x one.goes (subst (λ z. Goes NoLimit field_text_start z end_of) is two.goes))
+    where
+      end : FieldScanned
+      end = field_state [] one.done [] one.mode one.held
+
+      go : (y : List ℕ) → r ≡ y ++ u → Goes NoLimit end y end_of → p ≡ q
+      go [] at later =
+          let is : p ∷ [] ≡ q ∷ [] = sym one.pieces_are ∙ ap field_pieces later ∙ two.pieces_are in
+          cc
+      go (c ∷ y) at (next, step, room, others) =
+          let move = subst (StopsAt one.mode one.held) at (one.stops tt) in
+          goes_on next y others (subst (BeginIf (p ∷ [])) (sym (ap (field_moved end c) move) ∙ step) (started_begin (p ∷ []) [] (field_pieces end) [] c (start_of c) ([], one.pieces_are)))
+
+-- an operator is the first piece where its character stands
+operator-not-mark : (c : ℕ) → is_operator c ≡ true → is_mark c ≡ false
+unfolding is_operator is_mark
+operator-not-mark c is = false_from_ne_true _ (λ marks. both_ways _ (none_of is_operator (65279 ∷ []) c refl marks) is)
+
+operator_first : (c : ℕ) → is_operator c ≡ true → BeginIf (piece operator (c ∷ []) ∷ []) (field_step field_text_start c)
+operator_first c is =
+    subst (BeginIf (piece operator (c ∷ []) ∷ [])) (sym (ap (field_moved field_text_start c) (start_breaks c (operator-not-mark c is)) ∙ ap (field_started [] [] [] c) (start-operator c is))) (go (openers_with [] c))
   where
-    go : Compared Piece ps qs → ps ≡ qs
-    go (same is) = is
-    go (longer y zs is) = absurd (no_longer F G begin_f begin_g agree ps qs zs y a b r u end_b one two is at)
-    go (shorter y zs is) = absurd (no_longer G F begin_g begin_f (agree_back F G agree) qs ps zs y b a u r end_a two one is (sym at))
+    go : (o : Option (List ℕ)) → BeginIf (piece operator (c ∷ []) ∷ []) (after_operator [] [] c o)
+    go None = tt
+    go (Some os) = ([], refl)
 
--- the characters of a field and what follows
-abbrev closed : List Piece → List ℕ → List ℕ
-closed inside rest = 123 ∷ (spelled inside ++ 125 ∷ rest)
+after_operator_piece : (c : ℕ) (q : Piece) (t r u : List ℕ) → is_operator c ≡ true → FieldReaches NoLimit t (q ∷ []) [] u → c ∷ r ≡ t ++ u → piece operator (c ∷ []) ≡ q
+after_operator_piece c q [] r u is two at =
+    let none : [] ≡ q ∷ [] = ap field_pieces two.goes ∙ two.pieces_are in
+    absurd (cc)
+after_operator_piece c q (d ∷ t) r u is two at =
+    let here : c ≡ d = cc in
+    let (next, step, room, others) = two.goes in
+    goes_on (piece operator (c ∷ [])) q (d ∷ t) u two next t others (subst (BeginIf (piece operator (c ∷ []) ∷ [])) (ap (field_step field_text_start) here ∙ step) (operator_first c is))
 
-abbrev with_specification : List Piece → List (List ℕ) → List ℕ → List ℕ
-with_specification inside parts rest = 123 ∷ (spelled inside ++ 58 ∷ (joined parts ++ 125 ∷ rest))
+-- two pieces that begin in one place are the same
+same_piece : (c d : Class) (s t r u : List ℕ) → InClassIn fielded c s → MayPrecedeIn fielded c s r → InClassIn fielded d t → MayPrecedeIn fielded d t u → s ++ r ≡ t ++ u → piece c s ≡ piece d t
+same_piece c d s t r u one before two after at = go (is_alone c s r one before) (is_alone d t u two after)
+  where
+    rest : (x y a b k : List ℕ) → x ++ a ≡ y ++ b → y ≡ x ++ k → a ≡ k ++ b
+    rest x y a b k both is = append_cancel_left x _ _ (both ∙ ap (λ z. z ++ b) is ∙ append_assoc x k b)
 
-closed_text : (inside : List Piece) (text rest : List ℕ) → text ≡ 123 ∷ (spelled inside ++ 125 ∷ []) → text ++ rest ≡ closed inside rest
-closed_text inside text rest is = ap (λ t. t ++ rest) is ∙ ap (λ t. 123 ∷ t) (append_assoc (spelled inside) (125 ∷ []) rest)
+    go : IsAlone c s r → IsAlone d t u → piece c s ≡ piece d t
+    go (single x is passes) (single y also passing) =
+        let shown : x ∷ r ≡ y ∷ u = ap (λ (p : Piece). p.text ++ r) (sym is) ∙ at ∙ ap (λ (p : Piece). p.text ++ u) also in
+        let here : x ≡ y = cc in
+        is ∙ ap (λ z. piece operator (z ∷ [])) here ∙ sym also
+    go (single x is passes) (over found) = is ∙ after_operator_piece x (piece d t) t r u passes found (ap (λ (p : Piece). p.text ++ r) (sym is) ∙ at)
+    go (over found) (single y also passing) = sym (also ∙ after_operator_piece y (piece c s) s u r passing found (ap (λ (p : Piece). p.text ++ u) (sym also) ∙ sym at))
+    go (over first) (over second) = by (either s r t u at)
+      where
+        by : Either s t u → piece c s ≡ piece d t
+        by (Either.shorter k is) = after_piece (piece c s) (piece d t) t u second s r k first is (rest s t r u k at is)
+        by (Either.longer e k after is left) = sym (after_piece (piece d t) (piece c s) s r first t u (e ∷ k) second is (rest t s u r (e ∷ k) (sym at) is))
 
-specified_text : (inside : List Piece) (parts : List (List ℕ)) (text rest : List ℕ) → text ≡ 123 ∷ (spelled inside ++ 58 ∷ (joined parts ++ 125 ∷ [])) → text ++ rest ≡ with_specification inside parts rest
-specified_text inside parts text rest is =
-    ap (λ t. t ++ rest) is ∙ ap (λ t. 123 ∷ t) (append_assoc (spelled inside) (58 ∷ (joined parts ++ 125 ∷ [])) rest)
-    ∙ ap (λ t. 123 ∷ (spelled inside ++ 58 ∷ t)) (append_assoc (joined parts) (125 ∷ []) rest)
-
-pub brace : IsEnd 125
-brace = inl refl
-
-pub colon : IsEnd 58
-colon = inr refl
-
-pub no_colon : (r u : List ℕ) → 125 ∷ r ≡ 58 ∷ u → ⊥
-no_colon r u h =
-    let heads : 125 ≡ 58 = ap first_or_zero h in
-    both_ways _ refl (ap (λ x. x == 125) (sym heads))
-
--- so fields are the same, if those in them are
-same_field : (F G : Host → List ℕ → Type 0) (P Q : List Piece → Type 0) → BeginOpen F → BeginOpen G → Agree F G → (host : Host) (s t r u : List ℕ) → IsField (with_fields F) P F host s → IsField (with_fields G) Q G host t → s ++ r ≡ t ++ u → s ≡ t
-same_field F G P Q begin_f begin_g agree host s t r u (simple ps one_is one passes) (simple qs two_is two also) at =
-    let texts = append_cancel_left (123 ∷ []) _ _ (sym (closed_text ps s r one_is) ∙ at ∙ closed_text qs t u two_is) in
-    let is = same_inside F G begin_f begin_g agree ps qs 125 125 r u brace brace one two texts in
-    one_is ∙ ap (λ l. closed l []) is.0 ∙ sym two_is
-same_field F G P Q begin_f begin_g agree host s t r u (simple ps one_is one passes) (specified qs parts two_is two also specification) at =
-    let texts = append_cancel_left (123 ∷ []) _ _ (sym (closed_text ps s r one_is) ∙ at ∙ specified_text qs parts t u two_is) in
-    let is = same_inside F G begin_f begin_g agree ps qs 125 58 r (joined parts ++ 125 ∷ u) brace colon one two texts in
-    absurd (no_colon r (joined parts ++ 125 ∷ u) is.1)
-same_field F G P Q begin_f begin_g agree host s t r u (specified ps parts one_is one passes specification) (simple qs two_is two also) at =
-    let texts = append_cancel_left (123 ∷ []) _ _ (sym (specified_text ps parts s r one_is) ∙ at ∙ closed_text qs t u two_is) in
-    let is = same_inside F G begin_f begin_g agree ps qs 58 125 (joined parts ++ 125 ∷ r) u colon brace one two texts in
-    absurd (no_colon u (joined parts ++ 125 ∷ r) (sym is.1))
-same_field F G P Q begin_f begin_g agree host s t r u (specified ps parts one_is one passes first) (specified qs others two_is two also second) at =
-    let texts = append_cancel_left (123 ∷ []) _ _ (sym (specified_text ps parts s r one_is) ∙ at ∙ specified_text qs others t u two_is) in
-    let is = same_inside F G begin_f begin_g agree ps qs 58 58 (joined parts ++ 125 ∷ r) (joined others ++ 125 ∷ u) colon colon one two texts in
-    let specifications = same_specification F G begin_f begin_g agree host parts others r u first second (append_cancel_left (58 ∷ []) _ _ is.1) in
-    one_is ∙ ap (λ l. with_specification l parts []) is.0 ∙ ap (λ l. with_specification qs l []) specifications ∙ sym two_is
-
--- every field begins with `{` and holds more
-pub some_head : (x : List ℕ) (d : ℕ) (y : List ℕ) → (c : ℕ) × (cs : List ℕ) × (x ++ d ∷ y ≡ c ∷ cs)
-some_head [] d y = (d, y, refl)
-some_head (c ∷ x) d y = (c, x ++ d ∷ y, refl)
-
-pub field_begins : (grammar : Grammar) (P : List Piece → Type 0) (D : Host → List ℕ → Type 0) (host : Host) (text : List ℕ) → IsField grammar P D host text → (c : ℕ) × (cs : List ℕ) × (text ≡ 123 ∷ c ∷ cs)
-field_begins grammar P D host text (simple inside is fit passes) =
-    let head = some_head (spelled inside) 125 [] in
-    (head.0, head.1, is ∙ ap (λ t. 123 ∷ t) head.2)
-field_begins grammar P D host text (specified inside parts is fit passes specification) =
-    let head = some_head (spelled inside) 58 (joined parts ++ 125 ∷ []) in
-    (head.0, head.1, is ∙ ap (λ t. 123 ∷ t) head.2)
-
-pub within_begin : (n : ℕ) → BeginOpen (FieldsWithin n)
-within_begin zero host text is = absurd is
-within_begin (suc n) host text is = field_begins _ _ _ host text is
-
-within_agree : (n m : ℕ) → Agree (FieldsWithin n) (FieldsWithin m)
-within_agree zero m host s t r u one two at = absurd one
-within_agree (suc n) zero host s t r u one two at = absurd two
-within_agree (suc n) (suc m) host s t r u one two at = same_field (FieldsWithin n) (FieldsWithin m) _ _ (within_begin n) (within_begin m) (within_agree n m) host s t r u one two at
-
-pub fields_begin : BeginOpen Fields
-fields_begin host text (n, is) = within_begin n host text is
-
-pub fields_agree : Agree Fields Fields
-fields_agree host s t r u (n, one) (m, two) at = within_agree n m host s t r u one two at
+-- so of two lists of pieces that begin in one place, one begins with the other
+pub compare_pieces : (ps qs : List Piece) (r u : List ℕ) → AreReadIn fielded ps r → AreReadIn fielded qs u → spelled ps ++ r ≡ spelled qs ++ u → Compared Piece ps qs
+compare_pieces [] [] r u one two at = same refl
+compare_pieces [] (q ∷ qs) r u one two at = shorter q qs refl
+compare_pieces (p ∷ ps) [] r u one two at = longer p ps refl
+compare_pieces (p ∷ ps) (q ∷ qs) r u one two at =
+    let here : p.text ++ (spelled ps ++ r) ≡ q.text ++ (spelled qs ++ u) = sym (append_assoc p.text (spelled ps) r) ∙ at ∙ append_assoc q.text (spelled qs) u in
+    let is : p ≡ q = same_piece p.class q.class p.text q.text _ _ one.0 one.1 two.0 two.1 here in
+    let others : spelled ps ++ r ≡ spelled qs ++ u = append_cancel_left p.text _ _ (here ∙ ap (λ (x : Piece). x.text ++ (spelled qs ++ u)) (sym is)) in
+    compared_more Piece p q ps qs is (compare_pieces ps qs r u one.3 two.3 others)
 
 -- no piece is empty
 pub full : (F : Host → List ℕ → Type 0) (class : Class) (text : List ℕ) → InClassIn (with_fields F) class text → text ≡ [] → ⊥
@@ -246,7 +230,7 @@ ends_there ps qs zs y fit is at =
 -- two readings of a text are the same
 pub one_fielded_reading : (pieces others : List Piece) (characters : List ℕ) → ReadsIn fielded pieces characters → ReadsIn fielded others characters → pieces ≡ others
 one_fielded_reading pieces others characters one two =
-    go (compare_pieces Fields Fields fields_begin fields_begin fields_agree pieces others [] [] one.fit two.fit (ap (λ t. t ++ []) at))
+    go (compare_pieces pieces others [] [] one.fit two.fit (ap (λ t. t ++ []) at))
   where
     at : spelled pieces ≡ spelled others
     at = one.spell ∙ sym two.spell

@@ -2,12 +2,11 @@
 use Rattle.std.proofs.Common.{◌≡◌, ℕ, Bool, true, false, ◌||◌, ◌&&◌, List, [], ◌∷◌, ◌++◌, refl, sym, ap, ◌∙◌, ⊎_elim, inl, inr}
 use Rattle.std.specs.Prelude.{codes}
 use Rattle.std.specs.List.{list_all, list_any}
-use Rattle.std.proofs.lemmas.Bool.{and_parts, and_from, or_from, or_cases, both_ways, false_from_ne_true}
-use Rattle.py_lines.specs.Character.{is_mark, is_space, is_operator, is_hash, is_backslash, is_line_feed, is_return, is_quote, is_r, is_f, is_t, is_word_start, is_word_character, is_digit}
-use Rattle.py_lines.specs.Piece.{begins}
+use Rattle.std.proofs.lemmas.Bool.{and_parts, and_from, or_parts, or_from, or_cases, both_ways, false_from_ne_true}
+use Rattle.py_lines.specs.Character.{is_quote, is_r, is_f, is_t, is_word_start, is_word_character, is_digit}
 use Rattle.py_lines.specs.PieceGrammar.{IsPrefix}
 use Rattle.py_lines.specs.FieldStrings.{is_field_prefix}
-use Rattle.py_lines.proofs.Text.CharacterTests.{each_of, none_of, prefix_word, quote-not-word, quote-not-start}
+use Rattle.py_lines.proofs.Text.CharacterTests.{each_of, prefix_word, quote-not-word, quote-not-start}
 use Rattle.unicode_ident.proofs.Computing.{unicode_ident}
 
 -- of two lists, one begins with the other
@@ -91,25 +90,17 @@ plain_quotes (a ∷ bs) (inr is) =
     let letters = prefix_word a bs is in
     or_from _ _ (false_from_ne_true _ (λ k. both_ways _ (quote-not-start a k) letters.0)) (word_quotes bs letters.1)
 
--- what begins the pieces that are neither words nor strings
-abbrev pub begins_other : ℕ → Bool
-begins_other c = is_mark c || is_space c || is_operator c || is_hash c || is_backslash c || is_line_feed c || is_return c
-
-pub letter_no_other : (c : ℕ) → is_r c || is_f c || is_t c ≡ true → begins_other c ≡ false
-unfolding is_r is_f is_t is_mark is_space is_operator is_hash is_backslash is_line_feed is_return
-letter_no_other c h =
-    ⊎_elim
-    (λ rf. ⊎_elim (λ r. none_of begins_other (codes "rR") c refl r) (λ f. none_of begins_other (codes "fF") c refl f) (or_cases (is_r c) (is_f c) rf))
-    (λ t. none_of begins_other (codes "tT") c refl t)
-    (or_cases (is_r c || is_f c) (is_t c) h)
-
--- two runs that end where they may not go on
-pub same_run : (f : ℕ → Bool) (xs ys r u : List ℕ) → list_all f xs ≡ true → list_all f ys ≡ true → begins f r ≡ false → begins f u ≡ false → xs ++ r ≡ ys ++ u → (xs ≡ ys) × (r ≡ u)
-same_run f [] [] r u one two left right at = (refl, at)
-same_run f [] (y ∷ ys) r u one two left right at = absurd (both_ways _ left (ap (begins f) at ∙ (and_parts _ _ two).0))
-same_run f (x ∷ xs) [] r u one two left right at = absurd (both_ways _ right (ap (begins f) (sym at) ∙ (and_parts _ _ one).0))
-same_run f (x ∷ xs) (y ∷ ys) r u one two left right at =
-    let here : x ≡ y = cc in
-    let others : xs ++ r ≡ ys ++ u = cc in
-    let rest = same_run f xs ys r u (and_parts _ _ one).1 (and_parts _ _ two).1 left right others in
-    (ap (λ c. c ∷ xs) here ∙ ap (λ l. y ∷ l) rest.0, rest.1)
+-- what stands before the first quote, and that quote
+pub first_quote : (a b x y : List ℕ) (q r : ℕ) → list_any is_quote a ≡ false → list_any is_quote b ≡ false → is_quote q ≡ true → is_quote r ≡ true → a ++ q ∷ x ≡ b ++ r ∷ y → (a ≡ b) × (q ∷ x ≡ r ∷ y)
+first_quote [] [] x y q r one two quotes also at = (refl, at)
+first_quote [] (d ∷ b) x y q r one two quotes also at =
+    let here : q ≡ d = cc in
+    absurd (both_ways _ (or_parts _ _ two).0 (ap is_quote (sym here) ∙ quotes))
+first_quote (c ∷ a) [] x y q r one two quotes also at =
+    let here : c ≡ r = cc in
+    absurd (both_ways _ (or_parts _ _ one).0 (ap is_quote here ∙ also))
+first_quote (c ∷ a) (d ∷ b) x y q r one two quotes also at =
+    let here : c ≡ d = cc in
+    let others : a ++ q ∷ x ≡ b ++ r ∷ y = cc in
+    let rest = first_quote a b x y q r (or_parts _ _ one).1 (or_parts _ _ two).1 quotes also others in
+    (ap (λ x. x ∷ a) here ∙ ap (λ l. d ∷ l) rest.0, rest.1)

@@ -1,29 +1,20 @@
 -- Strings with fields: rows worked out by hand, on the definitions.
-use Rattle.std.proofs.Common.{◌≡◌, ◌==◌, ℕ, zero, suc, Bool, true, false, not, List, [], ◌∷◌, ◌++◌, refl, sym, ap, ◌∙◌, inl, inr, subst, append_assoc, append-nil}
+use Rattle.std.proofs.Common.{◌≡◌, ◌==◌, ℕ, zero, suc, Option, None, Some, true, false, List, [], ◌∷◌, ◌++◌, length, refl, sym, ap, ◌∙◌, inl, inr, append-nil}
 use Rattle.std.specs.Prelude.{codes}
 use Rattle.std.specs.List.{list_any}
-use Rattle.std.proofs.lemmas.Bool.{both_ways}
-use Rattle.std.proofs.lemmas.List.{append_cancel_left}
-use Rattle.unicode_ident.proofs.Computing.{unicode_ident}
-use Rattle.py_lines.specs.Character.{is_space, is_word_character, is_word_start, is_digit, is_quote, is_operator, is_line_feed, is_return, is_break, is_hash, is_backslash, is_barred, is_brace, is_r, is_b, is_f, is_t, is_u}
-use Rattle.py_lines.specs.Piece.{Class, space, word, string, operator, comment, line_end, Piece, spelled}
+use Rattle.py_lines.specs.Character.{is_word_start, is_quote, is_r}
+use Rattle.py_lines.specs.Piece.{Class, space, word, string, operator, comment, line_end, Piece}
 use Rattle.py_lines.specs.PieceGrammar.{feed, joined, has_triple, InClassIn, ReadsIn}
-use Rattle.py_lines.specs.Balance.{is_opening, is_closing, IsBalanced}
-use Rattle.py_lines.specs.Fields.{AreInside, IsField, simple, specified, AnyPieces, FieldsWithin, Fields, fielded}
+use Rattle.py_lines.specs.Fields.{AreInside, simple, specified, FieldsWithin, Fields, fielded}
 use Rattle.py_lines.specs.Balance as balance
-use Rattle.py_lines.specs.FieldStrings.{is_field_prefix, Host, literal, specification, quotes_of, IsPart, bare, slash, escape, escaped_end, name, double, field, AreParts, IsFieldString, with_fields}
+use Rattle.py_lines.specs.Private.FieldMachine.{FieldScanned, field_state, field_text_start, field_steps_from}
+use Rattle.py_lines.specs.FieldStrings.{is_field_prefix, Host, literal, quotes_of, bare, slash, escape, name, double, field, AreParts, IsFieldString, with_fields}
 use Rattle.py_lines.proofs.Text.CharacterTests.{not_quote}
 use Rattle.py_lines.proofs.Fields.Elsewhere.{none_false}
-use Rattle.py_lines.proofs.Fields.OneReading.{one_fielded_reading, same_inside, no_colon, fields_begin, fields_agree, brace, colon}
-use Rattle.py_lines.proofs.Fields.Prefixes.{field_letters}
-use Rattle.py_lines.proofs.Fields.Parts.{itself_at}
-use Rattle.py_lines.proofs.Fields.SameStrings.{first_quote}
-use Rattle.py_lines.proofs.Fields.Nesting.{field_of}
-
--- what the rows compute with
-unfoldable pub tested : Unit {0}
-unfolding unicode_ident is_space is_word_character is_word_start is_digit is_quote is_operator is_line_feed is_return is_break is_hash is_backslash is_barred is_brace is_r is_b is_f is_t is_u is_opening is_closing
-tested = tt
+use Rattle.py_lines.proofs.FieldMachine.Runs.{NoLimit, steps_of}
+use Rattle.py_lines.proofs.FieldMachine.Completeness.{fields_reached}
+unfoldable pub use Rattle.py_lines.proofs.FieldMachine.WorkedRows.{tested}
+use Rattle.py_lines.proofs.Fields.OneReading.{one_fielded_reading}
 
 abbrev pub piece : Class → List ℕ → Piece
 piece class text = record { class = class; text = text }
@@ -230,6 +221,18 @@ quotes_in_specification = string_with (codes "f") long (codes "{x:\"\"}" ∷ [])
 alone : (text : List ℕ) → InClassIn fielded string text → ReadsIn fielded (piece string text ∷ []) text
 alone text is = record { spell = append-nil text; fit = (is, λ prefix q spell begun quotes. refl, refl, tt) }
 
+-- and the machine comes to its end, with no field open
+open_fields : Option FieldScanned → Option ℕ
+open_fields None = None
+open_fields (Some s) = Some (length s.outer)
+
+string_ends : (text : List ℕ) → InClassIn fielded string text → open_fields (field_steps_from (Some field_text_start) text) ≡ Some 0
+unfolding open_fields
+string_ends text is =
+    let found = fields_reached (piece string text ∷ []) [] [] (alone text is).fit refl in
+    ap (λ t. open_fields (field_steps_from (Some field_text_start) t)) (sym (append-nil text))
+    ∙ ap open_fields (steps_of NoLimit field_text_start (field_state [] found.done [] found.mode found.held) (text ++ []) found.goes)
+
 -- f"{{" f"}}" : two strings
 two_strings : ReadsIn fielded (piece string (codes "f\"{{\"") ∷ piece space (codes " ") ∷ piece string (codes "f\"}}\"") ∷ []) (codes "f\"{{\" f\"}}\"")
 unfolding tested
@@ -261,31 +264,12 @@ empty_string_inside =
       tt,
     )
 
-not_empty : (x y : List ℕ) (c : ℕ) → [] ≡ x ++ c ∷ y → ⊥
-not_empty [] y c h = cc
-not_empty (d ∷ x) y c h = cc
-
 -- f"{" : no string, since a quote opens a string in a field
 no_string_with_open_field : ¬ (InClassIn fielded string (codes "f\"{\""))
-unfolding tested
+unfolding tested open_fields
 no_string_with_open_field is =
-    let brace : InClassIn fielded string (codes "\"}\"") = inl (inl (record { prefix = []; quote = 34; items = codes "}" ∷ []; spell = refl; begun = inl refl; opens = refl; each = refl }, refl)) in
-    let two : ReadsIn fielded (piece string (codes "f\"{\"") ∷ piece string (codes "\"}\"") ∷ []) (codes "f\"{\"\"}\"") =
-    record { spell = refl; fit = (is, λ prefix q spell begun quotes. absurd (not_doubled prefix q spell), refl, (brace, λ prefix q spell begun quotes. refl, refl, tt)) } in
-    let same = one_fielded_reading _ _ _ two (alone (codes "f\"{\"\"}\"") (inr empty_string_inside)) in
+    let open_yet : ◌≡◌ {A = Option ℕ} (Some 1) (Some 0) = string_ends (codes "f\"{\"") is in
     absurd (cc)
-  where
-    not_doubled : (prefix : List ℕ) (q : ℕ) → codes "f\"{\"" ≡ prefix ++ q ∷ q ∷ [] → ⊥
-    not_doubled [] q h = cc
-    not_doubled (a ∷ []) q h = cc
-    not_doubled (a ∷ b ∷ []) q h =
-        let one : 123 ≡ q = cc in
-        let other : 34 ≡ q = cc in
-        both_ways _ refl (ap (λ x. x == 34) (one ∙ sym other))
-    not_doubled (a ∷ b ∷ c ∷ []) q h = cc
-    not_doubled (a ∷ b ∷ c ∷ d ∷ prefix) q h =
-        let none : [] ≡ prefix ++ q ∷ q ∷ [] = cc in
-        not_empty prefix (q ∷ []) q none
 
 -- 'f"{a # }"\n}"' : a comment in a field goes to the line's end, over quotes and braces
 comment_inside : IsFieldString Fields (codes "f\"{a # }\"\n}\"")
@@ -310,90 +294,16 @@ comment_inside =
       tt,
     )
 
--- f"{a # }" : so this is no string, since the text that goes on by a line end and `}"#"` would have two readings
+-- f"{a # }" : so this is no string
 no_string_with_comment : ¬ (InClassIn fielded string (codes "f\"{a # }\""))
-unfolding tested
+unfolding tested open_fields
 no_string_with_comment is =
-    let hash : InClassIn fielded string (codes "\"#\"") = inl (inl (record { prefix = []; quote = 34; items = codes "#" ∷ []; spell = refl; begun = inl refl; opens = refl; each = refl }, refl)) in
-    let one : ReadsIn fielded (piece string (codes "f\"{a # }\"\n}\"") ∷ piece comment (codes "#\"") ∷ []) (codes "f\"{a # }\"\n}\"#\"") =
-    record { spell = refl; fit = (inr comment_inside, λ prefix q spell begun quotes. not_quote 35 q quotes refl, refl, ((35, codes "\"", refl, refl, refl), inl refl, refl, tt)) } in
-    let two : ReadsIn fielded (piece string (codes "f\"{a # }\"") ∷ piece line_end (codes "\n") ∷ piece operator (codes "}") ∷ piece string (codes "\"#\"") ∷ []) (codes "f\"{a # }\"\n}\"#\"") =
-    record { spell = refl; fit = (is, λ prefix q spell begun quotes. not_quote 10 q quotes refl, refl, (feed refl, refl, refl, ((125, refl, refl), tt, refl, (hash, λ prefix q spell begun quotes. refl, refl, tt)))) } in
-    let same = one_fielded_reading _ _ _ one two in
+    let open_yet : ◌≡◌ {A = Option ℕ} (Some 1) (Some 0) = string_ends (codes "f\"{a # }\"") is in
     absurd (cc)
 
--- 'f"{x:\n}"' : a line end in the specification of a short string
-x_before_colon : AreInside fielded (piece word (codes "x") ∷ []) (58 ∷ [])
-unfolding tested
-x_before_colon = record { fit = ((120, [], refl, refl, refl), (refl, refl), refl, tt); unmarked = refl; balanced = balance.one _ (piece word (codes "x")) refl refl; colon = (refl, tt) }
-
-abbrev short_host : Bool → Host
-short_host is_raw = record { quote = 34; is_long = false; is_raw = is_raw }
-
-no_line_end_after_colon : (is_raw : Bool) (parts : List (List ℕ)) (rest w : List ℕ) → AreParts Fields (short_host is_raw) specification false parts rest → joined parts ++ 125 ∷ w ≡ codes "\n}\"" → ⊥
-unfolding tested
-no_line_end_after_colon is_raw [] rest w each at =
-    let here : 125 ≡ 10 = cc in
-    both_ways _ refl (ap (λ x. x == 125) (sym here))
-no_line_end_after_colon is_raw (p ∷ ps) rest w each at =
-    let own = itself_at Fields fields_begin (short_host is_raw) specification false p _ (joined ps ++ 125 ∷ w) (codes "}\"") 10 each.0 (sym (append_assoc p (joined ps) _) ∙ at) (refl, refl) in
-    both_ways _ refl own.stands
-
-no_such_field : (is_raw : Bool) (text w : List ℕ) → Fields (short_host is_raw) text → text ++ w ≡ codes "{x:\n}\"" → ⊥
-no_such_field is_raw text w is at = go (field_of (short_host is_raw) text is)
-  where
-    go : IsField fielded AnyPieces Fields (short_host is_raw) text → ⊥
-    go (simple pieces shape inside passes) =
-        let body : spelled pieces ++ 125 ∷ w ≡ codes "x:\n}\"" = append_cancel_left (123 ∷ []) _ _ (sym (ap (λ t. t ++ w) shape ∙ ap (λ t. 123 ∷ t) (append_assoc (spelled pieces) (125 ∷ []) w)) ∙ at) in
-        let same = same_inside Fields Fields fields_begin fields_begin fields_agree pieces (piece word (codes "x") ∷ []) 125 58 w (codes "\n}\"") brace colon inside x_before_colon body in
-        no_colon w (codes "\n}\"") same.1
-    go (specified pieces parts shape inside passes own) =
-        let body : spelled pieces ++ 58 ∷ (joined parts ++ 125 ∷ w) ≡ codes "x:\n}\"" = append_cancel_left (123 ∷ []) _ _
-        (sym (ap (λ t. t ++ w) shape ∙ ap (λ t. 123 ∷ t) (append_assoc (spelled pieces) (58 ∷ (joined parts ++ 125 ∷ [])) w)
-        ∙ ap (λ t. 123 ∷ (spelled pieces ++ 58 ∷ t)) (append_assoc (joined parts) (125 ∷ []) w)) ∙ at) in
-        let same = same_inside Fields Fields fields_begin fields_begin fields_agree pieces (piece word (codes "x") ∷ []) 58 58 (joined parts ++ 125 ∷ w) (codes "\n}\"") colon colon inside x_before_colon body in
-        no_line_end_after_colon is_raw parts _ w own.each (append_cancel_left (58 ∷ []) _ _ same.1)
-
-no_such_parts : (is_raw : Bool) (parts : List (List ℕ)) (rest : List ℕ) → AreParts Fields (short_host is_raw) literal false parts rest → joined parts ++ 34 ∷ [] ≡ codes "{x:\n}\"" → ⊥
-unfolding tested
-no_such_parts is_raw [] rest each at = absurd (cc)
-no_such_parts is_raw (p ∷ ps) rest each at = go each.0
-  where
-    here : p ++ (joined ps ++ 34 ∷ []) ≡ codes "{x:\n}\""
-    here = sym (append_assoc p (joined ps) (34 ∷ [])) ∙ at
-
-    slashed : (s : ℕ) (x : List ℕ) → is_backslash s ≡ true → s ∷ x ≡ codes "{x:\n}\"" → ⊥
-    slashed s x h e =
-        let is : s ≡ 123 = cc in
-        both_ways _ refl (ap is_backslash (sym is) ∙ h)
-
-    go : IsPart Fields (short_host is_raw) literal false p (joined ps ++ rest) → ⊥
-    go (bare c shape a b d) =
-        let is : c ≡ 123 = cc in
-        both_ways _ refl (ap (λ x. not (x == 123)) (sym is) ∙ d)
-    go (slash s shape a b) = slashed s _ a (ap (λ t. t ++ (joined ps ++ 34 ∷ [])) (sym shape) ∙ here)
-    go (escape s c shape a b d e f) = slashed s _ a (ap (λ t. t ++ (joined ps ++ 34 ∷ [])) (sym shape) ∙ here)
-    go (escaped_end s c d shape a b e f) = slashed s _ a (ap (λ t. t ++ (joined ps ++ 34 ∷ [])) (sym shape) ∙ here)
-    go (name s c d shape a b e) = slashed s _ a (ap (λ t. t ++ (joined ps ++ 34 ∷ [])) (sym shape) ∙ here)
-    go (double b c shape one two d e) =
-        let shown : b ∷ c ∷ (joined ps ++ 34 ∷ []) ≡ codes "{x:\n}\"" = ap (λ t. t ++ (joined ps ++ 34 ∷ [])) (sym shape) ∙ here in
-        let is : c ≡ 120 = cc in
-        both_ways _ refl (ap (λ x. x == 123) (sym is ∙ two))
-    go (field own a b) = no_such_field is_raw p (joined ps ++ 34 ∷ []) own here
-
+-- 'f"{x:\n}"' : nor is a line end in the specification of a short string in one
 no_string_over_line_end : ¬ (IsFieldString Fields (codes "f\"{x:\n}\""))
-unfolding tested
-no_string_over_line_end is = go is.host.is_long is.parts is.each (is.spell)
-  where
-    go : (long : Bool) (parts : List (List ℕ)) → AreParts Fields (record { quote = is.host.quote; is_long = long; is_raw = is.host.is_raw }) literal false parts (quotes_of (record { quote = is.host.quote; is_long = long; is_raw = is.host.is_raw }))
-        → codes "f\"{x:\n}\"" ≡ is.prefix ++ (quotes_of (record { quote = is.host.quote; is_long = long; is_raw = is.host.is_raw }) ++ (joined parts ++ quotes_of (record { quote = is.host.quote; is_long = long; is_raw = is.host.is_raw }))) → ⊥
-    go true parts each spell =
-        let cut = first_quote (codes "f") is.prefix (codes "{x:\n}\"") _ 34 is.host.quote refl (field_letters is.prefix is.begun).quotes refl is.opens spell in
-        let one : 34 ≡ is.host.quote = cc in
-        let two : 123 ≡ is.host.quote = cc in
-        both_ways _ refl (ap (λ x. x == 34) (two ∙ sym one))
-    go false parts each spell =
-        let cut = first_quote (codes "f") is.prefix (codes "{x:\n}\"") _ 34 is.host.quote refl (field_letters is.prefix is.begun).quotes refl is.opens spell in
-        let one : is.host.quote ≡ 34 = cc in
-        let body : codes "{x:\n}\"" ≡ joined parts ++ is.host.quote ∷ [] = cc in
-        no_such_parts is.host.is_raw parts _ (subst (λ q. AreParts Fields (record { quote = q; is_long = false; is_raw = is.host.is_raw }) literal false parts (q ∷ [])) one each) (ap (λ q. joined parts ++ q ∷ []) (sym one) ∙ sym body)
+unfolding tested open_fields
+no_string_over_line_end is =
+    let stuck : ◌≡◌ {A = Option ℕ} None (Some 0) = string_ends (codes "f\"{x:\n}\"") (inr is) in
+    absurd (cc)

@@ -24,8 +24,7 @@ use Rattle.py_lines.proofs.Pieces.ShallowPieces.{IsShallow-parts, brackets_shall
 use Rattle.py_lines.proofs.Machine.LiveTexts.{keeps}
 use Rattle.py_lines.proofs.LogicalLines.NextLine.{lines_of-more}
 use Rattle.py_lines.proofs.Fields.Prefixes.{Compared}
-use Rattle.py_lines.proofs.Fields.SamePieces.{compare_pieces}
-use Rattle.py_lines.proofs.Fields.OneReading.{fields_begin, fields_agree, read_before, ends_there}
+use Rattle.py_lines.proofs.Fields.OneReading.{compare_pieces, read_before, ends_there}
 use Rattle.py_lines.proofs.FieldSoundness.WholeTexts.{shallow-push}
 pub use Rattle.py_lines.proofs.Lexings.LineEnds.{ends-append}
 use Rattle.py_lines.proofs.Lexings.LineEnds.{ends-last, feed_unreturned, returned_text, fed_line, line_end_of, read_on, level_stack, none_both}
@@ -139,7 +138,7 @@ begins_with pieces others after rest fit reading read spell few = go (either (sp
     go : Either (spelled pieces) (spelled others) rest → (more : List Piece) × (others ≡ pieces ++ more)
     go (Either.shorter mid at) =
         let is = append_cancel_left (spelled pieces) after (mid ++ rest) (spell ∙ ap (λ t. t ++ rest) at ∙ append_assoc (spelled pieces) mid rest) in
-        by mid (sym at) (compare_pieces Fields Fields fields_begin fields_begin fields_agree pieces others mid [] (before_mid mid is) read.reads.fit (sym at ∙ sym (append-nil (spelled others))))
+        by mid (sym at) (compare_pieces pieces others mid [] (before_mid mid is) read.reads.fit (sym at ∙ sym (append-nil (spelled others))))
     go (Either.longer c k later at left) = absurd (omega (arith, few, ap length at, length-append (spelled others) (c ∷ k)))
 
 -- so its lines are the first ones
