@@ -18,10 +18,10 @@ use Rattle.py_lines.proofs.Pieces.PieceLists.{piece}
 use Rattle.py_lines.proofs.Text.CharacterTests.{not_quote}
 use Rattle.py_lines.proofs.Machine.Starts.{StartsSo, starts_so}
 use Rattle.py_lines.proofs.FieldSoundness.PlainPieces.{StartHolds, start_holds}
-use Rattle.py_lines.proofs.FieldSoundness.OpenLists.{OpensIf, opens-none, opens-operator, opens-depth, balanced_at}
-use Rattle.py_lines.proofs.FieldSoundness.Holds.{Limit, OpensSpecification, HoldsParts, HoldsBetween, HoldsList, IsSingle, HoldsLevel, HoldsLevels, AtStart, IsFieldSound}
+use Rattle.py_lines.proofs.FieldSoundness.OpenLists.{OpensIf, opens-operator, opens-depth, balanced_at}
+use Rattle.py_lines.proofs.FieldSoundness.Holds.{Limit, OpensSpecification, HoldsParts, HoldsBetween, IsSingle, HoldsLevel, HoldsLevels, Stands, AtStart, IsFieldSound}
 use Rattle.py_lines.proofs.FieldSoundness.Bodies.{longer_next, push_between}
-use Rattle.py_lines.proofs.FieldSoundness.Lists.{FieldSoundIf, not_specification, list_more, levels_more, adds_neutral, fresh_sound}
+use Rattle.py_lines.proofs.FieldSoundness.Lists.{FieldSoundIf, not_specification, no_pieces, sound_in, list_more, levels_more, adds_neutral, fresh_sound}
 use Rattle.py_lines.proofs.FieldMachine.StringParts.{field_unnamed}
 
 -- a field among the parts of a string
@@ -49,15 +49,9 @@ field_end limit level outer rest read h levels is single spell =
       start = tt;
     }
 
--- finished pieces before a character that begins a new one
-pub record Ready (limit : Limit) (outer : List Level) (done : List Piece) (openers read : List ℕ) (c : ℕ) : Type 0 where
-  pub spell : before literal outer ++ spelled done ≡ read
-  pub list : HoldsList limit outer literal done openers (c ∷ [])
-  pub levels : HoldsLevels limit literal outer (spelled done ++ c ∷ [])
-  pub room : is_opening c ≡ true → limit.Room (length openers + levels_open outer)
-
-ready_spell : (limit : Limit) (outer : List Level) (done : List Piece) (openers read : List ℕ) (c : ℕ) → Ready limit outer done openers read c → before literal outer ++ (spelled done ++ c ∷ []) ≡ read ++ c ∷ []
-ready_spell limit outer done openers read c ready = sym (append_assoc (before literal outer) (spelled done) (c ∷ [])) ∙ ap (λ t. t ++ c ∷ []) ready.spell
+-- code before a character that begins a new piece
+abbrev pub Ready : Limit → List Level → List Piece → List ℕ → List ℕ → ℕ → Type 0
+Ready limit outer done openers read c = Stands limit literal outer done openers (c ∷ []) (read ++ c ∷ [])
 
 -- the pieces of a field that ends there
 inside_is : (limit : Limit) (level : Level) (outer : List Level) (done : List Piece) (read : List ℕ) (c : ℕ) → Ready limit (level ∷ outer) done [] read c → AreInside fielded done (c ∷ [])
@@ -66,22 +60,14 @@ inside_is limit level outer done read c ready =
     record { fit = ready.list.fit []; unmarked = own.0; balanced = balanced_at [] done refl ready.list.opens; colon = own.1 }
 
 -- an operator that neither ends a field nor opens its specification
-after_sound : (limit : Limit) (outer : List Level) (done : List Piece) (openers read : List ℕ) (c : ℕ) → Ready limit outer done openers read c → is_operator c ≡ true → ((l : Level) (ls : List Level) → outer ≡ l ∷ ls → (c == 58) && (depth_through 0 done == 0) ≡ false) → FieldSoundIf limit (after_operator outer done c (openers_with openers c)) (read ++ c ∷ [])
-after_sound limit outer done openers read c ready is colon = go (openers_with openers c) (opens-operator openers done c ready.list.opens)
+after_sound : (limit : Limit) (outer : List Level) (done : List Piece) (openers read : List ℕ) (c : ℕ) → Ready limit outer done openers read c → (is_opening c ≡ true → limit.Room (length openers + levels_open outer)) → is_operator c ≡ true → ((l : Level) (ls : List Level) → outer ≡ l ∷ ls → (c == 58) && (depth_through 0 done == 0) ≡ false) → FieldSoundIf limit (after_operator outer done c (openers_with openers c)) (read ++ c ∷ [])
+after_sound limit outer done openers read c ready room is colon = go (openers_with openers c) (opens-operator openers done c ready.list.opens)
   where
     go : (o : Option (List ℕ)) → OpensIf o (done ++ piece operator (c ∷ []) ∷ []) → FieldSoundIf limit (after_operator outer done c o) (read ++ c ∷ [])
     go None opens = tt
     go (Some after) opens =
-        fresh_sound limit outer done openers after operator (c ∷ []) (read ++ c ∷ []) (ready_spell limit outer done openers read c ready) ready.list ready.levels
-        (record {
-          is = (c, refl, is);
-          precedes = λ more. tt;
-          unmarked = inl refl;
-          opens = opens;
-          colon = colon;
-          room = λ h. subst limit.Room (sym (opens-depth openers done (levels_open outer) ready.list.opens)) (ready.room h);
-          holds = λ at. absurd (cc);
-        })
+        fresh_sound limit outer done openers after operator (c ∷ []) (read ++ c ∷ []) ready
+        (record { is = (c, refl, is); precedes = λ more. tt; unmarked = inl refl; opens = opens; colon = colon; room = room })
 
 -- the `}` that ends a field without a specification
 code_ends : (limit : Limit) (level : Level) (outer : List Level) (done : List Piece) (read : List ℕ) (c : ℕ) → Ready limit (level ∷ outer) done [] read c → c ≡ 125 → IsFieldSound limit (field_ended level outer (level.front ++ (spelled done ++ c ∷ []))) (read ++ c ∷ [])
@@ -94,7 +80,7 @@ code_ends limit level outer done read c ready is =
     (λ at. ap begins_open (sym (append-nil rest)) ∙ single_at level.place rest ready.levels.0 at [])
     (ap (λ t. before level.place outer ++ t) (sym (append_assoc (spelled level.done) level.front rest))
     ∙ sym (append_assoc (before level.place outer) (spelled level.done ++ level.front) rest)
-    ∙ ready_spell limit (level ∷ outer) done [] read c ready)
+    ∙ ready.spell)
 
 -- the `:` that opens a specification
 code_specifies : (limit : Limit) (level : Level) (outer : List Level) (done : List Piece) (read : List ℕ) (c : ℕ) → Ready limit (level ∷ outer) done [] read c → c ≡ 58 → IsFieldSound limit (field_state (level ∷ outer) [] [] (body level.host specification false between) (level.front ++ (spelled done ++ c ∷ []))) (read ++ c ∷ [])
@@ -114,13 +100,13 @@ code_specifies limit level outer done read c ready is =
       spell = append_assoc (before level.place outer) (spelled level.done) held
           ∙ ap (λ t. before level.place outer ++ t) (sym (append_assoc (spelled level.done) level.front rest))
           ∙ sym (append_assoc (before level.place outer) (spelled level.done ++ level.front) rest)
-          ∙ ready_spell limit (level ∷ outer) done [] read c ready;
+          ∙ ready.spell;
       mode = record {
         all = record { begin = held; parts = []; spell = sym (append-nil held); opens_with = opens; quotes = own.parts.quotes; fit = λ more. tt; named_is = refl; open_yet = refl };
         apart = refl;
         full = λ at short. not_specification (sym at);
       };
-      list = record { fit = λ more. tt; opens = opens-none; passes = limit.none_at (levels_open (level ∷ outer)); in_field = λ l ls at. (refl, tt); no_list = λ at. (refl, refl) };
+      list = no_pieces limit specification (level ∷ outer) held;
       levels = (tt, own, ready.levels.2);
       start = tt;
     }
@@ -129,22 +115,22 @@ code_specifies limit level outer done read c ready is =
 deep : (n m : ℕ) → n ≡ suc m + 0 → (n == 0) ≡ false
 deep n m is = ne_eqb n 0 (λ zero. omega (arith, is, zero))
 
-operator_sound : (limit : Limit) (outer : List Level) (done : List Piece) (openers read : List ℕ) (c : ℕ) → Ready limit outer done openers read c → is_operator c ≡ true → FieldSoundIf limit (field_operator outer done openers c) (read ++ c ∷ [])
+operator_sound : (limit : Limit) (outer : List Level) (done : List Piece) (openers read : List ℕ) (c : ℕ) → Ready limit outer done openers read c → (is_opening c ≡ true → limit.Room (length openers + levels_open outer)) → is_operator c ≡ true → FieldSoundIf limit (field_operator outer done openers c) (read ++ c ∷ [])
 unfolding code_operator
-operator_sound limit [] done openers read c ready is = after_sound limit [] done openers read c ready is (λ l ls at. absurd (cc))
-operator_sound limit (level ∷ outer) done [] read c ready is =
+operator_sound limit [] done openers read c ready room is = after_sound limit [] done openers read c ready room is (λ l ls at. absurd (cc))
+operator_sound limit (level ∷ outer) done [] read c ready room is =
     cond_both (c == 125) _ _ (λ (o : Option FieldScanned). FieldSoundIf limit o (read ++ c ∷ []))
     (λ ends. code_ends limit level outer done read c ready (eqb-true c 125 ends))
     (λ other. cond_both (c == 58) _ _ (λ (o : Option FieldScanned). FieldSoundIf limit o (read ++ c ∷ []))
     (λ specifies. code_specifies limit level outer done read c ready (eqb-true c 58 specifies))
-    (λ another. after_sound limit (level ∷ outer) done [] read c ready is (λ l ls at. and_left _ _ another)))
-operator_sound limit (level ∷ outer) done (o ∷ os) read c ready is =
+    (λ another. after_sound limit (level ∷ outer) done [] read c ready room is (λ l ls at. and_left _ _ another)))
+operator_sound limit (level ∷ outer) done (o ∷ os) read c ready room is =
     let depth : depth_through 0 done ≡ suc (length os) + 0 = opens-depth (o ∷ os) done 0 ready.list.opens ∙ omega arith in
-    after_sound limit (level ∷ outer) done (o ∷ os) read c ready is (λ l ls at. and_right _ _ (deep (depth_through 0 done) (length os) depth))
+    after_sound limit (level ∷ outer) done (o ∷ os) read c ready room is (λ l ls at. and_right _ _ (deep (depth_through 0 done) (length os) depth))
 
 -- what a character begins
-pub start_sound : (limit : Limit) (outer : List Level) (done : List Piece) (openers read : List ℕ) (c : ℕ) → Ready limit outer done openers read c → FieldSoundIf limit (field_started outer done openers c (start_of c)) (read ++ c ∷ [])
-start_sound limit outer done openers read c ready = go (start_of c) (starts_so c) (start_holds c)
+pub start_sound : (limit : Limit) (outer : List Level) (done : List Piece) (openers read : List ℕ) (c : ℕ) → Ready limit outer done openers read c → (is_opening c ≡ true → limit.Room (length openers + levels_open outer)) → FieldSoundIf limit (field_started outer done openers c (start_of c)) (read ++ c ∷ [])
+start_sound limit outer done openers read c ready room = go (start_of c) (starts_so c) (start_holds c)
   where
     quoted : (m : Mode) → StartsSo c (starts.Open m) → class_of m ≡ string → BeginsPlain (c ∷ [])
     quoted (modes.Opened q) so at = record { prefix = []; quote = c; body = []; spell = refl; none = refl; opens = so.0; plain = refl }
@@ -160,17 +146,11 @@ start_sound limit outer done openers read c ready = go (start_of c) (starts_so c
     at_start m so = tt
 
     go : (s : Start) → StartsSo c s → StartHolds c s → FieldSoundIf limit (field_started outer done openers c s) (read ++ c ∷ [])
-    go (starts.Open m) so holds = record {
-      spell = ready_spell limit outer done openers read c ready;
-      mode = (holds, quoted m so);
-      list = ready.list;
-      levels = ready.levels;
-      start = at_start m so;
-    }
-    go starts.Operator so holds = operator_sound limit outer done openers read c ready so
+    go (starts.Open m) so holds = sound_in limit outer done openers (plain m) (c ∷ []) (read ++ c ∷ []) ready (holds, quoted m so) (at_start m so)
+    go starts.Operator so holds = operator_sound limit outer done openers read c ready room so
     go starts.LineEnd so holds =
-        fresh_sound limit outer done openers openers line_end (c ∷ []) (read ++ c ∷ []) (ready_spell limit outer done openers read c ready) ready.list ready.levels
-        (adds_neutral limit outer done openers (c ∷ []) line_end (c ∷ []) [] ready.list (λ at. absurd (cc)) holds.0 (λ more. holds.1 more) (inl refl) (λ at. absurd (cc)))
+        fresh_sound limit outer done openers openers line_end (c ∷ []) (read ++ c ∷ []) ready
+        (adds_neutral limit outer done openers line_end (c ∷ []) [] ready.list.opens (λ at. absurd (cc)) holds.0 (λ more. holds.1 more) (inl refl))
     go starts.Nothing so holds = tt
 
 -- the `}` that ends a field with a specification

@@ -147,6 +147,12 @@ HoldsLevels limit literal [] text = Unit {0}
 HoldsLevels limit specification [] text = ⊥
 HoldsLevels limit place (l ∷ ls) text = IsSingle place l.place text × HoldsLevel limit l ls × HoldsLevels limit l.place ls (spelled l.done ++ l.front)
 
+-- the lists and strings that are open, with the text of the innermost piece, where these characters have been read
+pub record Stands (limit : Limit) (place : Place) (outer : List Level) (done : List Piece) (openers held read : List ℕ) : Type 0 where
+  pub spell : before place outer ++ (spelled done ++ held) ≡ read
+  pub list : HoldsList limit outer place done openers held
+  pub levels : HoldsLevels limit place outer (spelled done ++ held)
+
 -- only the text's start is before a mark
 abbrev pub AtStart : FieldMode → List Level → List Piece → Type 0
 AtStart (plain modes.Start) outer done = (outer ≡ []) × (done ≡ [])

@@ -4,22 +4,19 @@ use Rattle.std.specs.Str.{byte}
 use Rattle.std.proofs.lemmas.Bool.{cond_both, both_ways, eqb-true}
 use Rattle.py_lines.specs.Character.{is_quote}
 use Rattle.py_lines.specs.Piece.{Class, string, spelled, Piece}
-use Rattle.py_lines.specs.PieceGrammar.{InClassIn, MayPrecedeIn}
-use Rattle.py_lines.specs.Balance.{is_opening}
-use Rattle.py_lines.specs.Fields.{Fields, fielded}
-use Rattle.py_lines.specs.FieldStrings.{Host, Place, literal, specification, quotes_of, IsFieldString, with_fields}
+use Rattle.py_lines.specs.PieceGrammar.{MayPrecedeIn}
+use Rattle.py_lines.specs.Fields.{fielded}
+use Rattle.py_lines.specs.FieldStrings.{Host, Place, literal, specification, quotes_of, IsFieldString}
 use Rattle.py_lines.specs.declared.mode.Mode.TheVariants as modes
-use Rattle.py_lines.specs.Private.FieldMachine.{text_place, before, between, FieldMode, plain, opened, empty, body, FieldMove, grows, closes, breaks, begins_code, opens_field, ends_field, refused, Level, FieldScanned, field_state, field_text_start, begins_host, long_host, field_move, body_move, field_moved, field_step, field_steps_from, field_class_of, levels_open, frames}
-use Rattle.py_lines.proofs.Pieces.PieceLists.{piece, spelled-push}
-use Rattle.py_lines.proofs.Fields.Nesting.{string_map}
+use Rattle.py_lines.specs.Private.FieldMachine.{text_place, before, between, FieldMode, plain, opened, empty, body, FieldMove, grows, closes, breaks, begins_code, opens_field, ends_field, refused, Level, FieldScanned, field_state, field_fresh, field_text_start, begins_host, long_host, field_move, body_move, field_moved, field_step, field_steps_from, field_class_of, levels_open, frames}
+use Rattle.py_lines.proofs.Pieces.PieceLists.{piece}
 use Rattle.py_lines.proofs.Fields.Prefixes.{field_letters, first_quote}
-use Rattle.py_lines.proofs.FieldSoundness.OpenLists.{opens-none, opens-depth}
-use Rattle.py_lines.proofs.FieldSoundness.Holds.{Limit, OpensHost, HoldsParts, HoldsBetween, HoldsList, HoldsLevel, HoldsLevels, AtStart, IsFieldSound}
+use Rattle.py_lines.proofs.FieldSoundness.Holds.{Limit, OpensHost, HoldsParts, HoldsBetween, HoldsLevel, HoldsLevels, AtStart, IsFieldSound}
 use Rattle.py_lines.proofs.FieldSoundness.Bodies.{quoted_prefix, short_quotes, IsIn, Moved, between_moves}
 use Rattle.py_lines.proofs.FieldSoundness.BodyMoves.{body_moves}
-use Rattle.py_lines.proofs.FieldSoundness.Lists.{FieldSoundIf, not_specification, list_more, levels_more, adds_neutral, list_push, levels_push, fresh_sound}
-use Rattle.py_lines.proofs.FieldSoundness.Code.{Ready, start_sound, specification_ends}
-use Rattle.py_lines.proofs.FieldSoundness.PlainSteps.{HasRoom, grew, plain_sound, begins_sound}
+use Rattle.py_lines.proofs.FieldSoundness.Lists.{FieldSoundIf, no_pieces, stands_at, stands_more}
+use Rattle.py_lines.proofs.FieldSoundness.Code.{start_sound, specification_ends}
+use Rattle.py_lines.proofs.FieldSoundness.PlainSteps.{HasRoom, grew, closes_with, ends_before, plain_sound, begins_sound}
 
 -- one more quote of an opening
 more_quotes : (host : Host) (quotes held : List ℕ) (c : ℕ) → c == host.quote ≡ true → OpensHost host quotes held → OpensHost host (quotes ++ host.quote ∷ []) (held ++ c ∷ [])
@@ -78,77 +75,32 @@ module _ (limit : Limit) (outer : List Level) (done : List Piece) (openers : Lis
   abbrev State : FieldScanned
   State = field_state outer done openers m held
 
-  -- the text of a string with fields, as pieces before it need it
-  longer_text : spelled done ++ (held ++ c ∷ []) ≡ (spelled done ++ held) ++ c ∷ []
-  longer_text = sym (append_assoc (spelled done) held (c ∷ []))
-
-  -- the string ends with the character
-  string_closes : (at : text_place m ≡ literal) → InClassIn (with_fields (limit.FieldsAt depth)) string (held ++ c ∷ []) → ((more : List ℕ) → MayPrecedeIn fielded string (held ++ c ∷ []) more) → IsFieldSound limit (field_state outer (done ++ piece string (held ++ c ∷ []) ∷ []) openers (plain modes.Free) []) (read ++ c ∷ [])
-  string_closes at own precedes =
-      let text = held ++ c ∷ [] in
-      let list = list_more limit outer literal done openers held (c ∷ []) (subst (λ p. HoldsList limit outer p done openers held) at sound.list) in
-      fresh_sound limit outer done openers openers string text (read ++ c ∷ [])
-      (ap (λ t. before literal outer ++ t) longer_text ∙ sym (append_assoc (before literal outer) (spelled done ++ held) (c ∷ [])) ∙ ap (λ t. t ++ c ∷ []) (ap (λ p. before p outer ++ (spelled done ++ held)) (sym at) ∙ sound.spell)) list
-      (subst (HoldsLevels limit literal outer) (sym longer_text) (levels_more limit literal outer (spelled done ++ held) (c ∷ []) (subst (λ p. HoldsLevels limit p outer (spelled done ++ held)) at sound.levels)))
-      (adds_neutral limit outer done openers text string text [] list (λ h. absurd (cc)) (string_map (limit.FieldsAt depth) Fields (limit.are_fields depth) text own) precedes (inl refl)
-      (λ h. subst (λ (d : ℕ). InClassIn (with_fields (limit.FieldsAt d)) string text) (sym (opens-depth openers done (levels_open outer) sound.list.opens)) own))
-
-  -- it ends before the character
-  string_ready : (at : text_place m ≡ literal) → InClassIn (with_fields (limit.FieldsAt depth)) string held → ((more : List ℕ) → MayPrecedeIn fielded string held (c ∷ more)) → (is_opening c ≡ true → limit.Room depth) → Ready limit outer (done ++ piece string held ∷ []) openers read c
-  string_ready at own precedes room =
-      let list = subst (λ p. HoldsList limit outer p done openers held) at sound.list in
-      record {
-        spell = ap (λ t. before literal outer ++ t) (spelled-push done string held) ∙ ap (λ p. before p outer ++ (spelled done ++ held)) (sym at) ∙ sound.spell;
-        list = list_push limit outer done openers openers string held (c ∷ []) list
-            (adds_neutral limit outer done openers held string held (c ∷ []) list (λ h. absurd (cc)) (string_map (limit.FieldsAt depth) Fields (limit.are_fields depth) held own) precedes (inl refl)
-            (λ h. subst (λ (d : ℕ). InClassIn (with_fields (limit.FieldsAt d)) string held) (sym (opens-depth openers done (levels_open outer) sound.list.opens)) own));
-        levels = levels_push limit outer done string held (c ∷ []) (subst (λ p. HoldsLevels limit p outer (spelled done ++ held)) at sound.levels);
-        room = room;
-      }
-
   -- a field opens before the character, in a literal part
   code_begins : (host : Host) (text : List ℕ) → text_place m ≡ literal → c == byte "{" ≡ false → held ≡ text ++ byte "{" ∷ [] → HoldsParts limit outer depth host literal false text (byte "{" ∷ []) → HasRoom limit depth c (begins_code host) → FieldSoundIf limit (field_moved State c (begins_code host)) (read ++ c ∷ [])
   code_begins host text at single spell parts room =
       let level : Level = record { done = done; openers = openers; host = host; place = literal; front = held } in
-      let own : HoldsLevel limit level outer = record { text = text; spell = spell; list = subst (λ p. HoldsList limit outer p done openers held) at sound.list; parts = parts; room = room.0 } in
-      start_sound limit (level ∷ outer) [] [] read c (record {
-        spell = append-nil (before literal outer ++ (spelled done ++ held)) ∙ ap (λ p. before p outer ++ (spelled done ++ held)) (sym at) ∙ sound.spell;
-        list = record { fit = λ more. tt; opens = opens-none; passes = limit.none_at (levels_open (level ∷ outer)); in_field = λ l ls is. (refl, tt); no_list = λ is. not_specification is };
-        levels = (λ more. single, own, subst (λ p. HoldsLevels limit p outer (spelled done ++ held)) at sound.levels);
-        room = λ opens. subst limit.Room (omega arith) (room.1 opens);
-      })
+      let stands = stands_at limit outer done openers m held read literal sound at in
+      start_sound limit (level ∷ outer) [] [] read c
+      (record { spell = sym (append_assoc (before literal outer ++ (spelled done ++ held)) [] (c ∷ [])) ∙ ap (λ t. t ++ c ∷ []) (append-nil (before literal outer ++ (spelled done ++ held)) ∙ stands.spell); list = no_pieces limit literal (level ∷ outer) (c ∷ []); levels = (λ more. single, record { text = text; spell = spell; list = stands.list; parts = parts; room = room.0 }, stands.levels) })
+      (λ opens. subst limit.Room (omega arith) (room.1 opens))
 
   -- a field opens at the character, in a specification
   field_opens : (host : Host) → text_place m ≡ specification → c ≡ byte "{" → HoldsParts limit outer depth host specification false held (byte "{" ∷ []) → limit.Room depth → FieldSoundIf limit (field_moved State c (opens_field host)) (read ++ c ∷ [])
   field_opens host at is parts room =
       let front = held ++ c ∷ [] in
       let level : Level = record { done = done; openers = openers; host = host; place = specification; front = front } in
-      let own : HoldsLevel limit level outer = record {
-        text = held;
-        spell = ap (λ (d : ℕ). held ++ d ∷ []) is;
-        list = list_more limit outer specification done openers held (c ∷ []) (subst (λ p. HoldsList limit outer p done openers held) at sound.list);
-        parts = parts;
-        room = room;
-      } in
-      record {
-        spell = append-nil (before specification outer ++ (spelled done ++ front))
-            ∙ ap (λ t. before specification outer ++ t) longer_text
-            ∙ sym (append_assoc (before specification outer) (spelled done ++ held) (c ∷ []))
-            ∙ ap (λ t. t ++ c ∷ []) (ap (λ p. before p outer ++ (spelled done ++ held)) (sym at) ∙ sound.spell);
-        mode = (refl, λ h. absurd (cc));
-        list = record { fit = λ more. tt; opens = opens-none; passes = limit.none_at (levels_open (level ∷ outer)); in_field = λ l ls h. (refl, tt); no_list = λ h. not_specification h };
-        levels = (tt, own, subst (HoldsLevels limit specification outer) (sym longer_text) (levels_more limit specification outer (spelled done ++ held) (c ∷ []) (subst (λ p. HoldsLevels limit p outer (spelled done ++ held)) at sound.levels)));
-        start = tt;
-      }
+      let stands = stands_more limit specification outer done openers held read (c ∷ []) (stands_at limit outer done openers m held read specification sound at) in
+      let own : HoldsLevel limit level outer = record { text = held; spell = ap (λ (d : ℕ). held ++ d ∷ []) is; list = stands.list; parts = parts; room = room } in
+      record { spell = append-nil (before specification outer ++ (spelled done ++ front)) ∙ stands.spell; mode = (refl, λ h. absurd (cc)); list = no_pieces limit literal (level ∷ outer) []; levels = (tt, own, stands.levels); start = tt }
 
   -- the field ends whose specification is open
   field_ends : (host : Host) → text_place m ≡ specification → c ≡ byte "}" → HoldsParts limit outer depth host specification false held (byte "}" ∷ []) → FieldSoundIf limit (field_moved State c ends_field) (read ++ c ∷ [])
   field_ends host at is parts =
       let none = sound.list.no_list at in
       let text : spelled done ++ held ≡ held = ap (λ (l : List Piece). spelled l ++ held) none.0 in
+      let stands = stands_at limit outer done openers m held read specification sound at in
       specification_ends limit outer openers host held read c none.1 is parts
-      (subst (HoldsLevels limit specification outer) text (subst (λ p. HoldsLevels limit p outer (spelled done ++ held)) at sound.levels))
-      (ap (λ t. before specification outer ++ t) (sym text) ∙ ap (λ p. before p outer ++ (spelled done ++ held)) (sym at) ∙ sound.spell)
+      (subst (HoldsLevels limit specification outer) text stands.levels) (ap (λ t. before specification outer ++ t) (sym text) ∙ stands.spell)
 
   -- so whatever a character does in the body of a string
   body_in : (place : Place) (n : FieldMode) (host : Host) → IsIn limit outer depth host place n → text_place m ≡ place → (text_place n ≡ text_place m) × AtStart n outer done
@@ -160,7 +112,8 @@ module _ (limit : Limit) (outer : List Level) (done : List Piece) (openers : Lis
       let own = body_in place n host holds.0 at in
       grew limit outer done openers m n held read c sound own.0 holds.1 own.1
   moved_sound host place closes at class holds room =
-      subst (λ (x : Class). IsFieldSound limit (field_state outer (done ++ piece x (held ++ c ∷ []) ∷ []) openers (plain modes.Free) []) (read ++ c ∷ [])) (sym class) (string_closes (at ∙ holds.0) holds.1 holds.2)
+      subst (λ (x : Class). IsFieldSound limit (field_fresh outer (done ++ piece x (held ++ c ∷ []) ∷ []) openers) (read ++ c ∷ [])) (sym class)
+      (closes_with limit outer done openers m held read c string sound (at ∙ holds.0) (λ h. absurd (cc)) holds.1 holds.2 (inl refl))
   moved_sound host place breaks at class holds room = absurd holds
   moved_sound host place (begins_code h) at class holds room =
       subst (λ (x : Host). FieldSoundIf limit (field_moved State c (begins_code x)) (read ++ c ∷ [])) (sym holds.0)
@@ -199,7 +152,7 @@ step_sound limit outer done openers (empty host) held read c sound room =
     (long_begins limit outer depth (long_host host) (held ++ c ∷ []) long quotes refl) tt)
     (λ other room.
     start_sound limit outer (done ++ piece string held ∷ []) openers read c
-    (string_ready limit outer done openers (empty host) held read c sound refl (inr (empty_string (limit.FieldsAt depth) host held opens quotes short)) (λ more. empty_before host held c more opens quotes other) room)) room
+    (ends_before limit outer done openers (empty host) held read c string sound refl (λ h. absurd (cc)) (inr (empty_string (limit.FieldsAt depth) host held opens quotes short)) (λ more. empty_before host held c more opens quotes other) refl) room) room
 step_sound limit outer done openers (body host place named at) held read c sound room =
     let depth = length openers + levels_open outer in
     moved_sound limit outer done openers (body host place named at) held read c sound host place (body_move host place named at c) refl refl (body_moves limit outer depth host place named at held c sound.mode) room
@@ -223,7 +176,7 @@ pub start_is_sound : (limit : Limit) → IsFieldSound limit field_text_start []
 start_is_sound limit = record {
   spell = refl;
   mode = ((refl, refl), λ at. absurd (cc));
-  list = record { fit = λ more. tt; opens = opens-none; passes = limit.none_at 0; in_field = λ l ls at. absurd (cc); no_list = λ at. not_specification at };
+  list = no_pieces limit literal [] [];
   levels = tt;
   start = (refl, refl);
 }

@@ -1,20 +1,20 @@
 -- The innermost list of pieces where a text ends there, the open piece with it.
-use Rattle.std.proofs.Common.{◌≡◌, ℕ, true, false, List, [], ◌∷◌, ◌++◌, refl, sym, ap, ◌∙◌, subst, inr, append-nil}
+use Rattle.std.proofs.Common.{◌≡◌, ℕ, ◌+◌, true, false, List, [], ◌∷◌, ◌++◌, length, refl, sym, ap, ◌∙◌, subst, inr, append-nil}
 use Rattle.std.proofs.lemmas.Bool.{and_left, and_right, both_ways}
 use Rattle.py_lines.specs.Piece.{Class, string, operator, Piece, is_mark_class, begins_marked, spelled}
 use Rattle.py_lines.specs.PieceGrammar.{InClassIn, MayPrecedeIn, AreReadPlain, AreReadIn}
-use Rattle.py_lines.specs.Balance.{depth_through}
 use Rattle.py_lines.specs.Fields.{HasNoColon, Fields, fielded}
 use Rattle.py_lines.specs.FieldStrings.{literal, with_fields}
 use Rattle.py_lines.specs.declared.mode.Mode.{Mode}
 use Rattle.py_lines.specs.Private.Machine.{closed, class_of, is_final}
 use Rattle.py_lines.specs.Private.FieldMachine.{text_place, FieldMode, plain, opened, empty, body, Level, field_state, field_closed, levels_open, may_end}
 use Rattle.py_lines.proofs.Pieces.PieceLists.{piece, spelled-push, AreReadIn-push, follows_any}
+use Rattle.py_lines.proofs.Fields.Nesting.{class_map}
 use Rattle.py_lines.proofs.FieldSoundness.PlainPieces.{IsPlainText, plain_class, plain_precede, end_holds}
 use Rattle.py_lines.proofs.FieldSoundness.OpenLists.{Opens, opens-other}
 use Rattle.py_lines.proofs.FieldSoundness.Holds.{Limit, IsFieldSound}
-use Rattle.py_lines.proofs.FieldSoundness.Lists.{neutral, colon-push, marked-push}
-use Rattle.py_lines.proofs.FieldSoundness.PlainSteps.{plain_text, string_of, Ends, nothing, something, ends_of}
+use Rattle.py_lines.proofs.FieldSoundness.Lists.{neutral, passes-push, colon-push, marked-push}
+use Rattle.py_lines.proofs.FieldSoundness.PlainSteps.{plain_text, Ends, nothing, something, ends_of}
 use Rattle.py_lines.proofs.FieldSoundness.HostSteps.{empty_string}
 
 -- the pieces are read to the text's end, and these brackets are open in them
@@ -41,14 +41,15 @@ module _ (limit : Limit) (outer : List Level) (done : List Piece) (openers : Lis
     in_field = sound.list.in_field;
   }
 
-  ends_piece : (class : Class) → (class ≡ operator → ⊥) → is_mark_class class ≡ false → InClassIn fielded class held → MayPrecedeIn fielded class held [] → (class ≡ string → InClassIn (with_fields (limit.FieldsAt (depth_through (levels_open outer) done))) string held) → EndsList limit outer openers (done ++ piece class held ∷ []) (spelled done ++ held)
-  ends_piece class other marked is precedes holds =
+  ends_piece : (class : Class) → (class ≡ operator → ⊥) → is_mark_class class ≡ false → InClassIn (with_fields (limit.FieldsAt (length openers + levels_open outer))) class held → MayPrecedeIn fielded class held [] → EndsList limit outer openers (done ++ piece class held ∷ []) (spelled done ++ held)
+  ends_piece class other marked is precedes =
       let own = neutral class held other in
+      let is_field = class_map _ Fields (limit.are_fields (length openers + levels_open outer)) class held is in
       record {
         spell = spelled-push done class held;
-        fit = AreReadIn-push fielded done class held [] (sound.list.fit []) is precedes (follows_any done class held marked);
+        fit = AreReadIn-push fielded done class held [] (sound.list.fit []) is_field precedes (follows_any done class held marked);
         opens = opens-other openers done (piece class held) sound.list.opens own.no_opener own.no_closer;
-        passes = limit.one_more (levels_open outer) done (piece class held) sound.list.passes (λ opens. absurd (both_ways _ own.no_opener opens)) holds;
+        passes = passes-push limit outer done openers class held sound.list.opens sound.list.passes is (λ opens. absurd (both_ways _ own.no_opener opens));
         in_field = λ l ls at.
             let before = sound.list.in_field l ls at in
             (marked-push done (piece class held) before.0 marked, colon-push 0 done (piece class held) before.1 (and_left _ _ own.no_colon));
@@ -64,14 +65,12 @@ ends_plain limit outer done openers m held read sound may = go (ends_of m)
         let fit : AreReadPlain (piece (class_of m) held ∷ []) [] = subst (λ (l : List Piece). AreReadPlain l []) (is [] held) (end_holds m held sound.mode.0 may) in
         let own : IsPlainText (class_of m) held [] = plain_text (class_of m) held [] sound.mode.1 (λ at. and_right _ _ refl) in
         subst (λ (l : List Piece). EndsList limit outer openers l (spelled done ++ held)) (sym (is done held))
-        (ends_piece limit outer done openers (plain m) held read sound (class_of m) class marked (plain_class Fields (class_of m) held [] own fit.0) (plain_precede Fields (class_of m) held [] own fit.1)
-        (λ at. string_of _ (class_of m) held (plain_class (limit.FieldsAt (depth_through (levels_open outer) done)) (class_of m) held [] own fit.0) at))
+        (ends_piece limit outer done openers (plain m) held read sound (class_of m) class marked (plain_class _ (class_of m) held [] own fit.0) (plain_precede Fields (class_of m) held [] own fit.1))
 
 pub list_ends : (limit : Limit) (outer : List Level) (done : List Piece) (openers : List ℕ) (m : FieldMode) (held read : List ℕ) → IsFieldSound limit (field_state outer done openers m held) read → may_end m ≡ true → EndsList limit outer openers (field_closed m done held) (spelled done ++ held)
 list_ends limit outer done openers (plain m) held read sound may = ends_plain limit outer done openers m held read sound may
 list_ends limit outer done openers (opened host) held read sound may = absurd (both_ways _ refl may)
 list_ends limit outer done openers (empty host) held read sound may =
     let own = sound.mode in
-    ends_piece limit outer done openers (empty host) held read sound string (λ at. absurd (cc)) refl (inr (empty_string Fields host held own.0 own.1 own.2)) (λ prefix r spell begun also. refl)
-    (λ at. inr (empty_string (limit.FieldsAt (depth_through (levels_open outer) done)) host held own.0 own.1 own.2))
+    ends_piece limit outer done openers (empty host) held read sound string (λ at. absurd (cc)) refl (inr (empty_string _ host held own.0 own.1 own.2)) (λ prefix r spell begun also. refl)
 list_ends limit outer done openers (body host place named at) held read sound may = absurd (both_ways _ refl may)

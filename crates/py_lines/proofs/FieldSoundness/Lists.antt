@@ -1,15 +1,17 @@
 -- One more piece in the innermost list.
-use Rattle.std.proofs.Common.{◌≡◌, ◌==◌, ℕ, Bool, true, false, ◌&&◌, Option, None, Some, List, [], ◌∷◌, ◌++◌, refl, sym, ap, ◌∙◌, subst, inl, inr, ◌⊎◌, append_assoc, append-nil}
-use Rattle.std.proofs.lemmas.Bool.{and_left}
+use Rattle.std.proofs.Common.{◌≡◌, ◌==◌, ℕ, ◌+◌, true, false, ◌&&◌, Option, None, Some, List, [], ◌∷◌, ◌++◌, length, refl, sym, ap, ◌∙◌, subst, inl, inr, ◌⊎◌, append_assoc, append-nil}
+use Rattle.std.proofs.lemmas.Bool.{and_left, both_ways}
 use Rattle.py_lines.specs.Piece.{Class, string, operator, Piece, is_mark_class, begins_marked, spelled}
 use Rattle.py_lines.specs.PieceGrammar.{InClassIn, MayPrecedeIn, AreReadIn}
 use Rattle.py_lines.specs.Balance.{is_opener, is_closer, depth_after, depth_through}
-use Rattle.py_lines.specs.Fields.{is_colon, HasNoColon, fielded}
+use Rattle.py_lines.specs.Fields.{is_colon, HasNoColon, Fields, fielded}
 use Rattle.py_lines.specs.FieldStrings.{Place, literal, specification, begins_open, with_fields}
-use Rattle.py_lines.specs.Private.FieldMachine.{before, Level, FieldScanned, field_fresh, levels_open}
+use Rattle.py_lines.specs.declared.mode.Mode.TheVariants as modes
+use Rattle.py_lines.specs.Private.FieldMachine.{text_place, before, FieldMode, plain, Level, FieldScanned, field_state, field_fresh, levels_open}
 use Rattle.py_lines.proofs.Pieces.PieceLists.{piece, spelled-push, AreReadIn-push, MayFollow, follows_any}
-use Rattle.py_lines.proofs.FieldSoundness.OpenLists.{Opens, opens-other}
-use Rattle.py_lines.proofs.FieldSoundness.Holds.{Limit, HoldsList, IsSingle, HoldsLevels, IsFieldSound}
+use Rattle.py_lines.proofs.Fields.Nesting.{class_map}
+use Rattle.py_lines.proofs.FieldSoundness.OpenLists.{Opens, opens-none, opens-other, opens-depth}
+use Rattle.py_lines.proofs.FieldSoundness.Holds.{Limit, HoldsMode, HoldsList, IsSingle, HoldsLevels, Stands, AtStart, IsFieldSound}
 
 abbrev pub FieldSoundIf : Limit → Option FieldScanned → List ℕ → Type 0
 FieldSoundIf limit None read = Unit {0}
@@ -18,6 +20,17 @@ FieldSoundIf limit (Some s) read = IsFieldSound limit s read
 -- no code is in a specification
 pub not_specification : {A : Type 0} → literal ≡ specification → A
 not_specification h = absurd (cc)
+
+-- a list that has begun
+pub no_pieces : (limit : Limit) (place : Place) (outer : List Level) (held : List ℕ) → HoldsList limit outer place [] [] held
+no_pieces limit place outer held = record { fit = λ more. tt; opens = opens-none; passes = limit.none_at (levels_open outer); in_field = λ l ls at. (refl, tt); no_list = λ at. (refl, refl) }
+
+-- the machine is sound where it stands so
+pub sound_in : (limit : Limit) (outer : List Level) (done : List Piece) (openers : List ℕ) (m : FieldMode) (held read : List ℕ) → Stands limit (text_place m) outer done openers held read → HoldsMode limit outer (length openers + levels_open outer) m held → AtStart m outer done → IsFieldSound limit (field_state outer done openers m held) read
+sound_in limit outer done openers m held read stands holds start = record { spell = stands.spell; mode = holds; list = stands.list; levels = stands.levels; start = start }
+
+pub stands_at : (limit : Limit) (outer : List Level) (done : List Piece) (openers : List ℕ) (m : FieldMode) (held read : List ℕ) (place : Place) → IsFieldSound limit (field_state outer done openers m held) read → text_place m ≡ place → Stands limit place outer done openers held read
+stands_at limit outer done openers m held read place sound at = subst (λ p. Stands limit p outer done openers held read) at (record { spell = sound.spell; list = sound.list; levels = sound.levels })
 
 -- what holds before some text holds before more of it
 pub list_more : (limit : Limit) (outer : List Level) (place : Place) (done : List Piece) (openers held more : List ℕ) → HoldsList limit outer place done openers held → HoldsList limit outer place done openers (held ++ more)
@@ -39,6 +52,15 @@ levels_more limit place (l ∷ ls) text more h = (single place l.place h.0, h.1,
     single literal specification one = tt
     single specification q one = tt
 
+pub stands_more : (limit : Limit) (place : Place) (outer : List Level) (done : List Piece) (openers held read more : List ℕ) → Stands limit place outer done openers held read → Stands limit place outer done openers (held ++ more) (read ++ more)
+stands_more limit place outer done openers held read more h =
+    let text : (spelled done ++ held) ++ more ≡ spelled done ++ (held ++ more) = append_assoc (spelled done) held more in
+    record {
+      spell = ap (λ t. before place outer ++ t) (sym text) ∙ sym (append_assoc (before place outer) (spelled done ++ held) more) ∙ ap (λ t. t ++ more) h.spell;
+      list = list_more limit outer place done openers held more h.list;
+      levels = subst (HoldsLevels limit place outer) text (levels_more limit place outer (spelled done ++ held) more h.levels);
+    }
+
 -- pieces other than operators are no brackets and no `:`
 pub record IsNeutral (p : Piece) : Type 0 where
   pub no_opener : is_opener p ≡ false
@@ -50,14 +72,13 @@ neutral operator text other = absurd (other refl)
 neutral class text other = record { no_opener = refl; no_closer = refl; no_colon = refl }
 
 -- what one more piece needs: it is of its class, before what follows; a mark is the first one; and its brackets go through
-pub record Adds (limit : Limit) (outer : List Level) (done : List Piece) (openers : List ℕ) (class : Class) (text next : List ℕ) : Type 0 where
-  pub is : InClassIn fielded class text
+pub record Adds (limit : Limit) (outer : List Level) (done : List Piece) (openers after : List ℕ) (class : Class) (text next : List ℕ) : Type 0 where
+  pub is : InClassIn (with_fields (limit.FieldsAt (length openers + levels_open outer))) class text
   pub precedes : (more : List ℕ) → MayPrecedeIn fielded class text (next ++ more)
   pub unmarked : (is_mark_class class ≡ false) ⊎ ((outer ≡ []) × (done ≡ []))
-  pub opens : Opens openers (done ++ piece class text ∷ [])
+  pub opens : Opens after (done ++ piece class text ∷ [])
   pub colon : (l : Level) (ls : List Level) → outer ≡ l ∷ ls → is_colon (piece class text) && (depth_through 0 done == 0) ≡ false
-  pub room : is_opener (piece class text) ≡ true → limit.Room (depth_through (levels_open outer) done)
-  pub holds : class ≡ string → InClassIn (with_fields (limit.FieldsAt (depth_through (levels_open outer) done))) string text
+  pub room : is_opener (piece class text) ≡ true → limit.Room (length openers + levels_open outer)
 
 pub colon-push : (depth : ℕ) (ps : List Piece) (p : Piece) → HasNoColon depth ps → is_colon p && (depth_through depth ps == 0) ≡ false → HasNoColon depth (ps ++ p ∷ [])
 colon-push depth [] p none other = (other, tt)
@@ -67,16 +88,30 @@ pub marked-push : (ps : List Piece) (p : Piece) → begins_marked ps ≡ false �
 marked-push [] p none other = other
 marked-push (q ∷ ps) p none other = none
 
-pub list_push : (limit : Limit) (outer : List Level) (done : List Piece) (openers after : List ℕ) (class : Class) (text next : List ℕ) → HoldsList limit outer literal done openers text → Adds limit outer done after class text next → HoldsList limit outer literal (done ++ piece class text ∷ []) after next
-list_push limit outer done openers after class text next h adds = record {
-  fit = λ more. AreReadIn-push fielded done class text (next ++ more) (h.fit (next ++ more)) adds.is (adds.precedes more) (follows adds.unmarked);
-  opens = adds.opens;
-  passes = limit.one_more (levels_open outer) done (piece class text) h.passes adds.room adds.holds;
-  in_field = λ l ls is.
-      let own = h.in_field l ls is in
-      (unmarked l ls is own.0 adds.unmarked, colon-push 0 done (piece class text) own.1 (adds.colon l ls is));
-  no_list = λ at. not_specification at;
-}
+pub passes-push : (limit : Limit) (outer : List Level) (done : List Piece) (openers : List ℕ) (class : Class) (text : List ℕ) → Opens openers done → limit.PiecesAt (levels_open outer) done → InClassIn (with_fields (limit.FieldsAt (length openers + levels_open outer))) class text → (is_opener (piece class text) ≡ true → limit.Room (length openers + levels_open outer)) → limit.PiecesAt (levels_open outer) (done ++ piece class text ∷ [])
+passes-push limit outer done openers class text opens passes is room =
+    let depth = opens-depth openers done (levels_open outer) opens in
+    limit.one_more (levels_open outer) done (piece class text) passes (λ opener. subst limit.Room (sym depth) (room opener))
+    (λ at. subst (λ (d : ℕ). InClassIn (with_fields (limit.FieldsAt d)) string text) (sym depth) (subst (λ (x : Class). InClassIn (with_fields (limit.FieldsAt (length openers + levels_open outer))) x text) at is))
+
+-- so the machine stands after it
+pub stands_push : (limit : Limit) (outer : List Level) (done : List Piece) (openers after : List ℕ) (class : Class) (text next read : List ℕ) → Stands limit literal outer done openers text read → Adds limit outer done openers after class text next → Stands limit literal outer (done ++ piece class text ∷ []) after next (read ++ next)
+stands_push limit outer done openers after class text next read h adds =
+    let is_field = class_map _ Fields (limit.are_fields (length openers + levels_open outer)) class text adds.is in
+    let spell : spelled (done ++ piece class text ∷ []) ≡ spelled done ++ text = spelled-push done class text in
+    record {
+      spell = sym (append_assoc (before literal outer) (spelled (done ++ piece class text ∷ [])) next) ∙ ap (λ t. t ++ next) (ap (λ t. before literal outer ++ t) spell ∙ h.spell);
+      list = record {
+        fit = λ more. AreReadIn-push fielded done class text (next ++ more) (h.list.fit (next ++ more)) is_field (adds.precedes more) (follows adds.unmarked);
+        opens = adds.opens;
+        passes = passes-push limit outer done openers class text h.list.opens h.list.passes adds.is adds.room;
+        in_field = λ l ls is.
+            let own = h.list.in_field l ls is in
+            (unmarked l ls is own.0 adds.unmarked, colon-push 0 done (piece class text) own.1 (adds.colon l ls is));
+        no_list = λ at. not_specification at;
+      };
+      levels = levels_more limit literal outer (spelled (done ++ piece class text ∷ [])) next (subst (HoldsLevels limit literal outer) (sym spell) h.levels);
+    }
   where
     follows : (is_mark_class class ≡ false) ⊎ ((outer ≡ []) × (done ≡ [])) → MayFollow done (piece class text ∷ [])
     follows (inl other) = follows_any done class text other
@@ -89,34 +124,19 @@ list_push limit outer done openers after class text next h adds = record {
         absurd (cc)
 
 -- a piece that is no operator
-pub adds_neutral : (limit : Limit) (outer : List Level) (done : List Piece) (openers held : List ℕ) (class : Class) (text next : List ℕ) → HoldsList limit outer literal done openers held → (class ≡ operator → ⊥) → InClassIn fielded class text → ((more : List ℕ) → MayPrecedeIn fielded class text (next ++ more)) → (is_mark_class class ≡ false) ⊎ ((outer ≡ []) × (done ≡ [])) → (class ≡ string → InClassIn (with_fields (limit.FieldsAt (depth_through (levels_open outer) done))) string text) → Adds limit outer done openers class text next
-adds_neutral limit outer done openers held class text next h other is precedes unmarked holds =
+pub adds_neutral : (limit : Limit) (outer : List Level) (done : List Piece) (openers : List ℕ) (class : Class) (text next : List ℕ) → Opens openers done → (class ≡ operator → ⊥) → InClassIn (with_fields (limit.FieldsAt (length openers + levels_open outer))) class text → ((more : List ℕ) → MayPrecedeIn fielded class text (next ++ more)) → (is_mark_class class ≡ false) ⊎ ((outer ≡ []) × (done ≡ [])) → Adds limit outer done openers openers class text next
+adds_neutral limit outer done openers class text next opens other is precedes unmarked =
     let own = neutral class text other in
     record {
       is = is;
       precedes = precedes;
       unmarked = unmarked;
-      opens = opens-other openers done (piece class text) h.opens own.no_opener own.no_closer;
+      opens = opens-other openers done (piece class text) opens own.no_opener own.no_closer;
       colon = λ l ls at. and_left _ _ own.no_colon;
-      room = λ opens. absurd (both own.no_opener opens);
-      holds = holds;
+      room = λ opener. absurd (both_ways _ own.no_opener opener);
     }
-  where
-    both : {b : Bool} → b ≡ false → b ≡ true → ⊥
-    both h k = cc
-
-pub levels_push : (limit : Limit) (outer : List Level) (done : List Piece) (class : Class) (text next : List ℕ) → HoldsLevels limit literal outer (spelled done ++ text) → HoldsLevels limit literal outer (spelled (done ++ piece class text ∷ []) ++ next)
-levels_push limit outer done class text next h = levels_more limit literal outer (spelled (done ++ piece class text ∷ [])) next (subst (HoldsLevels limit literal outer) (sym (spelled-push done class text)) h)
 
 -- the piece is finished, and none is open after it
-pub fresh_sound : (limit : Limit) (outer : List Level) (done : List Piece) (openers after : List ℕ) (class : Class) (text read : List ℕ) → before literal outer ++ (spelled done ++ text) ≡ read → HoldsList limit outer literal done openers text → HoldsLevels limit literal outer (spelled done ++ text) → Adds limit outer done after class text [] → IsFieldSound limit (field_fresh outer (done ++ piece class text ∷ []) after) read
-fresh_sound limit outer done openers after class text read spell h levels adds = record {
-  spell = ap (λ t. before literal outer ++ t) (append-nil (spelled (done ++ piece class text ∷ [])) ∙ spelled-push done class text) ∙ spell;
-  mode = (refl, λ at. no_string at);
-  list = list_push limit outer done openers after class text [] h adds;
-  levels = levels_push limit outer done class text [] levels;
-  start = tt;
-}
-  where
-    no_string : {A : Type 0} → operator ≡ string → A
-    no_string at = absurd (cc)
+pub fresh_sound : (limit : Limit) (outer : List Level) (done : List Piece) (openers after : List ℕ) (class : Class) (text read : List ℕ) → Stands limit literal outer done openers text read → Adds limit outer done openers after class text [] → IsFieldSound limit (field_fresh outer (done ++ piece class text ∷ []) after) read
+fresh_sound limit outer done openers after class text read h adds =
+    sound_in limit outer (done ++ piece class text ∷ []) after (plain modes.Free) [] read (subst (Stands limit literal outer (done ++ piece class text ∷ []) after []) (append-nil read) (stands_push limit outer done openers after class text [] read h adds)) (refl, λ at. absurd (cc)) tt

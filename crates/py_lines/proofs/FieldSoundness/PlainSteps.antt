@@ -1,13 +1,13 @@
 -- What each character does outside strings with fields.
-use Rattle.std.proofs.Common.{◌≡◌, ℕ, ◌+◌, Bool, true, false, ◌&&◌, List, [], ◌∷◌, ◌++◌, length, refl, sym, ap, ◌∙◌, subst, inl, inr, ◌⊎◌, append_assoc, append-nil}
+use Rattle.std.proofs.Common.{◌≡◌, ℕ, ◌+◌, Bool, true, false, ◌&&◌, List, [], ◌∷◌, ◌++◌, length, refl, sym, ap, ◌∙◌, subst, inl, inr, ◌⊎◌}
 use Rattle.std.specs.List.{list_any}
 use Rattle.std.proofs.lemmas.Bool.{cond_both, and_parts, both_ways, or_from, false_from_ne_true}
 use Rattle.py_lines.specs.Character.{is_word_character, is_quote}
-use Rattle.py_lines.specs.Piece.{Class, word, string, operator, Piece, begins, is_mark_class, spelled}
-use Rattle.py_lines.specs.PieceGrammar.{InPlainClass, InClassIn, MayPrecedePlain, AreReadPlain}
-use Rattle.py_lines.specs.Balance.{is_opening, depth_through}
-use Rattle.py_lines.specs.Fields.{Fields}
-use Rattle.py_lines.specs.FieldStrings.{is_field_prefix, Host, literal, with_fields}
+use Rattle.py_lines.specs.Piece.{Class, word, string, operator, Piece, begins, is_mark_class}
+use Rattle.py_lines.specs.PieceGrammar.{InPlainClass, InClassIn, MayPrecedePlain, MayPrecedeIn, AreReadPlain}
+use Rattle.py_lines.specs.Balance.{is_opening}
+use Rattle.py_lines.specs.Fields.{Fields, fielded}
+use Rattle.py_lines.specs.FieldStrings.{is_field_prefix, literal, with_fields}
 use Rattle.py_lines.specs.declared.mode.Spelling.{Spelling}
 use Rattle.py_lines.specs.declared.mode.Mode.{Mode}
 use Rattle.py_lines.specs.declared.mode.Mode.TheVariants as modes
@@ -16,16 +16,16 @@ use Rattle.py_lines.specs.declared.mode.Move.TheVariants as moves
 use Rattle.py_lines.specs.declared.mode.Start.{Start}
 use Rattle.py_lines.specs.declared.mode.Start.TheVariants as starts
 use Rattle.py_lines.specs.Private.Machine.{Holds, closed, class_of, move_of, start_of, is_prefix_spelling}
-use Rattle.py_lines.specs.Private.FieldMachine.{text_place, before, FieldMode, plain, opened, FieldMove, closes, breaks, Level, field_state, host_of, begins_host, plain_move, field_started, field_moved, levels_open}
+use Rattle.py_lines.specs.Private.FieldMachine.{text_place, FieldMode, plain, opened, FieldMove, closes, breaks, Level, field_state, field_fresh, host_of, begins_host, plain_move, field_started, field_moved, levels_open}
 use Rattle.py_lines.specs.Private.ScanMachine.{BeginsPlain}
-use Rattle.py_lines.proofs.Pieces.PieceLists.{piece, spelled-push}
+use Rattle.py_lines.proofs.Pieces.PieceLists.{piece}
 use Rattle.py_lines.proofs.Text.CharacterTests.{quote-not-start}
 use Rattle.py_lines.proofs.Fields.Prefixes.{word_quotes}
 use Rattle.py_lines.proofs.FieldMachine.Runs.{HasRoomFor}
 use Rattle.py_lines.proofs.FieldMachine.PlainSteps.{NoWord, no_word}
 use Rattle.py_lines.proofs.FieldSoundness.PlainPieces.{begins_plain-more, IsPlainText, plain_class, plain_precede, BreaksBefore, MoveHolds, move_holds}
-use Rattle.py_lines.proofs.FieldSoundness.Holds.{Limit, HoldsMode, HoldsList, HoldsLevels, AtStart, IsFieldSound}
-use Rattle.py_lines.proofs.FieldSoundness.Lists.{FieldSoundIf, list_more, levels_more, adds_neutral, list_push, levels_push, fresh_sound}
+use Rattle.py_lines.proofs.FieldSoundness.Holds.{Limit, HoldsMode, Stands, AtStart, IsFieldSound}
+use Rattle.py_lines.proofs.FieldSoundness.Lists.{FieldSoundIf, sound_in, stands_at, stands_more, stands_push, adds_neutral, fresh_sound}
 use Rattle.py_lines.proofs.FieldSoundness.Code.{Ready, start_sound}
 
 -- what may open at a character that does this, where so many brackets and fields are open before it
@@ -35,17 +35,17 @@ HasRoom limit depth c move = HasRoomFor limit.Room depth c move
 -- the open piece grows
 pub grew : (limit : Limit) (outer : List Level) (done : List Piece) (openers : List ℕ) (m n : FieldMode) (held read : List ℕ) (c : ℕ) → IsFieldSound limit (field_state outer done openers m held) read → text_place n ≡ text_place m → HoldsMode limit outer (length openers + levels_open outer) n (held ++ c ∷ []) → AtStart n outer done → IsFieldSound limit (field_state outer done openers n (held ++ c ∷ [])) (read ++ c ∷ [])
 grew limit outer done openers m n held read c sound at holds start =
-    let text : spelled done ++ (held ++ c ∷ []) ≡ (spelled done ++ held) ++ c ∷ [] = sym (append_assoc (spelled done) held (c ∷ [])) in
-    record {
-      spell = ap (λ p. before p outer ++ (spelled done ++ (held ++ c ∷ []))) at
-          ∙ ap (λ t. before (text_place m) outer ++ t) text
-          ∙ sym (append_assoc (before (text_place m) outer) (spelled done ++ held) (c ∷ []))
-          ∙ ap (λ t. t ++ c ∷ []) sound.spell;
-      mode = holds;
-      list = subst (λ p. HoldsList limit outer p done openers (held ++ c ∷ [])) (sym at) (list_more limit outer (text_place m) done openers held (c ∷ []) sound.list);
-      levels = subst (λ p. HoldsLevels limit p outer (spelled done ++ (held ++ c ∷ []))) (sym at) (subst (HoldsLevels limit (text_place m) outer) (sym text) (levels_more limit (text_place m) outer (spelled done ++ held) (c ∷ []) sound.levels));
-      start = start;
-    }
+    sound_in limit outer done openers n (held ++ c ∷ []) (read ++ c ∷ []) (stands_more limit (text_place n) outer done openers held read (c ∷ []) (stands_at limit outer done openers m held read (text_place n) sound (sym at))) holds start
+
+-- it ends with the character, and before it
+pub closes_with : (limit : Limit) (outer : List Level) (done : List Piece) (openers : List ℕ) (m : FieldMode) (held read : List ℕ) (c : ℕ) (class : Class) → IsFieldSound limit (field_state outer done openers m held) read → text_place m ≡ literal → (class ≡ operator → ⊥) → InClassIn (with_fields (limit.FieldsAt (length openers + levels_open outer))) class (held ++ c ∷ []) → ((more : List ℕ) → MayPrecedeIn fielded class (held ++ c ∷ []) more) → (is_mark_class class ≡ false) ⊎ ((outer ≡ []) × (done ≡ [])) → IsFieldSound limit (field_fresh outer (done ++ piece class (held ++ c ∷ []) ∷ []) openers) (read ++ c ∷ [])
+closes_with limit outer done openers m held read c class sound at other is precedes first =
+    let stands = stands_more limit literal outer done openers held read (c ∷ []) (stands_at limit outer done openers m held read literal sound at) in
+    fresh_sound limit outer done openers openers class (held ++ c ∷ []) (read ++ c ∷ []) stands (adds_neutral limit outer done openers class (held ++ c ∷ []) [] stands.list.opens other is precedes first)
+
+pub ends_before : (limit : Limit) (outer : List Level) (done : List Piece) (openers : List ℕ) (m : FieldMode) (held read : List ℕ) (c : ℕ) (class : Class) → IsFieldSound limit (field_state outer done openers m held) read → text_place m ≡ literal → (class ≡ operator → ⊥) → InClassIn (with_fields (limit.FieldsAt (length openers + levels_open outer))) class held → ((more : List ℕ) → MayPrecedeIn fielded class held (c ∷ more)) → is_mark_class class ≡ false → Ready limit outer (done ++ piece class held ∷ []) openers read c
+ends_before limit outer done openers m held read c class sound at other is precedes unmarked =
+    stands_push limit outer done openers openers class held (c ∷ []) read (stands_at limit outer done openers m held read literal sound at) (adds_neutral limit outer done openers class held (c ∷ []) sound.list.opens other is precedes (inl unmarked))
 
 -- a word holds no quote
 word_no_quote : (s : Spelling) (held : List ℕ) → Holds (modes.Word s) [] held → list_any is_quote held ≡ false
@@ -108,10 +108,6 @@ unmarked : (m : Mode) (outer : List Level) (done : List Piece) → AtStart (plai
 unmarked modes.Start outer done start = inr start
 unmarked m outer done start = inl refl
 
--- the class of a piece
-pub string_of : (F : Host → List ℕ → Type 0) (class : Class) (text : List ℕ) → InClassIn (with_fields F) class text → class ≡ string → InClassIn (with_fields F) string text
-string_of F class text is at = subst (λ (x : Class). InClassIn (with_fields F) x text) at is
-
 -- the open piece, which is none of nothing or a piece that ends
 pub data Ends (m : Mode) : Type 0 where
   nothing : ((done : List Piece) (held : List ℕ) → closed m done held ≡ done) → ((held : List ℕ) → Holds m [] held → held ≡ []) → Ends m
@@ -129,47 +125,29 @@ module _ (limit : Limit) (outer : List Level) (done : List Piece) (openers : Lis
       let text = held ++ c ∷ [] in
       let class = closes_class m so in
       let is_plain : (rest : List ℕ) → IsPlainText (class_of m) text rest = λ rest. plain_text (class_of m) text rest (λ at. begins_plain-more held c (sound.mode.1 at)) (λ at. absurd (class.1 at)) in
-      let joined : spelled done ++ text ≡ (spelled done ++ held) ++ c ∷ [] = sym (append_assoc (spelled done) held (c ∷ [])) in
-      let list = list_more limit outer literal done openers held (c ∷ []) sound.list in
-      fresh_sound limit outer done openers openers (class_of m) text (read ++ c ∷ [])
-      (ap (λ t. before literal outer ++ t) joined ∙ sym (append_assoc (before literal outer) (spelled done ++ held) (c ∷ [])) ∙ ap (λ t. t ++ c ∷ []) sound.spell) list
-      (subst (HoldsLevels limit literal outer) (sym joined) (levels_more limit literal outer (spelled done ++ held) (c ∷ []) sound.levels))
-      (adds_neutral limit outer done openers text (class_of m) text [] list class.0 (plain_class Fields (class_of m) text [] (is_plain []) own.0)
+      closes_with limit outer done openers (plain m) held read c (class_of m) sound refl class.0 (plain_class _ (class_of m) text [] (is_plain []) own.0)
       (λ more. plain_precede Fields (class_of m) text more (is_plain more) (own.1 more)) (unmarked m outer done sound.start)
-      (λ at. string_of _ (class_of m) text (plain_class (limit.FieldsAt (depth_through (levels_open outer) done)) (class_of m) text [] (is_plain []) own.0) at))
 
   -- the piece ends before it
-  ready : ((more : List ℕ) → AreReadPlain (closed m [] held) (c ∷ more)) → (is_opening c ≡ true → limit.Room (length openers + levels_open outer)) → Ready limit outer (closed m done held) openers read c
-  ready own room = go (ends_of m)
+  ready : ((more : List ℕ) → AreReadPlain (closed m [] held) (c ∷ more)) → Ready limit outer (closed m done held) openers read c
+  ready own = go (ends_of m)
     where
       go : Ends m → Ready limit outer (closed m done held) openers read c
       go (nothing is empty) =
-          let none : held ≡ [] = empty held sound.mode.0 in
-          let text : spelled done ++ held ≡ spelled done = ap (λ t. spelled done ++ t) none ∙ append-nil (spelled done) in
-          subst (λ (l : List Piece). Ready limit outer l openers read c) (sym (is done held)) (record {
-            spell = ap (λ t. before literal outer ++ t) (sym text) ∙ sound.spell;
-            list = subst (λ t. HoldsList limit outer literal done openers (t ++ c ∷ [])) none (list_more limit outer literal done openers held (c ∷ []) sound.list);
-            levels = subst (λ t. HoldsLevels limit literal outer (t ++ c ∷ [])) text (levels_more limit literal outer (spelled done ++ held) (c ∷ []) sound.levels);
-            room = room;
-          })
+          subst (λ (l : List Piece). Ready limit outer l openers read c) (sym (is done held))
+          (subst (λ t. Stands limit literal outer done openers (t ++ c ∷ []) (read ++ c ∷ [])) (empty held sound.mode.0) (stands_more limit literal outer done openers held read (c ∷ []) (stands_at limit outer done openers (plain m) held read literal sound refl)))
       go (something is class marked) =
           let fit : (more : List ℕ) → AreReadPlain (piece (class_of m) held ∷ []) (c ∷ more) = λ more. subst (λ (l : List Piece). AreReadPlain l (c ∷ more)) (is [] held) (own more) in
           let is_plain : (more : List ℕ) → IsPlainText (class_of m) held (c ∷ more) = λ more. plain_text (class_of m) held (c ∷ more) sound.mode.1 (word_host m held c other) in
-          subst (λ (l : List Piece). Ready limit outer l openers read c) (sym (is done held)) (record {
-            spell = ap (λ t. before literal outer ++ t) (spelled-push done (class_of m) held) ∙ sound.spell;
-            list = list_push limit outer done openers openers (class_of m) held (c ∷ []) sound.list
-                (adds_neutral limit outer done openers held (class_of m) held (c ∷ []) sound.list class (plain_class Fields (class_of m) held (c ∷ []) (is_plain []) (fit []).0)
-                (λ more. plain_precede Fields (class_of m) held (c ∷ more) (is_plain more) (fit more).1) (inl marked)
-                (λ at. string_of _ (class_of m) held (plain_class (limit.FieldsAt (depth_through (levels_open outer) done)) (class_of m) held (c ∷ []) (is_plain []) (fit []).0) at));
-            levels = levels_push limit outer done (class_of m) held (c ∷ []) sound.levels;
-            room = room;
-          })
+          subst (λ (l : List Piece). Ready limit outer l openers read c) (sym (is done held))
+          (ends_before limit outer done openers (plain m) held read c (class_of m) sound refl class (plain_class _ (class_of m) held (c ∷ []) (is_plain []) (fit []).0)
+          (λ more. plain_precede Fields (class_of m) held (c ∷ more) (is_plain more) (fit more).1) marked)
 
   breaks_sound : BreaksBefore m held c (start_of c) → (is_opening c ≡ true → limit.Room (length openers + levels_open outer)) → FieldSoundIf limit (field_moved (field_state outer done openers (plain m) held) c breaks) (read ++ c ∷ [])
   breaks_sound own room = go (start_of c) refl own
     where
       started : (s : Start) → start_of c ≡ s → ((more : List ℕ) → AreReadPlain (closed m [] held) (c ∷ more)) → FieldSoundIf limit (field_started outer (closed m done held) openers c s) (read ++ c ∷ [])
-      started s at fit = subst (λ (x : Start). FieldSoundIf limit (field_started outer (closed m done held) openers c x) (read ++ c ∷ [])) at (start_sound limit outer (closed m done held) openers read c (ready fit room))
+      started s at fit = subst (λ (x : Start). FieldSoundIf limit (field_started outer (closed m done held) openers c x) (read ++ c ∷ [])) at (start_sound limit outer (closed m done held) openers read c (ready fit) room)
 
       go : (s : Start) → start_of c ≡ s → BreaksBefore m held c s → FieldSoundIf limit (field_started outer (closed m done held) openers c s) (read ++ c ∷ [])
       go starts.Nothing at fit = tt

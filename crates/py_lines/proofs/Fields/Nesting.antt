@@ -27,7 +27,7 @@ pub string_map : (F G : Host → List ℕ → Type 0) → Within F G → (text :
 string_map F G f text (inl plain) = inl plain
 string_map F G f text (inr is) = inr (record { prefix = is.prefix; host = is.host; parts = is.parts; spell = is.spell; begun = is.begun; raw = is.raw; opens = is.opens; each = parts_map F G f is.host _ _ is.parts _ is.each; first = is.first })
 
-class_map : (F G : Host → List ℕ → Type 0) → Within F G → (class : Class) (text : List ℕ) → InClassIn (with_fields F) class text → InClassIn (with_fields G) class text
+pub class_map : (F G : Host → List ℕ → Type 0) → Within F G → (class : Class) (text : List ℕ) → InClassIn (with_fields F) class text → InClassIn (with_fields G) class text
 class_map F G f string text is = string_map F G f text is
 class_map F G f class text is = is
 
