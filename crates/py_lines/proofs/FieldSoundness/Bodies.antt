@@ -14,8 +14,9 @@ use Rattle.py_lines.specs.Private.FieldMachine.{At, between, after_one, after_tw
 use Rattle.py_lines.proofs.Pieces.TripleQuotes.{triple-left, triple-other}
 use Rattle.py_lines.proofs.Text.CharacterTests.{none_of, barred}
 use Rattle.py_lines.proofs.Machine.OpenPieces.{full-append, joined-push, not_one, quote-not-slash}
+use Rattle.py_lines.proofs.Fields.Parts.{quote-not-open}
 use Rattle.py_lines.proofs.Fields.Prefixes.{plain_quotes, field_letters, first_quote}
-use Rattle.py_lines.proofs.FieldSoundness.Holds.{Limit, refit, HoldsParts, HoldsBetween, HoldsAt, HoldsMode}
+use Rattle.py_lines.proofs.FieldSoundness.Holds.{Limit, WholeParts, refit, HoldsParts, HoldsBetween, HoldsAt, HoldsMode}
 use Rattle.py_lines.proofs.FieldMachine.StringParts.{quote_no_end}
 
 -- parts, one more after others
@@ -49,10 +50,6 @@ plain_one true e = e
 plain_one false e = refl
 
 -- characters
-quote-not-open : (q : ℕ) → is_quote q ≡ true → q == 123 ≡ false
-unfolding is_quote
-quote-not-open q h = none_of (λ c. c == 123) (39 ∷ 34 ∷ []) q refl h
-
 pub slash-not-closing : (c : ℕ) → is_backslash c ≡ true → c == 125 ≡ false
 unfolding is_backslash
 slash-not-closing c h = none_of (λ d. d == 125) (92 ∷ []) c refl h
@@ -100,6 +97,19 @@ short_quotes host h = rw h
 long_quotes : (host : Host) → host.is_long ≡ true → quotes_of host ≡ host.quote ∷ host.quote ∷ host.quote ∷ []
 long_quotes host h = rw h
 
+-- one more part, with which they fit so
+pub push_part : (limit : Limit) (outer : List Level) (host : Host) (place : Place) (named : Bool) (held part : List ℕ) (A B : List (List ℕ) → Type 0) (h : WholeParts limit outer host place named held A) → B (h.parts ++ part ∷ []) → has_triple host.quote (h.parts ++ part ∷ []) ≡ false → WholeParts limit outer host place (named_after named part) (held ++ part) B
+push_part limit outer host place named held part A B h fit open_yet = record {
+  begin = h.begin;
+  parts = h.parts ++ part ∷ [];
+  spell = ap (λ t. t ++ part) h.spell ∙ append_assoc h.begin (joined h.parts) part ∙ ap (λ t. h.begin ++ t) (sym (joined-push h.parts part));
+  opens_with = h.opens_with;
+  quotes = h.quotes;
+  fit = fit;
+  named_is = named-push false h.parts part ∙ ap (λ n. named_after n part) h.named_is;
+  open_yet = open_yet;
+}
+
 module _ (limit : Limit) (outer : List Level) (depth : ℕ) (host : Host) where
   -- before texts that begin with more
   pub longer_next : (place : Place) (named : Bool) (held next more : List ℕ) → HoldsParts limit outer depth host place named held next → HoldsParts limit outer depth host place named held (next ++ more)
@@ -112,16 +122,10 @@ module _ (limit : Limit) (outer : List Level) (depth : ℕ) (host : Host) where
 
   -- one more part
   push : (place : Place) (named : Bool) (held part next : List ℕ) (h : HoldsParts limit outer depth host place named held part) → ((more : List ℕ) → IsPart (limit.FieldsAt depth) host place named part (next ++ more)) → has_triple host.quote (h.parts ++ part ∷ []) ≡ false → HoldsParts limit outer depth host place (named_after named part) (held ++ part) next
-  push place named held part next h each open_yet = record {
-    begin = h.begin;
-    parts = h.parts ++ part ∷ [];
-    spell = ap (λ t. t ++ part) h.spell ∙ append_assoc h.begin (joined h.parts) part ∙ ap (λ t. h.begin ++ t) (sym (joined-push h.parts part));
-    opens_with = h.opens_with;
-    quotes = h.quotes;
-    fit = λ more. parts-push (limit.FieldsAt depth) host place false h.parts part (next ++ more) (h.fit (next ++ more)) (subst (λ n. IsPart (limit.FieldsAt depth) host place n part (next ++ more)) (sym h.named_is) (each more));
-    named_is = named-push false h.parts part ∙ ap (λ n. named_after n part) h.named_is;
-    open_yet = open_yet;
-  }
+  unfolding push_part
+  push place named held part next h each open_yet =
+      push_part limit outer host place named held part _ _ h
+      (λ more. parts-push (limit.FieldsAt depth) host place false h.parts part (next ++ more) (h.fit (next ++ more)) (subst (λ n. IsPart (limit.FieldsAt depth) host place n part (next ++ more)) (sym h.named_is) (each more))) open_yet
 
   -- one that is no quote
   pub push_between : (place : Place) (named after : Bool) (held part next : List ℕ) → HoldsParts limit outer depth host place named held part → ((more : List ℕ) → IsPart (limit.FieldsAt depth) host place named part (next ++ more)) → is_bare (λ d. d == host.quote) part ≡ false → IsFull part → named_after named part ≡ after → HoldsBetween limit outer depth host place after (held ++ part) next
@@ -220,9 +224,7 @@ module _ (limit : Limit) (outer : List Level) (depth : ℕ) (host : Host) where
         prefix = own.opens_with.prefix;
         host = host;
         parts = own.parts;
-        spell = ap (λ t. t ++ host.quote ∷ more) (own.spell ∙ ap (λ t. t ++ joined own.parts) own.opens_with.spell)
-            ∙ append_assoc (own.opens_with.prefix ++ quotes_of host) (joined own.parts) (host.quote ∷ more)
-            ∙ append_assoc own.opens_with.prefix (quotes_of host) (joined own.parts ++ host.quote ∷ more)
+        spell = ap (λ t. t ++ host.quote ∷ more) (own.spell ∙ ap (λ t. t ++ joined own.parts) own.opens_with.spell) ∙ (simp append_assoc)
             ∙ ap (λ t. own.opens_with.prefix ++ (quotes_of host ++ (joined own.parts ++ t))) (sym quotes);
         begun = own.opens_with.begun;
         raw = own.opens_with.raw;

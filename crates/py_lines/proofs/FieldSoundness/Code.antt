@@ -78,9 +78,7 @@ code_ends limit level outer done read c ready is =
     (limit.makes_field (length level.openers + levels_open outer) level.host (123 ∷ rest) own.room
     (simple done (ap (λ (d : ℕ). 123 ∷ (spelled done ++ d ∷ [])) is) (subst (λ (d : ℕ). AreInside fielded done (d ∷ [])) is (inside_is limit level outer done read c ready)) ready.list.passes))
     (λ at. ap begins_open (sym (append-nil rest)) ∙ single_at level.place rest ready.levels.0 at [])
-    (ap (λ t. before level.place outer ++ t) (sym (append_assoc (spelled level.done) level.front rest))
-    ∙ sym (append_assoc (before level.place outer) (spelled level.done ++ level.front) rest)
-    ∙ ready.spell)
+    ((simp append_assoc) ∙ ready.spell)
 
 -- the `:` that opens a specification
 code_specifies : (limit : Limit) (level : Level) (outer : List Level) (done : List Piece) (read : List ℕ) (c : ℕ) → Ready limit (level ∷ outer) done [] read c → c ≡ 58 → IsFieldSound limit (field_state (level ∷ outer) [] [] (body level.host specification false between) (level.front ++ (spelled done ++ c ∷ []))) (read ++ c ∷ [])
@@ -97,10 +95,7 @@ code_specifies limit level outer done read c ready is =
       single = λ at more. ap (λ (d : ℕ). begins_open (spelled done ++ d ∷ more)) (sym is) ∙ ap begins_open (sym (append_assoc (spelled done) (c ∷ []) more)) ∙ single_at level.place rest ready.levels.0 at more;
     } in
     record {
-      spell = append_assoc (before level.place outer) (spelled level.done) held
-          ∙ ap (λ t. before level.place outer ++ t) (sym (append_assoc (spelled level.done) level.front rest))
-          ∙ sym (append_assoc (before level.place outer) (spelled level.done ++ level.front) rest)
-          ∙ ready.spell;
+      spell = (simp append_assoc) ∙ ready.spell;
       mode = record {
         all = record { begin = held; parts = []; spell = sym (append-nil held); opens_with = opens; quotes = own.parts.quotes; fit = λ more. tt; named_is = refl; open_yet = refl };
         apart = refl;
@@ -167,9 +162,7 @@ specification_ends limit (level ∷ outer) openers host held read c none is h le
     let text : held ++ c ∷ [] ≡ level.front ++ rest =
     ap (λ (d : ℕ). held ++ d ∷ []) is
     ∙ ap (λ t. t ++ 125 ∷ []) (h.spell ∙ ap (λ t. t ++ joined h.parts) opens.spell)
-    ∙ append_assoc (level.front ++ (spelled opens.inside ++ 58 ∷ [])) (joined h.parts) (125 ∷ [])
-    ∙ append_assoc level.front (spelled opens.inside ++ 58 ∷ []) (joined h.parts ++ 125 ∷ [])
-    ∙ ap (λ t. level.front ++ t) (append_assoc (spelled opens.inside) (58 ∷ []) (joined h.parts ++ 125 ∷ [])) in
+    ∙ simp append_assoc in
     let own_specification : IsSpecification (limit.FieldsAt (levels_open (level ∷ outer))) level.host h.parts =
     subst (λ (x : Host). IsSpecification (limit.FieldsAt (levels_open (level ∷ outer))) x h.parts) (sym same)
     (subst (λ (d : ℕ). IsSpecification (limit.FieldsAt d) host h.parts) depth (record { each = h.fit []; ended = h.named_is; open_yet = h.open_yet })) in
@@ -177,7 +170,4 @@ specification_ends limit (level ∷ outer) openers host held read c none is h le
     (field_end limit level outer rest (read ++ c ∷ []) own levels.2
     (limit.makes_field (length level.openers + levels_open outer) level.host (123 ∷ rest) own.room (specified opens.inside h.parts refl opens.are_inside opens.passes own_specification))
     (λ at. opens.single at (joined h.parts ++ 125 ∷ []))
-    (ap (λ t. before level.place outer ++ (spelled level.done ++ t)) (sym text)
-    ∙ sym (append_assoc (before level.place outer) (spelled level.done) (held ++ c ∷ []))
-    ∙ sym (append_assoc (before level.place outer ++ spelled level.done) held (c ∷ []))
-    ∙ ap (λ t. t ++ c ∷ []) spell))
+    (ap (λ t. before level.place outer ++ (spelled level.done ++ t)) (sym text) ∙ (simp append_assoc) ∙ ap (λ t. t ++ c ∷ []) spell))

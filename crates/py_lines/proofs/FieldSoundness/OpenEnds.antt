@@ -12,15 +12,15 @@ use Rattle.py_lines.specs.Private.Machine.{class_of, in_short, in_long, is_after
 use Rattle.py_lines.specs.Private.FieldMachine.{text_place, before, At, between, after_one, after_two, after_slash, after_return, after_name, after_brace, FieldMode, plain, opened, body, Level, field_state, field_closed, levels_open, may_end}
 use Rattle.py_lines.specs.Private.ScanMachine.{BeginsPlain}
 use Rattle.py_lines.proofs.Pieces.TripleQuotes.{triple-other}
-use Rattle.py_lines.proofs.Machine.OpenPieces.{joined-push}
 use Rattle.py_lines.proofs.Machine.OpenStrings.{short_held, long_held, slash_held}
 use Rattle.py_lines.proofs.Fields.Prefixes.{plain_quotes}
 use Rattle.py_lines.proofs.FieldSoundness.PlainPieces.{other_prefix}
 use Rattle.py_lines.proofs.FieldSoundness.OpenLists.{balanced_at}
 use Rattle.py_lines.proofs.Text.CharacterTests.{return-not-brace}
 use Rattle.py_lines.proofs.Fields.Parts.{name-not-brace}
-use Rattle.py_lines.proofs.FieldSoundness.Holds.{Limit, PartsAt, HoldsParts, HoldsAt, HoldsList, HoldsLevels, IsFieldSound}
-use Rattle.py_lines.proofs.FieldSoundness.Bodies.{parts-push, named-push, one_quote, two_quotes}
+use Rattle.py_lines.proofs.FieldSoundness.Holds.{Limit, PartsAt, HoldsParts, HoldsAt, IsFieldSound}
+use Rattle.py_lines.proofs.FieldSoundness.Lists.{stands_at}
+use Rattle.py_lines.proofs.FieldSoundness.Bodies.{push_part, parts-push, one_quote, two_quotes}
 use Rattle.py_lines.proofs.FieldSoundness.HostSteps.{no_parts, short_opens}
 use Rattle.py_lines.proofs.FieldSoundness.ListEnds.{code_at_end, list_ends}
 use Rattle.py_lines.proofs.FieldSoundness.OpenTexts.{begun_before, are_begun, begins_in, parts_at, stands_open, list_begins}
@@ -56,16 +56,9 @@ escape_open limit outer depth host place named text s c slashes brace may h = re
   last = [];
   spell = sym (append-nil (text ++ s ∷ c ∷ []));
   escapes = inl refl;
-  parts = record {
-    begin = h.begin;
-    parts = h.parts ++ (s ∷ c ∷ []) ∷ [];
-    spell = ap (λ t. t ++ s ∷ c ∷ []) h.spell ∙ append_assoc h.begin _ (s ∷ c ∷ []) ∙ ap (λ t. h.begin ++ t) (sym (joined-push h.parts (s ∷ c ∷ [])));
-    opens_with = h.opens_with;
-    quotes = h.quotes;
-    fit = parts-push (limit.FieldsAt depth) host place false h.parts (s ∷ c ∷ []) [] (h.fit (c ∷ [])) (escape s c refl slashes brace may (and_right _ _ refl) (and_right _ _ refl));
-    named_is = named-push false h.parts (s ∷ c ∷ []) ∙ h.named_is;
-    open_yet = triple-other host.quote h.parts (s ∷ c ∷ []) [] refl h.open_yet refl;
-  };
+  parts = push_part limit outer host place named text (s ∷ c ∷ []) _ _ h
+      (parts-push (limit.FieldsAt depth) host place false h.parts (s ∷ c ∷ []) [] (h.fit (c ∷ [])) (escape s c refl slashes brace may (and_right _ _ refl) (and_right _ _ refl)))
+      (triple-other host.quote h.parts (s ∷ c ∷ []) [] refl h.open_yet refl);
 }
 
 at_open : (limit : Limit) (outer : List Level) (depth : ℕ) (host : Host) (place : Place) (named : Bool) (at : At) (held : List ℕ) → (at ≡ after_brace → ⊥) → HoldsAt limit outer depth host place named at held → OpenUpTo limit outer depth host place named held
@@ -97,9 +90,8 @@ pub record BodyOpen (host : Host) (place : Place) (named : Bool) (characters sta
 module _ (limit : Limit) (outer : List Level) (done : List Piece) (openers : List ℕ) (m : FieldMode) (held read : List ℕ) (sound : IsFieldSound limit (field_state outer done openers m held) read) where
   body_open : (host : Host) (place : Place) (named : Bool) → text_place m ≡ place → OpenUpTo limit outer (length openers + levels_open outer) host place named held → BodyOpen host place named read (before place outer ++ spelled done)
   body_open host place named at up =
-      let list = subst (λ p. HoldsList limit outer p done openers held) at sound.list in
-      let levels = subst (λ p. HoldsLevels limit p outer (spelled done ++ held)) at sound.levels in
-      let so = stands_open limit place outer done openers host named up.text up.last held [] (sym up.spell ∙ sym (append-nil held)) list up.parts levels in
+      let here = stands_at limit outer done openers m held read place sound at in
+      let so = stands_open limit place outer done openers host named up.text up.last held [] (sym up.spell ∙ sym (append-nil held)) here.list up.parts here.levels in
       record {
         spot = so.spot;
         stands = record {
@@ -110,7 +102,7 @@ module _ (limit : Limit) (outer : List Level) (done : List Piece) (openers : Lis
           list = subst (λ t. BeginsList so.outside (spelled so.pieces ++ t) so.base) (sym up.spell) so.list;
           begun = subst (AreBegun so.base so.pieces) (sym up.spell) so.begun;
           before = sym so.before_is;
-          spell = append_assoc (before place outer) (spelled done) held ∙ ap (λ p. before p outer ++ (spelled done ++ held)) (sym at) ∙ sound.spell;
+          spell = append_assoc (before place outer) (spelled done) held ∙ here.spell;
           open_yet = record { body = up.text; last = up.last; spell = up.spell; escapes = up.escapes; string = so.string };
         };
         place_is = so.place_is;
@@ -120,17 +112,16 @@ module _ (limit : Limit) (outer : List Level) (done : List Piece) (openers : Lis
   -- a piece of the innermost list that is open
   piece_open : (IsOpen : List ℕ → Type 0) → text_place m ≡ literal → IsOpen held → StandsOpen IsOpen read (before literal outer ++ spelled done)
   piece_open IsOpen at is =
-      let list = subst (λ p. HoldsList limit outer p done openers held) at sound.list in
-      let levels = subst (λ p. HoldsLevels limit p outer (spelled done ++ held)) at sound.levels in
+      let here = stands_at limit outer done openers m held read literal sound at in
       record {
         outside = before literal outer;
         depth = levels_open outer;
         pieces = done;
         front = held;
-        list = subst (λ t. BeginsList (before literal outer) t (levels_open outer)) (append-nil (spelled done ++ held)) (list_begins limit outer (spelled done ++ held) [] levels);
-        begun = subst (AreBegun (levels_open outer) done) (append-nil held) (are_begun limit outer literal done openers held [] list);
+        list = subst (λ t. BeginsList (before literal outer) t (levels_open outer)) (append-nil (spelled done ++ held)) (list_begins limit outer (spelled done ++ held) [] here.levels);
+        begun = subst (AreBegun (levels_open outer) done) (append-nil held) (are_begun limit outer literal done openers held [] here.list);
         before = refl;
-        spell = append_assoc (before literal outer) (spelled done) held ∙ ap (λ p. before p outer ++ (spelled done ++ held)) (sym at) ∙ sound.spell;
+        spell = append_assoc (before literal outer) (spelled done) held ∙ here.spell;
         open_yet = is;
       }
 
@@ -194,30 +185,25 @@ slash_is_open limit outer done openers m held read sound is = piece_open limit o
 -- the code of a field, whose brackets are closed
 pub code_is_open : (limit : Limit) (l : Level) (ls : List Level) (done : List Piece) (m : FieldMode) (held read : List ℕ) → IsFieldSound limit (field_state (l ∷ ls) done [] m held) read → may_end m ≡ true → (start : List ℕ) × InFieldCode read start
 code_is_open limit l ls done m held read sound may =
-    let at = code_at_end m may in
-    let own = (subst (λ p. HoldsLevels limit p (l ∷ ls) (spelled done ++ held)) at sound.levels).1 in
-    let levels = subst (λ p. HoldsLevels limit p (l ∷ ls) (spelled done ++ held)) at sound.levels in
+    let here = stands_at limit (l ∷ ls) done [] m held read literal sound (code_at_end m may) in
+    let own = here.levels.1 in
     let pieces = field_closed m done held in
     let ends = list_ends limit (l ∷ ls) done [] m held read sound may in
     let start = before l.place ls ++ (spelled l.done ++ own.text) in
-    let brace : before literal (l ∷ ls) ≡ start ++ 123 ∷ [] =
-    ap (λ t. before l.place ls ++ (spelled l.done ++ t)) own.spell
-    ∙ ap (λ t. before l.place ls ++ t) (sym (append_assoc (spelled l.done) own.text (123 ∷ [])))
-    ∙ sym (append_assoc (before l.place ls) (spelled l.done ++ own.text) (123 ∷ [])) in (
+    let brace : before literal (l ∷ ls) ≡ start ++ 123 ∷ [] = ap (λ t. before l.place ls ++ (spelled l.done ++ t)) own.spell ∙ simp append_assoc in (
       start,
       record {
         depth = levels_open (l ∷ ls);
         pieces = pieces;
         list = subst (λ t. BeginsList (start ++ 123 ∷ []) t (levels_open (l ∷ ls))) (append-nil (spelled done ++ held) ∙ sym ends.spell)
-            (subst (λ t. BeginsList t ((spelled done ++ held) ++ []) (levels_open (l ∷ ls))) brace (list_begins limit (l ∷ ls) (spelled done ++ held) [] levels));
+            (subst (λ t. BeginsList t ((spelled done ++ held) ++ []) (levels_open (l ∷ ls))) brace (list_begins limit (l ∷ ls) (spelled done ++ held) [] here.levels));
         begun = begun_before (l ∷ ls) pieces [] [] ends.fit ends.opens ends.in_field;
         deep = omega arith;
         balanced = balanced_at [] pieces refl ends.opens;
         spell = sym (append_assoc start (123 ∷ []) (spelled pieces))
             ∙ ap (λ t. t ++ spelled pieces) (sym brace)
             ∙ ap (λ t. before literal (l ∷ ls) ++ t) ends.spell
-            ∙ ap (λ p. before p (l ∷ ls) ++ (spelled done ++ held)) (sym at)
-            ∙ sound.spell;
+            ∙ here.spell;
       },
     )
 
@@ -232,10 +218,7 @@ brace_is_open limit outer done openers host named held read sound = go sound.mod
         let parts = subst (λ n. PartsAt limit outer depth host literal n text (123 ∷ [])) unnamed (parts_at limit outer depth host literal named text (123 ∷ []) [] h) in
         let so = stands_open limit literal outer done openers host false text (123 ∷ []) held [] (sym is ∙ sym (append-nil held)) sound.list parts sound.levels in
         let start = before literal outer ++ (spelled done ++ text) in
-        let brace : before literal outer ++ (spelled done ++ held) ≡ start ++ 123 ∷ [] =
-        ap (λ t. before literal outer ++ (spelled done ++ t)) is
-        ∙ ap (λ t. before literal outer ++ t) (sym (append_assoc (spelled done) text (123 ∷ [])))
-        ∙ sym (append_assoc (before literal outer) (spelled done ++ text) (123 ∷ [])) in (
+        let brace : before literal outer ++ (spelled done ++ held) ≡ start ++ 123 ∷ [] = ap (λ t. before literal outer ++ (spelled done ++ t)) is ∙ simp append_assoc in (
           start,
           record {
             depth = levels_open (level ∷ outer);

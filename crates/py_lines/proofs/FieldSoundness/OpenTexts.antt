@@ -58,10 +58,7 @@ pub record IsOpenBefore (place : Place) (outer : List Level) (done : List Piece)
 pub begins_in : (l : Level) (ls : List Level) (text rest : List ℕ) → l.front ≡ text ++ byte "{" ∷ [] → (l.place ≡ literal → begins_open rest ≡ false) → IsOpenBefore l.place ls l.done l.openers l.host false text (byte "{" ∷ rest) → BeginsList (before literal (l ∷ ls)) rest (levels_open (l ∷ ls))
 begins_in l ls text rest front single inner =
     in_field (before literal (l ∷ ls)) rest (levels_open (l ∷ ls)) inner.outside inner.base inner.pieces text l.host inner.spot
-    (ap (λ t. before l.place ls ++ (spelled l.done ++ t)) front
-    ∙ sym (append_assoc (before l.place ls) (spelled l.done) (text ++ 123 ∷ []))
-    ∙ ap (λ t. t ++ (text ++ 123 ∷ [])) inner.before_is
-    ∙ append_assoc inner.outside (spelled inner.pieces) (text ++ 123 ∷ [])) inner.list inner.begun inner.string
+    (ap (λ t. before l.place ls ++ (spelled l.done ++ t)) front ∙ (simp append_assoc) ∙ ap (λ t. t ++ (text ++ 123 ∷ [])) inner.before_is ∙ simp append_assoc) inner.list inner.begun inner.string
     (record { unnamed = inner.named_is; single = λ at. single (sym inner.place_is ∙ at) })
     (omega (arith, inner.depth_is))
 
@@ -99,14 +96,9 @@ specification_open limit l ls done openers host named text rest own no_done no_o
     let opens = h.opens_with in
     let code = spelled opens.inside in
     let front : text ≡ own.text ++ (123 ∷ (code ++ (58 ∷ joined h.parts))) =
-    h.spell
-    ∙ ap (λ t. t ++ joined h.parts) (opens.spell ∙ ap (λ t. t ++ (code ++ 58 ∷ [])) own.spell ∙ append_assoc own.text (123 ∷ []) (code ++ 58 ∷ []))
-    ∙ append_assoc own.text (123 ∷ (code ++ 58 ∷ [])) (joined h.parts)
-    ∙ ap (λ t. own.text ++ (123 ∷ t)) (append_assoc code (58 ∷ []) (joined h.parts)) in
+    h.spell ∙ ap (λ t. t ++ joined h.parts) (opens.spell ∙ ap (λ t. t ++ (code ++ 58 ∷ [])) own.spell) ∙ simp append_assoc in
     let whole : own.text ++ (123 ∷ (code ++ (58 ∷ (joined h.parts ++ rest)))) ≡ text ++ rest =
-    ap (λ t. own.text ++ (123 ∷ t)) (sym (append_assoc code (58 ∷ joined h.parts) rest))
-    ∙ sym (append_assoc own.text (123 ∷ (code ++ (58 ∷ joined h.parts))) rest)
-    ∙ ap (λ t. t ++ rest) (sym front) in
+    (simp append_assoc) ∙ ap (λ t. t ++ rest) (sym front) in
     let spot = specification_after inner.spot own.text h.parts in
     let string : IsOpenString l.host inner.spot own.text (123 ∷ (code ++ (58 ∷ (joined h.parts ++ rest)))) = inner.string in
     record {
