@@ -57,78 +57,66 @@ within_more (suc n) (suc m) le host text is =
     let f : Within (FieldsWithin n) (FieldsWithin m) = within_more n m (omega arith) in
     field_map (FieldsWithin n) (FieldsWithin m) (FieldsWithin n) (FieldsWithin m) _ _ f f (λ ps passes. passes) host text is
 
--- fields of one number, of two, each no more than the sum
+-- what holds of every number that is no less than some one
+abbrev Later : (ℕ → Type 0) → Type 0
+Later P = (n : ℕ) × ((m : ℕ) → n ≤ m → P m)
+
+both_later : (P Q : ℕ → Type 0) → Later P → Later Q → Later (λ m. P m × Q m)
+both_later P Q (n, first) (m, second) = (n + m, λ k le. (first k (omega arith), second k (omega arith)))
+
+-- what is made of fields of some number is made of those of any later one
 module _ (W : ℕ → Host → List ℕ → Type 0) (more : (n m : ℕ) → n ≤ m → Within (W n) (W m)) where
   abbrev Some : Host → List ℕ → Type 0
   Some host text = (n : ℕ) × W n host text
 
-  left : (n m : ℕ) → Within (W n) (W (n + m))
-  left n m = more n (n + m) (omega arith)
+  part_within : (host : Host) (place : Place) (named : Bool) (part rest : List ℕ) → IsPart Some host place named part rest → Later (λ n. IsPart (W n) host place named part rest)
+  part_within host place named part rest (bare c a b d e) = (zero, λ m le. bare c a b d e)
+  part_within host place named part rest (slash s a b d) = (zero, λ m le. slash s a b d)
+  part_within host place named part rest (escape s c a b d e g h) = (zero, λ m le. escape s c a b d e g h)
+  part_within host place named part rest (escaped_end s r c a b d e g) = (zero, λ m le. escaped_end s r c a b d e g)
+  part_within host place named part rest (name s c d a b e g) = (zero, λ m le. name s c d a b e g)
+  part_within host place named part rest (double c d a b e g h) = (zero, λ m le. double c d a b e g h)
+  part_within host place named part rest (field is a b) = (is.0, λ m le. field (more is.0 m le host part is.1) a b)
 
-  right : (n m : ℕ) → Within (W m) (W (n + m))
-  right n m = more m (n + m) (omega arith)
+  parts_within : (host : Host) (place : Place) (named : Bool) (parts : List (List ℕ)) (rest : List ℕ) → AreParts Some host place named parts rest → Later (λ n. AreParts (W n) host place named parts rest)
+  parts_within host place named [] rest each = (zero, λ m le. tt)
+  parts_within host place named (p ∷ ps) rest each = both_later _ _ (part_within host place named p (joined ps ++ rest) each.0) (parts_within host place (named_after named p) ps rest each.1)
 
-  part_within : (host : Host) (place : Place) (named : Bool) (part rest : List ℕ) → IsPart Some host place named part rest → (n : ℕ) × IsPart (W n) host place named part rest
-  part_within host place named part rest (bare c a b d e) = (zero, bare c a b d e)
-  part_within host place named part rest (slash s a b d) = (zero, slash s a b d)
-  part_within host place named part rest (escape s c a b d e g h) = (zero, escape s c a b d e g h)
-  part_within host place named part rest (escaped_end s r c a b d e g) = (zero, escaped_end s r c a b d e g)
-  part_within host place named part rest (name s c d a b e g) = (zero, name s c d a b e g)
-  part_within host place named part rest (double c d a b e g h) = (zero, double c d a b e g h)
-  part_within host place named part rest (field is a b) = (is.0, field is.1 a b)
-
-  parts_within : (host : Host) (place : Place) (named : Bool) (parts : List (List ℕ)) (rest : List ℕ) → AreParts Some host place named parts rest → (n : ℕ) × AreParts (W n) host place named parts rest
-  parts_within host place named [] rest each = (zero, tt)
-  parts_within host place named (p ∷ ps) rest each =
-      let first = part_within host place named p (joined ps ++ rest) each.0 in
-      let others = parts_within host place (named_after named p) ps rest each.1 in
-      let n = first.0 in
-      let m = others.0 in
-      (n + m, (part_map (W n) (W (n + m)) (left n m) host place named p _ first.1, parts_map (W m) (W (n + m)) (right n m) host place _ ps rest others.1))
-
-  pub string_within : (text : List ℕ) → InClassIn (with_fields Some) string text → (n : ℕ) × InClassIn (with_fields (W n)) string text
-  string_within text (inl plain) = (zero, inl plain)
+  pub string_within : (text : List ℕ) → InClassIn (with_fields Some) string text → Later (λ n. InClassIn (with_fields (W n)) string text)
+  string_within text (inl plain) = (zero, λ m le. inl plain)
   string_within text (inr is) =
       let each = parts_within is.host _ _ is.parts _ is.each in
-      (each.0, inr (record { prefix = is.prefix; host = is.host; parts = is.parts; spell = is.spell; begun = is.begun; raw = is.raw; opens = is.opens; each = each.1; first = is.first }))
+      (each.0, λ m le. inr (record { prefix = is.prefix; host = is.host; parts = is.parts; spell = is.spell; begun = is.begun; raw = is.raw; opens = is.opens; each = each.1 m le; first = is.first }))
 
-  class_within : (class : Class) (text : List ℕ) → InClassIn (with_fields Some) class text → (n : ℕ) × InClassIn (with_fields (W n)) class text
+  class_within : (class : Class) (text : List ℕ) → InClassIn (with_fields Some) class text → Later (λ n. InClassIn (with_fields (W n)) class text)
   class_within string text is = string_within text is
-  class_within class text is = (zero, is)
+  class_within class text is = (zero, λ m le. is)
 
-  read_within : (ps : List Piece) (rest : List ℕ) → AreReadIn (with_fields Some) ps rest → (n : ℕ) × AreReadIn (with_fields (W n)) ps rest
-  read_within [] rest fit = (zero, tt)
+  read_within : (ps : List Piece) (rest : List ℕ) → AreReadIn (with_fields Some) ps rest → Later (λ n. AreReadIn (with_fields (W n)) ps rest)
+  read_within [] rest fit = (zero, λ m le. tt)
   read_within (p ∷ ps) rest fit =
-      let first = class_within p.class p.text fit.0 in
-      let others = read_within ps rest fit.3 in
-      let n = first.0 in
-      let m = others.0 in
-      (n + m, (class_map (W n) (W (n + m)) (left n m) p.class p.text first.1, precede_map Some (W (n + m)) p.class p.text _ fit.1, fit.2, read_map (W m) (W (n + m)) (right n m) ps rest others.1))
+      let both = both_later _ _ (class_within p.class p.text fit.0) (read_within ps rest fit.3) in
+      (both.0, λ m le. let own = both.1 m le in (own.0, precede_map Some (W m) p.class p.text _ fit.1, fit.2, own.1))
 
-  pub inside_within : (ps : List Piece) (rest : List ℕ) → AreInside (with_fields Some) ps rest → (n : ℕ) × AreInside (with_fields (W n)) ps rest
+  pub inside_within : (ps : List Piece) (rest : List ℕ) → AreInside (with_fields Some) ps rest → Later (λ n. AreInside (with_fields (W n)) ps rest)
   inside_within ps rest is =
       let fit = read_within ps rest is.fit in
-      (fit.0, record { fit = fit.1; unmarked = is.unmarked; balanced = is.balanced; colon = is.colon })
+      (fit.0, λ m le. record { fit = fit.1 m le; unmarked = is.unmarked; balanced = is.balanced; colon = is.colon })
 
-  pub specification_within : (host : Host) (parts : List (List ℕ)) → IsSpecification Some host parts → (n : ℕ) × IsSpecification (W n) host parts
+  pub specification_within : (host : Host) (parts : List (List ℕ)) → IsSpecification Some host parts → Later (λ n. IsSpecification (W n) host parts)
   specification_within host parts is =
       let each = parts_within host _ _ parts _ is.each in
-      (each.0, record { each = each.1; ended = is.ended; open_yet = is.open_yet })
+      (each.0, λ m le. record { each = each.1 m le; ended = is.ended; open_yet = is.open_yet })
 
 -- so a field of strings whose fields are fields is one
 pub field_is : (host : Host) (text : List ℕ) → IsField fielded AnyPieces Fields host text → Fields host text
 field_is host text (simple inside spell is passes) =
     let own = inside_within FieldsWithin within_more inside _ is in
-    (suc own.0, simple inside spell own.1 passes)
+    (suc own.0, simple inside spell (own.1 own.0 (omega arith)) passes)
 field_is host text (specified inside parts spell is passes specification) =
-    let own = inside_within FieldsWithin within_more inside _ is in
-    let later = specification_within FieldsWithin within_more host parts specification in
-    let n = own.0 in
-    let m = later.0 in (
-      suc (n + m),
-      specified inside parts spell (inside_map (FieldsWithin n) (FieldsWithin (n + m)) (within_more n (n + m) (omega arith)) inside _ own.1) passes
-          (specification_map (FieldsWithin m) (FieldsWithin (n + m)) (within_more m (n + m) (omega arith)) host parts later.1),
-    )
+    let own = both_later _ _ (inside_within FieldsWithin within_more inside _ is) (specification_within FieldsWithin within_more host parts specification) in
+    let both = own.1 own.0 (omega arith) in
+    (suc own.0, specified inside parts spell both.0 passes both.1)
 
 -- and each field is such a one
 pub field_of : (host : Host) (text : List ℕ) → Fields host text → IsField fielded AnyPieces Fields host text
@@ -149,43 +137,26 @@ shallow_more (suc n) (suc m) le depth host text is =
     let f : (d : ℕ) → Within (ShallowWithin n d) (ShallowWithin m d) = shallow_more n m (omega arith) in
     (is.0, field_map Fields Fields (ShallowWithin n (depth + 1)) (ShallowWithin m (depth + 1)) _ _ (λ h t one. one) (f (depth + 1)) (shallow_map (ShallowWithin n) (ShallowWithin m) f (depth + 1)) host text is.1)
 
-shallow_within : (depth : ℕ) (ps : List Piece) → IsShallow depth ps → (n : ℕ) × IsShallowWith (ShallowWithin n) depth ps
-shallow_within depth [] shallow = (zero, tt)
+shallow_within : (depth : ℕ) (ps : List Piece) → IsShallow depth ps → Later (λ n. IsShallowWith (ShallowWithin n) depth ps)
+shallow_within depth [] shallow = (zero, λ m le. tt)
 shallow_within depth (p ∷ ps) shallow =
-    let first = at p.class shallow.1 in
-    let others = shallow_within (depth_after depth p) ps shallow.2 in
-    let n = first.0 in
-    let m = others.0 in (
-      n + m,
-      (
-        shallow.0,
-        λ is. string_map (ShallowWithin n depth) (ShallowWithin (n + m) depth) (shallow_more n (n + m) (omega arith) depth) p.text (first.1 is),
-        shallow_map (ShallowWithin m) (ShallowWithin (n + m)) (shallow_more m (n + m) (omega arith)) (depth_after depth p) ps others.1,
-      ),
-    )
+    let both = both_later _ _ (at p.class shallow.1) (shallow_within (depth_after depth p) ps shallow.2) in
+    (both.0, λ m le. let own = both.1 m le in (shallow.0, own.0, own.1))
   where
-    at : (class : Class) → (class ≡ string → InClassIn (with_fields (ShallowFields depth)) string p.text) → (n : ℕ) × (class ≡ string → InClassIn (with_fields (ShallowWithin n depth)) string p.text)
+    at : (class : Class) → (class ≡ string → InClassIn (with_fields (ShallowFields depth)) string p.text) → Later (λ n. class ≡ string → InClassIn (with_fields (ShallowWithin n depth)) string p.text)
     at string h =
         let own = string_within (λ n. ShallowWithin n depth) (λ n m le. shallow_more n m le depth) p.text (h refl) in
-        (own.0, λ is. own.1)
-    at class h = (zero, λ is. absurd (cc))
+        (own.0, λ m le is. own.1 m le)
+    at class h = (zero, λ m le is. absurd (cc))
 
 pub shallow_is : (depth : ℕ) (host : Host) (text : List ℕ) → depth < 200 → IsField fielded (IsShallow (depth + 1)) (ShallowFields (depth + 1)) host text → ShallowFields depth host text
 shallow_is depth host text room (simple inside spell is passes) =
     let own = shallow_within (depth + 1) inside passes in
-    (suc own.0, (room, simple inside spell is own.1))
+    (suc own.0, (room, simple inside spell is (own.1 own.0 (omega arith))))
 shallow_is depth host text room (specified inside parts spell is passes specification) =
-    let own = shallow_within (depth + 1) inside passes in
-    let later = specification_within (λ n. ShallowWithin n (depth + 1)) (λ n m le. shallow_more n m le (depth + 1)) host parts specification in
-    let n = own.0 in
-    let m = later.0 in (
-      suc (n + m),
-      (
-        room,
-        specified inside parts spell is (shallow_map (ShallowWithin n) (ShallowWithin (n + m)) (shallow_more n (n + m) (omega arith)) (depth + 1) inside own.1)
-            (specification_map (ShallowWithin m (depth + 1)) (ShallowWithin (n + m) (depth + 1)) (shallow_more m (n + m) (omega arith) (depth + 1)) host parts later.1),
-      ),
-    )
+    let own = both_later _ _ (shallow_within (depth + 1) inside passes) (specification_within (λ n. ShallowWithin n (depth + 1)) (λ n m le. shallow_more n m le (depth + 1)) host parts specification) in
+    let both = own.1 own.0 (omega arith) in
+    (suc own.0, (room, specified inside parts spell is both.0 both.1))
 
 pub shallow_of : (depth : ℕ) (host : Host) (text : List ℕ) → ShallowFields depth host text → (depth < 200) × IsField fielded (IsShallow (depth + 1)) (ShallowFields (depth + 1)) host text
 shallow_of depth host text (zero, is) = absurd is
