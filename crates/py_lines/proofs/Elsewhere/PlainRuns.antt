@@ -22,7 +22,8 @@ use Rattle.py_lines.proofs.Machine.PieceSteps.{scanned, pieces_at, steps_by-appe
 use Rattle.py_lines.proofs.Machine.ReadingSteps.{reach}
 use Rattle.py_lines.proofs.Machine.Soundness.{SoundIf, step_sound, end_sound}
 use Rattle.py_lines.proofs.Machine.FinishedPieces.{GoesBy, stack_at, closed_grows}
-use Rattle.py_lines.proofs.Machine.LiveTexts.{keeps, stack_closed, IsReady, ready-free, closing-operator, comment-breaks, feed-starts, closing_of-closing, closing-scalar, scalars-append, completes}
+use Rattle.py_lines.proofs.Text.Utf8Prefixes.{all_scalars-append}
+use Rattle.py_lines.proofs.Machine.LiveTexts.{keeps, stack_closed, IsReady, ready-free, closing-operator, comment-breaks, feed-starts, closing_of-closing, closing-scalar, completes}
 
 -- from one state, the machine goes over these characters to another, with these brackets open
 abbrev pub PlainGoesTo : Scanned → List ℕ → Scanned → List Bracket → Type 0
@@ -194,6 +195,6 @@ plain_runs_live cs s st steps =
     record {
       more = more;
       pieces = pieces_at second.to;
-      scalars = scalars-append first.more (closers st) first.scalars (closers-scalars st);
+      scalars = all_scalars-append first.more (closers st) first.scalars (closers-scalars st);
       reading = reading_at (cs ++ more) second.to whole second.ends;
     }

@@ -11,10 +11,11 @@ use Rattle.py_lines.specs.declared.mode.Mode.TheVariants as modes
 use Rattle.py_lines.specs.Private.Machine.{move_of}
 use Rattle.py_lines.specs.Private.FieldMachine.{At, between, after_one, after_two, after_slash, after_brace, FieldMode, plain, body, grows, closes, breaks, Level, FieldScanned, field_state, field_fresh, between_move, escape_move, body_move, field_move, openers_with, field_operator, field_ended, field_started, field_moved, field_closed, may_end, frames, IsFieldFinal}
 use Rattle.py_lines.proofs.Text.CharacterTests.{not_quote}
+use Rattle.py_lines.proofs.Text.Utf8Prefixes.{all_scalars-append}
 use Rattle.py_lines.proofs.Pieces.PieceLists.{piece}
 use Rattle.py_lines.proofs.Pieces.OpenBrackets.{closing-not-opening}
 use Rattle.py_lines.proofs.Machine.Starts.{start-operator}
-use Rattle.py_lines.proofs.Machine.LiveTexts.{closing-operator, closing_of-closing, closing-scalar, quote-scalar, scalars-append}
+use Rattle.py_lines.proofs.Machine.LiveTexts.{closing-operator, closing_of-closing, closing-scalar, quote-scalar}
 use Rattle.py_lines.proofs.FieldMachine.Runs.{HasRoomFor, Goes, goes-append, goes-grows, goes-closes, goes-begins}
 use Rattle.py_lines.proofs.FieldMachine.StringParts.{goes_on, body_moves, second_brace}
 use Rattle.py_lines.proofs.FieldMachine.FieldRuns.{end_moves, brace_ends}
@@ -60,7 +61,7 @@ grows_first Room s m c scalar move later = record {
   done = later.done;
   mode = later.mode;
   held = later.held;
-  scalars = scalars-append (c ∷ []) later.more scalar later.scalars;
+  scalars = all_scalars-append (c ∷ []) later.more scalar later.scalars;
   goes = goes-grows Room s _ m c later.more move later.goes;
   ready = later.ready;
 }
@@ -92,7 +93,7 @@ closes_list Room outer (o ∷ os) done m held ready =
       done = others.done;
       mode = others.mode;
       held = others.held;
-      scalars = scalars-append (c ∷ []) others.more (and_from _ _ (closing-scalar c is) refl) others.scalars;
+      scalars = all_scalars-append (c ∷ []) others.more (and_from _ _ (closing-scalar c is) refl) others.scalars;
       goes = goes-begins Room s next _ c others.more (ready.closing c is)
           (ap (field_started outer pieces (o ∷ os) c) (start-operator c (closing-operator c is)) ∙ popped outer pieces o os c is (eq-eqb c c refl)) (λ opens. no_opening c is opens) others.goes;
       ready = others.ready;
@@ -107,7 +108,7 @@ pub finishes_after : (Room : ℕ → Type 0) (s t : FieldScanned) (more : List �
 finishes_after Room s t more scalars goes later = record {
   more = more ++ later.more;
   to = later.to;
-  scalars = scalars-append more later.more scalars later.scalars;
+  scalars = all_scalars-append more later.more scalars later.scalars;
   goes = goes-append Room s t later.to more later.more goes later.goes;
   final = later.final;
 }

@@ -1,8 +1,8 @@
 -- A text is live exactly where the machine goes through it: what is open can be closed.
-use Rattle.std.proofs.Common.{◌≡◌, ℕ, true, false, ◌==◌, Some, List, [], ◌∷◌, ◌++◌, refl, ◌∙◌}
+use Rattle.std.proofs.Common.{◌≡◌, ℕ, true, false, ◌==◌, Some, List, [], ◌∷◌, ◌++◌, refl, ◌∙◌, ap}
 use Rattle.std.specs.Str.{all_scalars}
 use Rattle.std.specs.Char.{IsScalar}
-use Rattle.std.proofs.lemmas.Bool.{cond_both, and_parts, and_from, and_right, eq-eqb}
+use Rattle.std.proofs.lemmas.Bool.{cond_both, and_right, eq-eqb}
 use Rattle.unicode_ident.proofs.Computing.{unicode_ident}
 use Rattle.py_lines.specs.Character.{is_mark, is_space, is_word_character, is_quote, is_operator, is_line_feed, is_return, is_break}
 use Rattle.py_lines.specs.Piece.{Piece, spelled}
@@ -76,12 +76,6 @@ feed-starts = start-feed 10 refl
 pub closing_of-closing : (c : ℕ) → is_closing (closing_of c) ≡ true
 unfolding is_closing
 closing_of-closing c = cond_both (c == 40) _ _ (λ x. is_closing x ≡ true) (λ h. refl) (λ h. cond_both (c == 91) _ _ (λ x. is_closing x ≡ true) (λ k. refl) (λ k. refl))
-
-pub scalars-append : (xs ys : List ℕ) → all_scalars xs ≡ true → all_scalars ys ≡ true → all_scalars (xs ++ ys) ≡ true
-scalars-append [] ys first second = second
-scalars-append (x ∷ xs) ys first second =
-    let parts = and_parts _ (all_scalars xs) first in
-    and_from _ _ parts.0 (scalars-append xs ys parts.1 second)
 
 -- How the open piece can be finished, told once for every machine: `Comes` says that it can be, in this mode and with this text;
 -- it is so at once, after one character more by which the piece grows or with which it ends, and at the end of a comment.
