@@ -10,7 +10,8 @@ use Rattle.py_lines.specs.Private.Machine.{closed, class_of, is_final}
 use Rattle.py_lines.specs.Private.FieldMachine.{text_place, FieldMode, plain, opened, empty, body, Level, field_state, field_closed, levels_open, may_end}
 use Rattle.py_lines.proofs.Pieces.PieceLists.{piece, spelled-push, AreReadIn-push, follows_any}
 use Rattle.py_lines.proofs.Fields.Nesting.{class_map}
-use Rattle.py_lines.proofs.FieldSoundness.PlainPieces.{IsPlainText, plain_class, plain_precede, end_holds}
+use Rattle.py_lines.proofs.Fields.Elsewhere.{IsPlainText, plain_class, plain_precede}
+use Rattle.py_lines.proofs.FieldSoundness.PlainPieces.{end_holds}
 use Rattle.py_lines.proofs.FieldSoundness.OpenLists.{Opens, opens-other}
 use Rattle.py_lines.proofs.FieldSoundness.Holds.{Limit, IsFieldSound}
 use Rattle.py_lines.proofs.FieldSoundness.Lists.{neutral, passes-push, colon-push, marked-push}

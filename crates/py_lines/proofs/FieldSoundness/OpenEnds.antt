@@ -14,7 +14,7 @@ use Rattle.py_lines.specs.Private.ScanMachine.{BeginsPlain}
 use Rattle.py_lines.proofs.Pieces.TripleQuotes.{triple-other}
 use Rattle.py_lines.proofs.Machine.OpenStrings.{short_held, long_held, slash_held}
 use Rattle.py_lines.proofs.Fields.Prefixes.{plain_quotes}
-use Rattle.py_lines.proofs.FieldSoundness.PlainPieces.{other_prefix}
+use Rattle.py_lines.proofs.Fields.Elsewhere.{other_prefix}
 use Rattle.py_lines.proofs.FieldSoundness.OpenLists.{balanced_at}
 use Rattle.py_lines.proofs.Text.CharacterTests.{return-not-brace}
 use Rattle.py_lines.proofs.Fields.Parts.{name-not-brace}

@@ -23,7 +23,8 @@ use Rattle.py_lines.proofs.Text.CharacterTests.{quote-not-start}
 use Rattle.py_lines.proofs.Fields.Prefixes.{word_quotes}
 use Rattle.py_lines.proofs.FieldMachine.Runs.{HasRoomFor}
 use Rattle.py_lines.proofs.FieldMachine.PlainSteps.{NoWord, no_word}
-use Rattle.py_lines.proofs.FieldSoundness.PlainPieces.{begins_plain-more, IsPlainText, plain_class, plain_precede, BreaksBefore, MoveHolds, move_holds}
+use Rattle.py_lines.proofs.Fields.Elsewhere.{IsPlainText, plain_class, plain_precede}
+use Rattle.py_lines.proofs.FieldSoundness.PlainPieces.{begins_plain-more, BreaksBefore, MoveHolds, move_holds}
 use Rattle.py_lines.proofs.FieldSoundness.Holds.{Limit, HoldsMode, Stands, AtStart, IsFieldSound}
 use Rattle.py_lines.proofs.FieldSoundness.Lists.{FieldSoundIf, sound_in, stands_at, stands_more, stands_push, adds_neutral, fresh_sound}
 use Rattle.py_lines.proofs.FieldSoundness.Code.{Ready, start_sound}
@@ -76,23 +77,13 @@ quoted_so (modes.Word s) held c holds own other =
 quoted_so m held c holds own other = keeps_class (class_of m) held c (move_of m c) (no_word m c refl) own
 
 -- no character closes a word, nor what stands after no piece
-abbrev ClosesSo : Mode → Move → Type 0
-ClosesSo modes.Free moves.Closes = ⊥
-ClosesSo (modes.Word s) moves.Closes = ⊥
-ClosesSo m v = Unit {0}
-
-closes_so : (m : Mode) (c : ℕ) → ClosesSo m (move_of m c)
+closes_class : (m : Mode) (c : ℕ) → move_of m c ≡ moves.Closes → (class_of m ≡ operator → ⊥) × (class_of m ≡ word → ⊥)
 unfolding move_of
-closes_so modes.Free c = tt
-closes_so (modes.Word s) c =
-    let P : Move → Type 0 = λ v. ClosesSo (modes.Word s) v in
-    cond_both (is_word_character c) _ _ P (λ h. tt) (λ h. cond_both (is_prefix_spelling s && is_quote c) _ _ P (λ k. tt) (λ k. tt))
-closes_so m c = tt
-
-closes_class : (m : Mode) → ClosesSo m moves.Closes → (class_of m ≡ operator → ⊥) × (class_of m ≡ word → ⊥)
-closes_class modes.Free so = absurd so
-closes_class (modes.Word s) so = absurd so
-closes_class m so = (λ h. absurd (cc), λ h. absurd (cc))
+closes_class modes.Free c h = absurd (cc)
+closes_class (modes.Word s) c h =
+    let P : Move → Type 0 = λ v. v ≡ moves.Closes → ⊥ in
+    absurd (cond_both (is_word_character c) _ _ P (λ k at. cc) (λ k. cond_both (is_prefix_spelling s && is_quote c) _ _ P (λ l at. cc) (λ l at. cc)) h)
+closes_class m c h = (λ at. absurd (cc), λ at. absurd (cc))
 
 -- what keeps an open piece from being part of a string with fields
 pub plain_text : (class : Class) (text rest : List ℕ) → (class ≡ string → BeginsPlain text) → (class ≡ word → is_field_prefix text && begins is_quote rest ≡ false) → IsPlainText class text rest
@@ -120,10 +111,10 @@ ends_of m = something (λ done held. refl) (λ h. absurd (cc)) refl
 
 module _ (limit : Limit) (outer : List Level) (done : List Piece) (openers : List ℕ) (m : Mode) (held read : List ℕ) (c : ℕ) (sound : IsFieldSound limit (field_state outer done openers (plain m) held) read) (other : begins_host m held c ≡ false) where
   -- the piece ends with the character
-  closes_sound : InPlainClass (class_of m) (held ++ c ∷ []) × ((more : List ℕ) → MayPrecedePlain (class_of m) (held ++ c ∷ []) more) → ClosesSo m moves.Closes → FieldSoundIf limit (field_moved (field_state outer done openers (plain m) held) c closes) (read ++ c ∷ [])
+  closes_sound : InPlainClass (class_of m) (held ++ c ∷ []) × ((more : List ℕ) → MayPrecedePlain (class_of m) (held ++ c ∷ []) more) → move_of m c ≡ moves.Closes → FieldSoundIf limit (field_moved (field_state outer done openers (plain m) held) c closes) (read ++ c ∷ [])
   closes_sound own so =
       let text = held ++ c ∷ [] in
-      let class = closes_class m so in
+      let class = closes_class m c so in
       let is_plain : (rest : List ℕ) → IsPlainText (class_of m) text rest = λ rest. plain_text (class_of m) text rest (λ at. begins_plain-more held c (sound.mode.1 at)) (λ at. absurd (class.1 at)) in
       closes_with limit outer done openers (plain m) held read c (class_of m) sound refl class.0 (plain_class _ (class_of m) text [] (is_plain []) own.0)
       (λ more. plain_precede Fields (class_of m) text more (is_plain more) (own.1 more)) (unmarked m outer done sound.start)
@@ -155,7 +146,7 @@ module _ (limit : Limit) (outer : List Level) (done : List Piece) (openers : Lis
 
   -- so whatever it does
   pub plain_sound : HasRoom limit (length openers + levels_open outer) c (plain_move (move_of m c)) → FieldSoundIf limit (field_moved (field_state outer done openers (plain m) held) c (plain_move (move_of m c))) (read ++ c ∷ [])
-  plain_sound room = go (move_of m c) (move_holds m held c sound.mode.0) (quoted_so m held c sound.mode.0 sound.mode.1 other) (closes_so m c) room
+  plain_sound room = go (move_of m c) (move_holds m held c sound.mode.0) (quoted_so m held c sound.mode.0 sound.mode.1 other) refl room
     where
       no_start : (n : Mode) → Holds n [] (held ++ c ∷ []) → AtStart (plain n) outer done
       no_start modes.Start (one, none) = absurd (not_nothing held none)
@@ -165,7 +156,7 @@ module _ (limit : Limit) (outer : List Level) (done : List Piece) (openers : Lis
           not_nothing (x ∷ xs) h = cc
       no_start n holds = tt
 
-      go : (v : Move) → MoveHolds m held c v → QuotedSo held c v → ClosesSo m v → HasRoom limit (length openers + levels_open outer) c (plain_move v) → FieldSoundIf limit (field_moved (field_state outer done openers (plain m) held) c (plain_move v)) (read ++ c ∷ [])
+      go : (v : Move) → MoveHolds m held c v → QuotedSo held c v → move_of m c ≡ v → HasRoom limit (length openers + levels_open outer) c (plain_move v) → FieldSoundIf limit (field_moved (field_state outer done openers (plain m) held) c (plain_move v)) (read ++ c ∷ [])
       go (moves.Grows n) holds quoted so room = grew limit outer done openers (plain m) (plain n) held read c sound refl (holds, quoted) (no_start n holds)
       go moves.Closes holds quoted so room = closes_sound holds so
       go moves.Breaks holds quoted so room = breaks_sound holds room

@@ -1,6 +1,6 @@
 -- A text that has no string with fields reads the same with them and without.
-use Rattle.std.proofs.Common.{◌≡◌, ℕ, Bool, true, false, ◌||◌, ◌&&◌, List, [], ◌∷◌, ◌++◌, refl, ap, ◌∙◌, subst, inl, inr, ⊎_elim, append_assoc, append-nil}
-use Rattle.std.proofs.lemmas.Bool.{or_parts, or_from, or_cases, both_ways}
+use Rattle.std.proofs.Common.{◌≡◌, ℕ, Bool, true, false, ◌||◌, ◌&&◌, List, [], ◌∷◌, ◌++◌, refl, sym, ap, ◌∙◌, subst, inl, inr, ⊎_elim, append_assoc, append-nil}
+use Rattle.std.proofs.lemmas.Bool.{and_parts, or_parts, or_from, or_cases, both_ways, false_from_ne_true}
 use Rattle.std.specs.Prelude.{if◌then◌else◌}
 use Rattle.py_lines.specs.Character.{is_quote, is_r, is_f, is_t}
 use Rattle.py_lines.specs.Piece.{Class, word, string, Piece, begins, spelled}
@@ -10,6 +10,9 @@ use Rattle.py_lines.specs.Fields.{Fields, fielded, IsShallowWith, ShallowFields}
 use Rattle.py_lines.specs.Reading.{IsBalancedReading}
 use Rattle.py_lines.specs.WithoutFields.{IsPlainReading}
 use Rattle.py_lines.specs.FieldStrings.{is_field_prefix, Host, quotes_of, IsFieldString, with_fields, begins_raw, may_have_fields}
+use Rattle.py_lines.specs.Private.ScanMachine.{BeginsPlain}
+use Rattle.std.specs.List.{list_any}
+use Rattle.py_lines.proofs.Fields.Prefixes.{plain_quotes, field_letters, first_quote}
 
 -- what follows some of the text has none either
 pub later : (a b : List ℕ) → may_have_fields (a ++ b) ≡ false → may_have_fields b ≡ false
@@ -64,11 +67,49 @@ has_prefix F text rest h is =
     is.spell ∙ ap (λ t. is.prefix ++ (t ++ (joined is.parts ++ quotes_of is.host))) begin.1 in
     both_ways _ (no_field_string text is.prefix _ rest is.host.quote spell is.opens h) is.begun
 
--- each class
+-- a text whose first quote comes after no prefix of a string with fields has no such prefix
+pub other_prefix : (text prefix body : List ℕ) (q : ℕ) → BeginsPlain text → text ≡ prefix ++ q ∷ body → list_any is_quote prefix ≡ false → is_quote q ≡ true → is_field_prefix prefix ≡ false
+other_prefix text prefix body q is spell none quotes =
+    let cut = first_quote prefix is.prefix body is.body q is.quote none is.none quotes is.opens (sym spell ∙ is.spell) in
+    ap is_field_prefix cut.0 ∙ is.plain
+
+-- what keeps a piece from being part of a string with fields
+abbrev pub IsPlainText : Class → List ℕ → List ℕ → Type 0
+IsPlainText word text rest = is_field_prefix text && begins is_quote rest ≡ false
+IsPlainText string text rest = BeginsPlain text
+IsPlainText other text rest = Unit {0}
+
+pub plain_class : (F : Host → List ℕ → Type 0) (class : Class) (text rest : List ℕ) → IsPlainText class text rest → InPlainClass class text → InClassIn (with_fields F) class text
+plain_class F string text rest plain (inl short) = inl (inl (short, other_prefix text short.prefix _ short.quote plain short.spell (plain_quotes short.prefix short.begun) short.opens))
+plain_class F string text rest plain (inr long) = inl (inr (long, other_prefix text long.prefix _ long.quote plain long.spell (plain_quotes long.prefix long.begun) long.opens))
+plain_class F class text rest plain is = is
+
+neither : (a b c : Bool) → a && c ≡ false → b && c ≡ false → (a || b) && c ≡ false
+neither true b c h k = h
+neither false b c h k = k
+
+pub plain_precede : (F : Host → List ℕ → Type 0) (class : Class) (text rest : List ℕ) → IsPlainText class text rest → MayPrecedePlain class text rest → MayPrecedeIn (with_fields F) class text rest
+plain_precede F word text rest plain before = (before.0, neither (is_prefix text) (is_field_prefix text) (begins is_quote rest) before.1 plain)
+plain_precede F string text rest plain before = λ prefix q spell begun quotes. before prefix q spell (fewer prefix q spell quotes begun) quotes
+  where
+    fewer : (prefix : List ℕ) (q : ℕ) → text ≡ prefix ++ q ∷ q ∷ [] → is_quote q ≡ true → IsNoneOr (λ p. is_prefix p || is_field_prefix p) prefix → IsNoneOr is_prefix prefix
+    fewer prefix q spell quotes (inl none) = inl none
+    fewer prefix q spell quotes (inr some) =
+        inr (⊎_elim
+        (λ is. is)
+        (λ is. absurd (both_ways _ (other_prefix text prefix (q ∷ []) q plain spell (field_letters prefix is).quotes quotes) is)) (or_cases (is_prefix prefix) (is_field_prefix prefix) some))
+plain_precede F class text rest plain before = before
+
+-- so are the pieces of a text that has no string with fields
+class_plain : (class : Class) (text rest : List ℕ) → may_have_fields (text ++ rest) ≡ false → InPlainClass class text → IsPlainText class text rest
+class_plain word text [] h is = none_false (is_field_prefix text)
+class_plain word text (q ∷ cs) h is = false_from_ne_true _ (λ both. let parts = and_parts (is_field_prefix text) (is_quote q) both in both_ways _ (no_field_prefix text q cs parts.1 h) parts.0)
+class_plain string text rest h (inl is) = record { prefix = is.prefix; quote = is.quote; body = _; spell = is.spell; none = plain_quotes is.prefix is.begun; opens = is.opens; plain = no_field_string text is.prefix _ rest is.quote is.spell is.opens h }
+class_plain string text rest h (inr is) = record { prefix = is.prefix; quote = is.quote; body = _; spell = is.spell; none = plain_quotes is.prefix is.begun; opens = is.opens; plain = no_field_string text is.prefix _ rest is.quote is.spell is.opens h }
+class_plain class text rest h is = tt
+
 class_with : (F : Host → List ℕ → Type 0) (class : Class) (text rest : List ℕ) → may_have_fields (text ++ rest) ≡ false → InPlainClass class text → InClassIn (with_fields F) class text
-class_with F string text rest h (inl short) = inl (inl (short, no_field_string text short.prefix _ rest short.quote short.spell short.opens h))
-class_with F string text rest h (inr long) = inl (inr (long, no_field_string text long.prefix _ rest long.quote long.spell long.opens h))
-class_with F class text rest h is = is
+class_with F class text rest h is = plain_class F class text rest (class_plain class text rest h is) is
 
 class_without : (F : Host → List ℕ → Type 0) (class : Class) (text rest : List ℕ) → may_have_fields (text ++ rest) ≡ false → InClassIn (with_fields F) class text → InPlainClass class text
 class_without F string text rest h (inl (inl short)) = inl short.0
@@ -77,32 +118,13 @@ class_without F string text rest h (inr is) = absurd (has_prefix F text rest h i
 class_without F class text rest h is = is
 
 -- and what it may precede
-more_false : (x y z : Bool) → x && z ≡ false → (z ≡ true → y ≡ false) → (x || y) && z ≡ false
-more_false x y false h later = none_false (x || y)
-more_false false y true h later = ap (λ b. b && true) (later refl)
-more_false true y true h later = absurd (both_ways _ h refl)
-
 fewer_false : (x y z : Bool) → (x || y) && z ≡ false → x && z ≡ false
 fewer_false false y z h = refl
 fewer_false true y z h = h
 
-word_with : (text rest : List ℕ) → may_have_fields (text ++ rest) ≡ false → is_prefix text && begins is_quote rest ≡ false → (is_prefix text || is_field_prefix text) && begins is_quote rest ≡ false
-word_with text [] h before = none_false (is_prefix text || is_field_prefix text)
-word_with text (q ∷ cs) h before = more_false (is_prefix text) (is_field_prefix text) (is_quote q) before (λ quotes. no_field_prefix text q cs quotes h)
-
-fewer_prefixes : (text rest prefix : List ℕ) (q : ℕ) → may_have_fields (text ++ rest) ≡ false → text ≡ prefix ++ q ∷ q ∷ [] → is_quote q ≡ true → IsNoneOr (λ p. is_prefix p || is_field_prefix p) prefix → IsNoneOr is_prefix prefix
-fewer_prefixes text rest prefix q h is quotes (inl none) = inl none
-fewer_prefixes text rest prefix q h is quotes (inr some) =
-    inr (⊎_elim (λ plain. plain) (λ fielded. absurd (both_ways _ (no_field_string text prefix _ rest q is quotes h) fielded)) (or_cases (is_prefix prefix) (is_field_prefix prefix) some))
-
 more_prefixes : (prefix : List ℕ) → IsNoneOr is_prefix prefix → IsNoneOr (λ p. is_prefix p || is_field_prefix p) prefix
 more_prefixes prefix (inl none) = inl none
 more_prefixes prefix (inr some) = inr (ap (λ b. b || is_field_prefix prefix) some)
-
-precede_with : (F : Host → List ℕ → Type 0) (class : Class) (text rest : List ℕ) → may_have_fields (text ++ rest) ≡ false → MayPrecedePlain class text rest → MayPrecedeIn (with_fields F) class text rest
-precede_with F word text rest h before = (before.0, word_with text rest h before.1)
-precede_with F string text rest h before = λ prefix q is begun quotes. before prefix q is (fewer_prefixes text rest prefix q h is quotes begun) quotes
-precede_with F class text rest h before = before
 
 pub precede_without : (F : Host → List ℕ → Type 0) (class : Class) (text rest : List ℕ) → MayPrecedeIn (with_fields F) class text rest → MayPrecedePlain class text rest
 precede_without F word text rest before = (before.0, fewer_false (is_prefix text) (is_field_prefix text) (begins is_quote rest) before.1)
@@ -114,7 +136,7 @@ pub read_with : (F : Host → List ℕ → Type 0) (ps : List Piece) (rest : Lis
 read_with F [] rest h fit = tt
 read_with F (p ∷ ps) rest h fit =
     let here : may_have_fields (p.text ++ (spelled ps ++ rest)) ≡ false = subst (λ t. may_have_fields t ≡ false) (append_assoc p.text (spelled ps) rest) h in
-    (class_with F p.class p.text _ here fit.0, precede_with F p.class p.text _ here fit.1, fit.2, read_with F ps rest (later p.text (spelled ps ++ rest) here) fit.3)
+    (class_with F p.class p.text _ here fit.0, plain_precede F p.class p.text _ (class_plain p.class p.text _ here fit.0) fit.1, fit.2, read_with F ps rest (later p.text (spelled ps ++ rest) here) fit.3)
 
 pub read_without : (F : Host → List ℕ → Type 0) (ps : List Piece) (rest : List ℕ) → may_have_fields (spelled ps ++ rest) ≡ false → AreReadIn (with_fields F) ps rest → AreReadPlain ps rest
 read_without F [] rest h fit = tt

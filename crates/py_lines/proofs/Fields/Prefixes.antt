@@ -2,11 +2,11 @@
 use Rattle.std.proofs.Common.{◌≡◌, ℕ, Bool, true, false, ◌||◌, ◌&&◌, List, [], ◌∷◌, ◌++◌, refl, sym, ap, ◌∙◌, ⊎_elim, inl, inr}
 use Rattle.std.specs.Prelude.{codes}
 use Rattle.std.specs.List.{list_all, list_any}
-use Rattle.std.proofs.lemmas.Bool.{and_parts, and_from, or_parts, or_from, or_cases, both_ways, false_from_ne_true}
+use Rattle.std.proofs.lemmas.Bool.{and_parts, and_from, or_parts, or_from, or_cases, both_ways}
 use Rattle.py_lines.specs.Character.{is_quote, is_r, is_f, is_t, is_word_start, is_word_character, is_digit}
 use Rattle.py_lines.specs.PieceGrammar.{IsPrefix}
 use Rattle.py_lines.specs.FieldStrings.{is_field_prefix}
-use Rattle.py_lines.proofs.Text.CharacterTests.{each_of, prefix_word, quote-not-word, quote-not-start}
+use Rattle.py_lines.proofs.Text.CharacterTests.{each_of, excluded, prefix_word, quote-not-word, quote-not-start}
 use Rattle.unicode_ident.proofs.Computing.{unicode_ident}
 
 -- of two lists, one begins with the other
@@ -25,14 +25,13 @@ letter : (c : ℕ) → is_r c || is_f c || is_t c ≡ true → (is_word_start c 
 unfolding unicode_ident is_r is_f is_t is_word_start is_word_character is_digit is_quote
 letter c h =
     let P : ℕ → Type 0 = λ x. (is_word_start x ≡ true) × (is_word_character x ≡ true) × (is_quote x ≡ false) in
-    let all : P 114 = (refl, refl, refl) in
     ⊎_elim
     (λ rf. ⊎_elim (λ r. each_of P (codes "rR") c ((refl, refl, refl), ((refl, refl, refl), tt)) r) (λ f. each_of P (codes "fF") c ((refl, refl, refl), ((refl, refl, refl), tt)) f) (or_cases (is_r c) (is_f c) rf))
     (λ t. each_of P (codes "tT") c ((refl, refl, refl), ((refl, refl, refl), tt)) t)
     (or_cases (is_r c || is_f c) (is_t c) h)
 
 -- Booleans
-pub third_of : (a b c : Bool) → b || c ≡ true → a || b || c ≡ true
+third_of : (a b c : Bool) → b || c ≡ true → a || b || c ≡ true
 third_of true b c h = refl
 third_of false b c h = h
 
@@ -40,10 +39,10 @@ first_of : (a b c : Bool) → a ≡ true → a || b || c ≡ true
 first_of true b c h = refl
 first_of false b c h = absurd (both_ways _ refl h)
 
-abbrev pub IsLetter : ℕ → Type 0
+abbrev IsLetter : ℕ → Type 0
 IsLetter c = is_r c || is_f c || is_t c ≡ true
 
-pub letters : (a b : ℕ) → is_field_prefix (a ∷ b ∷ []) ≡ true → IsLetter a × IsLetter b
+letters : (a b : ℕ) → is_field_prefix (a ∷ b ∷ []) ≡ true → IsLetter a × IsLetter b
 letters a b h =
     ⊎_elim
     (λ one. let parts = and_parts _ _ one in (first_of (is_r a) (is_f a) (is_t a) parts.0, third_of (is_r b) (is_f b) (is_t b) parts.1))
@@ -55,7 +54,6 @@ pub record IsLetters (prefix : List ℕ) : Type 0 where
   pub first : ℕ
   pub others : List ℕ
   pub is : prefix ≡ first ∷ others
-  pub is_letter : is_r first || is_f first || is_t first ≡ true
   pub starts : is_word_start first ≡ true
   pub all : list_all is_word_character prefix ≡ true
   pub quotes : list_any is_quote prefix ≡ false
@@ -63,32 +61,28 @@ pub record IsLetters (prefix : List ℕ) : Type 0 where
 pub field_letters : (prefix : List ℕ) → is_field_prefix prefix ≡ true → IsLetters prefix
 field_letters [] h = absurd (both_ways _ refl h)
 field_letters (a ∷ []) h =
-    let is = third_of (is_r a) (is_f a) (is_t a) h in
-    let one = letter a is in
-    record { first = a; others = []; is = refl; is_letter = is; starts = one.0; all = and_from _ _ one.1 refl; quotes = or_from _ _ one.2 refl }
+    let one = letter a (third_of (is_r a) (is_f a) (is_t a) h) in
+    record { first = a; others = []; is = refl; starts = one.0; all = and_from _ _ one.1 refl; quotes = or_from _ _ one.2 refl }
 field_letters (a ∷ b ∷ []) h =
     let both = letters a b h in
     let one = letter a both.0 in
     let two = letter b both.1 in
-    record { first = a; others = b ∷ []; is = refl; is_letter = both.0; starts = one.0; all = and_from _ _ one.1 (and_from _ _ two.1 refl); quotes = or_from _ _ one.2 (or_from _ _ two.2 refl) }
+    record { first = a; others = b ∷ []; is = refl; starts = one.0; all = and_from _ _ one.1 (and_from _ _ two.1 refl); quotes = or_from _ _ one.2 (or_from _ _ two.2 refl) }
 field_letters (a ∷ b ∷ c ∷ cs) h = absurd (both_ways _ refl h)
 
 -- nor is one of another prefix
-character_no_quote : (c : ℕ) → is_word_character c ≡ true → is_quote c ≡ false
-character_no_quote c h = false_from_ne_true _ (λ k. both_ways _ (quote-not-word c k) h)
-
 pub word_quotes : (cs : List ℕ) → list_all is_word_character cs ≡ true → list_any is_quote cs ≡ false
 word_quotes [] h = refl
 word_quotes (c ∷ cs) h =
     let parts = and_parts _ _ h in
-    or_from _ _ (character_no_quote c parts.0) (word_quotes cs parts.1)
+    or_from _ _ (excluded is_word_character is_quote c (quote-not-word c) parts.0) (word_quotes cs parts.1)
 
 pub plain_quotes : (prefix : List ℕ) → IsPrefix prefix → list_any is_quote prefix ≡ false
 plain_quotes [] h = refl
 plain_quotes (a ∷ bs) (inl none) = absurd (cc)
 plain_quotes (a ∷ bs) (inr is) =
     let letters = prefix_word a bs is in
-    or_from _ _ (false_from_ne_true _ (λ k. both_ways _ (quote-not-start a k) letters.0)) (word_quotes bs letters.1)
+    or_from _ _ (excluded is_word_start is_quote a (quote-not-start a) letters.0) (word_quotes bs letters.1)
 
 -- what stands before the first quote, and that quote
 pub first_quote : (a b x y : List ℕ) (q r : ℕ) → list_any is_quote a ≡ false → list_any is_quote b ≡ false → is_quote q ≡ true → is_quote r ≡ true → a ++ q ∷ x ≡ b ++ r ∷ y → (a ≡ b) × (q ∷ x ≡ r ∷ y)
