@@ -1,6 +1,7 @@
 -- Lists of which one begins with the other, and the prefixes of strings before their quotes.
 use Rattle.std.proofs.Common.{◌≡◌, ℕ, Bool, true, false, ◌||◌, ◌&&◌, List, [], ◌∷◌, ◌++◌, refl, sym, ap, ◌∙◌, ⊎_elim, inl, inr}
-use Rattle.std.specs.Prelude.{codes}
+use Rattle.std.specs.Prelude.{codes, if◌then◌else◌}
+use Rattle.std.proofs.lemmas.List.{append_cancel_left}
 use Rattle.std.specs.List.{list_all, list_any}
 use Rattle.std.proofs.lemmas.Bool.{and_parts, and_from, or_parts, or_from, or_cases, both_ways}
 use Rattle.py_lines.specs.Character.{is_quote, is_r, is_f, is_t, is_word_start, is_word_character, is_digit}
@@ -84,17 +85,16 @@ plain_quotes (a ∷ bs) (inr is) =
     let letters = prefix_word a bs is in
     or_from _ _ (excluded is_word_start is_quote a (quote-not-start a) letters.0) (word_quotes bs letters.1)
 
--- what stands before the first quote, and that quote
+-- what stands before the first quote of a text
+abbrev pub before_quote : List ℕ → List ℕ
+before_quote [] = []
+before_quote (c ∷ cs) = if is_quote c then [] else c ∷ before_quote cs
+
+pub before_first : (a x : List ℕ) (q : ℕ) → list_any is_quote a ≡ false → is_quote q ≡ true → before_quote (a ++ q ∷ x) ≡ a
+before_first [] x q none quotes = rw quotes
+before_first (c ∷ a) x q none quotes = let parts = or_parts (is_quote c) (list_any is_quote a) none in rw (parts.0) (ap (λ t. c ∷ t) (before_first a x q parts.1 quotes))
+
 pub first_quote : (a b x y : List ℕ) (q r : ℕ) → list_any is_quote a ≡ false → list_any is_quote b ≡ false → is_quote q ≡ true → is_quote r ≡ true → a ++ q ∷ x ≡ b ++ r ∷ y → (a ≡ b) × (q ∷ x ≡ r ∷ y)
-first_quote [] [] x y q r one two quotes also at = (refl, at)
-first_quote [] (d ∷ b) x y q r one two quotes also at =
-    let here : q ≡ d = cc in
-    absurd (both_ways _ (or_parts _ _ two).0 (ap is_quote (sym here) ∙ quotes))
-first_quote (c ∷ a) [] x y q r one two quotes also at =
-    let here : c ≡ r = cc in
-    absurd (both_ways _ (or_parts _ _ one).0 (ap is_quote here ∙ also))
-first_quote (c ∷ a) (d ∷ b) x y q r one two quotes also at =
-    let here : c ≡ d = cc in
-    let others : a ++ q ∷ x ≡ b ++ r ∷ y = cc in
-    let rest = first_quote a b x y q r (or_parts _ _ one).1 (or_parts _ _ two).1 quotes also others in
-    (ap (λ x. x ∷ a) here ∙ ap (λ l. d ∷ l) rest.0, rest.1)
+first_quote a b x y q r one two quotes also at =
+    let same_prefix : a ≡ b = sym (before_first a x q one quotes) ∙ ap before_quote at ∙ before_first b y r two also in
+    (same_prefix, append_cancel_left a _ _ (at ∙ ap (λ t. t ++ r ∷ y) (sym same_prefix)))
