@@ -6,6 +6,7 @@ use Rattle.std.proofs.lemmas.Bool.{and_parts, both_ways}
 use Rattle.py_lines.specs.Piece.{Class, space, string, Piece}
 use Rattle.py_lines.specs.PieceGrammar.{InClassIn, ReadsIn}
 use Rattle.py_lines.specs.Fields.{Fields, fielded}
+use Rattle.py_lines.specs.Reading.{IsBalancedReading}
 use Rattle.py_lines.specs.FieldStrings.{is_field_prefix, Host, IsFieldString}
 use Rattle.py_lines.specs.Private.FieldMachine.{Level, FieldScanned, field_state, field_fresh, field_text_start, field_pieces, field_steps_from, have_room}
 use Rattle.py_lines.proofs.Fields.Prefixes.{plain_quotes, before_quote, before_first}
@@ -21,8 +22,8 @@ abbrev pub short : Host
 short = record { quote = 34; is_long = false; is_raw = false }
 
 -- pieces to which the machine comes, with nothing open, are a reading
-read_whole : (pieces : List Piece) (text : List ℕ) → field_steps_from (Some field_text_start) text ≡ Some (field_fresh [] pieces []) → have_room (Some field_text_start) text ≡ true → ReadsIn fielded pieces text
-read_whole pieces text steps room = (final_is_reading text (field_fresh [] pieces []) steps room (record { outside = refl; closed_all = refl; ends = refl })).reads
+pub read_whole : (pieces : List Piece) (text : List ℕ) → field_steps_from (Some field_text_start) text ≡ Some (field_fresh [] pieces []) → have_room (Some field_text_start) text ≡ true → IsBalancedReading pieces text
+read_whole pieces text steps room = final_is_reading text (field_fresh [] pieces []) steps room (record { outside = refl; closed_all = refl; ends = refl })
 
 -- a string whose quotes come after such a prefix has fields
 string_with : (text : List ℕ) → is_field_prefix (before_quote text) ≡ true → InClassIn fielded string text → IsFieldString Fields text
@@ -45,7 +46,7 @@ read_strings (t ∷ ts) steps begun =
     let own = and_parts (is_field_prefix (before_quote t)) (have_room (Some field_text_start) t) parts.0 in
     let first : field_steps_from (Some field_text_start) t ≡ Some (field_fresh [] (piece string t ∷ []) []) = cc in
     let later : map (λ x. field_steps_from (Some field_text_start) x) ts ≡ map (λ x. Some (field_fresh [] (piece string x ∷ []) [])) ts = cc in
-    (string_with t own.0 (read_whole (piece string t ∷ []) t first own.1).fit.0, read_strings ts later parts.1)
+    (string_with t own.0 (read_whole (piece string t ∷ []) t first own.1).reads.fit.0, read_strings ts later parts.1)
 
 -- strings with fields
 strings : List (List ℕ)
@@ -108,7 +109,7 @@ string_ends text is =
 -- f"{{" f"}}" : two strings
 two_strings : ReadsIn fielded (piece string (codes "f\"{{\"") ∷ piece space (codes " ") ∷ piece string (codes "f\"}}\"") ∷ []) (codes "f\"{{\" f\"}}\"")
 unfolding tested
-two_strings = read_whole _ (codes "f\"{{\" f\"}}\"") refl refl
+two_strings = (read_whole _ (codes "f\"{{\" f\"}}\"") refl refl).reads
 
 -- and not one
 no_string_over_two : ¬ (InClassIn fielded string (codes "f\"{{\" f\"}}\""))
