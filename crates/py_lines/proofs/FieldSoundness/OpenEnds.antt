@@ -183,29 +183,26 @@ pub slash_is_open : (limit : Limit) (outer : List Level) (done : List Piece) (op
 slash_is_open limit outer done openers m held read sound is = piece_open limit outer done openers (plain m) held read sound IsSlash refl (slash_held m [] held sound.mode.0 is)
 
 -- the code of a field, whose brackets are closed
-pub code_is_open : (limit : Limit) (l : Level) (ls : List Level) (done : List Piece) (m : FieldMode) (held read : List ℕ) → IsFieldSound limit (field_state (l ∷ ls) done [] m held) read → may_end m ≡ true → (start : List ℕ) × InFieldCode read start
-code_is_open limit l ls done m held read sound may =
+pub code_open_at : (limit : Limit) (l : Level) (ls : List Level) (done : List Piece) (m : FieldMode) (held read start : List ℕ) → IsFieldSound limit (field_state (l ∷ ls) done [] m held) read → may_end m ≡ true → before literal (l ∷ ls) ≡ start ++ 123 ∷ [] → InFieldCode read start
+code_open_at limit l ls done m held read start sound may brace =
     let here = stands_at limit (l ∷ ls) done [] m held read literal sound (code_at_end m may) in
-    let own = here.levels.1 in
     let pieces = field_closed m done held in
     let ends = list_ends limit (l ∷ ls) done [] m held read sound may in
-    let start = before l.place ls ++ (spelled l.done ++ own.text) in
-    let brace : before literal (l ∷ ls) ≡ start ++ 123 ∷ [] = ap (λ t. before l.place ls ++ (spelled l.done ++ t)) own.spell ∙ simp append_assoc in (
-      start,
-      record {
-        depth = levels_open (l ∷ ls);
-        pieces = pieces;
-        list = subst (λ t. BeginsList (start ++ 123 ∷ []) t (levels_open (l ∷ ls))) (append-nil (spelled done ++ held) ∙ sym ends.spell)
-            (subst (λ t. BeginsList t ((spelled done ++ held) ++ []) (levels_open (l ∷ ls))) brace (list_begins limit (l ∷ ls) (spelled done ++ held) [] here.levels));
-        begun = begun_before (l ∷ ls) pieces [] [] ends.fit ends.opens ends.in_field;
-        deep = omega arith;
-        balanced = balanced_at [] pieces refl ends.opens;
-        spell = sym (append_assoc start (123 ∷ []) (spelled pieces))
-            ∙ ap (λ t. t ++ spelled pieces) (sym brace)
-            ∙ ap (λ t. before literal (l ∷ ls) ++ t) ends.spell
-            ∙ here.spell;
-      },
-    )
+    record {
+      depth = levels_open (l ∷ ls);
+      pieces = pieces;
+      list = subst (λ t. BeginsList (start ++ 123 ∷ []) t (levels_open (l ∷ ls))) (append-nil (spelled done ++ held) ∙ sym ends.spell)
+          (subst (λ t. BeginsList t ((spelled done ++ held) ++ []) (levels_open (l ∷ ls))) brace (list_begins limit (l ∷ ls) (spelled done ++ held) [] here.levels));
+      begun = begun_before (l ∷ ls) pieces [] [] ends.fit ends.opens ends.in_field;
+      deep = omega arith;
+      balanced = balanced_at [] pieces refl ends.opens;
+      spell = sym (append_assoc start (123 ∷ []) (spelled pieces)) ∙ ap (λ t. t ++ spelled pieces) (sym brace) ∙ ap (λ t. before literal (l ∷ ls) ++ t) ends.spell ∙ here.spell;
+    }
+
+pub code_is_open : (limit : Limit) (l : Level) (ls : List Level) (done : List Piece) (m : FieldMode) (held read : List ℕ) → IsFieldSound limit (field_state (l ∷ ls) done [] m held) read → may_end m ≡ true → (start : List ℕ) × InFieldCode read start
+code_is_open limit l ls done m held read sound may =
+    let own = (stands_at limit (l ∷ ls) done [] m held read literal sound (code_at_end m may)).levels.1 in
+    (_, code_open_at limit l ls done m held read (before l.place ls ++ (spelled l.done ++ own.text)) sound may (ap (λ t. before l.place ls ++ (spelled l.done ++ t)) own.spell ∙ simp append_assoc))
 
 -- and directly after its `{`
 pub brace_is_open : (limit : Limit) (outer : List Level) (done : List Piece) (openers : List ℕ) (host : Host) (named : Bool) (held read : List ℕ) → IsFieldSound limit (field_state outer done openers (body host literal named after_brace) held) read → (start : List ℕ) × InFieldCode read start
