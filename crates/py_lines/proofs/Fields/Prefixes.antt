@@ -71,12 +71,15 @@ field_letters (a ∷ b ∷ []) h =
     record { first = a; others = b ∷ []; is = refl; starts = one.0; all = and_from _ _ one.1 (and_from _ _ two.1 refl); quotes = or_from _ _ one.2 (or_from _ _ two.2 refl) }
 field_letters (a ∷ b ∷ c ∷ cs) h = absurd (both_ways _ refl h)
 
--- nor is one of another prefix
+-- where all pass one test, none passes another that excludes it: no letter of a word or of another prefix is a quote
+pub none_in : (p q : ℕ → Bool) → ((c : ℕ) → q c ≡ true → p c ≡ false) → (cs : List ℕ) → list_all p cs ≡ true → list_any q cs ≡ false
+none_in p q apart [] h = refl
+none_in p q apart (c ∷ cs) h =
+    let parts = and_parts (p c) (list_all p cs) h in
+    or_from _ _ (excluded p q c (apart c) parts.0) (none_in p q apart cs parts.1)
+
 pub word_quotes : (cs : List ℕ) → list_all is_word_character cs ≡ true → list_any is_quote cs ≡ false
-word_quotes [] h = refl
-word_quotes (c ∷ cs) h =
-    let parts = and_parts _ _ h in
-    or_from _ _ (excluded is_word_character is_quote c (quote-not-word c) parts.0) (word_quotes cs parts.1)
+word_quotes cs h = none_in is_word_character is_quote quote-not-word cs h
 
 pub plain_quotes : (prefix : List ℕ) → IsPrefix prefix → list_any is_quote prefix ≡ false
 plain_quotes [] h = refl
