@@ -38,36 +38,33 @@ pub record Finishes (Room : ℕ → Type 0) (s : FieldScanned) : Type 0 where
   pub goes : Goes Room s more to
   pub final : IsFieldFinal to
 
--- and one that leads to such a mode, in the same list with these brackets open
-pub record ReadiesWith (Room : ℕ → Type 0) (s : FieldScanned) (openers : List ℕ) : Type 0 where
-  pub more : List ℕ
-  pub done : List Piece
-  pub mode : FieldMode
-  pub held : List ℕ
-  pub scalars : all_scalars more ≡ true
-  pub goes : Goes Room s more (field_state s.outer done openers mode held)
-  pub ready : IsReadyField mode held
+-- a text that leads to an end after one that leads to such a mode
+pub finishes_after : (Room : ℕ → Type 0) (s t : FieldScanned) (more : List ℕ) → all_scalars more ≡ true → Goes Room s more t → Finishes Room t → Finishes Room s
+finishes_after Room s t more scalars goes later = record {
+  more = more ++ later.more;
+  to = later.to;
+  scalars = all_scalars-append more later.more scalars later.scalars;
+  goes = goes-append Room s t later.to more later.more goes later.goes;
+  final = later.final;
+}
 
+-- what is ready in a list can be finished
+abbrev pub ReadyFinishes : (ℕ → Type 0) → List Level → List ℕ → Type 0
+ReadyFinishes Room outer openers = (done : List Piece) (m : FieldMode) (held : List ℕ) → IsReadyField m held → Finishes Room (field_state outer done openers m held)
+
+-- the open piece can be finished, if its list then can be
 abbrev pub Readies : (ℕ → Type 0) → FieldScanned → Type 0
-Readies Room s = ReadiesWith Room s s.openers
+Readies Room s = ReadyFinishes Room s.outer s.openers → Finishes Room s
 
 pub at_once : (Room : ℕ → Type 0) (s : FieldScanned) → IsReadyField s.mode s.held → Readies Room s
-at_once Room s ready = record { more = []; done = s.done; mode = s.mode; held = s.held; scalars = refl; goes = refl; ready = ready }
+at_once Room s ready later = later s.done s.mode s.held ready
 
 -- one character more, by which the open piece grows, or with which it ends
 pub grows_first : (Room : ℕ → Type 0) (s : FieldScanned) (m : FieldMode) (c : ℕ) → all_scalars (c ∷ []) ≡ true → field_move s.mode s.held c ≡ grows m → Readies Room (field_state s.outer s.done s.openers m (s.held ++ c ∷ [])) → Readies Room s
-grows_first Room s m c scalar move later = record {
-  more = c ∷ later.more;
-  done = later.done;
-  mode = later.mode;
-  held = later.held;
-  scalars = all_scalars-append (c ∷ []) later.more scalar later.scalars;
-  goes = goes-grows Room s _ m c later.more move later.goes;
-  ready = later.ready;
-}
+grows_first Room s m c scalar move next later = finishes_after Room s _ (c ∷ []) scalar (goes-grows Room s _ m c [] move refl) (next later)
 
 pub closes_last : (Room : ℕ → Type 0) (s : FieldScanned) (c : ℕ) → all_scalars (c ∷ []) ≡ true → field_move s.mode s.held c ≡ closes → Readies Room s
-closes_last Room s c scalar move = record { more = c ∷ []; done = _; mode = plain modes.Free; held = []; scalars = scalar; goes = goes-closes Room s c move; ready = ready-fresh }
+closes_last Room s c scalar move later = finishes_after Room s _ (c ∷ []) scalar (goes-closes Room s c move) (later _ (plain modes.Free) [] ready-fresh)
 
 no_opening : {A : Type 0} (c : ℕ) → is_closing c ≡ true → is_opening c ≡ true → A
 no_opening c is opens = absurd (both_ways _ (closing-not-opening c is) opens)
@@ -79,63 +76,38 @@ popped [] done o os c is kind = rw (closing-not-opening c is, is, kind)
 popped (l ∷ ls) done o os c is kind = rw (closing-not-opening c is, is, kind)
 
 -- so all of them, one after another
-pub closes_list : (Room : ℕ → Type 0) (outer : List Level) (openers : List ℕ) (done : List Piece) (m : FieldMode) (held : List ℕ) → IsReadyField m held → ReadiesWith Room (field_state outer done openers m held) []
-closes_list Room outer [] done m held ready = at_once Room (field_state outer done [] m held) ready
-closes_list Room outer (o ∷ os) done m held ready =
+closes_list : (Room : ℕ → Type 0) (outer : List Level) (openers : List ℕ) → ReadyFinishes Room outer [] → ReadyFinishes Room outer openers
+closes_list Room outer [] later done m held ready = later done m held ready
+closes_list Room outer (o ∷ os) later done m held ready =
     let c = closing_of o in
     let is = closing_of-closing o in
     let pieces = field_closed m done held in
-    let s = field_state outer done (o ∷ os) m held in
     let next = field_fresh outer (pieces ++ piece operator (c ∷ []) ∷ []) os in
-    let others = closes_list Room outer os (pieces ++ piece operator (c ∷ []) ∷ []) (plain modes.Free) [] ready-fresh in
-    record {
-      more = c ∷ others.more;
-      done = others.done;
-      mode = others.mode;
-      held = others.held;
-      scalars = all_scalars-append (c ∷ []) others.more (and_from _ _ (closing-scalar c is) refl) others.scalars;
-      goes = goes-begins Room s next _ c others.more (ready.closing c is)
-          (ap (field_started outer pieces (o ∷ os) c) (start-operator c (closing-operator c is)) ∙ popped outer pieces o os c is (eq-eqb c c refl)) (λ opens. no_opening c is opens) others.goes;
-      ready = others.ready;
-    }
+    finishes_after Room _ next (c ∷ []) (and_from _ _ (closing-scalar c is) refl)
+    (goes-begins Room (field_state outer done (o ∷ os) m held) next next c [] (ready.closing c is)
+    (ap (field_started outer pieces (o ∷ os) c) (start-operator c (closing-operator c is)) ∙ popped outer pieces o os c is (eq-eqb c c refl)) (λ opens. no_opening c is opens) refl)
+    (closes_list Room outer os later next.done next.mode next.held ready-fresh)
 
 closing-brace : is_closing 125 ≡ true
 unfolding is_closing
 closing-brace = refl
 
--- a text that leads to an end after one that leads to such a mode
-pub finishes_after : (Room : ℕ → Type 0) (s t : FieldScanned) (more : List ℕ) → all_scalars more ≡ true → Goes Room s more t → Finishes Room t → Finishes Room s
-finishes_after Room s t more scalars goes later = record {
-  more = more ++ later.more;
-  to = later.to;
-  scalars = all_scalars-append more later.more scalars later.scalars;
-  goes = goes-append Room s t later.to more later.more goes later.goes;
-  final = later.final;
-}
-
 -- code can be finished: outside fields the text may end there, and in a field `}` leads back into the string
-outside_finishes : (Room : ℕ → Type 0) (openers : List ℕ) (done : List Piece) (m : FieldMode) (held : List ℕ) → IsReadyField m held → Finishes Room (field_state [] done openers m held)
-outside_finishes Room openers done m held ready =
-    let first = closes_list Room [] openers done m held ready in
-    record {
-      more = first.more;
-      to = field_state [] first.done [] first.mode first.held;
-      scalars = first.scalars;
-      goes = first.goes;
-      final = record { outside = refl; closed_all = refl; ends = first.ready.ends };
-    }
+outside_finishes : (Room : ℕ → Type 0) (openers : List ℕ) → ReadyFinishes Room [] openers
+outside_finishes Room openers =
+    closes_list Room [] openers
+    (λ done m held ready. record { more = []; to = field_state [] done [] m held; scalars = refl; goes = refl; final = record { outside = refl; closed_all = refl; ends = ready.ends } })
 
-code_finishes : (Room : ℕ → Type 0) (l : Level) (ls : List Level) (openers : List ℕ) (done : List Piece) (m : FieldMode) (held : List ℕ) → IsReadyField m held → ((text : List ℕ) → Finishes Room (field_ended l ls text)) → Finishes Room (field_state (l ∷ ls) done openers m held)
-code_finishes Room l ls openers done m held ready later =
-    let first = closes_list Room (l ∷ ls) openers done m held ready in
-    let middle = field_state (l ∷ ls) first.done [] first.mode first.held in
-    let pieces = field_closed first.mode first.done first.held in
-    let text = l.front ++ (spelled pieces ++ 125 ∷ []) in
-    finishes_after Room _ middle first.more first.scalars first.goes
-    (finishes_after Room middle (field_ended l ls text) (125 ∷ []) refl
-    (goes-begins Room middle (field_ended l ls text) _ 125 [] (first.ready.closing 125 closing-brace)
+code_finishes : (Room : ℕ → Type 0) (l : Level) (ls : List Level) (openers : List ℕ) → ((text : List ℕ) → Finishes Room (field_ended l ls text)) → ReadyFinishes Room (l ∷ ls) openers
+code_finishes Room l ls openers later =
+    closes_list Room (l ∷ ls) openers
+    (λ done m held ready.
+    let pieces = field_closed m done held in
+    let ended = field_ended l ls (l.front ++ (spelled pieces ++ 125 ∷ [])) in
+    finishes_after Room (field_state (l ∷ ls) done [] m held) ended (125 ∷ []) refl
+    (goes-begins Room (field_state (l ∷ ls) done [] m held) ended ended 125 [] (ready.closing 125 closing-brace)
     (ap (field_started (l ∷ ls) pieces [] 125) (start-operator 125 (closing-operator 125 closing-brace)) ∙ brace_ends l ls pieces) (λ opens. no_opening 125 closing-brace opens) refl)
-    (later text))
+    (later (l.front ++ (spelled pieces ++ 125 ∷ []))))
 
 quote_one : (q : ℕ) → is_quote q ≡ true → all_scalars (q ∷ []) ≡ true
 quote_one q quotes = and_from _ _ (quote-scalar q quotes) refl
@@ -191,13 +163,10 @@ levels_close limit place (l ∷ ls) text h = (h.1.parts.quotes, levels_close lim
 
 -- a string can be finished, and then what stands round it
 string_finishes : (Room : ℕ → Type 0) (place : Place) (outer : List Level) (done : List Piece) (openers : List ℕ) (host : Host) (held : List ℕ) → is_quote host.quote ≡ true → ClosesLevels place outer → Finishes Room (field_state outer done openers (body host place false between) held)
-string_finishes Room literal [] done openers host held quotes levels =
-    let first = literal_readies Room [] done openers host false held quotes in
-    finishes_after Room _ _ first.more first.scalars first.goes (outside_finishes Room openers first.done first.mode first.held first.ready)
+string_finishes Room literal [] done openers host held quotes levels = literal_readies Room [] done openers host false held quotes (outside_finishes Room openers)
 string_finishes Room literal (l ∷ ls) done openers host held quotes levels =
-    let first = literal_readies Room (l ∷ ls) done openers host false held quotes in
-    finishes_after Room _ _ first.more first.scalars first.goes
-    (code_finishes Room l ls openers first.done first.mode first.held first.ready (λ text. string_finishes Room l.place ls l.done l.openers l.host text levels.0 levels.1))
+    literal_readies Room (l ∷ ls) done openers host false held quotes
+    (code_finishes Room l ls openers (λ text. string_finishes Room l.place ls l.done l.openers l.host text levels.0 levels.1))
 string_finishes Room specification [] done openers host held quotes levels = absurd levels
 string_finishes Room specification (l ∷ ls) done openers host held quotes levels =
     let s = field_state (l ∷ ls) done openers (body host specification false between) held in
@@ -207,9 +176,9 @@ string_finishes Room specification (l ∷ ls) done openers host held quotes leve
     (string_finishes Room l.place ls l.done l.openers l.host (held ++ 125 ∷ []) levels.0 levels.1)
 
 -- code in any list
-pub list_finishes : (Room : ℕ → Type 0) (outer : List Level) (done : List Piece) (openers : List ℕ) (m : FieldMode) (held : List ℕ) → IsReadyField m held → ClosesLevels literal outer → Finishes Room (field_state outer done openers m held)
-list_finishes Room [] done openers m held ready levels = outside_finishes Room openers done m held ready
-list_finishes Room (l ∷ ls) done openers m held ready levels = code_finishes Room l ls openers done m held ready (λ text. string_finishes Room l.place ls l.done l.openers l.host text levels.0 levels.1)
+pub list_finishes : (Room : ℕ → Type 0) (outer : List Level) (openers : List ℕ) → ClosesLevels literal outer → ReadyFinishes Room outer openers
+list_finishes Room [] openers levels = outside_finishes Room openers
+list_finishes Room (l ∷ ls) openers levels = code_finishes Room l ls openers (λ text. string_finishes Room l.place ls l.done l.openers l.host text levels.0 levels.1)
 
 -- one more character in a string
 string_on : (Room : ℕ → Type 0) (outer : List Level) (done : List Piece) (openers : List ℕ) (m n : FieldMode) (held : List ℕ) (c : ℕ) → all_scalars (c ∷ []) ≡ true → field_move m held c ≡ grows n → Finishes Room (field_state outer done openers n (held ++ c ∷ [])) → Finishes Room (field_state outer done openers m held)

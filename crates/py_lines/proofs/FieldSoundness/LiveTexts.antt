@@ -46,19 +46,12 @@ module _ (Room : ℕ → Type 0) (outer : List Level) (done : List Piece) (opene
 
   comment_ends : (held : List ℕ) → Readies Room (State modes.Comment held)
   unfolding is_opening
-  comment_ends held =
+  comment_ends held later =
       let pieces = done ++ piece comment held ∷ [] in
       let next = field_fresh outer (pieces ++ piece line_end (10 ∷ []) ∷ []) openers in
-      record {
-        more = 10 ∷ [];
-        done = pieces ++ piece line_end (10 ∷ []) ∷ [];
-        mode = plain modes.Free;
-        held = [];
-        scalars = refl;
-        goes = goes-begins Room (State modes.Comment held) next next 10 [] (plain_moves modes.Comment held 10 refl ∙ ap plain_move comment-breaks) (ap (field_started outer pieces openers 10) feed-starts)
-            (λ opens. absurd (both_ways _ refl opens)) refl;
-        ready = ready-fresh;
-      }
+      finishes_after Room (State modes.Comment held) next (10 ∷ []) refl
+      (goes-begins Room (State modes.Comment held) next next 10 [] (plain_moves modes.Comment held 10 refl ∙ ap plain_move comment-breaks) (ap (field_started outer pieces openers 10) feed-starts) (λ opens. absurd (both_ways _ refl opens)) refl)
+      (later next.done next.mode next.held ready-fresh)
 
   -- the open piece can be finished
   plain_readies : (m : Mode) (held : List ℕ) → Holds m [] held → Readies Room (State m held)
@@ -69,7 +62,7 @@ module _ (Room : ℕ → Type 0) (outer : List Level) (done : List Piece) (opene
 
   -- and then what stands round it
   then_finishes : (m : FieldMode) (held : List ℕ) → Readies Room (field_state outer done openers m held) → ClosesLevels literal outer → Finishes Room (field_state outer done openers m held)
-  then_finishes m held first levels = finishes_after Room _ _ first.more first.scalars first.goes (list_finishes Room outer first.done openers first.mode first.held first.ready levels)
+  then_finishes m held first levels = first (list_finishes Room outer openers levels)
 
 -- the quote of a string that is open
 pub quotes_at : (limit : Limit) (outer : List Level) (depth : ℕ) (host : Host) (place : Place) (named : Bool) (at : At) (held : List ℕ) → HoldsAt limit outer depth host place named at held → is_quote host.quote ≡ true
