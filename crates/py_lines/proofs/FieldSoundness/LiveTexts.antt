@@ -18,7 +18,7 @@ use Rattle.py_lines.proofs.FieldMachine.Runs.{BelowLimit, steps_of, room_of, goe
 use Rattle.py_lines.proofs.FieldMachine.PlainSteps.{plain_moves}
 use Rattle.py_lines.proofs.FieldMachine.Completeness.{reading_reached}
 use Rattle.py_lines.proofs.FieldSoundness.Holds.{Limit, HoldsAt, IsFieldSound}
-use Rattle.py_lines.proofs.FieldSoundness.Closing.{IsReadyField, ready-fresh, Finishes, Readies, at_once, grows_first, closes_last, finishes_after, ClosesLevels, levels_close, list_finishes, body_finishes}
+use Rattle.py_lines.proofs.FieldSoundness.Closing.{IsReadyField, ready-fresh, Finishes, Readies, at_once, grows_first, closes_last, finishes_after, levels_close, list_finishes, body_finishes}
 use Rattle.py_lines.proofs.FieldSoundness.HostSteps.{sound_at}
 use Rattle.py_lines.proofs.FieldSoundness.WholeTexts.{two_hundred, rooms_at, final_is_reading}
 use Rattle.py_lines.proofs.FieldMachine.StringRuns.{second_quote}
@@ -60,10 +60,6 @@ module _ (Room : ℕ → Type 0) (outer : List Level) (done : List Piece) (opene
       (λ n next text c open_yet scalar move later. grows_first Room (State n text) (plain next) c (and_from _ _ scalar refl) (plain_moves n text c (no_host n text c open_yet) ∙ ap plain_move move) later)
       (λ n text c open_yet scalar move. closes_last Room (State n text) c (and_from _ _ scalar refl) (plain_moves n text c (no_host n text c open_yet) ∙ ap plain_move move)) comment_ends m [] held holds
 
-  -- and then what stands round it
-  then_finishes : (m : FieldMode) (held : List ℕ) → Readies Room (field_state outer done openers m held) → ClosesLevels literal outer → Finishes Room (field_state outer done openers m held)
-  then_finishes m held first levels = first (list_finishes Room outer openers levels)
-
 -- the quote of a string that is open
 pub quotes_at : (limit : Limit) (outer : List Level) (depth : ℕ) (host : Host) (place : Place) (named : Bool) (at : At) (held : List ℕ) → HoldsAt limit outer depth host place named at held → is_quote host.quote ≡ true
 quotes_at limit outer depth host place named between held h = h.all.quotes
@@ -76,14 +72,12 @@ quotes_at limit outer depth host place named after_brace held h = h.4.quotes
 
 -- so from every state
 pub state_finishes : (limit : Limit) (Room : ℕ → Type 0) (outer : List Level) (done : List Piece) (openers : List ℕ) (m : FieldMode) (held read : List ℕ) → IsFieldSound limit (field_state outer done openers m held) read → Finishes Room (field_state outer done openers m held)
-state_finishes limit Room outer done openers (plain m) held read sound = then_finishes Room outer done openers (plain m) held (plain_readies Room outer done openers m held sound.mode.0) (levels_close limit literal outer _ sound.levels)
+state_finishes limit Room outer done openers (plain m) held read sound = plain_readies Room outer done openers m held sound.mode.0 (list_finishes Room outer openers (levels_close limit literal outer _ sound.levels))
 state_finishes limit Room outer done openers (opened host) held read sound =
     let quotes = sound.mode.1 in
-    then_finishes Room outer done openers (opened host) held
-    (grows_first Room (field_state outer done openers (opened host) held) (empty host) host.quote (and_from _ _ (quote-scalar host.quote quotes) refl) (second_quote host held)
-    (at_once Room (field_state outer done openers (empty host) (held ++ host.quote ∷ [])) (ready_empty host (held ++ host.quote ∷ []) quotes))) (levels_close limit literal outer _ sound.levels)
-state_finishes limit Room outer done openers (empty host) held read sound =
-    then_finishes Room outer done openers (empty host) held (at_once Room (field_state outer done openers (empty host) held) (ready_empty host held sound.mode.1)) (levels_close limit literal outer _ sound.levels)
+    grows_first Room (field_state outer done openers (opened host) held) (empty host) host.quote (and_from _ _ (quote-scalar host.quote quotes) refl) (second_quote host held)
+    (at_once Room (field_state outer done openers (empty host) (held ++ host.quote ∷ [])) (ready_empty host (held ++ host.quote ∷ []) quotes)) (list_finishes Room outer openers (levels_close limit literal outer _ sound.levels))
+state_finishes limit Room outer done openers (empty host) held read sound = list_finishes Room outer openers (levels_close limit literal outer _ sound.levels) done (empty host) held (ready_empty host held sound.mode.1)
 state_finishes limit Room outer done openers (body host place named at) held read sound =
     body_finishes Room place outer done openers host named at held (quotes_at limit outer _ host place named at held sound.mode) (levels_close limit place outer _ sound.levels)
 

@@ -3,9 +3,9 @@ use Rattle.std.proofs.Common.{◌≡◌, ℕ, ◌+◌, ◌<◌, Bool, true, fals
 use Rattle.std.specs.Prelude.{if◌then◌else◌}
 use Rattle.std.proofs.lemmas.Bool.{and_parts, both_ways, ltb-true}
 use Rattle.py_lines.specs.Piece.{string, Piece, spelled}
-use Rattle.py_lines.specs.PieceGrammar.{InClassIn, ReadsIn}
-use Rattle.py_lines.specs.Balance.{is_opening, is_opener, IsBalanced, depth_after, depth_through}
-use Rattle.py_lines.specs.Fields.{IsShallow, AnyPieces, Fields, fielded, ShallowFields}
+use Rattle.py_lines.specs.PieceGrammar.{InClassIn}
+use Rattle.py_lines.specs.Balance.{is_opening, is_opener, depth_after, depth_through}
+use Rattle.py_lines.specs.Fields.{IsShallow, AnyPieces, Fields, ShallowFields}
 use Rattle.py_lines.specs.Reading.{IsBalancedReading}
 use Rattle.py_lines.specs.FieldStrings.{with_fields}
 use Rattle.py_lines.specs.Private.FieldMachine.{before, FieldMove, breaks, begins_code, opens_field, Level, FieldScanned, field_state, field_text_start, field_move, field_step, field_steps_from, field_pieces, frames, has_room, has_room_at, have_room, IsFieldFinal}
@@ -80,28 +80,17 @@ rooms_at (Some s) (c ∷ cs) h =
     let parts = and_parts (has_room s c) (have_room (field_step s c) cs) h in
     (room_at (frames s) c (field_move s.mode s.held c) parts.0, rooms_at (field_step s c) cs parts.1)
 
--- what the pieces are where the text ends
-pub record EndsField (limit : Limit) (pieces : List Piece) (read : List ℕ) : Type 0 where
-  pub reads : ReadsIn fielded pieces read
-  pub balanced : IsBalanced pieces
-  pub passes : limit.PiecesAt 0 pieces
-
--- where the text may end, the pieces do
-ends_sound : (limit : Limit) (s : FieldScanned) (read : List ℕ) → IsFieldSound limit s read → IsFieldFinal s → EndsField limit (field_pieces s) read
-ends_sound limit s read sound final = go s.outer s.openers sound final.outside final.closed_all
+-- where the text may end, its pieces are a reading, and at most 200 brackets and fields are open, if each character had room
+pub final_is_reading : (characters : List ℕ) (s : FieldScanned) → field_steps_from (Some field_text_start) characters ≡ Some s → have_room (Some field_text_start) characters ≡ true → IsFieldFinal s → IsBalancedReading (field_pieces s) characters
+final_is_reading characters s steps room final =
+    go s.outer s.openers (sound_at two_hundred characters s (rooms_at (Some field_text_start) characters room) steps) final.outside final.closed_all
   where
-    go : (outer : List Level) (openers : List ℕ) → IsFieldSound limit (field_state outer s.done openers s.mode s.held) read → outer ≡ [] → openers ≡ [] → EndsField limit (field_pieces s) read
+    go : (outer : List Level) (openers : List ℕ) → IsFieldSound two_hundred (field_state outer s.done openers s.mode s.held) characters → outer ≡ [] → openers ≡ [] → IsBalancedReading (field_pieces s) characters
     go [] openers own outside none =
-        let list = list_ends limit [] s.done openers s.mode s.held read own final.ends in
+        let list = list_ends two_hundred [] s.done openers s.mode s.held characters own final.ends in
         record {
           reads = record { spell = list.spell ∙ sym (ap (λ p. before p [] ++ (spelled s.done ++ s.held)) (code_at_end s.mode final.ends)) ∙ own.spell; fit = list.fit };
           balanced = balanced_at openers (field_pieces s) none list.opens;
-          passes = list.passes;
+          shallow = list.passes;
         }
     go (l ∷ ls) openers own outside none = absurd (cc)
-
--- and at most 200 brackets and fields are open, if each character had room
-pub final_is_reading : (characters : List ℕ) (s : FieldScanned) → field_steps_from (Some field_text_start) characters ≡ Some s → have_room (Some field_text_start) characters ≡ true → IsFieldFinal s → IsBalancedReading (field_pieces s) characters
-final_is_reading characters s steps room final =
-    let at_end = ends_sound two_hundred s characters (sound_at two_hundred characters s (rooms_at (Some field_text_start) characters room) steps) final in
-    record { reads = at_end.reads; balanced = at_end.balanced; shallow = at_end.passes }
