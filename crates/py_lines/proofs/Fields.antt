@@ -6,4 +6,3 @@ pub mod Parts
 pub mod OneReading
 pub mod Nesting
 pub mod DepthRows
-pub mod WholeTexts

@@ -63,11 +63,8 @@ unfolding is_brace
 no_brace c one two = rw (one, two)
 
 ordinary_character : (place : Place) (named : Bool) (c : ℕ) → (c == 123) && not named ≡ false → c == 125 ≡ false → is_ordinary place named c ≡ true
-ordinary_character place true c h k = go place
-  where
-    go : (p : Place) → is_ordinary p true c ≡ true
-    go literal = refl
-    go specification = refl
+ordinary_character literal true c h k = refl
+ordinary_character specification true c h k = refl
 ordinary_character literal false c h k = not_from_false _ (plain_one (c == 123) h)
 ordinary_character specification false c h k = not_from_false _ (no_brace c (plain_one (c == 123) h) k)
 

@@ -20,6 +20,7 @@ use Rattle.py_lines.specs.Private.FieldMachine.{text_place, FieldMode, plain, op
 use Rattle.py_lines.specs.Private.ScanMachine.{BeginsPlain}
 use Rattle.py_lines.proofs.Pieces.PieceLists.{piece}
 use Rattle.py_lines.proofs.Text.CharacterTests.{quote-not-start}
+use Rattle.py_lines.proofs.Fields.Parts.{not_nothing}
 use Rattle.py_lines.proofs.Fields.Prefixes.{word_quotes}
 use Rattle.py_lines.proofs.FieldMachine.Runs.{HasRoomFor}
 use Rattle.py_lines.proofs.FieldMachine.PlainSteps.{NoWord, no_word}
@@ -149,11 +150,7 @@ module _ (limit : Limit) (outer : List Level) (done : List Piece) (openers : Lis
   plain_sound room = go (move_of m c) (move_holds m held c sound.mode.0) (quoted_so m held c sound.mode.0 sound.mode.1 other) refl room
     where
       no_start : (n : Mode) → Holds n [] (held ++ c ∷ []) → AtStart (plain n) outer done
-      no_start modes.Start (one, none) = absurd (not_nothing held none)
-        where
-          not_nothing : (xs : List ℕ) → xs ++ c ∷ [] ≡ [] → ⊥
-          not_nothing [] h = cc
-          not_nothing (x ∷ xs) h = cc
+      no_start modes.Start (one, none) = absurd (not_nothing held c [] none)
       no_start n holds = tt
 
       go : (v : Move) → MoveHolds m held c v → QuotedSo held c v → move_of m c ≡ v → HasRoom limit (length openers + levels_open outer) c (plain_move v) → FieldSoundIf limit (field_moved (field_state outer done openers (plain m) held) c (plain_move v)) (read ++ c ∷ [])

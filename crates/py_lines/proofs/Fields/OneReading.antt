@@ -7,6 +7,9 @@ use Rattle.std.proofs.lemmas.Str.{chars-encodes}
 use Rattle.py_lines.specs.Character.{is_mark, is_operator, is_quote, is_return, is_line_feed}
 use Rattle.py_lines.specs.Piece.{Class, mark, space, word, string, operator, comment, join, line_end, Piece, ends, spelled}
 use Rattle.py_lines.specs.PieceGrammar.{feed, return_feed, return, joined, Grammar, InClassIn, MayPrecedeIn, AreReadIn, ReadsIn}
+use Rattle.py_lines.specs.LogicalLine.{LogicalLine, lines_of}
+use Rattle.py_lines.specs.Reading.{IsBalancedReading}
+use Rattle.py_lines.specs.Lexed.{IsLexedWhole}
 use Rattle.py_lines.specs.Fields.{ReadsText, Fields, fielded}
 use Rattle.py_lines.specs.FieldStrings.{Host, literal, quotes_of, with_fields}
 use Rattle.py_lines.specs.declared.mode.Mode.TheVariants as modes
@@ -16,19 +19,16 @@ use Rattle.py_lines.specs.Private.Machine.{start_of}
 use Rattle.py_lines.specs.Private.FieldMachine.{FieldMode, plain, FieldMove, grows, closes, breaks, begins_code, opens_field, ends_field, refused, Level, FieldScanned, field_state, field_text_start, field_closed, openers_with, after_operator, code_operator, field_operator, field_started, opened_level, specification_ended, field_move, field_moved, field_step, field_pieces}
 use Rattle.py_lines.proofs.Pieces.PieceLists.{piece, spelled-append, AreReadIn-second}
 use Rattle.py_lines.proofs.Text.CharacterTests.{none_of}
+use Rattle.py_lines.proofs.Text.Decoding.{decoded}
 use Rattle.py_lines.proofs.Text.Splits.{Either, either}
 use Rattle.py_lines.proofs.Machine.Starts.{start-operator}
 use Rattle.py_lines.proofs.Fields.Elsewhere.{quotes_begin}
 use Rattle.py_lines.proofs.Fields.Prefixes.{Compared, same, longer, shorter, compared_more}
-use Rattle.py_lines.proofs.Fields.Parts.{begins_same}
+use Rattle.py_lines.proofs.Fields.Parts.{not_nothing, begins_same}
 use Rattle.py_lines.proofs.FieldMachine.Runs.{NoLimit, Goes, StopsAt}
 use Rattle.py_lines.proofs.FieldMachine.Completeness.{FieldReaches, start_breaks, fields_reached}
 
 -- what follows pieces counts by its first character
-not_nothing : (x : List ℕ) (c : ℕ) (r : List ℕ) → x ++ c ∷ r ≡ [] → ⊥
-not_nothing [] c r h = cc
-not_nothing (d ∷ x) c r h = cc
-
 precede_before : (grammar : Grammar) (class : Class) (text x : List ℕ) (c : ℕ) (r s : List ℕ) → MayPrecedeIn grammar class text (x ++ c ∷ r) → MayPrecedeIn grammar class text (x ++ c ∷ s)
 precede_before grammar mark text x c r s before = before
 precede_before grammar space text x c r s before = sym (begins_same _ x c r s) ∙ before
@@ -244,3 +244,10 @@ pub one_fielded_reading_of_text : (pieces others : List Piece) (text : List ℕ)
 one_fielded_reading_of_text pieces others text first second =
     let same : spelled pieces ≡ spelled others = sym (chars-encodes (spelled pieces) first.scalars) ∙ ap chars (first.spell ∙ sym second.spell) ∙ chars-encodes (spelled others) second.scalars in
     one_fielded_reading pieces others (spelled others) (record { spell = same; fit = first.fit }) (record { spell = refl; fit = second.fit })
+
+-- and so are the logical lines of a text
+pub one_fielded_lexing : (text : List ℕ) (lines others : List LogicalLine) → IsLexedWhole text lines → IsLexedWhole text others → lines ≡ others
+one_fielded_lexing text lines others r s =
+    let same_text = decoded text r.characters s.characters [] [] r.decodes s.decodes in
+    let reading = subst (λ (t : List ℕ). IsBalancedReading r.pieces t) same_text.0 r.reading in
+    r.cut ∙ ap lines_of (one_fielded_reading r.pieces s.pieces s.characters reading.reads s.reading.reads) ∙ sym s.cut

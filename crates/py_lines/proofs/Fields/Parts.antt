@@ -34,6 +34,10 @@ within_begin (suc n) host text is = field_begins _ _ _ host text is
 pub fields_begin : BeginOpen Fields
 fields_begin host text (n, is) = within_begin n host text is
 
+pub not_nothing : (x : List ℕ) (c : ℕ) (r : List ℕ) → x ++ c ∷ r ≡ [] → ⊥
+not_nothing [] c r h = cc
+not_nothing (d ∷ x) c r h = cc
+
 -- characters
 brace_open : (c : ℕ) → is_brace c ≡ false → (c == 123) ≡ false
 unfolding is_brace

@@ -7,7 +7,7 @@ use Rattle.py_lines.specs.Lexed.{IsLexedWhole, IsLexedToFault, IsLexed}
 use Rattle.py_lines.specs.Settled.{IsSettledPrefix, IsSettled}
 use Rattle.py_lines.specs.declared.fault.Fault.{Fault}
 use Rattle.py_lines.proofs.Text.Decoding.{decoded}
-use Rattle.py_lines.proofs.Fields.WholeTexts.{one_fielded_lexing}
+use Rattle.py_lines.proofs.Fields.OneReading.{one_fielded_lexing}
 use Rattle.py_lines.proofs.Faults.FaultPrefixes.{field_fault_prefix}
 use Rattle.py_lines.proofs.Faults.Verdict.{one_field_fault}
 use Rattle.py_lines.proofs.Lexings.Prefixes.{one_longest}
