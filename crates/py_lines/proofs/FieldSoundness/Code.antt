@@ -129,12 +129,7 @@ start_sound limit outer done openers read c ready room = go (start_of c) (starts
   where
     quoted : (m : Mode) → StartsSo c (starts.Open m) → class_of m ≡ string → BeginsPlain (c ∷ [])
     quoted (modes.Opened q) so at = record { prefix = []; quote = c; body = []; spell = refl; none = refl; opens = so.0; plain = refl }
-    quoted modes.Space so at = absurd (cc)
-    quoted (modes.Word s) so at = absurd (cc)
-    quoted modes.Comment so at = absurd (cc)
-    quoted modes.Return so at = absurd (cc)
-    quoted modes.Backslash so at = absurd (cc)
-    quoted m so at = absurd so
+    quoted m so at = absurd (first_of (assumption, cc))
 
     at_start : (m : Mode) → StartsSo c (starts.Open m) → AtStart (plain m) outer done
     at_start modes.Start so = absurd so
