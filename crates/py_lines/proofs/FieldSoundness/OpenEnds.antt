@@ -1,6 +1,6 @@
 -- What is open where a text ends, by the mode in which the machine with fields stands.
 use Rattle.std.proofs.Common.{◌≡◌, ℕ, ◌+◌, Bool, true, false, List, [], ◌∷◌, ◌++◌, length, refl, sym, ap, ◌∙◌, subst, inl, inr, ◌⊎◌, append_assoc, append-nil, arith}
-use Rattle.std.proofs.lemmas.Bool.{both_ways, and_right}
+use Rattle.std.proofs.lemmas.Bool.{and_right}
 use Rattle.py_lines.specs.Character.{is_backslash, is_brace}
 use Rattle.py_lines.specs.Piece.{string, Piece, spelled}
 use Rattle.py_lines.specs.Balance as balance
@@ -150,20 +150,12 @@ specification_is_open limit outer done openers host named at held read sound oth
 
 -- a string without fields, or a backslash
 pub short_class : (m : Mode) → in_short m ≡ true → class_of m ≡ string
-short_class (modes.Opened q) is = refl
-short_class (modes.Inside q) is = refl
-short_class (modes.Escape q) is = refl
-short_class (modes.EscapeReturn q) is = refl
-short_class (modes.FieldOpened h) is = refl
-short_class m is = absurd (both_ways _ refl is)
+short_class modes.Free is = absurd (cc)
+short_class m is = cc
 
 pub long_mode : (m : Mode) → in_long m ≡ true → (class_of m ≡ string) × (in_short m ≡ false)
-long_mode (modes.Long q) is = (refl, refl)
-long_mode (modes.LongOne q) is = (refl, refl)
-long_mode (modes.LongTwo q) is = (refl, refl)
-long_mode (modes.LongEscape q) is = (refl, refl)
-long_mode modes.Fielded is = (refl, refl)
-long_mode m is = absurd (both_ways _ refl is)
+long_mode modes.Free is = absurd (cc)
+long_mode m is = ((cc), (cc))
 
 plain_short : (held : List ℕ) → BeginsPlain held → IsShortPrefix held → IsPlainShortPrefix held
 plain_short held is short = (short, other_prefix held short.prefix _ short.quote is short.spell (plain_quotes short.prefix short.begun) short.opens)
