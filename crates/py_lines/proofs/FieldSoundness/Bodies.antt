@@ -42,8 +42,7 @@ ended_named false b h = refl
 
 open_brace : (a b : Bool) → a && not b ≡ true → (a ≡ true) × (b ≡ false)
 open_brace true false h = (refl, refl)
-open_brace true true h = absurd (both_ways _ refl h)
-open_brace false b h = absurd (both_ways _ refl h)
+open_brace a b h = absurd (cc)
 
 plain_one : (b : Bool) → b && true ≡ false → b ≡ false
 plain_one true e = e

@@ -24,10 +24,8 @@ one_false true y h = h
 one_false false y h = refl
 
 two_false : (x y z : Bool) → x && (y || (z && true)) ≡ false → x && z ≡ false
-two_false false y z h = refl
-two_false true true z h = absurd (both_ways _ h refl)
-two_false true false true h = h
 two_false true false false h = refl
+two_false x y z h = cc
 
 pub none_false : (x : Bool) → x && false ≡ false
 none_false true = refl

@@ -202,20 +202,15 @@ compare_pieces (p ∷ ps) (q ∷ qs) r u one two at =
 
 -- no piece is empty
 pub full : (F : Host → List ℕ → Type 0) (class : Class) (text : List ℕ) → InClassIn (with_fields F) class text → text ≡ [] → ⊥
-full F mark text (c, is, passes) none = not_nothing [] c [] (sym is ∙ none)
-full F space text (c, cs, is, run) none = not_nothing [] c cs (sym is ∙ none)
-full F word text (c, cs, is, opens, run) none = not_nothing [] c cs (sym is ∙ none)
 full F string text (inl (inl short)) none = not_nothing short.0.prefix short.0.quote _ (sym short.0.spell ∙ none)
 full F string text (inl (inr long)) none = not_nothing long.0.prefix long.0.quote _ (sym long.0.spell ∙ none)
 full F string text (inr is) none =
     let begin = quotes_begin is.host in
     not_nothing is.prefix is.host.quote _ (ap (λ t. is.prefix ++ (t ++ (joined is.parts ++ quotes_of is.host))) (sym begin.1) ∙ sym is.spell ∙ none)
-full F operator text (c, is, passes) none = not_nothing [] c [] (sym is ∙ none)
-full F comment text (c, cs, is, passes, body) none = not_nothing [] c cs (sym is ∙ none)
-full F join text (c, cs, is, passes, end) none = not_nothing [] c cs (sym is ∙ none)
-full F line_end text (feed is) none = not_nothing [] 10 [] (sym is ∙ none)
-full F line_end text (return_feed is) none = not_nothing [] 13 (10 ∷ []) (sym is ∙ none)
-full F line_end text (return is) none = not_nothing [] 13 [] (sym is ∙ none)
+full F line_end text (feed is) none = cc
+full F line_end text (return_feed is) none = cc
+full F line_end text (return is) none = cc
+full F class text is none = cc
 
 first_empty : (x y : List ℕ) → x ++ y ≡ [] → x ≡ []
 first_empty [] y h = refl
