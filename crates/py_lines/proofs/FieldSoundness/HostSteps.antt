@@ -80,8 +80,13 @@ module _ (limit : Limit) (outer : List Level) (done : List Piece) (openers : Lis
   code_begins host text at single spell parts room =
       let level : Level = record { done = done; openers = openers; host = host; place = literal; front = held } in
       let stands = stands_at limit outer done openers m held read literal sound at in
+      let own : HoldsLevel limit level outer = record { text = text; spell = spell; list = stands.list; parts = parts; room = room.0 } in
       start_sound limit (level ∷ outer) [] [] read c
-      (record { spell = sym (append_assoc (before literal outer ++ (spelled done ++ held)) [] (c ∷ [])) ∙ ap (λ t. t ++ c ∷ []) (append-nil (before literal outer ++ (spelled done ++ held)) ∙ stands.spell); list = no_pieces limit literal (level ∷ outer) (c ∷ []); levels = (λ more. single, record { text = text; spell = spell; list = stands.list; parts = parts; room = room.0 }, stands.levels) })
+      (record {
+        spell = sym (append_assoc (before literal outer ++ (spelled done ++ held)) [] (c ∷ [])) ∙ ap (λ t. t ++ c ∷ []) (append-nil (before literal outer ++ (spelled done ++ held)) ∙ stands.spell);
+        list = no_pieces limit literal (level ∷ outer) (c ∷ []);
+        levels = (λ more. single, own, stands.levels);
+      })
       (λ opens. subst limit.Room (omega arith) (room.1 opens))
 
   -- a field opens at the character, in a specification

@@ -139,4 +139,6 @@ adds_neutral limit outer done openers class text next opens other is precedes un
 -- the piece is finished, and none is open after it
 pub fresh_sound : (limit : Limit) (outer : List Level) (done : List Piece) (openers after : List ℕ) (class : Class) (text read : List ℕ) → Stands limit literal outer done openers text read → Adds limit outer done openers after class text [] → IsFieldSound limit (field_fresh outer (done ++ piece class text ∷ []) after) read
 fresh_sound limit outer done openers after class text read h adds =
-    sound_in limit outer (done ++ piece class text ∷ []) after (plain modes.Free) [] read (subst (Stands limit literal outer (done ++ piece class text ∷ []) after []) (append-nil read) (stands_push limit outer done openers after class text [] read h adds)) (refl, λ at. absurd (cc)) tt
+    let done_now = done ++ piece class text ∷ [] in
+    let stands = subst (Stands limit literal outer done_now after []) (append-nil read) (stands_push limit outer done openers after class text [] read h adds) in
+    sound_in limit outer done_now after (plain modes.Free) [] read stands (refl, λ at. absurd (cc)) tt
