@@ -20,7 +20,7 @@ nested (suc n) = codes "f\"{" ++ (nested n ++ codes "}\"")
 -- in such a string each bracket and field has room
 has_its_room : (text : List ℕ) → InClassIn (with_fields (ShallowFields 0)) string text → have_room (Some field_text_start) text ≡ true
 has_its_room text is =
-    let found = reached BelowLimit ShallowFields begin_shallow shallow_run (ShallowFields 0) (piece string text ∷ []) [] [] (is, λ prefix q spell begun quotes. refl, refl, tt) ((λ h. absurd (both_ways _ refl h)), (λ h. is), tt) refl in
+    let found = reached BelowLimit ShallowFields begin_shallow shallow_run (ShallowFields 0) (piece string text ∷ []) [] [] (is, λ prefix q spell begun quotes. refl, refl, tt) ((λ h. absurd (both_ways _ refl h)), (λ h. is), tt) refl tt in
     ap (have_room (Some field_text_start)) (sym (append-nil text)) ∙ room_of field_text_start (field_state [] found.done [] found.mode found.held) (text ++ []) found.goes
 
 -- 200 and 201, from the text's start

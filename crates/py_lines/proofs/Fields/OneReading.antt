@@ -26,7 +26,8 @@ use Rattle.py_lines.proofs.Fields.Elsewhere.{quotes_begin}
 use Rattle.py_lines.proofs.Fields.Prefixes.{Compared, same, longer, shorter, compared_more}
 use Rattle.py_lines.proofs.Fields.Parts.{not_nothing, begins_same}
 use Rattle.py_lines.proofs.FieldMachine.Runs.{NoLimit, Goes, StopsAt}
-use Rattle.py_lines.proofs.FieldMachine.Completeness.{FieldReaches, start_breaks, fields_reached}
+use Rattle.py_lines.proofs.FieldMachine.Completeness.{start_breaks, fields_reached}
+use Rattle.py_lines.proofs.FieldMachine.PieceRuns.{FieldFinds}
 
 -- what follows pieces counts by its first character
 precede_before : (grammar : Grammar) (class : Class) (text x : List ℕ) (c : ℕ) (r s : List ℕ) → MayPrecedeIn grammar class text (x ++ c ∷ r) → MayPrecedeIn grammar class text (x ++ c ∷ s)
@@ -116,14 +117,14 @@ goes_rest s t u (c ∷ a) b (next, step, room, later) (mid, also, more, others) 
 -- the machine goes over a piece, and may stop there; or the piece is an operator
 data IsAlone (class : Class) (text rest : List ℕ) : Type 0 where
   single : (c : ℕ) → piece class text ≡ piece operator (c ∷ []) → is_operator c ≡ true → IsAlone class text rest
-  over : FieldReaches NoLimit text (piece class text ∷ []) [] rest → IsAlone class text rest
+  over : FieldFinds NoLimit field_text_start text (piece class text ∷ []) [] rest → IsAlone class text rest
 
 is_alone : (class : Class) (text rest : List ℕ) → InClassIn fielded class text → MayPrecedeIn fielded class text rest → IsAlone class text rest
 is_alone operator text rest (c, is, passes) before = single c (ap (piece operator) is) passes
-is_alone class text rest is before = over (subst (λ t. FieldReaches NoLimit t (piece class text ∷ []) [] rest) (append-nil text) (fields_reached (piece class text ∷ []) [] rest (is, before, refl, tt) refl))
+is_alone class text rest is before = over (subst (λ t. FieldFinds NoLimit field_text_start t (piece class text ∷ []) [] rest) (append-nil text) (fields_reached (piece class text ∷ []) [] rest (is, before, refl, tt) refl tt))
 
 -- where it goes on from one piece to another one alone, that is the same
-module _ (p q : Piece) (t u : List ℕ) (two : FieldReaches NoLimit t (q ∷ []) [] u) where
+module _ (p q : Piece) (t u : List ℕ) (two : FieldFinds NoLimit field_text_start t (q ∷ []) [] u) where
   abbrev end_of : FieldScanned
   end_of = field_state [] two.done [] two.mode two.held
 
@@ -133,7 +134,7 @@ module _ (p q : Piece) (t u : List ℕ) (two : FieldReaches NoLimit t (q ∷ [])
       let is : p ∷ all.0 ≡ q ∷ [] = sym all.1 ∙ two.pieces_are in
       cc
 
-  after_piece : (s r x : List ℕ) → FieldReaches NoLimit s (p ∷ []) [] r → t ≡ s ++ x → r ≡ x ++ u → p ≡ q
+  after_piece : (s r x : List ℕ) → FieldFinds NoLimit field_text_start s (p ∷ []) [] r → t ≡ s ++ x → r ≡ x ++ u → p ≡ q
   after_piece s r x one is left = go x left (goes_rest field_text_start end end_of s x one.goes (subst (λ z. Goes NoLimit field_text_start z end_of) is two.goes))
     where
       end : FieldScanned
@@ -144,7 +145,7 @@ module _ (p q : Piece) (t u : List ℕ) (two : FieldReaches NoLimit t (q ∷ [])
           let is : p ∷ [] ≡ q ∷ [] = sym one.pieces_are ∙ ap field_pieces later ∙ two.pieces_are in
           cc
       go (c ∷ y) at (next, step, room, others) =
-          let move = subst (StopsAt one.mode one.held) at (one.stops tt) in
+          let move = subst (StopsAt one.mode one.held) at one.stops in
           goes_on next y others (subst (BeginIf (p ∷ [])) (sym (ap (field_moved end c) move) ∙ step) (started_begin (p ∷ []) [] (field_pieces end) [] c (start_of c) ([], one.pieces_are)))
 
 -- an operator is the first piece where its character stands
@@ -160,7 +161,7 @@ operator_first c is =
     go None = tt
     go (Some os) = ([], refl)
 
-after_operator_piece : (c : ℕ) (q : Piece) (t r u : List ℕ) → is_operator c ≡ true → FieldReaches NoLimit t (q ∷ []) [] u → c ∷ r ≡ t ++ u → piece operator (c ∷ []) ≡ q
+after_operator_piece : (c : ℕ) (q : Piece) (t r u : List ℕ) → is_operator c ≡ true → FieldFinds NoLimit field_text_start t (q ∷ []) [] u → c ∷ r ≡ t ++ u → piece operator (c ∷ []) ≡ q
 after_operator_piece c q [] r u is two at =
     let none : [] ≡ q ∷ [] = ap field_pieces two.goes ∙ two.pieces_are in
     absurd (cc)

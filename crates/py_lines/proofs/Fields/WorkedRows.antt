@@ -101,7 +101,7 @@ ended (Some s) = pieces_outside s.outer (field_pieces s)
 string_ends : (text : List ℕ) → InClassIn fielded string text → ended (field_steps_from (Some field_text_start) text) ≡ Some (piece string text ∷ [])
 unfolding ended pieces_outside
 string_ends text is =
-    let found = fields_reached (piece string text ∷ []) [] [] (is, λ prefix q spell begun quotes. refl, refl, tt) refl in
+    let found = fields_reached (piece string text ∷ []) [] [] (is, λ prefix q spell begun quotes. refl, refl, tt) refl tt in
     ap (λ t. ended (field_steps_from (Some field_text_start) t)) (sym (append-nil text))
     ∙ ap ended (steps_of NoLimit field_text_start (field_state [] found.done [] found.mode found.held) (text ++ []) found.goes)
     ∙ ap Some found.pieces_are
