@@ -6,11 +6,9 @@ pub mod Released
 pub mod Ended
 pub mod Steps
 pub mod Loops
-pub mod Characters
 pub mod ReadyLines
 pub mod LastBytes
 pub mod Chunks
-pub mod FailedHeld
 pub mod EndedHeld
 pub mod GivenBack
 pub mod FedHeld

@@ -48,16 +48,6 @@ fn is_hopeless(bytes: &[u8]) -> bool
     }
 }
 
-/// Drops all bytes except the last.
-fn keep_last(held: &mut Vec<u8>)
-    requires { 0 < length held.old.items }
-    ensures { held.new.items ≡ drop (length held.old.items - 1) held.old.items }
-{
-    let last = held[held.len() - 1];
-    held.truncate(1);
-    held[0] = last;
-}
-
 /// Drops so many bytes. It is seldom called: most lines are let go with all that is held. After CR one byte is left.
 #[cold]
 fn drop_first(held: &mut Vec<u8>, len: usize)
@@ -65,7 +55,8 @@ fn drop_first(held: &mut Vec<u8>, len: usize)
     ensures { held.new.items ≡ drop len held.old.items }
 {
     if held.len() - len == 1 {
-        keep_last(held);
+        held[0] = held[len];
+        held.truncate(1);
         return;
     }
     held.drain(..len);
@@ -86,10 +77,11 @@ fn hold_after_lines(held: &mut Vec<u8>, bytes: &[u8], lines: Passed) -> bool
         held.clear();
         return true;
     }
+    let before = held.len();
     if held.push(bytes[lines.len]).is_err() {
         return false;
     }
-    keep_last(held);
+    drop_first(held, before);
     true
 }
 
@@ -120,15 +112,13 @@ impl Feed {
     ghost use Rattle.py_lines.specs.ScannerState.{begun_at, Feeds, FeedsNaming, Finishes, PassesPieceLines, StandsAtLine};
     ghost use Rattle.py_lines.specs.ScannerState.View.{ready_of, scanning_of};
     ghost use Rattle.py_lines.specs.UnitLine.{line_in};
-    ghost use Rattle.py_lines.specs.Private.Scan.{is_returned};
-    ghost use Rattle.py_lines.specs.Private.Feed.{HasRoom, IsOpen, FailsAt, ReadsTokens, ScansCharacters, ScansHeld};
-    ghost use Rattle.py_lines.specs.Private.Feed.{StopsHeld, whole_end, GivesBack, TakesChunk, HasScannedNext, WaitsSo};
-    ghost use Rattle.py_lines.specs.Private.Feed.{HoldsLine, IsScanned, IsSoundFeed, TakesSo, EndsHeld, EndsText, LetsGo};
+    ghost use Rattle.py_lines.specs.Private.Feed.{HasRoom, IsOpen, IsHeldOpen, FailsAt, ReadsTokens, ScansHeld, StopsHeld, IsScanned};
+    ghost use Rattle.py_lines.specs.Private.Feed.{whole_end, GivesBack, TakesChunk, TakesSo, WaitsSo, HoldsLine, IsSoundFeed, EndsText, LetsGo};
 
     /// At this byte of a text, which is on this line. Nothing was fed.
     pub fn at(alloc: Global, place: u64, line: u64) -> Feed
         ensures start { scanning_of result ≡ begun_at place line }
-        ensures opens { IsOpen result [] [] }
+        ensures opens { IsOpen result [] }
     {
         Feed {
             held: Vec::new(alloc),
@@ -168,22 +158,10 @@ impl Feed {
         Ok(())
     }
 
-    /// Scans the characters that are held next, up to a line's end or one that is refused.
-    #[inline(always)]
-    fn scan_characters(&mut self) -> Stop
-        requires opens { (read : List ℕ) × (rest : List ℕ) × IsOpen self.old read rest }
-        requires room { HasRoom self.old 0 }
-        ensures { ScansCharacters self.old result self.new }
-    {
-        let stop = self.state.scan.stop;
-        self.state.scan.extend(&self.held[stop..])
-    }
-
     /// Judges what is left after the characters: a part of a character, or nothing. After CR it shows that the line has
     /// ended.
     fn scan_part(&mut self) -> Result<(), LexError>
-        requires opens { (read : List ℕ) × (rest : List ℕ)
-            × IsOpen self.old read rest × StartsWithNoChar rest }
+        requires stops { StopsHeld self.old Stop.TextEnd }
         requires not_ready { self.old.ready ≡ None }
         requires room { HasRoom self.old 0 }
         ensures { ScansHeld self.old result self.new }
@@ -206,7 +184,7 @@ impl Feed {
     /// Does what follows from where the scan of the characters stopped.
     #[inline(always)]
     fn meet(&mut self, stop: Stop) -> Result<(), LexError>
-        requires stops { (read : List ℕ) × (rest : List ℕ) × StopsHeld self.old stop read rest }
+        requires stops { StopsHeld self.old stop }
         requires not_ready { self.old.ready ≡ None }
         requires room { HasRoom self.old 0 }
         ensures { ScansHeld self.old result self.new }
@@ -226,12 +204,13 @@ impl Feed {
 
     /// Scans all that is held, up to a line's end or a part of a character.
     fn scan_held(&mut self) -> Result<(), LexError>
-        requires opens { (read : List ℕ) × (rest : List ℕ) × IsOpen self.old read rest }
+        requires opens { IsHeldOpen self.old }
         requires not_ready { self.old.ready ≡ None }
         requires room { HasRoom self.old 0 }
         ensures { ScansHeld self.old result self.new }
     {
-        let stop = self.scan_characters();
+        let scanned = self.state.scan.stop;
+        let stop = self.state.scan.extend(&self.held[scanned..]);
         self.meet(stop)
     }
 
@@ -251,7 +230,7 @@ impl Feed {
     /// Where a line is ready, lets go what was taken after it. More than `before` bytes stay held.
     #[inline(always)]
     fn give_back(&mut self, before: usize)
-        requires scanned { IsScanned self.old.ready self.old }
+        requires scanned { IsScanned self.old self.old.ready }
         requires more { before < length self.old.held.items }
         requires fits { length self.old.held.items ≤ 2 ^ 62 }
         ensures { GivesBack self.old before self.new }
@@ -277,36 +256,23 @@ impl Feed {
         }
     }
 
-    /// Takes the line that has ended in these bytes, which were scanned where they stand: how many.
+    /// Takes bytes of these where none is held, up to a line's end: how many. They are scanned where they stand. If there
+    /// is no memory for them, none is taken.
     #[inline(always)]
-    fn take_line(&mut self, chunk: &[u8], end_len: usize) -> Result<usize, LexError>
-        requires scanned { HasScannedNext self.old chunk.now (Stop.LineEnd end_len) }
-        requires not_ready { self.old.ready ≡ None }
-        requires room { HasRoom self.old (length chunk.now) }
-        ensures { TakesChunk self.old chunk.now result self.new }
-    {
-        let len = self.whole_end();
-        if let Err(error) = hold_first(&mut self.held, chunk, len) {
-            self.state.restart();
-            return Err(error.into());
-        }
-        self.ready = Some(end_len);
-        Ok(len)
-    }
-
-    /// Takes bytes of these, which were scanned where they stand, up to a line's end: how many.
-    #[inline(always)]
-    fn take_scanned(&mut self, chunk: &[u8], stop: Stop) -> Result<usize, LexError>
-        requires scanned { HasScannedNext self.old chunk.now stop }
+    fn take_first(&mut self, chunk: &[u8]) -> Result<usize, LexError>
+        requires opens { IsHeldOpen self.old }
+        requires none_held { self.old.held.items ≡ [] }
         requires not_ready { self.old.ready ≡ None }
         requires some { 0 < length chunk.now }
         requires room { HasRoom self.old (length chunk.now) }
         ensures { TakesChunk self.old chunk.now result self.new }
     {
-        if let Stop::LineEnd(end_len) = stop {
-            return self.take_line(chunk, end_len);
-        }
-        if let Err(error) = self.held.extend_from_slice(chunk) {
+        let stop = self.state.scan.extend(chunk);
+        let len = match stop {
+            Stop::LineEnd(_) => self.whole_end(),
+            _ => chunk.len(),
+        };
+        if let Err(error) = hold_first(&mut self.held, chunk, len) {
             self.state.restart();
             return Err(error.into());
         }
@@ -315,24 +281,9 @@ impl Feed {
         Ok(self.held.len())
     }
 
-    /// Takes bytes of these where none is held, up to a line's end: how many. They are scanned where they stand. If there
-    /// is no memory for them, none is taken.
-    #[inline(always)]
-    fn take_first(&mut self, chunk: &[u8]) -> Result<usize, LexError>
-        requires opens { (read : List ℕ) × (rest : List ℕ) × IsOpen self.old read rest }
-        requires none_held { self.old.held.items ≡ [] }
-        requires not_ready { self.old.ready ≡ None }
-        requires some { 0 < length chunk.now }
-        requires room { HasRoom self.old (length chunk.now) }
-        ensures { TakesChunk self.old chunk.now result self.new }
-    {
-        let stop = self.state.scan.extend(chunk);
-        self.take_scanned(chunk, stop)
-    }
-
     /// Takes bytes of these, up to a line's end: how many. If there is no memory for them, none is taken.
     fn take(&mut self, chunk: &[u8]) -> Result<usize, LexError>
-        requires opens { (read : List ℕ) × (rest : List ℕ) × IsOpen self.old read rest }
+        requires opens { IsHeldOpen self.old }
         requires not_ready { self.old.ready ≡ None }
         requires some { 0 < length chunk.now }
         requires room { HasRoom self.old (length chunk.now) }
@@ -490,14 +441,17 @@ impl Feed {
         lines.len
     }
 
-    /// The line that ends where the text does, or the fault that stands there.
-    fn end_line(&mut self) -> Result<(), LexError>
-        requires scanned { IsScanned None self.old }
+    /// The text's last line, which is ready then, if anything is held; or the fault that stands there.
+    fn end_text(&mut self) -> Result<(), LexError>
+        requires opens { IsHeldOpen self.old }
         requires not_ready { self.old.ready ≡ None }
-        requires some { 0 < length self.old.held.items }
         requires room { HasRoom self.old 0 }
-        ensures { EndsHeld self.old result self.new }
+        ensures { EndsText self.old result self.new }
     {
+        self.scan_held()?;
+        if self.ready.is_some() || self.held.is_empty() {
+            return Ok(());
+        }
         if self.state.scan.is_returned() {
             self.ready = Some(1);
             return Ok(());
@@ -508,20 +462,6 @@ impl Feed {
         }
         self.ready = Some(0);
         Ok(())
-    }
-
-    /// The text's last line, which is ready then, if anything is held; or the fault that stands there.
-    fn end_text(&mut self) -> Result<(), LexError>
-        requires opens { (read : List ℕ) × (rest : List ℕ) × IsOpen self.old read rest }
-        requires not_ready { self.old.ready ≡ None }
-        requires room { HasRoom self.old 0 }
-        ensures { EndsText self.old result self.new }
-    {
-        self.scan_held()?;
-        if self.ready.is_some() || self.held.is_empty() {
-            return Ok(());
-        }
-        self.end_line()
     }
 
     /// The text ends here. What is held is its last line, if anything is.

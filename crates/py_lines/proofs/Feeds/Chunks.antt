@@ -1,59 +1,37 @@
 -- A piece that is taken by chunks.
-use Rattle.std.proofs.Common.{◌≡◌, ℕ, zero, suc, ◌+◌, ◌-◌, ◌<◌, ◌≤◌, false, Option, None, Some, Result, Ok, Err, List, [], ◌++◌, length}
-use Rattle.std.proofs.Common.{take, drop, refl, sym, ap, ◌∙◌, subst, append_assoc, append-nil, arith, length-drop, length-take}
-use Rattle.std.specs.Prelude.{is_some}
+use Rattle.std.proofs.Common.{◌≡◌, ℕ, ◌+◌, ◌-◌, ◌<◌, ◌≤◌, Option, None, Some, Err, List, [], ◌++◌, length}
+use Rattle.std.proofs.Common.{take, drop, refl, sym, ap, ◌∙◌, subst, ⊎_elim, append_assoc, append-nil, arith, length-drop, length-take}
+use Rattle.std.proofs.lemmas.Bool.{cases_lt}
 use Rattle.std.proofs.lemmas.List.{take_all, take-take}
 use Rattle.std.proofs.Math.Seq.{take-add}
-use Rattle.py_lines.specs.declared.feed.Feed.{Feed}
+use Rattle.py_lines.specs.LogicalLine.{LogicalLine}
+use Rattle.py_lines.specs.Given.{AreFirstLines}
+use Rattle.py_lines.specs.ScannerState.{GoesOnWith}
+use Rattle.py_lines.specs.declared.fault.Fault.{Fault}
 use Rattle.py_lines.specs.declared.fault.LexError.{LexError}
 use Rattle.py_lines.specs.declared.fault.LexError.TheVariants as lex
-use Rattle.py_lines.specs.declared.scan.Scan.{Scan}
-use Rattle.py_lines.specs.Private.Feed.{EndsAfter, HoldsMore, IsScanned, IsHeldOpen, IsUnchanged, IsSoundFeed, StandsSo, TakesChunk}
-use Rattle.py_lines.specs.Private.Feed.{ScansHeld, FailsWith, FailsPiece, IsLastChunk, StopsTaking, TakesSome, TakesSo}
-
-pub none_is : (r : Option ℕ) → is_some r ≡ false → r ≡ None
-none_is None h = refl
-none_is (Some n) h = absurd (cc)
-
-pub holds_none : (f : Feed) → HoldsMore f [] f
-holds_none f = record { held = sym (append-nil f.held.items); place = refl; line = refl; ended = refl }
+use Rattle.py_lines.specs.declared.feed.Feed.{Feed}
+use Rattle.py_lines.specs.Private.Feed.{FailsIn, FailsWith, Holds, IsHeldOpen, IsSoundFeed, IsUnchanged, ScansHeld, SettleNone, StandsSo, StopsAfter, TakesChunk, TakesOf, TakesSo}
+use Rattle.py_lines.proofs.Feeds.Known.{first_at, goes_at, goes_with_first}
+use Rattle.py_lines.proofs.Feeds.Loops.{fails_from, holds_on}
 
 -- so many bytes of a piece were taken by chunks; all that is held was scanned, unless none of some was taken yet
 pub record HasTaken (old : Feed) (piece : List ℕ) (taken : ℕ) (mid : Feed) : Type 0 where
   pub within : taken ≤ length piece
-  pub more : HoldsMore old (take taken piece) mid
-  pub fault : mid.state.fault ≡ old.state.fault
+  pub text : Holds old (old.held.items ++ take taken piece) old.state.fault mid
   pub begun : taken ≡ 0 → 0 < length piece → mid ≡ old
-  pub scanned : (taken ≡ 0 → piece ≡ []) → IsScanned mid.ready mid
-  pub last : (end_len : ℕ) → 0 < taken → mid.ready ≡ Some end_len → IsLastChunk old piece taken end_len mid
+  pub stops : (taken ≡ 0 → piece ≡ []) → StopsAfter old.held.items mid mid.ready
 
--- where bytes of a piece are left and no line is ready, a line is open in what is held
-pub open_next : (old mid : Feed) (piece : List ℕ) (taken : ℕ) → IsSoundFeed old → old.state.fault ≡ None → old.ready ≡ None
-    → mid.ready ≡ None → 0 < length piece → HasTaken old piece taken mid → IsHeldOpen mid
-open_next old mid piece zero sound no_fault not_ready none some h =
-    subst IsHeldOpen (sym (h.begun refl some)) (subst (λ (r : Option ℕ). StandsSo r old) not_ready sound.state no_fault)
-open_next old mid piece (suc n) sound no_fault not_ready none some h =
-    let s : IsScanned None mid = subst (λ (r : Option ℕ). IsScanned r mid) none (h.scanned (λ first. absurd (omega (arith, first)))) in
-    (s.0, s.1, s.2)
+-- a fault in these bytes, which are held then
+pub chunk_fault : (old mid new : Feed) (chunk : List ℕ) (n : ℕ) (error : LexError) → n ≤ length chunk → Holds old (old.held.items ++ take n chunk) old.state.fault mid
+    → ScansHeld mid (Err error) new → TakesChunk old chunk (Err error) new
+chunk_fault old mid new chunk n (lex.Fault f) within holds fails = (n, within, fails_from old mid new f holds fails)
+chunk_fault old mid new chunk n lex.Memory within holds none = absurd none
 
 -- no bytes are fed
-pub none_taken : (old new : Feed) (piece : List ℕ) (error : LexError) → old.ready ≡ None → ScansHeld old (Err error) new
-    → TakesSo old piece (Err error) new
-none_taken old new piece (lex.Fault f) ready fails = record {
-  not_ready = ready;
-  n = 0;
-  within = omega arith;
-  mid = old;
-  more = holds_none old;
-  fails = fails;
-}
-none_taken old new piece lex.Memory ready none = absurd none
-
--- a fault in the bytes that are held then
-pub chunk_fault : (old mid new : Feed) (chunk : List ℕ) (error : LexError) → HoldsMore old chunk mid → ScansHeld mid (Err error) new
-    → TakesChunk old chunk (Err error) new
-chunk_fault old mid new chunk (lex.Fault f) more fails = record { mid = mid; more = more; fails = fails }
-chunk_fault old mid new chunk lex.Memory more none = absurd none
+pub none_taken : (old new : Feed) (piece : List ℕ) (error : LexError) → ScansHeld old (Err error) new → TakesSo old piece (Err error) new
+none_taken old new piece (lex.Fault f) fails = (0, omega arith, subst (λ l. FailsIn old l f new) (sym (append-nil old.held.items)) fails)
+none_taken old new piece lex.Memory none = absurd none
 
 -- the bytes of a piece that aren't taken yet, as a slice has them
 abbrev pub rest_of : List ℕ → ℕ → List ℕ
@@ -62,92 +40,64 @@ rest_of piece taken = take (length piece - taken) (drop taken piece)
 rest_is : (piece : List ℕ) (taken : ℕ) → rest_of piece taken ≡ drop taken piece
 rest_is piece taken = take_all (length piece - taken) (drop taken piece) (omega (arith, length-drop taken piece))
 
-pub next_bytes : (piece : List ℕ) (taken len more : ℕ) → taken ≤ length piece → more ≤ length (take len (rest_of piece taken)) → (take more (take len (rest_of piece taken)) ≡ take more (drop taken piece)) × (taken + more ≤ length piece)
-next_bytes piece taken len more within less =
-    let rest = rest_of piece taken in
-    let size : more ≤ len = omega (arith, less, length-take len rest) in
-    (take-take more len rest size ∙ ap (take more) (rest_is piece taken), omega (arith, less, length-take len rest, ap length (rest_is piece taken), length-drop taken piece, within))
+module _ {old mid : Feed} {piece : List ℕ} {taken : ℕ} (h : HasTaken old piece taken mid) (ready : mid.ready ≡ None) (some : 0 < length piece) where
+  -- bytes were taken, and no line has ended in what is held
+  stands : 0 < taken → StopsAfter old.held.items mid None
+  stands more = subst (StopsAfter old.held.items mid) ready (h.stops (λ zero. absurd (omega (arith, zero, more))))
 
-pub grows : (old mid new : Feed) (piece chunk : List ℕ) (taken len : ℕ) → HoldsMore old (take taken piece) mid → HoldsMore mid chunk new → chunk ≡ take len (drop taken piece) → HoldsMore old (take (taken + len) piece) new
-grows old mid new piece chunk taken len a b is = record {
-  held = b.held ∙ ap (λ l. l ++ chunk) a.held ∙ append_assoc old.held.items (take taken piece) chunk ∙ ap (λ l. old.held.items ++ (take taken piece ++ l)) is ∙ ap (λ l. old.held.items ++ l) (sym (take-add taken len piece));
-  place = b.place ∙ a.place;
-  line = b.line ∙ a.line;
-  ended = b.ended ∙ a.ended;
-}
+  -- where bytes of a piece are left and no line is ready, a line is open in what is held
+  pub open_next : IsSoundFeed old → old.state.fault ≡ None → old.ready ≡ None → IsHeldOpen mid
+  open_next sound no_fault not_ready = ⊎_elim
+      (λ more. (stands more).0)
+      (λ none. subst IsHeldOpen (sym (h.begun (omega (arith, none)) some)) (subst (StandsSo old) not_ready sound.state no_fault))
+      (cases_lt 0 taken)
 
--- what the scan of all that is held came to
-pub after_scanned : (held : List ℕ) (r : Option ℕ) (new : Feed) → EndsAfter held r new → IsScanned r new
-after_scanned held None new s = s
-after_scanned held (Some n) new (e, last) = e
+  module _ (len n : ℕ) (less : n ≤ length (take len (rest_of piece taken))) where
+    next_within : taken + n ≤ length piece
+    next_within = omega (arith, less, length-take len (rest_of piece taken), ap length (rest_is piece taken), length-drop taken piece, h.within)
 
--- the bytes taken last
-pub last_chunk : (old mid new : Feed) (piece : List ℕ) (taken len end_len : ℕ) → HasTaken old piece taken mid → mid.ready ≡ None → EndsAfter mid.held.items new.ready new → new.ready ≡ Some end_len → IsLastChunk old piece (taken + len) end_len new
-last_chunk old mid new piece taken len end_len h ready stops is =
-    let at : EndsAfter mid.held.items (Some end_len) new = subst (λ r. EndsAfter mid.held.items r new) is stops in
-    record {
-      before = taken;
-      len = len;
-      sum = refl;
-      mid = mid;
-      more = h.more;
-      ended = at.0;
-      ends = at.1;
-      scanned = λ some. subst (λ r. IsScanned r mid) ready (h.scanned (λ zero. absurd (omega (arith, some, zero))));
-    }
+    next_items : mid.held.items ++ take n (take len (rest_of piece taken)) ≡ old.held.items ++ take (taken + n) piece
+    next_items =
+        ap (λ l. mid.held.items ++ l) (take-take n len (rest_of piece taken) (omega (arith, less, length-take len (rest_of piece taken))) ∙ ap (take n) (rest_is piece taken))
+        ∙ ap (λ l. l ++ take n (drop taken piece)) h.text.held ∙ append_assoc old.held.items (take taken piece) (take n (drop taken piece))
+        ∙ ap (λ l. old.held.items ++ l) (sym (take-add taken n piece))
 
--- a fault in the chunk that was taken
-pub chunk_fails : (old mid new : Feed) (piece : List ℕ) (taken len : ℕ) (error : LexError) → old.ready ≡ None → len ≤ length (rest_of piece taken)
-    → HasTaken old piece taken mid → (w : FailsWith mid (take len (rest_of piece taken)) error new) → FailsPiece old piece error new
-chunk_fails old mid new piece taken len error ready less h w =
-    let is = rest_is piece taken in
-    record {
-      not_ready = ready;
-      n = taken + len;
-      within = omega (arith, h.within, less, ap length is, length-drop taken piece);
-      mid = w.mid;
-      more = grows old mid w.mid piece (take len (rest_of piece taken)) taken len h.more w.more (ap (take len) is);
-      fails = w.fails;
-    }
+  -- what settled no line before the piece settled none before the next chunk
+  unsettled : (new : Feed) (later : List ℕ) → Holds mid (mid.held.items ++ later) mid.state.fault new → (text : List ℕ) (lines : List LogicalLine)
+      → AreFirstLines text new.state.place new.state.line lines → GoesOnWith text new.state.place new.held.items
+      → SettleNone text new.state.place old.held.items lines → SettleNone text new.state.place mid.held.items lines
+  unsettled new later holds text lines first goes none = ⊎_elim
+      (λ more. subst (λ (n : ℕ). SettleNone text n mid.held.items lines) (sym holds.place) ((stands more).1 text lines (first_at (sym holds.place) (sym holds.line) first)
+      (goes_at text (sym holds.place) refl (goes_with_first text new.state.place mid.held.items later (subst (GoesOnWith text new.state.place) holds.held goes)))).0)
+      (λ zero. subst (λ (f : Feed). SettleNone text new.state.place f.held.items lines) (sym (h.begun (omega (arith, zero)) some)) none)
+      (cases_lt 0 taken)
 
--- where a growth was refused after the first bytes
-pub stops_short : (old mid new : Feed) (piece : List ℕ) (taken : ℕ) → old.ready ≡ None → (taken ≡ 0 → ⊥) → HasTaken old piece taken mid → mid.ready ≡ None
-    → IsUnchanged mid new → TakesSome old piece taken new
-stops_short old mid new piece taken ready some h mid_ready u =
-    let s = u.same in
-    record {
-      not_ready = ready;
-      within = h.within;
-      some = λ zero. absurd (some zero);
-      more = record { held = s.held ∙ append-nil mid.held.items ∙ h.more.held; place = s.place ∙ h.more.place; line = s.line ∙ h.more.line; ended = s.ended ∙ h.more.ended };
-      fault = u.fault ∙ h.fault;
-      stops = subst (λ r. StopsTaking old piece taken r new) (sym u.ready)
-          (mid, s, subst (λ r. IsScanned r mid) mid_ready (h.scanned (λ zero. absurd (some zero))), u.opens);
-    }
+  stops_more : (new : Feed) (later : List ℕ) → Holds mid (mid.held.items ++ later) mid.state.fault new → (r : Option ℕ)
+      → StopsAfter mid.held.items new r → StopsAfter old.held.items new r
+  stops_more new later holds None stops = stops
+  stops_more new later holds (Some n) (line, settles) = (line, λ text lines first goes none. settles text lines first goes (unsettled new later holds text lines first goes none))
 
--- what a scan of all that is held leaves, once bytes were taken
-stops_taking : (old new : Feed) (piece : List ℕ) (taken : ℕ) (ready : Option ℕ) → IsScanned ready new → ((end_len : ℕ) → 0 < taken → ready ≡ Some end_len → IsLastChunk old piece taken end_len new) → StopsTaking old piece taken ready new
-stops_taking old new piece taken None s last = (new, holds_none new, s, (s.0, s.1, s.2))
-stops_taking old new piece taken (Some n) s last = (s, λ some. last n some refl)
+  -- one chunk more
+  pub takes_more : (new : Feed) (len n : ℕ) → 0 < n → TakesOf mid (take len (rest_of piece taken)) n new → HasTaken old piece (taken + n) new
+  takes_more new len n full t = record {
+    within = next_within len n t.within;
+    text = holds_on h.text t.text (next_items len n t.within) h.text.fault;
+    begun = λ zero. absurd (omega (arith, zero, full));
+    stops = λ none. stops_more new (take n (take len (rest_of piece taken))) t.text new.ready t.stops;
+  }
 
--- bytes of a piece were taken up to a line's end, or all
-pub takes_some : (old new : Feed) (piece : List ℕ) (taken : ℕ) → old.ready ≡ None → (taken ≡ 0 → piece ≡ []) → HasTaken old piece taken new → TakesSome old piece taken new
-takes_some old new piece taken ready none h = record {
-  not_ready = ready;
-  within = h.within;
-  some = none;
-  more = h.more;
-  fault = h.fault;
-  stops = stops_taking old new piece taken new.ready (h.scanned none) h.last;
-}
+  -- a fault in the chunk that was taken
+  pub chunk_fails : (new : Feed) (len : ℕ) (fault : Fault) → FailsWith mid (take len (rest_of piece taken)) fault new → FailsWith old piece fault new
+  chunk_fails new len fault (n, less, (text, none_ready, decided)) = (
+    taken + n,
+    next_within len n less,
+    (holds_on h.text text (next_items len n less) refl, none_ready, rw (← next_items len n less, ← h.text.place, ← h.text.line) decided),
+  )
 
--- what a call took, where the bytes had been scanned before it
-pub rescanned_taken : (old new : Feed) (scan : Scan) (chunk : List ℕ) (r : Result ℕ LexError) → TakesChunk (record old { state = record old.state { scan = scan } }) chunk r new → TakesChunk old chunk r new
-rescanned_taken old new scan chunk (Ok n) t = record { some = t.some; within = t.within; more = record { held = t.more.held; place = t.more.place; line = t.more.line; ended = t.more.ended }; fault = t.fault; stops = t.stops }
-rescanned_taken old new scan chunk (Err (lex.Fault f)) t = record { mid = t.mid; more = record { held = t.more.held; place = t.more.place; line = t.more.line; ended = t.more.ended }; fails = t.fails }
-rescanned_taken old new scan chunk (Err lex.Memory) t = record {
-  same = record { held = t.same.held; place = t.same.place; line = t.same.line; ended = t.same.ended };
-  ready = t.ready;
-  fault = t.fault;
-  opens = t.opens;
-}
+  -- no memory for the next chunk
+  pub stops_short : (new : Feed) → 0 < taken → IsUnchanged mid new → TakesOf old piece taken new
+  stops_short new more (same, none_ready, opens) = record {
+    within = h.within;
+    text = holds_on h.text same h.text.held h.text.fault;
+    stops = subst (StopsAfter old.held.items new) (sym none_ready) (opens, rw (same.held, same.place, same.line) (stands more).1);
+  }

@@ -29,6 +29,7 @@ use Rattle.py_lines.specs.Private.Machine.{Scanned, Bracket, brackets_of, moved,
 use Rattle.py_lines.specs.Private.ScanMachine.{meet_of, scan_step}
 use Rattle.py_lines.specs.Private.Scan.{line_start, IsNotEnded, IsUnderWay, is_returned, none_open, is_return_mode, stack_of, stack_if, IsRefusal}
 use Rattle.py_lines.specs.Private.LineState.{IsFaultAfter, first_mode}
+use Rattle.py_lines.specs.Private.Feed.{IsDecidedAt}
 use Rattle.py_lines.proofs.Text.Utf8Prefixes.{nothing_bad, scalars_more, spell_more}
 use Rattle.py_lines.proofs.Text.Decoding.{decoded}
 use Rattle.py_lines.proofs.Pieces.PieceLists.{piece}
@@ -175,13 +176,7 @@ module _ (text : List ℕ) (state : LineState) (lines : List LogicalLine) (read 
       alone [] fit = of.read_then k.base c [] k.more [] fit
       alone (x ∷ xs) fit = of.read_then k.base x xs (c ∷ k.more) (c ∷ []) fit
 
--- a fault that so many bytes after the lines given decide, and that the text has after these lines
-pub record IsDecidedAt (text : List ℕ) (place : ℕ) (lines : List LogicalLine) (most : ℕ) (fault : Fault) : Type 0 where
-  pub n : ℕ
-  pub within : n ≤ most
-  pub decided : Decides (take (place + n) text) fault
-  pub lexed : IsLexed text lines (Some fault)
-
+-- what the first bytes decide after the lines given, all do
 decided_whole : (text : List ℕ) (place : ℕ) (lines : List LogicalLine) (n most : ℕ) (fault : Fault) → n ≤ most → Decides (take (place + n) text) fault × IsLexed (take (place + n) text) lines (Some fault) → IsDecidedAt text place lines most fault
 decided_whole text place lines n most fault within both = record {
   n = n;

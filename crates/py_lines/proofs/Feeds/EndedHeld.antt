@@ -1,79 +1,102 @@
 -- The text ends with what is held: its last line, or the fault that stands there.
-use Rattle.std.proofs.Common.{◌≡◌, ℕ, ◌+◌, ◌<◌, ◌≤◌, true, false, None, Some, Ok, Err, List, [], ◌∷◌, ◌++◌, length, refl, sym}
+use Rattle.std.proofs.Common.{◌≡◌, ℕ, ◌+◌, ◌-◌, ◌<◌, ◌≤◌, true, false, None, Some, Ok, Err, List, [], ◌∷◌, ◌++◌, length, inl, inr, refl, sym}
 use Rattle.std.proofs.Common.{ap, ◌∙◌, subst, append-nil, arith}
 use Rattle.std.specs.Prelude.{encode_utf8_all}
 use Rattle.std.proofs.lemmas.Bool.{both_ways, and_parts, false_from_ne_true}
 use Rattle.std.proofs.lemmas.List.{nil_from_length}
 use Rattle.py_lines.specs.LogicalLine.{LogicalLine, byte_len}
 use Rattle.py_lines.specs.Lexed.{IsLexed}
-use Rattle.py_lines.specs.ScannerState.{GoesOnWith}
+use Rattle.py_lines.specs.ScannerState.{IsScanning, WhereWhole, fed_of}
+use Rattle.py_lines.specs.ScannerState.View.{scanning_of}
 use Rattle.py_lines.specs.declared.fault.FaultKind.{FaultKind}
 use Rattle.py_lines.specs.declared.fault.FaultKind.TheVariants.{BadUtf8}
 use Rattle.py_lines.specs.declared.fault.LexError.{LexError}
 use Rattle.py_lines.specs.declared.feed.Feed.{Feed}
-use Rattle.py_lines.specs.declared.line_state.LineState.{LineState}
 use Rattle.py_lines.specs.declared.scan.LineFault.{LineFault}
 use Rattle.py_lines.specs.Private.Machine.{Bracket, is_final}
-use Rattle.py_lines.specs.Private.Scan.{is_returned, is_return_mode, none_open, stack_of, line_start, IsUnfinished}
-use Rattle.py_lines.specs.Private.LineState.{IsFaultAfter, first_mode}
-use Rattle.py_lines.specs.Private.Feed.{IsOpen, IsPartOfCharacter, FailsAt, EndsWith, IsLastLine, EndsHeld}
+use Rattle.py_lines.specs.Private.Scan.{is_returned, is_return_mode, none_open, stack_of, line_start, IsUnfinished, IsUnderWay}
+use Rattle.py_lines.specs.Private.LineState.{IsEndLineFault, first_mode}
+use Rattle.py_lines.specs.Private.Run.{Reached}
+use Rattle.py_lines.specs.Private.Feed.{EndsText, FailsAt, Holds, IsScanned}
 use Rattle.py_lines.proofs.Machine.PieceSteps.{pieces_at}
-use Rattle.py_lines.proofs.Readers.LineAnswers.{IsScannedLine, Within}
-use Rattle.py_lines.proofs.Readers.LineFaults.{finished, unfinished_within}
+use Rattle.py_lines.proofs.Readers.LineAnswers.{IsScannedLine}
+use Rattle.py_lines.proofs.Readers.LineFaults.{Within, finished, unfinished_within}
 use Rattle.py_lines.proofs.Readers.EndAnswers.{line_at_text_end, line_at_return, returned_final}
-use Rattle.py_lines.proofs.Feeds.Known.{IsKnown, is_known}
+use Rattle.py_lines.proofs.Feeds.Known.{IsKnown, first_at, goes_at, is_known}
 use Rattle.py_lines.proofs.Feeds.DecidedSoFar.{way_open}
 use Rattle.py_lines.proofs.Feeds.Ended.{ended_bytes, ended_unfinished, ended_line}
-use Rattle.py_lines.proofs.Feeds.Loops.{fails_keep}
-use Rattle.py_lines.proofs.Feeds.Steps.{open_stands, open_stop, open_size, within_held}
+use Rattle.py_lines.proofs.Feeds.Loops.{fails_keep, fails_ready, fault_after, holds_on}
+use Rattle.py_lines.proofs.Feeds.Steps.{open_stands, open_stop, open_size, reached_by}
 use Rattle.py_lines.proofs.Feeds.ReadyLines.{holds_line}
 
-module _ (f : Feed) (read rest : List ℕ) (o : IsOpen f read rest) where
-  -- what is known where the text ends
-  known_at : (text : List ℕ) (lines : List LogicalLine) → EndsWith f text lines → 0 < length f.held.items → IsKnown text f.state.place f.state.line lines read rest
-  known_at text lines ends some = is_known text f.state.place f.state.line lines read rest ends.first o.scalars (subst (GoesOnWith text f.state.place) (sym o.spell) ends.held) (omega (arith, some, ap length o.spell))
+-- what is held was scanned, and no line has ended in it
+module _ (old f : Feed) (keeps : Holds old old.held.items old.state.fault f) (s : IsScanned f None) (some : 0 < length f.held.items) where
+  abbrev way : IsUnderWay (first_mode f.state.place) f.state.scan s.0.read
+  way = s.0.stops.0
 
-  whole_at : (text : List ℕ) (lines : List LogicalLine) → EndsWith f text lines → length text ≡ f.state.place + length (encode_utf8_all read ++ rest)
-  whole_at text lines ends = ends.whole ∙ ap (λ l. f.state.place + length l) (sym o.spell)
+  abbrev o : Reached (first_mode f.state.place) f.state.line f.held.items f.state.scan s.0.rest
+  o = reached_by s.0 way
+
+  module _ (text : List ℕ) (lines : List LogicalLine) (scanning : IsScanning (scanning_of old) text lines) (whole : length text ≡ fed_of (scanning_of old)) where
+    -- what is known where the text ends
+    known_at : IsKnown text f.state.place f.state.line lines s.0.read s.0.rest
+    known_at = is_known text f.state.place f.state.line lines s.0.read s.0.rest (first_at keeps.place keeps.line scanning.first) s.0.scalars (goes_at text keeps.place (s.0.spell ∙ keeps.held) scanning.held) (omega (arith, some, ap length s.0.spell))
+
+    whole_at : length text ≡ f.state.place + length (encode_utf8_all s.0.read ++ s.0.rest)
+    whole_at = omega (arith, whole, keeps.place, ap length keeps.held, ap length s.0.spell)
+
+  -- what these come to
+  pub all_scanned : length f.held.items ≤ f.state.scan.stop → s.0.rest ≡ []
+  all_scanned full = nil_from_length s.0.rest (omega (arith, full, open_stop f s.0.rest o, open_size f s.0.rest o))
+
+  all_within : Within s.0.read f.state.scan.stop
+  all_within = record { prefix = s.0.read; later = []; split = append-nil s.0.read; size = open_stop f s.0.rest o }
+
+  read_some : s.0.rest ≡ [] → 0 < byte_len s.0.read
+  read_some none = omega (arith, some, open_size f s.0.rest o, ap length none)
+
+  unfinished_in : s.0.rest ≡ [] → (line_fault : LineFault) → IsUnfinished f.state.scan (Some line_fault) → Within s.0.read line_fault.place
+  unfinished_in none line_fault is = unfinished_within f.state.place f.state.scan s.0.read way (read_some none) line_fault is
 
   -- the fault that the text has there is kept
-  end_fault : (new : Feed) (kind : FaultKind) (offset : ℕ) (error : LexError) (fails : FailsAt f kind offset error new) → f.ready ≡ None
-      → ((text : List ℕ) (lines : List LogicalLine) → EndsWith f text lines → IsLexed text lines (Some fails.keeps.fault)) → EndsHeld f (Err error) new
-  end_fault new kind offset error fails not_ready lexed = subst (λ (e : LexError). EndsHeld f (Err e) new) (sym fails.keeps.error_is) (record {
-    text = fails_keep f new kind offset error fails;
-    none_ready = ap (λ (g : Feed). g.ready) fails.same ∙ not_ready;
-    kept = ap (λ (s : LineState). s.fault) fails.keeps.same;
-    lexed = lexed;
-  })
+  module _ (not_ready : f.ready ≡ None) (new : Feed) (error : LexError) where
+    end_fault : (kind : FaultKind) (offset : ℕ) (fails : FailsAt f kind offset error new) → WhereWhole (scanning_of old) (λ text lines. IsLexed text lines (Some fails.keeps.fault)) → EndsText old (Err error) new
+    end_fault kind offset fails lexed = subst (λ (e : LexError). EndsText old (Err e) new) (sym fails.keeps.error_is) (record {
+      text = holds_on keeps (fails_keep f new kind offset error fails) keeps.held refl;
+      none_ready = fails_ready f new kind offset error fails not_ready;
+      lexed = lexed;
+    })
 
-  fault_in : (new : Feed) (kind : FaultKind) (offset : ℕ) (error : LexError) (fails : FailsAt f kind offset error new) (w : Within read offset) → IsFaultAfter f.state kind offset (encode_utf8_all w.prefix) fails.keeps.fault
-  fault_in new kind offset error fails w = subst (λ b. IsFaultAfter f.state kind offset b fails.keeps.fault) (within_held f read rest o offset w).1 fails.keeps.at
+    -- bytes that begin no character are left
+    ends_in_bytes : 0 < length s.0.rest → FailsAt f BadUtf8 f.state.scan.stop error new → EndsText old (Err error) new
+    unfolding all_within
+    ends_in_bytes more fails = end_fault BadUtf8 f.state.scan.stop fails (λ text lines scanning whole.
+        ended_bytes text f.state lines s.0.read s.0.rest (known_at text lines scanning whole) (whole_at text lines scanning whole) way
+        (false_from_ne_true _ (λ returned. omega (arith, more, ap length (s.2 returned)))) more fails.keeps.fault
+        (fault_after f new BadUtf8 f.state.scan.stop error fails s.0.rest o all_within) s.0.stops.1)
 
-  -- bytes that begin no character are left
-  pub ends_in_bytes : (new : Feed) (error : LexError) → IsPartOfCharacter f rest → 0 < length rest → FailsAt f BadUtf8 f.state.scan.stop error new → f.ready ≡ None → EndsHeld f (Err error) new
-  ends_in_bytes new error part some fails not_ready = end_fault new BadUtf8 f.state.scan.stop error fails not_ready (λ text lines ends.
-      let k = known_at text lines ends (omega (arith, some, open_size f read rest o)) in
-      let not_yet = false_from_ne_true _ (λ returned. omega (arith, some, ap length (part.last returned))) in
-      let w : Within read f.state.scan.stop = record { prefix = read; later = []; split = append-nil read; size = open_stop f read rest o } in
-      ended_bytes text f.state lines read rest k (whole_at text lines ends) o.way not_yet some fails.keeps.fault (fault_in new BadUtf8 f.state.scan.stop error fails w) part.none)
+    -- something is open
+    ends_open : (line_fault : LineFault) → s.0.rest ≡ [] → is_returned f.state.scan ≡ false → IsUnfinished f.state.scan (Some line_fault) → FailsAt f line_fault.kind line_fault.place error new → EndsText old (Err error) new
+    ends_open line_fault none not_yet unfinished fails = end_fault line_fault.kind line_fault.place fails (λ text lines scanning whole.
+        let w = unfinished_in none line_fault unfinished in
+        ended_unfinished text f.state lines s.0.read s.0.rest (known_at text lines scanning whole) (whole_at text lines scanning whole) way not_yet none (read_some none) line_fault unfinished fails.keeps.fault w
+        (fault_after f new line_fault.kind line_fault.place error fails s.0.rest o w))
 
-  read_some : rest ≡ [] → 0 < length f.held.items → 0 < byte_len read
-  read_some none some = omega (arith, some, open_size f read rest o, ap length none)
+  -- what is wrong there
+  module _ (held : ℕ) (all : held ≡ length f.held.items) (line_fault : LineFault) where
+    pub end_fault_within : IsEndLineFault f.state.scan (held - f.state.scan.stop) (Some line_fault) → Within s.0.read line_fault.place
+    end_fault_within (inl (more, kind, place)) = subst (Within s.0.read) (sym place) all_within
+    end_fault_within (inr (none, unfinished)) = unfinished_in (all_scanned (omega (arith, all, none))) line_fault unfinished
 
-  pub open_line_fault_within : rest ≡ [] → 0 < length f.held.items → (line_fault : LineFault) → IsUnfinished f.state.scan (Some line_fault) → Within read line_fault.place
-  open_line_fault_within none some line_fault is = unfinished_within f.state.place f.state.scan read o.way (read_some none some) line_fault is
+    pub end_fault_fails : f.ready ≡ None → is_returned f.state.scan ≡ false → (new : Feed) (error : LexError) → FailsAt f line_fault.kind line_fault.place error new
+        → IsEndLineFault f.state.scan (held - f.state.scan.stop) (Some line_fault) → EndsText old (Err error) new
+    end_fault_fails not_ready not_yet new error fails (inl (more, kind, place)) =
+        ends_in_bytes not_ready new error (omega (arith, all, more, open_size f s.0.rest o, open_stop f s.0.rest o))
+        (subst (λ (k : FaultKind). FailsAt f k f.state.scan.stop error new) kind (subst (λ (n : ℕ). FailsAt f line_fault.kind n error new) place fails))
+    end_fault_fails not_ready not_yet new error fails (inr (none, unfinished)) =
+        ends_open not_ready new error line_fault (all_scanned (omega (arith, all, none))) not_yet unfinished fails
 
-  -- something is open
-  pub ends_open : (new : Feed) (error : LexError) (line_fault : LineFault) → rest ≡ [] → 0 < length f.held.items → is_returned f.state.scan ≡ false → IsUnfinished f.state.scan (Some line_fault) → FailsAt f line_fault.kind line_fault.place error new → f.ready ≡ None → EndsHeld f (Err error) new
-  ends_open new error line_fault none some not_yet unfinished fails not_ready = end_fault new line_fault.kind line_fault.place error fails not_ready (λ text lines ends.
-      let w = open_line_fault_within none some line_fault unfinished in
-      ended_unfinished text f.state lines read rest (known_at text lines ends some) (whole_at text lines ends) o.way not_yet none (read_some none some) line_fault unfinished fails.keeps.fault w (fault_in new line_fault.kind line_fault.place error fails w))
-
-  -- what the scan says of the last line
-  abbrev pub IsLastScan : ℕ → Type 0
-  IsLastScan end_len = IsScannedLine (line_start (first_mode f.state.place)) f.state.scan read end_len (pieces_at o.way.state)
-
-  -- CR closes it
+  -- CR closes the line
   returned_parts : is_returned f.state.scan ≡ true → (is_return_mode f.state.scan.piece.mode ≡ true) × (stack_of f.state.scan.brackets ≡ [])
   returned_parts returned =
       let parts = and_parts (is_return_mode f.state.scan.piece.mode) (none_open (stack_of f.state.scan.brackets)) returned in
@@ -84,35 +107,28 @@ module _ (f : Feed) (read rest : List ℕ) (o : IsOpen f read rest) where
       open_nothing (b ∷ bs) is = absurd (both_ways _ refl is)
 
   -- it is ready
-  last_line : (end_len : ℕ) → rest ≡ [] → 0 < length f.held.items → is_final f.state.scan.piece.mode ≡ true
-      → stack_of f.state.scan.brackets ≡ [] → IsLastScan end_len → IsLastLine f (record f { ready = Some end_len })
-  last_line end_len none some final empty line = record {
-    text = record { held = refl; place = refl; line = refl; ended = refl };
-    fault = refl;
-    end_len = end_len;
-    is_ready = refl;
-    holds = holds_line (record f { ready = Some end_len }) end_len read rest (pieces_at o.way.state) o.scalars o.spell o.number line;
-    all = line.stop ∙ sym (ap length (append-nil (encode_utf8_all read))) ∙ ap (λ t. length (encode_utf8_all read ++ t)) (sym none)
-        ∙ ap length o.spell;
-    lexed = λ text lines ends.
-        ended_line text f.state lines read rest (known_at text lines ends some) (whole_at text lines ends) o.way none empty
-        (ap is_final (sym o.way.tallies.counts.mode) ∙ final) line.line.some line.line.whole;
+  last_line : (end_len : ℕ) → s.0.rest ≡ [] → is_final f.state.scan.piece.mode ≡ true → stack_of f.state.scan.brackets ≡ []
+      → IsScannedLine (line_start (first_mode f.state.place)) f.state.scan s.0.read end_len (pieces_at way.state) → EndsText old (Ok tt) (record f { ready = Some end_len })
+  last_line end_len none final empty line = record {
+    text = record { held = keeps.held; place = keeps.place; line = keeps.line; ended = keeps.ended; fault = keeps.fault };
+    line = _;
+    holds = (holds_line f end_len s.0.read s.0.rest (pieces_at way.state) s.0.scalars s.0.spell s.0.number line, refl);
+    lexed = λ text lines scanning whole. (
+      ended_line text f.state lines s.0.read s.0.rest (known_at text lines scanning whole) (whole_at text lines scanning whole) way none empty
+          (ap is_final (sym way.tallies.counts.mode) ∙ final) line.line.some line.line.whole,
+      sym s.0.spell ∙ ap (λ t. encode_utf8_all s.0.read ++ t) none ∙ append-nil (encode_utf8_all s.0.read) ∙ ap encode_utf8_all (sym line.line.spell),
+    );
   }
 
-  -- what these come to
-  pub all_scanned : length f.held.items ≤ f.state.scan.stop → rest ≡ []
-  all_scanned full = nil_from_length rest (omega (arith, full, open_stop f read rest o, open_size f read rest o))
-
-  pub ends_so_plain : rest ≡ [] → 0 < length f.held.items → is_returned f.state.scan ≡ false → IsUnfinished f.state.scan None
-      → EndsHeld f (Ok tt) (record f { ready = Some 0 })
-  ends_so_plain none some not_yet unfinished =
+  pub ends_plain : s.0.rest ≡ [] → is_returned f.state.scan ≡ false → IsUnfinished f.state.scan None → EndsText old (Ok tt) (record f { ready = Some 0 })
+  ends_plain none not_yet unfinished =
       let (final, empty) = finished f.state.scan unfinished in
-      last_line 0 none some final empty (line_at_text_end (first_mode f.state.place) f.state.scan read o.way (open_stands f read rest o) (ap is_final (sym o.way.tallies.counts.mode) ∙ final)
-      (way_open (first_mode f.state.place) f.state.scan read o.way not_yet) empty (read_some none some))
+      last_line 0 none final empty (line_at_text_end (first_mode f.state.place) f.state.scan s.0.read way (open_stands f s.0.rest o) (ap is_final (sym way.tallies.counts.mode) ∙ final)
+      (way_open (first_mode f.state.place) f.state.scan s.0.read way not_yet) empty (read_some none))
 
-  pub ends_so_returned : rest ≡ [] → 0 < length f.held.items → is_returned f.state.scan ≡ true
-      → EndsHeld f (Ok tt) (record f { ready = Some 1 })
-  ends_so_returned none some returned =
+  pub ends_returned : is_returned f.state.scan ≡ true → EndsText old (Ok tt) (record f { ready = Some 1 })
+  ends_returned returned =
       let (mode, empty) = returned_parts returned in
-      last_line 1 none some (returned_final f.state.scan.piece.mode mode) empty
-      (line_at_return (first_mode f.state.place) f.state.scan read o.way (open_stands f read rest o) mode empty (read_some none some))
+      let none = s.2 returned in
+      last_line 1 none (returned_final f.state.scan.piece.mode mode) empty
+      (line_at_return (first_mode f.state.place) f.state.scan s.0.read way (open_stands f s.0.rest o) mode empty (read_some none))

@@ -1,100 +1,56 @@
 -- The text's end, as a caller of the scanner sees it.
-use Rattle.std.proofs.Common.{◌≡◌, ℕ, ◌+◌, true, Option, None, Some, Result, Ok, Err, List, [], length, drop, refl, sym, ap, ◌∙◌, subst, append-nil, arith, length-drop}
+use Rattle.std.proofs.Common.{◌≡◌, ℕ, true, None, Some, Ok, Err, [], ◌++◌, length, drop, refl, sym, ap, ◌∙◌, subst, append-nil, arith, length-drop}
 use Rattle.std.specs.Prelude.{is_some}
-use Rattle.std.specs.Global.{Vec}
 use Rattle.std.proofs.lemmas.List.{take_all}
-use Rattle.py_lines.specs.LogicalLine.{LogicalLine}
 use Rattle.py_lines.specs.Lexed.{IsLexed}
 use Rattle.py_lines.specs.ScannerState.{EndsScan, Finishes}
 use Rattle.py_lines.specs.ScannerState.View.{ready_of, scanning_of}
 use Rattle.py_lines.specs.declared.fault.LexError.{LexError}
 use Rattle.py_lines.specs.declared.fault.LexError.TheVariants as lex
 use Rattle.py_lines.specs.declared.feed.Feed.{Feed}
-use Rattle.py_lines.specs.Private.Feed.{KeepsText, IsScanned, ScansHeld, EndsLineHeld, EndsHeld, EndsWith, HasRoom, HoldsSo, HasEndedText}
-use Rattle.py_lines.specs.Private.Feed.{EndsText, HasReadTokens, HoldsLine, HoldsMore, IsSoundFeed, ReadsTokens, StandsSo}
-use Rattle.py_lines.specs.Private.Feed.{line_held}
+use Rattle.py_lines.specs.Private.Feed.{EndsText, HasEndedText, HasReadTokens, HasRoom, Holds, HoldsLine, HoldsSo, IsScanned, IsSoundFeed, ReadsTokens}
+use Rattle.py_lines.specs.Private.Feed.{ScansHeld, StandsSo, StopsHeld, line_held}
+use Rattle.py_lines.specs.declared.scan.Stop.TheVariants as stops
 use Rattle.py_lines.proofs.Feeds.Known.{first_at, goes_at}
-use Rattle.py_lines.proofs.Lexings.FirstLines.{all_first}
-use Rattle.py_lines.proofs.Feeds.Loops.{keeps_on}
-use Rattle.py_lines.proofs.Feeds.ReadyLines.{ended_holds, held_text, read_ready, some_is, with_line}
-use Rattle.py_lines.proofs.Feeds.FedScanner.{dropped, none_ended, runs_short, sound_unchanged}
-use Rattle.py_lines.proofs.Feeds.FailedHeld.{failed_held, failed_keeps}
-
-items_kept : (old new : Feed) → KeepsText old new → new.held.items ≡ old.held.items
-items_kept old new keeps = ap (λ (v : Vec ℕ). v.items) keeps.held
+use Rattle.py_lines.proofs.Feeds.Ended.{ended_empty}
+use Rattle.py_lines.proofs.Feeds.FedHeld.{never_before}
+use Rattle.py_lines.proofs.Feeds.ReadyLines.{ended_holds, read_ready, some_is, with_line}
+use Rattle.py_lines.proofs.Feeds.Steps.{reached_by}
+use Rattle.py_lines.proofs.Feeds.FedScanner.{dropped, room_more, runs_short, settled_held, sound_unchanged}
 
 -- a fault of the scan
 pub text_fault : (old new : Feed) (error : LexError) → ScansHeld old (Err error) new → EndsText old (Err error) new
-text_fault old new (lex.Fault f) fails =
-    let keeps = failed_keeps old new f fails in
-    record { text = keeps.0; none_ready = keeps.1; kept = keeps.2; lexed = λ text lines ends. (failed_held old new f fails text lines ends.first ends.held).lexed }
+text_fault old new (lex.Fault f) (text, none, decided) = record { text = text; none_ready = none; lexed = λ whole lines s all. (decided whole lines s.first s.held).lexed }
 text_fault old new lex.Memory none = absurd none
 
 -- the scan has left no line open: none had ended, so nothing is held
-pub text_left : (old mid : Feed) → is_some mid.ready ≡ true → old.ready ≡ None → KeepsText old mid → mid.state.fault ≡ old.state.fault → IsScanned mid.ready mid → EndsText old (Ok tt) mid
-text_left old mid some not_ready keeps fault scanned =
-    let r = some_is mid.ready some in
-    let e : EndsLineHeld r.0 mid = subst (λ o. IsScanned o mid) r.1 scanned in
-    let h = ended_holds mid r.0 e in
-    record {
-      text = keeps;
-      fault = fault;
-      line = Some (line_held mid r.0 h);
-      holds = subst (λ o. HoldsSo mid o (Some (line_held mid r.0 h))) (sym r.1) (h, refl);
-      lexed = λ text lines scanning whole. absurd (none_ended text lines old mid r.0 not_ready scanning keeps.place keeps.line (items_kept old mid keeps) e);
-    }
+module _ (old mid : Feed) (keeps : Holds old old.held.items old.state.fault mid) where
+  pub text_left : is_some mid.ready ≡ true → old.ready ≡ None → IsScanned mid mid.ready → EndsText old (Ok tt) mid
+  text_left some not_ready scanned =
+      let r = some_is mid.ready some in
+      let s : StopsHeld mid (stops.LineEnd r.0) = subst (IsScanned mid) r.1 scanned in
+      let h = ended_holds mid r.0 s in
+      record {
+        text = keeps;
+        line = Some (line_held mid r.0 h);
+        holds = subst (λ o. HoldsSo mid o (Some (line_held mid r.0 h))) (sym r.1) (h, refl);
+        lexed = λ text lines scanning whole. absurd (never_before text mid.state.place lines s (first_at keeps.place keeps.line scanning.first) (goes_at text keeps.place keeps.held scanning.held)
+            (rw (keeps.place, keeps.held) (settled_held text lines old not_ready scanning)));
+      }
 
-pub text_empty : (old mid : Feed) → mid.held.items ≡ [] → mid.ready ≡ None → KeepsText old mid → mid.state.fault ≡ old.state.fault → IsScanned mid.ready mid → EndsText old (Ok tt) mid
-text_empty old mid none not_ready keeps fault scanned =
-    let s : IsScanned None mid = subst (λ r. IsScanned r mid) not_ready scanned in
-    record {
-      text = keeps;
-      fault = fault;
-      line = None;
-      holds = subst (λ r. HoldsSo mid r None) (sym not_ready) (refl, λ no_fault. (s.0, s.1, s.2));
-      lexed = λ text lines scanning whole.
-          let empty : length old.held.items ≡ 0 = ap length (sym (items_kept old mid keeps) ∙ none) in
-          let lexed : IsLexed text lines None = all_first text old.state.place old.state.line lines scanning.first
-          (omega (arith, whole, empty)) in
-          (subst (λ l. IsLexed text l None) (sym (append-nil lines)) lexed, tt);
-    }
-
--- what ends with what a scan has kept ends with what was held before it
-ends_before_scan : (old mid : Feed) (text : List ℕ) (lines : List LogicalLine) → KeepsText old mid → EndsWith old text lines → EndsWith mid text lines
-ends_before_scan old mid text lines keeps e =
-    let held = items_kept old mid keeps in
-    record {
-      first = first_at keeps.place keeps.line e.first;
-      held = goes_at text keeps.place held e.held;
-      whole = e.whole ∙ ap (λ (n : ℕ). n + length old.held.items) (sym keeps.place) ∙ ap (λ (l : List ℕ). mid.state.place + length l) (sym held);
-    }
-
--- the scan has left a line open, which ends there
-pub text_ended : (old mid new : Feed) (result : Result (Unit {0}) LexError) → old.ready ≡ None → mid.ready ≡ None → KeepsText old mid → mid.state.fault ≡ old.state.fault → EndsHeld mid result new → EndsText old result new
-text_ended old mid new (Ok done) not_ready none keeps fault e = record {
-  text = keeps_on old mid new keeps e.text;
-  fault = e.fault ∙ fault;
-  line = Some (line_held new e.end_len e.holds);
-  holds = subst (λ (r : Option ℕ). HoldsSo new r (Some (line_held new e.end_len e.holds))) (sym e.is_ready) (e.holds, refl);
-  lexed = λ text lines scanning whole.
-      let ends : EndsWith old text lines = record { first = scanning.first; held = scanning.held; whole = whole } in
-      let all = sym (take_all new.state.scan.stop new.held.items (omega (arith, e.all))) ∙ sym (held_text new e.end_len e.holds) in
-      (e.lexed text lines (ends_before_scan old mid text lines keeps ends), all);
-}
-text_ended old mid new (Err (lex.Fault f)) not_ready none keeps fault e = record {
-  text = keeps_on old mid new keeps e.text;
-  none_ready = e.none_ready;
-  kept = e.kept;
-  lexed = λ text lines ends. e.lexed text lines (ends_before_scan old mid text lines keeps ends);
-}
-text_ended old mid new (Err lex.Memory) not_ready none keeps fault never = absurd never
-
--- what a scan keeps leaves room
-pub room_kept : (old mid : Feed) → KeepsText old mid → HasRoom old 0 → HasRoom mid 0
-room_kept old mid keeps room = record {
-  fits = omega (arith, room.fits, keeps.place, ap length (items_kept old mid keeps));
-  few_lines = omega (arith, room.few_lines, keeps.place, keeps.line);
-}
+  pub text_empty : mid.held.items ≡ [] → mid.ready ≡ None → IsScanned mid mid.ready → EndsText old (Ok tt) mid
+  text_empty none not_ready scanned =
+      let s : IsScanned mid None = subst (IsScanned mid) not_ready scanned in
+      record {
+        text = keeps;
+        line = None;
+        holds = subst (λ r. HoldsSo mid r None) (sym not_ready) (refl, λ no_fault. (s.0.rest, reached_by s.0 s.0.stops.0));
+        lexed = λ text lines scanning whole. (
+          subst (λ l. IsLexed text l None) (sym (append-nil lines))
+              (ended_empty text old.state.place old.state.line lines scanning.first (omega (arith, whole, ap length keeps.held, ap length none))),
+          tt,
+        );
+      }
 
 -- the text has ended
 abbrev pub ended_now : Feed → Feed
@@ -102,30 +58,31 @@ ended_now f = record f { ended = true }
 
 finish_now : (old f : Feed) → old.state.fault ≡ None → (e : HasEndedText old f)
     → EndsScan (scanning_of old) (with_line (ended_now f) e.line)
-finish_now old f no_fault e =
-    let held = items_kept old f e.text in
-    record {
-      scans = λ text lines scanning whole.
-          let lexed = e.lexed text lines scanning whole in
-          let from_there : drop old.state.place text ≡ old.held.items = sym (take_all (length old.held.items) (drop old.state.place text) (omega (arith, whole, length-drop old.state.place text))) ∙ scanning.held in
-          record {
-            first = first_at e.text.place e.text.line scanning.first;
-            lexed = lexed.0;
-            held = held ∙ sym from_there ∙ ap (λ (n : ℕ). drop n text) (sym e.text.place);
-            whole = lexed.1;
-            ended = refl;
-            no_fault = e.fault ∙ no_fault;
-          };
-      place = e.text.place;
-      held = held;
-      fault = no_fault;
-      ended = refl;
-      no_fault = e.fault ∙ no_fault;
-    }
+finish_now old f no_fault e = record {
+  scans = λ text lines scanning whole.
+      let lexed = e.lexed text lines scanning whole in
+      let from_there : drop old.state.place text ≡ old.held.items = sym (take_all (length old.held.items) (drop old.state.place text) (omega (arith, whole, length-drop old.state.place text))) ∙ scanning.held in
+      record {
+        first = first_at e.text.place e.text.line scanning.first;
+        lexed = lexed.0;
+        held = e.text.held ∙ sym from_there ∙ ap (λ (n : ℕ). drop n text) (sym e.text.place);
+        whole = lexed.1;
+        ended = refl;
+        no_fault = e.text.fault ∙ no_fault;
+      };
+  place = e.text.place;
+  held = e.text.held;
+  fault = no_fault;
+  ended = refl;
+  no_fault = e.text.fault ∙ no_fault;
+}
 
 module _ {old f : Feed} (sound : IsSoundFeed old) (no_fault : old.state.fault ≡ None) (e : HasEndedText old f) where
+  last_text : Holds old (old.held.items ++ []) old.state.fault f
+  last_text = subst (λ l. Holds old l old.state.fault f) (sym (append-nil old.held.items)) e.text
+
   pub last_room : HasRoom f 0
-  last_room = room_kept old f e.text sound.room
+  last_room = room_more old f [] sound sound.room.fits last_text
 
   -- no line is left
   pub finish_none : f.ready ≡ None → EndsScan (scanning_of old) (scanning_of (ended_now f)) × IsSoundFeed (ended_now f)
@@ -133,12 +90,7 @@ module _ {old f : Feed} (sound : IsSoundFeed old) (no_fault : old.state.fault �
       let at : HoldsSo f None e.line = subst (λ r. HoldsSo f r e.line) none e.holds in (
         subst (λ r. EndsScan (scanning_of old) (with_line (ended_now f) r)) (at.0 ∙ sym (ap (ready_of (ended_now f)) none))
             (finish_now old f no_fault e),
-        record {
-          room = record { fits = last_room.fits; few_lines = last_room.few_lines };
-          state = subst (λ r. StandsSo r (ended_now f)) (sym none) (λ fault.
-              let o = at.1 fault in
-              (o.0, o.1, record { scalars = o.2.scalars; spell = o.2.spell; way = o.2.way; number = o.2.number }));
-        },
+        record { room = last_room; state = subst (StandsSo (ended_now f)) (sym none) at.1 },
       )
 
   -- the text's last line is
@@ -164,7 +116,5 @@ module _ {old f : Feed} (sound : IsSoundFeed old) (no_fault : old.state.fault �
         → Finishes (scanning_of old) (Err error) (scanning_of new) × IsSoundFeed new
     finish_short (lex.Fault x) all not_ready size never = absurd never
     finish_short {new} lex.Memory all not_ready size drops =
-        let held = items_kept old f e.text in
-        let more : HoldsMore old [] f = record { held = held ∙ sym (append-nil old.held.items); place = e.text.place; line = e.text.line; ended = e.text.ended } in
-        let u = dropped old f new [] all more e.fault (size ∙ ap length held) drops in
+        let u = dropped old f new [] all last_text (size ∙ ap length e.text.held) drops in
         (runs_short old new no_fault not_ready u, sound_unchanged old new sound u)

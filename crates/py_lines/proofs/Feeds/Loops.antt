@@ -1,108 +1,102 @@
 -- What a scan of what is held comes to.
-use Rattle.std.proofs.Common.{◌≡◌, ℕ, false, None, Some, Ok, Err, List, [], length, refl, sym, ap, ◌∙◌, subst, append-nil, arith}
-use Rattle.std.specs.Str.{StartsWithNoChar}
-use Rattle.std.proofs.lemmas.Bool.{both_ways}
+use Rattle.std.proofs.Common.{◌≡◌, ℕ, ◌<◌, Bool, false, Option, None, Some, Err, List, [], length, refl, sym, ap, ◌∙◌, subst, ⊎_elim, append-nil, arith}
+use Rattle.std.specs.Prelude.{encode_utf8_all}
+use Rattle.std.proofs.lemmas.Bool.{cases_lt}
 use Rattle.std.proofs.lemmas.List.{nil_from_length}
 use Rattle.py_lines.specs.Settled.{IsHopeless}
+use Rattle.py_lines.specs.declared.fault.Fault.{Fault}
 use Rattle.py_lines.specs.declared.fault.FaultKind.{FaultKind}
 use Rattle.py_lines.specs.declared.fault.FaultKind.TheVariants.{BadUtf8}
 use Rattle.py_lines.specs.declared.fault.LexError.{LexError}
-use Rattle.py_lines.specs.declared.fault.LexError.TheVariants as lex
 use Rattle.py_lines.specs.declared.feed.Feed.{Feed}
 use Rattle.py_lines.specs.declared.line_state.LineState.{LineState}
-use Rattle.py_lines.specs.declared.scan.Stop.TheVariants as stops
 use Rattle.py_lines.specs.declared.scan.LineFault.{LineFault}
-use Rattle.py_lines.specs.Private.Scan.{EndsWhole, IsUnderWay, line_start, is_returned, IsRefusal}
-use Rattle.py_lines.specs.Private.LineState.{BeginsAnew, first_mode}
-use Rattle.py_lines.specs.Private.Feed.{KeepsText, IsEnded, IsOpen, IsPartOfCharacter, FailsAt, FailsNext, StopsHeld, IsScanned, IsUnchanged}
-use Rattle.py_lines.specs.Private.Feed.{ScansHeld}
-use Rattle.py_lines.proofs.Text.Utf8Prefixes.{nothing_bad}
+use Rattle.py_lines.specs.declared.scan.Stop.TheVariants as stops
+use Rattle.py_lines.specs.Private.Scan.{IsUnderWay, line_start, is_returned, IsRefusal}
+use Rattle.py_lines.specs.Private.LineState.{BeginsAnew, IsFaultAfter, first_mode}
+use Rattle.py_lines.specs.Private.Feed.{FailsAt, FailsIn, Holds, HoldsAt, IsDecidedAt, IsOpen, IsUnchanged, ScansHeld, StopsHeld, WhereHeld}
 use Rattle.py_lines.proofs.Text.Incomplete.{part_none}
-use Rattle.py_lines.proofs.Feeds.Steps.{open_stop, open_size}
+use Rattle.py_lines.proofs.Readers.LineFaults.{Within, refused_within}
+use Rattle.py_lines.proofs.Feeds.DecidedSoFar.{by_bytes, by_character}
+use Rattle.py_lines.proofs.Feeds.Steps.{open_stop, reached_by, within_held}
 
-pub keeps_on : (old mid new : Feed) → KeepsText old mid → KeepsText mid new → KeepsText old new
-keeps_on old mid new a b = record { held = b.held ∙ a.held; place = b.place ∙ a.place; line = b.line ∙ a.line; ended = b.ended ∙ a.ended }
+pub holds_self : (f : Feed) → Holds f f.held.items f.state.fault f
+holds_self f = record { held = refl; place = refl; line = refl; ended = refl; fault = refl }
 
-pub keeps_self : (f : Feed) → KeepsText f f
-keeps_self f = record { held = refl; place = refl; line = refl; ended = refl }
+-- what two calls leave, one after the other
+pub holds_on : {place line : ℕ} {ended : Bool} {items more others : List ℕ} {fault known also : Option Fault} {mid new : Feed}
+    → HoldsAt place line ended items fault mid → HoldsAt mid.state.place mid.state.line mid.ended more known new → more ≡ others → known ≡ also
+    → HoldsAt place line ended others also new
+holds_on a b is same = record { held = b.held ∙ is; place = b.place ∙ a.place; line = b.line ∙ a.line; ended = b.ended ∙ a.ended; fault = b.fault ∙ same }
 
--- a scan of the characters keeps all that is held
-pub scanned_keeps : (old new : Feed) → new ≡ record old { state = record old.state { scan = new.state.scan } } → KeepsText old new
-scanned_keeps old new same = record { held = ap (λ (f : Feed). f.held) same; place = ap (λ (f : Feed). f.state.place) same; line = ap (λ (f : Feed). f.state.line) same; ended = ap (λ (f : Feed). f.ended) same }
-
--- a fault keeps all that is held
-pub fails_keep : (old new : Feed) (kind : FaultKind) (offset : ℕ) (error : LexError) → FailsAt old kind offset error new → KeepsText old new
-fails_keep old new kind offset error fails = record {
-  held = ap (λ (f : Feed). f.held) fails.same;
-  place = ap (λ (s : LineState). s.place) fails.keeps.same;
-  line = ap (λ (s : LineState). s.line) fails.keeps.same;
-  ended = ap (λ (f : Feed). f.ended) fails.same;
-}
+-- what is held decides a fault, as a call found it that began before
+pub fails_from : (old mid new : Feed) {items : List ℕ} {known : Option Fault} (fault : Fault) → Holds old items known mid → FailsIn mid mid.held.items fault new → FailsIn old items fault new
+fails_from old mid new fault h (text, ready, decided) = (holds_on h text h.held refl, ready, rw (← h.held, ← h.place, ← h.line) decided)
 
 -- the scan that was begun anew is that of a line of which nothing was read
-pub begun_open : (was : LineState) (new : Feed) → BeginsAnew was new.state → IsOpen new [] new.held.items
+pub begun_open : (was : LineState) (new : Feed) → BeginsAnew was new.state → IsOpen new new.held.items
 begun_open was new b = record {
-  scalars = refl;
-  spell = refl;
+  read = [];
   way = subst (λ (n : ℕ). IsUnderWay (first_mode n) new.state.scan []) (sym (ap (λ (s : LineState). s.place) b.same))
       (record { state = line_start (first_mode was.place); steps = refl; tallies = b.tallies; stacked = b.stacked; one_line = tt });
-  number = b.number ∙ sym (ap (λ (s : LineState). s.line) b.same);
+  spell = refl;
+  scalars = refl;
+  line = b.number ∙ sym (ap (λ (s : LineState). s.line) b.same);
 }
 
 -- nothing that a caller sees has changed then
-pub begun_unchanged : (old new : Feed) (was : LineState) → new.ready ≡ None → new.ended ≡ old.ended → new.held.items ≡ old.held.items → was.place ≡ old.state.place → was.line ≡ old.state.line → was.fault ≡ old.state.fault → BeginsAnew was new.state → IsUnchanged old new
-begun_unchanged old new was ready ended items place line fault begins = record {
-  same = record {
-    held = items ∙ sym (append-nil old.held.items);
-    place = ap (λ (s : LineState). s.place) begins.same ∙ place;
-    line = ap (λ (s : LineState). s.line) begins.same ∙ line;
-    ended = ended;
-  };
-  ready = ready;
-  fault = ap (λ (s : LineState). s.fault) begins.same ∙ fault;
-  opens = ([], new.held.items, begun_open was new begins);
-}
-
--- all was scanned
-pub part_all : (f : Feed) (read rest : List ℕ) → IsOpen f read rest → f.ready ≡ None → f.state.scan.stop ≡ length f.held.items → IsScanned f.ready f
-part_all f read rest o ready done =
-    let none : rest ≡ [] = nil_from_length rest (omega (arith, open_stop f read rest o, open_size f read rest o, done)) in
-    let part : IsPartOfCharacter f [] = record { none = nothing_bad; more = part_none; last = λ returned. refl } in
-    subst (λ r. IsScanned r f) (sym ready) (read, [], subst (IsOpen f read) none o, part)
-
--- all except a part of a character
-pub part_left : (f : Feed) (read rest : List ℕ) → IsOpen f read rest → f.ready ≡ None → StartsWithNoChar rest → ¬ (IsHopeless rest) → is_returned f.state.scan ≡ false → IsScanned f.ready f
-part_left f read rest o ready none more open_yet = subst (λ r. IsScanned r f) (sym ready) (read, rest, o, record { none = none; more = more; last = λ returned. absurd (both_ways _ open_yet returned) })
-
--- the scan of what is held meets a fault, where a line is open
-fails_held : (old mid new : Feed) (read rest : List ℕ) (kind : FaultKind) (offset : ℕ) (error : LexError) → KeepsText old mid → mid.ready ≡ None → IsOpen mid read rest → FailsAt mid kind offset error new → ((e : LexError) → FailsAt mid kind offset e new → FailsNext mid read rest e new) → ScansHeld old (Err error) new
-fails_held old mid new read rest kind offset error keeps ready opens fails next =
-    let is = fails.keeps.error_is in
-    subst (λ (e : LexError). ScansHeld old (Err e) new) (sym is)
-    (record { mid = mid; text = keeps; not_ready = ready; read = read; rest = rest; opens = opens; fails = next _ (subst (λ (e : LexError). FailsAt mid kind offset e new) is fails) })
-
--- what is left begins no character, whatever follows
-pub part_fails : (f new : Feed) (read rest : List ℕ) (error : LexError) → IsOpen f read rest → f.ready ≡ None → IsHopeless rest → is_returned f.state.scan ≡ false → FailsAt f BadUtf8 f.state.scan.stop error new → ScansHeld f (Err error) new
-part_fails f new read rest error o ready hopeless open_yet fails =
-    fails_held f f new read rest BadUtf8 f.state.scan.stop error (keeps_self f) ready o fails (λ e at. FailsNext.at_bytes o.way hopeless open_yet at)
-
--- the next character is refused
-pub held_refused : (old mid new : Feed) (read rest : List ℕ) (c : ℕ) (line_fault : LineFault) (error : LexError) → KeepsText old mid → mid.ready ≡ None → StopsHeld mid (stops.Refused c) read rest → IsRefusal mid.state.scan c line_fault → FailsAt mid line_fault.kind line_fault.place error new → ScansHeld old (Err error) new
-held_refused old mid new read rest c line_fault error keeps ready (opens, after, scalar, spell, refuses, not_yet) is_line_fault fails =
-    fails_held old mid new read rest line_fault.kind line_fault.place error keeps ready opens fails
-    (λ e at. FailsNext.at_character c after scalar spell (record { way = opens.way; refuses = refuses; not_yet = not_yet; line_fault = line_fault; is_line_fault = is_line_fault; fails = at }))
-
--- a line has ended: it is ready
-pub held_ended : (f : Feed) (end_len : ℕ) (read rest : List ℕ) → IsEnded f end_len read rest → EndsWhole read rest
-    → ScansHeld f (Ok tt) (record f { ready = Some end_len })
-held_ended f end_len read rest e whole = (
-  record { held = refl; place = refl; line = refl; ended = refl },
-  refl,
-  record { all = read; after = rest; ended = record { scalars = e.scalars; spell = e.spell; at = e.at; number = e.number }; whole = whole },
+pub begun_unchanged : (old new : Feed) (was : LineState) → new.ready ≡ None → Holds old old.held.items old.state.fault (record new { state = was })
+    → BeginsAnew was new.state → IsUnchanged old new
+begun_unchanged old new was ready same begins = (
+  record {
+    held = same.held;
+    place = ap (λ (s : LineState). s.place) begins.same ∙ same.place;
+    line = ap (λ (s : LineState). s.line) begins.same ∙ same.line;
+    ended = same.ended;
+    fault = ap (λ (s : LineState). s.fault) begins.same ∙ same.fault;
+  },
+  ready,
+  (new.held.items, begun_open was new begins),
 )
 
--- the same, from where a scan of the characters came to
-pub held_from : (old mid new : Feed) (r : _) → KeepsText old mid → mid.ready ≡ old.ready → mid.state.fault ≡ old.state.fault → ScansHeld mid r new → ScansHeld old r new
-held_from old mid new (Ok done) keeps ready fault s = (keeps_on old mid new keeps s.0, s.1 ∙ fault, s.2)
-held_from old mid new (Err (lex.Fault f)) keeps ready fault s = record { mid = s.mid; text = keeps_on old mid s.mid keeps s.text; not_ready = s.not_ready; read = s.read; rest = s.rest; opens = s.opens; fails = s.fails }
-held_from old mid new (Err lex.Memory) keeps ready fault none = absurd none
+module _ (f new : Feed) (kind : FaultKind) (offset : ℕ) (error : LexError) (fails : FailsAt f kind offset error new) where
+  -- a fault keeps all that is held
+  pub fails_keep : Holds f f.held.items (Some fails.keeps.fault) new
+  fails_keep = record {
+    held = ap (λ (x : Feed). x.held.items) fails.same;
+    place = ap (λ (s : LineState). s.place) fails.keeps.same;
+    line = ap (λ (s : LineState). s.line) fails.keeps.same;
+    ended = ap (λ (x : Feed). x.ended) fails.same;
+    fault = ap (λ (s : LineState). s.fault) fails.keeps.same;
+  }
+
+  pub fails_ready : f.ready ≡ None → new.ready ≡ None
+  fails_ready none = ap (λ (x : Feed). x.ready) fails.same ∙ none
+
+  -- it stands after these characters of the line that is open
+  pub fault_after : (rest : List ℕ) (o : IsOpen f rest) (w : Within o.read offset) → IsFaultAfter f.state kind offset (encode_utf8_all w.prefix) fails.keeps.fault
+  fault_after rest o w = subst (λ b. IsFaultAfter f.state kind offset b fails.keeps.fault) (within_held f rest o offset w).1 fails.keeps.at
+
+  -- the scan of what is held meets a fault
+  pub fails_held : f.ready ≡ None → WhereHeld f.state.place f.state.line f.held.items (λ text lines. IsDecidedAt text f.state.place lines (length f.held.items) fails.keeps.fault)
+      → ScansHeld f (Err error) new
+  fails_held none decided = subst (λ (e : LexError). ScansHeld f (Err e) new) (sym fails.keeps.error_is) (fails_keep, fails_ready none, decided)
+
+module _ (f new : Feed) (error : LexError) (not_ready : f.ready ≡ None) where
+  -- what is left begins no character, whatever follows
+  pub part_fails : (s : StopsHeld f stops.TextEnd) → IsHopeless s.rest → is_returned f.state.scan ≡ false → FailsAt f BadUtf8 f.state.scan.stop error new → ScansHeld f (Err error) new
+  part_fails s hopeless not_yet fails =
+      let o = reached_by s s.stops.0 in
+      let some : 0 < length s.rest = ⊎_elim (λ more. more) (λ none. absurd (part_none (subst IsHopeless (nil_from_length s.rest (omega (arith, none))) hopeless))) (cases_lt 0 (length s.rest)) in
+      fails_held f new BadUtf8 f.state.scan.stop error fails not_ready (λ text lines first goes.
+      by_bytes text f.state lines f.held.items s.read s.rest first goes s.scalars s.spell s.stops.0 not_yet some hopeless fails.keeps.fault
+      (fault_after f new BadUtf8 f.state.scan.stop error fails s.rest o (record { prefix = s.read; later = []; split = append-nil s.read; size = open_stop f s.rest o })))
+
+  -- the next character is refused
+  pub held_refused : (c : ℕ) (s : StopsHeld f (stops.Refused c)) (line_fault : LineFault) → IsRefusal f.state.scan c line_fault → FailsAt f line_fault.kind line_fault.place error new → ScansHeld f (Err error) new
+  held_refused c s line_fault is_line_fault fails =
+      let (way, after, scalar, spell, refuses, not_yet) = s.stops in
+      let w = refused_within f.state.place f.state.scan s.read way c refuses line_fault is_line_fault in
+      fails_held f new line_fault.kind line_fault.place error fails not_ready (λ text lines first goes.
+      by_character text f.state lines f.held.items s.read s.rest first goes s.scalars s.spell way c after scalar spell refuses not_yet line_fault is_line_fault fails.keeps.fault w
+      (fault_after f new line_fault.kind line_fault.place error fails s.rest (reached_by s way) w))

@@ -168,7 +168,7 @@ module _ (f : Feed) (held : Vec ℕ) (state : LineState) (scan : Scan) (stands :
   begun = record f { state = state; held = held }
 
   unchanged : IsUnchanged f begun
-  unchanged = begun_unchanged f begun (record f.state { scan = scan }) (none_ready f f.ready stands.ready) refl kept refl refl refl anew
+  unchanged = begun_unchanged f begun (record f.state { scan = scan }) (none_ready f f.ready stands.ready) (record { held = kept; place = refl; line = refl; ended = refl; fault = refl }) anew
 
   pub begun_none : (bytes : List ℕ) (before : ℕ) → PassesPieceLines (scanning_of f) bytes before 0 (scanning_of begun)
   begun_none bytes before = passes_none (scanning_of f) (scanning_of begun) bytes before (runs_short f begun stands.no_fault (none_ready f f.ready stands.ready) unchanged).same
@@ -302,9 +302,8 @@ module _ (f : Feed) (bytes : List ℕ) (before stop : ℕ) (p : Passed) (stands 
               fits = omega (arith, place, room, fits);
               few_lines = omega (arith, place, line, few, sound.room.few_lines);
             };
-            state = subst (λ x. StandsSo x after) (sym not_ready)
+            state = subst (StandsSo after) (sym not_ready)
                 (λ no_fault. (
-                  [],
                   held.items,
                   begun_open (record f.state
                       { place = f.state.place + p.len; line = f.state.line + p.line_ends; scan = scan }) after anew,

@@ -5,18 +5,20 @@ use Rattle.std.specs.Prelude.{encode_utf8_all, IsUtf8, is_some}
 use Rattle.std.specs.Str.{all_scalars}
 use Rattle.std.proofs.lemmas.Str.{encodes_same}
 use Rattle.std.proofs.Math.Seq.{take-append_seam}
-use Rattle.py_lines.specs.Character.{is_line_feed, is_return}
-use Rattle.py_lines.specs.Piece.{Piece, begins, ends, line_end, spelled}
-use Rattle.py_lines.specs.LogicalLine.{LogicalLine, byte_len, line_ends, line_of}
+use Rattle.py_lines.specs.Piece.{Piece, ends, line_end, spelled}
+use Rattle.py_lines.specs.LogicalLine.{LogicalLine, byte_len, line_ends}
 use Rattle.py_lines.specs.Token.{EachLiesIn}
 use Rattle.py_lines.specs.ScannerState.{ScannerState}
 use Rattle.py_lines.specs.ScannerState.View.{line_of_feed, ready_of, scanning_of}
 use Rattle.py_lines.specs.declared.feed.Feed.{Feed}
 use Rattle.py_lines.specs.declared.line_state.LineState.{LineState}
-use Rattle.py_lines.specs.Private.Scan.{line_start}
+use Rattle.py_lines.specs.declared.mode.Mode.{Mode}
+use Rattle.py_lines.specs.declared.scan.Scan.{Scan}
+use Rattle.py_lines.specs.declared.scan.Stop.TheVariants as stops
+use Rattle.py_lines.specs.Private.Scan.{IsApart, ScansIn, line_start}
 use Rattle.py_lines.specs.Private.LineState.{first_mode, with_tokens}
 use Rattle.py_lines.specs.Private.LineTokens.{AreLineText, HoldsTokens, IsLineText}
-use Rattle.py_lines.specs.Private.Feed.{EndsLineHeld, HasRoom, HoldsLine, IsEnded, IsReady, IsSoundFeed, StandsSo, line_held}
+use Rattle.py_lines.specs.Private.Feed.{HasRoom, HoldsLine, IsReady, IsSoundFeed, StandsSo, StopsHeld, line_held}
 use Rattle.py_lines.proofs.Fields.OneReading.{one_fielded_reading}
 use Rattle.py_lines.proofs.Lexings.LineEnds.{read-alone}
 use Rattle.py_lines.proofs.LogicalLines.TokenPlaces.{tokens_lie}
@@ -46,16 +48,6 @@ holds_line f end_len read rest u scalars held number line = record {
   some = line.line.some;
 }
 
--- what the scan says of a line that its line end has closed
-pub ended_scan : (f : Feed) (end_len : ℕ) (read rest : List ℕ) (e : IsEnded f end_len read rest) (after : List ℕ) (h : ends is_return read ≡ true → begins is_line_feed after ≡ false) → IsScannedLine (line_start (first_mode f.state.place)) f.state.scan read end_len ((e.at after h).body ++ (e.at after h).last ∷ [])
-ended_scan f end_len read rest e after h = line_at_end (first_mode f.state.place) f.state.scan read (encode_utf8_all after) end_len (e.at after h) after refl
-
-abbrev pub ended_holds : (f : Feed) (end_len : ℕ) → EndsLineHeld end_len f → HoldsLine f end_len
-ended_holds f end_len e =
-    let at = e.ended.at [] (λ returned. refl) in
-    holds_line f end_len e.all e.after (at.body ++ at.last ∷ []) e.ended.scalars e.ended.spell e.ended.number
-    (ended_scan f end_len e.all e.after e.ended [] (λ returned. refl))
-
 -- a text that ends a line is that of one list of pieces
 same_pieces : (text : List ℕ) (body others : List Piece) (last end : Piece) → last.class ≡ line_end → end.class ≡ line_end
     → AreLineText text (body ++ last ∷ []) → AreLineText text (others ++ end ∷ []) → body ++ last ∷ [] ≡ others ++ end ∷ []
@@ -66,15 +58,32 @@ same_pieces text body others last end ends also one two =
     (record { spell = same; fit = read-alone body last one.after ends one.fit })
     (record { spell = refl; fit = read-alone others end two.after also two.fit })
 
--- the logical line of whatever pieces the line's text has, which a line end ends
-abbrev pub IsLineOfText : Feed → LogicalLine → Type 0
-IsLineOfText f l = (body : List Piece) (last : Piece) → last.class ≡ line_end
-    → AreLineText (take f.state.scan.stop f.held.items) (body ++ last ∷ []) → l ≡ line_of f.state.place f.state.line (body ++ last ∷ [])
+-- a line that its line end has closed
+module _ {m : Mode} {line : ℕ} {bytes : List ℕ} {scan : Scan} {end_len : ℕ} (s : ScansIn m line bytes scan (stops.LineEnd end_len)) where
+  -- its pieces, before what follows
+  abbrev pub pieces_before : (after : List ℕ) → IsApart s.read after → List Piece
+  pieces_before after h = (s.stops.0 after h).body ++ (s.stops.0 after h).last ∷ []
 
-pub ended_line_of : (f : Feed) (end_len : ℕ) (e : EndsLineHeld end_len f) → IsLineOfText f (line_held f end_len (ended_holds f end_len e))
-ended_line_of f end_len e body last class text =
-    let at = e.ended.at [] (λ returned. refl) in
-    ap (line_of f.state.place f.state.line) (same_pieces _ at.body body at.last last at.are.class class (ended_holds f end_len e).text text)
+  pub ended_scan : (after : List ℕ) (h : IsApart s.read after) → IsScannedLine (line_start m) scan s.read end_len (pieces_before after h)
+  ended_scan after h = line_at_end m scan s.read (encode_utf8_all after) end_len (s.stops.0 after h) after refl
+
+  -- and before nothing: they are the same
+  abbrev pub pieces_alone : List Piece
+  pieces_alone = pieces_before [] (λ returned. refl)
+
+  pub ended_alone : IsScannedLine (line_start m) scan s.read end_len pieces_alone
+  ended_alone = ended_scan [] (λ returned. refl)
+
+  pub same_before : (after : List ℕ) (h : IsApart s.read after) → pieces_before after h ≡ pieces_alone
+  same_before after h =
+      let at = s.stops.0 after h in
+      let alone = s.stops.0 [] (λ returned. refl) in
+      same_pieces (encode_utf8_all s.read) at.body alone.body at.last alone.last at.are.class alone.are.class
+      (line_text (line_start m) scan s.read end_len (pieces_before after h) s.scalars (ended_scan after h))
+      (line_text (line_start m) scan s.read end_len pieces_alone s.scalars ended_alone)
+
+abbrev pub ended_holds : (f : Feed) (end_len : ℕ) → StopsHeld f (stops.LineEnd end_len) → HoldsLine f end_len
+ended_holds f end_len s = holds_line f end_len s.read s.rest (pieces_alone s) s.scalars s.spell s.number (ended_alone s)
 
 -- the scanner as its callers see it, with this line ready
 abbrev pub with_line : Feed → Option LogicalLine → ScannerState
@@ -119,31 +128,18 @@ module _ (f : Feed) (end_len : ℕ) (h : HoldsLine f end_len) where
         }
 
     pub read_ready : f.ready ≡ Some end_len → HasRoom f 0 → (scanning_of with_read ≡ with_line (record f { ended = ended }) (Some (line_held f end_len h))) × IsSoundFeed with_read
-    read_ready ready room =
-        let holds : HoldsLine with_read end_len = record {
-          read = h.read;
-          rest = h.rest;
-          pieces = h.pieces;
-          scalars = h.scalars;
-          spell = h.spell;
-          spells = h.spells;
-          text = h.text;
-          number = h.number;
-          ends = h.ends;
-          stop = h.stop;
-          here = h.here;
-          some = h.some;
-        } in (
-          ap (with_line (record f { ended = ended })) (ap (ready_of with_read) ready ∙ ap Some line_read),
-          record {
-            room = record { fits = room.fits; few_lines = room.few_lines };
-            state = subst (λ r. StandsSo r with_read) (sym ready) (record { holds = holds; line_is = line_read });
-          },
-        )
+    read_ready ready room = (
+      ap (with_line (record f { ended = ended })) (ap (ready_of with_read) ready ∙ ap Some line_read),
+      record { room = room; state = subst (StandsSo with_read) (sym ready) (record { holds = h; line_is = line_read }) },
+    )
 
 pub ready_seen : (f : Feed) (end_len : ℕ) → f.ready ≡ Some end_len → (r : IsReady f end_len)
     → scanning_of f ≡ with_line f (Some (line_held f end_len r.holds))
 ready_seen f end_len is r = ap (with_line f) (ap (ready_of f) is ∙ ap Some r.line_is)
+
+pub none_is : (r : Option ℕ) → is_some r ≡ false → r ≡ None
+none_is None h = refl
+none_is (Some n) h = absurd (cc)
 
 pub some_is : (r : Option ℕ) → is_some r ≡ true → (n : ℕ) × (r ≡ Some n)
 some_is None h = absurd (cc)

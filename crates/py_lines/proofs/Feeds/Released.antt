@@ -74,7 +74,7 @@ module _ (text : List ℕ) (place line : ℕ) (lines : List LogicalLine) (read :
 pub ready_from : (f : Feed) → IsSoundFeed f → IsSome (ready_of f f.ready) → (n : ℕ) × (f.ready ≡ Some n) × IsReady f n
 ready_from f sound some = go f.ready refl sound.state some
   where
-    go : (ready : Option ℕ) → f.ready ≡ ready → StandsSo ready f → IsSome (ready_of f ready) → (n : ℕ) × (f.ready ≡ Some n) × IsReady f n
+    go : (ready : Option ℕ) → f.ready ≡ ready → StandsSo f ready → IsSome (ready_of f ready) → (n : ℕ) × (f.ready ≡ Some n) × IsReady f n
     go None is stands some = absurd (both_ways _ refl some)
     go (Some n) is stands some = (n, is, stands)
 
@@ -169,7 +169,7 @@ module _ (old new : Feed) (n : ℕ) (r : HoldsLine old n) (go : LetsGo old new) 
       fits = omega (arith, fed_is, room.fits);
       few_lines = omega (arith, go.place, go.line, r.stop, r.here, line_ends-bytes r.read, room.few_lines);
     };
-    state = subst (λ x. StandsSo x new) (sym go.ready) (λ no_fault. ([], new.held.items, go.opens));
+    state = subst (StandsSo new) (sym go.ready) (λ no_fault. (new.held.items, go.opens));
   }
 
 -- both, where a caller sees a line that is ready

@@ -1,8 +1,7 @@
 use Rattle.std.proofs.Common.{sym, ◌∙◌, arith}
 use Rattle.std.proofs.lemmas.Result.{err_from_is_err_and}
-use Rattle.py_lines.proofs.Feeds.Chunks.{none_is}
 use Rattle.py_lines.proofs.Feeds.FedScanner.{fed_error, fed_holds, fed_open, fed_read, fed_room, fed_short, waits_so}
-use Rattle.py_lines.proofs.Feeds.ReadyLines.{held_line_text, held_within}
+use Rattle.py_lines.proofs.Feeds.ReadyLines.{held_line_text, held_within, none_is}
 use Rattle.py_lines.proofs.feed.Feed.feed.Goals as goal
 
 pub returns-then-branch-clause-feeds : goal.returns-then-branch-clause-feeds

@@ -3,10 +3,9 @@ use Rattle.std.proofs.lemmas.List.{length-take-le}
 use Rattle.std.proofs.lemmas.Result.{err_from_is_err_and}
 use Rattle.py_lines.specs.ScannerState.{LacksBoth}
 use Rattle.py_lines.specs.ScannerState.View.{scanning_of}
-use Rattle.py_lines.proofs.Feeds.Chunks.{none_is}
 use Rattle.py_lines.proofs.Feeds.FedScanner.{fed_error, fed_holds, fed_named, fed_open, fed_released, fed_room, fed_short, naming_error}
 use Rattle.py_lines.proofs.Feeds.FedScanner.{naming_same, no_line, waits_so}
-use Rattle.py_lines.proofs.Feeds.ReadyLines.{held_line_text, held_within}
+use Rattle.py_lines.proofs.Feeds.ReadyLines.{held_line_text, held_within, none_is}
 use Rattle.py_lines.proofs.feed.Feed.feed_naming.Goals as goal
 
 pub returns-then-branch-clause-feeds : goal.returns-then-branch-clause-feeds

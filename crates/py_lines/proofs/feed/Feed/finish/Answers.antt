@@ -5,8 +5,7 @@ use Rattle.py_lines.specs.declared.feed.Feed.{Feed}
 use Rattle.py_lines.specs.Private.Feed.{IsSoundFeed}
 use Rattle.std.proofs.lemmas.Result.{err_from_is_err_and}
 use Rattle.py_lines.proofs.Feeds.FinishedHeld.{ended_now, finish_none, finish_read, finish_short, last_here, last_room}
-use Rattle.py_lines.proofs.Feeds.Chunks.{none_is}
-use Rattle.py_lines.proofs.Feeds.ReadyLines.{held_line_text, held_within}
+use Rattle.py_lines.proofs.Feeds.ReadyLines.{held_line_text, held_within, none_is}
 use Rattle.py_lines.proofs.feed.Feed.finish.Goals.{then-is_some+in_ok-read_tokens, else-is_some}
 use Rattle.py_lines.proofs.feed.Feed.finish.Goals as goal
 

@@ -1,9 +1,31 @@
-use Rattle.std.proofs.Common.{ap}
-use Rattle.py_lines.specs.declared.feed.Feed.{Feed}
-use Rattle.py_lines.proofs.Feeds.Loops.{held_from, scanned_keeps}
+use Rattle.std.proofs.Common.{length, sym, ap, subst, arith}
+use Rattle.py_lines.specs.Private.Run.{Reached}
+use Rattle.py_lines.specs.Private.LineState.{first_mode}
+use Rattle.py_lines.proofs.LineScan.TextSteps.{begun_sound}
+use Rattle.py_lines.proofs.Feeds.Steps.{open_stop, open_size, open_within, next_is}
 use Rattle.py_lines.proofs.feed.Feed.scan_held.Goals as goal
 
-pub returns : goal.returns
-returns c =
-    let same = c.scan_characters-stop.ensures.0 in
-    held_from c.args.self.now c.scan_characters-stop.new.self c.meet.new.self c.meet.result (scanned_keeps c.args.self.now c.scan_characters-stop.new.self same) (ap (λ (f : Feed). f.ready) same) (ap (λ (f : Feed). f.state.fault) same) c.meet.ensures
+pub slice_bounds-extend-count : goal.slice_bounds-extend-count
+slice_bounds-extend-count c = let o = c.requires.opens in omega (arith, open_within c.args.self.now o.0 o.1 _ c.deref.ensures.value)
+
+pub slice_bounds-extend-start : goal.slice_bounds-extend-start
+slice_bounds-extend-start c = let o = c.requires.opens in omega (arith, open_within c.args.self.now o.0 o.1 _ c.deref.ensures.value)
+
+pub extend-stop-requires-clause-way : goal.extend-stop-requires-clause-way
+extend-stop-requires-clause-way c =
+    let o = c.requires.opens in
+    let f = c.args.self.now in
+    (first_mode f.state.place, f.state.line, f.held.items, begun_sound f.state.place, subst (Reached (first_mode f.state.place) f.state.line f.held.items f.state.scan) (sym (next_is f o.0 o.1 c.deref.result.now c.deref.ensures.value)) o.1)
+
+pub extend-stop-requires-clause-lines : goal.extend-stop-requires-clause-lines
+extend-stop-requires-clause-lines c =
+    let o = c.requires.opens in
+    let f = c.args.self.now in
+    omega (arith, open_stop f o.0 o.1, open_size f o.0 o.1, o.1.line, c.requires.room.fits, c.requires.room.few_lines, ap length (next_is f o.0 o.1 c.deref.result.now c.deref.ensures.value))
+
+pub meet-requires-clause-stops : goal.meet-requires-clause-stops
+meet-requires-clause-stops c =
+    let o = c.requires.opens in
+    let f = c.args.self.now in
+    c.extend-stop.ensures.stops (first_mode f.state.place) f.state.line f.held.items (begun_sound f.state.place)
+    (subst (Reached (first_mode f.state.place) f.state.line f.held.items f.state.scan) (sym (next_is f o.0 o.1 c.deref.result.now c.deref.ensures.value)) o.1)

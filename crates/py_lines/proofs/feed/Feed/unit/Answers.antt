@@ -8,13 +8,13 @@ use Rattle.py_lines.proofs.feed.Feed.unit.Goals as goal
 pub from_utf8_unchecked-text-requires : goal.from_utf8_unchecked-text-requires
 from_utf8_unchecked-text-requires c =
     let f = c.args.self.now in
-    let r : IsReady f c.in_ok-end_len.end_len = subst (λ r. StandsSo r f) c.in_ok-end_len.was c.requires.state in
+    let r : IsReady f c.in_ok-end_len.end_len = subst (StandsSo f) c.in_ok-end_len.was c.requires.state in
     subst (λ (t : List ℕ). IsUtf8 (take f.state.scan.stop t)) (sym c.deref.ensures.value) (held_utf8 f c.in_ok-end_len.end_len r.holds)
 
 pub unit-requires-clause-tokens : goal.unit-requires-clause-tokens
 unit-requires-clause-tokens c =
     let f = c.args.self.now in
-    let r : IsReady f c.in_ok-end_len.end_len = subst (λ r. StandsSo r f) c.in_ok-end_len.was c.requires.state in
+    let r : IsReady f c.in_ok-end_len.end_len = subst (StandsSo f) c.in_ok-end_len.was c.requires.state in
     let text : c.from_utf8_unchecked-text.result.now ≡ take f.state.scan.stop f.held.items = c.from_utf8_unchecked-text.ensures ∙ ap (take f.state.scan.stop) c.deref.ensures.value in
     subst (λ (t : List ℕ). EachLiesIn t f.state.tokens.tokens.items) (sym text) (ready_lies f c.in_ok-end_len.end_len r)
 
