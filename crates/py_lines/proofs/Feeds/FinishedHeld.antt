@@ -12,7 +12,7 @@ use Rattle.py_lines.specs.Private.Feed.{EndsText, HasEndedText, HasReadTokens, H
 use Rattle.py_lines.specs.Private.Feed.{ScansHeld, StandsSo, StopsHeld, line_held}
 use Rattle.py_lines.specs.declared.scan.Stop.TheVariants as stops
 use Rattle.py_lines.proofs.Feeds.Known.{first_at, goes_at}
-use Rattle.py_lines.proofs.Feeds.Ended.{ended_empty}
+use Rattle.py_lines.proofs.Lexings.FirstLines.{all_first}
 use Rattle.py_lines.proofs.Feeds.FedHeld.{never_before}
 use Rattle.py_lines.proofs.Feeds.ReadyLines.{ended_holds, read_ready, some_is, with_line}
 use Rattle.py_lines.proofs.Feeds.Steps.{reached_by}
@@ -47,7 +47,7 @@ module _ (old mid : Feed) (keeps : Holds old old.held.items old.state.fault mid)
         holds = subst (λ r. HoldsSo mid r None) (sym not_ready) (refl, λ no_fault. (s.0.rest, reached_by s.0 s.0.stops.0));
         lexed = λ text lines scanning whole. (
           subst (λ l. IsLexed text l None) (sym (append-nil lines))
-              (ended_empty text old.state.place old.state.line lines scanning.first (omega (arith, whole, ap length keeps.held, ap length none))),
+              (all_first text old.state.place old.state.line lines scanning.first (omega (arith, whole, ap length keeps.held, ap length none))),
           tt,
         );
       }

@@ -79,6 +79,15 @@ pub record IsKnown (text : List ℕ) (place line : ℕ) (lines : List LogicalLin
   pub beyond : List ℕ
   pub follow : encode_utf8_all more ++ tail ≡ rest ++ beyond
 
+-- what comes after the lines given
+left_after : {text : List ℕ} {place line : ℕ} {lines : List LogicalLine} (first : AreFirstLines text place line lines) → text ≡ encode_utf8_all (spelled first.pieces) ++ (encode_utf8_all first.rest ++ first.tail)
+left_after first =
+    sym first.decodes.spell ∙ ap (λ t. encode_utf8_all t ++ first.tail) (sym first.spell) ∙ ap (λ t. t ++ first.tail) (encodes-append (spelled first.pieces) first.rest)
+    ∙ append_assoc (encode_utf8_all (spelled first.pieces)) (encode_utf8_all first.rest) first.tail
+
+from_there : {text : List ℕ} {place line : ℕ} {lines : List LogicalLine} (first : AreFirstLines text place line lines) → drop place text ≡ encode_utf8_all first.rest ++ first.tail
+from_there {text} first = ap (λ (n : ℕ). drop n text) first.here ∙ ap (drop (byte_len (spelled first.pieces))) (left_after first) ∙ drop-append_seam (encode_utf8_all (spelled first.pieces)) (encode_utf8_all first.rest ++ first.tail)
+
 -- where the lines given end a line
 pub known_after : (text : List ℕ) (place line : ℕ) (lines : List LogicalLine) (read rest : List ℕ) (first : AreFirstLines text place line lines) → all_scalars read ≡ true → GoesOnWith text place (encode_utf8_all read ++ rest) → EndsLine first.pieces → IsKnown text place line lines read rest
 known_after text place line lines read rest first fine goes ends =
@@ -86,10 +95,8 @@ known_after text place line lines read rest first fine goes ends =
     let held = encode_utf8_all read ++ rest in
     let left = encode_utf8_all first.rest ++ first.tail in
     let bytes = encode_utf8_all (spelled base) in
-    let whole : text ≡ bytes ++ left = sym first.decodes.spell ∙ ap (λ t. encode_utf8_all t ++ first.tail) (sym first.spell) ∙ ap (λ t. t ++ first.tail) (encodes-append (spelled base) first.rest) ∙ append_assoc bytes (encode_utf8_all first.rest) first.tail in
-    let from_there : drop place text ≡ left = ap (λ (n : ℕ). drop n text) first.here ∙ ap (drop (byte_len (spelled base))) whole ∙ drop-append_seam bytes left in
-    let prefix : take place text ≡ bytes = ap (λ (n : ℕ). take n text) first.here ∙ ap (take (byte_len (spelled base))) whole ∙ take-append_seam bytes left in
-    let taken : take (length held) left ≡ held = ap (take (length held)) (sym from_there) ∙ goes in
+    let prefix : take place text ≡ bytes = ap (λ (n : ℕ). take n text) first.here ∙ ap (take (byte_len (spelled base))) (left_after first) ∙ take-append_seam bytes left in
+    let taken : take (length held) left ≡ held = ap (take (length held)) (sym (from_there first)) ∙ goes in
     let split : encode_utf8_all read ++ (rest ++ drop (length held) left) ≡ left = sym (append_assoc (encode_utf8_all read) rest (drop (length held) left)) ∙ ap (λ t. t ++ drop (length held) left) (sym taken) ∙ take-append-drop (length held) left in
     let parts = all_scalars-parts (spelled base) first.rest (ap all_scalars first.spell ∙ first.decodes.are) in
     let on = goes_on read (rest ++ drop (length held) left) first.rest first.tail fine parts.1 first.decodes.bad split in
@@ -115,12 +122,8 @@ known_after text place line lines read rest first fine goes ends =
 pub is_known : (text : List ℕ) (place line : ℕ) (lines : List LogicalLine) (read rest : List ℕ) → AreFirstLines text place line lines → all_scalars read ≡ true → GoesOnWith text place (encode_utf8_all read ++ rest) → 0 < length (encode_utf8_all read ++ rest) → IsKnown text place line lines read rest
 is_known text place line lines read rest first fine goes some = known_after text place line lines read rest first fine goes (⊎_elim (λ good. good.0) (λ nothing. absurd (
     let held = encode_utf8_all read ++ rest in
-    let left = encode_utf8_all first.rest ++ first.tail in
-    let bytes = encode_utf8_all (spelled first.pieces) in
-    let whole : text ≡ bytes ++ left = sym first.decodes.spell ∙ ap (λ t. encode_utf8_all t ++ first.tail) (sym first.spell) ∙ ap (λ t. t ++ first.tail) (encodes-append (spelled first.pieces) first.rest) ∙ append_assoc bytes (encode_utf8_all first.rest) first.tail in
-    let from_there : drop place text ≡ left = ap (λ (n : ℕ). drop n text) first.here ∙ ap (drop (byte_len (spelled first.pieces))) whole ∙ drop-append_seam bytes left in
     let none = both_none first.rest first.tail nothing in
-    omega (arith, some, length-append (encode_utf8_all first.rest) first.tail, ap byte_len none.0, ap length none.1, ap length goes, ap length from_there, length-take (length held) (drop place text)))) first.ended)
+    omega (arith, some, length-append (encode_utf8_all first.rest) first.tail, ap byte_len none.0, ap length none.1, ap length goes, ap length (from_there first), length-take (length held) (drop place text)))) first.ended)
 
 module _ (text : List ℕ) (place line : ℕ) (lines : List LogicalLine) (read rest : List ℕ) (k : IsKnown text place line lines read rest) where
   abbrev pub bytes : List ℕ

@@ -3,13 +3,15 @@ use Rattle.std.proofs.Common.{◌≡◌, ℕ, ◌+◌, List, [], ◌∷◌, ◌+
 use Rattle.std.specs.Prelude.{encode_utf8_all, IsSome}
 use Rattle.std.proofs.lemmas.List.{take-append-drop, append_cancel_left, drop-drop}
 use Rattle.std.proofs.lemmas.Str.{encodes-append, encodes_same}
-use Rattle.py_lines.specs.Piece.{spelled}
+use Rattle.py_lines.specs.Piece.{Piece, spelled}
 use Rattle.py_lines.specs.Fields.{AreReadBefore}
 use Rattle.py_lines.specs.Lexed.{IsLexedWhole, IsLexed}
 use Rattle.py_lines.specs.Settled.{IsSettled}
 use Rattle.py_lines.specs.Given.{AreFirstLines}
-use Rattle.py_lines.specs.LogicalLine.{LogicalLine, byte_len, line_ends}
-use Rattle.py_lines.proofs.Text.Utf8Prefixes.{one_decoding}
+use Rattle.py_lines.specs.LogicalLine.{LogicalLine, byte_len, line_ends, lines_of}
+use Rattle.py_lines.proofs.Text.Utf8Prefixes.{one_decoding, all_scalars-parts}
+use Rattle.py_lines.proofs.Text.Continued.{goes_on}
+use Rattle.py_lines.proofs.Text.Decoding.{decoding}
 use Rattle.py_lines.proofs.LogicalLines.Cuts.{byte_len-append}
 use Rattle.py_lines.proofs.LogicalLines.NextLine.{texts, texts-append, texts-lines}
 use Rattle.py_lines.proofs.Lexings.FirstLines.{base_lines}
@@ -25,11 +27,15 @@ use Rattle.py_lines.specs.Private.Feed.{HasRoom, HoldsLine, IsReady, StandsSo, I
 use Rattle.py_lines.proofs.LineScan.LineCount.{line_ends-bytes}
 use Rattle.py_lines.proofs.Feeds.ReadyLines.{ready_seen, with_line}
 
+-- the pieces of the lines given and one more spell its characters after those of the lines given
+spells_more : (first all : List Piece) (lines : List LogicalLine) (l : LogicalLine) (read : List ℕ) → lines ≡ lines_of first → lines ++ l ∷ [] ≡ lines_of all → l.text ≡ encode_utf8_all read → spelled all ≡ spelled first ++ read
+spells_more first all lines l read given more same = encodes_same (spelled all) (spelled first ++ read)
+    (sym (texts-lines all) ∙ ap texts (sym more) ∙ texts-append lines (l ∷ []) ∙ ap (λ t. texts lines ++ t) (append-nil l.text ∙ same) ∙ ap (λ t. t ++ encode_utf8_all read) (ap texts given ∙ texts-lines first) ∙ sym (encodes-append (spelled first) read))
+
 -- the settled lines are those given and one more: it reaches as far as its text
 module _ (text : List ℕ) (place line : ℕ) (lines : List LogicalLine) (read rest : List ℕ) (k : IsKnown text place line lines read rest) (l : LogicalLine) (same : l.text ≡ encode_utf8_all read) (s : IsSettled (of.bytes text place line lines read rest k) (lines ++ l ∷ [])) where
   spells : spelled s.pieces ≡ spelled k.base ++ read
-  spells = encodes_same (spelled s.pieces) (spelled k.base ++ read)
-      (sym (texts-lines s.pieces) ∙ ap texts (sym s.cut) ∙ texts-append lines (l ∷ []) ∙ ap (λ t. texts lines ++ t) (append-nil l.text ∙ same) ∙ ap (λ t. t ++ encode_utf8_all read) (ap texts k.cut ∙ texts-lines k.base) ∙ sym (encodes-append (spelled k.base) read))
+  spells = spells_more k.base s.pieces lines l read k.cut s.cut same
 
   pub released : AreFirstLines text (place + byte_len read) (line + line_ends read) (lines ++ l ∷ [])
   released =
@@ -43,8 +49,7 @@ module _ (text : List ℕ) (place line : ℕ) (lines : List LogicalLine) (read r
 -- The text's last line is released: the lines before it and this one are the first of the text, up to its end.
 module _ (text : List ℕ) (place line : ℕ) (lines : List LogicalLine) (read : List ℕ) (l : LogicalLine) (same : l.text ≡ encode_utf8_all read) (first : AreFirstLines text place line lines) (all : IsLexedWhole text (lines ++ l ∷ [])) where
   last_spells : spelled all.pieces ≡ spelled first.pieces ++ read
-  last_spells = encodes_same (spelled all.pieces) (spelled first.pieces ++ read)
-      (sym (texts-lines all.pieces) ∙ ap texts (sym all.cut) ∙ texts-append lines (l ∷ []) ∙ ap (λ t. texts lines ++ t) (append-nil l.text ∙ same) ∙ ap (λ t. t ++ encode_utf8_all read) (ap texts first.cut ∙ texts-lines first.pieces) ∙ sym (encodes-append (spelled first.pieces) read))
+  last_spells = spells_more first.pieces all.pieces lines l read first.cut all.cut same
 
   last_rest : first.rest ≡ read
   last_rest =

@@ -17,10 +17,6 @@ abbrev parts_spelled : List (List Piece) → List ℕ
 parts_spelled [] = []
 parts_spelled (u ∷ us) = spelled u ++ parts_spelled us
 
-abbrev parts_bytes : List (List Piece) → ℕ
-parts_bytes [] = 0
-parts_bytes (u ∷ us) = byte_len (spelled u) + parts_bytes us
-
 abbrev parts_lines : List (List Piece) → ℕ
 parts_lines [] = 0
 parts_lines (u ∷ us) = line_ends (spelled u) + parts_lines us
@@ -35,17 +31,6 @@ cut_spelled d (p ∷ ps) =
     cond_both (is_line_end_class p.class && (d == 0)) _ _ (λ us. parts_spelled us ≡ p.text ++ spelled ps)
     (λ h. ap (λ t. t ++ parts_spelled (cut d ps)) (append-nil p.text) ∙ ap (λ t. p.text ++ t) (cut_spelled d ps))
     (λ h. put_spelled p (cut (depth_after d p) ps) ∙ ap (λ t. p.text ++ t) (cut_spelled (depth_after d p) ps))
-
-put_bytes : (p : Piece) (us : List (List Piece)) → parts_bytes (put_first p us) ≡ byte_len p.text + parts_bytes us
-put_bytes p [] = ap (λ t. byte_len t + 0) (append-nil p.text)
-put_bytes p (u ∷ us) = ap (λ (n : ℕ). n + parts_bytes us) (byte_len-append p.text (spelled u)) ∙ add_assoc (byte_len p.text) (byte_len (spelled u)) (parts_bytes us)
-
-cut_bytes : (d : ℕ) (ps : List Piece) → parts_bytes (cut d ps) ≡ byte_len (spelled ps)
-cut_bytes d [] = refl
-cut_bytes d (p ∷ ps) =
-    cond_both (is_line_end_class p.class && (d == 0)) _ _ (λ us. parts_bytes us ≡ byte_len (p.text ++ spelled ps))
-    (λ h. ap (λ t. byte_len t + parts_bytes (cut d ps)) (append-nil p.text) ∙ ap (λ (n : ℕ). byte_len p.text + n) (cut_bytes d ps) ∙ sym (byte_len-append p.text (spelled ps)))
-    (λ h. put_bytes p (cut (depth_after d p) ps) ∙ ap (λ (n : ℕ). byte_len p.text + n) (cut_bytes (depth_after d p) ps) ∙ sym (byte_len-append p.text (spelled ps)))
 
 pub begins-prefix : (p : ℕ → Bool) (xs ys : List ℕ) → begins p (xs ++ ys) ≡ false → begins p xs ≡ false
 begins-prefix p [] ys h = refl
@@ -76,7 +61,7 @@ line_ends-spelled (p ∷ ps) rest fit =
     line_ends-append p.text (spelled ps) (uncut-prefix (ends is_return p.text) (spelled ps) rest (uncut p.class p.text (spelled ps ++ rest) fit.0 fit.1))
     ∙ ap (λ (n : ℕ). line_ends p.text + n) (line_ends-spelled ps rest fit.3)
 
-lines_from-append : (offset line : ℕ) (us vs : List (List Piece)) → lines_from offset line (us ++ vs) ≡ lines_from offset line us ++ lines_from (offset + parts_bytes us) (line + parts_lines us) vs
+lines_from-append : (offset line : ℕ) (us vs : List (List Piece)) → lines_from offset line (us ++ vs) ≡ lines_from offset line us ++ lines_from (offset + byte_len (parts_spelled us)) (line + parts_lines us) vs
 lines_from-append offset line [] vs =
     let one : offset + 0 ≡ offset = omega arith in
     let two : line + 0 ≡ line = omega arith in
@@ -86,24 +71,24 @@ lines_from-append offset line (u ∷ us) vs =
     let l = line_ends (spelled u) in
     ap (λ x. line_of offset line u ∷ x)
     (lines_from-append (offset + b) (line + l) us vs
-    ∙ ap (λ (n : ℕ). lines_from (offset + b) (line + l) us ++ lines_from n ((line + l) + parts_lines us) vs) (add_assoc offset b (parts_bytes us))
-    ∙ ap (λ (n : ℕ). lines_from (offset + b) (line + l) us ++ lines_from (offset + (b + parts_bytes us)) n vs) (add_assoc line l (parts_lines us)))
+    ∙ ap (λ (n : ℕ). lines_from (offset + b) (line + l) us ++ lines_from n ((line + l) + parts_lines us) vs) (add_assoc offset b (byte_len (parts_spelled us)) ∙ ap (λ (n : ℕ). offset + n) (sym (byte_len-append (spelled u) (parts_spelled us))))
+    ∙ ap (λ (n : ℕ). lines_from (offset + b) (line + l) us ++ lines_from (offset + byte_len (spelled u ++ parts_spelled us)) n vs) (add_assoc line l (parts_lines us)))
 
 -- a logical line after those given: its offset and its line are those of its place
 pub lines_of-push : (given unit : List Piece) (rest : List ℕ) → EndsLine given → cut 0 unit ≡ unit ∷ [] → AreReadBefore (given ++ unit) rest → lines_of (given ++ unit) ≡ lines_of given ++ line_of (byte_len (spelled given)) (1 + line_ends (spelled given)) unit ∷ []
 lines_of-push given unit rest ended one fit =
     let first = AreReadBefore-first given unit rest fit in
     let lines : parts_lines (cut 0 given) ≡ line_ends (spelled given) = cut_lines 0 given (spelled unit ++ rest) first ∙ sym (line_ends-spelled given (spelled unit ++ rest) first) in
-    let zero_more : 0 + parts_bytes (cut 0 given) ≡ parts_bytes (cut 0 given) = omega arith in
+    let bytes : 0 + byte_len (parts_spelled (cut 0 given)) ≡ byte_len (spelled given) = omega (arith, ap byte_len (cut_spelled 0 given)) in
     ap (lines_from 0 1) (cut-append given unit ended ∙ ap (λ us. cut 0 given ++ us) one)
     ∙ lines_from-append 0 1 (cut 0 given) (unit ∷ [])
-    ∙ ap (λ (n : ℕ). lines_of given ++ line_of n (1 + parts_lines (cut 0 given)) unit ∷ []) (zero_more ∙ cut_bytes 0 given)
+    ∙ ap (λ (n : ℕ). lines_of given ++ line_of n (1 + parts_lines (cut 0 given)) unit ∷ []) bytes
     ∙ ap (λ (n : ℕ). lines_of given ++ line_of (byte_len (spelled given)) (1 + n) unit ∷ []) lines
 
 -- the logical lines of pieces that end a line stay, whatever pieces follow
 pub lines_of-more : (given others : List Piece) → EndsLine given → (more : List LogicalLine) × (lines_of (given ++ others) ≡ lines_of given ++ more)
 lines_of-more given others ended = (
-  lines_from (0 + parts_bytes (cut 0 given)) (1 + parts_lines (cut 0 given)) (cut 0 others),
+  lines_from (0 + byte_len (parts_spelled (cut 0 given))) (1 + parts_lines (cut 0 given)) (cut 0 others),
   ap (lines_from 0 1) (cut-append given others ended) ∙ lines_from-append 0 1 (cut 0 given) (cut 0 others),
 )
 

@@ -2,6 +2,7 @@
 use Rattle.std.proofs.Common.{◌≡◌, ℕ, ◌+◌, ◌-◌, List, [], ◌∷◌, ◌++◌, map, length, length-append, take, drop, refl, sym, ap, ◌∙◌, append_assoc, arith}
 use Rattle.std.specs.Prelude.{encode_utf8_all, slice_range, if◌then◌else◌}
 use Rattle.std.proofs.Math.Seq.{drop-append_seam, take-append_seam}
+use Rattle.std.proofs.lemmas.List.{map-append}
 use Rattle.std.proofs.lemmas.Str.{encodes-append}
 use Rattle.py_lines.specs.Character.{is_digit}
 use Rattle.py_lines.specs.Piece.{Class, word, string, operator, comment, Piece, begins, spelled}
@@ -20,10 +21,6 @@ one_word b c line string text = λ i. record { kind = kind.Str; bytes = slice_se
 one_word b c line operator text = λ i. record { kind = kind.Op (first_or_zero text); bytes = slice_seam b (encode_utf8_all text) c i } ∷ []
 one_word b c line comment text = λ i. record { kind = kind.Remark; bytes = slice_seam b (encode_utf8_all text) c i } ∷ []
 one_word b c line class text = refl
-
-map-append : {A B : Type 0} (f : A → B) (xs ys : List A) → map f (xs ++ ys) ≡ map f xs ++ map f ys
-map-append f [] ys = refl
-map-append f (x ∷ xs) ys = ap (λ l. f x ∷ l) (map-append f xs ys)
 
 words_after : (b : List ℕ) (line : ℕ) (ps : List Piece) → map (word_in (b ++ encode_utf8_all (spelled ps))) (tokens_from (length b) line ps) ≡ words_of ps
 words_after b line [] = refl
