@@ -112,7 +112,7 @@ impl Feed {
     ghost use Rattle.py_lines.specs.ScannerState.{begun_at, Feeds, FeedsNaming, Finishes, PassesPieceLines, StandsAtLine};
     ghost use Rattle.py_lines.specs.ScannerState.View.{ready_of, scanning_of};
     ghost use Rattle.py_lines.specs.UnitLine.{line_in};
-    ghost use Rattle.py_lines.specs.Private.Feed.{HasRoom, IsOpen, IsHeldOpen, FailsAt, ReadsTokens, ScansHeld, StopsHeld, IsScanned};
+    ghost use Rattle.py_lines.specs.Private.Feed.{HasRoom, IsOpen, IsHeldOpen, IsCutAt, FailsAt, ReadsTokens, ScansHeld, StopsHeld, IsScanned};
     ghost use Rattle.py_lines.specs.Private.Feed.{whole_end, GivesBack, TakesChunk, TakesSo, WaitsSo, HoldsLine, IsSoundFeed, EndsText, LetsGo};
 
     /// At this byte of a text, which is on this line. Nothing was fed.
@@ -130,8 +130,7 @@ impl Feed {
 
     /// The text has this fault, from now on. It stands so many bytes after the lines that were released.
     fn fail(&mut self, kind: FaultKind, offset: usize) -> LexError
-        requires within { offset ≤ length self.old.held.items }
-        requires text { IsUtf8 (take offset self.old.held.items) }
+        requires cut { IsCutAt self.old offset }
         requires room { HasRoom self.old 0 }
         ensures { FailsAt self.old kind offset result self.new }
     {

@@ -48,20 +48,14 @@ module _ (text : List ℕ) (place : ℕ) {line : ℕ} {bytes : List ℕ} {scan :
   next_line : IsNextLine place s.read known.more (pieces_alone s)
   next_line =
       let at = s.stops.0 known.more apart in
-      let line = (ended_scan s known.more apart).line in
       subst (IsNextLine place s.read known.more) (same_before s known.more apart) (record {
         body = at.body;
         last = at.last;
         is = refl;
         class = at.are.class;
         level = at.are.level;
-        spell = line.spell;
         fit = at.fit known.more refl;
-        whole = line.whole;
-        stacked = line.stacked;
-        strings = line.strings;
-        to = line.to;
-        steps = line.steps;
+        line = (ended_scan s known.more apart).line;
       })
 
   -- the lines given aren't all that is settled
@@ -70,7 +64,7 @@ module _ (text : List ℕ) (place : ℕ) {line : ℕ} {bytes : List ℕ} {scan :
       let some = (ended_alone s).line.some in
       ended_before text place line lines s.read s.rest known (pieces_alone s) next_line
       (subst (λ l. IsSettled (take (place + length l) text) lines) (sym s.spell) (settled (omega (arith, some, ap length s.spell, length-append (encode_utf8_all s.read) s.rest))))
-      (λ none. ap (ends is_return) next_line.spell ∙ by_whole s.stops.1 none) (by_some s.read some)
+      (λ none. ap (ends is_return) next_line.line.spell ∙ by_whole s.stops.1 none) (by_some s.read some)
     where
       by_whole : EndsWhole s.read s.rest → s.rest ≡ [] → ends is_return s.read ≡ false
       by_whole (inl feed) none = feed
@@ -83,7 +77,7 @@ module _ (text : List ℕ) (place : ℕ) {line : ℕ} {bytes : List ℕ} {scan :
   -- where they are the line, with one byte more after CR alone, it is settled
   settled_fed : EndsExactly s.read s.rest → IsSettled (take (place + length bytes) text) (lines ++ line_of place line (pieces_alone s) ∷ [])
   settled_fed exact =
-      let follow : Follow (pieces_alone s) s.rest = ⊎_elim (λ done. Follow.by_feed done.1 (ap (ends is_return) next_line.spell ∙ done.0)) (λ one. Follow.by_byte one.1.0 one.1.1 one.1.2) exact in
+      let follow : Follow (pieces_alone s) s.rest = ⊎_elim (λ done. Follow.by_feed done.1 (ap (ends is_return) next_line.line.spell ∙ done.0)) (λ one. Follow.by_byte one.1.0 one.1.1 one.1.2) exact in
       subst (λ t. IsSettled (take (place + length t) text) (lines ++ line_of place line (pieces_alone s) ∷ [])) s.spell
       (settled_ready text place line lines s.read s.rest known (pieces_alone s) next_line follow)
 

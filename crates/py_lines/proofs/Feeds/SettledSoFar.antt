@@ -10,9 +10,9 @@ use Rattle.py_lines.specs.Balance.{depth_through}
 use Rattle.py_lines.specs.Fields.{AreReadBefore, IsShallow}
 use Rattle.py_lines.specs.Reading.{Decodes, IsBalancedReading, EndsLine}
 use Rattle.py_lines.specs.Settled.{EndsForGood, IsSettled}
-use Rattle.py_lines.specs.LogicalLine.{LogicalLine, cut, byte_len, line_of, lines_of}
+use Rattle.py_lines.specs.LogicalLine.{LogicalLine, byte_len, line_of, lines_of}
 use Rattle.py_lines.specs.Private.Machine.{Scanned, Bracket, brackets_of}
-use Rattle.py_lines.specs.Private.ScanMachine.{scan_steps, StringsFit, IsScanSound}
+use Rattle.py_lines.specs.Private.ScanMachine.{IsScanSound}
 use Rattle.py_lines.specs.Private.Scan.{EndsNoLine, line_start}
 use Rattle.py_lines.specs.Private.LineState.{first_mode}
 use Rattle.py_lines.specs.declared.mode.Mode.{Mode}
@@ -34,6 +34,7 @@ use Rattle.py_lines.proofs.ScanMachine.Advance.{GoesTo}
 use Rattle.py_lines.proofs.LineScan.NextCharacter.{closed_one_line}
 use Rattle.py_lines.proofs.LineScan.LineSteps.{sound_steps}
 use Rattle.py_lines.proofs.LineScan.TextSteps.{begun_sound, follows_base}
+use Rattle.py_lines.proofs.Readers.LineAnswers.{IsReadLine}
 use Rattle.py_lines.proofs.Feeds.Known as of
 use Rattle.py_lines.proofs.Feeds.Known.{IsKnown, both_none}
 
@@ -87,20 +88,15 @@ pub record IsNextLine (place : ℕ) (read more : List ℕ) (u : List Piece) : Ty
   pub is : u ≡ body ++ last ∷ []
   pub class : last.class ≡ line_end
   pub level : depth_through 0 body ≡ 0
-  pub spell : spelled u ≡ read
   pub fit : AreReadBefore u more
-  pub whole : cut 0 u ≡ u ∷ []
-  pub stacked : brackets_of u ≡ Some []
-  pub strings : StringsFit 0 u
-  pub to : Scanned
-  pub steps : scan_steps (Some (line_start (first_mode place))) read ≡ Some to
+  pub line : IsReadLine (line_start (first_mode place)) read u
 
 module _ (text : List ℕ) (place line : ℕ) (lines : List LogicalLine) (read rest : List ℕ) (k : IsKnown text place line lines read rest) (u : List Piece) (next : IsNextLine place read k.more u) where
   all_fit : AreReadBefore (k.base ++ u) k.more
-  all_fit = AreReadBefore-append k.base u k.more (subst (λ t. AreReadBefore k.base (t ++ k.more)) (sym next.spell) k.fit) next.fit (follows_base place k.base u read k.more next.to (of.stands text place line lines read rest k) next.spell next.fit next.steps)
+  all_fit = AreReadBefore-append k.base u k.more (subst (λ t. AreReadBefore k.base (t ++ k.more)) (sym next.line.spell) k.fit) next.fit (follows_base place k.base u read k.more next.line.to (of.stands text place line lines read rest k) next.line.spell next.fit next.line.steps)
 
   all_spelled : spelled (k.base ++ u) ≡ spelled k.base ++ read
-  all_spelled = spelled-append k.base u ∙ ap (λ t. spelled k.base ++ t) next.spell
+  all_spelled = spelled-append k.base u ∙ ap (λ t. spelled k.base ++ t) next.line.spell
 
   ends_line : EndsLine (k.base ++ u)
   ends_line = inr (
@@ -114,7 +110,7 @@ module _ (text : List ℕ) (place line : ℕ) (lines : List LogicalLine) (read r
   all_reading : IsBalancedReading (k.base ++ u) (spelled (k.base ++ u))
   all_reading =
       let split : k.base ++ u ≡ (k.base ++ next.body) ++ next.last ∷ [] = ap (λ l. k.base ++ l) next.is ∙ sym (append_assoc k.base next.body (next.last ∷ [])) in
-      let balanced = fits_reading u next.stacked next.strings in
+      let balanced = fits_reading u next.line.stacked next.line.strings in
       let level : depth_through 0 k.base ≡ 0 = balanced_depth k.base k.balanced 0 in
       record {
         reads = record { spell = refl; fit = subst (λ l. AreReadBefore l []) (sym split) (read-alone (k.base ++ next.body) next.last k.more next.class (subst (λ l. AreReadBefore l k.more) split all_fit)) };
@@ -131,7 +127,7 @@ module _ (text : List ℕ) (place line : ℕ) (lines : List LogicalLine) (read r
   cut_all : lines ++ line_of place line u ∷ [] ≡ lines_of (k.base ++ u)
   cut_all =
       ap (λ l. l ++ line_of place line u ∷ []) k.cut ∙ ap (λ (n : ℕ). lines_of k.base ++ line_of n line u ∷ []) k.here ∙ ap (λ (n : ℕ). lines_of k.base ++ line_of (byte_len (spelled k.base)) n u ∷ []) k.number
-      ∙ sym (lines_of-push k.base u k.more k.ended next.whole all_fit)
+      ∙ sym (lines_of-push k.base u k.more k.ended next.line.whole all_fit)
 
   by_rest : (characters tail left : List ℕ) → Decodes (of.bytes text place line lines read rest k) characters tail → spelled (k.base ++ u) ++ left ≡ characters → EndsForGood (k.base ++ u) (left ++ tail) → (left ≡ []) ⊎ ((c : ℕ) × (left ≡ c ∷ []) × (is_line_feed c ≡ false) × (tail ≡ [])) → IsSettled (of.bytes text place line lines read rest k) (lines ++ line_of place line u ∷ [])
   by_rest characters tail left decodes spell good near = record { characters = characters; tail = tail; pieces = k.base ++ u; decodes = decodes; prefix = settled_line characters tail (k.base ++ u) left spell all_reading good near; cut = cut_all }

@@ -1,6 +1,6 @@
 -- What is held of a line that is open.
 use Rattle.std.proofs.Common.{◌≡◌, ℕ, ◌+◌, ◌-◌, ◌<◌, ◌≤◌, true, List, [], ◌∷◌, ◌++◌, length, take, drop, inr, refl, sym, ap, ◌∙◌, append_assoc, arith, length-append, length-drop}
-use Rattle.std.specs.Prelude.{encode_utf8_all, IsUtf8}
+use Rattle.std.specs.Prelude.{encode_utf8_all}
 use Rattle.std.specs.Str.{all_scalars, StartsWithNoChar}
 use Rattle.std.proofs.lemmas.Bool.{and_parts}
 use Rattle.std.proofs.lemmas.Str.{encodes-append, encode_ascii, encodes_same}
@@ -17,7 +17,7 @@ use Rattle.py_lines.specs.declared.scan.Stop.TheVariants as stops
 use Rattle.py_lines.specs.Private.Run.{Reached}
 use Rattle.py_lines.specs.Private.Scan.{is_return_mode, is_returned, freed, stack_of, EndsWhole, IsUnderWay, ScansIn}
 use Rattle.py_lines.specs.Private.LineState.{first_mode}
-use Rattle.py_lines.specs.Private.Feed.{IsOpen, StopsHeld}
+use Rattle.py_lines.specs.Private.Feed.{IsCutAt, IsOpen, StopsHeld}
 use Rattle.py_lines.proofs.Text.Utf8Prefixes.{all_scalars-parts}
 use Rattle.py_lines.proofs.LogicalLines.Cuts.{byte_len-append}
 use Rattle.py_lines.proofs.ScanMachine.Soundness.{StandsSound, stands_sound}
@@ -57,13 +57,13 @@ module _ (f : Feed) (rest : List ℕ) (o : IsOpen f rest) where
   open_within bytes is = omega (arith, open_stop, open_size, ap length is)
 
   -- a place in what was scanned
-  pub within_held : (offset : ℕ) (w : Within o.read offset) → (offset ≤ length f.held.items) × (take offset f.held.items ≡ encode_utf8_all w.prefix) × IsUtf8 (take offset f.held.items)
+  pub within_held : (offset : ℕ) (w : Within o.read offset) → IsCutAt f offset × (take offset f.held.items ≡ encode_utf8_all w.prefix)
   within_held offset w =
       let size : byte_len o.read ≡ byte_len w.prefix + byte_len w.later = ap byte_len (sym w.split) ∙ byte_len-append w.prefix w.later in
       let spell : f.held.items ≡ encode_utf8_all w.prefix ++ (encode_utf8_all w.later ++ rest) = sym o.spell ∙ ap (λ t. encode_utf8_all t ++ rest) (sym w.split) ∙ ap (λ t. t ++ rest) (encodes-append w.prefix w.later) ∙ append_assoc (encode_utf8_all w.prefix) (encode_utf8_all w.later) rest in
       let taken : take offset f.held.items ≡ encode_utf8_all w.prefix = ap (λ (n : ℕ). take n f.held.items) w.size ∙ ap (take (byte_len w.prefix)) spell ∙ take-append_seam (encode_utf8_all w.prefix) (encode_utf8_all w.later ++ rest) in
       let scalars = (all_scalars-parts w.prefix w.later (ap all_scalars w.split ∙ o.scalars)).0 in
-      (omega (arith, size, w.size, open_size), taken, (w.prefix, (scalars, sym taken)))
+      ((omega (arith, size, w.size, open_size), (w.prefix, (scalars, sym taken))), taken)
 
   -- the bytes after the place where the scan stands
   pub next_is : (held : List ℕ) → held ≡ f.held.items → take (length held - f.state.scan.stop) (drop f.state.scan.stop held) ≡ rest

@@ -169,13 +169,8 @@ module _ (text : List ℕ) (place line : ℕ) (given : List LogicalLine) (first 
     is = refl;
     class = whole.are.class;
     level = whole.are.level;
-    spell = as_line.spell;
     fit = (passed_line read n after whole).fit known.more (follows_whole read more known.more known.tail known.beyond (exactly_whole read more exact) known.follow);
-    whole = as_line.whole;
-    stacked = as_line.stacked;
-    strings = as_line.strings;
-    to = as_line.to;
-    steps = as_line.steps;
+    line = as_line;
   }
 
   settled : IsSettled (take (place + length (encode_utf8_all read ++ more)) text) (given ++ line_of place line pieces ∷ [])

@@ -1,6 +1,6 @@
 -- What the scanner inside a `Scanner` holds: the text since the line that was released last, and how far it was scanned.
 use Rattle.std.specs.Prelude.{◌≡◌, ℕ, ◌+◌, ◌<◌, ◌≤◌, ◌^◌, Bool, true, false, Option, None, Some, Result, Ok, Err, List, [], ◌∷◌, ◌++◌}
-use Rattle.std.specs.Prelude.{length, take, drop, encode_utf8_all, is_some, if◌then◌else◌}
+use Rattle.std.specs.Prelude.{length, take, drop, encode_utf8_all, is_some, if◌then◌else◌, IsUtf8}
 use Rattle.std.specs.Str.{all_scalars}
 use Rattle.py_lines.specs.Piece.{Piece, spelled}
 use Rattle.py_lines.specs.LogicalLine.{LogicalLine, byte_len, end_len_of, line_ends, line_of}
@@ -62,6 +62,10 @@ StopsHeld f stop = ScansIn (first_mode f.state.place) f.state.line f.held.items 
 abbrev pub IsScanned : Feed → Option ℕ → Type 0
 IsScanned f None = (s : StopsHeld f stops.TextEnd) × ¬ (IsHopeless s.rest) × (is_returned f.state.scan ≡ true → s.rest ≡ [])
 IsScanned f (Some end_len) = StopsHeld f (stops.LineEnd end_len)
+
+-- whole characters end after so many of the bytes that are held
+abbrev pub IsCutAt : Feed → ℕ → Type 0
+IsCutAt f offset = (offset ≤ length f.held.items) × IsUtf8 (take offset f.held.items)
 
 -- the text has this fault from now on: so many bytes after the lines released
 pub record FailsAt (old : Feed) (kind : FaultKind) (offset : ℕ) (error : LexError) (new : Feed) : Type 0 where

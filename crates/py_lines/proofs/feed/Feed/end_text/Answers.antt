@@ -47,19 +47,12 @@ overflow_sub-rest c =
     let f = c.scan_held.new.self in
     omega (arith, c.len.ensures, open_size f s.0.rest o, open_stop f s.0.rest o)
 
-pub fail-requires-clause-within : goal.fail-requires-clause-within
-fail-requires-clause-within c =
-    let b = (goal.at.fail-requires-clause-within c).Else-is_empty in
+pub fail-requires-clause-cut : goal.fail-requires-clause-cut
+fail-requires-clause-cut c =
+    let b = (goal.at.fail-requires-clause-cut c).Else-is_empty in
     let s = scanned_here b in
     (within_held c.scan_held.new.self s.0.rest (reached_by s.0 s.0.stops.0) c.in-Some.line_fault.place
     (end_fault_within c.args.self.now c.scan_held.new.self c.in_ok-scan_held.ensures.0 s (some_here b) c.len.result (omega (arith, c.len.ensures)) c.in-Some.line_fault c.in-Some.ensures)).0
-
-pub fail-requires-clause-text : goal.fail-requires-clause-text
-fail-requires-clause-text c =
-    let b = (goal.at.fail-requires-clause-text c).Else-is_empty in
-    let s = scanned_here b in
-    (within_held c.scan_held.new.self s.0.rest (reached_by s.0 s.0.stops.0) c.in-Some.line_fault.place
-    (end_fault_within c.args.self.now c.scan_held.new.self c.in_ok-scan_held.ensures.0 s (some_here b) c.len.result (omega (arith, c.len.ensures)) c.in-Some.line_fault c.in-Some.ensures)).2
 
 pub returns-in-Some : goal.returns-in-Some
 returns-in-Some c =

@@ -42,17 +42,12 @@ is_hopeless-requires c =
     let s = c.requires.stops in
     subst StartsWithNoChar (sym (next_is c.args.self.now s.rest (reached_by s s.stops.0) c.deref.result.now c.deref.ensures.value)) s.stops.1
 
-pub fail-requires-clause-within : goal.fail-requires-clause-within
-fail-requires-clause-within c =
-    let s = c.requires.stops in
-    open_within c.args.self.now s.rest (reached_by s s.stops.0) _ refl
-
-pub fail-requires-clause-text : goal.fail-requires-clause-text
-fail-requires-clause-text c =
+pub fail-requires-clause-cut : goal.fail-requires-clause-cut
+fail-requires-clause-cut c =
     let s = c.requires.stops in
     let f = c.args.self.now in
     let o = reached_by s s.stops.0 in
-    (within_held f s.rest o f.state.scan.stop (all_within s.read f.state.scan.stop (open_stop f s.rest o))).2
+    (within_held f s.rest o f.state.scan.stop (all_within s.read f.state.scan.stop (open_stop f s.rest o))).0
 
 pub returns-then-is_hopeless : goal.returns-then-is_hopeless
 returns-then-is_hopeless c =
