@@ -1,11 +1,11 @@
 -- The last byte of characters: it is CR just where their last character is.
-use Rattle.std.proofs.Common.{◌≡◌, ℕ, ◌≤◌, false, List, [], ◌∷◌, ◌++◌, length, refl, sym, ap, ◌∙◌, ⊎_elim, inl, inr, append-nil, arith}
+use Rattle.std.proofs.Common.{◌≡◌, ℕ, ◌≤◌, ◌⊎◌, Bool, true, false, List, [], ◌∷◌, ◌++◌, length, refl, sym, ap, ◌∙◌, subst, ⊎_elim, append-nil, arith}
 use Rattle.std.specs.Prelude.{encode_utf8, encode_utf8_all}
 use Rattle.std.proofs.lemmas.Bool.{cases_lt, false_from_ne_true}
 use Rattle.std.proofs.lemmas.Str.{length-le-encodes}
 use Rattle.py_lines.specs.Character.{is_return}
 use Rattle.py_lines.specs.Piece.{ends}
-use Rattle.py_lines.specs.ScannerState.{EndsExactly}
+use Rattle.py_lines.specs.ScannerState.{EndsExactly, IsOneOther}
 use Rattle.py_lines.proofs.Text.CharacterTests.{return_is}
 use Rattle.py_lines.proofs.Text.Utf8Shapes.{one, two, three, four}
 use Rattle.py_lines.proofs.Lexings.LineEnds.{ends-append}
@@ -42,7 +42,10 @@ ends-encoded (c ∷ d ∷ cs) =
     let some = some_bytes d cs in
     ap (λ t. ends is_return (encode_utf8 c ++ t)) some.2 ∙ ends-append is_return (encode_utf8 c) some.0 some.1 ∙ ap (ends is_return) (sym some.2) ∙ ends-encoded (d ∷ cs)
 
--- so what comes after the characters of a line comes after its bytes
+-- what comes after a line goes by its last character
+pub exact_as : (line other more : List ℕ) → ends is_return line ≡ ends is_return other → EndsExactly line more → EndsExactly other more
+exact_as line other more same exact = subst (λ (b : Bool). ((b ≡ false) × (more ≡ [])) ⊎ ((b ≡ true) × IsOneOther more)) same exact
+
+-- so it comes after its bytes
 pub exactly_encoded : (line more : List ℕ) → EndsExactly line more → EndsExactly (encode_utf8_all line) more
-exactly_encoded line more (inl (other, none)) = inl (ends-encoded line ∙ other, none)
-exactly_encoded line more (inr (returned, one)) = inr (ends-encoded line ∙ returned, one)
+exactly_encoded line more exact = exact_as line (encode_utf8_all line) more (sym (ends-encoded line)) exact

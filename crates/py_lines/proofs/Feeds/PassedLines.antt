@@ -27,7 +27,7 @@ use Rattle.py_lines.proofs.LineScan.LineCount.{ends-last}
 use Rattle.py_lines.proofs.Text.CharacterTests.{return_is}
 use Rattle.py_lines.proofs.Readers.PassedLines.{AreSettledAt, line_settled, lines_at, lines_spell, shown, take_slice}
 use Rattle.py_lines.proofs.Feeds.Known.{goes_after, goes_with_first}
-use Rattle.py_lines.proofs.Feeds.LastBytes.{ends-encoded}
+use Rattle.py_lines.proofs.Feeds.LastBytes.{ends-encoded, exact_as}
 use Rattle.py_lines.proofs.Feeds.Loops.{begun_open, begun_unchanged}
 use Rattle.py_lines.proofs.Feeds.FedScanner.{runs_short, sound_unchanged}
 
@@ -40,9 +40,7 @@ same_first line (x ∷ xs) others more some (inr (b, rest, is, other)) = inr (x,
 -- what is known after the last of some lines is known after all of them
 last_exact : (read line later more : List ℕ) → read ≡ line ++ later → 0 < length later → EndsExactly read more → EndsExactly later more
 last_exact read line [] more is some exact = absurd (omega (arith, some))
-last_exact read line (c ∷ cs) more is some exact =
-    let same : ends is_return read ≡ ends is_return (c ∷ cs) = ap (ends is_return) is ∙ ends-append is_return line c cs in
-    ⊎_elim (λ feed. inl (sym same ∙ feed.0, feed.1)) (λ one. inr (sym same ∙ one.0, one.1)) exact
+last_exact read line (c ∷ cs) more is some exact = exact_as read (c ∷ cs) more (ap (ends is_return) is ∙ ends-append is_return line c cs) exact
 
 -- so lines, of which there is one at least
 lines_settled : (t : List ℕ) (texts : List (List ℕ)) (text : List ℕ) (place line : ℕ) (given : List LogicalLine) (read more : List ℕ) (n : ℕ) (after : List ℕ) (are : AreWholeLines (t ∷ texts) read n after) → AreFirstLines text place line given → GoesOnWith text place (encode_utf8_all read ++ more) → EndsExactly read more
@@ -225,10 +223,7 @@ module _ (f : Feed) (bytes : List ℕ) (before stop : ℕ) (p : Passed) (stands 
         }
 
     exact : EndsExactly read held.items
-    exact = ⊎_elim (λ feed. inl (same ∙ feed.0, feed.1)) (λ one. inr (same ∙ one.0, one.1)) holds_here.exact
-      where
-        same : ends is_return read ≡ ends is_return (take p.len bytes)
-        same = sym (ends-encoded read) ∙ ap (ends is_return) read_is
+    exact = exact_as (take p.len bytes) read held.items (ap (ends is_return) (sym read_is) ∙ ends-encoded read) holds_here.exact
 
     module _ (state : LineState) (scan : Scan) (anew : BeginsAnew (record f.state { place = f.state.place + p.len; line = f.state.line + p.line_ends; scan = scan }) state) where
       abbrev after : Feed

@@ -137,7 +137,7 @@ pub ready_seen : (f : Feed) (end_len : ℕ) → f.ready ≡ Some end_len → (r 
     → scanning_of f ≡ with_line f (Some (line_held f end_len r.holds))
 ready_seen f end_len is r = ap (with_line f) (ap (ready_of f) is ∙ ap Some r.line_is)
 
-pub none_is : (r : Option ℕ) → is_some r ≡ false → r ≡ None
+pub none_is : {A : Type 0} (r : Option A) → is_some r ≡ false → r ≡ None
 none_is None h = refl
 none_is (Some n) h = absurd (cc)
 

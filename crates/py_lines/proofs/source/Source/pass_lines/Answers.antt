@@ -1,18 +1,14 @@
-use Rattle.std.proofs.Common.{◌≡◌, ℕ, ◌-◌, ◌∙◌, false, is_some, Some, None, Option, List, take, drop, ap, sym, subst, arith, refl, rules}
+use Rattle.std.proofs.Common.{◌≡◌, ℕ, ◌-◌, ◌∙◌, List, take, drop, ap, sym, subst, arith, rules}
 use Rattle.std.specs.Str.{IsCharBoundary}
-use Rattle.py_lines.specs.declared.fault.Fault.{Fault}
 use Rattle.py_lines.specs.declared.line_state.LineState.{LineState}
 use Rattle.py_lines.specs.declared.plain_strings.Passed.{Passed}
 use Rattle.py_lines.specs.declared.source.Source.{Source}
 use Rattle.py_lines.specs.Lines.{PassesUpTo}
 use Rattle.py_lines.specs.Reader.View.{reader_of}
 use Rattle.py_lines.specs.Private.Outline.{BeginWithLines}
+use Rattle.py_lines.proofs.Feeds.ReadyLines.{none_is}
 use Rattle.py_lines.proofs.Readers.PassedLines.{boundary, few, passes_up_to, room}
 use Rattle.py_lines.proofs.source.Source.pass_lines.Goals as goal
-
-none_is : (fault : Option Fault) → is_some fault ≡ false → fault ≡ None
-none_is None h = refl
-none_is (Some f) h = absurd (cc)
 
 -- the lines that the code has found
 found : (s : Source) (before : ℕ) (characters : List ℕ) (p : Passed) → characters ≡ s.characters.now → BeginWithLines (take (before - s.state.place) (drop s.state.place characters)) p → BeginWithLines (take (before - s.state.place) (drop s.state.place s.characters.now)) p
