@@ -8,6 +8,7 @@ use Rattle.py_lines.specs.Fields.{AreReadBefore}
 use Rattle.py_lines.specs.Reading.{Decodes, IsBalancedReading}
 use Rattle.py_lines.specs.Lexed.{IsLexed, IsLexedToFault}
 use Rattle.py_lines.specs.LogicalLine.{LogicalLine, cut, byte_len, line_of, lines_of}
+use Rattle.py_lines.specs.Given.{AreFirstLines}
 use Rattle.py_lines.specs.declared.fault.Fault.{Fault}
 use Rattle.py_lines.specs.declared.fault.FaultKind.TheVariants.{BadUtf8}
 use Rattle.py_lines.specs.declared.line_state.LineState.{LineState}
@@ -21,6 +22,7 @@ use Rattle.py_lines.proofs.ScanMachine.Advance.{GoesTo, RunsTo}
 use Rattle.py_lines.proofs.ScanMachine.LiveTexts.{reading_at}
 use Rattle.py_lines.proofs.LineScan.TextSteps.{way_goes}
 use Rattle.py_lines.proofs.LogicalLines.NextLine.{lines_of-push}
+use Rattle.py_lines.proofs.LogicalLines.Cuts.{byte_len-append}
 use Rattle.py_lines.proofs.Lexings.Answers.{refused_at_end}
 use Rattle.py_lines.proofs.Readers.LineFaults.{Within, unfinished_fault}
 use Rattle.py_lines.proofs.Feeds.Known as of
@@ -67,6 +69,5 @@ module _ (text : List ℕ) (state : LineState) (lines : List LogicalLine) (read 
         pieces = k.base ++ u;
         decodes = all_decoded none;
         reading = pieces;
-        cut = ap (λ l. l ++ line_of state.place state.line u ∷ []) k.cut ∙ ap (λ (n : ℕ). lines_of k.base ++ line_of n state.line u ∷ []) k.here ∙ ap (λ (n : ℕ). lines_of k.base ++ line_of (byte_len (spelled k.base)) n u ∷ []) k.number
-            ∙ sym (lines_of-push k.base u [] k.ended one pieces.reads.fit);
+        cut = of.lines_more text state.place state.line lines read rest k u [] one pieces.reads.fit;
       }

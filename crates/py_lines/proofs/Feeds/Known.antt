@@ -10,7 +10,7 @@ use Rattle.py_lines.specs.Balance.{IsBalanced}
 use Rattle.py_lines.specs.Fields.{fielded, AreReadBefore, IsShallow}
 use Rattle.py_lines.specs.Reading.{Decodes, EndsLine, IsBalancedReading}
 use Rattle.py_lines.specs.Given.{AreFirstLines}
-use Rattle.py_lines.specs.LogicalLine.{LogicalLine, lines_of, byte_len, line_ends}
+use Rattle.py_lines.specs.LogicalLine.{LogicalLine, cut, line_of, lines_of, byte_len, line_ends}
 use Rattle.py_lines.specs.ScannerState.{GoesOnWith}
 use Rattle.py_lines.specs.Private.Machine.{Scanned, Bracket, brackets_of}
 use Rattle.py_lines.specs.Private.ScanMachine.{StringsFit}
@@ -18,6 +18,7 @@ use Rattle.py_lines.specs.Private.Scan.{line_start}
 use Rattle.py_lines.specs.Private.LineState.{first_mode}
 use Rattle.py_lines.proofs.Text.Continued.{goes_on}
 use Rattle.py_lines.proofs.Text.Utf8Prefixes.{all_scalars-parts, all_scalars-append}
+use Rattle.py_lines.proofs.LogicalLines.NextLine.{lines_of-push}
 use Rattle.py_lines.proofs.Pieces.OpenBrackets.{stack-from_balanced}
 use Rattle.py_lines.proofs.Pieces.ShallowPieces.{brackets_shallow, strings_shallow}
 use Rattle.py_lines.proofs.Fields.OneReading.{read_before}
@@ -143,6 +144,12 @@ module _ (text : List ℕ) (place line : ℕ) (lines : List LogicalLine) (read r
 
   pub stands : Base place k.base
   stands = base_of place k.base (read ++ k.more) k.fit k.ended k.here
+
+  -- with a line more
+  pub lines_more : (u : List Piece) (rest : List ℕ) → cut 0 u ≡ u ∷ [] → AreReadBefore (k.base ++ u) rest → lines ++ line_of place line u ∷ [] ≡ lines_of (k.base ++ u)
+  lines_more u rest one fit =
+      ap (λ l. l ++ line_of place line u ∷ []) k.cut ∙ ap (λ (n : ℕ). lines_of k.base ++ line_of n line u ∷ []) k.here ∙ ap (λ (n : ℕ). lines_of k.base ++ line_of (byte_len (spelled k.base)) n u ∷ []) k.number
+      ∙ sym (lines_of-push k.base u rest k.ended one fit)
 
   -- the machine over the whole text so far
   pub joins : (s : Scanned) (st : List Bracket) → GoesTo (line_start (first_mode place)) read s st → Joined k.base read s st k.more

@@ -10,7 +10,7 @@ use Rattle.py_lines.specs.Balance.{depth_through}
 use Rattle.py_lines.specs.Fields.{AreReadBefore, IsShallow}
 use Rattle.py_lines.specs.Reading.{Decodes, IsBalancedReading, EndsLine}
 use Rattle.py_lines.specs.Settled.{EndsForGood, IsSettled}
-use Rattle.py_lines.specs.LogicalLine.{LogicalLine, byte_len, line_of, lines_of}
+use Rattle.py_lines.specs.LogicalLine.{LogicalLine, line_of}
 use Rattle.py_lines.specs.Private.Machine.{Scanned, Bracket, brackets_of}
 use Rattle.py_lines.specs.Private.ScanMachine.{IsScanSound}
 use Rattle.py_lines.specs.Private.Scan.{EndsNoLine, line_start}
@@ -98,18 +98,20 @@ module _ (text : List ℕ) (place line : ℕ) (lines : List LogicalLine) (read r
   all_spelled : spelled (k.base ++ u) ≡ spelled k.base ++ read
   all_spelled = spelled-append k.base u ∙ ap (λ t. spelled k.base ++ t) next.line.spell
 
+  split : k.base ++ u ≡ (k.base ++ next.body) ++ next.last ∷ []
+  split = ap (λ l. k.base ++ l) next.is ∙ sym (append_assoc k.base next.body (next.last ∷ []))
+
   ends_line : EndsLine (k.base ++ u)
   ends_line = inr (
     k.base ++ next.body,
     next.last,
-    ap (λ l. k.base ++ l) next.is ∙ sym (append_assoc k.base next.body (next.last ∷ [])),
+    split,
     next.class,
     depth_through-append 0 k.base next.body ∙ ap (λ (d : ℕ). depth_through d next.body) (balanced_depth k.base k.balanced 0) ∙ next.level,
   )
 
   all_reading : IsBalancedReading (k.base ++ u) (spelled (k.base ++ u))
   all_reading =
-      let split : k.base ++ u ≡ (k.base ++ next.body) ++ next.last ∷ [] = ap (λ l. k.base ++ l) next.is ∙ sym (append_assoc k.base next.body (next.last ∷ [])) in
       let balanced = fits_reading u next.line.stacked next.line.strings in
       let level : depth_through 0 k.base ≡ 0 = balanced_depth k.base k.balanced 0 in
       record {
@@ -121,16 +123,10 @@ module _ (text : List ℕ) (place line : ℕ) (lines : List LogicalLine) (read r
   last_ends : (p : ℕ → Bool) → ends p (spelled (k.base ++ u)) ≡ ends p (spelled u)
   last_ends p =
       let holds = (AreReadBefore-second next.body (next.last ∷ []) k.more (subst (λ l. AreReadBefore l k.more) next.is next.fit)).0 in
-      let split : k.base ++ u ≡ (k.base ++ next.body) ++ next.last ∷ [] = ap (λ l. k.base ++ l) next.is ∙ sym (append_assoc k.base next.body (next.last ∷ [])) in
       ap (λ (l : List Piece). ends p (spelled l)) split ∙ ends-line p (k.base ++ next.body) next.last next.class holds ∙ sym (ends-line p next.body next.last next.class holds) ∙ ap (λ (l : List Piece). ends p (spelled l)) (sym next.is)
 
-  cut_all : lines ++ line_of place line u ∷ [] ≡ lines_of (k.base ++ u)
-  cut_all =
-      ap (λ l. l ++ line_of place line u ∷ []) k.cut ∙ ap (λ (n : ℕ). lines_of k.base ++ line_of n line u ∷ []) k.here ∙ ap (λ (n : ℕ). lines_of k.base ++ line_of (byte_len (spelled k.base)) n u ∷ []) k.number
-      ∙ sym (lines_of-push k.base u k.more k.ended next.line.whole all_fit)
-
   by_rest : (characters tail left : List ℕ) → Decodes (of.bytes text place line lines read rest k) characters tail → spelled (k.base ++ u) ++ left ≡ characters → EndsForGood (k.base ++ u) (left ++ tail) → (left ≡ []) ⊎ ((c : ℕ) × (left ≡ c ∷ []) × (is_line_feed c ≡ false) × (tail ≡ [])) → IsSettled (of.bytes text place line lines read rest k) (lines ++ line_of place line u ∷ [])
-  by_rest characters tail left decodes spell good near = record { characters = characters; tail = tail; pieces = k.base ++ u; decodes = decodes; prefix = settled_line characters tail (k.base ++ u) left spell all_reading good near; cut = cut_all }
+  by_rest characters tail left decodes spell good near = record { characters = characters; tail = tail; pieces = k.base ++ u; decodes = decodes; prefix = settled_line characters tail (k.base ++ u) left spell all_reading good near; cut = of.lines_more text place line lines read rest k u k.more next.line.whole all_fit }
 
   -- one line more is settled
   pub settled_ready : Follow u rest → IsSettled (of.bytes text place line lines read rest k) (lines ++ line_of place line u ∷ [])

@@ -1,12 +1,11 @@
 use Rattle.std.specs.Prelude.{is_some}
-use Rattle.std.proofs.Common.{◌≡◌, ◌≢◌, ◌<◌, ◌≤◌, true, Err, [], length, take, sym, ap, ◌∙◌, subst, not, refl, append-nil}
+use Rattle.std.proofs.Common.{◌≡◌, ◌≢◌, ◌<◌, ◌≤◌, true, [], length, take, sym, ap, ◌∙◌, subst, not, refl, append-nil}
 use Rattle.std.proofs.Common.{length-append, length-drop, arith}
 use Rattle.std.proofs.lemmas.Bool.{both_ways, eqb-true, eqb-false}
 use Rattle.std.proofs.lemmas.List.{nil_from_length, length-take-le}
 use Rattle.std.proofs.lemmas.Result.{err_from_is_err_and}
-use Rattle.py_lines.specs.declared.fault.LexError.{LexError}
 use Rattle.py_lines.specs.declared.feed.Feed.{Feed}
-use Rattle.py_lines.specs.Private.Feed.{IsUnchanged, TakesChunk}
+use Rattle.py_lines.specs.Private.Feed.{IsUnchanged}
 use Rattle.py_lines.proofs.Feeds.Chunks.{chunk_fails, none_taken, open_next, rest_of, stops_short, takes_more}
 use Rattle.py_lines.proofs.Feeds.FedHeld.{scanned_again}
 use Rattle.py_lines.proofs.Feeds.ReadyLines.{none_is}
@@ -25,28 +24,22 @@ loop-taken-preserved c =
 
 pub returns-in-Err-Fault : goal.returns-in-Err-Fault
 returns-in-Err-Fault c =
-    let mid = c.loop-taken.self in
-    let chunk = take c.step_len-len.result (rest_of c.args.piece.now c.loop-taken.taken) in
-    let fails = subst (λ (e : LexError). TakesChunk mid chunk (Err e) c.take.new.self) c.in-Err-Fault.field-0-is c.in-Err-Fault.ensures in
-    chunk_fails c.loop-taken.invariant (none_is mid.ready (c.is_none.ensures ∙ ap not c.if-is_none.true)) (omega arith) c.take.new.self c.step_len-len.result _ fails
+    let fails = rw c.in-Err-Fault.field-0-is at c.in-Err-Fault.ensures in
+    chunk_fails c.loop-taken.invariant (none_is c.loop-taken.self.ready (c.is_none.ensures ∙ ap not c.if-is_none.true)) (omega arith) c.take.new.self c.step_len-len.result _ fails
 
 pub returns-in-Err-Memory-2 : goal.returns-in-Err-Memory-2
 returns-in-Err-Memory-2 c =
-    let mid = c.loop-taken.self in
-    let chunk = take c.step_len-len.result (rest_of c.args.piece.now c.loop-taken.taken) in
-    let same = subst (λ (e : LexError). TakesChunk mid chunk (Err e) c.take.new.self) c.in-Err-Memory.field-0-is c.in-Err-Memory.ensures in
+    let same = rw c.in-Err-Memory.field-0-is at c.in-Err-Memory.ensures in
     let some : 0 < c.loop-taken.taken = omega (arith, c.if-taken-eq0.false) in (
       c.requires.not_ready,
       λ zero. absurd (omega (arith, zero, some)),
-      stops_short c.loop-taken.invariant (none_is mid.ready (c.is_none.ensures ∙ ap not c.if-is_none.true)) (omega arith) c.take.new.self some same,
+      stops_short c.loop-taken.invariant (none_is c.loop-taken.self.ready (c.is_none.ensures ∙ ap not c.if-is_none.true)) (omega arith) c.take.new.self some same,
     )
 
 -- no chunk was taken before the one for which there is no memory
 pub returns-in-Err-Memory : goal.returns-in-Err-Memory
 returns-in-Err-Memory c =
-    let mid = c.loop-taken.self in
-    let chunk = take c.step_len-len.result (rest_of c.args.piece.now c.loop-taken.taken) in
-    let same = subst (λ (e : LexError). TakesChunk mid chunk (Err e) c.take.new.self) c.in-Err-Memory.field-0-is c.in-Err-Memory.ensures in
+    let same = rw c.in-Err-Memory.field-0-is at c.in-Err-Memory.ensures in
     subst (λ (f : Feed). IsUnchanged f c.take.new.self) (c.loop-taken.invariant.begun c.if-taken-eq0.true (omega arith)) same
 
 pub returns-after-loop-taken : goal.returns-after-loop-taken
