@@ -7,60 +7,36 @@ use Rattle.std.proofs.lemmas.List.{length-take-le, take-append-drop, drop_all}
 use Rattle.std.proofs.lemmas.Str.{encodes-append}
 use Rattle.py_lines.specs.Character.{is_break, is_quote, is_word_character, is_word_start}
 use Rattle.py_lines.specs.Piece.{begins, string}
-use Rattle.py_lines.specs.FieldStrings.{literal}
 use Rattle.py_lines.specs.Fields.{fielded}
 use Rattle.py_lines.specs.LogicalLine.{byte_len, line_ends}
-use Rattle.py_lines.specs.declared.host.StringWithFields.{StringWithFields}
 use Rattle.py_lines.specs.declared.mode.Spelling.{Spelling}
 use Rattle.py_lines.specs.declared.mode.Mode.TheVariants as modes
 use Rattle.py_lines.specs.declared.plain_strings.Passed.{Passed}
 use Rattle.py_lines.specs.declared.token.TokKind.TheVariants as kind
-use Rattle.py_lines.specs.Private.Machine.{IsFull, first_spelling, fresh, spelling_on}
-use Rattle.py_lines.specs.Private.FieldMachine.{Level}
-use Rattle.py_lines.specs.Private.FieldText.{InText, IsQuotedText, Leads}
+use Rattle.py_lines.specs.Private.Machine.{Bracket, first_spelling, fresh, spelling_on}
+use Rattle.py_lines.specs.Private.FieldText.{IsQuotedText}
 use Rattle.py_lines.specs.Private.Scan.{line_start}
-use Rattle.py_lines.specs.Private.ScanMachine.{begins_string, host_in, is_field_spelling, is_raw_spelling, move_at, scan_steps}
-use Rattle.py_lines.specs.Private.Outline.{BeforePiece, HasClosedString, HasString, IsInPieceAfter, Passes, StringBegins, StringEnds}
+use Rattle.py_lines.specs.Private.ScanMachine.{begins_string, is_field_spelling, move_at, scan_steps}
+use Rattle.py_lines.specs.Private.Outline.{BeforePiece, HasClosedString, HasString, IsInPieceAfter, Passes, PassesString, StringBegins, StringEnds}
 use Rattle.py_lines.specs.Private.Run.{word_spelling}
 use Rattle.py_lines.specs.Private.LineTokens.{IsFirstString, ends_prefix, is_plain_word, role_of, string_piece, token_piece}
 use Rattle.py_lines.proofs.Pieces.PieceLists.{piece}
 use Rattle.py_lines.proofs.Text.Utf8Prefixes.{prefix_chars}
-use Rattle.py_lines.proofs.Machine.PieceSteps.{scanned, steps_by-append, word_by}
+use Rattle.py_lines.proofs.Machine.PieceSteps.{scanned, word_by}
 use Rattle.py_lines.proofs.Machine.Starts.{start-quote, start-word}
-use Rattle.py_lines.proofs.ScanMachine.Spellings.{word_tells}
 use Rattle.py_lines.proofs.ScanMachine.Steps.{begun, grow-word, stops-free}
-use Rattle.py_lines.proofs.FieldScans.Runs.{goes_low}
-use Rattle.py_lines.proofs.LineScan.Runs.{ends-run, line_ends-run, quote_ascii, string_no_break}
+use Rattle.py_lines.proofs.LineScan.Runs.{ends-run, line_ends-run, quote_ascii}
 use Rattle.py_lines.proofs.LineScan.AsciiRuns.{is_low, is_low_from, low_encodes, low_is, quote-no_break}
-use Rattle.py_lines.proofs.LineScan.PlainStrings.{quoted_all}
 use Rattle.py_lines.proofs.LineScan.TextSteps.{begun_sound}
-use Rattle.py_lines.proofs.LineScan.WholeStrings.{at_body, quoted_steps}
 use Rattle.py_lines.proofs.SimpleLines.Code.{holds_one, one_unreturned}
+use Rattle.py_lines.proofs.SimpleLines.FieldStrings.{fields_passed, fields_some}
 use Rattle.py_lines.proofs.SimpleLines.Strings.{after_word}
 use Rattle.py_lines.proofs.LineTokens.FirstCharacters.{as_word, prefix_low}
 use Rattle.py_lines.proofs.LineTokens.Spellings.{fielded_spelling, letters_low}
-use Rattle.py_lines.proofs.LineTokens.StringScans.{BeginsString, begins_string as string_begins}
-use Rattle.py_lines.proofs.LineTokens.Strings.{ComesTo, sound_from, whole_closed}
+use Rattle.py_lines.proofs.LineTokens.StringScans.{begins_string as string_begins}
+use Rattle.py_lines.proofs.LineTokens.Strings.{sound_from, whole_closed}
 use Rattle.py_lines.proofs.LineTokens.Words.{first_byte, wide_unbroken, word_wide}
 use Rattle.py_lines.proofs.FieldScans.TextLengths.{rest_is, rest_of}
-
--- the bytes begin with a string that the machine closes
-module _ (bytes whole after : List ℕ) (spell : encode_utf8_all whole ++ after ≡ bytes)
-    (closes : ComesTo whole (fresh (piece string whole ∷ []))) where
-  same : (text : List ℕ) → BeginsString bytes text → whole ≡ text
-  same text b =
-      let (y, cut, spells) = prefix_chars whole (text ++ b.more) after (b.spell ∙ sym spell) in
-      whole_closed text b.more b.after b.passes whole y cut closes
-
-  -- its token
-  whole_taken : (len ends : ℕ) → byte_len whole ≡ len → line_ends whole ≡ ends → IsFirstString bytes (string_piece len ends)
-  whole_taken len ends size count p string_is begin =
-      let text = same p.text (string_begins bytes p string_is begin) in
-      record {
-        role = ap (λ k. role_of k p.text) (sym string_is);
-        len = sym size ∙ ap byte_len text;
-        line_ends = sym count ∙ ap line_ends text;
-      }
 
 -- a line's start
 abbrev start : BeforePiece
@@ -105,38 +81,6 @@ module _ (c : ℕ) (cs : List ℕ) (begins : begins_string (spelling_on (first_s
     unreturned = ends-run [] prefix tt prefix_unbroken;
   }
 
-  -- after it, a string with fields whose text is simple
-  fields_after : is_field_spelling s ≡ true → (rest : List ℕ) (len : ℕ) → IsQuotedText rest len
-      → IsFirstString (prefix ++ rest) (token_piece kind.Str (length prefix + len))
-  fields_after field rest len is = by is.q is.run is.quote is.full is.text is.size is.spell
-    where
-      by : (q : ℕ) (run : List ℕ) → is_quote q ≡ true → IsFull run → Leads q InText run InText → length run + 2 ≡ len
-          → q ∷ (run ++ q ∷ is.after) ≡ rest → IsFirstString (prefix ++ rest) (token_piece kind.Str (length prefix + len))
-      by q [] quote full leads size spell = absurd full
-      by q (d ∷ ds) quote full leads size spell =
-          let own : StringWithFields = record { quote = q; is_long = false; is_raw = is_raw_spelling s } in
-          let opening : List ℕ = prefix ++ q ∷ [] in
-          let T = at_body (host_in own) opening in
-          let level : Level = record { done = []; openers = []; host = host_in own; place = literal; front = [] } in
-          let (u, through, end) = leads [] level 0 T refl quote (omega arith) (opening, refl) in
-          let quoted : List ℕ = q ∷ ((d ∷ ds) ++ q ∷ []) in
-          let low = goes_low 0 T (d ∷ ds) u through in
-          let whole_low = quoted_all is_low prefix q (d ∷ ds) (is_low_from q (quote_ascii q quote)) low_prefix low in
-          let encodes = (low_encodes is_low (prefix ++ quoted) low_is whole_low).0 in
-          let read_is : ((opening ++ d ∷ []) ++ ds) ++ q ∷ [] ≡ prefix ++ quoted
-          = append_assoc (opening ++ d ∷ []) ds (q ∷ []) ∙ append_assoc opening (d ∷ []) (ds ++ q ∷ [])
-          ∙ append_assoc prefix (q ∷ []) ((d ∷ ds) ++ q ∷ []) in
-          whole_taken (prefix ++ rest) (prefix ++ quoted) is.after
-          (ap (λ t. t ++ is.after) encodes ∙ append_assoc prefix quoted is.after
-          ∙ ap (λ t. prefix ++ t) (ap (λ t. q ∷ d ∷ t) (append_assoc ds (q ∷ []) is.after) ∙ spell))
-          (steps_by-append move_at (Some (line_start modes.Free)) prefix quoted ∙ ap (λ o. scan_steps o quoted) over_prefix
-          ∙ quoted_steps [] (omega arith) c cs ((word_tells c cs).0 ∙ field) q quote d ds u through end
-          ∙ ap (λ t. Some (fresh (piece string t ∷ []))) read_is)
-          (length prefix + len) 0
-          (omega (arith, size, ap length encodes, length-append prefix quoted, length-append ds (q ∷ [])))
-          (line_ends-run [] (prefix ++ quoted) (quoted_all (λ e. not (is_break e)) prefix q (d ∷ ds) (ap not (quote-no_break q quote))
-          prefix_unbroken (string_no_break 0 T (d ∷ ds) u through)))
-
 -- a quote after so many bytes
 quote_within : (bs : List ℕ) (k : ℕ) → begins is_quote (drop k bs) ≡ true → k ≤ length bs
 quote_within bs k h =
@@ -174,42 +118,49 @@ begins_after q (c ∷ cs) quote plain =
     let on = in_prefix c cs (plain_starts _ _ plain) in
     after_word q quote (spelling_on (first_spelling c) cs) start (c ∷ cs) 0 [] plain on
 
+-- a string that was passed after its prefix, or with none, from where it begins so
+string_taken : {begins : BeforePiece → List ℕ → ℕ → List Bracket → Type 0} (bytes : List ℕ) (n : ℕ) (p : Passed) → n ≤ length bytes → 2 < p.len → encode_utf8_all (take n bytes) ≡ take n bytes
+    → PassesString begins (drop n bytes) p → begins start (take n bytes) 0 [] → IsFirstString bytes (string_piece (n + p.len) p.line_ends)
+string_taken {begins} bytes n p within some low has begun q string_is first =
+    let word = take n bytes in
+    let rest = drop n bytes in
+    let after = drop p.len rest in
+    let is : Passes rest p begins HasClosedString = subst (λ (b : Bool). Passes rest p begins (StringEnds b after)) (lt-ltb 2 p.len some) has in
+    let whole = word ++ is.part.run in
+    let ended = is.part.leads start word 0 [] begun in
+    let text_is : ended.text ≡ whole = sym (append-nil _ ∙ append-nil _) ∙ (sound_from whole _ ended.come.steps ended.come.stacked).spell in
+    let encodes : encode_utf8_all whole ≡ word ++ take p.len rest
+    = encodes-append word is.part.run ∙ ap (λ t. t ++ encode_utf8_all is.part.run) low ∙ ap (λ t. word ++ t) is.part.spell in
+    let spell : encode_utf8_all whole ++ after ≡ bytes
+    = ap (λ t. t ++ after) encodes ∙ append_assoc word (take p.len rest) after
+    ∙ ap (λ t. word ++ t) (take-append-drop p.len rest) ∙ take-append-drop n bytes in
+    let b = string_begins bytes q string_is first in
+    let (y, cut, spells) = prefix_chars whole (q.text ++ b.more) after (b.spell ∙ sym spell) in
+    let same : whole ≡ q.text = whole_closed q.text b.more b.after b.passes whole y cut (ended.come.steps ∙ ap (λ t. Some (fresh (piece string t ∷ []))) text_is) in
+    record {
+      role = ap (λ k. role_of k q.text) (sym string_is);
+      len = omega (arith, ap byte_len same, ap length encodes, length-append word (take p.len rest), length-take-le n bytes within, length-take-le p.len rest is.part.within);
+      line_ends = omega (arith, ap line_ends same, ended.come.holds.count);
+    }
+
 pub plain_taken : (bytes : List ℕ) (n : ℕ) (p : Passed) → begins is_quote (drop n bytes) ≡ true
     → is_plain_word (take n bytes) ≡ true → 2 < p.len → HasString (drop n bytes) (Some p)
     → IsFirstString bytes (string_piece (n + p.len) p.line_ends)
 plain_taken bytes n p quotes plain some has =
-    let within = quote_within bytes n quotes in
-    let quote = first_byte is_quote (drop n bytes) quotes in
-    let word = take n bytes in
-    let rest = drop n bytes in
-    let after = drop p.len rest in
-    let is : Passes rest p (StringBegins (slice_index rest 0)) HasClosedString
-    = subst (λ (b : Bool). Passes rest p (StringBegins (slice_index rest 0)) (StringEnds b after)) (lt-ltb 2 p.len some) has in
-    let whole = word ++ is.part.run in
-    let ended = is.part.leads start word 0 [] (begins_after (slice_index rest 0) word quote plain) in
-    let text_is : ended.text ≡ whole = sym (append-nil _ ∙ append-nil _) ∙ (sound_from whole _ ended.come.steps ended.come.stacked).spell in
-    let encodes : encode_utf8_all whole ≡ word ++ take p.len rest
-    = encodes-append word is.part.run ∙ ap (λ t. t ++ encode_utf8_all is.part.run) (word_low word plain)
-    ∙ ap (λ t. word ++ t) is.part.spell in
-    whole_taken bytes whole after
-    (ap (λ t. t ++ after) encodes ∙ append_assoc word (take p.len rest) after
-    ∙ ap (λ t. word ++ t) (take-append-drop p.len rest) ∙ take-append-drop n bytes)
-    (ended.come.steps ∙ ap (λ t. Some (fresh (piece string t ∷ []))) text_is)
-    (n + p.len) p.line_ends
-    (omega (arith, ap length encodes, length-append word (take p.len rest), length-take-le n bytes within, length-take-le p.len rest is.part.within))
-    (omega (arith, ended.come.holds.count))
+    string_taken bytes n p (quote_within bytes n quotes) some (word_low (take n bytes) plain) has
+    (begins_after (slice_index (drop n bytes) 0) (take n bytes) (first_byte is_quote (drop n bytes) quotes) plain)
 
--- a string with fields, after its prefix
+-- one with fields
 pub fields_taken : (bytes : List ℕ) (n len : ℕ) → 0 < n → ends_prefix bytes n ≡ true
     → is_field_spelling (word_spelling (take n bytes)) ≡ true → IsQuotedText (drop n bytes) len → IsFirstString bytes (token_piece kind.Str (n + len))
 fields_taken bytes n len some told field is =
     let (quotes, begun) = and_parts (begins is_quote (drop n bytes)) (begins_string (word_spelling (take n bytes))) told in
-    let size = length-take-le n bytes (quote_within bytes n quotes) in
-    subst (λ (k : ℕ). IsFirstString bytes (token_piece kind.Str (k + len))) size
-    (subst (λ (t : List ℕ). IsFirstString t (token_piece kind.Str (length (take n bytes) + len))) (take-append-drop n bytes)
-    (by (take n bytes) (omega (arith, some, size)) begun field))
+    let within = quote_within bytes n quotes in
+    let (low, on) = by (take n bytes) (omega (arith, some, length-take-le n bytes within)) begun in
+    string_taken bytes n (record { len = len; line_ends = 0 }) within (fields_some (drop n bytes) len is) low
+    (fields_passed (drop n bytes) len (word_spelling (take n bytes)) field is) (omega arith, on)
   where
-    by : (word : List ℕ) → 0 < length word → begins_string (word_spelling word) ≡ true → is_field_spelling (word_spelling word) ≡ true
-        → IsFirstString (word ++ drop n bytes) (token_piece kind.Str (length word + len))
-    by [] some begun field = absurd (omega (arith, some))
-    by (c ∷ cs) some begun field = fields_after c cs begun field (drop n bytes) len is
+    by : (word : List ℕ) → 0 < length word → begins_string (word_spelling word) ≡ true
+        → (encode_utf8_all word ≡ word) × IsInPieceAfter (modes.Word (word_spelling word)) start word 0 []
+    by [] some begun = absurd (omega (arith, some))
+    by (c ∷ cs) some begun = ((low_encodes is_low (c ∷ cs) low_is (low_prefix c cs begun)).0, in_prefix c cs begun)

@@ -1,15 +1,14 @@
 -- Pieces of ASCII whose end the marks show: the bytes up to there are those of the piece.
-use Rattle.std.proofs.Common.{◌≡◌, ℕ, ◌+◌, ◌-◌, ◌<◌, ◌≤◌, Bool, true, false, not, ◌==◌, Option, None, Some, List, ◌++◌, length, take, drop, slice_index, refl, sym, ap, ◌∙◌, subst, arith, eqb-true, inl, inr, length-drop}
+use Rattle.std.proofs.Common.{◌≡◌, ℕ, ◌+◌, ◌-◌, ◌<◌, ◌≤◌, Bool, true, false, not, ◌==◌, Option, None, Some, List, length, take, drop, slice_index, refl, sym, ap, ◌∙◌, subst, arith, eqb-true, inl, inr, length-drop}
 use Rattle.std.specs.Prelude.{codes}
 use Rattle.std.proofs.lemmas.Bool.{and_from, both_ways, cases_order, eq-eqb, false_from_ne_true}
-use Rattle.std.proofs.lemmas.List.{drop-drop}
 use Rattle.py_lines.specs.Character.{is_break, is_hash, is_one_of, is_operator, is_quote, is_space}
 use Rattle.py_lines.specs.Balance.{is_closing, is_opening}
 use Rattle.py_lines.specs.declared.marks.Marks.{Marks}
 use Rattle.py_lines.specs.declared.passing.Passing.{Passing}
 use Rattle.py_lines.specs.declared.plain_strings.Passed.{Passed}
 use Rattle.py_lines.specs.Private.Marks.{FindsNext, HasMarks, is_plain}
-use Rattle.py_lines.specs.Private.Outline.{HasString, PassesFirst, PassesPiece, StandsClosed, closes_itself, is_plain_prefix, tail_of}
+use Rattle.py_lines.specs.Private.Outline.{HasString, PassesFirst, PassesPiece, closes_itself, is_plain_prefix, tail_of}
 use Rattle.py_lines.specs.Private.Passing.{PassesMarked, passed_to}
 use Rattle.py_lines.specs.Private.Run.{IsRunOf, IsWholeComment, is_ascii_word, is_body_byte, is_remark_byte, is_text_byte}
 use Rattle.py_lines.proofs.LineScan.AsciiRuns.{is_low_from}
@@ -20,7 +19,7 @@ use Rattle.py_lines.proofs.SimpleLines.Comments.{comment_passed}
 use Rattle.py_lines.proofs.SimpleLines.Lines.{plain_code}
 use Rattle.py_lines.proofs.SimpleLines.Passing.{piece_passed}
 use Rattle.py_lines.proofs.FieldScans.TextLengths.{later, rest_is}
-use Rattle.py_lines.proofs.SimpleLines.Strings.{after, short_ended, short_first, short_run, string_at}
+use Rattle.py_lines.proofs.SimpleLines.Strings.{after, short_ended, short_first, short_run, plain_at}
 use Rattle.py_lines.proofs.SimpleLines.FirstBytes.{first_later}
 use Rattle.py_lines.proofs.LineScan.Runs.{break_low}
 
@@ -64,7 +63,7 @@ first_piece bytes at (Some p) here first = (
       within = first.part.within;
       run = first.part.run;
       spell = first.part.spell;
-      leads = λ m read n st on. subst (λ (t : List ℕ). StandsClosed (closes_itself (drop at bytes) p.len) t m (read ++ first.part.run) (n + p.line_ends) st) (drop-drop p.len at bytes) (first.part.leads m read n st on.2);
+      leads = λ m read n st on. first.part.leads m read n st on.2;
     };
   },
 )
@@ -114,7 +113,7 @@ module _ (bytes : List ℕ) (at end : ℕ) (further : at < end) (within : end < 
         let last : slice_index rest (1 + k) ≡ slice_index rest 0 = later bytes at (1 + k) ∙ ap (λ (i : ℕ). slice_index bytes i) there ∙ closes ∙ sym first_is in
         let ended = short_ended rest quote_first (1 + k) 0 (omega arith) holds read (omega arith) (omega (arith, further, within, length-drop at bytes)) last in
         let size : 1 + k + 1 ≡ end + 1 - at = omega (arith, further) in
-        string_at bytes at (Some (record { len = end + 1 - at; line_ends = 0 })) (omega (arith, further, within)) quote prefix
+        plain_at bytes at (Some (record { len = end + 1 - at; line_ends = 0 })) (omega (arith, further, within)) quote prefix
         (subst (λ (t : List ℕ). HasString t (Some (record { len = end + 1 - at; line_ends = 0 }))) (sym (rest_is bytes at))
         (subst (λ (n : ℕ). HasString rest (Some (record { len = n; line_ends = 0 }))) size ended))
 

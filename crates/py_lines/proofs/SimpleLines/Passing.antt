@@ -55,8 +55,9 @@ module _ (bytes : List ℕ) (at : ℕ) (within : at < length bytes) where
     run = passes.part.run;
     spell = passes.part.spell;
     leads = λ m read n tail here on.
-        stands_less (closes_itself (drop at bytes) p.len) closes (drop (at + p.len) bytes) m (read ++ passes.part.run) (n + p.line_ends)
-        (stack_of b) shut (passes.part.leads m read n (stack_of b) (tail, few, on));
+        rw (← drop-drop p.len at bytes)
+        (stands_less (closes_itself (drop at bytes) p.len) closes (drop p.len (drop at bytes)) m (read ++ passes.part.run) (n + p.line_ends)
+        (stack_of b) shut (passes.part.leads m read n (stack_of b) (tail, few, on)));
   }
 
 -- a line end

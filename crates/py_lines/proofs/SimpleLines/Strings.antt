@@ -4,7 +4,7 @@ use Rattle.std.specs.Prelude.{codes, encode_utf8_all, if◌then◌else◌, nat_l
 use Rattle.std.specs.Str.{all_scalars}
 use Rattle.std.specs.List.{list_all}
 use Rattle.std.proofs.lemmas.Bool.{and_from, and_parts, both_ways, eqb-true, false_from_ne_true, lt-ltb, cases_lt}
-use Rattle.std.proofs.lemmas.List.{drop-drop, drop_more, length-take-le}
+use Rattle.std.proofs.lemmas.List.{drop_more, length-take-le}
 use Rattle.std.proofs.lemmas.Str.{encode_ascii, encodes-append, length-le-encodes}
 use Rattle.std.proofs.Math.Seq.{take-add}
 use Rattle.py_lines.specs.Character.{is_one_of, is_quote, is_backslash, is_break, is_return, is_line_feed}
@@ -19,12 +19,12 @@ use Rattle.py_lines.specs.declared.plain_strings.Passed.{Passed}
 use Rattle.py_lines.specs.Private.Machine.{fresh, moved, Bracket, long_move, move_of, short_move}
 use Rattle.py_lines.specs.Private.ScanMachine.{begins_string, is_field_spelling, is_raw_spelling, meet_of, quote_move, scan_step}
 use Rattle.py_lines.specs.Private.Run.{HasLongText, Spans, is_body_byte, is_long_byte, stays}
-use Rattle.py_lines.specs.Private.Outline.{BeginsLineEnd, BeginsLong, EndsBefore, HasEscape, HasLineEnd, BeforePiece, HasClosedString, HasString, HoldsLineEnds, IsEscaped, IsInLong, IsInPiece, IsInPieceAfter, IsInShort, Passes, PassesPart, PassesPiece, PassesOrNot, StandsBefore, StandsClosed, StringBegins, StringEnds, closes_itself, is_plain_prefix, line_end_of, short_mode, tail_of}
+use Rattle.py_lines.specs.Private.Outline.{BeginsLineEnd, BeginsLong, EndsBefore, HasEscape, HasLineEnd, BeforePiece, HasClosedString, HasString, HoldsLineEnds, IsEscaped, IsInLong, IsInPieceAfter, IsInShort, Passes, PassesPart, PassesPiece, PassesOrNot, PassesString, StandsAt, StandsBefore, StandsClosed, StringBegins, StringEnds, closes_itself, is_plain_prefix, line_end_of, short_mode, tail_of}
 use Rattle.py_lines.proofs.Pieces.PieceLists.{piece}
 use Rattle.py_lines.proofs.Machine.Starts.{start-quote}
 use Rattle.py_lines.proofs.Machine.PieceSteps.{scanned}
 use Rattle.py_lines.proofs.Machine.LiveTexts.{keeps}
-use Rattle.py_lines.proofs.FieldScans.TextLengths.{rest_is}
+use Rattle.py_lines.proofs.FieldScans.TextLengths.{rest_is, rest_of}
 use Rattle.py_lines.proofs.LineScan.Increments.{EndsNoLine-push}
 use Rattle.py_lines.proofs.LineScan.LineCount.{ends-last}
 use Rattle.py_lines.proofs.LineScan.Runs.{body_parts, break-return, quote_ascii, stays-no_break}
@@ -38,18 +38,7 @@ use Rattle.py_lines.proofs.SimpleLines.Joins.{slash-not-break}
 use Rattle.py_lines.proofs.SimpleLines.FirstBytes.{first_then, line_end_low, taken_one, taken_two, first_later}
 use Rattle.py_lines.proofs.SimpleLines.Runs.{goes_on, lines_go_on, stay_spelled}
 
--- a character makes the open piece grow so
-abbrev pub Steps : Mode → ℕ → Mode → Type 0
-Steps m c next = (done : List Piece) (held : List ℕ) → scan_step (scanned done m held) c ≡ Some (scanned done next (held ++ c ∷ []))
-
-pub grows_there : (m next : Mode) (c k : ℕ) (initial : Mode) (read : List ℕ) (n : ℕ) (st : List Bracket) → Steps m c next → is_return c ≡ false → HoldsLineEnds (read ++ c ∷ []) k → IsInPiece m initial read n st → IsInPiece next initial (read ++ c ∷ []) k st
-grows_there m next c k initial read n st step other holds s = record {
-  done = s.done;
-  held = s.held ++ c ∷ [];
-  come = come_on c s.come (step s.done s.held) s.come.stacked s.come.one_line holds;
-  unreturned = ends-last is_return read c ∙ other;
-}
-
+-- a character makes the open piece grow
 grows : {m : Mode} {k : ℕ} {initial : BeforePiece} {read : List ℕ} {n : ℕ} {st : List Bracket} → IsInPieceAfter m initial read n st → (next : Mode) (c : ℕ) → meet_of m c ≡ moves.Grows next → is_return c ≡ false → HoldsLineEnds (read ++ c ∷ []) k → IsInPieceAfter next initial (read ++ c ∷ []) k st
 grows {read = read} s next c meets other holds = record {
   held = s.held ++ c ∷ [];
@@ -409,9 +398,9 @@ part_of_escape q quote bytes None has = tt
 part_of_escape q quote bytes (Some p) has = record { some = has.some; few = escape_few bytes p has; part = long_escape_part q quote bytes p has }
 
 -- a string that isn't empty is passed where its parts are
-whole_string : (bytes : List ℕ) (len n : ℕ) → 2 < len → n ≤ len → PassesPart bytes len n (StringBegins (slice_index bytes 0)) HasClosedString → HasString bytes (Some (record { len = len; line_ends = n }))
-whole_string bytes len n more few part =
-    subst (λ (b : Bool). Passes bytes (record { len = len; line_ends = n }) (StringBegins (slice_index bytes 0)) (StringEnds b (drop len bytes))) (sym (lt-ltb 2 len more))
+pub whole_string : {begins : BeforePiece → List ℕ → ℕ → List Bracket → Type 0} (bytes : List ℕ) (len n : ℕ) → 2 < len → n ≤ len → PassesPart bytes len n begins HasClosedString → PassesString begins bytes (record { len = len; line_ends = n })
+whole_string {begins} bytes len n more few part =
+    subst (λ (b : Bool). Passes bytes (record { len = len; line_ends = n }) begins (StringEnds b (drop len bytes))) (sym (lt-ltb 2 len more))
     (record { some = omega (arith, more); few = few; part = part })
 
 -- a short string as far as the code has come in it
@@ -451,30 +440,30 @@ ends_closed : (b : Bool) (rest : List ℕ) (before : BeforePiece) (read : List �
 ends_closed true rest before read n st ends = record { done = _; come = ends.come }
 ends_closed false rest before read n st ends = ends
 
--- a string at a byte of a line
-pub string_at : (bytes : List ℕ) (at : ℕ) (found : Option Passed) → at < length bytes → is_quote (slice_index bytes at) ≡ true → is_plain_prefix (tail_of (take at bytes)) ≡ true → HasString (take (length bytes - at) (drop at bytes)) found → PassesPiece bytes at found
-string_at bytes at None within quote plain has = tt
-string_at bytes at (Some p) within quote plain has =
-    let rest = drop at bytes in
-    let is : HasString rest (Some p) = subst (λ (t : List ℕ). HasString t (Some p)) (rest_is bytes at) has in
-    let first = first_later bytes at in
-    let room = is.part.within in (
-      omega (arith, room, within, length-drop at bytes),
-      record {
-        some = is.some;
-        few = is.few;
-        part = record {
-          within = room;
-          run = is.part.run;
-          spell = is.part.spell;
-          leads = λ initial read n st on.
-              let q = slice_index bytes at in
-              let before : StandsBefore (q ∷ drop (at + 1) bytes) initial read n st = subst (λ (t : List ℕ). StandsBefore t initial read n st) (drop_more bytes at 0 within) on.2 in
-              let (done, opened) = string_begins q quote (drop (at + 1) bytes) initial read n st (ap is_plain_prefix on.0 ∙ plain) before in
-              let begun : BeforePiece = record { mode = initial; done = done } in
-              let begins : StringBegins (slice_index rest 0) begun read n st = subst (λ (c : ℕ). StringBegins c begun read n st) (sym first) opened in
-              rw (string_closes rest p.len (ap is_quote first ∙ quote), ← drop-drop p.len at bytes)
-              (ends_closed (nat_lt 2 p.len) (drop p.len rest) begun (read ++ is.part.run) (n + p.line_ends) st (is.part.leads begun read n st begins));
-        };
-      },
-    )
+-- a string at a byte of a line, where it begins so
+pub string_at : {begins : BeforePiece → List ℕ → ℕ → List Bracket → Type 0} (bytes : List ℕ) (at : ℕ) (p : Passed) → at < length bytes → is_quote (slice_index bytes at) ≡ true → PassesString begins (drop at bytes) p
+    → ((m : Mode) (read : List ℕ) (n : ℕ) (st : List Bracket) → StandsAt bytes at m read n st → (done : List Piece) × begins (record { mode = m; done = done }) read n st) → PassesPiece bytes at (Some p)
+string_at bytes at p within quote is begins = (
+  omega (arith, is.part.within, within, length-drop at bytes),
+  record {
+    some = is.some;
+    few = is.few;
+    part = record {
+      within = is.part.within;
+      run = is.part.run;
+      spell = is.part.spell;
+      leads = λ m read n st on.
+          let (done, begun) = begins m read n st on in
+          rw (string_closes (drop at bytes) p.len (ap is_quote (first_later bytes at) ∙ quote))
+          (ends_closed (nat_lt 2 p.len) (drop p.len (drop at bytes)) _ (read ++ is.part.run) (n + p.line_ends) st (is.part.leads (record { mode = m; done = done }) read n st begun));
+    };
+  },
+)
+
+-- one without fields
+pub plain_at : (bytes : List ℕ) (at : ℕ) (found : Option Passed) → at < length bytes → is_quote (slice_index bytes at) ≡ true → is_plain_prefix (tail_of (take at bytes)) ≡ true → HasString (rest_of bytes at) found → PassesPiece bytes at found
+plain_at bytes at None within quote plain has = tt
+plain_at bytes at (Some p) within quote plain has =
+    string_at bytes at p within quote (subst (λ (t : List ℕ). HasString t (Some p)) (rest_is bytes at) has) (λ m read n st on.
+    let before = subst (λ (t : List ℕ). StandsBefore t m read n st) (drop_more bytes at 0 within) on.2 in
+    rw (first_later bytes at) (string_begins (slice_index bytes at) quote (drop (at + 1) bytes) m read n st (ap is_plain_prefix on.0 ∙ plain) before))

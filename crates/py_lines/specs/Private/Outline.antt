@@ -226,17 +226,21 @@ abbrev pub PassesPiece : List ℕ → ℕ → Option Passed → Type 0
 PassesPiece bytes at None = Unit {0}
 PassesPiece bytes at (Some p) =
     (at + p.len ≤ length bytes)
-    × Passes (drop at bytes) p (StandsAt bytes at) (StandsClosed (closes_itself (drop at bytes) p.len) (drop (at + p.len) bytes))
+    × Passes (drop at bytes) p (StandsAt bytes at) (StandsClosed (closes_itself (drop at bytes) p.len) (drop p.len (drop at bytes)))
 
 -- the comment or the join that the bytes begin with was passed, or nothing
 abbrev pub PassesFirst : List ℕ → Option Passed → Type 0
 PassesFirst bytes None = Unit {0}
 PassesFirst bytes (Some p) = Passes bytes p (StandsBefore bytes) (StandsClosed (closes_itself bytes p.len) (drop p.len bytes))
 
--- so the string, where it begins
+-- so a string, from where it begins so
+abbrev pub PassesString : (BeforePiece → List ℕ → ℕ → List Bracket → Type 0) → List ℕ → Passed → Type 0
+PassesString begins bytes p = Passes bytes p begins (StringEnds (nat_lt 2 p.len) (drop p.len bytes))
+
+-- from its first quote on
 abbrev pub HasString : List ℕ → Option Passed → Type 0
 HasString bytes None = Unit {0}
-HasString bytes (Some p) = Passes bytes p (StringBegins (slice_index bytes 0)) (StringEnds (nat_lt 2 p.len) (drop p.len bytes))
+HasString bytes (Some p) = PassesString (StringBegins (slice_index bytes 0)) bytes p
 
 -- the machine has closed these pieces, of which the last is a line end, or holds that yet, which is CR
 abbrev pub IsEndedBy : Scanned → List Piece → Piece → Type 0

@@ -2,7 +2,7 @@ use Rattle.std.proofs.Common.{subst, take, ◌≡◌, ℕ, List, true, slice_ind
 use Rattle.py_lines.specs.declared.prefix.Prefix.{Prefix}
 use Rattle.py_lines.specs.Private.Outline.{IsPrefix, tail_of}
 use Rattle.py_lines.proofs.SimpleLines.FieldStrings.{fields_at}
-use Rattle.py_lines.proofs.SimpleLines.Strings.{string_at}
+use Rattle.py_lines.proofs.SimpleLines.Strings.{plain_at}
 use Rattle.py_lines.proofs.outline.string.Goals as goal
 use Rattle.py_lines.specs.Character.{is_quote}
 use Rattle.py_lines.proofs.FieldScans.TextLengths.{rest_is, rest_of}
@@ -21,9 +21,9 @@ quoted_text_len-requires-clause-quote c = quote_first c.args.bytes.now c.args.at
 pub returns-in-Plain : goal.returns-in-Plain
 returns-in-Plain c =
     let before = subst (λ (p : Prefix). IsPrefix p (tail_of (take c.args.at c.args.bytes.now))) c.in-Plain.is c.before-2.ensures in
-    string_at c.args.bytes.now c.args.at c.plain_string.result c.requires.within c.requires.quote before c.plain_string.ensures
+    plain_at c.args.bytes.now c.args.at c.plain_string.result c.requires.within c.requires.quote before c.plain_string.ensures
 
 pub returns-in_ok-len-in-Fields : goal.returns-in_ok-len-in-Fields
 returns-in_ok-len-in-Fields c =
     let (s, tail, field) = subst (λ (p : Prefix). IsPrefix p (tail_of (take c.args.at c.args.bytes.now))) c.in-Fields.is c.before-2.ensures in
-    fields_at c.args.bytes.now c.args.at c.in_ok-len-in-Fields.len s c.requires.within tail field c.in_ok-len-in-Fields.ensures
+    fields_at c.args.bytes.now c.args.at c.in_ok-len-in-Fields.len s c.requires.within c.requires.quote tail field c.in_ok-len-in-Fields.ensures
