@@ -10,15 +10,14 @@ use Rattle.py_lines.specs.Fields.{fielded, InClass}
 use Rattle.py_lines.specs.declared.mode.Mode.TheVariants as modes
 use Rattle.py_lines.specs.declared.mode.Start.{Start}
 use Rattle.py_lines.specs.declared.mode.Start.TheVariants as starts
-use Rattle.py_lines.specs.Private.Machine.{start_of, spelling_on}
-use Rattle.py_lines.specs.Private.ScanMachine.{begins_string}
+use Rattle.py_lines.specs.Private.Machine.{start_of}
 use Rattle.py_lines.proofs.Text.CharacterTests.{operator_ascii, prefix_word, the_one}
-use Rattle.py_lines.proofs.Machine.Spellings.{name_stays}
 use Rattle.py_lines.proofs.Machine.Starts.{start-mark, start-word, start-space, start-operator, start-feed, start-return, start-quote, start-hash, start-slash}
 use Rattle.py_lines.proofs.Fields.Elsewhere.{quotes_begin}
 use Rattle.py_lines.proofs.Fields.Prefixes.{field_letters}
 use Rattle.py_lines.proofs.LineScan.Runs.{space_low, quote_ascii}
-use Rattle.py_lines.proofs.LineTokens.Spellings.{fielded_spelling, high_first}
+use Rattle.py_lines.proofs.LineScan.AsciiRuns.{is_low, low_is}
+use Rattle.py_lines.proofs.LineTokens.Spellings.{fielded_spelling, prefix_low}
 
 -- a string: its prefix, if it has one, its first quote, and the rest
 pub record IsQuoted (text : List ℕ) : Type 0 where
@@ -57,13 +56,6 @@ pub record IsPrefixWord (prefix : List ℕ) : Type 0 where
   pub low : first < 128
   pub run : list_all is_word_character others ≡ true
 
-pub prefix_low : (a : ℕ) (bs : List ℕ) → fielded.is_prefix (a ∷ bs) ≡ true → a < 128
-prefix_low a bs h = ⊎_elim (λ low. low)
-    (λ high. absurd
-    (both_ways _ (ap (λ s. begins_string (spelling_on s bs)) (high_first a high) ∙ ap begins_string (name_stays bs))
-    (sym (fielded_spelling a bs) ∙ h)))
-    (cases_lt a 128)
-
 pub as_word : (a : ℕ) (bs : List ℕ) → fielded.is_prefix (a ∷ bs) ≡ true → (is_word_start a ≡ true) × (list_all is_word_character bs ≡ true)
 as_word a bs h = ⊎_elim (λ plain. prefix_word a bs plain) with_fields (or_cases (is_prefix (a ∷ bs)) (is_field_prefix (a ∷ bs)) h)
   where
@@ -81,7 +73,7 @@ prefix_is_word (a ∷ bs) is =
       others = bs;
       is = refl;
       starts = parts.0;
-      low = prefix_low a bs is;
+      low = low_is a (and_parts (is_low a) _ (prefix_low (a ∷ bs) (sym (fielded_spelling a bs) ∙ is))).0;
       run = parts.1;
     }
 

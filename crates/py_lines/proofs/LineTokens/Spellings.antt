@@ -1,9 +1,9 @@
--- The spelling of a word is told by its bytes, and says whether the word is the prefix of a string.
-use Rattle.std.proofs.Common.{◌≡◌, ℕ, ◌≤◌, true, false, ◌||◌, ◌&&◌, List, [], ◌∷◌, ◌++◌, refl, sym, ap, ◌∙◌, arith, ⊎_elim}
+-- The spelling of a word, also as its bytes have it, says whether the word is the prefix of a string.
+use Rattle.std.proofs.Common.{◌≡◌, ℕ, ◌≤◌, true, false, Bool, ◌||◌, ◌&&◌, List, [], ◌∷◌, ◌++◌, refl, sym, ap, ◌∙◌, arith, ⊎_elim}
 use Rattle.std.specs.Prelude.{codes, encode_utf8, encode_utf8_all, nat_le, nat_lt}
 use Rattle.std.specs.List.{list_all, list_any}
 use Rattle.std.proofs.Math.Bool.{or-false}
-use Rattle.std.proofs.lemmas.Bool.{and_from, or_right, both_ways, cases_lt, cases_Bool, leb-false, lt-ltb, false_from_ne_true}
+use Rattle.std.proofs.lemmas.Bool.{and_from, and_parts, or_right, both_ways, cases_lt, cases_Bool, leb-false, lt-ltb, false_from_ne_true}
 use Rattle.std.proofs.lemmas.Bool.Decides.{nat_tests}
 use Rattle.py_lines.specs.Character.{is_digit, is_one_of, is_r, is_b, is_f, is_t, is_u}
 use Rattle.py_lines.specs.PieceGrammar.{is_prefix}
@@ -16,6 +16,7 @@ use Rattle.py_lines.specs.Private.ScanMachine.{begins_string, is_field_spelling}
 use Rattle.py_lines.specs.Private.Run.{word_spelling}
 use Rattle.py_lines.proofs.Text.CharacterTests.{Each, none_of}
 use Rattle.py_lines.proofs.Text.Utf8Shapes.{one, two, three, four}
+use Rattle.py_lines.proofs.LineScan.AsciiRuns.{is_low, low_encodes, low_is}
 use Rattle.py_lines.proofs.Machine.Spellings.{name_stays, number_stays, prefix_spelling}
 use Rattle.py_lines.proofs.ScanMachine.Spellings.{other_begins, word_tells}
 
@@ -43,11 +44,6 @@ high_with spellings.F c high = rw (high_no (codes "rR") c refl high)
 high_with spellings.T c high = rw (high_no (codes "rR") c refl high)
 high_with s c high = refl
 
-ended_with : (s : Spelling) (c : ℕ) → spelling_with (ended s) c ≡ ended s
-unfolding spelling_with
-ended_with spellings.Number c = refl
-ended_with s c = refl
-
 -- the bytes of a character that isn't ASCII
 pub record HighBytes (c : ℕ) : Type 0 where
   pub first : ℕ
@@ -64,22 +60,12 @@ high_bytes c high = ⊎_elim
     (cases_lt c 65536))
     (cases_lt c 2048)
 
--- so the bytes of a character spell what the character does
-ended_on : (s : Spelling) (bs : List ℕ) → spelling_on (ended s) bs ≡ ended s
-ended_on s [] = refl
-ended_on s (b ∷ bs) = ap (λ t. spelling_on t bs) (ended_with s b) ∙ ended_on s bs
-
-on_character : (s : Spelling) (c : ℕ) → 128 ≤ c → spelling_on s (encode_utf8 c) ≡ ended s
-on_character s c high =
-    let h = high_bytes c high in
-    ap (spelling_on s) h.is ∙ ap (λ t. spelling_on t h.others) (high_with s h.first h.high.0) ∙ ended_on s h.others
-
 -- so the letters of a prefix are ASCII
 ended_no_prefix : (s : Spelling) (cs : List ℕ) → begins_string (spelling_on (ended s) cs) ≡ false
 ended_no_prefix spellings.Number cs = ap begins_string (number_stays cs)
 ended_no_prefix s cs = ap begins_string (name_stays cs)
 
-pub letters_low : (s : Spelling) (cs : List ℕ) → begins_string (spelling_on s cs) ≡ true → list_all (λ c. nat_lt c 128) cs ≡ true
+letters_low : (s : Spelling) (cs : List ℕ) → begins_string (spelling_on s cs) ≡ true → list_all (λ c. nat_lt c 128) cs ≡ true
 letters_low s [] begun = refl
 letters_low s (c ∷ cs) begun =
     ⊎_elim (λ low. and_from (nat_lt c 128) (list_all (λ d. nat_lt d 128) cs) (lt-ltb c 128 low) (letters_low (spelling_with s c) cs begun))
@@ -87,29 +73,37 @@ letters_low s (c ∷ cs) begun =
     (both_ways _ (ap (λ t. begins_string (spelling_on t cs)) (high_with s c high) ∙ ended_no_prefix s cs) begun))
     (cases_lt c 128)
 
-on_append : (s : Spelling) (xs ys : List ℕ) → spelling_on s (xs ++ ys) ≡ spelling_on (spelling_on s xs) ys
-on_append s [] ys = refl
-on_append s (x ∷ xs) ys = on_append (spelling_with s x) xs ys
+pub prefix_low : (word : List ℕ) → begins_string (word_spelling word) ≡ true → list_all is_low word ≡ true
+prefix_low [] begun = refl
+prefix_low (c ∷ cs) begun =
+    ⊎_elim (λ low. and_from (is_low c) (list_all is_low cs) (lt-ltb c 128 low) (letters_low (first_spelling c) cs begun))
+    (λ high. absurd (both_ways _ (ap (λ s. begins_string (spelling_on s cs)) (high_first c high) ∙ ap begins_string (name_stays cs)) begun))
+    (cases_lt c 128)
 
-spelled_on : (s : Spelling) (cs : List ℕ) → spelling_on s (encode_utf8_all cs) ≡ spelling_on s cs
-spelled_on s [] = refl
-spelled_on s (c ∷ cs) =
-    on_append s (encode_utf8 c) (encode_utf8_all cs) ∙ ap (λ t. spelling_on t (encode_utf8_all cs)) step ∙ spelled_on (spelling_with s c) cs
-  where
-    step : spelling_on s (encode_utf8 c) ≡ spelling_with s c
-    step = ⊎_elim (λ low. ap (spelling_on s) (one c low)) (λ high. on_character s c high ∙ sym (high_with s c high)) (cases_lt c 128)
+-- bytes of ASCII are the characters that they spell
+low_encoded : (cs : List ℕ) → list_all is_low (encode_utf8_all cs) ≡ true → encode_utf8_all cs ≡ cs
+low_encoded [] all = refl
+low_encoded (c ∷ cs) all =
+    ⊎_elim
+    (λ low.
+    let is : encode_utf8_all (c ∷ cs) ≡ c ∷ encode_utf8_all cs = ap (λ t. t ++ encode_utf8_all cs) (one c low) in
+    let parts = and_parts (is_low c) (list_all is_low (encode_utf8_all cs)) (ap (list_all is_low) (sym is) ∙ all) in
+    is ∙ ap (λ t. c ∷ t) (low_encoded cs parts.1))
+    (λ high.
+    let h = high_bytes c high in
+    let first = (and_parts (is_low h.first) _ (ap (λ t. list_all is_low (t ++ encode_utf8_all cs)) (sym h.is) ∙ all)).0 in
+    absurd (omega (arith, h.high.0, low_is h.first first)))
+    (cases_lt c 128)
 
--- a word is spelled by its bytes as by its characters
-pub word_encoded : (c : ℕ) (cs : List ℕ) → word_spelling (encode_utf8_all (c ∷ cs)) ≡ spelling_on (first_spelling c) cs
-word_encoded c cs =
-    ⊎_elim (λ low. ap (λ t. word_spelling (t ++ encode_utf8_all cs)) (one c low) ∙ spelled_on (first_spelling c) cs)
-    (λ high. name high (high_bytes c high)) (cases_lt c 128)
+-- so a word is a prefix where its bytes are
+pub prefix_encoded : (word : List ℕ) → begins_string (word_spelling (encode_utf8_all word)) ≡ begins_string (word_spelling word)
+prefix_encoded word = ⊎_elim
+    (λ bytes. ap begins_word (low_encoded word (prefix_low (encode_utf8_all word) bytes)))
+    (λ other. ⊎_elim (λ is. ap begins_word (low_encodes is_low word low_is (prefix_low word is)).0) (λ none. other ∙ sym none) (cases_Bool (begins_word word)))
+    (cases_Bool (begins_word (encode_utf8_all word)))
   where
-    name : 128 ≤ c → HighBytes c → word_spelling (encode_utf8_all (c ∷ cs)) ≡ spelling_on (first_spelling c) cs
-    name high h =
-        let bs : List ℕ = h.others ++ encode_utf8_all cs in
-        ap (λ t. word_spelling (t ++ encode_utf8_all cs)) h.is ∙ ap (λ s. spelling_on s bs) (high_first h.first h.high.0) ∙ name_stays bs
-        ∙ sym (name_stays cs) ∙ ap (λ s. spelling_on s cs) (sym (high_first c high))
+    begins_word : List ℕ → Bool
+    begins_word text = begins_string (word_spelling text)
 
 -- and its spelling says whether it is a prefix
 field_begins : (s : Spelling) → is_field_spelling s ≡ true → begins_string s ≡ true

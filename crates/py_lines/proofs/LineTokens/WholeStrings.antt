@@ -26,13 +26,13 @@ use Rattle.py_lines.proofs.Machine.PieceSteps.{scanned, word_by}
 use Rattle.py_lines.proofs.Machine.Starts.{start-quote, start-word}
 use Rattle.py_lines.proofs.ScanMachine.Steps.{begun, grow-word, stops-free}
 use Rattle.py_lines.proofs.LineScan.Runs.{ends-run, line_ends-run, quote_ascii}
-use Rattle.py_lines.proofs.LineScan.AsciiRuns.{is_low, is_low_from, low_encodes, low_is, quote-no_break}
+use Rattle.py_lines.proofs.LineScan.AsciiRuns.{is_low, low_encodes, low_is, quote-no_break}
 use Rattle.py_lines.proofs.LineScan.TextSteps.{begun_sound}
 use Rattle.py_lines.proofs.SimpleLines.Code.{holds_one, one_unreturned}
 use Rattle.py_lines.proofs.SimpleLines.FieldStrings.{fields_passed, fields_some}
 use Rattle.py_lines.proofs.SimpleLines.Strings.{after_word}
-use Rattle.py_lines.proofs.LineTokens.FirstCharacters.{as_word, prefix_low}
-use Rattle.py_lines.proofs.LineTokens.Spellings.{fielded_spelling, letters_low}
+use Rattle.py_lines.proofs.LineTokens.FirstCharacters.{as_word}
+use Rattle.py_lines.proofs.LineTokens.Spellings.{fielded_spelling, prefix_low}
 use Rattle.py_lines.proofs.LineTokens.StringScans.{begins_string as string_begins}
 use Rattle.py_lines.proofs.LineTokens.Strings.{sound_from, whole_closed}
 use Rattle.py_lines.proofs.LineTokens.Words.{first_byte, wide_unbroken, word_wide}
@@ -61,10 +61,6 @@ module _ (c : ℕ) (cs : List ℕ) (begins : begins_string (spelling_on (first_s
       begun (line_start modes.Free) c cs cs _ (stops-free prefix) (start-word c word.0)
       ∙ word_by move_at [] (λ t held. grow-word t) (first_spelling c) (c ∷ []) cs word.1
 
-  low_prefix : list_all is_low prefix ≡ true
-  low_prefix = and_from (is_low c) (list_all is_low cs) (is_low_from c (prefix_low c cs is_prefix))
-      (letters_low (first_spelling c) cs begins)
-
   prefix_unbroken : list_all (λ e. not (is_break e)) prefix ≡ true
   prefix_unbroken = wide_unbroken prefix (word_wide c cs word.0 word.1)
 
@@ -76,7 +72,7 @@ module _ (c : ℕ) (cs : List ℕ) (begins : begins_string (spelling_on (first_s
       steps = over_prefix;
       stacked = refl;
       one_line = tt;
-      holds = record { scalars = (low_encodes is_low prefix low_is low_prefix).1; count = line_ends-run [] prefix prefix_unbroken };
+      holds = record { scalars = (low_encodes is_low prefix low_is (prefix_low prefix begins)).1; count = line_ends-run [] prefix prefix_unbroken };
     };
     unreturned = ends-run [] prefix tt prefix_unbroken;
   }
@@ -100,7 +96,7 @@ plain_starts false b h = h
 
 word_low : (word : List ℕ) → is_plain_word word ≡ true → encode_utf8_all word ≡ word
 word_low [] plain = refl
-word_low (c ∷ cs) plain = (low_encodes is_low (c ∷ cs) low_is (low_prefix c cs (plain_starts _ _ plain))).0
+word_low (c ∷ cs) plain = (low_encodes is_low (c ∷ cs) low_is (prefix_low (c ∷ cs) (plain_starts _ _ plain))).0
 
 begins_after : (q : ℕ) (word : List ℕ) → is_quote q ≡ true → is_plain_word word ≡ true → StringBegins q start word 0 []
 begins_after q [] quote plain = record {
@@ -156,11 +152,11 @@ pub fields_taken : (bytes : List ℕ) (n len : ℕ) → 0 < n → ends_prefix by
 fields_taken bytes n len some told field is =
     let (quotes, begun) = and_parts (begins is_quote (drop n bytes)) (begins_string (word_spelling (take n bytes))) told in
     let within = quote_within bytes n quotes in
-    let (low, on) = by (take n bytes) (omega (arith, some, length-take-le n bytes within)) begun in
+    let low = (low_encodes is_low (take n bytes) low_is (prefix_low (take n bytes) begun)).0 in
+    let on = by (take n bytes) (omega (arith, some, length-take-le n bytes within)) begun in
     string_taken bytes n (record { len = len; line_ends = 0 }) within (fields_some (drop n bytes) len is) low
     (fields_passed (drop n bytes) len (word_spelling (take n bytes)) field is) (omega arith, on)
   where
-    by : (word : List ℕ) → 0 < length word → begins_string (word_spelling word) ≡ true
-        → (encode_utf8_all word ≡ word) × IsInPieceAfter (modes.Word (word_spelling word)) start word 0 []
+    by : (word : List ℕ) → 0 < length word → begins_string (word_spelling word) ≡ true → IsInPieceAfter (modes.Word (word_spelling word)) start word 0 []
     by [] some begun = absurd (omega (arith, some))
-    by (c ∷ cs) some begun = ((low_encodes is_low (c ∷ cs) low_is (low_prefix c cs begun)).0, in_prefix c cs begun)
+    by (c ∷ cs) some begun = in_prefix c cs begun

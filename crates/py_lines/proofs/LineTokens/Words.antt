@@ -25,7 +25,7 @@ use Rattle.py_lines.proofs.LineScan.Runs.{quote_ascii, word_byte_continues, word
 use Rattle.py_lines.proofs.LineTokens.FirstCharacters.{IsQuoted, quoted, prefix_is_word}
 use Rattle.py_lines.proofs.LineTokens.FirstPieces.{in_class, low_even, precedes, run_taken, taken, unbroken}
 use Rattle.py_lines.proofs.LineTokens.RunLengths.{IsEvenAbove, encoded_begins, encoded_passes, run_length}
-use Rattle.py_lines.proofs.LineTokens.Spellings.{fielded_spelling, word_encoded}
+use Rattle.py_lines.proofs.LineTokens.Spellings.{fielded_spelling, prefix_encoded}
 use Rattle.py_lines.proofs.LineTokens.Splits.{class_told, first_of, spelled_bytes, word_ends}
 
 -- the characters of a word are bytes of words, or not ASCII
@@ -75,9 +75,7 @@ cut_at bytes xs ys n is size = rw (is, size) (take-append_seam xs ys, drop-appen
 -- the spelling of the word
 prefix_told : (prefix : List ℕ) (c : ℕ) (cs : List ℕ) → prefix ≡ c ∷ cs
     → begins_string (word_spelling (encode_utf8_all prefix)) ≡ fielded.is_prefix prefix
-prefix_told prefix c cs is =
-    ap (λ t. begins_string (word_spelling (encode_utf8_all t))) is ∙ ap begins_string (word_encoded c cs) ∙ sym (fielded_spelling c cs)
-    ∙ ap fielded.is_prefix (sym is)
+prefix_told prefix c cs is = prefix_encoded prefix ∙ rw is (sym (fielded_spelling c cs))
 
 digit_told : (b c : ℕ) → (b < 128 → c ≡ b) → (128 ≤ b → 128 ≤ c) → is_ascii_digit b ≡ is_digit c
 unfolding is_digit

@@ -1,12 +1,12 @@
 -- Where no piece is open, no word is, and CR doesn't stand last.
-use Rattle.std.proofs.Common.{◌≡◌, ℕ, inl, inr, Bool, true, false, ◌&&◌, Option, None, Some, List, [], ◌∷◌, ◌++◌, refl, sym, ap, ◌∙◌, subst, append_assoc, append-nil, lit<, ⊎_elim}
-use Rattle.std.specs.Prelude.{codes, if◌then◌else◌}
-use Rattle.std.proofs.lemmas.Bool.{and_from, both_ways}
-use Rattle.py_lines.specs.Character.{is_break, is_line_feed, is_mark, is_operator, is_quote, is_return, is_space}
+use Rattle.std.proofs.Common.{◌≡◌, ℕ, inl, inr, Bool, true, false, not, ◌&&◌, ◌||◌, Option, None, Some, List, [], ◌∷◌, ◌++◌, refl, sym, ap, ◌∙◌, subst, append_assoc, append-nil, lit<, ⊎_elim}
+use Rattle.std.specs.Prelude.{codes}
+use Rattle.std.proofs.lemmas.Bool.{and_from, both_ways, cond_both, not-true, or_parts}
+use Rattle.py_lines.specs.Character.{is_break, is_line_feed, is_operator, is_quote, is_return, is_space}
 use Rattle.py_lines.specs.Piece.{Class, mark, space, word, string, operator, comment, join, line_end, Piece, ends, spelled}
 use Rattle.py_lines.specs.PieceGrammar.{IsLineEnd, joined}
 use Rattle.py_lines.specs.PieceGrammar.IsLineEnd.{feed, return_feed, return}
-use Rattle.py_lines.specs.FieldStrings.{Host, quotes_of}
+use Rattle.py_lines.specs.FieldStrings.{quotes_of}
 use Rattle.py_lines.specs.Fields.{AreReadBefore, InClass, MayPrecede}
 use Rattle.py_lines.specs.declared.mode.Mode.{Mode}
 use Rattle.py_lines.specs.declared.mode.Mode.TheVariants as modes
@@ -18,11 +18,11 @@ use Rattle.py_lines.specs.Private.Run.{is_ascii_word}
 use Rattle.py_lines.specs.Private.FieldText.{is_apart_mode}
 use Rattle.py_lines.specs.Private.Outline.{GoesOnAfter, HasCome, IsEndedBy, IsFreeAfter, IsTail, StandsBefore, StandsClosed, tail_of, tail_on, tail_with, HoldsLineEnds}
 use Rattle.py_lines.proofs.LineScan.LineCount.{ends-last}
+use Rattle.py_lines.proofs.Lexings.SettledFits.{ends-append}
 use Rattle.py_lines.proofs.LineScan.PieceEnd.{no_class_bracket}
 use Rattle.py_lines.proofs.LineScan.LineSteps.{sound_steps}
-use Rattle.py_lines.proofs.LineScan.Runs.{break-return, word_byte_continues}
-use Rattle.py_lines.proofs.LineScan.AsciiRuns.{operator-no_break, quote-no_break}
-use Rattle.py_lines.proofs.Text.CharacterTests.{feed_from, none_of, the_one}
+use Rattle.py_lines.proofs.LineScan.Runs.{word_byte_continues}
+use Rattle.py_lines.proofs.Text.CharacterTests.{feed_from, mark_is, none_of}
 
 -- where the machine has come, it is sound
 pub come_sound : (m : Mode) (read : List ℕ) (n : ℕ) (st : List Bracket) (s : Scanned) → HasCome m read n st s → IsScanSound s read
@@ -52,10 +52,6 @@ pub quote-no-word : (c : ℕ) → is_quote c ≡ true → is_ascii_word c ≡ fa
 unfolding is_quote is_ascii_word
 quote-no-word c h = none_of is_ascii_word (codes "'\"") c refl h
 
-pub operator-no-word : (c : ℕ) → is_operator c ≡ true → is_ascii_word c ≡ false
-unfolding is_operator is_ascii_word
-operator-no-word c is = none_of is_ascii_word (codes "+-*/%@&|^~<>=!()[]{},:.;") c refl is
-
 pub feed-no-word : is_ascii_word 10 ≡ false
 unfolding is_ascii_word
 feed-no-word = refl
@@ -68,81 +64,70 @@ pub return_returns : is_return 13 ≡ true
 unfolding is_return
 return_returns = refl
 
-mark_other : (c : ℕ) → is_mark c ≡ true → (is_ascii_word c ≡ false) × (is_return c ≡ false)
-unfolding is_mark is_ascii_word is_return
-mark_other c is = subst (λ (d : ℕ). (is_ascii_word d ≡ false) × (is_return d ≡ false)) (sym (the_one 65279 c is)) (refl, refl)
+-- no letter, digit or underscore, and not CR
+abbrev is_other : ℕ → Bool
+is_other c = not (is_ascii_word c || is_return c)
 
--- a text that ends with no letter, digit or underscore, and not with CR
-record EndsOther (text : List ℕ) : Type 0 where
-  front : List ℕ
-  last : ℕ
-  spell : text ≡ front ++ last ∷ []
-  word : is_ascii_word last ≡ false
-  other : is_return last ≡ false
+-- a text that ends with such a character
+other_tail : (t : Option Spelling) (text : List ℕ) → ends is_other text ≡ true → (tail_on t text ≡ None) × (ends is_return text ≡ false)
+other_tail t [] h = absurd (both_ways _ refl h)
+other_tail t (c ∷ []) h = let (other, returns) = or_parts (is_ascii_word c) (is_return c) (not-true _ h) in (no_tail_with t c other, returns)
+other_tail t (c ∷ d ∷ ds) h = other_tail (tail_with t c) (d ∷ ds) h
 
-after_more : (more text : List ℕ) → EndsOther text → EndsOther (more ++ text)
-after_more more text e = record {
-  front = more ++ e.front;
-  last = e.last;
-  spell = ap (λ t. more ++ t) e.spell ∙ sym (append_assoc more e.front (e.last ∷ []));
-  word = e.word;
-  other = e.other;
-}
+ends_after : (xs ys : List ℕ) → ends is_other ys ≡ true → ends is_other (xs ++ ys) ≡ true
+ends_after xs [] h = absurd (both_ways _ refl h)
+ends_after xs (y ∷ ys) h = ends-append is_other xs y ys ∙ h
 
-quote_ends : (front : List ℕ) (q : ℕ) → is_quote q ≡ true → EndsOther (front ++ q ∷ [])
-quote_ends front q quote = record { front = front; last = q; spell = refl; word = quote-no-word q quote; other = break-return q (quote-no_break q quote) }
+quote_other : (q : ℕ) → is_quote q ≡ true → is_other q ≡ true
+unfolding is_quote is_ascii_word is_return
+quote_other q quote = ap not (none_of (λ c. is_ascii_word c || is_return c) (codes "'\"") q refl quote)
 
-feed_ends : (front : List ℕ) → EndsOther (front ++ 10 ∷ [])
-feed_ends front = record { front = front; last = 10; spell = refl; word = feed-no-word; other = feed_unreturned }
+operator_other : (c : ℕ) → is_operator c ≡ true → is_other c ≡ true
+unfolding is_operator is_ascii_word is_return
+operator_other c is = ap not (none_of (λ d. is_ascii_word d || is_return d) (codes "+-*/%@&|^~<>=!()[]{},:.;") c refl is)
 
-quotes_end : (host : Host) → is_quote host.quote ≡ true → EndsOther (quotes_of host)
-quotes_end host quote = by host.is_long
-  where
-    by : (b : Bool) → EndsOther (if b then host.quote ∷ host.quote ∷ host.quote ∷ [] else host.quote ∷ [])
-    by true = quote_ends (host.quote ∷ host.quote ∷ []) host.quote quote
-    by false = quote_ends [] host.quote quote
-
-string_ends : (text : List ℕ) → InClass string text → EndsOther text
+string_ends : (text : List ℕ) → InClass string text → ends is_other text ≡ true
 string_ends text (inl (inl (short, plain))) =
-    subst EndsOther (sym short.spell) (after_more short.prefix _ (after_more (short.quote ∷ joined short.items) _ (quote_ends [] short.quote short.opens)))
+    let q = short.quote in
+    ap (ends is_other) short.spell ∙ ends_after short.prefix _ (ends_after (q ∷ joined short.items) (q ∷ []) (quote_other q short.opens))
 string_ends text (inl (inr (long, plain))) =
     let q = long.quote in
-    subst EndsOther (sym long.spell) (after_more long.prefix _ (after_more (q ∷ q ∷ q ∷ joined long.items) _ (quote_ends (q ∷ q ∷ []) q long.opens)))
-string_ends text (inr fields) =
-    subst EndsOther (sym fields.spell) (after_more fields.prefix _ (after_more (quotes_of fields.host) _ (after_more (joined fields.parts) _ (quotes_end fields.host fields.opens))))
+    ap (ends is_other) long.spell ∙ ends_after long.prefix _ (ends_after (q ∷ q ∷ q ∷ joined long.items) (q ∷ q ∷ q ∷ []) (quote_other q long.opens))
+string_ends text (inr is) =
+    let other = quote_other is.host.quote is.opens in
+    let quotes = cond_both is.host.is_long _ _ (λ (t : List ℕ). ends is_other t ≡ true) (λ _. other) (λ _. other) in
+    ap (ends is_other) is.spell ∙ ends_after is.prefix _ (ends_after (quotes_of is.host) _ (ends_after (joined is.parts) (quotes_of is.host) quotes))
 
 -- LF may not stand after CR
-line_end_ends : (before end : List ℕ) → IsLineEnd end → ends is_return (before ++ end) && is_line_feed 10 ≡ false → EndsOther (before ++ end)
-line_end_ends before end (feed is) may = subst (λ (t : List ℕ). EndsOther (before ++ t)) (sym is) (feed_ends before)
-line_end_ends before end (return_feed is) may = subst (λ (t : List ℕ). EndsOther (before ++ t)) (sym is) (after_more before _ (feed_ends (13 ∷ [])))
+line_end_ends : (before end : List ℕ) → IsLineEnd end → ends is_return (before ++ end) && is_line_feed 10 ≡ false → ends is_other (before ++ end) ≡ true
+unfolding is_ascii_word is_return
+line_end_ends before end (feed is) may = rw is (ends_after before (10 ∷ []) refl)
+line_end_ends before end (return_feed is) may = rw is (ends_after before (13 ∷ 10 ∷ []) refl)
 line_end_ends before end (return is) may =
-    absurd (both_ways _ may (and_from _ _ (ap (λ t. ends is_return (before ++ t)) is ∙ ends-last is_return before 13 ∙ return_returns) (feed_from 10 refl)))
+    absurd (both_ways _ may (and_from _ _ (ap (λ t. ends is_return (before ++ t)) is ∙ ends-last is_return before 13) (feed_from 10 refl)))
 
 -- a piece that may stand before every text, which no space, no word and no comment may
-class_ends : (class : Class) (text : List ℕ) → ((more : List ℕ) → InClass class text × MayPrecede class text more) → EndsOther text
-unfolding is_ascii_word is_break is_space
-class_ends mark text fits = let (one, is, marks) = (fits []).0 in let other = mark_other one marks in record { front = []; last = one; spell = is; word = other.0; other = other.1 }
+class_ends : (class : Class) (text : List ℕ) → ((more : List ℕ) → InClass class text × MayPrecede class text more) → ends is_other text ≡ true
+unfolding is_ascii_word is_break is_space is_return
+class_ends mark text fits = let (one, is, marks) = (fits []).0 in ap (ends is_other) is ∙ ap is_other (mark_is one marks)
 class_ends space text fits = absurd (both_ways _ (fits (32 ∷ [])).1 refl)
 class_ends word text fits = absurd (both_ways _ (fits (97 ∷ [])).1.0 (word_byte_continues 97 (lit< tt)))
 class_ends string text fits = string_ends text (fits []).0
-class_ends operator text fits = let (one, is, stands) = (fits []).0 in record { front = []; last = one; spell = is; word = operator-no-word one stands; other = break-return one (operator-no_break one stands) }
+class_ends operator text fits = let (one, is, stands) = (fits []).0 in ap (ends is_other) is ∙ operator_other one stands
 class_ends comment text fits = ⊎_elim (λ none. absurd (cc)) (λ breaks. absurd (both_ways _ refl breaks)) (fits (97 ∷ [])).1
 class_ends join text fits =
     let (slash, end, is, slashes, ended) = (fits []).0 in
-    subst EndsOther (sym is) (line_end_ends (slash ∷ []) end ended (ap (λ t. ends is_return t && is_line_feed 10) (sym is) ∙ (fits (10 ∷ [])).1))
+    ap (ends is_other) is ∙ line_end_ends (slash ∷ []) end ended (ap (λ t. ends is_return t && is_line_feed 10) (sym is) ∙ (fits (10 ∷ [])).1)
 class_ends line_end text fits = line_end_ends [] text (fits []).0 (fits (10 ∷ [])).1
 
-pieces_end : (p : Piece) (ps : List Piece) → ((more : List ℕ) → AreReadBefore (p ∷ ps) more) → EndsOther (spelled (p ∷ ps))
-pieces_end p [] fits = subst EndsOther (sym (append-nil p.text)) (class_ends p.class p.text (λ more. let fit = fits more in (fit.0, fit.1)))
-pieces_end p (q ∷ qs) fits = after_more p.text (spelled (q ∷ qs)) (pieces_end q qs (λ more. (fits more).3))
+pieces_end : (p : Piece) (ps : List Piece) → ((more : List ℕ) → AreReadBefore (p ∷ ps) more) → ends is_other (spelled (p ∷ ps)) ≡ true
+pieces_end p [] fits = ap (ends is_other) (append-nil p.text) ∙ class_ends p.class p.text (λ more. ((fits more).0, (fits more).1))
+pieces_end p (q ∷ qs) fits = ends_after p.text (spelled (q ∷ qs)) (pieces_end q qs (λ more. (fits more).3))
 
 -- closed pieces
 free_as : (done : List Piece) (read : List ℕ) → spelled done ++ [] ≡ read → ((more : List ℕ) → AreReadBefore done more) → (tail_of read ≡ None) × (ends is_return read ≡ false)
 free_as [] read spell fits = (ap tail_of (sym spell), ap (ends is_return) (sym spell))
-free_as (p ∷ ps) read spell fits =
-    let e = pieces_end p ps fits in
-    let is : read ≡ e.front ++ e.last ∷ [] = sym spell ∙ append-nil (spelled (p ∷ ps)) ∙ e.spell in
-    (ap tail_of is ∙ no_tail e.front e.last e.word, ap (ends is_return) is ∙ ends-last is_return e.front e.last ∙ e.other)
+free_as (p ∷ ps) read spell fits = rw (← spell, append-nil) (other_tail None (spelled (p ∷ ps)) (pieces_end p ps fits))
 
 pub free_tail : (m : Mode) (read : List ℕ) (n : ℕ) (st : List Bracket) → IsFreeAfter m read n st → (tail_of read ≡ None) × (ends is_return read ≡ false)
 free_tail m read n st free =
