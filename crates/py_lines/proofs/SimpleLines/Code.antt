@@ -20,7 +20,7 @@ use Rattle.py_lines.specs.Private.ScanMachine.{meet_of, move_at, move_in, scan_s
 use Rattle.py_lines.specs.Private.Scan.{EndsNoLine, EndsWhole, counts_after, line_start, none_open}
 use Rattle.py_lines.specs.Private.Run.{is_ascii_word}
 use Rattle.py_lines.specs.Private.FieldText.{is_apart_mode, is_code_mode}
-use Rattle.py_lines.specs.Private.Outline.{IsEndedBy, BeginOther, HoldsLineEnds, HasCome, GoesOnAfter, IsFreeAfter, EndsBefore, StandsBefore, StandsClosed, IsInPiece, IsLine, IsOuterEnd, IsTail, line_end_of, tail_of, tail_on, tail_with}
+use Rattle.py_lines.specs.Private.Outline.{IsEndedBy, BeginOther, HoldsLineEnds, BeforePiece, HasCome, GoesOnAfter, IsFreeAfter, EndsBefore, StandsBefore, StandsClosed, IsInPieceAfter, IsLine, IsOuterEnd, IsTail, line_end_of, tail_of, tail_on, tail_with}
 use Rattle.py_lines.proofs.Pieces.PieceLists.{piece}
 use Rattle.py_lines.proofs.Machine.Starts.{start-word, start-space, start-operator, start-feed, start-return}
 use Rattle.py_lines.proofs.Machine.PieceSteps.{scanned, pieces_at, steps_by-append}
@@ -320,9 +320,10 @@ ends_at initial read n st c on breaks tail = record {
   tail = tail;
 }
 
--- what code ends before
-pub code_ends : (initial : Mode) (read : List ℕ) (n : ℕ) (st : List Bracket) (c : ℕ) → GoesOnAfter initial read n st → c < 128 → stands_in_code c ≡ false → EndsBefore c initial read n st
-code_ends initial read n st c on low apart =
+-- before a character that code ends before
+pub code_ends : (rest : List ℕ) (initial : Mode) (read : List ℕ) (n : ℕ) (st : List Bracket) (c : ℕ) → c < 128 → stands_in_code c ≡ false → StandsBefore (c ∷ rest) initial read n st → EndsBefore c initial read n st
+code_ends rest initial read n st c low apart (inr on) = on
+code_ends rest initial read n st c low apart (inl on) =
     ends_at initial read n st c on (code_breaks on.state.mode c (tail_code (tail_of read) on.state.mode on.tail) low apart)
     (λ begins. absurd (both_ways _ (or_parts (is_ascii_word c || is_quote c) (is_space c) apart).0 begins))
 
@@ -331,19 +332,31 @@ unfolding is_break
 first-break true = refl
 first-break false = refl
 
-pub operator_ends : (initial : Mode) (read : List ℕ) (n : ℕ) (st : List Bracket) (c : ℕ) → is_operator c ≡ true → GoesOnAfter initial read n st → EndsBefore c initial read n st
-operator_ends initial read n st c is on = code_ends initial read n st c on (operator_ascii c is) (operator-apart c is)
+-- after an operator, which the brackets allow, no piece is open
+pub operator_free : (c : ℕ) (rest : List ℕ) (m : Mode) (read : List ℕ) (n : ℕ) (st after : List Bracket) → is_operator c ≡ true → brackets_after st (byte_len read) (piece operator (c ∷ [])) ≡ Some after → StandsBefore (c ∷ rest) m read n st
+    → IsFreeAfter m (read ++ c ∷ []) n after
+operator_free c rest m read n st after is may on =
+    operator_closes m read n st c (code_ends rest m read n st c (operator_ascii c is) (operator-apart c is) on) after is may
 
 -- before another character a word is open, or the piece ends
-pub word_or_ends : (initial : Mode) (read : List ℕ) (n : ℕ) (st : List Bracket) (c : ℕ) → is_space c ≡ false → GoesOnAfter initial read n st
-    → ((s : Spelling) × (tail_of read ≡ Some s) × IsInPiece (modes.Word s) initial read n st) ⊎ ((tail_of read ≡ None) × EndsBefore c initial read n st)
+abbrev pub InWord : Spelling → Mode → List ℕ → ℕ → List Bracket → Type 0
+InWord s initial read n st = (done : List Piece) × IsInPieceAfter (modes.Word s) (record { mode = initial; done = done }) read n st
+
+abbrev pub WordOrEnds : ℕ → Mode → List ℕ → ℕ → List Bracket → Type 0
+WordOrEnds c initial read n st = ((s : Spelling) × (tail_of read ≡ Some s) × InWord s initial read n st) ⊎ ((tail_of read ≡ None) × EndsBefore c initial read n st)
+
+word_or_ends : (initial : Mode) (read : List ℕ) (n : ℕ) (st : List Bracket) (c : ℕ) → is_space c ≡ false → GoesOnAfter initial read n st → WordOrEnds c initial read n st
 word_or_ends initial read n st c space on = by (tail_of read) refl on.tail
   where
-    by : (t : Option Spelling) → tail_of read ≡ t → IsTail t on.state.mode
-        → ((s : Spelling) × (tail_of read ≡ Some s) × IsInPiece (modes.Word s) initial read n st) ⊎ ((tail_of read ≡ None) × EndsBefore c initial read n st)
+    by : (t : Option Spelling) → tail_of read ≡ t → IsTail t on.state.mode → WordOrEnds c initial read n st
     by None none apart = inr (none, ends_at initial read n st c on (apart_breaks on.state.mode c apart space) (λ _. none))
     by (Some s) some is =
-        inl (s, some, subst (λ (m : Mode). IsInPiece m initial read n st) is (record { done = on.state.done; held = on.state.held; come = on.come; unreturned = on.unreturned }))
+        let before : BeforePiece = record { mode = initial; done = on.state.done } in
+        inl (s, some, (before.done, subst (λ (m : Mode). IsInPieceAfter m before read n st) is (record { held = on.state.held; come = on.come; unreturned = on.unreturned })))
+
+pub stands_by_word : (rest : List ℕ) (initial : Mode) (read : List ℕ) (n : ℕ) (st : List Bracket) (c : ℕ) → is_ascii_word c || is_quote c ≡ true → is_space c ≡ false → StandsBefore (c ∷ rest) initial read n st → WordOrEnds c initial read n st
+stands_by_word rest initial read n st c begins space (inl on) = word_or_ends initial read n st c space on
+stands_by_word rest initial read n st c begins space (inr on) = inr (on.tail begins, on)
 
 -- a letter, digit or underscore
 word_grows : (s : Spelling) (c : ℕ) → is_ascii_word c ≡ true → meet_of (modes.Word s) c ≡ moves.Grows (modes.Word (spelling_with s c))
@@ -361,21 +374,19 @@ word_after initial read n st c is s done held some come = record {
   unreturned = one_unreturned read c (word-not-break c is);
 }
 
-word_opens : (initial : Mode) (read : List ℕ) (n : ℕ) (st : List Bracket) (c : ℕ) → is_ascii_word c ≡ true → tail_of read ≡ None → EndsBefore c initial read n st → GoesOnAfter initial (read ++ c ∷ []) n st
-word_opens initial read n st c is none on =
-    word_after initial read n st c is (first_spelling c) (pieces initial read n st c on) (c ∷ []) (rw (none, is) refl)
-    (opens initial read n st c on (modes.Word (first_spelling c)) (start-word c (word_starts c is)) (holds_one read c n on.come.holds (word_byte_low c is) (word-not-break c is)))
-
-word_goes_on : (initial : Mode) (read : List ℕ) (n : ℕ) (st : List Bracket) (s : Spelling) → tail_of read ≡ Some s → IsInPiece (modes.Word s) initial read n st → (c : ℕ) → is_ascii_word c ≡ true → GoesOnAfter initial (read ++ c ∷ []) n st
-word_goes_on initial read n st s some on c is =
-    word_after initial read n st c is (spelling_with s c) on.done (on.held ++ c ∷ []) (rw (some, is) refl)
-    (grown (modes.Word (spelling_with s c)) c on.come (word_grows s c is) (holds_one read c n on.come.holds (word_byte_low c is) (word-not-break c is)))
-
-word_passed : (initial : Mode) (read : List ℕ) (n : ℕ) (st : List Bracket) (c : ℕ) → is_ascii_word c ≡ true → GoesOnAfter initial read n st → GoesOnAfter initial (read ++ c ∷ []) n st
-word_passed initial read n st c is on = ⊎_elim
-    (λ word. word_goes_on initial read n st word.0 word.1 word.2 c is)
-    (λ ends. word_opens initial read n st c is ends.0 ends.1)
-    (word_or_ends initial read n st c (word-not-space c is) on)
+word_next : (rest : List ℕ) (initial : Mode) (read : List ℕ) (n : ℕ) (st : List Bracket) (c : ℕ) → is_ascii_word c ≡ true → StandsBefore (c ∷ rest) initial read n st → GoesOnAfter initial (read ++ c ∷ []) n st
+word_next rest initial read n st c is on = ⊎_elim
+    (λ word.
+    let (s, some, (done, own)) = word in
+    word_after initial read n st c is (spelling_with s c) done (own.held ++ c ∷ []) (rw (some, is) refl)
+    (grown (modes.Word (spelling_with s c)) c own.come (word_grows s c is) (holds own.come.holds)))
+    (λ ends.
+    word_after initial read n st c is (first_spelling c) (pieces initial read n st c ends.1) (c ∷ []) (rw (ends.0, is) refl)
+    (opens initial read n st c ends.1 (modes.Word (first_spelling c)) (start-word c (word_starts c is)) (holds (ends.1).come.holds)))
+    (stands_by_word rest initial read n st c (rw is refl) (word-not-space c is) on)
+  where
+    holds : HoldsLineEnds read n → HoldsLineEnds (read ++ c ∷ []) n
+    holds before = holds_one read c n before (word_byte_low c is) (word-not-break c is)
 
 -- a space
 space-not-word : (c : ℕ) → is_space c ≡ true → is_word_character c ≡ false
@@ -403,8 +414,9 @@ space_or_ends modes.Free c code is = inr refl
 space_or_ends (modes.Word s) c code is = inr (word_ends s c (space-not-word c is) (space-not-quote c is))
 space_or_ends m c code is = absurd (both_ways _ refl code)
 
-space_passed : (initial : Mode) (read : List ℕ) (n : ℕ) (st : List Bracket) (c : ℕ) → is_space c ≡ true → GoesOnAfter initial read n st → GoesOnAfter initial (read ++ c ∷ []) n st
-space_passed initial read n st c is on = ⊎_elim
+space_next : (rest : List ℕ) (initial : Mode) (read : List ℕ) (n : ℕ) (st : List Bracket) (c : ℕ) → is_space c ≡ true → StandsBefore (c ∷ rest) initial read n st → GoesOnAfter initial (read ++ c ∷ []) n st
+space_next rest initial read n st c is (inr on) = space_opens initial read n st c is on
+space_next rest initial read n st c is (inl on) = ⊎_elim
     (λ grows. space_after initial read n st c is on.state.done (on.state.held ++ c ∷ []) (grown modes.Space c on.come grows (holds_one read c n on.come.holds (space_low c is) (space-not-break c is))))
     (λ breaks. space_opens initial read n st c is (ends_at initial read n st c on breaks (λ begins. absurd (both_ways _ (rw (space-no-word c is, space-not-quote c is) refl) begins))))
     (space_or_ends on.state.mode c (tail_code (tail_of read) on.state.mode on.tail) is)
@@ -413,38 +425,23 @@ space_passed initial read n st c is on = ⊎_elim
 abbrev pub IsCodeByte : ℕ → Type 0
 IsCodeByte c = (is_ascii_word c ≡ true) ⊎ ((is_space c ≡ true) ⊎ ((is_operator c ≡ true) × (is_opening c ≡ false) × (is_closing c ≡ false)))
 
-code_passed : (initial : Mode) (read : List ℕ) (n : ℕ) (st : List Bracket) (c : ℕ) → IsCodeByte c → GoesOnAfter initial read n st → GoesOnAfter initial (read ++ c ∷ []) n st
-code_passed initial read n st c (inl word) on = word_passed initial read n st c word on
-code_passed initial read n st c (inr (inl space)) on = space_passed initial read n st c space on
-code_passed initial read n st c (inr (inr (stands, opens, closes))) on = free_goes_on initial (read ++ c ∷ []) n st (operator_closes initial read n st c (operator_ends initial read n st c stands on) st stands (keeps_at st (byte_len read) c opens closes))
-
-code_begins : (initial : Mode) (read : List ℕ) (n : ℕ) (st : List Bracket) (c : ℕ) → IsCodeByte c → EndsBefore c initial read n st → GoesOnAfter initial (read ++ c ∷ []) n st
-code_begins initial read n st c (inl word) on = word_opens initial read n st c word (on.tail (rw word refl)) on
-code_begins initial read n st c (inr (inl space)) on = space_opens initial read n st c space on
-code_begins initial read n st c (inr (inr (stands, opens, closes))) on = free_goes_on initial (read ++ c ∷ []) n st (operator_closes initial read n st c on st stands (keeps_at st (byte_len read) c opens closes))
+code_next : (rest : List ℕ) (initial : Mode) (read : List ℕ) (n : ℕ) (st : List Bracket) (c : ℕ) → IsCodeByte c → StandsBefore (c ∷ rest) initial read n st → GoesOnAfter initial (read ++ c ∷ []) n st
+code_next rest initial read n st c (inl word) on = word_next rest initial read n st c word on
+code_next rest initial read n st c (inr (inl space)) on = space_next rest initial read n st c space on
+code_next rest initial read n st c (inr (inr (stands, opens, closes))) on =
+    free_goes_on initial (read ++ c ∷ []) n st (operator_free c rest initial read n st st stands (keeps_at st (byte_len read) c opens closes) on)
 
 -- a run of them
-run_passed : (passes : ℕ → Bool) (initial : Mode) (read run : List ℕ) (n : ℕ) (st : List Bracket) → ((c : ℕ) → passes c ≡ true → IsCodeByte c) → list_all passes run ≡ true → GoesOnAfter initial read n st → GoesOnAfter initial (read ++ run) n st
-run_passed passes initial read [] n st each all on = subst (λ (t : List ℕ). GoesOnAfter initial t n st) (sym (append-nil read)) on
-run_passed passes initial read (c ∷ cs) n st each all on =
-    let parts = and_parts (passes c) (list_all passes cs) all in
-    subst (λ (t : List ℕ). GoesOnAfter initial t n st) (append_assoc read (c ∷ []) cs) (run_passed passes initial (read ++ c ∷ []) cs n st each parts.1 (code_passed initial read n st c (each c parts.0) on))
-
 pub code_run : (passes : ℕ → Bool) (initial : Mode) (read run rest : List ℕ) (n : ℕ) (st : List Bracket) → ((c : ℕ) → passes c ≡ true → IsCodeByte c) → list_all passes run ≡ true → StandsBefore (run ++ rest) initial read n st → StandsBefore rest initial (read ++ run) n st
 code_run passes initial read [] rest n st each all on = subst (λ (t : List ℕ). StandsBefore rest initial t n st) (sym (append-nil read)) on
-code_run passes initial read (c ∷ cs) rest n st each all (inl on) = stands rest initial (read ++ c ∷ cs) n st (run_passed passes initial read (c ∷ cs) n st each all on)
-code_run passes initial read (c ∷ cs) rest n st each all (inr on) =
+code_run passes initial read (c ∷ cs) rest n st each all on =
     let parts = and_parts (passes c) (list_all passes cs) all in
-    stands rest initial (read ++ c ∷ cs) n st (subst (λ (t : List ℕ). GoesOnAfter initial t n st) (append_assoc read (c ∷ []) cs) (run_passed passes initial (read ++ c ∷ []) cs n st each parts.1 (code_begins initial read n st c (each c parts.0) on)))
-
--- before a character that code ends before
-pub ends_so : (initial : Mode) (read rest : List ℕ) (n : ℕ) (st : List Bracket) (c : ℕ) → (GoesOnAfter initial read n st → EndsBefore c initial read n st) → StandsBefore (c ∷ rest) initial read n st → EndsBefore c initial read n st
-ends_so initial read rest n st c ends (inl on) = ends on
-ends_so initial read rest n st c ends (inr on) = on
+    let next = stands (cs ++ rest) initial (read ++ c ∷ []) n st (code_next (cs ++ rest) initial read n st c (each c parts.0) on) in
+    subst (λ (t : List ℕ). StandsBefore rest initial t n st) (append_assoc read (c ∷ []) cs) (code_run passes initial (read ++ c ∷ []) cs rest n st each parts.1 next)
 
 -- over a line end, before which code ends, or a piece that ends there
 break_next : (rest : List ℕ) (initial : Mode) (read : List ℕ) (n : ℕ) (st : List Bracket) (c : ℕ) → is_break c ≡ true → StandsBefore (c ∷ rest) initial read n st → EndsBefore c initial read n st
-break_next rest initial read n st c is on = ends_so initial read rest n st c (λ goes. code_ends initial read n st c goes (break_low c is) (break-apart c is)) on
+break_next rest initial read n st c is on = code_ends rest initial read n st c (break_low c is) (break-apart c is) on
 
 line_end_next : (returned : Bool) (rest : List ℕ) (initial : Mode) (read : List ℕ) (n : ℕ) (st : List Bracket) → StandsBefore (line_end_of returned ++ rest) initial read n st → EndsBefore (line_end_first returned) initial read n st
 line_end_next true rest initial read n st on = break_next (10 ∷ rest) initial read n st 13 (first-break true) on

@@ -15,7 +15,7 @@ use Rattle.py_lines.proofs.Machine.Starts.{start-hash}
 use Rattle.py_lines.proofs.LineTokens.FirstCharacters.{hash_is}
 use Rattle.py_lines.proofs.FieldScans.TextLengths.{rest_is}
 use Rattle.py_lines.proofs.SimpleLines.FirstBytes.{passed_from}
-use Rattle.py_lines.proofs.SimpleLines.Code.{break-apart, code_ends, ends_so, holds_one, one_unreturned, opens, pieces, stands_in_code}
+use Rattle.py_lines.proofs.SimpleLines.Code.{break-apart, code_ends, holds_one, one_unreturned, opens, pieces, stands_in_code}
 use Rattle.py_lines.proofs.SimpleLines.Runs.{goes_on, stay_spelled}
 
 hash-apart : stands_in_code 35 ≡ false
@@ -57,7 +57,7 @@ comment_passed bytes k some hash found =
         run = 35 ∷ run;
         spell = ap (λ t. t ++ encode_utf8_all run) (encode_ascii 35 (omega arith)) ∙ ap (λ t. 35 ∷ t) whole.1.1.1;
         leads = λ initial read n st on.
-            let ends = ends_so initial read cs n st 35 (λ goes. code_ends initial read n st 35 goes (lit< tt) hash-apart) on in
+            let ends = code_ends cs initial read n st 35 (lit< tt) hash-apart on in
             let before : BeforePiece = record { mode = initial; done = pieces initial read n st 35 ends } in
             let come = goes_on modes.Comment before (read ++ 35 ∷ []) run n st whole.1.1.0 stay (comment_opens initial read n st ends) in
             rw (drop-cons cs k 0 whole.2, add-zero, ← append_assoc read (35 ∷ []) run) (inr (comment_ends before _ n st (slice_index cs k) (not-false _ (text.ends whole.2)) come));

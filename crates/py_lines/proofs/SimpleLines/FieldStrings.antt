@@ -1,5 +1,5 @@
 -- Strings with fields are passed over, where they are short and their text is simple.
-use Rattle.std.proofs.Common.{◌≡◌, ℕ, ◌+◌, ◌<◌, ◌≤◌, true, false, not, Some, List, [], ◌∷◌, ◌++◌, length, take, drop, slice_index, inl, inr, refl, sym, ap, ◌∙◌, subst, append_assoc, arith, length-append}
+use Rattle.std.proofs.Common.{◌≡◌, ℕ, ◌+◌, ◌<◌, ◌≤◌, true, false, not, None, Some, List, [], ◌∷◌, ◌++◌, length, take, drop, slice_index, refl, sym, ap, ◌∙◌, subst, append_assoc, arith, length-append, ⊎_elim}
 use Rattle.std.specs.List.{list_all}
 use Rattle.std.proofs.lemmas.List.{drop_more}
 use Rattle.std.proofs.Math.Seq.{take-append_seam}
@@ -14,7 +14,7 @@ use Rattle.py_lines.specs.declared.mode.Spelling.{Spelling}
 use Rattle.py_lines.specs.Private.Machine.{Bracket, IsFull, Scanned, first_spelling, spelling_on}
 use Rattle.py_lines.specs.Private.FieldText.{InText, IsQuotedText, Leads}
 use Rattle.py_lines.specs.Private.ScanMachine.{host_in, is_field_spelling, is_raw_spelling, scan_steps}
-use Rattle.py_lines.specs.Private.Outline.{BeforePiece, HasClosedString, IsInPieceAfter, IsTail, PassesPiece, PassesString, StandsBefore, tail_of}
+use Rattle.py_lines.specs.Private.Outline.{BeforePiece, HasClosedString, IsInPieceAfter, PassesPiece, PassesString, StandsBefore, tail_of}
 use Rattle.py_lines.proofs.Pieces.OpenBrackets as brackets
 use Rattle.py_lines.proofs.Pieces.PieceLists.{piece}
 use Rattle.py_lines.proofs.Machine.LiveTexts.{keeps}
@@ -27,9 +27,9 @@ use Rattle.py_lines.proofs.LineScan.Runs.{quote_ascii, string_no_break}
 use Rattle.py_lines.proofs.LineScan.AsciiRuns.{is_low, is_low_from, low_encodes, low_is, quote-no_break}
 use Rattle.py_lines.proofs.LineScan.PlainStrings.{quoted_all}
 use Rattle.py_lines.proofs.LineScan.WholeStrings.{at_body, quoted_steps}
-use Rattle.py_lines.proofs.SimpleLines.Code.{come_over, holds_more}
-use Rattle.py_lines.proofs.SimpleLines.Tails.{come_sound, quote-no-word}
-use Rattle.py_lines.proofs.SimpleLines.Strings.{low_still, string_at, whole_string}
+use Rattle.py_lines.proofs.SimpleLines.Code.{InWord, come_over, holds_more}
+use Rattle.py_lines.proofs.SimpleLines.Tails.{come_sound}
+use Rattle.py_lines.proofs.SimpleLines.Strings.{low_still, quote_stands, string_at, whole_string}
 
 -- it is ASCII
 quoted_low : (q : ℕ) (text : List ℕ) → is_quote q ≡ true → Leads q InText text InText → list_all is_low (q ∷ (text ++ q ∷ [])) ≡ true
@@ -40,14 +40,11 @@ abbrev pub InPrefix : Spelling → BeforePiece → List ℕ → ℕ → List Bra
 InPrefix s before read n st = (length st ≤ 100) × IsInPieceAfter (modes.Word s) before read n st
 
 -- so before a quote, where it is the word that the line ends with
-word_open : (rest : List ℕ) (m : Mode) (read : List ℕ) (n : ℕ) (st : List Bracket) (q : ℕ) (s : Spelling) → tail_of read ≡ Some s → is_quote q ≡ true → StandsBefore (q ∷ rest) m read n st
-    → (done : List Piece) × IsInPieceAfter (modes.Word s) (record { mode = m; done = done }) read n st
-word_open rest m read n st q s tail quote (inl on) = (
-  on.state.done,
-  subst (λ (k : Mode). IsInPieceAfter k (record { mode = m; done = on.state.done }) read n st) (subst (λ t. IsTail t on.state.mode) tail on.tail)
-      (record { held = on.state.held; come = on.come; unreturned = on.unreturned }),
-)
-word_open rest m read n st q s tail quote (inr on) = absurd (let none = sym tail ∙ on.tail (rw (quote-no-word q quote, quote) refl) in cc)
+word_open : (rest : List ℕ) (m : Mode) (read : List ℕ) (n : ℕ) (st : List Bracket) (q : ℕ) (s : Spelling) → tail_of read ≡ Some s → is_quote q ≡ true → StandsBefore (q ∷ rest) m read n st → InWord s m read n st
+word_open rest m read n st q s tail quote on = ⊎_elim
+    (λ word. let same : Some word.0 ≡ Some s = sym word.1 ∙ tail in subst (λ (k : Spelling). InWord k m read n st) (cc same) word.2)
+    (λ ends. let none : Some s ≡ None = sym tail ∙ ends.0 in absurd (cc))
+    (quote_stands q quote rest m read n st on)
 
 -- the machine goes through the string
 over_text : (s : Spelling) (q : ℕ) (text : List ℕ) → is_field_spelling s ≡ true → is_quote q ≡ true → IsFull text → Leads q InText text InText

@@ -18,7 +18,7 @@ use Rattle.py_lines.proofs.Machine.PieceSteps.{scanned}
 use Rattle.py_lines.proofs.Machine.Starts.{start-slash}
 use Rattle.py_lines.proofs.LineScan.Increments.{EndsNoLine-push}
 use Rattle.py_lines.proofs.LineScan.AsciiRuns.{is_low, low_encodes, low_is}
-use Rattle.py_lines.proofs.SimpleLines.Code.{return_waits, begins_as, closed_line, code_ends, ends_so, grown, holds_line_end, holds_one, holds_return, no_tail_return, one_unreturned, opens, pieces, stands_in_code}
+use Rattle.py_lines.proofs.SimpleLines.Code.{return_waits, begins_as, closed_line, code_ends, grown, holds_line_end, holds_one, holds_return, no_tail_return, one_unreturned, opens, pieces, stands_in_code}
 use Rattle.py_lines.proofs.LineTokens.FirstCharacters.{slash_is}
 use Rattle.py_lines.proofs.SimpleLines.Tails.{free_stands}
 use Rattle.py_lines.proofs.SimpleLines.FirstBytes.{outer_end_low, passed_from}
@@ -104,7 +104,7 @@ join_passed bytes len some slash found =
         spell = (low_encodes is_low (92 ∷ text) low_is (outer_end_low text (drop len cs) ends.is)).0;
         leads = λ initial read n st on.
             let closes = closes_itself (92 ∷ cs) (suc len) in
-            let before = ends_so initial read cs n st 92 (λ goes. code_ends initial read n st 92 goes (lit< tt) slash-apart) on in
+            let before = code_ends cs initial read n st 92 (lit< tt) slash-apart on in
             subst (λ (t : List ℕ). StandsClosed closes (drop len cs) initial t (n + 1) st) (append_assoc read (92 ∷ []) text)
             (joined initial read n st before closes text (drop len cs) ends.is (ends_with_feed cs len ends.within));
       };

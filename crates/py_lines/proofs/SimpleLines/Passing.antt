@@ -19,10 +19,9 @@ use Rattle.py_lines.specs.Private.Scan.{Meets, depth_of, none_open, stack_of}
 use Rattle.py_lines.proofs.Pieces.PieceLists.{piece}
 use Rattle.py_lines.proofs.LineScan.AsciiRuns.{is_low, low_encodes, low_is}
 use Rattle.py_lines.proofs.Text.CharacterTests.{none_of, operator_ascii}
-use Rattle.py_lines.proofs.SimpleLines.Code.{outer_end_inside}
+use Rattle.py_lines.proofs.SimpleLines.Code.{operator_free, outer_end_inside}
 use Rattle.py_lines.proofs.SimpleLines.FirstBytes.{outer_end_low, first_later}
 use Rattle.py_lines.proofs.SimpleLines.Tails.{stands_less}
-use Rattle.py_lines.proofs.SimpleLines.UnderWay.{operator_free}
 
 module _ (bytes : List ℕ) (at : ℕ) (within : at < length bytes) where
   -- over an operator, which the brackets allow

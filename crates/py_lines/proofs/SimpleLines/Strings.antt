@@ -32,7 +32,7 @@ use Rattle.py_lines.proofs.LineScan.LongText.{long_characters}
 use Rattle.py_lines.proofs.LineScan.AsciiRuns.{all_pass, is_low, is_low_from, low_encodes, low_is, quote-no_break}
 use Rattle.py_lines.proofs.LineScan.PlainStrings.{inside_closes}
 use Rattle.py_lines.proofs.Text.CharacterTests.{none_of, quote-not-word}
-use Rattle.py_lines.proofs.SimpleLines.Code.{come_on, grown, holds_return, holds_returned, word_or_ends, holds_line_end, holds_more, holds_one, one_unreturned, opens, pieces, quote-not-space}
+use Rattle.py_lines.proofs.SimpleLines.Code.{WordOrEnds, come_on, grown, holds_return, holds_returned, holds_line_end, holds_more, holds_one, one_unreturned, opens, pieces, quote-not-space, stands_by_word}
 use Rattle.py_lines.proofs.SimpleLines.Tails.{feed_unreturned, no_tail, quote-no-word}
 use Rattle.py_lines.proofs.SimpleLines.Joins.{slash-not-break}
 use Rattle.py_lines.proofs.SimpleLines.FirstBytes.{first_then, line_end_low, taken_one, taken_two, first_later}
@@ -161,6 +161,10 @@ pub after_rest : {Before : Type 0} {stands comes goes : Before → List ℕ → 
 after_rest {comes = comes} {goes} bytes len feeds more further all same first second =
     after bytes len feeds more further all same first (subst (λ (t : List ℕ). PassesPart t more further comes goes) (rest_is bytes len) second)
 
+-- a word is open before a quote, or the piece ends there
+pub quote_stands : (q : ℕ) → is_quote q ≡ true → (rest : List ℕ) (initial : Mode) (read : List ℕ) (n : ℕ) (st : List Bracket) → StandsBefore (q ∷ rest) initial read n st → WordOrEnds q initial read n st
+quote_stands q quote rest initial read n st = stands_by_word rest initial read n st q (rw (quote-no-word q quote) quote) (quote-not-space q quote)
+
 module _ (q : ℕ) (quote : is_quote q ≡ true) where
   self : q == q ≡ true
   self = eq-eqb q q refl
@@ -199,12 +203,10 @@ module _ (q : ℕ) (quote : is_quote q ≡ true) where
   after_word s initial read n st plain on = quoted on (modes.Opened q) (prefix_quote s q quote plain)
 
   pub string_begins : (rest : List ℕ) (initial : Mode) (read : List ℕ) (n : ℕ) (st : List Bracket) → is_plain_prefix (tail_of read) ≡ true → StandsBefore (q ∷ rest) initial read n st → Begins initial read n st
-  string_begins rest initial read n st plain (inl on) = ⊎_elim
-      (λ word. let (s, tail, in_word) = word in
-      (in_word.done, after_word s (record { mode = initial; done = in_word.done }) read n st (ap is_plain_prefix (sym tail) ∙ plain) (record { held = in_word.held; come = in_word.come; unreturned = in_word.unreturned })))
+  string_begins rest initial read n st plain on = ⊎_elim
+      (λ word. let (s, tail, (done, own)) = word in (done, after_word s (record { mode = initial; done = done }) read n st (ap is_plain_prefix (sym tail) ∙ plain) own))
       (λ ends. opened initial read n st ends.1)
-      (word_or_ends initial read n st q (quote-not-space q quote) on)
-  string_begins rest initial read n st plain (inr on) = opened initial read n st on
+      (quote_stands q quote rest initial read n st on)
 
   -- it is closed
   closes : (m : Mode) (initial : BeforePiece) (read : List ℕ) (n : ℕ) (st : List Bracket) → ((s : IsInPieceAfter m initial read n st) → scan_step (scanned initial.done m s.held) q ≡ Some (fresh (initial.done ++ piece string (s.held ++ q ∷ []) ∷ []))) → IsInPieceAfter m initial read n st → HasClosedString initial (read ++ q ∷ []) n st

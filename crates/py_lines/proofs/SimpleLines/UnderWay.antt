@@ -3,24 +3,24 @@ use Rattle.std.proofs.Common.{◌≡◌, ℕ, ◌+◌, inl, inr, subst, true, fa
 use Rattle.std.specs.Prelude.{encode_utf8_all}
 use Rattle.std.proofs.lemmas.Str.{encodes_same}
 use Rattle.std.specs.Str.{all_scalars}
-use Rattle.py_lines.specs.Character.{is_line_feed, is_operator, is_return}
+use Rattle.py_lines.specs.Character.{is_line_feed, is_return}
 use Rattle.py_lines.specs.LogicalLine.{byte_len, line_ends}
-use Rattle.py_lines.specs.Piece.{line_end, operator, Piece, begins, ends, spelled}
+use Rattle.py_lines.specs.Piece.{line_end, Piece, begins, ends, spelled}
 use Rattle.py_lines.specs.declared.mode.Mode.{Mode}
 use Rattle.py_lines.specs.declared.mode.Mode.TheVariants as modes
 use Rattle.py_lines.specs.declared.mode.Spelling.{Spelling}
 use Rattle.py_lines.specs.declared.scan.Scan.{Scan}
-use Rattle.py_lines.specs.Private.Machine.{Bracket, Scanned, brackets_after, fresh}
+use Rattle.py_lines.specs.Private.Machine.{Bracket, Scanned, fresh}
 use Rattle.py_lines.specs.Private.ScanMachine.{IsScanSound, StringsFit, HoldsOpen}
 use Rattle.py_lines.specs.Fields.{AreReadBefore}
 use Rattle.py_lines.specs.Private.Scan.{IsLineBefore, IsUnderWay, line_start, stack_of}
-use Rattle.py_lines.specs.Private.Outline.{IsEndedBy, IsFreeAfter, IsLine, StandsBefore, tail_of, tail_on}
+use Rattle.py_lines.specs.Private.Outline.{IsEndedBy, IsFreeAfter, IsLine, tail_of, tail_on}
 use Rattle.py_lines.proofs.Machine.PieceSteps.{scanned}
 use Rattle.py_lines.proofs.Pieces.PieceLists.{piece, spelled-push}
 use Rattle.py_lines.proofs.LineScan.LineSteps.{returned_fit, sound_steps}
 use Rattle.py_lines.proofs.LineScan.LineCount.{ends-last}
 use Rattle.py_lines.proofs.Lexings.LineEnds.{line_string}
-use Rattle.py_lines.proofs.SimpleLines.Code.{ends_so, operator_closes, operator_ends, tail-encoded}
+use Rattle.py_lines.proofs.SimpleLines.Code.{tail-encoded}
 use Rattle.py_lines.proofs.SimpleLines.Tails.{come_sound, ended_stack, free_tail, return_returns, tail_on-append}
 
 -- a machine that stands in no piece holds nothing
@@ -64,11 +64,6 @@ free_way m scan read n st free mode start stop line after stack =
       stacked = free.come.stacked ∙ ap Some (sym stack);
       one_line = free.come.one_line;
     }
-
--- after an operator, which the brackets allow, no piece is open
-pub operator_free : (c : ℕ) (rest : List ℕ) (m : Mode) (read : List ℕ) (n : ℕ) (st after : List Bracket) → is_operator c ≡ true → brackets_after st (byte_len read) (piece operator (c ∷ [])) ≡ Some after → StandsBefore (c ∷ rest) m read n st
-    → IsFreeAfter m (read ++ c ∷ []) n after
-operator_free c rest m read n st after is may on = operator_closes m read n st c (ends_so m read rest n st c (operator_ends m read n st c is) on) after is may
 
 -- a line that has ended is one for the scan too, where it is set after it
 pub line_before : (m : Mode) (read : List ℕ) (n : ℕ) (after : List ℕ) (scan : Scan) → IsScanSound (line_start m) []

@@ -140,13 +140,6 @@ pub record HasClosedString (before : BeforePiece) (read : List ℕ) (n : ℕ) (s
   pub text : List ℕ
   pub come : HasCome before.mode read n st (fresh (before.done ++ record { class = string; text = text } ∷ []))
 
--- such a piece is open, wherever it begins
-pub record IsInPiece (piece_mode m : Mode) (read : List ℕ) (n : ℕ) (st : List Bracket) : Type 0 where
-  pub done : List Piece
-  pub held : List ℕ
-  pub come : HasCome m read n st (record { done = done; mode = piece_mode; held = held })
-  pub unreturned : ends is_return read ≡ false
-
 -- with this quote after them a string without fields is open, which holds nothing yet
 abbrev pub StringBegins : ℕ → BeforePiece → List ℕ → ℕ → List Bracket → Type 0
 StringBegins q before read = IsInPieceAfter (modes.Opened q) before (read ++ q ∷ [])
