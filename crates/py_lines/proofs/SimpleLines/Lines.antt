@@ -3,7 +3,7 @@ use Rattle.std.proofs.Common.{◌≡◌, ℕ, ◌+◌, ◌-◌, ◌<◌, ◌≤�
 use Rattle.std.specs.List.{list_all}
 use Rattle.std.specs.Str.{all_scalars}
 use Rattle.std.proofs.lemmas.Bool.{and_parts, both_ways, or_cases, or_parts, not-true}
-use Rattle.std.proofs.lemmas.List.{drop-drop, length-take-le, take-append-drop}
+use Rattle.std.proofs.lemmas.List.{append_cancel_left, drop-drop, length-take-le, take-append-drop}
 use Rattle.std.proofs.lemmas.Str.{encodes-append}
 use Rattle.std.proofs.Math.Seq.{take-add}
 use Rattle.std.specs.Prelude.{encode_utf8_all}
@@ -20,7 +20,7 @@ use Rattle.py_lines.specs.Private.Machine.{Bracket}
 use Rattle.py_lines.specs.Private.Marks.{FindsNext, HasMarks, is_plain}
 use Rattle.py_lines.specs.Private.Run.{is_ascii_word}
 use Rattle.py_lines.specs.Private.Scan.{none_open, stack_of}
-use Rattle.py_lines.specs.Private.Outline.{AreWholeLines, BeginWithLines, BeginsOuterEnd, HasComeTo, IsWholeLine, StandsBefore, line_up_to, tail_of, tail_on}
+use Rattle.py_lines.specs.Private.Outline.{AreWholeLines, BeginWithLines, BeginsOuterEnd, HasComeTo, IsWholeLine, StandsBefore, tail_of, tail_on}
 use Rattle.py_lines.specs.Private.Passing.{EndsLineSo, PassesOver, PassesSo, nothing_passed, up_to}
 use Rattle.py_lines.proofs.FieldScans.TextLengths.{later, rest_is}
 use Rattle.py_lines.proofs.LineScan.LineCount.{line_ends-bytes}
@@ -95,7 +95,7 @@ feed_ends bytes at within is =
     outer_found (drop at bytes) (Some 1) (feed_found (drop at bytes) (omega (arith, within, length-drop at bytes)) (first_later bytes at ∙ is))
 
 -- no line was passed
-pub none_passed : (bytes : List ℕ) → BeginWithLines bytes (record { len = 0; line_ends = 0 })
+abbrev pub none_passed : (bytes : List ℕ) → BeginWithLines bytes (record { len = 0; line_ends = 0 })
 none_passed bytes = record { within = omega arith; read = []; spell = refl; texts = []; whole = (refl, refl) }
 
 module _ (bytes : List ℕ) where
@@ -112,34 +112,23 @@ module _ (bytes : List ℕ) where
     stands = stands bytes modes.Free [] 0 [] begun;
   }
 
-  -- the line with so many more bytes
-  longer : (lines : Passed) (at len : ℕ) → lines.len ≤ at → line_up_to bytes lines (at + len) ≡ line_up_to bytes lines at ++ take len (drop at bytes)
-  longer lines at len ordered =
-      let parts : at + len - lines.len ≡ (at - lines.len) + len = omega (arith, ordered) in
-      let there : lines.len + (at - lines.len) ≡ at = omega (arith, ordered) in
-      ap (λ (k : ℕ). take k (drop lines.len bytes)) parts
-      ∙ take-add (at - lines.len) len (drop lines.len bytes)
-      ∙ ap (λ t. line_up_to bytes lines at ++ take len t) (drop-drop (at - lines.len) lines.len bytes ∙ ap (λ (k : ℕ). drop k bytes) there)
+  -- so many more bytes of it
+  further_spells : (at len : ℕ) (past read run : List ℕ) → encode_utf8_all (past ++ read) ≡ take at bytes → encode_utf8_all run ≡ take len (drop at bytes) → encode_utf8_all (past ++ (read ++ run)) ≡ take (at + len) bytes
+  further_spells at len past read run spell more =
+      ap encode_utf8_all (sym (append_assoc past read run)) ∙ encodes-append (past ++ read) run ∙ ap (λ t. t ++ encode_utf8_all run) spell
+      ∙ ap (λ t. take at bytes ++ t) more ∙ sym (take-add at len bytes)
 
-  further_spells : (lines : Passed) (at len : ℕ) → lines.len ≤ at → (read run : List ℕ) → encode_utf8_all read ≡ line_up_to bytes lines at → encode_utf8_all run ≡ take len (drop at bytes) → encode_utf8_all (read ++ run) ≡ line_up_to bytes lines (at + len)
-  further_spells lines at len ordered read run spell more =
-      encodes-append read run ∙ ap (λ t. t ++ encode_utf8_all run) spell ∙ ap (λ t. line_up_to bytes lines at ++ t) more ∙ sym (longer lines at len ordered)
+  -- its own bytes, and the word that it ends with, as the bytes have it
+  line_size : (lines : Passed) (at n : ℕ) (st : List Bracket) → (come : HasComeTo bytes lines at n st) → byte_len come.read ≡ at - lines.len
+  line_size lines at n st come =
+      let past = come.lines_are in
+      omega (arith, byte_len-append past.read come.read, ap length come.spell, length-take-le at bytes come.within, ap length past.spell, length-take-le lines.len bytes past.within)
 
-  line_size : (lines : Passed) (at : ℕ) → lines.len ≤ at → at ≤ length bytes → length (line_up_to bytes lines at) ≡ at - lines.len
-  line_size lines at ordered within = length-take-le (at - lines.len) (drop lines.len bytes) (omega (arith, ordered, within, length-drop lines.len bytes))
-
-  -- what it ends with is what the bytes end with
   same_tail : (lines : Passed) (at n : ℕ) (st : List Bracket) → (come : HasComeTo bytes lines at n st) → tail_of come.read ≡ tail_of (take at bytes)
   same_tail lines at n st come =
       let past = come.lines_are in
-      let all : lines.len + (at - lines.len) ≡ at = omega (arith, come.ordered) in
-      let none : tail_of (take lines.len bytes) ≡ None = ap tail_of (sym past.spell) ∙ tail-encoded None past.read ∙ lines_tail past.texts past.read lines.line_ends (drop lines.len bytes) past.whole in
-      sym (ap (λ (k : ℕ). tail_of (take k bytes)) (sym all)
-      ∙ ap tail_of (take-add lines.len (at - lines.len) bytes)
-      ∙ tail_on-append None (take lines.len bytes) (line_up_to bytes lines at)
-      ∙ ap (λ (o : Option Spelling). tail_on o (line_up_to bytes lines at)) none
-      ∙ ap tail_of (sym come.spell)
-      ∙ tail-encoded None come.read)
+      ap (λ (o : Option Spelling). tail_on o come.read) (sym (lines_tail past.texts past.read lines.line_ends (drop lines.len bytes) past.whole))
+      ∙ sym (tail_on-append None past.read come.read) ∙ sym (tail-encoded None (past.read ++ come.read)) ∙ ap tail_of come.spell
 
   -- it comes so many bytes further
   step : (lines : Passed) (at n len feeds : ℕ) (st after : List Bracket) → (come : HasComeTo bytes lines at n st) → at + len ≤ length bytes → (run : List ℕ) → encode_utf8_all run ≡ take len (drop at bytes)
@@ -152,7 +141,7 @@ module _ (bytes : List ℕ) where
     more = come.more + feeds;
     count = omega (arith, come.count);
     read = come.read ++ run;
-    spell = further_spells lines at len come.ordered come.read run come.spell spell;
+    spell = further_spells at len come.lines_are.read come.read run come.spell spell;
     stands = on;
   }
 
@@ -174,10 +163,9 @@ module _ (bytes : List ℕ) where
   pub passed_on : (lines : Passed) (at n len more : ℕ) (closes : Bool) (st after : List Bracket) → HasComeTo bytes lines at n st
       → PassesOver bytes at (at - lines.len) len more closes st after → HasComeTo bytes lines (at + len) (n + more) after
   passed_on lines at n len more closes st after come over =
-      let place = ap length come.spell ∙ line_size lines at come.ordered come.within in
       step lines at n len more st after come over.within over.run over.spell
       (closed_stands closes (drop (at + len) bytes) modes.Free (come.read ++ over.run) (come.more + more) after
-      (over.leads modes.Free come.read come.more (same_tail lines at n st come) place come.stands))
+      (over.leads modes.Free come.read come.more (same_tail lines at n st come) (line_size lines at n st come) come.stands))
 
   -- over a line end that ends the line
   pub line_end_ends_line : (lines : Passed) (at n len : ℕ) (st : List Bracket) → HasComeTo bytes lines at n st → at < length bytes → BeginsOuterEnd (drop at bytes) len → none_open st ≡ true → HasComeTo bytes (record { len = at + len; line_ends = n + 1 }) (at + len) (n + 1) st
@@ -191,18 +179,13 @@ module _ (bytes : List ℕ) where
       (outer_end_whole text after modes.Free come.read come.more (end_is bytes at within len ends)
       (subst (λ (t : List ℕ). StandsBefore t modes.Free come.read come.more []) (end_split bytes at within len ends) come.stands)).0 in
       let fits = end_within bytes at within len ends in
-      let nothing : at + len - (at + len) ≡ 0 = omega arith in
-      let own : encode_utf8_all line ≡ line_up_to bytes lines (at + len) =
-      further_spells lines at len come.ordered come.read text come.spell (end_spells bytes at within len ends) in
-      let there : lines.len + (at + len - lines.len) ≡ at + len = omega (arith, come.ordered) in
-      let all : encode_utf8_all (past.read ++ line) ≡ take (at + len) bytes =
-      encodes-append past.read line ∙ ap (λ t. t ++ encode_utf8_all line) past.spell ∙ ap (λ t. take lines.len bytes ++ t) own
-      ∙ sym (take-add lines.len (at + len - lines.len) bytes) ∙ ap (λ (k : ℕ). take k bytes) there in
+      let all = further_spells at len past.read come.read text come.spell (end_spells bytes at within len ends) in
       let count : lines.line_ends + (come.more + 1) ≡ n + 1 = omega (arith, come.count) in
       let some : 0 < length line = omega (arith, length-append come.read text, length-take-le len (drop at bytes) ends.within, ends.some) in
       let split : drop lines.len bytes ≡ encode_utf8_all line ++ after =
-      sym (take-append-drop (at + len - lines.len) (drop lines.len bytes)) ∙ ap (λ t. t ++ drop (at + len - lines.len) (drop lines.len bytes)) (sym own)
-      ∙ ap (λ t. encode_utf8_all line ++ t) (drop-drop (at + len - lines.len) lines.len bytes ∙ ap (λ (k : ℕ). drop k bytes) there) in
+      append_cancel_left (take lines.len bytes) _ _ (take-append-drop lines.len bytes ∙ sym (take-append-drop (at + len) bytes)
+      ∙ ap (λ t. t ++ after) (sym all ∙ encodes-append past.read line ∙ ap (λ t. t ++ encode_utf8_all line) past.spell)
+      ∙ append_assoc (take lines.len bytes) (encode_utf8_all line) after) in
       let pushed = line_push past.texts past.read line lines.line_ends (come.more + 1) after (subst (AreWholeLines past.texts past.read lines.line_ends) split past.whole) some whole in
       record {
         within = fits;
@@ -217,7 +200,7 @@ module _ (bytes : List ℕ) where
         more = 0;
         count = omega arith;
         read = [];
-        spell = sym (ap (λ (k : ℕ). take k (drop (at + len) bytes)) nothing);
+        spell = ap encode_utf8_all (append-nil (past.read ++ line)) ∙ all;
         stands = stands (drop (at + len) bytes) modes.Free [] 0 [] begun;
       }
 
@@ -227,7 +210,7 @@ module _ (bytes : List ℕ) where
       let past = come.lines_are in
       let before = lines_few past.texts past.read lines.line_ends (drop lines.len bytes) past.whole in
       let holds = stands_holds (drop at bytes) modes.Free come.read come.more st come.stands in
-      omega (arith, come.count, before, ap length past.spell, length-take-le lines.len bytes past.within, holds.count, line_ends-bytes come.read, ap length come.spell, line_size lines at come.ordered come.within, come.ordered)
+      omega (arith, come.count, before, holds.count, line_ends-bytes come.read, byte_len-append past.read come.read, ap length come.spell, length-take-le at bytes come.within)
 
 -- the line that is open after these lines has come to this byte, which isn't plain, or the bytes end there
 pub record StandsAt (bytes : List ℕ) (lines : Passed) (at : ℕ) (p : Passing) (b : Brackets) : Type 0 where

@@ -282,10 +282,6 @@ pub record BeginWithLines (bytes : List ℕ) (lines : Passed) : Type 0 where
   pub texts : List (List ℕ)
   pub whole : AreWholeLines texts read lines.line_ends (drop lines.len bytes)
 
--- the bytes of the line that begins after these lines, up to this byte
-abbrev pub line_up_to : List ℕ → Passed → ℕ → List ℕ
-line_up_to bytes lines at = take (at - lines.len) (drop lines.len bytes)
-
 -- after such lines the next has come to this byte; so many line ends stand before it, and these brackets are open
 pub record HasComeTo (bytes : List ℕ) (lines : Passed) (at n : ℕ) (st : List Bracket) : Type 0 where
   pub within : at ≤ length bytes
@@ -294,5 +290,5 @@ pub record HasComeTo (bytes : List ℕ) (lines : Passed) (at n : ℕ) (st : List
   pub more : ℕ
   pub count : n ≡ lines.line_ends + more
   pub read : List ℕ
-  pub spell : encode_utf8_all read ≡ line_up_to bytes lines at
+  pub spell : encode_utf8_all (lines_are.read ++ read) ≡ take at bytes
   pub stands : StandsBefore (drop at bytes) modes.Free read more st
