@@ -3,6 +3,7 @@ use Rattle.std.proofs.Common.{◌≡◌, ℕ, ◌+◌, ◌<◌, ◌≤◌, ◌�
 use Rattle.std.specs.Prelude.{encode_utf8_all, not}
 use Rattle.std.specs.List.{list_all, list_any}
 use Rattle.std.proofs.lemmas.Bool.{and_from, false_from_ne_true, or_parts}
+use Rattle.std.proofs.Math.Utf8.{encode}
 use Rattle.py_lines.specs.Character.{is_break, is_line_feed, is_return, is_space}
 use Rattle.py_lines.specs.Piece.{Class, space, operator, comment, join, line_end, Piece, begins, ends, spelled}
 use Rattle.py_lines.specs.PieceGrammar.{IsLineEnd, feed, return_feed, return}
@@ -18,7 +19,7 @@ use Rattle.py_lines.proofs.Text.CharacterTests.{feed_is, operator_ascii}
 use Rattle.py_lines.proofs.Text.Utf8Shapes.{one}
 use Rattle.py_lines.proofs.LogicalLines.NextLine.{begins-prefix}
 use Rattle.py_lines.proofs.LineScan.Runs.{all_no_break, break_low, line_ends-run, space_low}
-use Rattle.py_lines.proofs.LineScan.AsciiRuns.{is_low, low_encodes, low_is, operator-no_break}
+use Rattle.py_lines.proofs.LineScan.AsciiRuns.{operator-no_break}
 use Rattle.py_lines.proofs.LineTokens.FirstCharacters.{hash_is, slash_is}
 use Rattle.py_lines.proofs.LineTokens.RunLengths.{IsEvenAbove, encoded_begins, encoded_length}
 use Rattle.py_lines.proofs.LineTokens.Splits.{spelled_bytes}
@@ -59,23 +60,15 @@ unfolding is_return
 after_return [] none = refl
 after_return (d ∷ ds) none = rw none
 
-as_bytes : (text rest : List ℕ) → list_all is_low text ≡ true → line_end_len (text ++ encode_utf8_all rest) ≡ length text
-    → line_end_len (encode_utf8_all text ++ encode_utf8_all rest) ≡ byte_len text
-as_bytes text rest low len =
-    let same : encode_utf8_all text ≡ text = (low_encodes is_low text low_is low).0 in
-    ap (λ t. line_end_len (t ++ encode_utf8_all rest)) same ∙ len ∙ sym (ap length same)
-
 one_end : (end rest after : List ℕ) → IsLineEnd end → ends is_return end && begins is_line_feed (rest ++ after) ≡ false → IsOneEnd end rest
-unfolding is_return is_line_feed
-one_end end rest after (feed is) uncut =
-    rw is (record { len = as_bytes (10 ∷ []) rest refl (after_feed (encode_utf8_all rest)); counted = refl; joined = refl })
-one_end end rest after (return_feed is) uncut = rw is (record { len = as_bytes (13 ∷ 10 ∷ []) rest refl refl; counted = refl; joined = refl })
+unfolding is_return is_line_feed encode
+one_end end rest after (feed is) uncut = rw is (record { len = after_feed (encode_utf8_all rest); counted = refl; joined = refl })
+one_end end rest after (return_feed is) uncut = rw is (record { len = refl; counted = refl; joined = refl })
 one_end end rest after (return is) uncut =
     rw is (record {
-      len = as_bytes (13 ∷ []) rest refl
-          (after_return (encode_utf8_all rest)
+      len = after_return (encode_utf8_all rest)
           (encoded_begins is_line_feed (low_even is_line_feed (λ c h. omega (arith, feed_is c h))) rest
-          ∙ begins-prefix is_line_feed rest after (rw is at uncut)));
+          ∙ begins-prefix is_line_feed rest after (rw is at uncut));
       counted = refl;
       joined = refl;
     })

@@ -78,29 +78,19 @@ abbrev first_space : List Piece → ℕ
 first_space [] = 0
 first_space (p ∷ ps) = space_len p.class p.text
 
-no_space : (class : Class) (text : List ℕ) → (class ≡ space → ⊥) → 0 ≡ space_len class text
-no_space space text other = absurd (other refl)
-no_space mark text other = refl
-no_space _ text other = refl
-
-is_space_class : (class : Class) → (class ≡ space) ⊎ (class ≡ space → ⊥)
-is_space_class space = inl refl
-is_space_class mark = inr (λ e. cc)
-is_space_class _ = inr (λ e. cc)
-
 space_read : (bytes : List ℕ) (p : Piece) (n : ℕ) → BeginWithPiece bytes p → IsRunOf is_space bytes n → n ≡ space_len p.class p.text
-space_read bytes p n b run = ⊎_elim
-    (λ is.
-    let shape = in_class bytes p b space is in
-    run_taken bytes p b is_space n (low_even is_space space_low) run shape.3
-    (begins-prefix is_space (spelled b.others) b.text.after (precedes bytes p b space is))
-    ∙ sym (ap (λ (k : Class). space_len k p.text) is))
-    (λ other. none n run other ∙ no_space p.class p.text other)
-    (is_space_class p.class)
+space_read bytes p n b run = go p.class refl
   where
     none : (k : ℕ) → IsRunOf is_space bytes k → (p.class ≡ space → ⊥) → k ≡ 0
     none zero r other = refl
     none (suc k) r other = absurd (other (class_told bytes p class.Space b (r.each 0 (omega arith))))
+
+    go : (kind : Class) → p.class ≡ kind → n ≡ space_len kind p.text
+    go space is =
+        run_taken bytes p b is_space n (low_even is_space space_low) run (in_class bytes p b space is).3
+        (begins-prefix is_space (spelled b.others) b.text.after (precedes bytes p b space is))
+    go mark is = none n run (λ spaces. absurd (cc))
+    go other is = none n run (λ spaces. absurd (cc))
 
 first_read : (bytes : List ℕ) (depth : ℕ) (ps : List Piece) (n : ℕ) → AreTextAt depth bytes ps → begins_marked ps ≡ false
     → IsRunOf is_space bytes n → n ≡ first_space ps

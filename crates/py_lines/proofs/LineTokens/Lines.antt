@@ -11,7 +11,7 @@ use Rattle.py_lines.specs.LogicalLine.{byte_len, kind_of, line_ends, tokens_from
 use Rattle.py_lines.specs.declared.line_tokens.LinePiece.{LinePiece}
 use Rattle.py_lines.specs.declared.line_tokens.LineTokens.{LineTokens}
 use Rattle.py_lines.specs.Private.ScanMachine.{StringFits}
-use Rattle.py_lines.specs.Private.LineTokens.{AddsPiece, AreLineText, AreTextAt, AreTokensOf, BeginWithPiece, HaveRead, HaveReadOf, IsFirstPiece, IsLineText, IsTakenFor, kind_with, role_of}
+use Rattle.py_lines.specs.Private.LineTokens.{AddsPiece, AreLineText, AreTextAt, AreTokensOf, BeginWithPiece, HaveRead, HaveReadOf, IsFirstPiece, IsTakenFor, kind_with, role_of}
 use Rattle.py_lines.proofs.FieldScans.TextLengths.{rest_is, rest_of}
 use Rattle.py_lines.proofs.Text.Utf8Prefixes.{all_scalars-parts}
 use Rattle.py_lines.proofs.Pieces.PieceLists.{AreReadBefore-first, AreReadBefore-second, spelled-append}
@@ -84,15 +84,18 @@ none_left text [] done is unmarked end = refl
 none_left text (p ∷ ps) done is unmarked end =
     let next = is_next text done ps p is unmarked in absurd (omega (arith, next.within, next.some, end))
 
+-- a piece that was taken there: there is room for it, and the line is read so far
+pub record IsTakenNext (text : List ℕ) (pieces : List Piece) (first start line : ℕ) (t : LineTokens) (piece : LinePiece) : Type 0 where
+  pub some : 0 < piece.len
+  pub within : start + piece.len ≤ length text
+  pub lines : line + piece.line_ends ≤ first + length text
+  pub more : (u : LineTokens) → AddsPiece t piece start line u → HaveReadOf pieces first (start + piece.len) (line + piece.line_ends) u
+
 -- the next piece of a line that isn't read to its end
 pub record HasNext (text : List ℕ) (pieces : List Piece) (first start line : ℕ) (t : LineTokens) : Type 0 where
   pub p : Piece
-  pub begin : BeginWithPiece (drop start text) p
-  pub some : 0 < byte_len p.text
-  pub within : start + byte_len p.text ≤ length text
-  pub lines : line + line_ends p.text ≤ first + length text
-  pub more : (piece : LinePiece) (u : LineTokens) → IsTakenFor p piece → AddsPiece t piece start line u
-      → HaveReadOf pieces first (start + piece.len) (line + piece.line_ends) u
+  pub begin : BeginWithPiece (rest_of text start) p
+  pub taken : (piece : LinePiece) → IsTakenFor p piece → IsTakenNext text pieces first start line t piece
 
 pub has_next : (text : List ℕ) (pieces : List Piece) (first start line : ℕ) (t : LineTokens) → AreLineText text pieces
     → HaveReadOf pieces first start line t → start < length text → HasNext text pieces first start line t
@@ -108,53 +111,39 @@ has_next text pieces first start line t is h inside = go h.others h.are h.unmark
         let fit = AreReadBefore-first h.done (p ∷ qs) whole.after whole.fit in
         record {
           p = p;
-          begin = subst (λ (n : ℕ). BeginWithPiece (drop n text) p) (sym h.place) (record {
+          begin = subst (λ (l : List ℕ). BeginWithPiece l p) (ap (λ (n : ℕ). drop n text) (sym h.place) ∙ sym (rest_is text start)) (record {
             unmarked = unmarked;
             others = qs;
             depth = depth_through 0 h.done;
             text = text_after text h.done (p ∷ qs) whole;
           });
-          some = next.some;
-          within = omega (arith, h.place, next.within);
-          lines = omega (arith, h.number, next.lines);
-          more = λ piece u taken adds.
+          taken = λ piece taken.
               let stop : start + piece.len ≡ byte_len (spelled h.done) + byte_len p.text = omega (arith, h.place, taken.len) in
               record {
-                done = h.done ++ p ∷ [];
-                others = qs;
-                are = are ∙ one_more h.done qs p;
-                unmarked = (AreReadBefore-second h.done (p ∷ qs) whole.after whole.fit).2;
-                place = stop ∙ sym (len_push h.done p);
-                number = omega (arith, h.number, taken.line_ends, next.counted);
-                kind = adds.kind ∙ ap (λ r. kind_with t.kind r) taken.role ∙ ap (λ k. kind_with k (role_of p.class p.text)) h.kind
-                    ∙ sym (kind_push h.done p unmarked);
-                indent = adds.indent ∙ h.indent;
-                tokens = adds.tokens ∙ rw (taken.role, stop, h.place, h.number, h.tokens)
-                    (sym (tokens_push first h.done p _ fit unmarked));
+                some = omega (arith, next.some, taken.len);
+                within = omega (arith, stop, next.within);
+                lines = omega (arith, h.number, taken.line_ends, next.lines);
+                more = λ u adds. record {
+                  done = h.done ++ p ∷ [];
+                  others = qs;
+                  are = are ∙ one_more h.done qs p;
+                  unmarked = (AreReadBefore-second h.done (p ∷ qs) whole.after whole.fit).2;
+                  place = stop ∙ sym (len_push h.done p);
+                  number = omega (arith, h.number, taken.line_ends, next.counted);
+                  kind = adds.kind ∙ ap (λ r. kind_with t.kind r) taken.role ∙ ap (λ k. kind_with k (role_of p.class p.text)) h.kind
+                      ∙ sym (kind_push h.done p unmarked);
+                  indent = adds.indent ∙ h.indent;
+                  tokens = adds.tokens ∙ rw (taken.role, stop, h.place, h.number, h.tokens)
+                      (sym (tokens_push first h.done p _ fit unmarked));
+                };
               };
         }
 
--- what is taken there
-pub taken_next : (text : List ℕ) (start : ℕ) (p : Piece) (piece : LinePiece) → BeginWithPiece (drop start text) p
-    → IsFirstPiece (rest_of text start) piece → IsTakenFor p piece
-taken_next text start p piece begin first = first p (subst (λ (t : List ℕ). BeginWithPiece t p) (sym (rest_is text start)) begin)
-
--- there is room for it
-pub record HasRoom (text : List ℕ) (first start line : ℕ) (piece : LinePiece) : Type 0 where
-  pub some : 0 < piece.len
-  pub within : start + piece.len ≤ length text
-  pub lines : line + piece.line_ends ≤ first + length text
-
-pub has_room : (text : List ℕ) (first start line : ℕ) (t : LineTokens) (piece : LinePiece) → IsLineText text
-    → HaveRead text first start line t → start < length text → IsFirstPiece (rest_of text start) piece → HasRoom text first start line piece
-has_room text first start line t piece (ps, is) read inside taken =
-    let n = has_next text ps first start line t is (read ps is) inside in
-    let same = taken_next text start n.p piece n.begin taken in
-    record {
-      some = omega (arith, n.some, same.len);
-      within = omega (arith, n.within, same.len);
-      lines = omega (arith, n.lines, same.line_ends);
-    }
+-- the piece that was read there
+pub next_taken : (text : List ℕ) (pieces : List Piece) (first start line : ℕ) (t : LineTokens) (piece : LinePiece) → AreLineText text pieces
+    → HaveRead text first start line t → start < length text → IsFirstPiece (rest_of text start) piece → IsTakenNext text pieces first start line t piece
+next_taken text pieces first start line t piece is read inside own =
+    let n = has_next text pieces first start line t is (read pieces is) inside in n.taken piece (own n.p n.begin)
 
 -- a line that is read to its end
 pub whole_read : (text : List ℕ) (pieces : List Piece) (first start line : ℕ) (t : LineTokens) → AreLineText text pieces

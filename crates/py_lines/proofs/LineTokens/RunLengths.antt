@@ -10,6 +10,12 @@ use Rattle.py_lines.proofs.Text.CharacterTests.{Each}
 use Rattle.py_lines.proofs.Text.Utf8Shapes.{one}
 use Rattle.py_lines.proofs.LineTokens.Spellings.{high_bytes}
 
+-- what passes one test passes another, where each number does
+pub all_also : (p q : ℕ → Bool) → ((c : ℕ) → p c ≡ true → q c ≡ true) → (cs : List ℕ) → list_all p cs ≡ true → list_all q cs ≡ true
+all_also p q each [] all = refl
+all_also p q each (c ∷ cs) all =
+    let parts = and_parts (p c) (list_all p cs) all in and_from (q c) (list_all q cs) (each c parts.0) (all_also p q each cs parts.1)
+
 -- a run that ends where it may not go on
 pub run_length : (passes : ℕ → Bool) (xs ys : List ℕ) (n : ℕ) → IsRunOf passes (xs ++ ys) n → list_all passes xs ≡ true
     → begins passes ys ≡ false → n ≡ length xs

@@ -109,16 +109,11 @@ all_held s read steps some none =
     holds_all s.mode s.done s.held read sound.holds some none (ap (λ (l : List Piece). spelled l ++ s.held) (sym none) ∙ sound.spell)
 
 -- where one piece is found and it is open, none is closed
-none_closed : (p q : Piece) (ps : List Piece) → ps ++ q ∷ [] ≡ p ∷ [] → ps ≡ []
-none_closed p q [] h = refl
-none_closed p q (r ∷ []) h = absurd (no_piece q [] (cc h))
-none_closed p q (r ∷ t ∷ ps) h = absurd (no_piece t (ps ++ q ∷ []) (cc h))
-
 open_alone : (p : Piece) (m : Mode) (done : List Piece) (held : List ℕ) → HoldsOpen m done held → is_free m ≡ false
     → closed m done held ≡ p ∷ [] → done ≡ []
 open_alone p modes.Start done held holds other is = holds.0
 open_alone p modes.Free done held holds other is = absurd (both_ways _ other refl)
-open_alone p m done held holds other is = none_closed p (piece (class_of m) held) done is
+open_alone p m done held holds other is = nil_from_length done (omega (arith, ap length is, length-append done (piece (class_of m) held ∷ [])))
 
 -- a line begins with this string, which the machine passes, and with `x` after it
 module _ (text x after : List ℕ) (passes : PassesString text (x ++ after)) where
@@ -175,18 +170,12 @@ module _ (text x after : List ℕ) (passes : PassesString text (x ++ after)) whe
   pub whole_closed : (whole y : List ℕ) → text ++ x ≡ whole ++ y → ComesTo whole (fresh (piece string whole ∷ [])) → whole ≡ text
   whole_closed whole y at steps = go (either whole y text x (sym at))
     where
-      shorter : (z : List ℕ) → text ≡ whole ++ z → whole ≡ text
-      shorter [] is = sym (append-nil whole) ∙ sym is
-      shorter (d ∷ z) is = absurd (no_piece (piece string whole) [] (open_before whole z d (fresh (piece string whole ∷ [])) is steps))
-
-      longer : (ps : List Piece) × (piece string whole ∷ [] ≡ piece string text ∷ ps) → whole ≡ text
-      longer (ps, same) =
-          let first : piece string whole ≡ piece string text = cc same in
-          ap (λ (p : Piece). p.text) first
-
       go : Either whole text x → whole ≡ text
-      go (Either.shorter z is) = shorter z is
-      go (Either.longer d w more is follows) = longer (closed_after whole w more d _ is follows steps)
+      go (Either.shorter [] is) = sym (append-nil whole) ∙ sym is
+      go (Either.shorter (d ∷ z) is) = absurd (no_piece (piece string whole) [] (open_before whole z d (fresh (piece string whole ∷ [])) is steps))
+      go (Either.longer d w more is follows) =
+          let first : piece string whole ≡ piece string text = cc ((closed_after whole w more d _ is follows steps).1) in
+          ap (λ (p : Piece). p.text) first
 
   -- what was read is the string, where no character follows
   pub whole_at_end : (read : List ℕ) (s : Scanned) → text ++ x ≡ read ++ [] → ComesTo read s → s.done ≡ [] → read ≡ text

@@ -24,7 +24,7 @@ use Rattle.py_lines.proofs.LogicalLines.NextLine.{begins-prefix}
 use Rattle.py_lines.proofs.LineScan.Runs.{quote_ascii, word_byte_continues, word_byte_starts}
 use Rattle.py_lines.proofs.LineTokens.FirstCharacters.{IsQuoted, quoted, prefix_is_word}
 use Rattle.py_lines.proofs.LineTokens.FirstPieces.{in_class, low_even, precedes, run_taken, taken, unbroken}
-use Rattle.py_lines.proofs.LineTokens.RunLengths.{IsEvenAbove, encoded_begins, encoded_passes, run_length}
+use Rattle.py_lines.proofs.LineTokens.RunLengths.{IsEvenAbove, all_also, encoded_begins, encoded_passes, run_length}
 use Rattle.py_lines.proofs.LineTokens.Spellings.{fielded_spelling, prefix_encoded}
 use Rattle.py_lines.proofs.LineTokens.Splits.{class_told, first_of, spelled_bytes, word_ends}
 
@@ -38,16 +38,10 @@ wide_even c b one two = wide c one ∙ sym (wide b two)
 by_range : (c : ℕ) → (c < 128 → is_ascii_word c ≡ true) → is_wide_word c ≡ true
 by_range c low = ⊎_elim (λ less. rw (low less) refl) (λ (more : 128 ≤ c). grind (arith, nat_tests)) (cases_lt c 128)
 
-all_wide : (cs : List ℕ) → list_all is_word_character cs ≡ true → list_all is_wide_word cs ≡ true
-all_wide [] all = refl
-all_wide (c ∷ cs) all =
-    let parts = and_parts (is_word_character c) (list_all is_word_character cs) all in
-    and_from (is_wide_word c) (list_all is_wide_word cs) (by_range c (λ low. sym (word_byte_continues c low) ∙ parts.0))
-    (all_wide cs parts.1)
-
 pub word_wide : (c : ℕ) (cs : List ℕ) → is_word_start c ≡ true → list_all is_word_character cs ≡ true → list_all is_wide_word (c ∷ cs) ≡ true
 word_wide c cs starts all =
-    and_from (is_wide_word c) (list_all is_wide_word cs) (by_range c (λ low. sym (word_byte_starts c low) ∙ starts)) (all_wide cs all)
+    and_from (is_wide_word c) (list_all is_wide_word cs) (by_range c (λ low. sym (word_byte_starts c low) ∙ starts))
+    (all_also is_word_character is_wide_word (λ d h. by_range d (λ low. sym (word_byte_continues d low) ∙ h)) cs all)
 
 quote_not_wide : (q : ℕ) → is_quote q ≡ true → is_wide_word q ≡ false
 unfolding is_quote is_ascii_word
@@ -58,11 +52,8 @@ unfolding is_break is_ascii_word
 break_not_wide c h = none_of is_wide_word (codes "\n\r") c refl h
 
 pub wide_unbroken : (cs : List ℕ) → list_all is_wide_word cs ≡ true → list_all (λ d. not (is_break d)) cs ≡ true
-wide_unbroken [] all = refl
-wide_unbroken (c ∷ cs) all =
-    let parts = and_parts (is_wide_word c) (list_all is_wide_word cs) all in
-    and_from (not (is_break c)) (list_all (λ d. not (is_break d)) cs)
-    (ap not (false_from_ne_true _ (λ breaks. both_ways _ (break_not_wide c breaks) parts.0))) (wide_unbroken cs parts.1)
+wide_unbroken =
+    all_also is_wide_word (λ d. not (is_break d)) (λ c wide. ap not (false_from_ne_true _ (λ breaks. both_ways _ (break_not_wide c breaks) wide)))
 
 pub first_byte : (passes : ℕ → Bool) (bytes : List ℕ) → begins passes bytes ≡ true → passes (slice_index bytes 0) ≡ true
 first_byte passes [] none = absurd (both_ways _ refl none)
