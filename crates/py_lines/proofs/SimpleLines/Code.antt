@@ -34,7 +34,7 @@ use Rattle.py_lines.proofs.LineScan.PieceEnd.{closed_text}
 use Rattle.py_lines.proofs.LineScan.Runs.{break_low, ends-run, line_ends-run, space_low, word_byte_continues, word_byte_low}
 use Rattle.py_lines.proofs.LineScan.AsciiRuns.{ascii_scalar, operator-no_break, word_starts, word_whole, space-not-quote, space_whole}
 use Rattle.py_lines.proofs.LineScan.TextSteps.{begun_sound}
-use Rattle.py_lines.proofs.SimpleLines.Tails.{apart_tail, come_sound, feed-no-word, feed_unreturned, free_goes_on, no_tail, no_tail_with, return_returns, stands, stands_less, tail_on-append, tail_push}
+use Rattle.py_lines.proofs.SimpleLines.Tails.{apart_tail, come_sound, feed_unreturned, free_goes_on, no_tail, no_tail_with, return_returns, stands, stands_less, tail_on-append, tail_push}
 use Rattle.py_lines.proofs.Text.CharacterTests.{excluded, feed_is, none_of, operator_ascii}
 use Rattle.py_lines.proofs.Text.Utf8Prefixes.{all_scalars-append}
 use Rattle.py_lines.proofs.Text.Utf8Shapes.{one, two, three, four}
@@ -62,10 +62,6 @@ quote-not-space c h = none_of is_space (codes "'\"") c refl h
 space-no-word : (c : ℕ) → is_space c ≡ true → is_ascii_word c ≡ false
 space-no-word c is = excluded is_space is_ascii_word c (word-not-space c) is
 
-return-no-word : is_ascii_word 13 ≡ false
-unfolding is_ascii_word
-return-no-word = refl
-
 -- more characters, which end no line
 pub holds_more : (read run : List ℕ) (n : ℕ) → HoldsLineEnds read n → all_scalars run ≡ true → list_all (λ d. not (is_break d)) run ≡ true → HoldsLineEnds (read ++ run) n
 holds_more read run n holds scalars whole = record {
@@ -79,15 +75,17 @@ holds_one read c n holds low none = holds_more read (c ∷ []) n holds (and_from
 pub one_unreturned : (read : List ℕ) (c : ℕ) → is_break c ≡ false → ends is_return (read ++ c ∷ []) ≡ false
 one_unreturned read c none = ends-run read (c ∷ []) tt (and_from _ _ (ap not none) refl)
 
+-- one more of ASCII, which counts so many line ends
+holds_push : (read : List ℕ) (c n k all : ℕ) → HoldsLineEnds read n → c < 128 → counts_after (ends is_return read) c ≡ k → n + k ≡ all → HoldsLineEnds (read ++ c ∷ []) all
+holds_push read c n k all holds low counts sum = record {
+  scalars = all_scalars-append read (c ∷ []) holds.scalars (and_from _ _ (ascii_scalar c low) refl);
+  count = omega (arith, line_ends-step read c, counts, sum, holds.count);
+}
+
 -- a line end counts as one more, with CR or without, and so does CR alone
 pub holds_return : (read : List ℕ) (n : ℕ) → HoldsLineEnds read n → HoldsLineEnds (read ++ 13 ∷ []) (n + 1)
 unfolding counts_after is_return
-holds_return read n holds =
-    let one : counts_after (ends is_return read) 13 ≡ 1 = refl in
-    record {
-      scalars = all_scalars-append read (13 ∷ []) holds.scalars (and_from _ _ (ascii_scalar 13 (lit< tt)) refl);
-      count = omega (arith, line_ends-step read 13, one, holds.count);
-    }
+holds_return read n holds = holds_push read 13 n 1 (n + 1) holds (lit< tt) refl refl
 
 -- the byte that it begins with
 abbrev pub line_end_first : Bool → ℕ
@@ -97,20 +95,11 @@ line_end_first false = 10
 pub holds_returned : (read : List ℕ) (n : ℕ) → HoldsLineEnds (read ++ 13 ∷ []) n → HoldsLineEnds ((read ++ 13 ∷ []) ++ 10 ∷ []) n
 unfolding counts_after is_return is_line_feed
 holds_returned read n first =
-    let none : counts_after (ends is_return (read ++ 13 ∷ [])) 10 ≡ 0 = ap (λ (b : Bool). counts_after b 10) (ends-last is_return read 13) in
-    record {
-      scalars = all_scalars-append (read ++ 13 ∷ []) (10 ∷ []) first.scalars (and_from _ _ (ascii_scalar 10 (lit< tt)) refl);
-      count = omega (arith, line_ends-step (read ++ 13 ∷ []) 10, none, first.count);
-    }
+    holds_push (read ++ 13 ∷ []) 10 n 0 n first (lit< tt) (ap (λ (b : Bool). counts_after b 10) (ends-last is_return read 13)) (omega arith)
 
 pub holds_line_end : (returned : Bool) (read : List ℕ) (n : ℕ) → HoldsLineEnds read n → (line_end_first returned ≡ 10 → ends is_return read ≡ false) → HoldsLineEnds (read ++ line_end_of returned) (n + 1)
 unfolding counts_after is_return is_line_feed
-holds_line_end false read n holds parted =
-    let one : counts_after (ends is_return read) 10 ≡ 1 = ap (λ (b : Bool). counts_after b 10) (parted refl) in
-    record {
-      scalars = all_scalars-append read (10 ∷ []) holds.scalars (and_from _ _ (ascii_scalar 10 (lit< tt)) refl);
-      count = omega (arith, line_ends-step read 10, one, holds.count);
-    }
+holds_line_end false read n holds parted = holds_push read 10 n 1 (n + 1) holds (lit< tt) (ap (λ (b : Bool). counts_after b 10) (parted refl)) refl
 holds_line_end true read n holds parted =
     subst (λ (t : List ℕ). HoldsLineEnds t (n + 1)) (append_assoc read (13 ∷ []) (10 ∷ [])) (holds_returned read (n + 1) (holds_return read n holds))
 
@@ -224,8 +213,9 @@ line_end_steps false initial read n st on = begins_as initial read n st 10 on []
 line_end_steps true initial read n st on = begins_as initial read n st 13 on (10 ∷ []) (starts.Open modes.Return) (start-return 13 return_returns)
 
 pub no_tail_line_end : (returned : Bool) (read : List ℕ) → tail_of (read ++ line_end_of returned) ≡ None
-no_tail_line_end false read = no_tail read 10 feed-no-word
-no_tail_line_end true read = ap tail_of (sym (append_assoc read (13 ∷ []) (10 ∷ []))) ∙ no_tail (read ++ 13 ∷ []) 10 feed-no-word
+unfolding is_ascii_word
+no_tail_line_end false read = no_tail read 10 refl
+no_tail_line_end true read = ap tail_of (sym (append_assoc read (13 ∷ []) (10 ∷ []))) ∙ no_tail (read ++ 13 ∷ []) 10 refl
 
 pub line_end_inside : (returned : Bool) (initial : Mode) (read : List ℕ) (n : ℕ) (st : List Bracket) → EndsBefore (line_end_first returned) initial read n st → none_open st ≡ false → IsFreeAfter initial (read ++ line_end_of returned) (n + 1) st
 line_end_inside returned initial read n [] on some = absurd (both_ways _ some refl)
@@ -272,29 +262,18 @@ ended text after m read n c on state steps ends whole holds tail =
       refl,
     )
 
-line_end_whole : (returned : Bool) (after : List ℕ) (m : Mode) (read : List ℕ) (n : ℕ) → EndsBefore (line_end_first returned) m read n []
-    → EndsWith (line_end_of returned) m read n after
-line_end_whole returned after m read n on =
-    ended (line_end_of returned) after m read n (line_end_first returned) on _ (line_end_steps returned m read n [] on) (inl refl)
-    (inl (line_end_unreturned returned read)) (holds_line_end returned read n on.come.holds on.parted) (no_tail_line_end returned read)
-
 -- CR alone, before another byte: the machine holds it yet
 pub return_waits : (c : ℕ) → (c ≡ 10 → ⊥) → (meet_of modes.Return c ≡ moves.Breaks) × (meet_of modes.JoinReturn c ≡ moves.Breaks)
 unfolding meet_of move_of
 return_waits c other = rw (false_from_ne_true (is_line_feed c) (λ feeds. other (feed_is c feeds))) (refl, refl)
 
 pub no_tail_return : (read : List ℕ) → tail_of (read ++ 13 ∷ []) ≡ None
-no_tail_return read = no_tail read 13 return-no-word
+unfolding is_ascii_word
+no_tail_return read = no_tail read 13 refl
 
 other_follows : (after : List ℕ) → BeginOther after → (b : ℕ) × (more : List ℕ) × (after ≡ b ∷ more) × (b ≡ 10 → ⊥)
 other_follows [] other = absurd other
 other_follows (b ∷ more) other = (b, more, refl, other)
-
-return_whole : (after : List ℕ) (m : Mode) (read : List ℕ) (n : ℕ) → BeginOther after → EndsBefore 13 m read n []
-    → EndsWith (13 ∷ []) m read n after
-return_whole after m read n other on =
-    let come = return_opens m read n [] on in
-    ended (13 ∷ []) after m read n 13 on _ come.steps (inr (refl, refl)) (inr (other_follows after other)) come.holds (no_tail_return read)
 
 return_inside : (after : List ℕ) (initial : Mode) (read : List ℕ) (n : ℕ) (st : List Bracket) → BeginOther after → none_open st ≡ false
     → EndsBefore 13 initial read n st → StandsBefore after initial (read ++ 13 ∷ []) (n + 1) st
@@ -450,9 +429,14 @@ line_end_next false rest initial read n st on = break_next rest initial read n s
 -- outside brackets it ends the line
 pub outer_end_whole : (text after : List ℕ) (m : Mode) (read : List ℕ) (n : ℕ) → IsOuterEnd text after
     → StandsBefore (text ++ after) m read n [] → EndsWith text m read n after
-outer_end_whole text after m read n (inl (returned, is)) on =
-    rw is (line_end_whole returned after m read n (line_end_next returned after m read n [] (rw is at on)))
-outer_end_whole text after m read n (inr (is, other)) on = rw is (return_whole after m read n other (break_next after m read n [] 13 (first-break true) (rw is at on)))
+outer_end_whole text after m read n (inl (returned, is)) on = rw is (
+    let before = line_end_next returned after m read n [] (rw is at on) in
+    ended (line_end_of returned) after m read n (line_end_first returned) before _ (line_end_steps returned m read n [] before) (inl refl)
+    (inl (line_end_unreturned returned read)) (holds_line_end returned read n before.come.holds before.parted) (no_tail_line_end returned read))
+outer_end_whole text after m read n (inr (is, other)) on = rw is (
+    let before = break_next after m read n [] 13 (first-break true) (rw is at on) in
+    let come = return_opens m read n [] before in
+    ended (13 ∷ []) after m read n 13 before _ come.steps (inr (refl, refl)) (inr (other_follows after other)) come.holds (no_tail_return read))
 
 -- whether it ends with CR
 pub outer_end_returns : (text after read : List ℕ) → IsOuterEnd text after

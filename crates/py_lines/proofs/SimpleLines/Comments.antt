@@ -15,12 +15,8 @@ use Rattle.py_lines.proofs.Machine.Starts.{start-hash}
 use Rattle.py_lines.proofs.LineTokens.FirstCharacters.{hash_is}
 use Rattle.py_lines.proofs.FieldScans.TextLengths.{rest_is}
 use Rattle.py_lines.proofs.SimpleLines.FirstBytes.{passed_from}
-use Rattle.py_lines.proofs.SimpleLines.Code.{break-apart, code_ends, holds_one, one_unreturned, opens, pieces, stands_in_code}
+use Rattle.py_lines.proofs.SimpleLines.Code.{break-apart, code_ends, holds_one, one_unreturned, opens, pieces}
 use Rattle.py_lines.proofs.SimpleLines.Runs.{goes_on, stay_spelled}
-
-hash-apart : stands_in_code 35 ≡ false
-unfolding is_ascii_word is_quote is_space
-hash-apart = refl
 
 -- `#` opens a comment
 comment_opens : (initial : Mode) (read : List ℕ) (n : ℕ) (st : List Bracket) (on : EndsBefore 35 initial read n st) → IsInPieceAfter modes.Comment (record { mode = initial; done = pieces initial read n st 35 on }) (read ++ 35 ∷ []) n st
@@ -46,7 +42,7 @@ comment_ends initial read n st c is on = record {
 -- it never closes itself
 pub comment_passed : (bytes : List ℕ) (k : ℕ) → 0 < length bytes → is_hash (slice_index bytes 0) ≡ true → IsWholeComment (take (length bytes - 1) (drop 1 bytes)) (Some k)
     → PassesFirst bytes (Some (record { len = 1 + k; line_ends = 0 }))
-unfolding is_backslash is_quote
+unfolding is_ascii_word is_backslash is_quote is_space
 comment_passed bytes k some hash found =
     passed_from bytes 35 k 0 some (hash_is (slice_index bytes 0) hash)
     (record {
@@ -57,7 +53,7 @@ comment_passed bytes k some hash found =
         run = 35 ∷ run;
         spell = ap (λ t. t ++ encode_utf8_all run) (encode_ascii 35 (omega arith)) ∙ ap (λ t. 35 ∷ t) whole.1.1.1;
         leads = λ initial read n st on.
-            let ends = code_ends cs initial read n st 35 (lit< tt) hash-apart on in
+            let ends = code_ends cs initial read n st 35 (lit< tt) refl on in
             let before : BeforePiece = record { mode = initial; done = pieces initial read n st 35 ends } in
             let come = goes_on modes.Comment before (read ++ 35 ∷ []) run n st whole.1.1.0 stay (comment_opens initial read n st ends) in
             rw (drop-cons cs k 0 whole.2, add-zero, ← append_assoc read (35 ∷ []) run) (inr (comment_ends before _ n st (slice_index cs k) (not-false _ (text.ends whole.2)) come));

@@ -2,7 +2,7 @@
 use Rattle.std.proofs.Common.{◌≡◌, ℕ, ◌+◌, ◌<◌, inl, inr, Bool, true, false, Option, None, Some, List, [], ◌∷◌, ◌++◌, length, take, drop, slice_index, refl, ap, ◌∙◌, arith, add-zero, suc, sym, subst, get_or-drop}
 use Rattle.std.specs.List.{list_all}
 use Rattle.std.proofs.Math.Seq.{take-add}
-use Rattle.py_lines.specs.Private.Outline.{BeginsLong, HasLineEnd, HasOuterEnd, IsOuterEnd, line_end_of, PassesFirst}
+use Rattle.py_lines.specs.Private.Outline.{HasLineEnd, HasOuterEnd, IsOuterEnd, line_end_of, PassesFirst}
 use Rattle.py_lines.proofs.LineScan.AsciiRuns.{is_low}
 
 pub first_later : (bytes : List ℕ) (at : ℕ) → slice_index (drop at bytes) 0 ≡ slice_index bytes at
@@ -16,19 +16,9 @@ pub taken_two : (bytes : List ℕ) → 1 < length bytes → take 2 bytes ≡ sli
 taken_two [] within = absurd (omega (arith, within))
 taken_two (b ∷ bs) within = ap (λ t. b ∷ t) (taken_one bs (omega (arith, within)))
 
-pub taken_three : (bytes : List ℕ) → 2 < length bytes → take 3 bytes ≡ slice_index bytes 0 ∷ slice_index bytes 1 ∷ slice_index bytes 2 ∷ []
-taken_three [] within = absurd (omega (arith, within))
-taken_three (b ∷ bs) within = ap (λ t. b ∷ t) (taken_two bs (omega (arith, within)))
-
 -- one byte, and some after it
 pub first_then : (bytes : List ℕ) (c len : ℕ) → 0 < length bytes → slice_index bytes 0 ≡ c → take (1 + len) bytes ≡ c ∷ take len (drop 1 bytes)
 first_then bytes c len some is = take-add 1 len bytes ∙ ap (λ t. t ++ take len (drop 1 bytes)) (taken_one bytes some ∙ ap (λ (d : ℕ). d ∷ []) is)
-
-pub begins_long : (q : ℕ) (bytes : List ℕ) → 2 < length bytes → slice_index bytes 0 ≡ q → slice_index bytes 1 ≡ q → slice_index bytes 2 ≡ q → BeginsLong q bytes
-begins_long q bytes within first second third = record {
-  within = within;
-  spell = taken_three bytes within ∙ ap (λ c. c ∷ slice_index bytes 1 ∷ slice_index bytes 2 ∷ []) first ∙ ap (λ c. q ∷ c ∷ slice_index bytes 2 ∷ []) second ∙ ap (λ c. q ∷ q ∷ c ∷ []) third;
-}
 
 -- a line end
 pub feed_found : (bytes : List ℕ) → 0 < length bytes → slice_index bytes 0 ≡ 10 → HasLineEnd bytes (Some 1)

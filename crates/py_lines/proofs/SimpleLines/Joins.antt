@@ -18,15 +18,11 @@ use Rattle.py_lines.proofs.Machine.PieceSteps.{scanned}
 use Rattle.py_lines.proofs.Machine.Starts.{start-slash}
 use Rattle.py_lines.proofs.LineScan.Increments.{EndsNoLine-push}
 use Rattle.py_lines.proofs.LineScan.AsciiRuns.{is_low, low_encodes, low_is}
-use Rattle.py_lines.proofs.SimpleLines.Code.{return_waits, begins_as, closed_line, code_ends, grown, holds_line_end, holds_one, holds_return, no_tail_return, one_unreturned, opens, pieces, stands_in_code}
+use Rattle.py_lines.proofs.SimpleLines.Code.{return_waits, begins_as, closed_line, code_ends, grown, holds_line_end, holds_one, holds_return, no_tail_return, one_unreturned, opens, pieces}
 use Rattle.py_lines.proofs.LineTokens.FirstCharacters.{slash_is}
 use Rattle.py_lines.proofs.SimpleLines.Tails.{free_stands}
 use Rattle.py_lines.proofs.SimpleLines.FirstBytes.{outer_end_low, passed_from}
 use Rattle.py_lines.proofs.FieldScans.TextLengths.{rest_is}
-
-slash-apart : stands_in_code 92 ≡ false
-unfolding is_ascii_word is_quote is_space
-slash-apart = refl
 
 pub slash-not-break : is_break 92 ≡ false
 unfolding is_break
@@ -94,6 +90,7 @@ ends_with_feed cs len within closes alone =
 
 pub join_passed : (bytes : List ℕ) (len : ℕ) → 0 < length bytes → is_backslash (slice_index bytes 0) ≡ true → HasOuterEnd (take (length bytes - 1) (drop 1 bytes)) (Some len)
     → PassesFirst bytes (Some (record { len = 1 + len; line_ends = 1 }))
+unfolding is_ascii_word is_quote is_space
 join_passed bytes len some slash found =
     passed_from bytes 92 len 1 some (slash_is (slice_index bytes 0) slash) (record {
       some = omega arith;
@@ -104,7 +101,7 @@ join_passed bytes len some slash found =
         spell = (low_encodes is_low (92 ∷ text) low_is (outer_end_low text (drop len cs) ends.is)).0;
         leads = λ initial read n st on.
             let closes = closes_itself (92 ∷ cs) (suc len) in
-            let before = code_ends cs initial read n st 92 (lit< tt) slash-apart on in
+            let before = code_ends cs initial read n st 92 (lit< tt) refl on in
             subst (λ (t : List ℕ). StandsClosed closes (drop len cs) initial t (n + 1) st) (append_assoc read (92 ∷ []) text)
             (joined initial read n st before closes text (drop len cs) ends.is (ends_with_feed cs len ends.within));
       };

@@ -5,11 +5,9 @@ use Rattle.std.proofs.lemmas.Bool.{and_from, both_ways, cases_order, eq-eqb, fal
 use Rattle.py_lines.specs.Character.{is_break, is_hash, is_one_of, is_operator, is_quote, is_space}
 use Rattle.py_lines.specs.Balance.{is_closing, is_opening}
 use Rattle.py_lines.specs.declared.marks.Marks.{Marks}
-use Rattle.py_lines.specs.declared.passing.Passing.{Passing}
 use Rattle.py_lines.specs.declared.plain_strings.Passed.{Passed}
-use Rattle.py_lines.specs.Private.Marks.{FindsNext, HasMarks, is_plain}
-use Rattle.py_lines.specs.Private.Outline.{HasString, PassesFirst, PassesPiece, closes_itself, is_plain_prefix, tail_of}
-use Rattle.py_lines.specs.Private.Passing.{PassesMarked, passed_to}
+use Rattle.py_lines.specs.Private.Marks.{FindsNext, is_plain}
+use Rattle.py_lines.specs.Private.Outline.{HasString, PassesFirst, PassesPiece, is_plain_prefix, tail_of}
 use Rattle.py_lines.specs.Private.Run.{IsRunOf, IsWholeComment, is_ascii_word, is_body_byte, is_remark_byte, is_text_byte}
 use Rattle.py_lines.proofs.LineScan.AsciiRuns.{is_low_from}
 use Rattle.py_lines.proofs.LineScan.Spans.{ascii_comment, text_spans}
@@ -17,8 +15,7 @@ use Rattle.py_lines.proofs.Text.CharacterTests.{excluded, none_of}
 use Rattle.py_lines.proofs.SimpleLines.Code.{code_low}
 use Rattle.py_lines.proofs.SimpleLines.Comments.{comment_passed}
 use Rattle.py_lines.proofs.SimpleLines.Lines.{plain_code}
-use Rattle.py_lines.proofs.SimpleLines.Passing.{piece_passed}
-use Rattle.py_lines.proofs.FieldScans.TextLengths.{later, rest_is}
+use Rattle.py_lines.proofs.FieldScans.TextLengths.{later, rest_is, rest_of}
 use Rattle.py_lines.proofs.SimpleLines.Strings.{after, short_ended, short_first, short_run, plain_at}
 use Rattle.py_lines.proofs.SimpleLines.FirstBytes.{first_later}
 use Rattle.py_lines.proofs.LineScan.Runs.{break_low}
@@ -52,21 +49,17 @@ abbrev pub Between : (ℕ → Bool) → List ℕ → ℕ → ℕ → Type 0
 Between passes bytes at end = (i : ℕ) → at < i → i < end → passes (slice_index bytes i) ≡ true
 
 -- a piece with which the bytes from there on begin
-pub first_piece : (bytes : List ℕ) (at : ℕ) (piece : Option Passed) → at ≤ length bytes → PassesFirst (drop at bytes) piece → PassesPiece bytes at piece
+pub first_piece : (bytes : List ℕ) (at : ℕ) (piece : Option Passed) → at < length bytes → PassesFirst (rest_of bytes at) piece → PassesPiece bytes at piece
 first_piece bytes at None here first = tt
-first_piece bytes at (Some p) here first = (
-  omega (arith, here, first.part.within, length-drop at bytes),
-  record {
-    some = first.some;
-    few = first.few;
-    part = record {
-      within = first.part.within;
-      run = first.part.run;
-      spell = first.part.spell;
-      leads = λ m read n st on. first.part.leads m read n st on.2;
-    };
-  },
-)
+first_piece bytes at (Some p) here found =
+    let first : PassesFirst (drop at bytes) (Some p) = subst (λ (t : List ℕ). PassesFirst t (Some p)) (rest_is bytes at) found in (
+      omega (arith, here, first.part.within, length-drop at bytes),
+      record {
+        some = first.some;
+        few = first.few;
+        part = record { within = first.part.within; run = first.part.run; spell = first.part.spell; leads = λ m read n st on. first.part.leads m read n st on.2 };
+      },
+    )
 
 module _ (bytes : List ℕ) (at end : ℕ) (further : at < end) (within : end < length bytes) where
   abbrev rest : List ℕ
@@ -127,20 +120,14 @@ module _ (bytes : List ℕ) (at end : ℕ) (further : at < end) (within : end < 
       let whole = ascii_comment (drop 1 rest) k run (omega (arith, further, within, length-drop at bytes, length-drop 1 rest)) low in
       let first = comment_passed rest k (omega (arith, further, within, length-drop at bytes)) (ap is_hash first_is ∙ hash) (subst (λ (t : List ℕ). IsWholeComment t (Some k)) (sym (rest_is rest 1)) whole) in
       let size : 1 + k ≡ end - at = omega (arith, further) in
-      first_piece bytes at (Some (record { len = end - at; line_ends = 0 })) (omega (arith, further, within)) (subst (λ (n : ℕ). PassesFirst rest (Some (record { len = n; line_ends = 0 }))) size first)
+      first_piece bytes at (Some (record { len = end - at; line_ends = 0 })) (omega (arith, further, within))
+      (subst (λ (t : List ℕ). PassesFirst t (Some (record { len = end - at; line_ends = 0 }))) (sym (rest_is bytes at))
+      (subst (λ (n : ℕ). PassesFirst rest (Some (record { len = n; line_ends = 0 }))) size first))
     where
       last : slice_index (drop 1 rest) (end - at - 1) ≡ slice_index bytes end
       last =
           let there : at + (1 + (end - at - 1)) ≡ end = omega (arith, further) in
           rest_byte (end - at - 1) ∙ ap (λ (i : ℕ). slice_index bytes i) there
-
--- wherever so few brackets are open it is passed
-module _ (bytes : List ℕ) (at : ℕ) (old new : Passing) (within : at < length bytes) (marked : HasMarks bytes (at + 1) old.marks) where
-  pub passes_marked : (p : Passed) (closes : Bool) (to : ℕ) (marks : Marks) → PassesPiece bytes at (Some p) → (closes ≡ true → closes_itself (drop at bytes) p.len ≡ true) → at + p.len ≡ to → HasMarks bytes to marks
-      → new ≡ passed_to (record old { marks = marks }) to p.line_ends closes → PassesMarked bytes at old new
-  passes_marked p closes to marks passes shut there has is = λ place b few.
-      piece_passed bytes at old within marked place b p closes marks new few passes shut (subst (λ (k : ℕ). HasMarks bytes k marks) (sym there) has)
-      (is ∙ ap (λ (k : ℕ). passed_to (record old { marks = marks }) k p.line_ends closes) (sym there))
 
 -- a comment of ASCII goes on up to the next byte that isn't plain
 pub record ReadsComment (bytes : List ℕ) (at end : ℕ) (marks : Marks) : Type 0 where

@@ -18,7 +18,7 @@ use Rattle.py_lines.specs.Private.Passing.{IsMet, PassesOver, PassesSo, PassesSp
 use Rattle.py_lines.specs.Private.Scan.{Meets, depth_of, none_open, stack_of}
 use Rattle.py_lines.proofs.Pieces.PieceLists.{piece}
 use Rattle.py_lines.proofs.LineScan.AsciiRuns.{is_low, low_encodes, low_is}
-use Rattle.py_lines.proofs.Text.CharacterTests.{none_of, operator_ascii}
+use Rattle.py_lines.proofs.Text.CharacterTests.{operator_ascii, slash-not-quote}
 use Rattle.py_lines.proofs.SimpleLines.Code.{operator_free, outer_end_inside}
 use Rattle.py_lines.proofs.SimpleLines.FirstBytes.{outer_end_low, first_later}
 use Rattle.py_lines.proofs.SimpleLines.Tails.{stands_less}
@@ -153,24 +153,19 @@ module _ (bytes : List ℕ) (at : ℕ) (old : Passing) (within : at < length byt
       rw unpassed (same, meets.1)
 
   -- a piece
-  pub piece_passed : (place : ℕ) (b : Brackets) (p : Passed) (closes : Bool) (marks : Marks) (new : Passing) → depth_of b ≤ 100
-      → PassesPiece bytes at (Some p) → (closes ≡ true → closes_itself (drop at bytes) p.len ≡ true) → HasMarks bytes (at + p.len) marks
-      → new ≡ passed_to (record old { marks = marks }) (at + p.len) p.line_ends closes
-      → PassesSpecial bytes at place old b special.Passed new b
-  piece_passed place b p closes marks new few passes shut there is =
-      rw is (record {
+  pub piece_passed : (place : ℕ) (b : Brackets) (p : Passed) (closes : Bool) (to : ℕ) (marks : Marks) (new : Passing) → depth_of b ≤ 100
+      → PassesPiece bytes at (Some p) → (closes ≡ true → closes_itself (drop at bytes) p.len ≡ true) → at + p.len ≡ to → HasMarks bytes to marks
+      → new ≡ passed_to (record old { marks = marks }) to p.line_ends closes → PassesSpecial bytes at place old b special.Passed new b
+  piece_passed place b p closes to marks new few passes shut there has is =
+      rw (is, ← there) (record {
         len = p.len;
         more = p.line_ends;
         closes = closes;
         over = piece_over bytes at within place b p closes few passes shut;
         kept = λ _. refl;
         is = refl;
-        marked = there;
+        marked = rw there has;
       })
-
-backslash-not-quote : (c : ℕ) → is_backslash c ≡ true → is_quote c ≡ false
-unfolding is_backslash is_quote
-backslash-not-quote c h = none_of is_quote (92 ∷ []) c refl h
 
 -- what the classes of the first byte and of the last one tell of the end of a piece
 pub backslash_closes : (bytes : List ℕ) (at len : ℕ) → 0 < len → is_backslash (slice_index bytes at) ≡ true
@@ -180,12 +175,10 @@ backslash_closes bytes at len some is feeds =
     let first = first_later bytes at in
     let ends : slice_index (drop at bytes) (len - 1) ≡ slice_index bytes (at + len - 1) =
     get_or-drop at bytes (len - 1) 0 ∙ ap (λ (k : ℕ). slice_index bytes k) last in
-    let other : is_quote (slice_index (drop at bytes) 0) ≡ false = ap is_quote first ∙ backslash-not-quote (slice_index bytes at) is in
+    let other : is_quote (slice_index (drop at bytes) 0) ≡ false = ap is_quote first ∙ slash-not-quote (slice_index bytes at) is in
     let slash : is_backslash (slice_index (drop at bytes) 0) ≡ true = ap is_backslash first ∙ is in
     rw (other, slash) (ap (λ (c : ℕ). c == 10) ends ∙ feeds)
 
 pub quote_closes : (bytes : List ℕ) (at len : ℕ) → is_quote (slice_index bytes at) ≡ true → nat_lt 2 len ≡ true
     → closes_itself (drop at bytes) len ≡ true
-quote_closes bytes at len is more =
-    let quote : is_quote (slice_index (drop at bytes) 0) ≡ true = ap is_quote (first_later bytes at) ∙ is in
-    rw quote more
+quote_closes bytes at len is more = rw (ap is_quote (first_later bytes at) ∙ is) more

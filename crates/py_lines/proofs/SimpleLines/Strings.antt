@@ -316,19 +316,6 @@ module _ (q : ℕ) (quote : is_quote q ≡ true) where
   line_end_in_long b returned initial read n st on =
       line_end_grows (long_is b) (modes.Long q) (modes.Long q) returned initial read n st (in_long b 10 (unlike 10 refl)) (in_long b 13 (unlike 13 refl)) (in_long false 10 (unlike 10 refl)) on
 
-  lone_line_end : (returned : Bool) (initial : BeforePiece) (read : List ℕ) (n : ℕ) (st : List Bracket) → IsInLong q initial read n st → IsInLong q initial (read ++ q ∷ line_end_of returned) (n + 1) st
-  lone_line_end returned initial read n st on =
-      subst (λ (t : List ℕ). IsInLong q initial t (n + 1) st) (append_assoc read (q ∷ []) (line_end_of returned))
-      (line_end_in_long true returned initial (read ++ q ∷ []) n st (lone initial read n st on))
-
-  -- text after such a quote
-  lone_text : (text : List ℕ) (initial : BeforePiece) (read : List ℕ) (n : ℕ) (st : List Bracket) → 0 < byte_len text → all_scalars text ≡ true → list_all (is_body_byte q) text ≡ true → IsInLong q initial read n st → IsInLong q initial (read ++ q ∷ text) n st
-  unfolding long_move
-  lone_text text initial read n st some scalars all on =
-      subst (λ (t : List ℕ). IsInLong q initial t n st) (append_assoc read (q ∷ []) text)
-      (first_goes_on (modes.LongOne q) (modes.Long q) initial (read ++ q ∷ []) text n st
-      (λ c is. let parts = body_parts q c is in in_long true c parts.0 ∙ rw (parts.1) refl) some scalars all (lone initial read n st on))
-
   -- its parts, as the code knows them
   pub long_first : (bytes : List ℕ) → BeginsLong q bytes → PassesPart bytes 3 0 (StringBegins q) (IsInLong q)
   long_first bytes long = low_still bytes (q ∷ q ∷ q ∷ []) 3 long.within quotes_low long.spell begun_long
@@ -354,36 +341,35 @@ module _ (q : ℕ) (quote : is_quote q ≡ true) where
   pub text_part : (bytes : List ℕ) (p : Passed) (k : ℕ) → HasLongText q bytes p → Spans (is_body_byte q) (take (length bytes - p.len) (drop p.len bytes)) k → PassesPart bytes (p.len + k) p.line_ends (IsInLong q) (IsInLong q)
   text_part bytes p k has run = after bytes p.len p.line_ends k 0 p.line_ends (omega arith) (long_lines bytes p has) (long_run (drop p.len bytes) k (subst (λ (t : List ℕ). Spans (is_body_byte q) t k) (rest_is bytes p.len) run))
 
-  pub line_end_part : (bytes : List ℕ) (len : ℕ) → BeginsLineEnd bytes len → Passes bytes (record { len = len; line_ends = 1 }) (IsInLong q) (IsInLong q)
-  line_end_part bytes len ends =
-      let some = ends.some in
-      record {
-        some = ends.some;
-        few = omega (arith, some);
-        part = low_part bytes (line_end_of ends.returned) len 1 ends.within (line_end_low ends.returned) ends.spell (line_end_in_long false ends.returned);
-      }
+  line_end_of_long : (b : Bool) (bytes : List ℕ) (len : ℕ) → BeginsLineEnd bytes len → PassesPart bytes len 1 (IsInPieceAfter (long_is b)) (IsInLong q)
+  line_end_of_long b bytes len ends = low_part bytes (line_end_of ends.returned) len 1 ends.within (line_end_low ends.returned) ends.spell (line_end_in_long b ends.returned)
 
-  pub lone_line_end_part : (bytes : List ℕ) (len : ℕ) → 0 < length bytes → slice_index bytes 0 ≡ q → HasLineEnd (take (length bytes - 1) (drop 1 bytes)) (Some len) → Passes bytes (record { len = 1 + len; line_ends = 1 }) (IsInLong q) (IsInLong q)
+  pub line_end_part : (bytes : List ℕ) (len : ℕ) → BeginsLineEnd bytes len → Passes bytes (record { len = len; line_ends = 1 }) (IsInLong q) (IsInLong q)
+  line_end_part bytes len ends = let some = ends.some in record { some = some; few = omega (arith, some); part = line_end_of_long false bytes len ends }
+
+  -- a quote of its text, and what follows that
+  after_lone : (bytes : List ℕ) (len feeds : ℕ) → 0 < length bytes → slice_index bytes 0 ≡ q → feeds ≤ len → PassesPart (drop 1 bytes) len feeds (IsInPieceAfter (modes.LongOne q)) (IsInLong q)
+      → Passes bytes (record { len = 1 + len; line_ends = feeds }) (IsInLong q) (IsInLong q)
+  after_lone bytes len feeds some first few further = record {
+    some = omega arith;
+    few = omega (arith, few);
+    part = after bytes 1 0 len feeds feeds (omega arith) (low_still bytes (q ∷ []) 1 some (and_from _ _ low refl) (taken_one bytes some ∙ ap (λ (c : ℕ). c ∷ []) first) lone) further;
+  }
+
+  pub lone_line_end_part : (bytes : List ℕ) (len : ℕ) → 0 < length bytes → slice_index bytes 0 ≡ q → HasLineEnd (rest_of bytes 1) (Some len) → Passes bytes (record { len = 1 + len; line_ends = 1 }) (IsInLong q) (IsInLong q)
   lone_line_end_part bytes len some first found =
       let ends : BeginsLineEnd (drop 1 bytes) len = subst (λ (t : List ℕ). BeginsLineEnd t len) (rest_is bytes 1) found in
-      record {
-        some = omega arith;
-        few = omega arith;
-        part = low_part bytes (q ∷ line_end_of ends.returned) (1 + len) 1 (omega (arith, ends.within, some, length-drop 1 bytes)) (and_from _ _ (is_low_from q (quote_ascii q quote)) (line_end_low ends.returned))
-            (first_then bytes q len some first ∙ ap (λ t. q ∷ t) ends.spell) (lone_line_end ends.returned);
-      }
+      let more = ends.some in
+      after_lone bytes len 1 some first (omega (arith, more)) (line_end_of_long true (drop 1 bytes) len ends)
 
-  pub lone_text_part : (bytes : List ℕ) (len : ℕ) → 0 < length bytes → slice_index bytes 0 ≡ q → 0 < len → Spans (is_body_byte q) (take (length bytes - 1) (drop 1 bytes)) len → Passes bytes (record { len = 1 + len; line_ends = 0 }) (IsInLong q) (IsInLong q)
+  pub lone_text_part : (bytes : List ℕ) (len : ℕ) → 0 < length bytes → slice_index bytes 0 ≡ q → 0 < len → Spans (is_body_byte q) (rest_of bytes 1) len → Passes bytes (record { len = 1 + len; line_ends = 0 }) (IsInLong q) (IsInLong q)
+  unfolding long_move
   lone_text_part bytes len some first more found =
       let is : Spans (is_body_byte q) (drop 1 bytes) len = subst (λ (t : List ℕ). Spans (is_body_byte q) t len) (rest_is bytes 1) found in
       let size = spans_size (drop 1 bytes) len is in
-      record {
-        some = omega arith;
-        few = omega arith;
-        part = still bytes (q ∷ is.utf8.0) (1 + len) (omega (arith, is.run.within, some, length-drop 1 bytes))
-            (ap (λ t. t ++ encode_utf8_all is.utf8.0) (encode_ascii q (quote_ascii q quote)) ∙ ap (λ t. q ∷ t) is.utf8.1.1 ∙ sym (first_then bytes q len some first))
-            (λ initial read n st on. lone_text is.utf8.0 initial read n st (omega (arith, more, size)) is.utf8.1.0 (spans_stay (drop 1 bytes) len is) on);
-      }
+      after_lone bytes len 0 some first (omega arith) (still (drop 1 bytes) is.utf8.0 len is.run.within is.utf8.1.1 (λ initial read n st.
+      first_goes_on (modes.LongOne q) (modes.Long q) initial read is.utf8.0 n st (λ c body. let parts = body_parts q c body in in_long true c parts.0 ∙ rw (parts.1) refl)
+      (omega (arith, more, size)) is.utf8.1.0 (spans_stay (drop 1 bytes) len is)))
 
   long_escape_part : (bytes : List ℕ) (p : Passed) → HasEscape bytes (Some p) → PassesPart bytes p.len p.line_ends (IsInLong q) (IsInLong q)
   unfolding meet_of move_of long_move is_backslash is_return

@@ -1,5 +1,5 @@
 -- Where no piece is open, no word is, and CR doesn't stand last.
-use Rattle.std.proofs.Common.{◌≡◌, ℕ, inl, inr, Bool, true, false, not, ◌&&◌, ◌||◌, Option, None, Some, List, [], ◌∷◌, ◌++◌, refl, sym, ap, ◌∙◌, subst, append_assoc, append-nil, lit<, ⊎_elim}
+use Rattle.std.proofs.Common.{◌≡◌, ℕ, inl, inr, Bool, true, false, not, ◌&&◌, ◌||◌, Option, None, Some, List, [], ◌∷◌, ◌++◌, refl, sym, ap, ◌∙◌, subst, append-nil, lit<, ⊎_elim}
 use Rattle.std.specs.Prelude.{codes}
 use Rattle.std.proofs.lemmas.Bool.{and_from, both_ways, cond_both, not-true, or_parts}
 use Rattle.py_lines.specs.Character.{is_break, is_line_feed, is_operator, is_quote, is_return, is_space}
@@ -51,10 +51,6 @@ no_tail read c none = tail_push read c ∙ no_tail_with (tail_of read) c none
 pub quote-no-word : (c : ℕ) → is_quote c ≡ true → is_ascii_word c ≡ false
 unfolding is_quote is_ascii_word
 quote-no-word c h = none_of is_ascii_word (codes "'\"") c refl h
-
-pub feed-no-word : is_ascii_word 10 ≡ false
-unfolding is_ascii_word
-feed-no-word = refl
 
 pub feed_unreturned : is_return 10 ≡ false
 unfolding is_return

@@ -3,7 +3,8 @@ use Rattle.std.proofs.lemmas.Bool.{and_from, both_ways}
 use Rattle.py_lines.specs.Character.{is_break}
 use Rattle.py_lines.specs.Private.Run.{is_remark_byte}
 use Rattle.py_lines.proofs.LineScan.AsciiRuns.{is_low_from}
-use Rattle.py_lines.proofs.SimpleLines.MarkedPieces.{comment_begun, comment_further, marked_comment, passes_marked}
+use Rattle.py_lines.proofs.SimpleLines.MarkedPieces.{comment_begun, comment_further, marked_comment}
+use Rattle.py_lines.proofs.SimpleLines.Passing.{piece_passed}
 use Rattle.py_lines.proofs.passing.Passing.pass_ascii_comment.Goals.{then-specials-test+then-bytes-end-lt128+else-not-is_break, then-specials-test+else-bytes-end-lt128, else-specials-test}
 use Rattle.py_lines.proofs.passing.Passing.pass_ascii_comment.Goals as goal
 
@@ -25,7 +26,7 @@ specials-preserved c =
     comment_further bytes c.args.at end c.next-end-in-specials.result c.specials.marks c.next-end-in-specials.new.self c.specials.invariant remark next
 
 pub returns-clause-passed : goal.returns-clause-passed
-returns-clause-passed c = λ _.
+returns-clause-passed c = λ _ place brackets shallow.
     let bytes = c.args.bytes.now in
     let at = c.args.at in
     let end = c.specials.end in
@@ -38,5 +39,5 @@ returns-clause-passed c = λ _.
     ] in
     let passes = marked_comment bytes at end read.further within c.requires.hash read.each breaks in
     let there = c.keep.ensures bytes (within, read.next.special within) (read.next.rest within) in
-    passes_marked bytes at c.args.self.now c.pass_to.new.self c.requires.within c.requires.marked (record { len = end - at; line_ends = 0 }) false end c.keep.new.self passes
+    piece_passed bytes at c.args.self.now c.requires.within c.requires.marked place brackets (record { len = end - at; line_ends = 0 }) false end c.keep.new.self c.pass_to.new.self shallow passes
     (λ h. absurd (both_ways _ refl h)) (omega (arith, read.further)) there c.pass_to.ensures
