@@ -4,6 +4,7 @@ ghost use Rattle.std.specs.Prelude.{◌≡◌, ◌<◌, true, length, slice_inde
 ghost use Rattle.py_lines.specs.Character.{is_backslash, is_hash, is_quote};
 ghost use Rattle.py_lines.specs.Private.Marks.{is_of_class};
 ghost use Rattle.py_lines.specs.Private.Outline.{BeginWithLines, HasOuterEnd, PassesFirst, PassesPiece};
+ghost use Rattle.py_lines.specs.declared.class.Class.TheVariants.{Quote};
 
 use crate::brackets::Brackets;
 use crate::class::Class;
@@ -54,7 +55,7 @@ fn join(bytes: &[u8]) -> Option<Passed>
 fn string(bytes: &[u8], at: usize) -> Option<Passed>
     requires within { at < length bytes.now }
     requires quote { is_quote (slice_index bytes.now at) ≡ true }
-    ensures { PassesPiece bytes.now at result }
+    ensures { PassesPiece Quote bytes.now at result }
 {
     let rest = &bytes[at..];
     match Prefix::before(bytes, at) {
@@ -73,7 +74,7 @@ fn string(bytes: &[u8], at: usize) -> Option<Passed>
 pub fn piece(bytes: &[u8], class: Class, at: usize) -> Option<Passed>
     requires within { at < length bytes.now }
     requires class { is_of_class class (slice_index bytes.now at) ≡ true }
-    ensures { PassesPiece bytes.now at result }
+    ensures { PassesPiece class bytes.now at result }
 {
     match class {
         Class::Hash => comment(&bytes[at..]),

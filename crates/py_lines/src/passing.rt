@@ -1,6 +1,6 @@
 //! Bytes of a line that are passed over at once, from one that isn't plain to the next.
 
-ghost use Rattle.std.specs.Prelude.{◌≡◌, ℕ, ◌+◌, ◌<◌, ◌≤◌, ◌^◌, Bool, false, true, IsTrue, List, drop, length, slice_index};
+ghost use Rattle.std.specs.Prelude.{◌≡◌, ℕ, ◌+◌, ◌<◌, ◌≤◌, ◌^◌, Bool, false, true, IsTrue, List, length, slice_index};
 ghost use Rattle.py_lines.specs.Character.{is_hash, is_quote};
 ghost use Rattle.py_lines.specs.Private.Marks.{HasMarks, is_of_class};
 ghost use Rattle.py_lines.specs.Private.Outline.{closes_itself};
@@ -39,18 +39,14 @@ pub struct Passing {
     pub marks: Marks,
 }
 
-/// Whether no piece is open after the comment, the join or the string at this byte, which has so many bytes. A third quote may
-/// follow two, and LF may follow CR.
+/// Whether no piece is open after one that begins with a byte of this class and has so many bytes: a string, unless it has two. A third
+/// quote may follow those.
 #[inline(always)]
-fn closes_itself(bytes: &[u8], class: Class, at: usize, len: usize) -> bool
-    requires some { 0 < len }
-    requires within { at + len ≤ length bytes.now }
-    requires class { is_of_class class (slice_index bytes.now at) ≡ true }
-    ensures { result ≡ true → closes_itself (drop at bytes.now) len ≡ true }
+fn closes_itself(class: Class, len: usize) -> bool
+    ensures { result ≡ closes_itself class len }
 {
     match class {
         Class::Quote => len > 2,
-        Class::Backslash => bytes[at + len - 1] == b'\n',
         _ => false,
     }
 }
@@ -232,7 +228,7 @@ impl Passing {
         };
         let to = at + piece.len;
         self.marks.pass(bytes, to);
-        let closes = closes_itself(bytes, class, at, piece.len);
+        let closes = closes_itself(class, piece.len);
         self.pass_to(to, piece.line_ends, closes);
         Special::Passed
     }

@@ -1,10 +1,10 @@
 -- A comment is passed over: the machine goes through it, up to a line end.
-use Rattle.std.proofs.Common.{◌≡◌, ℕ, ◌+◌, ◌-◌, ◌<◌, inr, true, false, Some, List, [], ◌∷◌, ◌++◌, length, take, drop, slice_index, refl, ap, ◌∙◌, subst, append_assoc, arith, drop-cons, lit<, add-zero}
+use Rattle.std.proofs.Common.{◌≡◌, ℕ, ◌+◌, ◌-◌, ◌<◌, inr, true, Some, List, [], ◌∷◌, ◌++◌, length, take, drop, slice_index, refl, ap, ◌∙◌, subst, append_assoc, arith, drop-cons, lit<, add-zero}
 use Rattle.std.specs.Prelude.{encode_utf8_all}
 use Rattle.std.specs.List.{list_all}
 use Rattle.std.proofs.lemmas.Bool.{both_ways, not-false, or_parts}
 use Rattle.std.proofs.lemmas.Str.{encode_ascii}
-use Rattle.py_lines.specs.Character.{is_backslash, is_break, is_hash, is_quote, is_space}
+use Rattle.py_lines.specs.Character.{is_break, is_hash, is_quote, is_space}
 use Rattle.py_lines.specs.declared.mode.Mode.{Mode}
 use Rattle.py_lines.specs.declared.mode.Mode.TheVariants as modes
 use Rattle.py_lines.specs.Private.Machine.{Bracket, move_of}
@@ -42,7 +42,7 @@ comment_ends initial read n st c is on = record {
 -- it never closes itself
 pub comment_passed : (bytes : List ℕ) (k : ℕ) → 0 < length bytes → is_hash (slice_index bytes 0) ≡ true → IsWholeComment (take (length bytes - 1) (drop 1 bytes)) (Some k)
     → PassesFirst bytes (Some (record { len = 1 + k; line_ends = 0 }))
-unfolding is_ascii_word is_backslash is_quote is_space
+unfolding is_ascii_word is_quote is_space
 comment_passed bytes k some hash found =
     passed_from bytes 35 k 0 some (hash_is (slice_index bytes 0) hash)
     (record {

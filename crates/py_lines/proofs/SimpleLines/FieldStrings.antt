@@ -7,6 +7,7 @@ use Rattle.py_lines.specs.Balance.{depth_through}
 use Rattle.py_lines.specs.Character.{is_break, is_quote}
 use Rattle.py_lines.specs.FieldStrings.{is_field_prefix, literal}
 use Rattle.py_lines.specs.Piece.{string, Piece}
+use Rattle.py_lines.specs.declared.class.Class.TheVariants as class
 use Rattle.py_lines.specs.declared.host.StringWithFields.{StringWithFields}
 use Rattle.py_lines.specs.declared.mode.Mode.{Mode}
 use Rattle.py_lines.specs.declared.mode.Mode.TheVariants as modes
@@ -92,9 +93,9 @@ fields_passed bytes len s field is =
 
 -- at a byte of a line
 pub fields_at : (bytes : List ℕ) (at len : ℕ) (s : Spelling) → at < length bytes → is_quote (slice_index bytes at) ≡ true → tail_of (take at bytes) ≡ Some s → is_field_spelling s ≡ true
-    → IsQuotedText (rest_of bytes at) len → PassesPiece bytes at (Some (record { len = len; line_ends = 0 }))
+    → IsQuotedText (rest_of bytes at) len → PassesPiece class.Quote bytes at (Some (record { len = len; line_ends = 0 }))
 fields_at bytes at len s within quote tail field found =
-    string_at bytes at (record { len = len; line_ends = 0 }) within quote (fields_passed (drop at bytes) len s field (subst (λ (t : List ℕ). IsQuotedText t len) (rest_is bytes at) found))
+    string_at bytes at (record { len = len; line_ends = 0 }) within (fields_passed (drop at bytes) len s field (subst (λ (t : List ℕ). IsQuotedText t len) (rest_is bytes at) found))
     (λ m read n st on.
     let before = subst (λ (t : List ℕ). StandsBefore t m read n st) (drop_more bytes at 0 within) on.2 in
     let (done, in_word) = word_open (drop (at + 1) bytes) m read n st (slice_index bytes at) s (on.0 ∙ tail) quote before in

@@ -1,7 +1,5 @@
 -- A join of two lines is passed over: the machine goes through the backslash and the line end.
-use Rattle.std.proofs.Common.{◌≡◌, ℕ, suc, ◌+◌, ◌-◌, ◌<◌, ◌≤◌, inl, inr, Bool, true, false, Some, List, [], ◌∷◌, ◌++◌, length, take, drop, slice_index, refl, sym, ap, ◌∙◌, subst, append_assoc, arith, lit<}
-use Rattle.std.proofs.lemmas.Bool.{eqb-true}
-use Rattle.std.proofs.lemmas.List.{get_or-take, length-take-le}
+use Rattle.std.proofs.Common.{◌≡◌, ℕ, ◌+◌, ◌-◌, ◌<◌, inl, inr, Bool, true, false, Some, List, [], ◌∷◌, ◌++◌, length, take, drop, slice_index, refl, ap, ◌∙◌, subst, append_assoc, arith, lit<}
 use Rattle.py_lines.specs.Character.{is_backslash, is_break, is_line_feed, is_quote, is_return, is_space}
 use Rattle.py_lines.specs.Piece.{Piece, join}
 use Rattle.py_lines.proofs.Pieces.PieceLists.{piece}
@@ -12,7 +10,7 @@ use Rattle.py_lines.specs.Private.Machine.{Bracket, fresh, move_of}
 use Rattle.py_lines.specs.Private.ScanMachine.{meet_of, scan_steps}
 use Rattle.py_lines.specs.Private.Scan.{line_start}
 use Rattle.py_lines.specs.Private.Run.{is_ascii_word}
-use Rattle.py_lines.specs.Private.Outline.{BeginsOuterEnd, EndsBefore, HasCome, HasOuterEnd, IsFreeAfter, IsOuterEnd, PassesFirst, StandsClosed, closes_itself, line_end_of}
+use Rattle.py_lines.specs.Private.Outline.{BeginsOuterEnd, EndsBefore, HasCome, HasOuterEnd, IsFreeAfter, IsOuterEnd, PassesFirst, StandsBefore, line_end_of}
 use Rattle.py_lines.proofs.Machine.LiveTexts.{keeps}
 use Rattle.py_lines.proofs.Machine.PieceSteps.{scanned}
 use Rattle.py_lines.proofs.Machine.Starts.{start-slash}
@@ -70,23 +68,11 @@ module _ (initial : Mode) (read : List ℕ) (n : ℕ) (st : List Bracket) (on : 
     tail = λ begins. no_tail_return (read ++ 92 ∷ []);
   }
 
-  -- all pieces are closed after it, unless CR alone ends it
-  joined : (closes : Bool) (text after : List ℕ) → IsOuterEnd text after → (closes ≡ true → text ≡ 13 ∷ [] → ⊥) → StandsClosed closes after initial ((read ++ 92 ∷ []) ++ text) (n + 1) st
-  joined true text after (inl (returned, is)) feeds = rw is (join_leads returned)
-  joined true text after (inr (is, other)) feeds = absurd (feeds refl is)
-  joined false text after (inl (returned, is)) feeds = rw is (free_stands after initial ((read ++ 92 ∷ []) ++ line_end_of returned) (n + 1) st (join_leads returned))
-  joined false text [] (inr (is, other)) feeds = absurd other
-  joined false text (c ∷ cs) (inr (is, other)) feeds = rw is (inr (return_leads c other))
-
--- a join that closes itself ends with LF
-ends_with_feed : (cs : List ℕ) (len : ℕ) → len ≤ length cs → closes_itself (92 ∷ cs) (suc len) ≡ true → take len cs ≡ 13 ∷ [] → ⊥
-unfolding is_backslash is_quote
-ends_with_feed cs len within closes alone =
-    let one : len ≡ 1 = sym (length-take-le len cs within) ∙ ap length alone in
-    let first : slice_index cs 0 ≡ 13 = sym (get_or-take len cs 0 0 (omega (arith, one))) ∙ ap (λ t. slice_index t 0) alone in
-    let there : suc len - 1 ≡ 1 = omega (arith, one) in
-    let clash : 13 ≡ 10 = sym first ∙ ap (slice_index (92 ∷ cs)) (sym there) ∙ eqb-true _ 10 closes in
-    omega (arith, clash)
+  -- after either
+  joined : (text after : List ℕ) → IsOuterEnd text after → StandsBefore after initial ((read ++ 92 ∷ []) ++ text) (n + 1) st
+  joined text after (inl (returned, is)) = rw is (free_stands after initial ((read ++ 92 ∷ []) ++ line_end_of returned) (n + 1) st (join_leads returned))
+  joined text [] (inr (is, other)) = absurd other
+  joined text (c ∷ cs) (inr (is, other)) = rw is (inr (return_leads c other))
 
 pub join_passed : (bytes : List ℕ) (len : ℕ) → 0 < length bytes → is_backslash (slice_index bytes 0) ≡ true → HasOuterEnd (take (length bytes - 1) (drop 1 bytes)) (Some len)
     → PassesFirst bytes (Some (record { len = 1 + len; line_ends = 1 }))
@@ -100,10 +86,8 @@ join_passed bytes len some slash found =
         run = 92 ∷ text;
         spell = (low_encodes is_low (92 ∷ text) low_is (outer_end_low text (drop len cs) ends.is)).0;
         leads = λ initial read n st on.
-            let closes = closes_itself (92 ∷ cs) (suc len) in
-            let before = code_ends cs initial read n st 92 (lit< tt) refl on in
-            subst (λ (t : List ℕ). StandsClosed closes (drop len cs) initial t (n + 1) st) (append_assoc read (92 ∷ []) text)
-            (joined initial read n st before closes text (drop len cs) ends.is (ends_with_feed cs len ends.within));
+            subst (λ (t : List ℕ). StandsBefore (drop len cs) initial t (n + 1) st) (append_assoc read (92 ∷ []) text)
+            (joined initial read n st (code_ends cs initial read n st 92 (lit< tt) refl on) text (drop len cs) ends.is);
       };
     })
   where

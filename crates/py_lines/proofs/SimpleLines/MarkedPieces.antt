@@ -1,13 +1,15 @@
 -- Pieces of ASCII whose end the marks show: the bytes up to there are those of the piece.
-use Rattle.std.proofs.Common.{◌≡◌, ℕ, ◌+◌, ◌-◌, ◌<◌, ◌≤◌, Bool, true, false, not, ◌==◌, Option, None, Some, List, length, take, drop, slice_index, refl, sym, ap, ◌∙◌, subst, arith, eqb-true, inl, inr, length-drop}
+use Rattle.std.proofs.Common.{◌≡◌, ℕ, ◌+◌, ◌-◌, ◌<◌, Bool, true, false, not, ◌==◌, Option, None, Some, List, length, take, drop, slice_index, refl, sym, ap, ◌∙◌, subst, arith, eqb-true, inl, inr, length-drop}
 use Rattle.std.specs.Prelude.{codes}
 use Rattle.std.proofs.lemmas.Bool.{and_from, both_ways, cases_order, eq-eqb, false_from_ne_true}
 use Rattle.py_lines.specs.Character.{is_break, is_hash, is_one_of, is_operator, is_quote, is_space}
 use Rattle.py_lines.specs.Balance.{is_closing, is_opening}
+use Rattle.py_lines.specs.declared.class.Class.{Class}
+use Rattle.py_lines.specs.declared.class.Class.TheVariants as class
 use Rattle.py_lines.specs.declared.marks.Marks.{Marks}
 use Rattle.py_lines.specs.declared.plain_strings.Passed.{Passed}
 use Rattle.py_lines.specs.Private.Marks.{FindsNext, is_plain}
-use Rattle.py_lines.specs.Private.Outline.{HasString, PassesFirst, PassesPiece, is_plain_prefix, tail_of}
+use Rattle.py_lines.specs.Private.Outline.{HasString, PassesFirst, PassesPiece, closes_itself, is_plain_prefix, tail_of}
 use Rattle.py_lines.specs.Private.Run.{IsRunOf, IsWholeComment, is_ascii_word, is_body_byte, is_remark_byte, is_text_byte}
 use Rattle.py_lines.proofs.LineScan.AsciiRuns.{is_low_from}
 use Rattle.py_lines.proofs.LineScan.Spans.{ascii_comment, text_spans}
@@ -49,15 +51,15 @@ abbrev pub Between : (ℕ → Bool) → List ℕ → ℕ → ℕ → Type 0
 Between passes bytes at end = (i : ℕ) → at < i → i < end → passes (slice_index bytes i) ≡ true
 
 -- a piece with which the bytes from there on begin
-pub first_piece : (bytes : List ℕ) (at : ℕ) (piece : Option Passed) → at < length bytes → PassesFirst (rest_of bytes at) piece → PassesPiece bytes at piece
-first_piece bytes at None here first = tt
-first_piece bytes at (Some p) here found =
+pub first_piece : (class : Class) (bytes : List ℕ) (at : ℕ) (piece : Option Passed) → at < length bytes → ((len : ℕ) → closes_itself class len ≡ false) → PassesFirst (rest_of bytes at) piece → PassesPiece class bytes at piece
+first_piece class bytes at None here open_yet first = tt
+first_piece class bytes at (Some p) here open_yet found =
     let first : PassesFirst (drop at bytes) (Some p) = subst (λ (t : List ℕ). PassesFirst t (Some p)) (rest_is bytes at) found in (
       omega (arith, here, first.part.within, length-drop at bytes),
       record {
         some = first.some;
         few = first.few;
-        part = record { within = first.part.within; run = first.part.run; spell = first.part.spell; leads = λ m read n st on. first.part.leads m read n st on.2 };
+        part = record { within = first.part.within; run = first.part.run; spell = first.part.spell; leads = λ m read n st on. rw (open_yet p.len) (first.part.leads m read n st on.2) };
       },
     )
 
@@ -92,7 +94,7 @@ module _ (bytes : List ℕ) (at end : ℕ) (further : at < end) (within : end < 
         closing : is_text_byte (slice_index rest 0) (slice_index bytes end) ≡ false
         closing = rw (eq-eqb (slice_index bytes end) (slice_index rest 0) (closes ∙ sym first_is)) refl
 
-    pub marked_string : at + 1 < end → is_plain_prefix (tail_of (take at bytes)) ≡ true → PassesPiece bytes at (Some (record { len = end + 1 - at; line_ends = 0 }))
+    pub marked_string : at + 1 < end → is_plain_prefix (tail_of (take at bytes)) ≡ true → PassesPiece class.Quote bytes at (Some (record { len = end + 1 - at; line_ends = 0 }))
     marked_string some prefix =
         let k = end - at - 1 in
         let room : 1 < length rest = omega (arith, some, within, length-drop at bytes) in
@@ -111,7 +113,7 @@ module _ (bytes : List ℕ) (at end : ℕ) (further : at < end) (within : end < 
         (subst (λ (n : ℕ). HasString rest (Some (record { len = n; line_ends = 0 }))) size ended))
 
   -- a comment
-  pub marked_comment : is_hash (slice_index bytes at) ≡ true → Between is_remark_byte bytes at end → is_break (slice_index bytes end) ≡ true → PassesPiece bytes at (Some (record { len = end - at; line_ends = 0 }))
+  pub marked_comment : is_hash (slice_index bytes at) ≡ true → Between is_remark_byte bytes at end → is_break (slice_index bytes end) ≡ true → PassesPiece class.Hash bytes at (Some (record { len = end - at; line_ends = 0 }))
   marked_comment hash remark breaks =
       let k = end - at - 1 in
       let stops : is_remark_byte (slice_index bytes end) ≡ false = rw breaks refl in
@@ -120,7 +122,7 @@ module _ (bytes : List ℕ) (at end : ℕ) (further : at < end) (within : end < 
       let whole = ascii_comment (drop 1 rest) k run (omega (arith, further, within, length-drop at bytes, length-drop 1 rest)) low in
       let first = comment_passed rest k (omega (arith, further, within, length-drop at bytes)) (ap is_hash first_is ∙ hash) (subst (λ (t : List ℕ). IsWholeComment t (Some k)) (sym (rest_is rest 1)) whole) in
       let size : 1 + k ≡ end - at = omega (arith, further) in
-      first_piece bytes at (Some (record { len = end - at; line_ends = 0 })) (omega (arith, further, within))
+      first_piece class.Hash bytes at (Some (record { len = end - at; line_ends = 0 })) (omega (arith, further, within)) (λ _. refl)
       (subst (λ (t : List ℕ). PassesFirst t (Some (record { len = end - at; line_ends = 0 }))) (sym (rest_is bytes at))
       (subst (λ (n : ℕ). PassesFirst rest (Some (record { len = n; line_ends = 0 }))) size first))
     where

@@ -1,11 +1,12 @@
 -- Bytes are passed over at one that isn't plain: brackets, line ends and pieces, wherever in a line they stand.
 use Rattle.std.proofs.Common.{◌≡◌, ℕ, ◌+◌, ◌-◌, ◌<◌, ◌≤◌, Bool, true, false, Some, List, [], ◌∷◌, ◌++◌, ◌==◌, length, take, drop, slice_index, refl, sym, ap, ◌∙◌, subst, arith, length-drop, add-zero}
-use Rattle.std.specs.Prelude.{encode_utf8_all, nat_lt}
+use Rattle.std.specs.Prelude.{encode_utf8_all}
 use Rattle.std.proofs.lemmas.Bool.{and_from, both_ways}
 use Rattle.std.proofs.lemmas.List.{drop-drop, drop_more, get_or-drop, get_or-take, length-take-le, take-append-drop}
-use Rattle.py_lines.specs.Character.{is_backslash, is_operator, is_quote}
+use Rattle.py_lines.specs.Character.{is_operator}
 use Rattle.py_lines.specs.Piece.{operator}
 use Rattle.py_lines.specs.declared.brackets.Brackets.{Brackets}
+use Rattle.py_lines.specs.declared.class.Class.{Class}
 use Rattle.py_lines.specs.declared.marks.Marks.{Marks}
 use Rattle.py_lines.specs.declared.passing.Passing.{Passing}
 use Rattle.py_lines.specs.declared.passing.Special.{Special}
@@ -18,10 +19,9 @@ use Rattle.py_lines.specs.Private.Passing.{IsMet, PassesOver, PassesSo, PassesSp
 use Rattle.py_lines.specs.Private.Scan.{Meets, depth_of, none_open, stack_of}
 use Rattle.py_lines.proofs.Pieces.PieceLists.{piece}
 use Rattle.py_lines.proofs.LineScan.AsciiRuns.{is_low, low_encodes, low_is}
-use Rattle.py_lines.proofs.Text.CharacterTests.{operator_ascii, slash-not-quote}
+use Rattle.py_lines.proofs.Text.CharacterTests.{operator_ascii}
 use Rattle.py_lines.proofs.SimpleLines.Code.{operator_free, outer_end_inside}
-use Rattle.py_lines.proofs.SimpleLines.FirstBytes.{outer_end_low, first_later}
-use Rattle.py_lines.proofs.SimpleLines.Tails.{stands_less}
+use Rattle.py_lines.proofs.SimpleLines.FirstBytes.{outer_end_low}
 
 module _ (bytes : List ℕ) (at : ℕ) (within : at < length bytes) where
   -- over an operator, which the brackets allow
@@ -44,19 +44,15 @@ module _ (bytes : List ℕ) (at : ℕ) (within : at < length bytes) where
       }
 
   -- over a piece
-  pub piece_over : (place : ℕ) (b : Brackets) (p : Passed) (closes : Bool) → depth_of b ≤ 100 → PassesPiece bytes at (Some p)
-      → (closes ≡ true → closes_itself (drop at bytes) p.len ≡ true)
-      → PassesOver bytes at place p.len p.line_ends closes (stack_of b) (stack_of b)
-  piece_over place b p closes few (room, passes) shut = record {
+  pub piece_over : (class : Class) (place : ℕ) (b : Brackets) (p : Passed) → depth_of b ≤ 100 → PassesPiece class bytes at (Some p)
+      → PassesOver bytes at place p.len p.line_ends (closes_itself class p.len) (stack_of b) (stack_of b)
+  piece_over class place b p few (room, passes) = record {
     some = passes.some;
     within = room;
     few = passes.few;
     run = passes.part.run;
     spell = passes.part.spell;
-    leads = λ m read n tail here on.
-        rw (← drop-drop p.len at bytes)
-        (stands_less (closes_itself (drop at bytes) p.len) closes (drop p.len (drop at bytes)) m (read ++ passes.part.run) (n + p.line_ends)
-        (stack_of b) shut (passes.part.leads m read n (stack_of b) (tail, few, on)));
+    leads = λ m read n tail here on. rw (← drop-drop p.len at bytes) (passes.part.leads m read n (stack_of b) (tail, few, on));
   }
 
 -- a line end
@@ -153,32 +149,16 @@ module _ (bytes : List ℕ) (at : ℕ) (old : Passing) (within : at < length byt
       rw unpassed (same, meets.1)
 
   -- a piece
-  pub piece_passed : (place : ℕ) (b : Brackets) (p : Passed) (closes : Bool) (to : ℕ) (marks : Marks) (new : Passing) → depth_of b ≤ 100
-      → PassesPiece bytes at (Some p) → (closes ≡ true → closes_itself (drop at bytes) p.len ≡ true) → at + p.len ≡ to → HasMarks bytes to marks
+  pub piece_passed : (class : Class) (place : ℕ) (b : Brackets) (p : Passed) (closes : Bool) (to : ℕ) (marks : Marks) (new : Passing) → depth_of b ≤ 100
+      → PassesPiece class bytes at (Some p) → closes ≡ closes_itself class p.len → at + p.len ≡ to → HasMarks bytes to marks
       → new ≡ passed_to (record old { marks = marks }) to p.line_ends closes → PassesSpecial bytes at place old b special.Passed new b
-  piece_passed place b p closes to marks new few passes shut there has is =
-      rw (is, ← there) (record {
+  piece_passed class place b p closes to marks new few passes shut there has is =
+      rw (is, ← there, shut) (record {
         len = p.len;
         more = p.line_ends;
-        closes = closes;
-        over = piece_over bytes at within place b p closes few passes shut;
+        closes = closes_itself class p.len;
+        over = piece_over bytes at within class place b p few passes;
         kept = λ _. refl;
         is = refl;
         marked = rw there has;
       })
-
--- what the classes of the first byte and of the last one tell of the end of a piece
-pub backslash_closes : (bytes : List ℕ) (at len : ℕ) → 0 < len → is_backslash (slice_index bytes at) ≡ true
-    → slice_index bytes (at + len - 1) == 10 ≡ true → closes_itself (drop at bytes) len ≡ true
-backslash_closes bytes at len some is feeds =
-    let last : at + (len - 1) ≡ at + len - 1 = omega (arith, some) in
-    let first = first_later bytes at in
-    let ends : slice_index (drop at bytes) (len - 1) ≡ slice_index bytes (at + len - 1) =
-    get_or-drop at bytes (len - 1) 0 ∙ ap (λ (k : ℕ). slice_index bytes k) last in
-    let other : is_quote (slice_index (drop at bytes) 0) ≡ false = ap is_quote first ∙ slash-not-quote (slice_index bytes at) is in
-    let slash : is_backslash (slice_index (drop at bytes) 0) ≡ true = ap is_backslash first ∙ is in
-    rw (other, slash) (ap (λ (c : ℕ). c == 10) ends ∙ feeds)
-
-pub quote_closes : (bytes : List ℕ) (at len : ℕ) → is_quote (slice_index bytes at) ≡ true → nat_lt 2 len ≡ true
-    → closes_itself (drop at bytes) len ≡ true
-quote_closes bytes at len is more = rw (ap is_quote (first_later bytes at) ∙ is) more

@@ -5,11 +5,12 @@ use Rattle.std.specs.Str.{all_scalars}
 use Rattle.std.specs.List.{list_all}
 use Rattle.std.proofs.lemmas.Bool.{and_from, and_parts, both_ways, eqb-true, false_from_ne_true, lt-ltb, cases_lt}
 use Rattle.std.proofs.lemmas.List.{drop_more, length-take-le}
-use Rattle.std.proofs.lemmas.Str.{encode_ascii, encodes-append, length-le-encodes}
+use Rattle.std.proofs.lemmas.Str.{encodes-append, length-le-encodes}
 use Rattle.std.proofs.Math.Seq.{take-add}
 use Rattle.py_lines.specs.Character.{is_one_of, is_quote, is_backslash, is_break, is_return, is_line_feed}
 use Rattle.py_lines.specs.LogicalLine.{byte_len}
 use Rattle.py_lines.specs.Piece.{Piece, ends, string}
+use Rattle.py_lines.specs.declared.class.Class.TheVariants as class
 use Rattle.py_lines.specs.declared.mode.Mode.{Mode}
 use Rattle.py_lines.specs.declared.mode.Mode.TheVariants as modes
 use Rattle.py_lines.specs.declared.mode.Move.{Move}
@@ -19,7 +20,7 @@ use Rattle.py_lines.specs.declared.plain_strings.Passed.{Passed}
 use Rattle.py_lines.specs.Private.Machine.{fresh, moved, Bracket, long_move, move_of, short_move}
 use Rattle.py_lines.specs.Private.ScanMachine.{begins_string, is_field_spelling, is_raw_spelling, meet_of, quote_move, scan_step}
 use Rattle.py_lines.specs.Private.Run.{HasLongText, Spans, is_body_byte, is_long_byte, stays}
-use Rattle.py_lines.specs.Private.Outline.{BeginsLineEnd, BeginsLong, EndsBefore, HasEscape, HasLineEnd, BeforePiece, HasClosedString, HasString, HoldsLineEnds, IsEscaped, IsInLong, IsInPieceAfter, IsInShort, Passes, PassesPart, PassesPiece, PassesOrNot, PassesString, StandsAt, StandsBefore, StandsClosed, StringBegins, StringEnds, closes_itself, is_plain_prefix, line_end_of, short_mode, tail_of}
+use Rattle.py_lines.specs.Private.Outline.{BeginsLineEnd, BeginsLong, EndsBefore, HasEscape, HasLineEnd, BeforePiece, HasClosedString, HasString, HoldsLineEnds, IsEscaped, IsInLong, IsInPieceAfter, IsInShort, Passes, PassesPart, PassesPiece, PassesOrNot, PassesString, StandsAt, StandsBefore, StandsClosed, StringBegins, StringEnds, is_plain_prefix, line_end_of, short_mode, tail_of}
 use Rattle.py_lines.proofs.Pieces.PieceLists.{piece}
 use Rattle.py_lines.proofs.Machine.Starts.{start-quote}
 use Rattle.py_lines.proofs.Machine.PieceSteps.{scanned}
@@ -419,19 +420,15 @@ module _ (bytes : List ℕ) (quote : is_quote (slice_index bytes 0) ≡ true) wh
         subst (λ (t : List ℕ). StandsBefore t initial.mode (read ++ own ∷ own ∷ []) n st) (sym (drop_more bytes 2 0 within)) (empty own quote initial read (drop 3 bytes) (slice_index bytes 2) n st third on));
   }
 
--- such a piece closes itself if it isn't empty
-pub string_closes : (bytes : List ℕ) (len : ℕ) → is_quote (slice_index bytes 0) ≡ true → closes_itself bytes len ≡ nat_lt 2 len
-string_closes bytes len quote = rw quote refl
-
 -- where it was closed no piece is open
 ends_closed : (b : Bool) (rest : List ℕ) (before : BeforePiece) (read : List ℕ) (n : ℕ) (st : List Bracket) → StringEnds b rest before read n st → StandsClosed b rest before.mode read n st
 ends_closed true rest before read n st ends = record { done = _; come = ends.come }
 ends_closed false rest before read n st ends = ends
 
 -- a string at a byte of a line, where it begins so
-pub string_at : {begins : BeforePiece → List ℕ → ℕ → List Bracket → Type 0} (bytes : List ℕ) (at : ℕ) (p : Passed) → at < length bytes → is_quote (slice_index bytes at) ≡ true → PassesString begins (drop at bytes) p
-    → ((m : Mode) (read : List ℕ) (n : ℕ) (st : List Bracket) → StandsAt bytes at m read n st → (done : List Piece) × begins (record { mode = m; done = done }) read n st) → PassesPiece bytes at (Some p)
-string_at bytes at p within quote is begins = (
+pub string_at : {begins : BeforePiece → List ℕ → ℕ → List Bracket → Type 0} (bytes : List ℕ) (at : ℕ) (p : Passed) → at < length bytes → PassesString begins (drop at bytes) p
+    → ((m : Mode) (read : List ℕ) (n : ℕ) (st : List Bracket) → StandsAt bytes at m read n st → (done : List Piece) × begins (record { mode = m; done = done }) read n st) → PassesPiece class.Quote bytes at (Some p)
+string_at bytes at p within is begins = (
   omega (arith, is.part.within, within, length-drop at bytes),
   record {
     some = is.some;
@@ -442,16 +439,15 @@ string_at bytes at p within quote is begins = (
       spell = is.part.spell;
       leads = λ m read n st on.
           let (done, begun) = begins m read n st on in
-          rw (string_closes (drop at bytes) p.len (ap is_quote (first_later bytes at) ∙ quote))
-          (ends_closed (nat_lt 2 p.len) (drop p.len (drop at bytes)) _ (read ++ is.part.run) (n + p.line_ends) st (is.part.leads (record { mode = m; done = done }) read n st begun));
+          ends_closed (nat_lt 2 p.len) (drop p.len (drop at bytes)) _ (read ++ is.part.run) (n + p.line_ends) st (is.part.leads (record { mode = m; done = done }) read n st begun);
     };
   },
 )
 
 -- one without fields
-pub plain_at : (bytes : List ℕ) (at : ℕ) (found : Option Passed) → at < length bytes → is_quote (slice_index bytes at) ≡ true → is_plain_prefix (tail_of (take at bytes)) ≡ true → HasString (rest_of bytes at) found → PassesPiece bytes at found
+pub plain_at : (bytes : List ℕ) (at : ℕ) (found : Option Passed) → at < length bytes → is_quote (slice_index bytes at) ≡ true → is_plain_prefix (tail_of (take at bytes)) ≡ true → HasString (rest_of bytes at) found → PassesPiece class.Quote bytes at found
 plain_at bytes at None within quote plain has = tt
 plain_at bytes at (Some p) within quote plain has =
-    string_at bytes at p within quote (subst (λ (t : List ℕ). HasString t (Some p)) (rest_is bytes at) has) (λ m read n st on.
+    string_at bytes at p within (subst (λ (t : List ℕ). HasString t (Some p)) (rest_is bytes at) has) (λ m read n st on.
     let before = subst (λ (t : List ℕ). StandsBefore t m read n st) (drop_more bytes at 0 within) on.2 in
     rw (first_later bytes at) (string_begins (slice_index bytes at) quote (drop (at + 1) bytes) m read n st (ap is_plain_prefix on.0 ∙ plain) before))

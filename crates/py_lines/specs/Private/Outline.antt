@@ -1,7 +1,7 @@
 -- Simple lines that bytes begin with, which are passed over: what the machine has come to in such a line, which begins in some mode.
 use Rattle.std.specs.Prelude.{◌≡◌, ℕ, ◌+◌, ◌-◌, ◌<◌, ◌≤◌, ◌⊎◌, ◌==◌, ◌||◌, ◌&&◌, Bool, true, false, if◌then◌else◌, Option, None, Some, List, [], ◌∷◌, ◌++◌, length, nat_lt, take, drop, slice_index, encode_utf8_all}
 use Rattle.std.specs.Str.{all_scalars}
-use Rattle.py_lines.specs.Character.{is_backslash, is_break, is_quote, is_return}
+use Rattle.py_lines.specs.Character.{is_break, is_quote, is_return}
 use Rattle.py_lines.specs.Piece.{Piece, ends, line_end, string}
 use Rattle.py_lines.specs.LogicalLine.{line_ends}
 use Rattle.py_lines.specs.Private.Machine.{Scanned, fresh, Bracket, brackets_of, first_spelling, spelling_with}
@@ -9,6 +9,8 @@ use Rattle.py_lines.specs.Private.ScanMachine.{IsScanSound, begins_string, is_fi
 use Rattle.py_lines.specs.Private.Scan.{AreLine, EndsNoLine, EndsWhole, line_start, none_open}
 use Rattle.py_lines.specs.Private.Run.{is_ascii_word}
 use Rattle.py_lines.specs.Private.FieldText.{is_apart_mode}
+use Rattle.py_lines.specs.declared.class.Class.{Class}
+use Rattle.py_lines.specs.declared.class.Class.TheVariants as class
 use Rattle.py_lines.specs.declared.mode.Mode.{Mode}
 use Rattle.py_lines.specs.declared.mode.Mode.TheVariants as modes
 use Rattle.py_lines.specs.declared.mode.Move.TheVariants as moves
@@ -210,21 +212,21 @@ abbrev pub StandsAt : List ℕ → ℕ → Mode → List ℕ → ℕ → List Br
 StandsAt bytes at m read n st =
     (tail_of read ≡ tail_of (take at bytes)) × (length st ≤ 100) × StandsBefore (drop at bytes) m read n st
 
--- whether such a piece has closed itself, with so many of the bytes: a string that isn't empty, or a join that LF ends
-abbrev pub closes_itself : List ℕ → ℕ → Bool
-closes_itself bytes len =
-    if is_quote (slice_index bytes 0) then nat_lt 2 len else is_backslash (slice_index bytes 0) && (slice_index bytes (len - 1) == 10)
+-- whether a piece that begins with a byte of this class has closed itself, with so many bytes: a string that isn't empty
+abbrev pub closes_itself : Class → ℕ → Bool
+closes_itself class.Quote len = nat_lt 2 len
+closes_itself other len = false
 
-abbrev pub PassesPiece : List ℕ → ℕ → Option Passed → Type 0
-PassesPiece bytes at None = Unit {0}
-PassesPiece bytes at (Some p) =
+abbrev pub PassesPiece : Class → List ℕ → ℕ → Option Passed → Type 0
+PassesPiece class bytes at None = Unit {0}
+PassesPiece class bytes at (Some p) =
     (at + p.len ≤ length bytes)
-    × Passes (drop at bytes) p (StandsAt bytes at) (StandsClosed (closes_itself (drop at bytes) p.len) (drop p.len (drop at bytes)))
+    × Passes (drop at bytes) p (StandsAt bytes at) (StandsClosed (closes_itself class p.len) (drop p.len (drop at bytes)))
 
 -- the comment or the join that the bytes begin with was passed, or nothing
 abbrev pub PassesFirst : List ℕ → Option Passed → Type 0
 PassesFirst bytes None = Unit {0}
-PassesFirst bytes (Some p) = Passes bytes p (StandsBefore bytes) (StandsClosed (closes_itself bytes p.len) (drop p.len bytes))
+PassesFirst bytes (Some p) = Passes bytes p (StandsBefore bytes) (StandsBefore (drop p.len bytes))
 
 -- so a string, from where it begins so
 abbrev pub PassesString : (BeforePiece → List ℕ → ℕ → List Bracket → Type 0) → List ℕ → Passed → Type 0
