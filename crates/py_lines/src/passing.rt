@@ -6,7 +6,7 @@ ghost use Rattle.py_lines.specs.Private.Marks.{HasMarks, is_of_class};
 ghost use Rattle.py_lines.specs.Private.Outline.{closes_itself};
 ghost use Rattle.py_lines.specs.Private.Passing.{IsLineEndAt, IsMet, PassesMarked, PassesSpecial};
 ghost use Rattle.py_lines.specs.Private.Passing.{nothing_passed, passed_to};
-ghost use Rattle.py_lines.specs.declared.passing.Special.TheVariants.{Unpassed};
+ghost use Rattle.py_lines.specs.declared.marks.Marks.{Marks};
 
 use crate::brackets::Brackets;
 use crate::character::is_break;
@@ -97,10 +97,10 @@ impl Passing {
         requires some { 0 < len }
         requires fits { at + len < 2 ^ 64 }
         requires few { self.old.all.line_ends ≤ at }
-        ensures passed { result ≡ Unpassed → ⊥ }
-        ensures passes { (bytes : List ℕ) (place : ℕ)
+        ensures { (bytes : List ℕ) (place : ℕ) (marks : Marks)
             → IsLineEndAt bytes at len by_feed → HasMarks bytes (at + len) self.old.marks
-            → PassesSpecial bytes at place self.old brackets.now result self.new brackets.now }
+            → PassesSpecial bytes at place (record self.old { marks = marks }) brackets.now result
+                self.new brackets.now }
     {
         self.pass_to(at + len, 1, by_feed);
         if brackets.is_empty() {

@@ -120,41 +120,31 @@ is_mark_or _ = inr refl
 -- a line has begun
 module _ (text : List ℕ) (n first : ℕ) (t : LineTokens) (run : IsRunOf is_space (drop (mark_len text) text) n)
     (blank : t.kind ≡ unit_kind.Blank) (indent : t.indent ≡ n) (none : t.tokens.items ≡ []) where
-  begun_marked : (p : Piece) (ps : List Piece) → AreLineText text (p ∷ ps) → p.class ≡ mark
-      → HaveReadOf (p ∷ ps) first (mark_len text) first t
+  begun_after : (done others : List Piece) → AreLineText text (done ++ others) → mark_len text ≡ byte_len (spelled done) → begins_marked others ≡ false
+      → line_ends (spelled done) ≡ 0 → kind_of done ≡ unit_kind.Blank → tokens_from 0 first done ≡ [] → indent_of (done ++ others) ≡ first_space others
+      → HaveReadOf (done ++ others) first (mark_len text) first t
+  begun_after done others is place unmarked counted kind tokens indent_is = record {
+    done = done;
+    others = others;
+    are = refl;
+    unmarked = unmarked;
+    place = place;
+    number = omega (arith, counted);
+    kind = blank ∙ sym kind;
+    indent = indent ∙ first_read _ _ others n (text_after text done others is) unmarked (subst (λ (k : ℕ). IsRunOf is_space (drop k text) n) place run) ∙ sym indent_is;
+    tokens = none ∙ sym tokens;
+  }
+
+  begun_marked : (p : Piece) (ps : List Piece) → AreLineText text (p ∷ ps) → p.class ≡ mark → HaveReadOf (p ∷ ps) first (mark_len text) first t
   begun_marked p ps is class_is =
       let m = has_mark text p ps is class_is in
       let one : spelled (p ∷ []) ≡ p.text = append-nil p.text in
-      let place : mark_len text ≡ byte_len (spelled (p ∷ [])) = m.len ∙ sym m.bytes ∙ ap byte_len (sym one) in
-      let after = text_after text (p ∷ []) ps is in
-      let own = subst (λ (k : ℕ). IsRunOf is_space (drop k text) n) place run in
-      record {
-        done = p ∷ [];
-        others = ps;
-        are = refl;
-        unmarked = is.fit.2;
-        place = place;
-        number = omega (arith, m.counted, ap line_ends one);
-        kind = blank ∙ sym (ap (λ (k : Class). kind_of (record { class = k; text = p.text } ∷ [])) class_is);
-        indent = indent ∙ first_read _ _ ps n after is.fit.2 own ∙ sym (marked_indent p ps class_is);
-        tokens = none ∙ sym (ap (λ (k : Class). tokens_from 0 first (record { class = k; text = p.text } ∷ [])) class_is);
-      }
+      begun_after (p ∷ []) ps is (m.len ∙ sym m.bytes ∙ ap byte_len (sym one)) is.fit.2 (ap line_ends one ∙ m.counted)
+      (ap (λ (k : Class). kind_of (record { class = k; text = p.text } ∷ [])) class_is)
+      (ap (λ (k : Class). tokens_from 0 first (record { class = k; text = p.text } ∷ [])) class_is) (marked_indent p ps class_is)
 
   begun_unmarked : (ps : List Piece) → AreLineText text ps → begins_marked ps ≡ false → HaveReadOf ps first (mark_len text) first t
-  begun_unmarked ps is unmarked =
-      let start = no_mark text ps is unmarked in
-      let own = subst (λ (k : ℕ). IsRunOf is_space (drop k text) n) start run in
-      record {
-        done = [];
-        others = ps;
-        are = refl;
-        unmarked = unmarked;
-        place = start;
-        number = omega arith;
-        kind = blank;
-        indent = indent ∙ first_read text 0 ps n is unmarked own ∙ sym (unmarked_indent ps unmarked);
-        tokens = none;
-      }
+  begun_unmarked ps is unmarked = begun_after [] ps is (no_mark text ps is unmarked) unmarked refl refl refl (unmarked_indent ps unmarked)
 
   pub begun : HaveRead text first (mark_len text) first t
   begun [] is = begun_unmarked [] is refl

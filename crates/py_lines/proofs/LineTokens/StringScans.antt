@@ -65,9 +65,8 @@ pub record InFirst (bytes : List ℕ) (scan : Scan) (rest : List ℕ) : Type 0 w
   pub first : scan.piece.start ≡ 0
 
 -- it has taken this text
-pub record HasPassed (text : List ℕ) (scan : Scan) : Type 0 where
-  pub stop : scan.stop ≡ byte_len text
-  pub line : scan.count.line ≡ 1 + line_ends text
+abbrev pub HasPassed : List ℕ → Scan → Type 0
+HasPassed text scan = (scan.stop ≡ byte_len text) × (scan.count.line ≡ 1 + line_ends text)
 
 -- at a line's start
 pub at_start : (bytes : List ℕ) {scan : Scan} → Tallies scan (line_start modes.Free) → IsStacked scan (line_start modes.Free)
@@ -99,10 +98,7 @@ counted : (new : Scan) (s : Scanned) (read text : List ℕ) → Tallies new s �
     → HasPassed text new
 counted new s read text tallies sound line is =
     let spell : spelled s.done ++ s.held ≡ text = sound.spell ∙ is in
-    record {
-      stop = tallies.counts.stop ∙ ap byte_len spell;
-      line = tallies.counts.here ∙ ap (λ (n : ℕ). n + line_ends (spelled s.done ++ s.held)) line ∙ ap (λ t. 1 + line_ends t) spell;
-    }
+    (tallies.counts.stop ∙ ap byte_len spell, tallies.counts.here ∙ ap (λ (n : ℕ). n + line_ends (spelled s.done ++ s.held)) line ∙ ap (λ t. 1 + line_ends t) spell)
 
 -- after CR nothing but LF goes on
 not_returned : (m : Mode) (c : ℕ) (b : Bool) → (is_free m ≡ false → meet_of m c ≡ moves.Breaks → ⊥)

@@ -22,7 +22,7 @@ use Rattle.py_lines.specs.Private.Run.{is_ascii_word}
 use Rattle.py_lines.specs.Private.Scan.{none_open, stack_of}
 use Rattle.py_lines.specs.Private.Outline.{AreWholeLines, BeginWithLines, BeginsOuterEnd, HasComeTo, IsWholeLine, StandsBefore, tail_of, tail_on}
 use Rattle.py_lines.specs.Private.Passing.{EndsLineSo, PassesOver, PassesSo, nothing_passed, up_to}
-use Rattle.py_lines.proofs.FieldScans.TextLengths.{later, rest_is}
+use Rattle.py_lines.proofs.FieldScans.TextLengths.{later}
 use Rattle.py_lines.proofs.LineScan.LineCount.{line_ends-bytes}
 use Rattle.py_lines.proofs.LineScan.AsciiRuns.{all_pass, low_encodes}
 use Rattle.py_lines.proofs.LogicalLines.Cuts.{byte_len-append}
@@ -87,9 +87,6 @@ lines_few (t ∷ texts) read n after are =
     omega (arith, are.count, lines_few texts are.later are.more after are.lines, are.whole.holds.count, line_ends-bytes t, ap byte_len are.spell, byte_len-append t are.later)
 
 -- the line end that the bytes have at a byte
-pub rest_ends : (bytes : List ℕ) (at len : ℕ) → BeginsOuterEnd (take (length bytes - at) (drop at bytes)) len → BeginsOuterEnd (drop at bytes) len
-rest_ends bytes at len found = subst (λ (t : List ℕ). BeginsOuterEnd t len) (rest_is bytes at) found
-
 pub feed_ends : (bytes : List ℕ) (at : ℕ) → at < length bytes → slice_index bytes at ≡ 10 → BeginsOuterEnd (drop at bytes) 1
 feed_ends bytes at within is =
     outer_found (drop at bytes) (Some 1) (feed_found (drop at bytes) (omega (arith, within, length-drop at bytes)) (first_later bytes at ∙ is))
@@ -234,12 +231,11 @@ next_at bytes lines at p marks b come next = record {
 
 pub begins_at : (bytes : List ℕ) (at : ℕ) (p : Passing) (marks : Marks) (b : Brackets) → stack_of b ≡ []
     → p ≡ nothing_passed p.marks → FindsNext bytes 0 at marks → StandsAt bytes p.all at (record p { marks = marks }) b
-begins_at bytes at p marks b none nothing next = record {
-  come = subst (λ (st : List Bracket). HasComeTo bytes p.all at p.all.line_ends st) (sym none)
-      (subst (λ (q : Passed). HasComeTo bytes q at q.line_ends []) (sym (ap (λ (q : Passing). q.all) nothing))
-      (plain_on bytes (record { len = 0; line_ends = 0 }) 0 at 0 [] marks (first_come bytes) next));
-  marked = next.rest;
-}
+begins_at bytes at p marks b none nothing next =
+    let start = sym (ap (λ (q : Passing). q.all) nothing) in
+    next_at bytes p.all at p marks b
+    (subst (λ (q : Passed). HasComeTo bytes q q.len q.line_ends (stack_of b)) start (subst (HasComeTo bytes _ 0 0) (sym none) (first_come bytes)))
+    (subst (λ (q : Passed). FindsNext bytes q.len at marks) start next)
 
 module _ (bytes : List ℕ) (lines : Passed) (at : ℕ) (p : Passing) (b : Brackets) (on : StandsAt bytes lines at p b) where
   pub own_few : p.all.line_ends ≤ at

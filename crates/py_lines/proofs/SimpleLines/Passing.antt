@@ -114,14 +114,6 @@ module _ (bytes : List ℕ) (at : ℕ) (within : at < length bytes) (len : ℕ) 
     pub line_end_ends : none_open (stack_of b) ≡ true → PassesSpecial bytes at place old b (special.LineEnd len) new b
     line_end_ends none = rw is (record { ends = ends; none = none; kept = refl; is = refl; marked = marked })
 
--- what marks there were before tells nothing of what was passed since
-pub marks_apart : (bytes : List ℕ) (at place : ℕ) (old : Passing) (marks : Marks) (b : Brackets) (result : Special) (new : Passing)
-    (c : Brackets) → (result ≡ special.Unpassed → ⊥) → PassesSpecial bytes at place (record old { marks = marks }) b result new c
-    → PassesSpecial bytes at place old b result new c
-marks_apart bytes at place old marks b special.Unpassed new c passed so = absurd (passed refl)
-marks_apart bytes at place old marks b special.Passed new c passed so = so
-marks_apart bytes at place old marks b (special.LineEnd len) new c passed so = so
-
 -- bytes were passed, and what follows them is marked
 pub passed_further : (bytes : List ℕ) (at place : ℕ) (all closed : Passed) (b : Brackets) (new : Passing) (c : Brackets)
     → PassesSo bytes at place all closed b new c → (at < new.all.len) × HasMarks bytes new.all.len new.marks

@@ -12,7 +12,7 @@ returns-in-LineFeed c =
     let at = c.args.at in
     let feeds = feed_is _ c.in-LineFeed.ensures in
     let here : at + 1 - 1 ≡ at = omega arith in
-    c.pass_line_end.ensures.passes bytes c.args.place
+    c.pass_line_end.ensures bytes c.args.place c.args.self.now.marks
     (record { within = c.requires.within; ends = feed_ends bytes at c.requires.within feeds; feed = rw (here, feeds) refl }) c.requires.marked
 
 pub returns-in-Opening : goal.returns-in-Opening
