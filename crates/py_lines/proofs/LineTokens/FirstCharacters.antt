@@ -47,15 +47,6 @@ quoted text (inr is) =
       opens = is.opens;
     }
 
--- a prefix is a word
-pub record IsPrefixWord (prefix : List ℕ) : Type 0 where
-  pub first : ℕ
-  pub others : List ℕ
-  pub is : prefix ≡ first ∷ others
-  pub starts : is_word_start first ≡ true
-  pub low : first < 128
-  pub run : list_all is_word_character others ≡ true
-
 pub as_word : (a : ℕ) (bs : List ℕ) → fielded.is_prefix (a ∷ bs) ≡ true → (is_word_start a ≡ true) × (list_all is_word_character bs ≡ true)
 as_word a bs h = ⊎_elim (λ plain. prefix_word a bs plain) with_fields (or_cases (is_prefix (a ∷ bs)) (is_field_prefix (a ∷ bs)) h)
   where
@@ -65,17 +56,13 @@ as_word a bs h = ⊎_elim (λ plain. prefix_word a bs plain) with_fields (or_cas
         let first : l.first ≡ a = cc in
         (ap is_word_start (sym first) ∙ l.starts, (and_parts (is_word_character a) (list_all is_word_character bs) l.all).1)
 
-pub prefix_is_word : (prefix : List ℕ) → fielded.is_prefix prefix ≡ true → IsPrefixWord prefix
+-- a prefix is a word
+pub prefix_is_word : (prefix : List ℕ) → fielded.is_prefix prefix ≡ true
+    → (first : ℕ) × (others : List ℕ) × (prefix ≡ first ∷ others) × (is_word_start first ≡ true) × (first < 128) × (list_all is_word_character others ≡ true)
 prefix_is_word [] none = absurd (both_ways _ refl none)
 prefix_is_word (a ∷ bs) is =
-    let parts = as_word a bs is in record {
-      first = a;
-      others = bs;
-      is = refl;
-      starts = parts.0;
-      low = low_is a (and_parts (is_low a) _ (prefix_low (a ∷ bs) (sym (fielded_spelling a bs) ∙ is))).0;
-      run = parts.1;
-    }
+    let parts = as_word a bs is in
+    (a, bs, refl, parts.0, low_is a (and_parts (is_low a) _ (prefix_low (a ∷ bs) (sym (fielded_spelling a bs) ∙ is))).0, parts.1)
 
 -- the class of a piece whose first character begins this
 abbrev pub OfStart : Start → Class → Type 0
@@ -128,9 +115,9 @@ begins_so string text unmarked is = by_prefix (quoted text is)
         (λ none. by_start string text q.quote q.body _ (q.spell ∙ ap (λ t. t ++ q.quote ∷ q.body) none) (start-quote q.quote q.opens)
         refl (inr (quote_ascii q.quote q.opens)))
         (λ is.
-        let w = prefix_is_word q.prefix is in
-        by_start string text w.first (w.others ++ q.quote ∷ q.body) _ (q.spell ∙ ap (λ t. t ++ q.quote ∷ q.body) w.is)
-        (start-word w.first w.starts) (inr refl) (inr w.low))
+        let (first, others, shape, starts, low, run) = prefix_is_word q.prefix is in
+        by_start string text first (others ++ q.quote ∷ q.body) _ (q.spell ∙ ap (λ t. t ++ q.quote ∷ q.body) shape)
+        (start-word first starts) (inr refl) (inr low))
         q.begun
 begins_so operator text unmarked (c, is, so) = by_start operator text c [] _ is (start-operator c so) refl (inr (operator_ascii c so))
 begins_so comment text unmarked (c, cs, is, so, body) =

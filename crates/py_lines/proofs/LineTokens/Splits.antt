@@ -128,12 +128,6 @@ pub class_is : (bytes : List ℕ) (p : Piece) (j k : ByteClass) → BeginWithPie
     → OfByte k p.class
 class_is bytes p j k b so is = subst (λ (i : ByteClass). OfByte i p.class) is (class_told bytes p j b so)
 
-pub operator_class : (bytes : List ℕ) (p : Piece) (j : ByteClass) → BeginWithPiece bytes p → is_of_class j (slice_index bytes 0) ≡ true
-    → (j ≡ class.Operator) ⊎ ((j ≡ class.Opening) ⊎ (j ≡ class.Closing)) → p.class ≡ operator
-operator_class bytes p j b so how =
-    ⊎_elim (class_is bytes p j class.Operator b so)
-    (⊎_elim (class_is bytes p j class.Opening b so) (class_is bytes p j class.Closing b so)) how
-
 pub first_passes : (passes : ℕ → Bool) (bytes : List ℕ) → 0 < length bytes → passes (slice_index bytes 0) ≡ true
     → begins passes bytes ≡ true
 first_passes passes [] some h = absurd (omega (arith, some))

@@ -145,15 +145,15 @@ module _ (bytes : List ℕ) (p : Piece) (b : BeginWithPiece bytes p) where
 
       some : fielded.is_prefix q.prefix ≡ true → ends_prefix bytes n ≡ true
       some begun =
-          let w = prefix_is_word q.prefix begun in
-          let all : list_all is_wide_word q.prefix ≡ true = ap (list_all is_wide_word) w.is ∙ word_wide w.first w.others w.starts w.run in
+          let (first, others, shape, starts, low, word_run) = prefix_is_word q.prefix begun in
+          let all : list_all is_wide_word q.prefix ≡ true = ap (list_all is_wide_word) shape ∙ word_wide first others starts word_run in
           let len : n ≡ byte_len q.prefix
           = run_length is_wide_word (encode_utf8_all q.prefix) (q.quote ∷ after) n
           (subst (λ (t : List ℕ). IsRunOf is_wide_word t n) bytes_are run) (encoded_passes is_wide_word wide_even q.prefix all)
           (quote_not_wide q.quote q.opens) in
           let (front, later) = cut_at bytes (encode_utf8_all q.prefix) (q.quote ∷ after) n bytes_are len in
           and_from (begins is_quote (drop n bytes)) _ (ap (begins is_quote) later ∙ q.opens)
-          (ap (λ t. begins_string (word_spelling t)) front ∙ prefix_told q.prefix w.first w.others w.is ∙ begun)
+          (ap (λ t. begins_string (word_spelling t)) front ∙ prefix_told q.prefix first others shape ∙ begun)
 
   -- so what follows the run tells which it is
   pub is_string : (n : ℕ) → begins is_wide_word bytes ≡ true → IsRunOf is_wide_word bytes n → ends_prefix bytes n ≡ true → p.class ≡ string

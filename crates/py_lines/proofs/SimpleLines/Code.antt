@@ -35,9 +35,10 @@ use Rattle.py_lines.proofs.LineScan.Runs.{break_low, ends-run, line_ends-run, sp
 use Rattle.py_lines.proofs.LineScan.AsciiRuns.{ascii_scalar, operator-no_break, word_starts, word_whole, space-not-quote, space_whole}
 use Rattle.py_lines.proofs.LineScan.TextSteps.{begun_sound}
 use Rattle.py_lines.proofs.SimpleLines.Tails.{apart_tail, come_sound, feed_unreturned, free_goes_on, no_tail, no_tail_with, return_returns, stands, stands_less, tail_on-append, tail_push}
-use Rattle.py_lines.proofs.Text.CharacterTests.{excluded, feed_is, none_of, operator_ascii}
+use Rattle.py_lines.proofs.LineTokens.Spellings.{high_bytes}
+use Rattle.py_lines.proofs.Text.CharacterTests.{Each, excluded, feed_is, none_of, operator_ascii}
 use Rattle.py_lines.proofs.Text.Utf8Prefixes.{all_scalars-append}
-use Rattle.py_lines.proofs.Text.Utf8Shapes.{one, two, three, four}
+use Rattle.py_lines.proofs.Text.Utf8Shapes.{one}
 
 -- whether a character stands in code: in a word, a string or a space
 abbrev pub stands_in_code : ℕ → Bool
@@ -324,18 +325,15 @@ InWord s initial read n st = (done : List Piece) × IsInPieceAfter (modes.Word s
 abbrev pub WordOrEnds : ℕ → Mode → List ℕ → ℕ → List Bracket → Type 0
 WordOrEnds c initial read n st = ((s : Spelling) × (tail_of read ≡ Some s) × InWord s initial read n st) ⊎ ((tail_of read ≡ None) × EndsBefore c initial read n st)
 
-word_or_ends : (initial : Mode) (read : List ℕ) (n : ℕ) (st : List Bracket) (c : ℕ) → is_space c ≡ false → GoesOnAfter initial read n st → WordOrEnds c initial read n st
-word_or_ends initial read n st c space on = by (tail_of read) refl on.tail
+pub word_or_ends : (rest : List ℕ) (initial : Mode) (read : List ℕ) (n : ℕ) (st : List Bracket) (c : ℕ) → is_ascii_word c || is_quote c ≡ true → is_space c ≡ false → StandsBefore (c ∷ rest) initial read n st → WordOrEnds c initial read n st
+word_or_ends rest initial read n st c begins space (inr on) = inr (on.tail begins, on)
+word_or_ends rest initial read n st c begins space (inl on) = by (tail_of read) refl on.tail
   where
     by : (t : Option Spelling) → tail_of read ≡ t → IsTail t on.state.mode → WordOrEnds c initial read n st
     by None none apart = inr (none, ends_at initial read n st c on (apart_breaks on.state.mode c apart space) (λ _. none))
     by (Some s) some is =
         let before : BeforePiece = record { mode = initial; done = on.state.done } in
         inl (s, some, (before.done, subst (λ (m : Mode). IsInPieceAfter m before read n st) is (record { held = on.state.held; come = on.come; unreturned = on.unreturned })))
-
-pub stands_by_word : (rest : List ℕ) (initial : Mode) (read : List ℕ) (n : ℕ) (st : List Bracket) (c : ℕ) → is_ascii_word c || is_quote c ≡ true → is_space c ≡ false → StandsBefore (c ∷ rest) initial read n st → WordOrEnds c initial read n st
-stands_by_word rest initial read n st c begins space (inl on) = word_or_ends initial read n st c space on
-stands_by_word rest initial read n st c begins space (inr on) = inr (on.tail begins, on)
 
 -- a letter, digit or underscore
 word_grows : (s : Spelling) (c : ℕ) → is_ascii_word c ≡ true → meet_of (modes.Word s) c ≡ moves.Grows (modes.Word (spelling_with s c))
@@ -362,7 +360,7 @@ word_next rest initial read n st c is on = ⊎_elim
     (λ ends.
     word_after initial read n st c is (first_spelling c) (pieces initial read n st c ends.1) (c ∷ []) (rw (ends.0, is) refl)
     (opens initial read n st c ends.1 (modes.Word (first_spelling c)) (start-word c (word_starts c is)) (holds (ends.1).come.holds)))
-    (stands_by_word rest initial read n st c (rw is refl) (word-not-space c is) on)
+    (word_or_ends rest initial read n st c (rw is refl) (word-not-space c is) on)
   where
     holds : HoldsLineEnds read n → HoldsLineEnds (read ++ c ∷ []) n
     holds before = holds_one read c n before (word_byte_low c is) (word-not-break c is)
@@ -469,17 +467,15 @@ code_low c (inr (inr (stands, opens, closes))) = operator_ascii c stands
 high-no_word : (c : ℕ) → 128 ≤ c → is_ascii_word c ≡ false
 high-no_word c wide = false_from_ne_true _ (λ word. omega (arith, wide, word_byte_low c word))
 
-wide_tail : (t : Option Spelling) (c : ℕ) → 128 ≤ c → tail_on t (encode_utf8 c) ≡ None
-wide_tail t c wide = ⊎_elim
-    (λ short. ap (tail_on t) (two c wide short) ∙ no_tail_with _ _ (high-no_word _ (omega arith)))
-    (λ long. ⊎_elim
-    (λ short. ap (tail_on t) (three c long short) ∙ no_tail_with _ _ (high-no_word _ (omega arith)))
-    (λ longer. ap (tail_on t) (four c longer) ∙ no_tail_with _ _ (high-no_word _ (omega arith)))
-    (cases_lt c 65536))
-    (cases_lt c 2048)
+wide_tail : (t : Option Spelling) (b : ℕ) (bs : List ℕ) → Each (λ d. 128 ≤ d) (b ∷ bs) → tail_on t (b ∷ bs) ≡ None
+wide_tail t b [] each = no_tail_with t b (high-no_word b each.0)
+wide_tail t b (d ∷ ds) each = wide_tail (tail_with t b) d ds each.1
 
 tail-encode : (t : Option Spelling) (c : ℕ) → tail_on t (encode_utf8 c) ≡ tail_with t c
-tail-encode t c = ⊎_elim (λ narrow. ap (tail_on t) (one c narrow)) (λ wide. wide_tail t c wide ∙ sym (no_tail_with t c (high-no_word c wide))) (cases_lt c 128)
+tail-encode t c = ⊎_elim
+    (λ narrow. ap (tail_on t) (one c narrow))
+    (λ wide. let h = high_bytes c wide in ap (tail_on t) h.is ∙ wide_tail t h.first h.others h.high ∙ sym (no_tail_with t c (high-no_word c wide)))
+    (cases_lt c 128)
 
 pub tail-encoded : (t : Option Spelling) (cs : List ℕ) → tail_on t (encode_utf8_all cs) ≡ tail_on t cs
 tail-encoded t [] = refl

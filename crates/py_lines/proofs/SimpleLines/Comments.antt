@@ -9,7 +9,7 @@ use Rattle.py_lines.specs.declared.mode.Mode.{Mode}
 use Rattle.py_lines.specs.declared.mode.Mode.TheVariants as modes
 use Rattle.py_lines.specs.Private.Machine.{Bracket, move_of}
 use Rattle.py_lines.specs.Private.ScanMachine.{meet_of}
-use Rattle.py_lines.specs.Private.Run.{IsRunOf, IsWholeComment, is_ascii_word, is_comment_byte, stays}
+use Rattle.py_lines.specs.Private.Run.{IsWholeComment, is_ascii_word, stays}
 use Rattle.py_lines.specs.Private.Outline.{BeforePiece, EndsBefore, IsInPieceAfter, PassesFirst}
 use Rattle.py_lines.proofs.Machine.Starts.{start-hash}
 use Rattle.py_lines.proofs.LineTokens.FirstCharacters.{hash_is}
@@ -39,7 +39,7 @@ comment_ends initial read n st c is on = record {
   tail = λ begins. absurd (both_ways _ (or_parts _ _ (break-apart c is)).0 begins);
 }
 
--- it never closes itself
+-- so it is passed
 pub comment_passed : (bytes : List ℕ) (k : ℕ) → 0 < length bytes → is_hash (slice_index bytes 0) ≡ true → IsWholeComment (take (length bytes - 1) (drop 1 bytes)) (Some k)
     → PassesFirst bytes (Some (record { len = 1 + k; line_ends = 0 }))
 unfolding is_ascii_word is_quote is_space
@@ -56,7 +56,7 @@ comment_passed bytes k some hash found =
             let ends = code_ends cs initial read n st 35 (lit< tt) refl on in
             let before : BeforePiece = record { mode = initial; done = pieces initial read n st 35 ends } in
             let come = goes_on modes.Comment before (read ++ 35 ∷ []) run n st whole.1.1.0 stay (comment_opens initial read n st ends) in
-            rw (drop-cons cs k 0 whole.2, add-zero, ← append_assoc read (35 ∷ []) run) (inr (comment_ends before _ n st (slice_index cs k) (not-false _ (text.ends whole.2)) come));
+            rw (drop-cons cs k 0 whole.2, add-zero, ← append_assoc read (35 ∷ []) run) (inr (comment_ends before _ n st (slice_index cs k) (not-false _ (whole.0.ends whole.2)) come));
       };
     })
   where
@@ -66,11 +66,8 @@ comment_passed bytes k some hash found =
     whole : IsWholeComment cs (Some k)
     whole = subst (λ (l : List ℕ). IsWholeComment l (Some k)) (rest_is bytes 1) found
 
-    text : IsRunOf is_comment_byte cs k
-    text = whole.0
-
     run : List ℕ
     run = whole.1.0
 
     stay : list_all (stays modes.Comment) run ≡ true
-    stay = stay_spelled modes.Comment cs k tt text.within text.each run whole.1.1.1
+    stay = stay_spelled modes.Comment cs k tt whole.0.within whole.0.each run whole.1.1.1

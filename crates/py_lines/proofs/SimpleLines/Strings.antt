@@ -33,7 +33,7 @@ use Rattle.py_lines.proofs.LineScan.LongText.{long_characters}
 use Rattle.py_lines.proofs.LineScan.AsciiRuns.{all_pass, is_low, is_low_from, low_encodes, low_is, quote-no_break}
 use Rattle.py_lines.proofs.LineScan.PlainStrings.{inside_closes}
 use Rattle.py_lines.proofs.Text.CharacterTests.{none_of, quote-not-word}
-use Rattle.py_lines.proofs.SimpleLines.Code.{WordOrEnds, come_on, grown, holds_return, holds_returned, holds_line_end, holds_more, holds_one, one_unreturned, opens, pieces, quote-not-space, stands_by_word}
+use Rattle.py_lines.proofs.SimpleLines.Code.{WordOrEnds, come_on, grown, holds_return, holds_returned, holds_line_end, holds_more, holds_one, one_unreturned, opens, pieces, quote-not-space, word_or_ends}
 use Rattle.py_lines.proofs.SimpleLines.Tails.{feed_unreturned, no_tail, quote-no-word}
 use Rattle.py_lines.proofs.SimpleLines.Joins.{slash-not-break}
 use Rattle.py_lines.proofs.SimpleLines.FirstBytes.{first_then, line_end_low, taken_one, taken_two, first_later}
@@ -164,7 +164,7 @@ after_rest {comes = comes} {goes} bytes len feeds more further all same first se
 
 -- a word is open before a quote, or the piece ends there
 pub quote_stands : (q : ℕ) → is_quote q ≡ true → (rest : List ℕ) (initial : Mode) (read : List ℕ) (n : ℕ) (st : List Bracket) → StandsBefore (q ∷ rest) initial read n st → WordOrEnds q initial read n st
-quote_stands q quote rest initial read n st = stands_by_word rest initial read n st q (rw (quote-no-word q quote) quote) (quote-not-space q quote)
+quote_stands q quote rest initial read n st = word_or_ends rest initial read n st q (rw (quote-no-word q quote) quote) (quote-not-space q quote)
 
 module _ (q : ℕ) (quote : is_quote q ≡ true) where
   self : q == q ≡ true

@@ -7,7 +7,7 @@ use Rattle.py_lines.specs.Private.Marks.{is_of_class}
 use Rattle.py_lines.specs.Private.Run.{IsRunOf, is_comment_byte}
 use Rattle.py_lines.specs.Private.LineTokens.{IsTakenFor, line_end_len}
 use Rattle.py_lines.proofs.LineTokens.FirstPieces.{comment_taken, join_taken, line_end_taken, operator_taken, space_taken}
-use Rattle.py_lines.proofs.LineTokens.Splits.{OfByte, class_is, first_passes, operator_class, some_bytes, wide_begins}
+use Rattle.py_lines.proofs.LineTokens.Splits.{OfByte, class_is, first_passes, some_bytes, wide_begins}
 use Rattle.py_lines.proofs.line_tokens.first_piece.Goals as goal
 
 pub word_or_string-requires-clause-word : goal.word_or_string-requires-clause-word
@@ -29,7 +29,8 @@ returns-in-Quote c = λ p b. c.string.ensures p (class_is c.args.bytes.now p c.o
 
 pub returns-in-Operator : goal.returns-in-Operator
 returns-in-Operator c = λ p b.
-    let operators = operator_class c.args.bytes.now p c.of.result b c.of.ensures c.in-Operator.is in
+    let is : (k : Class) → c.of.result ≡ k → OfByte k p.class = λ k. class_is c.args.bytes.now p c.of.result k b c.of.ensures in
+    let operators = ⊎_elim (is class.Operator) (⊎_elim (is class.Opening) (is class.Closing)) c.in-Operator.is in
     subst (IsTakenFor p) (sym c.token.ensures) (operator_taken c.args.bytes.now p b operators)
 
 pub returns-in-Hash : goal.returns-in-Hash
