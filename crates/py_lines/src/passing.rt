@@ -100,7 +100,7 @@ impl Passing {
         ensures { (bytes : List ℕ) (place : ℕ) (marks : Marks)
             → IsLineEndAt bytes at len by_feed → HasMarks bytes (at + len) self.old.marks
             → PassesSpecial bytes at place (record self.old { marks = marks }) brackets.now result
-                self.new brackets.now }
+            self.new brackets.now }
     {
         self.pass_to(at + len, 1, by_feed);
         if brackets.is_empty() {

@@ -17,6 +17,7 @@ use Rattle.py_lines.specs.Private.Run.{IsRunOf, is_comment_byte}
 use Rattle.py_lines.specs.Private.LineTokens.{BeginWithPiece, IsTakenFor, line_end_len, role_of, token_piece}
 use Rattle.py_lines.proofs.Text.CharacterTests.{feed_is, operator_ascii}
 use Rattle.py_lines.proofs.Text.Utf8Shapes.{one}
+use Rattle.py_lines.proofs.Lexings.SettledFits.{line_text}
 use Rattle.py_lines.proofs.LogicalLines.NextLine.{begins-prefix}
 use Rattle.py_lines.proofs.LineScan.Runs.{all_no_break, break_low, line_ends-run, space_low}
 use Rattle.py_lines.proofs.LineScan.AsciiRuns.{operator-no_break}
@@ -74,9 +75,7 @@ one_end end rest after (return is) uncut =
     })
 
 ends_later : (slash : ℕ) (end : List ℕ) → IsLineEnd end → ends is_return (slash ∷ end) ≡ ends is_return end
-ends_later slash end (feed is) = ap (λ t. ends is_return (slash ∷ t)) is ∙ sym (ap (ends is_return) is)
-ends_later slash end (return_feed is) = ap (λ t. ends is_return (slash ∷ t)) is ∙ sym (ap (ends is_return) is)
-ends_later slash end (return is) = ap (λ t. ends is_return (slash ∷ t)) is ∙ sym (ap (ends is_return) is)
+ends_later slash end is = let (c, cs, shape) = line_text end is in rw shape
 
 module _ (bytes : List ℕ) (p : Piece) (b : BeginWithPiece bytes p) where
   abbrev pub rest : List ℕ

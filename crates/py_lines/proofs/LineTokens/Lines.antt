@@ -41,9 +41,6 @@ text_after text done others is = record {
 }
 
 -- one more piece
-one_more : (done others : List Piece) (p : Piece) → done ++ p ∷ others ≡ (done ++ p ∷ []) ++ others
-one_more done others p = sym (append_assoc done (p ∷ []) others)
-
 len_push : (done : List Piece) (p : Piece) → byte_len (spelled (done ++ p ∷ [])) ≡ byte_len (spelled done) + byte_len p.text
 len_push done p =
     ap byte_len (spelled-append done (p ∷ []) ∙ ap (λ t. spelled done ++ t) (append-nil p.text)) ∙ byte_len-append (spelled done) p.text
@@ -58,7 +55,7 @@ pub record IsNext (text : List ℕ) (done others : List Piece) (p : Piece) : Typ
 pub is_next : (text : List ℕ) (done others : List Piece) (p : Piece) → AreLineText text (done ++ p ∷ others) → is_mark_class p.class ≡ false
     → IsNext text done others p
 is_next text done others p is unmarked =
-    let longer = subst (AreLineText text) (one_more done others p) is in
+    let longer = subst (AreLineText text) (sym (append_assoc done (p ∷ []) others)) is in
     let first = AreReadBefore-first done (p ∷ others) is.after is.fit in
     let second = AreReadBefore-first (done ++ p ∷ []) others longer.after longer.fit in
     let counted : line_ends (spelled (done ++ p ∷ [])) ≡ line_ends (spelled done) + line_ends p.text
@@ -126,7 +123,7 @@ has_next text pieces first start line t is h inside = go h.others h.are h.unmark
                 more = λ u adds. record {
                   done = h.done ++ p ∷ [];
                   others = qs;
-                  are = are ∙ one_more h.done qs p;
+                  are = are ∙ sym (append_assoc h.done (p ∷ []) qs);
                   unmarked = (AreReadBefore-second h.done (p ∷ qs) whole.after whole.fit).2;
                   place = stop ∙ sym (len_push h.done p);
                   number = omega (arith, h.number, taken.line_ends, next.counted);
