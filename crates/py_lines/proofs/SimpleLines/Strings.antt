@@ -378,13 +378,9 @@ module _ (q : ℕ) (quote : is_quote q ≡ true) where
       low_part bytes (92 ∷ has.text) p.len p.line_ends has.within (escaped_low has.text p.line_ends has.escaped) has.spell (λ initial read n st.
       escaped (modes.Long q) (modes.LongEscape q) (modes.Long q) (modes.Long q) initial read has.text n p.line_ends st (in_long false 92 (unlike 92 refl)) (λ c other. refl) refl (in_long false 10 (unlike 10 refl)) has.escaped)
 
-pub escape_few : (bytes : List ℕ) (p : Passed) → HasEscape bytes (Some p) → p.line_ends ≤ p.len
-escape_few bytes p has =
-    omega (arith, has.some, has.few)
-
 pub part_of_escape : (q : ℕ) → is_quote q ≡ true → (bytes : List ℕ) (found : Option Passed) → HasEscape bytes found → PassesOrNot bytes found (IsInLong q) (IsInLong q)
 part_of_escape q quote bytes None has = tt
-part_of_escape q quote bytes (Some p) has = record { some = has.some; few = escape_few bytes p has; part = long_escape_part q quote bytes p has }
+part_of_escape q quote bytes (Some p) has = record { some = has.some; few = omega (arith, has.some, has.few); part = long_escape_part q quote bytes p has }
 
 -- a string that isn't empty is passed where its parts are
 pub whole_string : {begins : BeforePiece → List ℕ → ℕ → List Bracket → Type 0} (bytes : List ℕ) (len n : ℕ) → 2 < len → n ≤ len → PassesPart bytes len n begins HasClosedString → PassesString begins bytes (record { len = len; line_ends = n })

@@ -1,6 +1,6 @@
 use Rattle.std.proofs.Common.{◌+◌, arith, refl}
 use Rattle.py_lines.proofs.LineScan.Runs.{quote_ascii}
-use Rattle.py_lines.proofs.SimpleLines.Strings.{after_rest, escape_few, short_ended, short_escape, short_first, short_run}
+use Rattle.py_lines.proofs.SimpleLines.Strings.{after_rest, short_ended, short_escape, short_first, short_run}
 use Rattle.py_lines.proofs.plain_strings.short_string.Goals as goal
 
 pub parts-init : goal.parts-init
@@ -25,5 +25,5 @@ parts-preserved c =
     record {
       some = omega (arith, i.some);
       part = after_rest bytes (c.parts.len + c.body_characters-len.result) c.parts.line_ends c.in_ok-part.part.len c.in_ok-part.part.line_ends _ refl read (short_escape _ c.requires.quote _ _ c.in_ok-part.part (omega (arith, i.some)) escape);
-      few = omega (arith, i.few, escape_few _ c.in_ok-part.part escape);
+      few = omega (arith, i.few, escape.some, escape.few);
     }
