@@ -215,7 +215,7 @@ StandsAt bytes at m read n st =
 -- whether a piece that begins with a byte of this class has closed itself, with so many bytes: a string that isn't empty
 abbrev pub closes_itself : Class → ℕ → Bool
 closes_itself class.Quote len = nat_lt 2 len
-closes_itself other len = false
+closes_itself _ len = false
 
 abbrev pub PassesPiece : Class → List ℕ → ℕ → Option Passed → Type 0
 PassesPiece class bytes at None = Unit {0}
