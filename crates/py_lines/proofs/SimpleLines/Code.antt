@@ -343,23 +343,24 @@ word_grows s c is = rw (word_byte_continues c (word_byte_low c is) ∙ is) refl
 word-not-break : (c : ℕ) → is_ascii_word c ≡ true → is_break c ≡ false
 word-not-break c is = not-true _ (word_whole c is)
 
-word_after : (initial : Mode) (read : List ℕ) (n : ℕ) (st : List Bracket) (c : ℕ) → is_ascii_word c ≡ true → (s : Spelling) (done : List Piece) (held : List ℕ) → tail_with (tail_of read) c ≡ Some s → HasCome initial (read ++ c ∷ []) n st (scanned done (modes.Word s) held) → GoesOnAfter initial (read ++ c ∷ []) n st
-word_after initial read n st c is s done held some come = record {
-  state = scanned done (modes.Word s) held;
+-- the line goes on after a byte, if the word is open that it ends with then
+goes_after : (initial : Mode) (read : List ℕ) (n : ℕ) (st : List Bracket) (c : ℕ) (s : Scanned) → is_break c ≡ false → HasCome initial (read ++ c ∷ []) n st s → IsTail (tail_with (tail_of read) c) s.mode → GoesOnAfter initial (read ++ c ∷ []) n st
+goes_after initial read n st c s whole come tail = record {
+  state = s;
   come = come;
-  tail = subst (λ t. IsTail t (modes.Word s)) (sym (tail_push read c ∙ some)) refl;
-  unreturned = one_unreturned read c (word-not-break c is);
+  tail = subst (λ t. IsTail t s.mode) (sym (tail_push read c)) tail;
+  unreturned = one_unreturned read c whole;
 }
 
 word_next : (rest : List ℕ) (initial : Mode) (read : List ℕ) (n : ℕ) (st : List Bracket) (c : ℕ) → is_ascii_word c ≡ true → StandsBefore (c ∷ rest) initial read n st → GoesOnAfter initial (read ++ c ∷ []) n st
 word_next rest initial read n st c is on = ⊎_elim
     (λ word.
     let (s, some, (done, own)) = word in
-    word_after initial read n st c is (spelling_with s c) done (own.held ++ c ∷ []) (rw (some, is) refl)
-    (grown (modes.Word (spelling_with s c)) c own.come (word_grows s c is) (holds own.come.holds)))
+    goes_after initial read n st c (scanned done (modes.Word (spelling_with s c)) (own.held ++ c ∷ [])) (word-not-break c is)
+    (grown (modes.Word (spelling_with s c)) c own.come (word_grows s c is) (holds own.come.holds)) (rw (some, is) refl))
     (λ ends.
-    word_after initial read n st c is (first_spelling c) (pieces initial read n st c ends.1) (c ∷ []) (rw (ends.0, is) refl)
-    (opens initial read n st c ends.1 (modes.Word (first_spelling c)) (start-word c (word_starts c is)) (holds (ends.1).come.holds)))
+    goes_after initial read n st c (scanned (pieces initial read n st c ends.1) (modes.Word (first_spelling c)) (c ∷ [])) (word-not-break c is)
+    (opens initial read n st c ends.1 (modes.Word (first_spelling c)) (start-word c (word_starts c is)) (holds (ends.1).come.holds)) (rw (ends.0, is) refl))
     (word_or_ends rest initial read n st c (rw is refl) (word-not-space c is) on)
   where
     holds : HoldsLineEnds read n → HoldsLineEnds (read ++ c ∷ []) n
@@ -373,12 +374,8 @@ space-not-break : (c : ℕ) → is_space c ≡ true → is_break c ≡ false
 space-not-break c is = not-true _ (space_whole c is)
 
 space_after : (initial : Mode) (read : List ℕ) (n : ℕ) (st : List Bracket) (c : ℕ) → is_space c ≡ true → (done : List Piece) (held : List ℕ) → HasCome initial (read ++ c ∷ []) n st (scanned done modes.Space held) → GoesOnAfter initial (read ++ c ∷ []) n st
-space_after initial read n st c is done held come = record {
-  state = scanned done modes.Space held;
-  come = come;
-  tail = apart_tail (tail_of (read ++ c ∷ [])) modes.Space refl (no_tail read c (space-no-word c is));
-  unreturned = one_unreturned read c (space-not-break c is);
-}
+space_after initial read n st c is done held come =
+    goes_after initial read n st c _ (space-not-break c is) come (apart_tail (tail_with (tail_of read) c) modes.Space refl (no_tail_with (tail_of read) c (space-no-word c is)))
 
 space_opens : (initial : Mode) (read : List ℕ) (n : ℕ) (st : List Bracket) (c : ℕ) → is_space c ≡ true → EndsBefore c initial read n st → GoesOnAfter initial (read ++ c ∷ []) n st
 space_opens initial read n st c is on =
