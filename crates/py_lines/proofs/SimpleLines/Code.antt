@@ -34,7 +34,7 @@ use Rattle.py_lines.proofs.LineScan.PieceEnd.{closed_text}
 use Rattle.py_lines.proofs.LineScan.Runs.{break_low, ends-run, line_ends-run, space_low, word_byte_continues, word_byte_low}
 use Rattle.py_lines.proofs.LineScan.AsciiRuns.{ascii_scalar, operator-no_break, word_starts, word_whole, space-not-quote, space_whole}
 use Rattle.py_lines.proofs.LineScan.TextSteps.{begun_sound}
-use Rattle.py_lines.proofs.SimpleLines.Tails.{apart_tail, come_sound, feed_unreturned, free_goes_on, no_tail, no_tail_with, return_returns, stands, stands_less, tail_on-append, tail_push}
+use Rattle.py_lines.proofs.SimpleLines.Tails.{apart_tail, come_sound, feed_unreturned, free_closed, free_goes_on, no_tail, no_tail_with, return_returns, stands, tail_on-append, tail_push}
 use Rattle.py_lines.proofs.LineTokens.Spellings.{high_bytes}
 use Rattle.py_lines.proofs.Text.CharacterTests.{Each, excluded, feed_is, none_of, operator_ascii}
 use Rattle.py_lines.proofs.Text.Utf8Prefixes.{all_scalars-append}
@@ -448,7 +448,7 @@ pub outer_end_inside : (text after : List ℕ) (initial : Mode) (read : List ℕ
     → IsOuterEnd text after → none_open st ≡ false → (closes ≡ true → text ≡ 13 ∷ [] → ⊥) → StandsBefore (text ++ after) initial read n st
     → StandsClosed closes after initial (read ++ text) (n + 1) st
 outer_end_inside text after initial read n st closes (inl (returned, is)) some fed on =
-    rw is (stands_less true closes after initial (read ++ line_end_of returned) (n + 1) st (λ _. refl)
+    rw is (free_closed closes after initial (read ++ line_end_of returned) (n + 1) st
     (line_end_inside returned initial read n st (line_end_next returned after initial read n st (rw is at on)) some))
 outer_end_inside text after initial read n st true (inr (is, other)) some fed on = absurd (fed refl is)
 outer_end_inside text after initial read n st false (inr (is, other)) some fed on =

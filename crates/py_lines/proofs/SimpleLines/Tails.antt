@@ -157,8 +157,7 @@ pub closed_stands : (b : Bool) (rest : List ℕ) (m : Mode) (read : List ℕ) (n
 closed_stands true rest m read n st free = free_stands rest m read n st free
 closed_stands false rest m read n st on = on
 
--- so where less is known of its pieces
-pub stands_less : (b c : Bool) (rest : List ℕ) (m : Mode) (read : List ℕ) (n : ℕ) (st : List Bracket) → (c ≡ true → b ≡ true)
-    → StandsClosed b rest m read n st → StandsClosed c rest m read n st
-stands_less b true rest m read n st closes on = subst (λ (k : Bool). StandsClosed k rest m read n st) (closes refl) on
-stands_less b false rest m read n st closes on = closed_stands b rest m read n st on
+-- no piece is open, which may be known or not
+pub free_closed : (b : Bool) (rest : List ℕ) (m : Mode) (read : List ℕ) (n : ℕ) (st : List Bracket) → IsFreeAfter m read n st → StandsClosed b rest m read n st
+free_closed true rest m read n st free = free
+free_closed false rest m read n st free = free_stands rest m read n st free
