@@ -17,7 +17,7 @@ use Rattle.py_lines.specs.Private.Run.{IsRunOf, is_comment_byte}
 use Rattle.py_lines.specs.Private.LineTokens.{BeginWithPiece, IsTakenFor, line_end_len, role_of, token_piece}
 use Rattle.py_lines.proofs.Text.CharacterTests.{feed_is, operator_ascii}
 use Rattle.py_lines.proofs.Text.Utf8Shapes.{one}
-use Rattle.py_lines.proofs.Lexings.SettledFits.{line_text}
+use Rattle.py_lines.proofs.Lexings.LineEnds.{line_text}
 use Rattle.py_lines.proofs.LogicalLines.NextLine.{begins-prefix}
 use Rattle.py_lines.proofs.LineScan.Runs.{all_no_break, break_low, line_ends-run, space_low}
 use Rattle.py_lines.proofs.LineScan.AsciiRuns.{operator-no_break}

@@ -18,7 +18,7 @@ use Rattle.py_lines.specs.Private.Run.{is_ascii_word}
 use Rattle.py_lines.specs.Private.FieldText.{is_apart_mode}
 use Rattle.py_lines.specs.Private.Outline.{GoesOnAfter, HasCome, IsEndedBy, IsFreeAfter, IsTail, StandsBefore, StandsClosed, tail_of, tail_on, tail_with, HoldsLineEnds}
 use Rattle.py_lines.proofs.LineScan.LineCount.{ends-last}
-use Rattle.py_lines.proofs.Lexings.SettledFits.{ends-append}
+use Rattle.py_lines.proofs.Lexings.LineEnds.{ends-append}
 use Rattle.py_lines.proofs.LineScan.PieceEnd.{no_class_bracket}
 use Rattle.py_lines.proofs.LineScan.LineSteps.{sound_steps}
 use Rattle.py_lines.proofs.LineScan.Runs.{word_byte_continues}
