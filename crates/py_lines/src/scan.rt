@@ -246,52 +246,37 @@ impl Scan {
         }
     }
 
-    /// Takes the next character of the line.
-    pub fn push(&mut self, c: char) -> Progress
+    /// Takes the next character of the line, after closed pieces or in the open one.
+    fn push(&mut self, c: char) -> Progress
         requires bytes { self.old.stop + len_utf8 c < 2 ^ 64 }
         requires lines { self.old.count.line + 1 < 2 ^ 64 }
         requires placed { self.old.piece.mode ≡ Fielded → IsInPlace self.old.fields }
         ensures { TakesNext self.old c result self.new }
     {
-        if matches!(self.piece.mode, Mode::Fielded) {
-            return self.push_in_string(c);
-        }
-        match self.piece.mode.meet(c) {
-            Move::Grows(mode) => {
-                if matches!(mode, Mode::Fielded) {
-                    return self.enter_string(c);
-                }
-                self.grow(mode, c);
-                Progress::Going
-            }
-            Move::Closes => {
-                let returned = self.piece.mode.is_return();
-                self.read(c);
-                self.free();
-                if returned {
-                    self.line_end(2)
-                } else {
+        match self.piece.mode {
+            Mode::Free => self.begin(c),
+            Mode::Fielded => self.push_in_string(c),
+            _ => match self.piece.mode.meet(c) {
+                Move::Grows(mode) => {
+                    if let Mode::Fielded = mode {
+                        return self.enter_string(c);
+                    }
+                    self.grow(mode, c);
                     Progress::Going
                 }
-            }
-            Move::Breaks => self.begin(c),
-            Move::Refused => Progress::Refused,
-        }
-    }
-
-    /// Takes the next character of the line, after closed pieces or in the open one.
-    fn take(&mut self, c: char) -> Progress
-        requires bytes { self.old.stop + len_utf8 c < 2 ^ 64 }
-        requires lines { self.old.count.line + 1 < 2 ^ 64 }
-        requires placed { self.old.piece.mode ≡ Fielded → IsInPlace self.old.fields }
-        ensures begins { is_free self.old.piece.mode ≡ true
-            → Begins self.old c (start_of c) result self.new }
-        ensures takes { is_free self.old.piece.mode ≡ false → TakesNext self.old c result self.new }
-    {
-        if self.piece.mode.is_free() {
-            self.begin(c)
-        } else {
-            self.push(c)
+                Move::Closes => {
+                    let returned = self.piece.mode.is_return();
+                    self.read(c);
+                    self.free();
+                    if returned {
+                        self.line_end(2)
+                    } else {
+                        Progress::Going
+                    }
+                }
+                Move::Breaks => self.begin(c),
+                Move::Refused => Progress::Refused,
+            },
         }
     }
 
@@ -313,10 +298,9 @@ impl Scan {
     pub fn refusal(&self, c: char) -> LineFault
         ensures { IsRefusal self.now c result }
     {
-        if matches!(self.piece.mode, Mode::Fielded) {
-            self.fields.refusal(c, self.stop, self.brackets.len())
-        } else {
-            self.plain_refusal(c)
+        match self.piece.mode {
+            Mode::Fielded => self.fields.refusal(c, self.stop, self.brackets.len()),
+            _ => self.plain_refusal(c),
         }
     }
 
@@ -343,10 +327,9 @@ impl Scan {
     pub fn unfinished(&self) -> Option<LineFault>
         ensures { IsUnfinished self.now result }
     {
-        if matches!(self.piece.mode, Mode::Fielded) {
-            Some(self.fields.unfinished(self.stop, self.brackets.len()))
-        } else {
-            self.plain_unfinished()
+        match self.piece.mode {
+            Mode::Fielded => Some(self.fields.unfinished(self.stop, self.brackets.len())),
+            _ => self.plain_unfinished(),
         }
     }
 
@@ -378,10 +361,9 @@ impl Scan {
         requires quote { HasAsciiQuote self.old.piece.mode }
         ensures { HeldIn self.old bytes.now result self.new }
     {
-        if matches!(self.piece.mode, Mode::Fielded) {
-            self.fields.hold(self.brackets.len(), self.stop, bytes)
-        } else {
-            characters_in(self.piece.mode, bytes)
+        match self.piece.mode {
+            Mode::Fielded => self.fields.hold(self.brackets.len(), self.stop, bytes),
+            mode => characters_in(mode, bytes),
         }
     }
 
@@ -465,7 +447,7 @@ impl Scan {
                 return Stop::LineEnd(1);
             }
             let len = c.len_utf8();
-            match self.take(c) {
+            match self.push(c) {
                 Progress::Going => {
                     let more = self.hold_lines(&left[len..]);
                     let held = self.hold(more);
@@ -506,7 +488,7 @@ impl Scan {
                 return;
             }
             // No character of a string is refused, and after the last one no piece is open.
-            self.take(c);
+            self.push(c);
             if self.piece.mode.is_free() {
                 return;
             }
@@ -524,9 +506,11 @@ impl Scan {
         ensures line { self.new.line ≡ self.old.line }
     {
         let stop = self.extend(text.as_bytes());
-        if matches!(stop, Stop::TextEnd) && self.is_returned() {
-            self.free();
-            return Stop::LineEnd(1);
+        if let Stop::TextEnd = stop {
+            if self.is_returned() {
+                self.free();
+                return Stop::LineEnd(1);
+            }
         }
         stop
     }

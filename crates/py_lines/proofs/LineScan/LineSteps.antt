@@ -1,7 +1,6 @@
 -- The scan of a line's characters, one after another.
-use Rattle.std.proofs.Common.{◌≡◌, ℕ, ◌+◌, inl, inr, true, false, not, ◌&&◌, Some, List, [], ◌∷◌, ◌++◌, refl, sym, ap, ◌∙◌, subst, append-nil, arith}
-use Rattle.std.specs.Prelude.{encode_utf8, encode_utf8_all}
-use Rattle.std.specs.Char.{IsScalar}
+use Rattle.std.proofs.Common.{◌≡◌, ℕ, ◌+◌, inl, inr, true, false, ◌&&◌, Some, List, [], ◌∷◌, ◌++◌, refl, sym, ap, ◌∙◌, subst, append-nil, arith}
+use Rattle.std.specs.Prelude.{encode_utf8_all}
 use Rattle.std.proofs.lemmas.Bool.{both_ways, and_right, false_from_ne_true}
 use Rattle.std.proofs.lemmas.Str.{encode_ascii, encodes_same}
 use Rattle.py_lines.specs.Character.{is_line_feed, is_return}
@@ -13,10 +12,9 @@ use Rattle.py_lines.specs.declared.mode.Mode.{Mode}
 use Rattle.py_lines.specs.declared.mode.Mode.TheVariants as modes
 use Rattle.py_lines.specs.declared.scan.Progress.TheVariants as progress
 use Rattle.py_lines.specs.declared.scan.Scan.{Scan}
-use Rattle.py_lines.specs.declared.scan.Stop.TheVariants as stops
 use Rattle.py_lines.specs.Private.Machine.{Scanned, fresh, Bracket, brackets_of}
 use Rattle.py_lines.specs.Private.ScanMachine.{IsScanSound, scan_steps}
-use Rattle.py_lines.specs.Private.Scan.{Tallies, IsStacked, Takes, freed, line_start, stack_of, none_open, is_returned, is_return_mode, EndsNoLine, EndsWhole, IsUnderWay, IsAtLineEnd, StopsIn}
+use Rattle.py_lines.specs.Private.Scan.{KeepsUp, Tallies, IsStacked, Takes, freed, line_start, stack_of, none_open, is_return_mode, EndsNoLine, EndsWhole, IsUnderWay, IsAtLineEnd}
 use Rattle.py_lines.proofs.Pieces.PieceLists.{piece, spelled-push, AreReadBefore-push, follows_any}
 use Rattle.py_lines.proofs.Text.CharacterTests.{feed_is, return_is}
 use Rattle.py_lines.proofs.Machine.PieceSteps.{scanned}
@@ -30,15 +28,8 @@ use Rattle.py_lines.proofs.Lexings.LineEnds.{line_string}
 pub sound_steps : {st : List Bracket} (m : Mode) (read : List ℕ) (s : Scanned) → IsScanSound (line_start m) [] → scan_steps (Some (line_start m)) read ≡ Some s → brackets_of s.done ≡ Some st → IsScanSound s read
 sound_steps {st = st} m read s start steps stack = (stands_sound m read s st start (record { run = steps; stack = stack })).scan
 
--- a character that was taken, and ended no line
-pub under_way : (m : Mode) (old new : Scan) (read : List ℕ) (c : ℕ) (way : IsUnderWay m old read) → Takes old way.state c progress.Going new → IsUnderWay m new (read ++ c ∷ [])
-under_way m old new read c way takes = record {
-  state = takes.0.next;
-  steps = steps_push (line_start m) read way.state c way.steps ∙ takes.0.goes;
-  tallies = takes.0.tallies;
-  stacked = takes.0.stacked;
-  one_line = takes.0.one_line;
-}
+pub way_keeps : (m : Mode) (scan : Scan) (read : List ℕ) (way : IsUnderWay m scan read) → IsScanSound (line_start m) [] → KeepsUp scan way.state read
+way_keeps m scan read way start = record { sound = sound_steps m read way.state start way.steps way.stacked; one_line = way.one_line; tallies = way.tallies; stacked = way.stacked }
 
 -- a character that ended the line
 pub at_line_end : (m : Mode) (old new : Scan) (read rest : List ℕ) (c len : ℕ) (way : IsUnderWay m old read) → IsScanSound (line_start m) [] → Takes old way.state c (progress.LineEnded len) new → IsAtLineEnd m new (read ++ c ∷ []) rest len
@@ -56,12 +47,6 @@ at_line_end m old new read rest c len way start takes =
       strings = sound.strings;
       tallies = ended.tallies;
     }
-
--- a character that was refused
-pub refused : (m : Mode) (old new : Scan) (read : List ℕ) (c : ℕ) (after rest : List ℕ) (way : IsUnderWay m old read) → is_returned old && not (is_line_feed c) ≡ false → Takes old way.state c progress.Refused new → IsScalar c → rest ≡ encode_utf8 c ++ after → StopsIn m new (stops.Refused c) read rest
-refused m old new read c after rest way not_yet takes scalar is =
-    let kept : IsUnderWay m new read = record { state = way.state; steps = way.steps; tallies = subst (λ (s : Scan). Tallies s way.state) (sym takes.1) way.tallies; stacked = subst (λ (s : Scan). IsStacked s way.state) (sym takes.1) way.stacked; one_line = way.one_line } in
-    (kept, after, scalar, is, takes.0, subst (λ (s : Scan). is_returned s && not (is_line_feed c) ≡ false) (sym takes.1) not_yet)
 
 -- CR that no LF follows
 no_feed : (text rest : List ℕ) → begins is_line_feed rest ≡ false → ends is_return text && begins is_line_feed rest ≡ false

@@ -1,7 +1,6 @@
 -- Characters that leave the open piece as it is are held in one step.
 use Rattle.std.proofs.Common.{◌≡◌, ℕ, ◌+◌, ◌<◌, ◌≤◌, ◌⊎◌, inl, inr, Bool, true, false, leb, not, ◌||◌, ◌&&◌, ◌==◌, Some, List, [], ◌∷◌, ◌++◌, length, take, drop, slice_index, refl, sym, ap, ◌∙◌, subst, append_assoc, append-nil, arith, ⊎_elim, take-append-drop, length-append, lit<}
 use Rattle.std.specs.Prelude.{encode_utf8_all, encode_utf8, codes, nat_le, if◌then◌else◌}
-use Rattle.std.specs.Str.{IsUtf8}
 use Rattle.std.specs.Char.{IsScalar}
 use Rattle.std.specs.List.{list_all}
 use Rattle.std.proofs.lemmas.Bool.{and_parts, and_from, cases_lt, both_ways, eqb-true, false_from_ne_true, not-true, leb-false}
@@ -23,13 +22,14 @@ use Rattle.py_lines.specs.Private.Scan.{Counts, FieldsFollow, Tallies, IsStacked
 use Rattle.py_lines.specs.Balance.{depth_through}
 use Rattle.py_lines.specs.Private.FieldMachine.{FieldScanned}
 use Rattle.py_lines.specs.Private.FieldScan.{GoesThrough, HoldsField}
-use Rattle.py_lines.specs.Private.Run.{is_ascii_word, is_body_byte, stays, Stay, HeldIn, HoldsRun, with_bytes, HasAsciiQuote, Reached}
+use Rattle.py_lines.specs.Private.Run.{is_ascii_word, is_body_byte, stays, Stay, HeldIn, HoldsRun, with_bytes, HasAsciiQuote, Reached, Spans}
 use Rattle.unicode_ident.proofs.IdentLemmas.{is_xid_continue-ascii, is_xid_start-ascii}
 use Rattle.py_lines.proofs.Text.CharacterTests.{none_of, excluded}
 use Rattle.py_lines.proofs.LineScan.Increments.{line_ends-step}
 use Rattle.py_lines.proofs.LineScan.LineCount.{ends-last}
 use Rattle.py_lines.proofs.LineScan.StringSteps.{here_at, in_string, string_more}
-use Rattle.py_lines.proofs.LineScan.LineSteps.{sound_steps, under_way}
+use Rattle.py_lines.proofs.LineScan.LineSteps.{sound_steps}
+use Rattle.py_lines.proofs.ScanMachine.Advance.{steps_push}
 use Rattle.py_lines.specs.declared.scan.Progress.TheVariants as progress
 use Rattle.py_lines.proofs.Text.Utf8Prefixes.{all_scalars-append, scalars_more, spell_more}
 use Rattle.py_lines.proofs.LogicalLines.Cuts.{byte_len-append}
@@ -160,25 +160,26 @@ sound_quote (modes.Long q) done held holds = quote_ascii q holds.0.opens
 sound_quote m done held holds = tt
 
 -- what the first n bytes hold
-pub held_in : (scan : Scan) (text : List ℕ) (n : ℕ) → (prefix : IsUtf8 (take n text)) → HasAsciiQuote scan.piece.mode → (scan.piece.mode ≡ modes.Fielded → ⊥) → n ≤ length text → ((i : ℕ) → i < n → stays scan.piece.mode (slice_index text i) ≡ true) → HeldIn scan text n scan
-held_in scan text n prefix quote other within each =
+pub held_in : (scan : Scan) (text : List ℕ) (n : ℕ) → Spans (stays scan.piece.mode) text n → HasAsciiQuote scan.piece.mode → (scan.piece.mode ≡ modes.Fielded → ⊥) → HeldIn scan text n scan
+held_in scan text n spans quote other =
     let m = scan.piece.mode in
-    let size : length (take n text) ≡ n = length-take-le n text within in
+    let (run, (scalars, spell)) = spans.utf8 in
+    let size : length (take n text) ≡ n = length-take-le n text spans.run.within in
     record {
-      run = prefix.0;
-      spell = ap (λ t. t ++ drop n text) prefix.1.1 ∙ take-append-drop n text;
-      scalars = prefix.1.0;
-      size = ap length prefix.1.1 ∙ size;
+      run = run;
+      spell = ap (λ t. t ++ drop n text) spell ∙ take-append-drop n text;
+      scalars = scalars;
+      size = ap length spell ∙ size;
       none = λ nothing. refl;
       same = refl;
-      stay = stay_in scan m prefix.0 other (characters_stay m prefix.0 quote (λ i less.
-          let short : i < n = omega (arith, less, ap length prefix.1.1, size) in
-          subst (λ (t : List ℕ). stays m (slice_index t i) ≡ true) (sym prefix.1.1) (subst (λ (b : ℕ). stays m b ≡ true) (sym (get_or-take n text i 0 short)) (each i short))));
+      stay = stay_in m run other (characters_stay m run quote (λ i less.
+          let short : i < n = omega (arith, less, ap length spell, size) in
+          subst (λ (t : List ℕ). stays m (slice_index t i) ≡ true) (sym spell) (subst (λ (b : ℕ). stays m b ≡ true) (sym (get_or-take n text i 0 short)) (spans.run.each i short))));
     }
   where
-    stay_in : (scan : Scan) (m : Mode) (run : List ℕ) → (m ≡ modes.Fielded → ⊥) → list_all (stays m) run ≡ true → Stay m scan scan.fields run
-    stay_in scan modes.Fielded run other all = absurd (other refl)
-    stay_in scan m run other all = all
+    stay_in : (m : Mode) (run : List ℕ) → (m ≡ modes.Fielded → ⊥) → list_all (stays m) run ≡ true → Stay m scan scan.fields run
+    stay_in modes.Fielded run other all = absurd (other refl)
+    stay_in m run other all = all
 
 pub string_held : (old : Scan) (fields : FieldScan) (text : List ℕ) (n : ℕ) → old.piece.mode ≡ modes.Fielded → HoldsField old.fields (depth_of old.brackets) old.stop text n fields → HeldIn old text n (with_field_scan old fields)
 string_held old fields text n here held = record {
@@ -317,15 +318,17 @@ reached_run m at text old new mid rest r start holds = record {
   line = ⊎_elim (λ none. ap (λ (s : Scan). s.line) none.1) (λ some. ap (λ (s : Scan). s.line) some.1) holds.reads ∙ r.line;
 }
 
--- the mode's quote is one byte on the way
-pub way_quote : (m : Mode) (scan : Scan) (read : List ℕ) (way : IsUnderWay m scan read) → IsScanSound (line_start m) [] → HasAsciiQuote scan.piece.mode
-way_quote m scan read way start = subst HasAsciiQuote (sym way.tallies.counts.mode) (sound_quote way.state.mode way.state.done way.state.held (sound_steps m read way.state start way.steps way.stacked).holds)
-
 -- and over a character
 pub reached_character : (m : Mode) (at : ℕ) (text : List ℕ) (old new : Scan) (before rest : List ℕ) (c : ℕ) (r : Reached m at text old before) → IsScalar c → before ≡ encode_utf8 c ++ rest → Takes old r.way.state c progress.Going new → Reached m at text new rest
 reached_character m at text old new before rest c r scalar is takes = record {
   read = r.read ++ c ∷ [];
-  way = under_way m old new r.read c r.way takes;
+  way = record {
+    state = takes.0.next;
+    steps = steps_push (line_start m) r.read r.way.state c r.way.steps ∙ takes.0.goes;
+    tallies = takes.0.tallies;
+    stacked = takes.0.stacked;
+    one_line = takes.0.one_line;
+  };
   spell = spell_more r.read rest text c (ap (λ t. encode_utf8_all r.read ++ t) (sym is) ∙ r.spell);
   scalars = scalars_more r.read c r.scalars scalar;
   line = takes.1 ∙ r.line;

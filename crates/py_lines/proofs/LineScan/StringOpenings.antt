@@ -1,10 +1,11 @@
 -- A string with fields holds something, after one quote or two: its scan begins.
-use Rattle.std.proofs.Common.{◌≡◌, ℕ, ◌+◌, ◌==◌, true, false, ◌&&◌, Some, List, [], ◌∷◌, ◌++◌, refl, sym, ap, ◌∙◌, subst, ⊎_elim}
+use Rattle.std.proofs.Common.{◌≡◌, ℕ, ◌+◌, ◌==◌, true, false, ◌&&◌, Some, List, [], ◌∷◌, ◌++◌, refl, sym, ap, ◌∙◌, subst, inl, inr}
 use Rattle.std.specs.Prelude.{if◌then◌else◌}
 use Rattle.std.specs.Str.{byte}
 use Rattle.std.proofs.lemmas.Bool.{both_ways, cond_both}
 use Rattle.py_lines.specs.Character.{is_word_character, is_quote, is_break, is_backslash}
-use Rattle.py_lines.specs.Piece.{Piece, spelled}
+use Rattle.py_lines.specs.Piece.{spelled}
+use Rattle.py_lines.specs.Balance.{depth_through}
 use Rattle.py_lines.specs.LogicalLine.{byte_len}
 use Rattle.py_lines.specs.FieldStrings.{Host, literal}
 use Rattle.py_lines.specs.declared.host.StringWithFields.{StringWithFields}
@@ -17,16 +18,16 @@ use Rattle.py_lines.specs.declared.field_scan.FieldScan.{FieldScan}
 use Rattle.py_lines.specs.declared.scan.Progress.{Progress}
 use Rattle.py_lines.specs.declared.scan.Progress.TheVariants as progress
 use Rattle.py_lines.specs.declared.scan.Scan.{Scan}
-use Rattle.py_lines.specs.Private.Machine.{Scanned, moved}
+use Rattle.py_lines.specs.Private.Machine.{Scanned}
 use Rattle.py_lines.specs.Private.FieldMachine.{between, FieldMode, opened, empty, body, FieldMove, grows, breaks, FieldScanned, field_state, field_move, field_moved, field_step, body_move, between_move, long_host}
 use Rattle.py_lines.specs.Private.FieldScan.{FollowsBody, IsPlaced}
-use Rattle.py_lines.specs.Private.ScanMachine.{begins_string, host_in, is_field_spelling, meet_of, opened_move, quote_move, IsScanSound, fielded_move}
-use Rattle.py_lines.specs.Private.Scan.{Tallies, IsStacked, EndsNoLine, StandsInString, GoesOnInString, TakesInString, Takes, in_mode, with_character, with_field_scan, depth_of}
+use Rattle.py_lines.specs.Private.ScanMachine.{begins_string, host_in, is_field_spelling, meet_of, opened_move, quote_move, HoldsOpen, fielded_move, move_at}
+use Rattle.py_lines.specs.Private.Scan.{KeepsUp, StandsInString, TakesInString, Takes, in_mode, with_character, with_field_scan, depth_of}
 use Rattle.py_lines.proofs.FieldMachine.StringRuns.{moved_between}
 use Rattle.py_lines.proofs.LogicalLines.Cuts.{byte_len-append}
-use Rattle.py_lines.proofs.Machine.PieceSteps.{scanned}
+use Rattle.py_lines.proofs.ScanMachine.Steps.{meets}
 use Rattle.py_lines.proofs.FieldMachine.PlainSteps.{IsOpenAfter, open_after}
-use Rattle.py_lines.proofs.LineScan.NextCharacter.{counts_read}
+use Rattle.py_lines.proofs.LineScan.NextCharacter.{takes_grown}
 use Rattle.py_lines.proofs.LineScan.StringSteps.{string_grows, string_more}
 
 -- after another piece no string with fields holds something at once
@@ -70,79 +71,58 @@ opened_as_body host held c other =
     ap (λ b. field_moved (field_state [] [] [] (opened host) held) c (if b then grows (empty host) else body_move host literal false between c)) other
     ∙ moved_between [] [] [] host held c (body_move host literal false between c)
 
--- and after three quotes it is in the body of a long one
+-- after two quotes a third one comes
+third_quote : (h : StringWithFields) (c : ℕ) → meet_of (modes.FieldEmpty h) c ≡ moves.Grows modes.Fielded → c == h.quote ≡ true
+unfolding meet_of
+third_quote h c move = cond_both (c == h.quote) (moves.Grows modes.Fielded) moves.Breaks (λ (v : Move). v ≡ moves.Grows modes.Fielded → c == h.quote ≡ true) (λ is e. is) (λ _ e. absurd (cc)) move
+
+-- and then the machine is in the body of a long string
 pub third_opens : (host : Host) (held : List ℕ) (c : ℕ) → c == host.quote ≡ true → field_step (field_state [] [] [] (empty host) held) c ≡ Some (field_state [] [] [] (body (long_host host) literal false between) (held ++ c ∷ []))
 unfolding field_move
 third_opens host held c third = ap (λ b. field_moved (field_state [] [] [] (empty host) held) c (if b then grows (body (long_host host) literal false between) else breaks)) third
 
-module _ (old new : Scan) (f : FieldScan) (done : List Piece) (held read : List ℕ) (c : ℕ) (none : EndsNoLine 0 done) where
-  module _ (h : StringWithFields) (sound : IsScanSound (scanned done (modes.FieldOpened h) held) read) (tallies : Tallies old (scanned done (modes.FieldOpened h) held)) (stacked : IsStacked old (scanned done (modes.FieldOpened h) held)) (move : meet_of (modes.FieldOpened h) c ≡ moves.Grows modes.Fielded) (follows : FollowsBody f h old.piece.start) where
-    stands : StandsInString (with_field_scan old f) (field_state [] [] [] (body (host_in h) literal false between) held)
+module _ (old : Scan) (s : Scanned) (read : List ℕ) (c : ℕ) (on : KeepsUp old s read) (new : Scan) (f : FieldScan) (move : meet_of s.mode c ≡ moves.Grows modes.Fielded) (h : StringWithFields) where
+  grows_so : (s.mode ≡ modes.Fielded → ⊥) → move_at s c ≡ moves.Grows modes.Fielded
+  grows_so other = meets s.mode (depth_through 0 s.done) s.held c other ∙ move
+
+  -- after one quote
+  module _ (here : s.mode ≡ modes.FieldOpened h) (follows : FollowsBody f h old.piece.start) where
+    abbrev begun : FieldScanned
+    begun = field_state [] [] [] (body (host_in h) literal false between) s.held
+
+    stands : StandsInString (with_field_scan old f) begun
     stands = record {
-      follows = follows held;
+      follows = follows s.held;
       inside = λ at. (host_in h, literal, false, between, refl);
-      stop = tallies.counts.stop ∙ byte_len-append (spelled done) held ∙ ap (λ n. n + byte_len held) (sym tallies.counts.start);
-      placed = subst (λ (m : FieldMode). IsPlaced m f.frames) (sym (follows held).mode) tt;
+      stop = on.tallies.counts.stop ∙ byte_len-append (spelled s.done) s.held ∙ ap (λ n. n + byte_len s.held) (sym on.tallies.counts.start);
+      placed = subst (λ (m : FieldMode). IsPlaced m f.frames) (sym (follows s.held).mode) tt;
     }
 
-    goes_so : fielded_move (depth_of old.brackets) (Some (field_state [] [] [] (body (host_in h) literal false between) held)) c ≡ moves.Grows modes.Fielded
+    parts : (c == h.quote ≡ false) × (is_break c ≡ false)
+    parts = first_of_body h c (ap (λ m. meet_of m c) (sym here) ∙ move)
+
+    goes_so : fielded_move (depth_of old.brackets) (Some begun) c ≡ moves.Grows modes.Fielded
     unfolding field_move
     goes_so =
-        let parts = first_of_body h c move in
         let grown = body_grows (host_in h) c parts.0 parts.1 in
-        string_grows (depth_of old.brackets) (field_state [] [] [] (body (host_in h) literal false between) held) grown.0 c grown.1
+        string_grows (depth_of old.brackets) begun grown.0 c grown.1
 
-    opened_goes : GoesOnInString (with_field_scan old f) (field_state [] [] [] (body (host_in h) literal false between) held) c new → Takes old (scanned done (modes.FieldOpened h) held) c progress.Going new
-    opened_goes goes =
-        let s : Scanned = scanned done (modes.FieldOpened h) held in
-        subst (Takes old s c progress.Going) (sym goes.same) (
-          record {
-            next = scanned done modes.Fielded (held ++ c ∷ []);
-            goes = ap (moved s c) move;
-            tallies = record { counts = counts_read old new.fields s c modes.Fielded tallies.counts; fields = (goes.next, string_more held c _ sound.holds ∙ opened_as_body (host_in h) held c (first_of_body h c move).0 ∙ goes.goes, goes.follows) };
-            stacked = stacked;
-            one_line = none;
-          },
-          refl,
-        )
-
-    pub takes_first : (r : Progress) → ((t : FieldScanned) → StandsInString (with_field_scan old f) t → TakesInString (with_field_scan old f) t c r new) → Takes old (scanned done (modes.FieldOpened h) held) c r new
-    takes_first progress.Going takes =
-        ⊎_elim opened_goes (λ shut. absurd (let clash = sym goes_so ∙ shut.move in cc)) (takes (field_state [] [] [] (body (host_in h) literal false between) held) stands)
-    takes_first (progress.LineEnded len) takes = absurd (takes (field_state [] [] [] (body (host_in h) literal false between) held) stands)
-    takes_first progress.Refused takes =
-        let stuck = takes (field_state [] [] [] (body (host_in h) literal false between) held) stands in
-        absurd (let clash = sym goes_so ∙ stuck.0 in cc)
+    pub takes_opened : (r : Progress) → ((t : FieldScanned) → StandsInString (with_field_scan old f) t → TakesInString (with_field_scan old f) t c r new) → Takes old s c r new
+    takes_opened r takes = by r (takes begun stands)
+      where
+        by : (q : Progress) → TakesInString (with_field_scan old f) begun c q new → Takes old s c q new
+        by progress.Going (inl goes) =
+            let holds = subst (λ m. HoldsOpen m s.done s.held) here on.sound.holds in
+            subst (Takes old s c progress.Going) (sym goes.same)
+            (takes_grown old s read c on new.fields modes.Fielded (grows_so (λ e. cc)) (goes.next, string_more s.held c _ holds ∙ opened_as_body (host_in h) s.held c parts.0 ∙ goes.goes, goes.follows))
+        by progress.Going (inr shut) = absurd (let clash = sym goes_so ∙ shut.move in cc)
+        by (progress.LineEnded len) never = absurd never
+        by progress.Refused stuck = absurd (let clash = sym goes_so ∙ stuck.0 in cc)
 
   -- after two quotes
-  module _ (h : StringWithFields) (sound : IsScanSound (scanned done (modes.FieldEmpty h) held) read) (tallies : Tallies old (scanned done (modes.FieldEmpty h) held)) (stacked : IsStacked old (scanned done (modes.FieldEmpty h) held)) (move : meet_of (modes.FieldEmpty h) c ≡ moves.Grows modes.Fielded) (follows : FollowsBody f (record { quote = h.quote; is_long = true; is_raw = h.is_raw }) old.piece.start) where
-    third_quote : c == h.quote ≡ true
-    unfolding meet_of
-    third_quote = cond_both (c == h.quote) (moves.Grows modes.Fielded) moves.Breaks (λ (v : Move). v ≡ moves.Grows modes.Fielded → c == h.quote ≡ true) (λ is e. is) (λ _ e. absurd (cc)) move
-
-    pub takes_third : new ≡ in_mode (with_character (with_field_scan old f) c) modes.Fielded → Takes old (scanned done (modes.FieldEmpty h) held) c progress.Going new
-    takes_third is =
-        let s : Scanned = scanned done (modes.FieldEmpty h) held in
-        subst (Takes old s c progress.Going) (sym is) (
-          record {
-            next = scanned done modes.Fielded (held ++ c ∷ []);
-            goes = ap (moved s c) move;
-            tallies = record { counts = counts_read old f s c modes.Fielded tallies.counts; fields = (_, string_more held c _ sound.holds ∙ third_opens (host_in h) held c third_quote, follows (held ++ c ∷ [])) };
-            stacked = stacked;
-            one_line = none;
-          },
-          refl,
-        )
-
--- so wherever the machine stands
-pub takes_opened : (old new : Scan) (f : FieldScan) (done : List Piece) (m : Mode) (held read : List ℕ) (c : ℕ) (h : StringWithFields) (r : Progress) → m ≡ modes.FieldOpened h → meet_of m c ≡ moves.Grows modes.Fielded → FollowsBody f h old.piece.start → ((t : FieldScanned) → StandsInString (with_field_scan old f) t → TakesInString (with_field_scan old f) t c r new) → IsScanSound (scanned done m held) read → EndsNoLine 0 done → Tallies old (scanned done m held) → IsStacked old (scanned done m held) → Takes old (scanned done m held) c r new
-takes_opened old new f done (modes.FieldOpened k) held read c h r is move follows takes sound none tallies stacked =
-    let same : h ≡ k = cc in
-    takes_first old new f done held read c none k sound tallies stacked move (subst (λ (x : StringWithFields). FollowsBody f x old.piece.start) same follows) r takes
-takes_opened old new f done m held read c h r is move follows takes sound none tallies stacked = absurd (cc)
-
-pub takes_emptied : (old new : Scan) (f : FieldScan) (done : List Piece) (m : Mode) (held read : List ℕ) (c : ℕ) (h : StringWithFields) → m ≡ modes.FieldEmpty h → meet_of m c ≡ moves.Grows modes.Fielded → FollowsBody f (record { quote = h.quote; is_long = true; is_raw = h.is_raw }) old.piece.start → new ≡ in_mode (with_character (with_field_scan old f) c) modes.Fielded → IsScanSound (scanned done m held) read → EndsNoLine 0 done → Tallies old (scanned done m held) → IsStacked old (scanned done m held) → Takes old (scanned done m held) c progress.Going new
-takes_emptied old new f done (modes.FieldEmpty k) held read c h is move follows grown sound none tallies stacked =
-    let same : h ≡ k = cc in
-    takes_third old new f done held read c none k sound tallies stacked move (subst (λ (x : StringWithFields). FollowsBody f (record { quote = x.quote; is_long = true; is_raw = x.is_raw }) old.piece.start) same follows) grown
-takes_emptied old new f done m held read c h is move follows grown sound none tallies stacked = absurd (cc)
+  pub takes_emptied : s.mode ≡ modes.FieldEmpty h → FollowsBody f (record { quote = h.quote; is_long = true; is_raw = h.is_raw }) old.piece.start → new ≡ in_mode (with_character (with_field_scan old f) c) modes.Fielded → Takes old s c progress.Going new
+  takes_emptied here follows is =
+      let holds = subst (λ m. HoldsOpen m s.done s.held) here on.sound.holds in
+      let third = third_quote h c (ap (λ m. meet_of m c) (sym here) ∙ move) in
+      subst (Takes old s c progress.Going) (sym is)
+      (takes_grown old s read c on f modes.Fielded (grows_so (λ e. cc)) (_, string_more s.held c _ holds ∙ third_opens (host_in h) s.held c third, follows (s.held ++ c ∷ [])))

@@ -1,5 +1,5 @@
 -- A string with fields in the scan of a line: what is read of it is told by the machine with fields.
-use Rattle.std.proofs.Common.{◌≡◌, ℕ, zero, suc, ◌+◌, Option, None, Some, List, [], ◌∷◌, ◌++◌, refl, sym, ap, ◌∙◌, subst}
+use Rattle.std.proofs.Common.{◌≡◌, ℕ, zero, suc, ◌+◌, false, arith, Option, None, Some, List, [], ◌∷◌, ◌++◌, refl, sym, ap, ◌∙◌, subst}
 use Rattle.py_lines.specs.Piece.{Piece, spelled}
 use Rattle.py_lines.specs.LogicalLine.{byte_len}
 use Rattle.py_lines.specs.declared.mode.Mode.{Mode}
@@ -11,15 +11,16 @@ use Rattle.py_lines.specs.declared.field_scan.FieldScan.{FieldScan}
 use Rattle.py_lines.specs.declared.field_scan.FieldProgress.{FieldProgress}
 use Rattle.py_lines.specs.declared.field_scan.FieldProgress.TheVariants as progress
 use Rattle.py_lines.specs.declared.scan.LineFault.{LineFault}
+use Rattle.py_lines.specs.declared.scan.OpenPiece.{OpenPiece}
 use Rattle.py_lines.specs.declared.scan.Scan.{Scan}
 use Rattle.py_lines.specs.declared.mode.Start.TheVariants as starts
-use Rattle.py_lines.specs.Private.Machine.{start_of, character_kind}
-use Rattle.py_lines.specs.Private.FieldScan.{Follows, ComesTo, IsInPlace, PushesField, RefusesField, EndsField}
+use Rattle.py_lines.specs.Private.Machine.{Scanned, start_of, character_kind}
+use Rattle.py_lines.specs.Private.FieldScan.{Follows, ComesTo, PushesField, RefusesField, EndsField}
 use Rattle.py_lines.specs.Private.FieldMachine.{FieldMode, Level, FieldScanned, grows, field_state, field_move, field_moved, frames, has_room_at, field_text_start, field_step, field_steps_from}
 use Rattle.py_lines.specs.Private.FieldFaults.{here}
 use Rattle.py_lines.specs.Private.ScanMachine.{string_state, string_move, fielded_move, move_at, IsInString, IsScanSound}
 use Rattle.py_lines.specs.Private.LineState.{first_mode}
-use Rattle.py_lines.specs.Private.Scan.{refused_place, IsRefusal, IsRefusalIn, IsUnfinished, IsUnfinishedIn, IsPlainUnfinished, FieldsFollow, StandsInString, GoesOnInString, ClosesString, freed, in_mode, with_character, with_field_scan, Tallies, IsStacked, stack_of, depth_of}
+use Rattle.py_lines.specs.Private.Scan.{refused_place, IsRefusal, IsRefusalIn, IsUnfinished, IsUnfinishedIn, IsPlainUnfinished, FieldsFollow, StandsInString, GoesOnInString, ClosesString, freed, in_mode, with_character, with_field_scan, KeepsUp, Tallies, IsStacked, line_start, stack_of, depth_of}
 use Rattle.py_lines.proofs.FieldSoundness.HostSteps.{sound_at}
 use Rattle.py_lines.proofs.FieldSoundness.LiveTexts.{steps-append}
 use Rattle.py_lines.proofs.FieldSoundness.WholeTexts.{no_limit, any_rooms}
@@ -33,6 +34,13 @@ use Rattle.py_lines.proofs.Pieces.OpenBrackets.{stands}
 pub no_fields : (scan : Scan) (m : Mode) (held : List ℕ) → (m ≡ modes.Fielded → ⊥) → FieldsFollow scan m held
 no_fields scan modes.Fielded held other = absurd (other refl)
 no_fields scan m held other = tt
+
+-- a line begins so
+pub counts_nothing : (scan : Scan) (m : Mode) → (m ≡ modes.Fielded → ⊥) → scan.piece ≡ record { mode = m; start = 0 } → scan.stop ≡ 0 → scan.count.line ≡ scan.line → scan.count.after_return ≡ false → Tallies scan (line_start m)
+counts_nothing scan m other piece stop line after = record {
+  counts = record { mode = ap (λ (p : OpenPiece). p.mode) piece; start = ap (λ (p : OpenPiece). p.start) piece; stop = stop; here = omega (arith, line); after = after };
+  fields = no_fields scan m [] other;
+}
 
 -- no character opens one where no piece is open
 pub opens_plain : (c : ℕ) (m : Mode) → start_of c ≡ starts.Open m → m ≡ modes.Fielded → ⊥
@@ -74,11 +82,10 @@ in_string scan done held read sound tallies =
       };
     }
 
--- its scan is in its place
-pub fields_placed : (scan : Scan) (done : List Piece) (m : Mode) (held read : List ℕ) → m ≡ modes.Fielded → IsScanSound (scanned done m held) read → Tallies scan (scanned done m held) → IsInPlace scan.fields
-fields_placed scan done modes.Fielded held read is sound tallies =
-    (in_string scan done held read sound tallies).stands.placed
-fields_placed scan done m held read is sound tallies = absurd (cc)
+-- where the scan keeps up with the machine
+pub fielded_at : (scan : Scan) (s : Scanned) (read : List ℕ) → s.mode ≡ modes.Fielded → KeepsUp scan s read → InString scan s.held
+fielded_at scan s read here on =
+    in_string scan s.done s.held read (subst (λ m. IsScanSound (scanned s.done m s.held) read) here on.sound) (subst (λ m. Tallies scan (scanned s.done m s.held)) here on.tallies)
 
 -- a character by which its open piece grows goes on in the string
 grows_on : (outer : List Level) (m : FieldMode) (next : FieldScanned) → string_move outer (grows m) (Some next) ≡ moves.Grows modes.Fielded

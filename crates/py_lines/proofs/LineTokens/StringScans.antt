@@ -17,9 +17,8 @@ use Rattle.py_lines.specs.declared.scan.Progress.TheVariants as progress
 use Rattle.py_lines.specs.declared.scan.Scan.{Scan}
 use Rattle.py_lines.specs.Private.Machine.{Scanned, fresh, move_of, Bracket, brackets_of}
 use Rattle.py_lines.specs.Private.ScanMachine.{IsScanSound, meet_of, scan_step}
-use Rattle.py_lines.specs.Private.Scan.{Tallies, IsStacked, Takes, is_returned, is_return_mode, none_open, stack_if, stack_of, line_start}
-use Rattle.py_lines.specs.Private.FieldScan.{IsInPlace}
-use Rattle.py_lines.specs.Private.Run.{BeginsWith, HasAsciiQuote, HoldsRun, Reached, is_free}
+use Rattle.py_lines.specs.Private.Scan.{Tallies, IsStacked, Takes, TakesNext, is_return_mode, none_open, stack_if, stack_of, line_start}
+use Rattle.py_lines.specs.Private.Run.{BeginsWith, HoldsRun, Reached, is_free}
 use Rattle.py_lines.specs.Private.LineTokens.{AreTextAt, BeginWithPiece}
 use Rattle.py_lines.proofs.Pieces.PieceLists.{piece}
 use Rattle.py_lines.proofs.Text.Incomplete.{text_none}
@@ -29,12 +28,9 @@ use Rattle.py_lines.proofs.Lexings.FirstLines.{piece_some}
 use Rattle.py_lines.proofs.LogicalLines.Cuts.{byte_len-append}
 use Rattle.py_lines.proofs.ScanMachine.Advance.{steps_push}
 use Rattle.py_lines.proofs.LineScan.PieceEnd.{no_class_bracket}
-use Rattle.py_lines.proofs.LineScan.NextCharacter.{takes_broken}
+use Rattle.py_lines.proofs.LineScan.LineSteps.{way_keeps}
 use Rattle.py_lines.proofs.LineScan.LineStops.{Stands, stands_reached}
-use Rattle.py_lines.proofs.LineScan.LineStops.{TakesTo}
-use Rattle.py_lines.proofs.LineScan.Runs.{reached_character, reached_run, way_quote}
-use Rattle.py_lines.proofs.LineScan.AsciiRuns.{free_breaks, free_is}
-use Rattle.py_lines.proofs.LineScan.StringSteps.{fields_placed}
+use Rattle.py_lines.proofs.LineScan.Runs.{reached_character, reached_run}
 use Rattle.py_lines.proofs.LineScan.TextSteps.{begun_sound}
 use Rattle.py_lines.proofs.LineTokens.Strings.{ComesTo, PassesString, sound_from, passes_string, whole_at_end, whole_before, whole_with, open_with, not_refused}
 
@@ -134,12 +130,6 @@ module _ {bytes : List ℕ} {scan : Scan} {rest : List ℕ} (at : InFirst bytes 
   pub first_stands : Stands 1 bytes scan rest
   first_stands = stands_reached modes.Free 1 bytes scan rest (begun_sound 1) at.reached
 
-  pub first_placed : scan.piece.mode ≡ modes.Fielded → IsInPlace scan.fields
-  first_placed fielded = fields_placed scan s.done s.mode s.held read (sym tallies.counts.mode ∙ fielded) sound tallies
-
-  pub first_quote : HasAsciiQuote scan.piece.mode
-  first_quote = way_quote modes.Free scan read at.reached.way (begun_sound 1)
-
   module _ {text : List ℕ} (b : BeginsString bytes text) where
     left : (y : List ℕ) × (text ++ b.more ≡ read ++ y) × (encode_utf8_all y ≡ rest)
     left = prefix_chars read (text ++ b.more) rest (b.spell ∙ sym at.reached.spell)
@@ -171,20 +161,10 @@ module _ {bytes : List ℕ} {scan : Scan} {rest : List ℕ} (at : InFirst bytes 
         counted scan s read text tallies sound at.reached.line same
 
   -- a character that doesn't, and what it comes to
-  module _ {c : ℕ} {p : Progress} {new : Scan} (next : BeginsWith rest c)
-      (on : is_free scan.piece.mode ≡ false → meet_of scan.piece.mode c ≡ moves.Breaks → ⊥) (to : TakesTo scan c p new) where
+  module _ {c : ℕ} (p : Progress) (new : Scan) (next : BeginsWith rest c)
+      (on : is_free scan.piece.mode ≡ false → meet_of scan.piece.mode c ≡ moves.Breaks → ⊥) (to : TakesNext scan c p new) where
     takes : Takes scan s c p new
-    takes = by (is_free scan.piece.mode) refl
-      where
-        not_yet : is_returned scan && not (is_line_feed c) ≡ false
-        not_yet = not_returned scan.piece.mode c (none_open (stack_of scan.brackets)) on
-
-        by : (b : Bool) → is_free scan.piece.mode ≡ b → Takes scan s c p new
-        by true free =
-            let way = at.reached.way in
-            let breaks = free_breaks s.mode c (free_is s.mode (ap is_free (sym tallies.counts.mode) ∙ free)) in
-            takes_broken scan new s.done s.mode s.held read c breaks sound way.one_line not_yet tallies way.stacked p (to.begun free)
-        by false other = to.taken other s read sound at.reached.way.one_line not_yet tallies at.reached.way.stacked
+    takes = to s read (way_keeps modes.Free scan read at.reached.way (begun_sound 1)) (not_returned scan.piece.mode c (none_open (stack_of scan.brackets)) on)
 
     module _ {text : List ℕ} (b : BeginsString bytes text) where
       on_there : is_free s.mode ≡ false → meet_of s.mode c ≡ moves.Breaks → ⊥

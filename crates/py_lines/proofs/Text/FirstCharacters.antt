@@ -1,13 +1,13 @@
 -- The character that bytes begin with.
-use Rattle.std.proofs.Common.{◌≡◌, ℕ, ◌+◌, ◌<◌, ◌≤◌, Option, None, Some, List, [], ◌∷◌, ◌++◌, length, take, drop, slice_get, slice_index, refl, sym, ap, ◌∙◌, subst, append_assoc, arith, length-append, length-take-le, take-append-drop}
+use Rattle.std.proofs.Common.{◌≡◌, ◌==◌, false, ℕ, ◌+◌, ◌<◌, ◌≤◌, Option, None, Some, List, [], ◌∷◌, ◌++◌, length, take, drop, slice_get, slice_index, refl, sym, ap, ◌∙◌, subst, append_assoc, arith, length-append, length-take-le, take-append-drop}
 use Rattle.std.specs.Prelude.{min, encode_utf8, IsUtf8, MatchOption}
 use Rattle.std.specs.Str.{StartsWithNoChar, IsValidUpTo, all_scalars}
 use Rattle.std.specs.Char.{IsScalar, len_utf8}
 use Rattle.std.proofs.Math.Nat.{le-min, min-le_left}
-use Rattle.std.proofs.Math.Utf8.{scalar_cases}
-use Rattle.std.proofs.lemmas.Bool.{and_parts}
+use Rattle.std.proofs.Math.Utf8.{low_scalar, scalar_cases}
+use Rattle.std.proofs.lemmas.Bool.{and_parts, both_ways}
 use Rattle.std.proofs.lemmas.List.{take_all}
-use Rattle.std.proofs.lemmas.Str.{cons_from_encodes, length-encode, len_utf8_bounds, IsUtf8-encode}
+use Rattle.std.proofs.lemmas.Str.{cons_from_encodes, encode_ascii, length-encode, len_utf8_bounds, IsUtf8-encode}
 use Rattle.std.proofs.Math.Seq.{take-append_seam, drop-append_seam}
 use Rattle.py_lines.specs.Private.Run.{BeginsWith}
 use Rattle.py_lines.proofs.Text.Utf8Prefixes.{nothing_bad}
@@ -43,6 +43,14 @@ begins_with bytes rest c scalar is = record {
   scalar = scalar;
   spell = ap (λ t. encode_utf8 c ++ t) (ap (drop (len_utf8 c)) is ∙ ap (λ (n : ℕ). drop n (encode_utf8 c ++ rest)) (sym (length-encode c)) ∙ drop-append_seam (encode_utf8 c) rest) ∙ sym is;
 }
+
+pub ascii_begins : (bytes : List ℕ) → 0 < length bytes → slice_index bytes 0 < 128 → BeginsWith bytes (slice_index bytes 0)
+ascii_begins [] some low = absurd (omega (arith, some))
+ascii_begins (b ∷ bs) some low = begins_with (b ∷ bs) bs b (low_scalar b (omega (arith, low))) (ap (λ t. t ++ bs) (sym (encode_ascii b low)))
+
+pub some_bytes : (bytes : List ℕ) → length bytes == 0 ≡ false → 0 < length bytes
+some_bytes [] none = absurd (both_ways _ none refl)
+some_bytes (b ∷ bs) none = omega arith
 
 -- the number of bytes that the first byte tells
 abbrev pub Tells : List ℕ → ℕ → Type 0

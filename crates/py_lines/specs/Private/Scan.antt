@@ -234,11 +234,16 @@ is_returned scan = is_return_mode scan.piece.mode && none_open (stack_of scan.br
 abbrev pub IsNotEnded : Scan → ℕ → Type 0
 IsNotEnded scan c = is_returned scan && not (is_line_feed c) ≡ false
 
+-- the machine has read these characters of a line and stands so, and the scan keeps count of it
+pub record KeepsUp (scan : Scan) (s : Scanned) (read : List ℕ) : Type 0 where
+  pub sound : IsScanSound s read
+  pub one_line : EndsNoLine 0 s.done
+  pub tallies : Tallies scan s
+  pub stacked : IsStacked scan s
+
 -- what one more character comes to, wherever the machine stands that the scan keeps count of
 abbrev pub TakesNext : Scan → ℕ → Progress → Scan → Type 0
-TakesNext old c result new =
-    (s : Scanned) (read : List ℕ) → IsScanSound s read → EndsNoLine 0 s.done → IsNotEnded old c
-    → Tallies old s → IsStacked old s → Takes old s c result new
+TakesNext old c result new = (s : Scanned) (read : List ℕ) → KeepsUp old s read → IsNotEnded old c → Takes old s c result new
 
 -- the scan of a line's characters stops after these, with `rest` after them
 abbrev pub StopsSo : Mode → Scan → Stop → List ℕ → List ℕ → Type 0

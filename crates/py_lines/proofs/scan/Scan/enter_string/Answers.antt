@@ -8,11 +8,11 @@ pub unreachable-requires : goal.unreachable-requires
 unreachable-requires c = enters_after c.args.self.now.piece.mode c.args.c c.in_default.not-FieldOpened c.in_default.not-FieldEmpty c.requires.enters
 
 pub returns-in-FieldOpened : goal.returns-in-FieldOpened
-returns-in-FieldOpened c = λ s read sound none not_yet tallies stacked.
-    let old = c.args.self.now in
-    takes_opened old c.push_in_string.new.self c.begin.new.self s.done s.mode s.held read c.args.c c.in-FieldOpened.host c.push_in_string.result (sym tallies.counts.mode ∙ c.in-FieldOpened.is) (ap (λ (m : Mode). meet_of m c.args.c) (sym tallies.counts.mode) ∙ c.requires.enters) c.begin.ensures.follows c.push_in_string.ensures sound none tallies stacked
+returns-in-FieldOpened c = λ s read on not_yet.
+    let move = ap (λ (m : Mode). meet_of m c.args.c) (sym on.tallies.counts.mode) ∙ c.requires.enters in
+    takes_opened c.args.self.now s read c.args.c on c.push_in_string.new.self c.begin.new.self move c.in-FieldOpened.host (sym on.tallies.counts.mode ∙ c.in-FieldOpened.is) c.begin.ensures.follows c.push_in_string.result c.push_in_string.ensures
 
 pub returns-in-FieldEmpty : goal.returns-in-FieldEmpty
-returns-in-FieldEmpty c = λ s read sound none not_yet tallies stacked.
-    let old = c.args.self.now in
-    takes_emptied old c.grow.new.self c.begin-in-FieldEmpty.new.self s.done s.mode s.held read c.args.c c.in-FieldEmpty.host (sym tallies.counts.mode ∙ c.in-FieldEmpty.is) (ap (λ (m : Mode). meet_of m c.args.c) (sym tallies.counts.mode) ∙ c.requires.enters) c.begin-in-FieldEmpty.ensures.follows c.grow.ensures sound none tallies stacked
+returns-in-FieldEmpty c = λ s read on not_yet.
+    let move = ap (λ (m : Mode). meet_of m c.args.c) (sym on.tallies.counts.mode) ∙ c.requires.enters in
+    takes_emptied c.args.self.now s read c.args.c on c.grow.new.self c.begin-in-FieldEmpty.new.self move c.in-FieldEmpty.host (sym on.tallies.counts.mode ∙ c.in-FieldEmpty.is) c.begin-in-FieldEmpty.ensures.follows c.grow.ensures

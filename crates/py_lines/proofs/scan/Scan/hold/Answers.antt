@@ -1,4 +1,5 @@
-use Rattle.std.proofs.Common.{◌≡◌, ℕ, ◌<◌, ◌≤◌, ◌⊎◌, List, inl, inr, sym, subst, arith, length-drop, take_all, drop}
+use Rattle.std.proofs.Common.{◌≡◌, ℕ, ◌<◌, ◌≤◌, ◌⊎◌, List, inl, inr, sym, subst}
+use Rattle.std.proofs.lemmas.List.{take_rest}
 use Rattle.py_lines.specs.Private.Run.{with_bytes, HoldsRun}
 use Rattle.py_lines.proofs.LineScan.Runs.{holds_run}
 use Rattle.py_lines.proofs.scan.Scan.hold.Goals as goal
@@ -16,4 +17,4 @@ returns c =
       | then-len-gt0 w ↦ inl (w.if-len-gt0.true, w.self-is)
       | else-len-gt0 w ↦ inr (w.if-len-gt0.false, w.self-is)
     ] in
-    subst (λ (r : List ℕ). HoldsRun old bytes r new) (sym (take_all _ (drop len bytes) (omega (arith, length-drop len bytes)))) (holds_run old mid new bytes len c.hold_run-len.ensures how)
+    subst (λ (r : List ℕ). HoldsRun old bytes r new) (sym (take_rest bytes len)) (holds_run old mid new bytes len c.hold_run-len.ensures how)

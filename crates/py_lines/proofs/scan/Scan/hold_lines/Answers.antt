@@ -1,6 +1,6 @@
-use Rattle.std.proofs.Common.{ℕ, ◌+◌, ◌-◌, ◌++◌, length, take, drop, inr, sym, ap, ◌∙◌, arith, length-drop, take-append-drop, take_all}
+use Rattle.std.proofs.Common.{ℕ, ◌+◌, ◌++◌, take, inr, sym, ap, ◌∙◌, take-append-drop}
 use Rattle.std.specs.List.{count_by}
-use Rattle.std.proofs.lemmas.List.{length-take-le}
+use Rattle.std.proofs.lemmas.List.{length-take-le, take_rest}
 use Rattle.py_lines.specs.Private.Run.{is_feed, is_long_byte}
 use Rattle.py_lines.specs.declared.scan.Scan.{Scan}
 use Rattle.py_lines.proofs.LineScan.AsciiRuns.{all_pass}
@@ -18,7 +18,7 @@ returns-in-Long c =
     inr (record {
       quote = c.in-Long.quote;
       run = run;
-      spell = ap (λ t. run ++ t) (take_all (length bytes - len) (drop len bytes) (omega (arith, length-drop len bytes))) ∙ take-append-drop len bytes;
+      spell = ap (λ t. run ++ t) (take_rest bytes len) ∙ take-append-drop len bytes;
       here = c.in-Long.is;
       parted = c.if-not-self.true;
       all = all_pass (is_long_byte c.in-Long.quote) bytes len text.run.within text.run.each;

@@ -1,79 +1,69 @@
-use Rattle.std.proofs.Common.{◌≡◌, ℕ, ◌-◌, ◌<◌, List, length, take, drop, sym, ap, ◌∙◌, subst, arith, length-append, length-drop, take_all}
+use Rattle.std.proofs.Common.{◌≡◌, ◌-◌, ◌<◌, length, take, drop, sym, ap, ◌∙◌, subst, arith, List, ℕ, length-append, length-drop}
 use Rattle.std.specs.Prelude.{encode_utf8, encode_utf8_all}
 use Rattle.std.specs.Char.{len_utf8}
+use Rattle.std.proofs.lemmas.List.{take_rest}
 use Rattle.std.proofs.lemmas.Str.{length-encode, len_utf8_bounds}
 use Rattle.py_lines.specs.Private.Run.{HoldsRun}
-use Rattle.py_lines.proofs.LineScan.LineStops.{TakesTo}
-use Rattle.py_lines.proofs.LineTokens.StringScans.{InFirst, at_start, begins_string, first_placed, first_quote, first_run, first_stands, passed_all, passed_before, passed_with, still_first}
+use Rattle.py_lines.proofs.LineTokens.StringScans.{InFirst, at_start, begins_string, first_run, first_stands, passed_all, passed_before, passed_with, still_first}
 use Rattle.py_lines.proofs.scan.Scan.take_first.Goals as goal
 use Rattle.py_lines.proofs.scan.Scan.take_first.Goals.{Else-is_free}
 
 -- the bytes after the character
 after_is : (before : List ℕ) (c len : ℕ) → len ≡ len_utf8 c → take (length before - len) (drop len before) ≡ drop (len_utf8 c) before
-after_is before c len is =
-    take_all (length before - len) (drop len before) (omega (arith, length-drop len before)) ∙ ap (λ (n : ℕ). drop n before) is
+after_is before c len is = take_rest before len ∙ ap (λ (n : ℕ). drop n before) is
 
 pub characters-init : goal.characters-init
 characters-init c = record { first = at_start c.args.bytes.now c.requires.start c.requires.stacked c.requires.line }
 
 pub returns-in_default : goal.returns-in_default
 returns-in_default c p is begin =
-    passed_all c.characters.invariant.first (begins_string c.args.bytes.now p is begin) c.in_default.ensures
+    let passed = passed_all c.characters.invariant.first (begins_string c.args.bytes.now p is begin) c.in_default.ensures in
+    (passed.stop, passed.line)
 
 pub returns-then-ends_piece_before : goal.returns-then-ends_piece_before
 returns-then-ends_piece_before c p is begin =
     let text = begins_string c.args.bytes.now p is begin in
     let ends = c.ends_piece_before.ensures.ends c.if-ends_piece_before.true in
-    passed_before c.characters.invariant.first text c.in-Some.ensures ends.0 ends.1
+    let passed = passed_before c.characters.invariant.first text c.in-Some.ensures ends.0 ends.1 in
+    (passed.stop, passed.line)
 
-pub take-requires-clause-bytes : goal.take-requires-clause-bytes
-take-requires-clause-bytes c =
-    let after = drop (len_utf8 c.in-Some.c) c.characters.rest.now in
+pub push-requires : goal.push-requires
+push-requires c =
     let spell = ap length c.in-Some.ensures.spell in
+    let char = length-append (encode_utf8 c.in-Some.c) (drop (len_utf8 c.in-Some.c) c.characters.rest.now) in
     let stands = first_stands c.characters.invariant.first in
-    omega (arith, c.requires.bytes, stands.room, spell, length-append (encode_utf8 c.in-Some.c) after, length-encode c.in-Some.c)
-
-pub take-requires-clause-lines : goal.take-requires-clause-lines
-take-requires-clause-lines c =
-    let stands = first_stands c.characters.invariant.first in
-    omega (arith, c.requires.bytes, stands.room, stands.lines, stands.line)
-
-pub take-requires-clause-placed : goal.take-requires-clause-placed
-take-requires-clause-placed c = first_placed c.characters.invariant.first
+    record {
+      bytes = omega (arith, c.requires.bytes, stands.room, spell, char, length-encode c.in-Some.c);
+      lines = omega (arith, c.requires.bytes, stands.room, stands.lines, stands.line);
+      placed = stands.placed;
+    }
 
 pub returns-then-is_free : goal.returns-then-is_free
 returns-then-is_free c p is begin =
     let text = begins_string c.args.bytes.now p is begin in
     let on = c.ends_piece_before.ensures.goes c.if-ends_piece_before.false in
-    let to : TakesTo c.characters.self c.in-Some.c c.take.result c.take.new.self
-    = record { begun = c.take.ensures.begins; taken = c.take.ensures.takes } in
     let free = sym c.is_free.ensures ∙ c.if-is_free.true in
-    passed_with c.characters.invariant.first c.in-Some.ensures on to text free
+    let passed = passed_with c.characters.invariant.first c.push.result c.push.new.self c.in-Some.ensures on c.push.ensures text free in
+    (passed.stop, passed.line)
 
 -- the string that goes on
-goes : (c : Else-is_free) → InFirst c.args.bytes.now c.take.new.self (drop (len_utf8 c.in-Some.c) c.characters.rest.now)
+goes : (c : Else-is_free) → InFirst c.args.bytes.now c.push.new.self (drop (len_utf8 c.in-Some.c) c.characters.rest.now)
 goes c =
     let (p, is, begin) = c.requires.string in
     let text = begins_string c.args.bytes.now p is begin in
     let on = c.ends_piece_before.ensures.goes c.if-ends_piece_before.false in
-    let to : TakesTo c.characters.self c.in-Some.c c.take.result c.take.new.self
-    = record { begun = c.take.ensures.begins; taken = c.take.ensures.takes } in
-    let other = sym c.is_free.ensures ∙ c.if-is_free.false in
-    still_first c.characters.invariant.first c.in-Some.ensures on to text other
+    still_first c.characters.invariant.first c.push.result c.push.new.self c.in-Some.ensures on c.push.ensures text (sym c.is_free.ensures ∙ c.if-is_free.false)
 
-pub hold-rest-requires-clause-bytes : goal.hold-rest-requires-clause-bytes
-hold-rest-requires-clause-bytes c =
-    let stands = first_stands (goes (goal.at.hold-rest-requires-clause-bytes c).Else-is_free) in
+pub hold-rest-requires : goal.hold-rest-requires
+hold-rest-requires c =
+    let stands = first_stands (goes (goal.at.hold-rest-requires c).Else-is_free) in
     let after = after_is c.characters.rest.now c.in-Some.c c.len_utf8.result c.len_utf8.ensures.value in
-    omega (arith, c.requires.bytes, stands.room, ap length after)
-
-pub hold-rest-requires-clause-quote : goal.hold-rest-requires-clause-quote
-hold-rest-requires-clause-quote c = first_quote (goes (goal.at.hold-rest-requires-clause-quote c).Else-is_free)
+    record { bytes = omega (arith, c.requires.bytes, stands.room, ap length after); quote = stands.quote }
 
 pub characters-preserved : goal.characters-preserved
 characters-preserved c =
     let after = after_is c.characters.rest.now c.in-Some.c c.len_utf8.result c.len_utf8.ensures.value in
-    let Held : List ℕ → Type 0 = λ t. HoldsRun c.take.new.self t c.hold-rest.result.now c.hold-rest.new.self in
+    let Held : List ℕ → Type 0 = λ t. HoldsRun c.push.new.self t c.hold-rest.result.now c.hold-rest.new.self in
     record { first = first_run (goes (goal.at.characters-preserved c).Else-is_free) (subst Held after c.hold-rest.ensures) }
 
 pub slice_bounds-hold-count : goal.slice_bounds-hold-count
