@@ -13,9 +13,7 @@ use Rattle.py_lines.specs.declared.mode.Spelling.{Spelling}
 use Rattle.py_lines.specs.declared.mode.Spelling.TheVariants as spellings
 use Rattle.py_lines.specs.declared.mode.Mode.{Mode}
 use Rattle.py_lines.specs.declared.mode.Mode.TheVariants as modes
-use Rattle.py_lines.specs.declared.mode.Move.TheVariants as moves
-use Rattle.py_lines.specs.Private.Machine.{first_spelling, spelling_with, spelling_on, IsFull, move_of}
-use Rattle.py_lines.specs.Private.ScanMachine.{meet_of}
+use Rattle.py_lines.specs.Private.Machine.{first_spelling, spelling_with, spelling_on, IsFull}
 use Rattle.py_lines.specs.Private.Run.{is_ascii_word, is_free, word_spelling}
 use Rattle.py_lines.proofs.Text.CharacterTests.{none_of}
 use Rattle.py_lines.proofs.LineScan.Runs.{stays-no_break, word_byte_low, word_byte_starts}
@@ -57,20 +55,12 @@ low_encodes passes (c ∷ cs) low all =
       and_from _ _ (ascii_scalar c (low c parts.0)) others.1,
     )
 
-pub free_breaks : (m : Mode) (c : ℕ) → m ≡ modes.Free → meet_of m c ≡ moves.Breaks
-unfolding meet_of move_of
-free_breaks m c is = ap (λ n. meet_of n c) is
-
 -- a word
 pub word_starts : (c : ℕ) → is_ascii_word c ≡ true → is_word_start c ≡ true
 word_starts c h = word_byte_starts c (word_byte_low c h) ∙ h
 
 pub word_whole : (c : ℕ) → is_ascii_word c ≡ true → not (is_break c) ≡ true
 word_whole c h = ap not (stays-no_break (modes.Word spellings.Name) c h)
-
-pub operator-not-quote : (c : ℕ) → is_operator c ≡ true → is_quote c ≡ false
-unfolding is_operator is_quote
-operator-not-quote c h = none_of is_quote (codes "+-*/%@&|^~<>=!()[]{},:.;") c refl h
 
 pub space-not-quote : (c : ℕ) → is_space c ≡ true → is_quote c ≡ false
 unfolding is_space is_quote

@@ -1,5 +1,5 @@
 -- The scan of a line's characters, one after another.
-use Rattle.std.proofs.Common.{◌≡◌, ℕ, ◌+◌, inl, inr, true, false, ◌&&◌, Some, List, [], ◌∷◌, ◌++◌, refl, sym, ap, ◌∙◌, subst, append-nil, arith}
+use Rattle.std.proofs.Common.{◌≡◌, ℕ, ◌+◌, inl, inr, true, false, Some, List, [], ◌∷◌, ◌++◌, refl, sym, ap, ◌∙◌, subst, append-nil, arith}
 use Rattle.std.specs.Prelude.{encode_utf8_all}
 use Rattle.std.proofs.lemmas.Bool.{both_ways, and_right, false_from_ne_true}
 use Rattle.std.proofs.lemmas.Str.{encode_ascii, encodes_same}
@@ -48,13 +48,9 @@ at_line_end m old new read rest c len way start takes =
       tallies = ended.tallies;
     }
 
--- CR that no LF follows
-no_feed : (text rest : List ℕ) → begins is_line_feed rest ≡ false → ends is_return text && begins is_line_feed rest ≡ false
-no_feed text rest none = and_right _ _ none
-
 -- what may follow a line that CR ends, which the machine holds yet
 pub returned_fit : (done : List Piece) (held read more : List ℕ) → IsScanSound (scanned done modes.Return held) read → held ≡ 13 ∷ [] → begins is_line_feed more ≡ false → AreReadBefore (done ++ piece line_end held ∷ []) more
-returned_fit done held read more sound text none = AreReadBefore-push done line_end held more (sound.fit more) (return text) (no_feed held more none) (follows_any done line_end held refl)
+returned_fit done held read more sound text none = AreReadBefore-push done line_end held more (sound.fit more) (return text) (and_right _ _ none) (follows_any done line_end held refl)
 
 pub returned : (m : Mode) (old : Scan) (read rest : List ℕ) (way : IsUnderWay m old read) → IsScanSound (line_start m) [] → is_return_mode old.piece.mode ≡ true → none_open (stack_of old.brackets) ≡ true → ((after : List ℕ) → encode_utf8_all after ≡ rest → begins is_line_feed after ≡ false) → IsAtLineEnd m (freed old) read rest 1
 returned m old read rest way start returns empty follows =

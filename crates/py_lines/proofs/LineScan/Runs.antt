@@ -3,7 +3,8 @@ use Rattle.std.proofs.Common.{◌≡◌, ℕ, ◌+◌, ◌<◌, ◌≤◌, ◌�
 use Rattle.std.specs.Prelude.{encode_utf8_all, encode_utf8, codes, nat_le, if◌then◌else◌}
 use Rattle.std.specs.Char.{IsScalar}
 use Rattle.std.specs.List.{list_all}
-use Rattle.std.proofs.lemmas.Bool.{and_parts, and_from, cases_lt, both_ways, eqb-true, false_from_ne_true, not-true, leb-false}
+use Rattle.std.proofs.lemmas.Bool.{and_parts, and_from, cases_lt, both_ways, eqb-true, false_from_ne_true, not-true, leb-false, or_parts}
+use Rattle.std.proofs.Math.Bool.{or_assoc, or_comm}
 use Rattle.std.proofs.lemmas.List.{get_or-append-add, length-take-le, get_or-take}
 use Rattle.std.proofs.lemmas.Bool.Decides.{nat_tests}
 use Rattle.std.proofs.lemmas.Str.{encodes-append, length-encode, len_utf8_bounds, char_from_byte, byte_from_char}
@@ -49,17 +50,12 @@ word_byte_continues c low = is_xid_continue-ascii c low
 -- and begins one
 pub word_byte_starts : (c : ℕ) → c < 128 → is_word_start c ≡ is_ascii_word c
 unfolding is_ascii_word is_word_start is_digit
-word_byte_starts c low = ap (λ (b : Bool). (b || (c == 95)) || (nat_le 48 c && nat_le c 57)) (is_xid_start-ascii c low) ∙ go (nat_le 48 c && nat_le c 57) (nat_le 65 c && nat_le c 90) (nat_le 97 c && nat_le c 122) (c == 95)
-  where
-    go : (d u l e : Bool) → ((u || l) || e) || d ≡ ((d || u) || l) || e
-    go true true l e = refl
-    go true false true e = refl
-    go true false false true = refl
-    go true false false false = refl
-    go false true l e = refl
-    go false false true e = refl
-    go false false false true = refl
-    go false false false false = refl
+word_byte_starts c low =
+    let digit = nat_le 48 c && nat_le c 57 in
+    let capital = nat_le 65 c && nat_le c 90 in
+    let small = nat_le 97 c && nat_le c 122 in
+    ap (λ (b : Bool). (b || (c == 95)) || digit) (is_xid_start-ascii c low) ∙ or_comm ((capital || small) || (c == 95)) digit
+    ∙ sym (or_assoc digit (capital || small) (c == 95)) ∙ ap (λ (b : Bool). b || (c == 95)) (sym (or_assoc digit capital small))
 
 word_byte-no_break : (c : ℕ) → is_break c ≡ true → is_ascii_word c ≡ false
 unfolding is_ascii_word is_break
@@ -71,13 +67,10 @@ space-no_break c h = none_of is_space (codes "\n\r") c refl h
 
 pub body_parts : (q c : ℕ) → is_body_byte q c ≡ true → (c == q ≡ false) × (is_backslash c ≡ false) × (is_break c ≡ false)
 unfolding is_body_byte is_backslash is_break
-body_parts q c h = go (c == q) (c == 92) (is_one_of (codes "\n\r") c) h
-  where
-    go : (a b d : Bool) → not (a || (b || d)) ≡ true → (a ≡ false) × (b || false ≡ false) × (d ≡ false)
-    go true b d e = absurd (both_ways _ refl e)
-    go false true d e = absurd (both_ways _ refl e)
-    go false false true e = absurd (both_ways _ refl e)
-    go false false false e = (refl, refl, refl)
+body_parts q c h =
+    let parts = or_parts (c == q) (is_one_of (codes "\\\n\r") c) (not-true _ h) in
+    let ends = or_parts (c == 92) (is_one_of (codes "\n\r") c) parts.1 in
+    (parts.0, ap (λ (b : Bool). b || false) ends.0, ends.1)
 
 -- what stays grows the open piece, in its mode
 pub stays-grows : (m : Mode) (depth : ℕ) (held : List ℕ) (c : ℕ) → stays m c ≡ true → move_in m depth held c ≡ moves.Grows m

@@ -1,10 +1,10 @@
 -- Whole characters that leave the open piece as it is.
-use Rattle.std.proofs.Common.{◌≡◌, ℕ, ◌+◌, ◌-◌, ◌<◌, ◌≤◌, Bool, true, false, ◌&&◌, Some, List, refl, length, take, drop, slice_index, inl, inr, sym, ap, ◌∙◌, subst, arith, length-drop, length-take, take_all}
+use Rattle.std.proofs.Common.{◌≡◌, ℕ, ◌+◌, ◌-◌, ◌<◌, ◌≤◌, Bool, true, false, Some, List, length, take, drop, slice_index, inl, inr, sym, ap, ◌∙◌, subst, arith, length-drop, length-take}
 use Rattle.std.specs.Prelude.{IsUtf8, nat_lt}
 use Rattle.std.specs.Char.{is_ascii}
-use Rattle.std.proofs.lemmas.Bool.{and_parts, both_ways, cases_lt}
+use Rattle.std.proofs.lemmas.Bool.{and_from, and_parts, both_ways, cases_lt, false_from_ne_true, lt-ltb, ltb-true}
 use Rattle.std.proofs.lemmas.Bool.Decides.{nat_tests}
-use Rattle.std.proofs.lemmas.List.{length-take-le, get_or-take, get_or-drop, take-take}
+use Rattle.std.proofs.lemmas.List.{length-take-le, get_or-take, get_or-drop, take-take, take_rest}
 use Rattle.std.proofs.lemmas.List.Elements.{All-from_get_or}
 use Rattle.std.proofs.lemmas.Str.{IsUtf8-from_ascii, IsUtf8-append}
 use Rattle.std.proofs.lemmas.Str.Ascii.{IsAscii-from_all}
@@ -26,11 +26,8 @@ ascii_utf8 bytes n within low =
 pub text_spans : (q : ℕ) (bytes : List ℕ) (n : ℕ) → IsRunOf (is_text_byte q) bytes n → Spans (is_body_byte q) bytes n
 text_spans q bytes n is = record {
   run = record { within = is.within; each = λ i less. (and_parts (is_body_byte q (slice_index bytes i)) (nat_lt (slice_index bytes i) 128) (is.each i less)).0 };
-  utf8 = ascii_utf8 bytes n is.within (λ i less. low (slice_index bytes i) (and_parts (is_body_byte q (slice_index bytes i)) (nat_lt (slice_index bytes i) 128) (is.each i less)).1);
+  utf8 = ascii_utf8 bytes n is.within (λ i less. ltb-true (slice_index bytes i) 128 (and_parts (is_body_byte q (slice_index bytes i)) (nat_lt (slice_index bytes i) 128) (is.each i less)).1);
 }
-  where
-    low : (b : ℕ) → nat_lt b 128 ≡ true → b < 128
-    low b h = grind (arith, nat_tests)
 
 -- a run of ASCII
 low_spans : (passes : ℕ → Bool) → ((c : ℕ) → passes c ≡ true → c < 128) → (bytes : List ℕ) (n : ℕ) → IsRunOf passes bytes n → Spans passes bytes n
@@ -57,7 +54,7 @@ run_spans passes bytes r n run within utf8 =
 -- characters after characters
 pub spans_on : (passes : ℕ → Bool) (bytes : List ℕ) (n m : ℕ) → Spans passes bytes n → Spans passes (take (length bytes - n) (drop n bytes)) m → Spans passes bytes (n + m)
 spans_on passes bytes n m first taken =
-    let more : Spans passes (drop n bytes) m = subst (λ (t : List ℕ). Spans passes t m) (take_all (length bytes - n) (drop n bytes) (omega (arith, length-drop n bytes))) taken in
+    let more : Spans passes (drop n bytes) m = subst (λ (t : List ℕ). Spans passes t m) (take_rest bytes n) taken in
     record {
       run = record {
         within = omega (arith, first.run.within, more.run.within, length-drop n bytes);
@@ -72,18 +69,10 @@ spans_on passes bytes n m first taken =
 
 -- a comment that a line end follows, where it is ASCII
 remark_parts : (c : ℕ) → is_remark_byte c ≡ true → (is_comment_byte c ≡ true) × (c < 128)
-remark_parts c h = let parts = and_parts (is_comment_byte c) (nat_lt c 128) h in (parts.0, low parts.1)
-  where
-    low : nat_lt c 128 ≡ true → c < 128
-    low is = grind (arith, nat_tests)
+remark_parts c h = let parts = and_parts (is_comment_byte c) (nat_lt c 128) h in (parts.0, ltb-true c 128 parts.1)
 
 comment_ends : (c : ℕ) → c < 128 → is_remark_byte c ≡ false → is_comment_byte c ≡ false
-comment_ends c less none = go (is_comment_byte c) (nat_lt c 128) (grind (arith, nat_tests)) none
-  where
-    go : (a b : Bool) → b ≡ true → a && b ≡ false → a ≡ false
-    go true true is h = h
-    go true false is h = absurd (both_ways _ refl is)
-    go false b is h = refl
+comment_ends c less none = false_from_ne_true _ (λ is. both_ways _ none (and_from _ _ is (lt-ltb c 128 less)))
 
 pub ascii_comment : (bytes : List ℕ) (n : ℕ) → IsRunOf is_remark_byte bytes n → n < length bytes → slice_index bytes n < 128 → IsWholeComment bytes (Some n)
 ascii_comment bytes n is more low = (
@@ -98,9 +87,8 @@ ascii_low c h = grind (arith, nat_tests)
 -- and where ASCII begins it
 pub wide_comment : (bytes : List ℕ) (n m : ℕ) → IsRunOf is_remark_byte bytes n → IsRunOf is_comment_byte (take (length bytes - n) (drop n bytes)) m → IsUtf8 (take m (take (length bytes - n) (drop n bytes))) → n + m < length bytes → IsWholeComment bytes (Some (n + m))
 wide_comment bytes n m is run utf8 more =
-    let rest_is : take (length bytes - n) (drop n bytes) ≡ drop n bytes = take_all (length bytes - n) (drop n bytes) (omega (arith, length-drop n bytes)) in
     let first = ascii_utf8 bytes n is.within (λ i less. (remark_parts (slice_index bytes i) (is.each i less)).1) in
-    let later : IsUtf8 (take m (drop n bytes)) = subst (λ (t : List ℕ). IsUtf8 (take m t)) rest_is utf8 in (
+    let later : IsUtf8 (take m (drop n bytes)) = subst (λ (t : List ℕ). IsUtf8 (take m t)) (take_rest bytes n) utf8 in (
       run_goes_on is_comment_byte bytes n m is.within (λ i less. (remark_parts (slice_index bytes i) (is.each i less)).0) run,
       subst IsUtf8 (sym (take-add n m bytes)) (IsUtf8-append (take n bytes) (take m (drop n bytes)) first later),
       more,

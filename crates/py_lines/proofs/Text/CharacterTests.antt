@@ -1,5 +1,5 @@
 -- What a test of a character says where the character is one of a list.
-use Rattle.std.proofs.Common.{◌≡◌, ℕ, ◌<◌, leb, Bool, true, false, ◌||◌, ◌&&◌, eqb, List, [], ◌∷◌, refl, sym, ap, ◌∙◌, subst, ⊎_elim, inl, inr, ◌⊎◌}
+use Rattle.std.proofs.Common.{◌≡◌, ℕ, ◌<◌, leb, Bool, true, false, ◌||◌, ◌&&◌, eqb, List, [], ◌∷◌, refl, sym, ap, ◌∙◌, subst, ⊎_elim}
 use Rattle.std.specs.Prelude.{codes}
 use Rattle.std.specs.List.{list_any, list_all}
 use Rattle.std.proofs.lemmas.Bool.{leb-false, or_cases, or_parts, and_parts, and_from, eqb-true, false_from_ne_true, both_ways}
@@ -98,44 +98,39 @@ unfolding is_u is_digit
 u-not-digit c h = none_of is_digit (codes "uU") c refl h
 
 -- the letters of prefixes
-r-word : (c : ℕ) → is_r c ≡ true → (is_word_start c ≡ true) × (is_word_character c ≡ true)
+abbrev BeginsWord : ℕ → Type 0
+BeginsWord c = (is_word_start c ≡ true) × (is_word_character c ≡ true)
+
+r-word : (c : ℕ) → is_r c ≡ true → BeginsWord c
 unfolding unicode_ident is_r is_word_start is_word_character is_digit
-r-word c h = each_of (λ x. (is_word_start x ≡ true) × (is_word_character x ≡ true)) (codes "rR") c ((refl, refl), ((refl, refl), tt)) h
+r-word c h = each_of BeginsWord (codes "rR") c ((refl, refl), ((refl, refl), tt)) h
 
-b-word : (c : ℕ) → is_b c ≡ true → (is_word_start c ≡ true) × (is_word_character c ≡ true)
+b-word : (c : ℕ) → is_b c ≡ true → BeginsWord c
 unfolding unicode_ident is_b is_word_start is_word_character is_digit
-b-word c h = each_of (λ x. (is_word_start x ≡ true) × (is_word_character x ≡ true)) (codes "bB") c ((refl, refl), ((refl, refl), tt)) h
+b-word c h = each_of BeginsWord (codes "bB") c ((refl, refl), ((refl, refl), tt)) h
 
-f-word : (c : ℕ) → is_f c ≡ true → (is_word_start c ≡ true) × (is_word_character c ≡ true)
+f-word : (c : ℕ) → is_f c ≡ true → BeginsWord c
 unfolding unicode_ident is_f is_word_start is_word_character is_digit
-f-word c h = each_of (λ x. (is_word_start x ≡ true) × (is_word_character x ≡ true)) (codes "fF") c ((refl, refl), ((refl, refl), tt)) h
+f-word c h = each_of BeginsWord (codes "fF") c ((refl, refl), ((refl, refl), tt)) h
 
-b_or_f-word : (c : ℕ) → is_b c || is_f c ≡ true → (is_word_start c ≡ true) × (is_word_character c ≡ true)
-b_or_f-word c h = ⊎_elim (b-word c) (f-word c) (or_cases (is_b c) (is_f c) h)
-
-u-word : (c : ℕ) → is_u c ≡ true → (is_word_start c ≡ true) × (is_word_character c ≡ true)
+u-word : (c : ℕ) → is_u c ≡ true → BeginsWord c
 unfolding unicode_ident is_u is_word_start is_word_character is_digit
-u-word c h = each_of (λ x. (is_word_start x ≡ true) × (is_word_character x ≡ true)) (codes "uU") c ((refl, refl), ((refl, refl), tt)) h
+u-word c h = each_of BeginsWord (codes "uU") c ((refl, refl), ((refl, refl), tt)) h
+
+either-word : (p q : ℕ → Bool) (c : ℕ) → (p c ≡ true → BeginsWord c) → (q c ≡ true → BeginsWord c) → p c || q c ≡ true → BeginsWord c
+either-word p q c one other h = ⊎_elim one other (or_cases (p c) (q c) h)
 
 -- a prefix is a word
 pub prefix_word : (a : ℕ) (bs : List ℕ) → is_prefix (a ∷ bs) ≡ true → (is_word_start a ≡ true) × (list_all is_word_character bs ≡ true)
-prefix_word a [] h = (go (or_cases (is_r a || is_b a || is_f a) (is_u a) h), refl)
-  where
-    r_or_b : (is_r a ≡ true) ⊎ (is_b a ≡ true) → is_word_start a ≡ true
-    r_or_b (inl r) = (r-word a r).0
-    r_or_b (inr b) = (b-word a b).0
-
-    not_u : (is_r a || is_b a ≡ true) ⊎ (is_f a ≡ true) → is_word_start a ≡ true
-    not_u (inl other) = r_or_b (or_cases (is_r a) (is_b a) other)
-    not_u (inr f) = (f-word a f).0
-
-    go : (is_r a || is_b a || is_f a ≡ true) ⊎ (is_u a ≡ true) → is_word_start a ≡ true
-    go (inl other) = not_u (or_cases (is_r a || is_b a) (is_f a) other)
-    go (inr u) = (u-word a u).0
+prefix_word a [] h =
+    let r_or_b = either-word is_r is_b a (r-word a) (b-word a) in
+    let not_u = either-word (λ c. is_r c || is_b c) is_f a r_or_b (f-word a) in
+    ((either-word (λ c. is_r c || is_b c || is_f c) is_u a not_u (u-word a) h).0, refl)
 prefix_word a (b ∷ []) h =
+    let b_or_f : (c : ℕ) → is_b c || is_f c ≡ true → BeginsWord c = λ c. either-word is_b is_f c (b-word c) (f-word c) in
     ⊎_elim
-    (λ both. ((r-word a (and_parts (is_r a) (is_b b || is_f b) both).0).0, and_from (is_word_character b) true (b_or_f-word b (and_parts (is_r a) (is_b b || is_f b) both).1).1 refl))
-    (λ both. ((b_or_f-word a (and_parts (is_b a || is_f a) (is_r b) both).0).0, and_from (is_word_character b) true (r-word b (and_parts (is_b a || is_f a) (is_r b) both).1).1 refl)) (or_cases (is_r a && (is_b b || is_f b)) ((is_b a || is_f a) && is_r b) h)
+    (λ both. let parts = and_parts (is_r a) (is_b b || is_f b) both in ((r-word a parts.0).0, and_from (is_word_character b) true (b_or_f b parts.1).1 refl))
+    (λ both. let parts = and_parts (is_b a || is_f a) (is_r b) both in ((b_or_f a parts.0).0, and_from (is_word_character b) true (r-word b parts.1).1 refl)) (or_cases (is_r a && (is_b b || is_f b)) ((is_b a || is_f a) && is_r b) h)
 prefix_word a (b ∷ c ∷ cs) h = absurd (both_ways _ refl h)
 
 pub quote-not-word : (q : ℕ) → is_quote q ≡ true → is_word_character q ≡ false

@@ -5,7 +5,6 @@ use Rattle.std.specs.Str.{StartsWithNoChar, IsUtf8, IsValidUpTo}
 use Rattle.py_lines.specs.Private.Feed.{TellsHopeless}
 use Rattle.std.specs.Str.Lossy.{utf8_error_len, error_len_of_some, error_len_after_one, error_len_after_two, second_byte_min, second_byte_max}
 use Rattle.std.specs.Int.{is_in_range, IsInRange, IsOutOfRange}
-use Rattle.std.proofs.Math.ListN.{get_or}
 use Rattle.std.proofs.lemmas.Bool.{cond_both, both_ways, eqb-true, eq-eqb, ltb-true, leb-true, leb-false, cases_lt, and_parts}
 use Rattle.std.proofs.Math.Utf8.{next, low_scalar}
 use Rattle.py_lines.proofs.Text.Utf8Shapes.{Follows, no_char, one, two, three, four, high_scalar}
@@ -17,65 +16,27 @@ abbrev In : ℕ → ℕ → Type 0
 In x y = (second_byte_min x ≤ y) × (y ≤ second_byte_max x)
 
 -- what the bounds of the second byte are
-data Least (x m : ℕ) : Type 0 where
-  e0 : x ≡ 224 → m ≡ 160 → Least x m
-  f0 : x ≡ 240 → m ≡ 144 → Least x m
-  other : (x ≡ 224 → ⊥) → (x ≡ 240 → ⊥) → m ≡ 128 → Least x m
+record Bounds (x m n : ℕ) : Type 0 where
+  least : ((x ≡ 224) × (m ≡ 160)) ⊎ (((x ≡ 240) × (m ≡ 144)) ⊎ ((x ≡ 224 → ⊥) × (x ≡ 240 → ⊥) × (m ≡ 128)))
+  most : ((x ≡ 237) × (n ≡ 159)) ⊎ (((x ≡ 244) × (n ≡ 143)) ⊎ ((x ≡ 237 → ⊥) × (x ≡ 244 → ⊥) × (n ≡ 191)))
 
-data Most (x m : ℕ) : Type 0 where
-  ed : x ≡ 237 → m ≡ 159 → Most x m
-  f4 : x ≡ 244 → m ≡ 143 → Most x m
-  other_most : (x ≡ 237 → ⊥) → (x ≡ 244 → ⊥) → m ≡ 191 → Most x m
+-- one of two values, or else another
+which : (x a b k l m : ℕ) → let v : ℕ = cond (x == a) k (cond (x == b) l m) in ((x ≡ a) × (v ≡ k)) ⊎ (((x ≡ b) × (v ≡ l)) ⊎ ((x ≡ a → ⊥) × (x ≡ b → ⊥) × (v ≡ m)))
+which x a b k l m =
+    let P : ℕ → Type 0 = λ v. ((x ≡ a) × (v ≡ k)) ⊎ (((x ≡ b) × (v ≡ l)) ⊎ ((x ≡ a → ⊥) × (x ≡ b → ⊥) × (v ≡ m))) in
+    cond_both (x == a) k (cond (x == b) l m) P (λ h. inl (eqb-true x a h, refl))
+    (λ no. cond_both (x == b) l m P (λ h. inr (inl (eqb-true x b h, refl))) (λ also. inr (inr ((λ e. both_ways _ no (eq-eqb x a e)), (λ e. both_ways _ also (eq-eqb x b e)), refl))))
 
-not_equal : (a b : ℕ) → a == b ≡ false → a ≡ b → ⊥
-not_equal a b h same = both_ways _ h (eq-eqb a b same)
+bounds : (x : ℕ) → Bounds x (second_byte_min x) (second_byte_max x)
+bounds x = record { least = which x 224 240 160 144 128; most = which x 237 244 159 143 191 }
 
-least : (x : ℕ) → Least x (second_byte_min x)
-least x =
-    cond_both (x == 224) 160 (cond (x == 240) 144 128) (Least x) (λ h. Least.e0 (eqb-true x 224 h) refl)
-    (λ no. cond_both (x == 240) 144 128 (Least x) (λ h. Least.f0 (eqb-true x 240 h) refl) (λ also. Least.other (not_equal x 224 no) (not_equal x 240 also) refl))
-
-most : (x : ℕ) → Most x (second_byte_max x)
-most x =
-    cond_both (x == 237) 159 (cond (x == 244) 143 191) (Most x) (λ h. Most.ed (eqb-true x 237 h) refl)
-    (λ no. cond_both (x == 244) 143 191 (Most x) (λ h. Most.f4 (eqb-true x 244 h) refl) (λ also. Most.other_most (not_equal x 237 no) (not_equal x 244 also) refl))
-
--- what a second byte in these bounds is
-record Second (x y : ℕ) : Type 0 where
-  follows : Follows y
-  e0 : x ≡ 224 → 160 ≤ y
-  ed : x ≡ 237 → y < 160
-  f0 : x ≡ 240 → 144 ≤ y
-  f4 : x ≡ 244 → y < 144
-
-second : (x y m n : ℕ) → Least x m → Most x n → m ≤ y → y ≤ n → Second x y
-second x y m n (Least.e0 a b) (Most.ed c d) p q = absurd (omega arith)
-second x y m n (Least.e0 a b) (Most.f4 c d) p q = absurd (omega arith)
-second x y m n (Least.e0 a b) (Most.other_most c d e) p q = record { follows = (omega arith, omega arith); e0 = λ h. omega arith; ed = λ h. absurd (c h); f0 = λ h. absurd (omega arith); f4 = λ h. absurd (d h) }
-second x y m n (Least.f0 a b) (Most.ed c d) p q = absurd (omega arith)
-second x y m n (Least.f0 a b) (Most.f4 c d) p q = absurd (omega arith)
-second x y m n (Least.f0 a b) (Most.other_most c d e) p q = record { follows = (omega arith, omega arith); e0 = λ h. absurd (omega arith); ed = λ h. absurd (c h); f0 = λ h. omega arith; f4 = λ h. absurd (d h) }
-second x y m n (Least.other a b l) (Most.ed c d) p q = record { follows = (omega arith, omega arith); e0 = λ h. absurd (a h); ed = λ h. omega arith; f0 = λ h. absurd (b h); f4 = λ h. absurd (omega arith) }
-second x y m n (Least.other a b l) (Most.f4 c d) p q = record { follows = (omega arith, omega arith); e0 = λ h. absurd (a h); ed = λ h. absurd (omega arith); f0 = λ h. absurd (b h); f4 = λ h. omega arith }
-second x y m n (Least.other a b l) (Most.other_most c d e) p q = record { follows = (omega arith, omega arith); e0 = λ h. absurd (a h); ed = λ h. absurd (c h); f0 = λ h. absurd (b h); f4 = λ h. absurd (d h) }
-
-in_second : (x y : ℕ) → In x y → Second x y
-in_second x y h = second x y (second_byte_min x) (second_byte_max x) (least x) (most x) h.0 h.1
+-- so it follows a first one
+follows_in : (x y : ℕ) → In x y → Follows y
+follows_in x y i = let b = bounds x in (omega arith, omega arith)
 
 -- the least second byte is in its bounds
 least_in : (x : ℕ) → In x (second_byte_min x)
-least_in x = go (second_byte_min x) (second_byte_max x) (least x) (most x)
-  where
-    go : (m n : ℕ) → Least x m → Most x n → (m ≤ m) × (m ≤ n)
-    go m n (Least.e0 a b) (Most.ed c d) = absurd (omega arith)
-    go m n (Least.e0 a b) (Most.f4 c d) = absurd (omega arith)
-    go m n (Least.e0 a b) (Most.other_most c d e) = (omega arith, omega arith)
-    go m n (Least.f0 a b) (Most.ed c d) = absurd (omega arith)
-    go m n (Least.f0 a b) (Most.f4 c d) = absurd (omega arith)
-    go m n (Least.f0 a b) (Most.other_most c d e) = (omega arith, omega arith)
-    go m n (Least.other a b l) (Most.ed c d) = (omega arith, omega arith)
-    go m n (Least.other a b l) (Most.f4 c d) = (omega arith, omega arith)
-    go m n (Least.other a b l) (Most.other_most c d e) = (omega arith, omega arith)
+least_in x = let b = bounds x in (omega arith, omega arith)
 
 -- bytes that are a character
 pub one_char : (x : ℕ) (r : List ℕ) → x < 128 → StartsWithNoChar (x ∷ r) → ⊥
@@ -88,24 +49,23 @@ two_char x y r low high f none =
     let q : y ≡ next c = omega arith in
     none c r (low_scalar c (omega arith)) ((λ i. p i ∷ q i ∷ r) ∙ ap (λ l. l ++ r) (sym (two c (omega arith) (omega arith))))
 
-three_char : (x y z : ℕ) (r : List ℕ) → 224 ≤ x → x < 240 → Second x y → Follows z → StartsWithNoChar (x ∷ y ∷ z ∷ r) → ⊥
-three_char x y z r low high s f none =
-    let e = s.follows in
+three_char : (x y z : ℕ) (r : List ℕ) → 224 ≤ x → x < 240 → In x y → Follows z → StartsWithNoChar (x ∷ y ∷ z ∷ r) → ⊥
+three_char x y z r low high i f none =
+    let b = bounds x in
     let c = (x - 224) * 4096 + (y - 128) * 64 + (z - 128) in
-    let least : 2048 ≤ c = ⊎_elim (λ (h : x < 225). let t = s.e0 (omega arith) in omega arith) (λ (h : 225 ≤ x). omega arith) (cases_lt x 225) in
-    let apart : (c < 55296) ⊎ (57344 ≤ c) = ⊎_elim
-    (λ (h : x < 237). inl (omega arith))
-    (λ (h : 237 ≤ x). ⊎_elim (λ (g : x < 238). let t = s.ed (omega arith) in inl (omega arith)) (λ (g : 238 ≤ x). inr (omega arith)) (cases_lt x 238)) (cases_lt x 237) in
+    let least : 2048 ≤ c = omega arith in
+    let apart : (c < 55296) ⊎ (57344 ≤ c) = ⊎_elim inl (λ (h : 55296 ≤ c). inr (omega arith)) (cases_lt c 55296) in
     let p : x ≡ 224 + c / 4096 = omega arith in
     let q : y ≡ next (c / 64) = omega arith in
     let t : z ≡ next c = omega arith in
     none c r (⊎_elim (λ (h : c < 55296). low_scalar c h) (λ (h : 57344 ≤ c). high_scalar c h (omega arith)) apart) ((λ i. p i ∷ q i ∷ t i ∷ r) ∙ ap (λ l. l ++ r) (sym (three c least (omega arith))))
 
-four_char : (x y z w : ℕ) (r : List ℕ) → 240 ≤ x → x ≤ 244 → Second x y → Follows z → Follows w → StartsWithNoChar (x ∷ y ∷ z ∷ w ∷ r) → ⊥
-four_char x y z w r low high s f g none =
-    let e = s.follows in
-    let least : 16 ≤ (x - 240) * 64 + (y - 128) = ⊎_elim (λ (h : x < 241). let t = s.f0 (omega arith) in omega arith) (λ (h : 241 ≤ x). omega arith) (cases_lt x 241) in
-    let most : (x - 240) * 64 + (y - 128) < 272 = ⊎_elim (λ (h : x < 244). omega arith) (λ (h : 244 ≤ x). let t = s.f4 (omega arith) in omega arith) (cases_lt x 244) in
+four_char : (x y z w : ℕ) (r : List ℕ) → 240 ≤ x → x ≤ 244 → In x y → Follows z → Follows w → StartsWithNoChar (x ∷ y ∷ z ∷ w ∷ r) → ⊥
+four_char x y z w r low high i f g none =
+    let b = bounds x in
+    let e = follows_in x y i in
+    let least : 16 ≤ (x - 240) * 64 + (y - 128) = omega arith in
+    let most : (x - 240) * 64 + (y - 128) < 272 = omega arith in
     let c = (x - 240) * 262144 + (y - 128) * 4096 + (z - 128) * 64 + (w - 128) in
     let p : x ≡ 240 + c / 262144 = omega arith in
     let q : y ≡ next (c / 4096) = omega arith in
@@ -115,16 +75,16 @@ four_char x y z w r low high s f g none =
     none c r (high_scalar c (omega arith) (omega arith)) ((λ i. p i ∷ q i ∷ t i ∷ u i ∷ r) ∙ ap (λ l. l ++ r) (sym (four c (omega arith))))
 
 -- bytes that more bytes complete
-part_three : (x y z : ℕ) → 194 ≤ x → x ≤ 244 → Second x y → Follows z → ¬ (IsHopeless (x ∷ y ∷ z ∷ []))
+part_three : (x y z : ℕ) → 194 ≤ x → x ≤ 244 → In x y → Follows z → ¬ (IsHopeless (x ∷ y ∷ z ∷ []))
 part_three x y z low high s f hopeless =
-    ⊎_elim (λ (h : x < 224). two_char x y (z ∷ []) low h s.follows (hopeless []))
+    ⊎_elim (λ (h : x < 224). two_char x y (z ∷ []) low h (follows_in x y s) (hopeless []))
     (λ (h : 224 ≤ x). ⊎_elim (λ (g : x < 240). three_char x y z [] h g s f (hopeless [])) (λ (g : 240 ≤ x). four_char x y z 128 [] g high s f (omega arith, omega arith) (hopeless (128 ∷ []))) (cases_lt x 240)) (cases_lt x 224)
 
-part_two : (x y : ℕ) → 194 ≤ x → x ≤ 244 → Second x y → ¬ (IsHopeless (x ∷ y ∷ []))
+part_two : (x y : ℕ) → 194 ≤ x → x ≤ 244 → In x y → ¬ (IsHopeless (x ∷ y ∷ []))
 part_two x y low high s hopeless = part_three x y 128 low high s (omega arith, omega arith) (λ more. hopeless (128 ∷ more))
 
 part_one : (x : ℕ) → 194 ≤ x → x ≤ 244 → ¬ (IsHopeless (x ∷ []))
-part_one x low high hopeless = part_two x (second_byte_min x) low high (in_second x (second_byte_min x) (least_in x)) (λ more. hopeless (second_byte_min x ∷ more))
+part_one x low high hopeless = part_two x (second_byte_min x) low high (least_in x) (λ more. hopeless (second_byte_min x ∷ more))
 
 pub part_none : ¬ (IsHopeless [])
 part_none hopeless = one_char 65 [] (omega arith) (hopeless (65 ∷ []))
@@ -135,16 +95,13 @@ hopeless_one x r high out = no_char (x ∷ r) (λ g.
     let s = g.second high in
     ⊎_elim (λ (h : x < 194). omega arith) (λ (h : 244 < x). let t = g.fourth (omega arith) in omega arith) out)
 
-hopeless_two : (x y : ℕ) (r : List ℕ) → 194 ≤ x → x ≤ 244 → (m n : ℕ) → Least x m → Most x n → (y < m) ⊎ (n < y) → StartsWithNoChar (x ∷ y ∷ r)
-hopeless_two x y r low high m n l u out = no_char (x ∷ y ∷ r) (λ g. go m n l u out (g.second (omega arith)).2 g.in_three g.fourth)
-  where
-    go : (m n : ℕ) → Least x m → Most x n → (y < m) ⊎ (n < y) → Follows y → (224 ≤ x → x < 240 → let high : ℕ = (x - 224) * 64 + (y - 128) in (32 ≤ high) × ((high < 864) ⊎ (896 ≤ high))) → (240 ≤ x → (3 < length (x ∷ y ∷ r)) × Follows (get_or (x ∷ y ∷ r) 3 0) × (let high : ℕ = (x - 240) * 64 + (y - 128) in (16 ≤ high) × (high < 272))) → ⊥
-    go m n (Least.e0 a b) u (inl h) f three four = let t = three (omega arith) (omega arith) in omega arith
-    go m n (Least.f0 a b) u (inl h) f three four = let t = (four (omega arith)).2 in omega arith
-    go m n (Least.other a b c) u (inl h) f three four = omega arith
-    go m n l (Most.ed a b) (inr h) f three four = let t = three (omega arith) (omega arith) in ⊎_elim (λ p. omega arith) (λ p. omega arith) t.1
-    go m n l (Most.f4 a b) (inr h) f three four = let t = (four (omega arith)).2 in omega arith
-    go m n l (Most.other_most a b c) (inr h) f three four = omega arith
+out_of_bounds : (x y m n : ℕ) → Bounds x m n → 194 ≤ x → x ≤ 244 → (y < m) ⊎ (n < y) → Follows y
+    → (224 ≤ x → x < 240 → let high : ℕ = (x - 224) * 64 + (y - 128) in (32 ≤ high) × ((high < 864) ⊎ (896 ≤ high)))
+    → (240 ≤ x → let high : ℕ = (x - 240) * 64 + (y - 128) in (16 ≤ high) × (high < 272)) → ⊥
+out_of_bounds x y m n bound low high out f three four = grind arith
+
+hopeless_two : (x y : ℕ) (r : List ℕ) → 194 ≤ x → x ≤ 244 → (y < second_byte_min x) ⊎ (second_byte_max x < y) → StartsWithNoChar (x ∷ y ∷ r)
+hopeless_two x y r low high out = no_char (x ∷ y ∷ r) (λ g. out_of_bounds x y _ _ (bounds x) low high out (g.second (omega arith)).2 g.in_three (λ h. (g.fourth h).2))
 
 hopeless_three : (x y z : ℕ) (r : List ℕ) → 224 ≤ x → (z < 128) ⊎ (191 < z) → StartsWithNoChar (x ∷ y ∷ z ∷ r)
 hopeless_three x y z r high out = no_char (x ∷ y ∷ z ∷ r) (λ g. let t = (g.third high).1 in ⊎_elim (λ (h : z < 128). omega arith) (λ (h : 191 < z). omega arith) out)
@@ -167,25 +124,22 @@ in_or_out a b c P inside outside = go (leb a c) (leb c b) refl refl
 
 -- from the third byte on
 after_two : (x y : ℕ) (r : List ℕ) → 194 ≤ x → x ≤ 244 → In x y → StartsWithNoChar (x ∷ y ∷ r) → Verdict (x ∷ y ∷ r) (error_len_after_two (x ∷ y ∷ r))
-after_two x y [] low high i none = part_two x y low high (in_second x y i)
+after_two x y [] low high i none = part_two x y low high i
 after_two x y (z ∷ r) low high i none = cond_both (nat_lt (length (x ∷ y ∷ z ∷ r)) 3) _ _ (Verdict (x ∷ y ∷ z ∷ r))
     (λ short. absurd (let t = ltb-true (length (x ∷ y ∷ z ∷ r)) 3 short in omega arith))
     (λ long. in_or_out 128 191 z (λ b. Verdict (x ∷ y ∷ z ∷ r) (cond b (cond (nat_lt (length (x ∷ y ∷ z ∷ r)) 4) None (Some 3)) (Some 2)))
     (λ f. third r f none)
-    (λ out. λ more. ⊎_elim (λ (h : x < 224). absurd (two_char x y (z ∷ r) low h s.follows none)) (λ (h : 224 ≤ x). hopeless_three x y z (r ++ more) h out) (cases_lt x 224)))
+    (λ out. λ more. ⊎_elim (λ (h : x < 224). absurd (two_char x y (z ∷ r) low h (follows_in x y i) none)) (λ (h : 224 ≤ x). hopeless_three x y z (r ++ more) h out) (cases_lt x 224)))
   where
-    s : Second x y
-    s = in_second x y i
-
     fourth : (w : ℕ) (q : List ℕ) → Follows z → StartsWithNoChar (x ∷ y ∷ z ∷ w ∷ q) → IsHopeless (x ∷ y ∷ z ∷ w ∷ q)
     fourth w q f begins more =
-        ⊎_elim (λ (h : x < 224). absurd (two_char x y (z ∷ w ∷ q) low h s.follows begins))
-        (λ (h : 224 ≤ x). ⊎_elim (λ (g : x < 240). absurd (three_char x y z (w ∷ q) h g s f begins))
+        ⊎_elim (λ (h : x < 224). absurd (two_char x y (z ∷ w ∷ q) low h (follows_in x y i) begins))
+        (λ (h : 224 ≤ x). ⊎_elim (λ (g : x < 240). absurd (three_char x y z (w ∷ q) h g i f begins))
         (λ (g : 240 ≤ x). ⊎_elim (λ (below : w < 128). hopeless_four x y z w (q ++ more) g (inl below))
-        (λ (at : 128 ≤ w). ⊎_elim (λ (below : w < 192). absurd (four_char x y z w q g high s f (at, below) begins)) (λ (above : 192 ≤ w). hopeless_four x y z w (q ++ more) g (inr (omega arith))) (cases_lt w 192)) (cases_lt w 128)) (cases_lt x 240)) (cases_lt x 224)
+        (λ (at : 128 ≤ w). ⊎_elim (λ (below : w < 192). absurd (four_char x y z w q g high i f (at, below) begins)) (λ (above : 192 ≤ w). hopeless_four x y z w (q ++ more) g (inr (omega arith))) (cases_lt w 192)) (cases_lt w 128)) (cases_lt x 240)) (cases_lt x 224)
 
     third : (q : List ℕ) → IsInRange 128 191 z → StartsWithNoChar (x ∷ y ∷ z ∷ q) → Verdict (x ∷ y ∷ z ∷ q) (cond (nat_lt (length (x ∷ y ∷ z ∷ q)) 4) None (Some 3))
-    third [] f begins = part_three x y z low high s (f.0, omega (arith, f.1))
+    third [] f begins = part_three x y z low high i (f.0, omega (arith, f.1))
     third (w ∷ q) f begins = cond_both (nat_lt (length (x ∷ y ∷ z ∷ w ∷ q)) 4) None (Some 3) (Verdict (x ∷ y ∷ z ∷ w ∷ q))
         (λ short. absurd (let t = ltb-true (length (x ∷ y ∷ z ∷ w ∷ q)) 4 short in omega arith))
         (λ long. fourth w q (f.0, omega (arith, f.1)) begins)
@@ -197,7 +151,7 @@ after_one x (y ∷ r) low high none = cond_both (nat_lt (length (x ∷ y ∷ r))
     (λ short. absurd (let t = ltb-true (length (x ∷ y ∷ r)) 2 short in omega arith))
     (λ long. in_or_out (second_byte_min x) (second_byte_max x) y (λ b. Verdict (x ∷ y ∷ r) (cond b (error_len_after_two (x ∷ y ∷ r)) (Some 1)))
     (λ i. after_two x y r low high i none)
-    (λ out more. hopeless_two x y (r ++ more) low high (second_byte_min x) (second_byte_max x) (least x) (most x) out))
+    (λ out more. hopeless_two x y (r ++ more) low high out))
 
 of_some : (x : ℕ) (r : List ℕ) → StartsWithNoChar (x ∷ r) → Verdict (x ∷ r) (error_len_of_some (x ∷ r))
 of_some x r none = in_or_out 194 244 x (λ b. Verdict (x ∷ r) (cond b (error_len_after_one (x ∷ r)) (Some 1)))

@@ -5,7 +5,7 @@ use Rattle.std.specs.Str.{all_scalars}
 use Rattle.std.specs.Str.{StartsWithNoChar, IsValidUpTo, IsUtf8}
 use Rattle.std.specs.Char.{IsScalar}
 use Rattle.std.proofs.lemmas.Str.{cons_from_encodes, encode_same, length-encode, len_utf8_bounds, IsUtf8-append, IsUtf8-encode, encodes-append}
-use Rattle.std.proofs.lemmas.List.{drop_all, drop-drop, take_all, length-drop, length-take-le, take-append-drop}
+use Rattle.std.proofs.lemmas.List.{drop_all, drop-drop, length-drop, length-take-le, take-append-drop, take_rest}
 use Rattle.std.proofs.Math.Seq.{take-add, take-append_seam}
 use Rattle.std.proofs.lemmas.Bool.{and_parts, and_from}
 
@@ -50,13 +50,9 @@ opening_text text bytes n longest is = subst (λ (k : ℕ). StartsWithNoChar (dr
     let grown : take m bytes ≡ take n bytes ++ encode_utf8 c = take-add n (length (encode_utf8 c)) bytes ∙ ap (λ t. take n bytes ++ take (length (encode_utf8 c)) t) e ∙ ap (λ t. take n bytes ++ t) (take-append_seam (encode_utf8 c) rest) in
     longest.longest m (omega (arith, length-encode c, len_utf8_bounds c)) (subst IsUtf8 (sym grown) (IsUtf8-append (take n bytes) (encode_utf8 c) longest.front (IsUtf8-encode c scalar))))
 
--- what follows the first n bytes, as a slice from there says it
-rest_is : (bytes : List ℕ) (n : ℕ) → take (length bytes - n) (drop n bytes) ≡ drop n bytes
-rest_is bytes n = take_all (length bytes - n) (drop n bytes) (omega (arith, length-drop n bytes))
-
 -- text after a prefix that is text
 pub joined_text : (bytes : List ℕ) (n : ℕ) → IsUtf8 (take n bytes) → IsUtf8 (take (length bytes - n) (drop n bytes)) → IsUtf8 bytes
-joined_text bytes n prefix rest = subst IsUtf8 (ap (λ t. take n bytes ++ t) (rest_is bytes n) ∙ take-append-drop n bytes) (IsUtf8-append (take n bytes) (take (length bytes - n) (drop n bytes)) prefix rest)
+joined_text bytes n prefix rest = subst IsUtf8 (ap (λ t. take n bytes ++ t) (take_rest bytes n) ∙ take-append-drop n bytes) (IsUtf8-append (take n bytes) (take (length bytes - n) (drop n bytes)) prefix rest)
 
 -- the longest prefix that is text, where the rest is known to begin with so many bytes of it
 pub record JoinedPrefix (bytes : List ℕ) (n : ℕ) : Type 0 where
@@ -66,7 +62,7 @@ pub record JoinedPrefix (bytes : List ℕ) (n : ℕ) : Type 0 where
 
 pub joined_prefix : (bytes : List ℕ) (n v : ℕ) → IsUtf8 (take n bytes) → IsValidUpTo (take (length bytes - n) (drop n bytes)) v → JoinedPrefix bytes (n + v)
 joined_prefix bytes n v prefix longest =
-    let rest : IsValidUpTo (drop n bytes) v = subst (λ (t : List ℕ). IsValidUpTo t v) (rest_is bytes n) longest in
+    let rest : IsValidUpTo (drop n bytes) v = subst (λ (t : List ℕ). IsValidUpTo t v) (take_rest bytes n) longest in
     let within : v ≤ length (drop n bytes) = omega (arith, rest.short) in
     record {
       utf8 = subst IsUtf8 (sym (take-add n v bytes)) (IsUtf8-append (take n bytes) (take v (drop n bytes)) prefix rest.front);
