@@ -1,9 +1,9 @@
 -- Whole pieces are passed over: the scan comes to where all of them are closed.
-use Rattle.std.proofs.Common.{◌≡◌, ℕ, ◌+◌, ◌-◌, ◌<◌, ◌≤◌, inl, inr, Bool, true, false, not, ◌||◌, ◌==◌, if◌then◌else◌, None, List, [], ◌∷◌, ◌++◌, length, take, drop, slice_index, refl, sym, ap, ◌∙◌, subst, append_assoc, append-nil, arith, length-drop}
+use Rattle.std.proofs.Common.{◌≡◌, ℕ, ◌+◌, ◌-◌, ◌<◌, ◌≤◌, inl, inr, Bool, true, false, not, ◌||◌, ◌==◌, if◌then◌else◌, None, List, [], ◌∷◌, ◌++◌, length, take, drop, slice_index, refl, sym, ap, ◌∙◌, subst, add-zero, append_assoc, append-nil, arith, length-drop}
 use Rattle.std.specs.Prelude.{encode_utf8_all}
 use Rattle.std.specs.List.{list_all}
 use Rattle.std.proofs.lemmas.Bool.{and_parts, both_ways, not-true, or_parts}
-use Rattle.std.proofs.lemmas.List.{drop-drop, get_or-drop, get_or-take, length-take-le, take-append-drop}
+use Rattle.std.proofs.lemmas.List.{drop-drop, get_or-drop, get_or-take, length-take-le, take-append-drop, take_rest}
 use Rattle.std.proofs.lemmas.Str.{encodes-append}
 use Rattle.std.proofs.Math.Seq.{take-add}
 use Rattle.py_lines.specs.Character.{is_operator, is_return}
@@ -27,7 +27,6 @@ use Rattle.py_lines.specs.Private.Run.{Reached, WhereverReached}
 use Rattle.py_lines.specs.Private.Scan.{IsLineBefore, ScansIn, line_start, none_open, stack_of, with_brackets}
 use Rattle.py_lines.specs.Private.ScanMachine.{IsScanSound}
 use Rattle.py_lines.specs.Private.WholePieces.{IsOperatorEnd, closed_after}
-use Rattle.py_lines.proofs.FieldScans.TextLengths.{rest_is}
 use Rattle.py_lines.proofs.LineScan.BracketStack.{keeps_at}
 use Rattle.py_lines.proofs.LineScan.LineSteps.{way_stop, way_here}
 use Rattle.py_lines.proofs.LineScan.AsciiRuns.{all_pass, low_encodes}
@@ -219,15 +218,12 @@ begins_passing first bytes p free is = subst (λ (q : Passing). HasPassed first 
       few = omega arith;
       fewer = omega arith;
       come = λ m line whole start r.
-          let none : line_ends r.read ≡ line_ends r.read + 0 = omega arith in
-          let free_here : ComesTo bytes m r.read 0 (line_ends r.read) (stack_of first.brackets) IsFreeAfter = record {
+          let here : ComesTo bytes m r.read 0 (line_ends r.read + 0) (stack_of first.brackets) IsFreeAfter = record {
             within = omega arith;
             run = [];
             spell = refl;
-            stands = subst (λ (t : List ℕ). IsFreeAfter m t (line_ends r.read) (stack_of first.brackets)) (sym (append-nil r.read))
-                (way_free m first r.read start r.scalars r.way free);
+            stands = rw (append-nil r.read, add-zero) (way_free m first r.read start r.scalars r.way free);
           } in
-          let here = subst (λ (k : ℕ). ComesTo bytes m r.read 0 k (stack_of first.brackets) IsFreeAfter) none free_here in
           record { free = here; come = stands_there bytes m r.read 0 (line_ends r.read + 0) (stack_of first.brackets) true here };
     })
 
@@ -251,26 +247,19 @@ plain_up_to first bytes from at to b all closed marks on next after before = rec
       };
 }
 
-pub plain_passed : (first : Scan) (bytes : List ℕ) (from at : ℕ) (b : Brackets) (all closed : Passed) (marks : Marks)
-    → HasPassed first bytes from b all closed → FindsNext bytes from at marks → HasPassed first bytes at b all closed
-plain_passed first bytes from at b all closed marks on next =
-    plain_up_to first bytes from at at b all closed marks on next next.after (omega arith)
-
 module _ (first : Scan) (bytes : List ℕ) (at : ℕ) (b : Brackets) (all closed : Passed) (on : HasPassed first bytes at b all closed) where
   -- what is passed at a byte that isn't plain
-  module _ (len more : ℕ) (closes : Bool) (after : List Bracket)
-      (over : PassesOver bytes at (first.stop + at) len more closes (stack_of b) after) where
-    comes_over : (m : Mode) (line : ℕ) (whole : List ℕ) → IsScanSound (line_start m) [] → (r : Reached m line whole first bytes)
-        → ComesTo bytes m r.read (at + len) (line_ends r.read + (all.line_ends + more)) after
-        (StandsClosed closes (drop (at + len) bytes))
-    comes_over m line whole start r =
-        let o = on.come m line whole start r in
-        let n = line_ends r.read + all.line_ends in
-        let same : n + more ≡ line_ends r.read + (all.line_ends + more) = omega arith in
-        subst (λ (k : ℕ). ComesTo bytes m r.read (at + len) k after (StandsClosed closes (drop (at + len) bytes))) same
-        (over_further bytes m r.read at (first.stop + at) len more n closes (stack_of b) after
-        (before_tail first bytes m line whole start r on.free) o.come
-        (size first bytes m line whole start r at n (stack_of b) (StandsBefore (drop at bytes)) o.come) over)
+  comes_over : (len more : ℕ) (closes : Bool) (after : List Bracket) → PassesOver bytes at (first.stop + at) len more closes (stack_of b) after
+      → (m : Mode) (line : ℕ) (whole : List ℕ) → IsScanSound (line_start m) [] → (r : Reached m line whole first bytes)
+      → ComesTo bytes m r.read (at + len) (line_ends r.read + (all.line_ends + more)) after (StandsClosed closes (drop (at + len) bytes))
+  comes_over len more closes after over m line whole start r =
+      let o = on.come m line whole start r in
+      let n = line_ends r.read + all.line_ends in
+      let same : n + more ≡ line_ends r.read + (all.line_ends + more) = omega arith in
+      subst (λ (k : ℕ). ComesTo bytes m r.read (at + len) k after (StandsClosed closes (drop (at + len) bytes))) same
+      (over_further bytes m r.read at (first.stop + at) len more n closes (stack_of b) after
+      (before_tail first bytes m line whole start r on.free) o.come
+      (size first bytes m line whole start r at n (stack_of b) (StandsBefore (drop at bytes)) o.come) over)
 
   over_passed : (c : Brackets) (len more : ℕ) (closes : Bool)
       → PassesOver bytes at (first.stop + at) len more closes (stack_of b) (stack_of c) → (closes ≡ false → c ≡ b)
@@ -293,29 +282,8 @@ module _ (first : Scan) (bytes : List ℕ) (at : ℕ) (b : Brackets) (all closed
     few = let less = over.few in omega (arith, less, on.few);
     fewer = omega (arith, on.fewer);
     come = λ m line whole start r.
-        let there = comes_over len more false (stack_of c) over m line whole start r in
-        record {
-          free = subst (λ (k : Brackets). ComesTo bytes m r.read closed.len (line_ends r.read + closed.line_ends) (stack_of k) IsFreeAfter)
-              (sym (kept refl)) (on.come m line whole start r).free;
-          come = there;
-        };
+        record { free = rw (kept refl) (on.come m line whole start r).free; come = comes_over len more false (stack_of c) over m line whole start r };
   }
-
-  -- a line end that ends the line
-  line_ended : (len : ℕ) (c : Brackets) (q : Passing) → at < length bytes → EndsLineSo bytes at all b len q c → WhereverReached first bytes
-      (λ m line whole. ScansIn m line whole
-      (closed_after (with_brackets first c) q.all (slice_index bytes (q.all.len - 1) == 13)) (stops.LineEnd len))
-  line_ended len c q within so m line whole start r =
-      subst (λ (k : Brackets). ScansIn m line whole (closed_after (with_brackets first k) q.all (slice_index bytes (q.all.len - 1) == 13))
-      (stops.LineEnd len)) (sym so.kept)
-      (subst (λ (p : Passed). ScansIn m line whole (closed_after (with_brackets first b) p (slice_index bytes (p.len - 1) == 13))
-      (stops.LineEnd len)) (sym so.is)
-      (ended first bytes m line whole start r at len all.line_ends b within (on.come m line whole start r).come so.ends so.none))
-
-  passes_on : (c : Brackets) (q : Passing) → PassesSo bytes at (first.stop + at) all closed b q c
-      → HasPassed first bytes q.all.len c q.all q.closed
-  passes_on c q so = subst (λ (x : Passing). HasPassed first bytes x.all.len c x.all x.closed) (sym so.is)
-      (over_passed c so.len so.more so.closes so.over so.kept)
 
 -- plain bytes up to an operator
 operator_closes : (first : Scan) (bytes : List ℕ) (from at len : ℕ) (b : Brackets) (all closed : Passed) (marks : Marks)
@@ -346,27 +314,15 @@ abbrev pub Leaves : Scan → List ℕ → Scan → Passed → Type 0
 Leaves first bytes scan closed = WhereverReached first bytes
     (λ m line whole. Reached m line whole scan (take (length bytes - closed.len) (drop closed.len bytes)))
 
-left_reached : (first : Scan) (bytes : List ℕ) (at : ℕ) (b : Brackets) (all closed : Passed) → HasPassed first bytes at b all closed
-    → (scan : Scan) → scan ≡ closed_after (with_brackets first b) closed false → Leaves first bytes scan closed
-left_reached first bytes at b all closed on scan set m line whole start r =
-    subst (λ (s : Scan). Reached m line whole s (take (length bytes - closed.len) (drop closed.len bytes))) (sym set)
-    (subst (Reached m line whole (closed_after (with_brackets first b) closed false)) (sym (rest_is bytes closed.len))
-    (closed_reached first bytes m line whole start r closed b (on.come m line whole start r).free))
-
 -- before a byte that isn't plain, or at the end of the bytes
 pub record StandsAt (first : Scan) (bytes : List ℕ) (at : ℕ) (scan : Scan) (p : Passing) : Type 0 where
   pub same : scan ≡ with_brackets first scan.brackets
   pub passed : HasPassed first bytes p.all.len scan.brackets p.all p.closed
   pub next : FindsNext bytes p.all.len at p.marks
 
-pub stands_as : (first : Scan) (bytes : List ℕ) (at : ℕ) (scan : Scan) (p : Passing) (new : Scan) (q : Passing) → new ≡ scan → q ≡ p
-    → StandsAt first bytes at scan p → StandsAt first bytes at new q
-stands_as first bytes at scan p new q same same_passing on = subst (λ (s : Scan). StandsAt first bytes at s q) (sym same)
-    (subst (StandsAt first bytes at scan) (sym same_passing) on)
-
 module _ (first : Scan) (bytes : List ℕ) (at : ℕ) (scan : Scan) (p : Passing) (on : StandsAt first bytes at scan p) where
   here : HasPassed first bytes at scan.brackets p.all p.closed
-  here = plain_passed first bytes p.all.len at scan.brackets p.all p.closed p.marks on.passed on.next
+  here = plain_up_to first bytes p.all.len at at scan.brackets p.all p.closed p.marks on.passed on.next on.next.after (omega arith)
 
   pub few : p.all.line_ends ≤ at
   few = here.few
@@ -375,34 +331,40 @@ module _ (first : Scan) (bytes : List ℕ) (at : ℕ) (scan : Scan) (p : Passing
   pub stands_next : (c : Brackets) (q : Passing) (to : ℕ) (marks : Marks)
       → PassesSo bytes at (scan.stop + at) p.all p.closed scan.brackets q c → FindsNext bytes q.all.len to marks
       → StandsAt first bytes to (with_brackets scan c) (record q { marks = marks })
-  stands_next c q to marks so next = record {
-    same = ap (λ (s : Scan). with_brackets s c) on.same;
-    passed = passes_on first bytes at scan.brackets p.all p.closed here c q
-        (subst (λ (k : ℕ). PassesSo bytes at (k + at) p.all p.closed scan.brackets q c) (ap (λ (s : Scan). s.stop) on.same) so);
-    next = next;
-  }
+  stands_next c q to marks so next =
+      let over = subst (λ (k : ℕ). PassesOver bytes at (k + at) so.len so.more so.closes (stack_of scan.brackets) (stack_of c)) (ap (λ (s : Scan). s.stop) on.same) so.over in
+      record {
+        same = ap (λ (s : Scan). with_brackets s c) on.same;
+        passed = subst (λ (x : Passing). HasPassed first bytes x.all.len c x.all x.closed) (sym so.is)
+            (over_passed first bytes at scan.brackets p.all p.closed here c so.len so.more so.closes over so.kept);
+        next = next;
+      }
 
-  -- after a line end
+  -- after a line end that ends the line
   pub stands_ended : (len : ℕ) (new : Scan) (q : Passing) (c : Brackets) → at < length bytes
       → EndsLineSo bytes at p.all scan.brackets len q c
       → new ≡ closed_after (with_brackets scan c) q.all (slice_index bytes (q.all.len - 1) == 13)
       → WhereverReached first bytes (λ m line whole. ScansIn m line whole new (stops.LineEnd len))
   stands_ended len new q c within so set m line whole start r =
-      subst (λ (s : Scan). ScansIn m line whole s (stops.LineEnd len))
-      (sym (set ∙ ap (λ (s : Scan). closed_after (with_brackets s c) q.all (slice_index bytes (q.all.len - 1) == 13)) on.same))
-      (line_ended first bytes at scan.brackets p.all p.closed here len c q within so m line whole start r)
+      let same = set ∙ (λ i. closed_after (with_brackets (on.same i) (so.kept i)) (so.is i) (slice_index bytes ((so.is i).len - 1) == 13)) in
+      subst (λ (s : Scan). ScansIn m line whole s (stops.LineEnd len)) (sym same)
+      (ended first bytes m line whole start r at len p.all.line_ends scan.brackets within (here.come m line whole start r).come so.ends so.none)
 
   -- where the scan leaves off
-  pub stands_left : (new : Scan) → new ≡ closed_after scan p.closed false → Leaves first bytes new p.closed
-  stands_left new set =
-      left_reached first bytes p.all.len scan.brackets p.all p.closed on.passed new
-      (set ∙ ap (λ (s : Scan). closed_after s p.closed false) on.same)
+  left_reached : (k : ℕ) (all closed : Passed) → HasPassed first bytes k scan.brackets all closed → (new : Scan)
+      → new ≡ closed_after scan closed false → Leaves first bytes new closed
+  left_reached k all closed passed new set m line whole start r =
+      rw (set ∙ ap (λ (s : Scan). closed_after s closed false) on.same, take_rest bytes closed.len)
+      (closed_reached first bytes m line whole start r closed scan.brackets (passed.come m line whole start r).free)
+
+  pub stands_left : (q : Passing) (new : Scan) → q ≡ p → new ≡ closed_after scan q.closed false → Leaves first bytes new q.closed
+  stands_left q new is set = subst (λ (x : Passing). new ≡ closed_after scan x.closed false → Leaves first bytes new x.closed) (sym is)
+      (left_reached p.all.len p.all p.closed on.passed new) set
 
   pub operator_left : (len : ℕ) (q : Passing) (new : Scan) → IsOperatorEnd (take (at - p.all.len) (drop p.all.len bytes)) len → 0 < len
       → q ≡ passed_to p (p.all.len + len) 0 true → new ≡ closed_after scan q.closed false → Leaves first bytes new q.closed
   operator_left len q new ends some is set =
       let passed = up_to p.all (p.all.len + len) 0 in
-      subst (λ (x : Passing). Leaves first bytes new x.closed) (sym is)
-      (left_reached first bytes (p.all.len + len) scan.brackets passed passed
-      (operator_closes first bytes p.all.len at len scan.brackets p.all p.closed p.marks on.passed on.next ends some) new
-      (set ∙ ap (λ (x : Passing). closed_after scan x.closed false) is ∙ ap (λ (s : Scan). closed_after s passed false) on.same))
+      subst (λ (x : Passing). new ≡ closed_after scan x.closed false → Leaves first bytes new x.closed) (sym is)
+      (left_reached (p.all.len + len) passed passed
+      (operator_closes first bytes p.all.len at len scan.brackets p.all p.closed p.marks on.passed on.next ends some) new) set
