@@ -221,22 +221,16 @@ impl ByteRun {
     }
 }
 
-/// How many bytes of words a text begins with. After a character of another script it mostly begins with none.
-fn word_run(bytes: &[u8]) -> usize
-    ensures { IsRunOf is_ascii_word bytes.now result }
+/// How many bytes of an open word that is spelled so a text begins with: none where it may be the prefix of a string. After a character
+/// of another script it mostly begins with none.
+fn word_run(spelling: Spelling, bytes: &[u8]) -> usize
+    ensures { Spans (stays (Word spelling)) bytes.now result }
 {
     if bytes.is_empty() || !is_ascii_word(bytes[0]) {
         return 0;
     }
-    ByteRun::Word.len_in(bytes)
-}
-
-/// How many bytes of an open word that is spelled so a text begins with: none where it may be the prefix of a string.
-fn later_characters(spelling: Spelling, bytes: &[u8]) -> usize
-    ensures { Spans (stays (Word spelling)) bytes.now result }
-{
     match spelling {
-        Spelling::Number | Spelling::Name => word_run(bytes),
+        Spelling::Number | Spelling::Name => ByteRun::Word.len_in(bytes),
         _ => 0,
     }
 }
@@ -321,7 +315,7 @@ pub fn characters_in(mode: Mode, bytes: &[u8]) -> usize
         Mode::Inside(quote) | Mode::Long(quote) => body_characters(quote as u8, bytes),
         Mode::Comment => utf8_len(&bytes[..comment_run(bytes)]),
         Mode::Space => ByteRun::Space.len_in(bytes),
-        Mode::Word(spelling) => later_characters(spelling, bytes),
+        Mode::Word(spelling) => word_run(spelling, bytes),
         _ => 0,
     }
 }

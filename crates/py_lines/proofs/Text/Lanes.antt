@@ -8,9 +8,10 @@ use Rattle.std.proofs.lemmas.Nat.{and_mask, mod-pow-add}
 use Rattle.std.proofs.lemmas.Str.Ascii.{IsAscii-from_all}
 use Rattle.std.proofs.lemmas.List.Elements.{All-from_get_or}
 use Rattle.std.specs.Str.{IsAscii}
-use Rattle.std.proofs.lemmas.List.{take_all, length-map, length-drop, length-append, length-replicate, get_or-drop, get_or_append_left, get_or-append_right, get_or-replicate, take-map}
+use Rattle.std.proofs.lemmas.List.{take_rest, length-map, length-drop, length-append, length-replicate, get_or-drop, get_or_append_left, get_or-append_right, get_or-replicate, take-map}
 use Rattle.std.proofs.lemmas.List.Sums.{prefix_len-le-length, prefix_len_passes, prefix_len_stops}
 use Rattle.std.proofs.lemmas.Bool.{both_ways, ne_eqb, cases_lt}
+use Rattle.std.proofs.Math.Bool.{or-false}
 use Rattle.py_lines.specs.Character.{is_one_of}
 use Rattle.py_lines.specs.Private.Run.{CountsSet, Marks, IsRunOf}
 
@@ -55,13 +56,9 @@ unmarked : (b : Bool) → eqb (cond b 255 0) 0 ≡ not b
 unmarked true = refl
 unmarked false = refl
 
-or_none : (b : Bool) → b ≡ b || false
-or_none true = refl
-or_none false = refl
-
 -- one of two bytes, and one more
 pub two_marked : (d e : ℕ) (vs xs ys : List ℕ) → Marks (λ x. eqb x d) vs xs → Marks (λ x. eqb x e) vs ys → Marks (is_one_of (d ∷ e ∷ [])) vs (zip2 bit_or xs ys)
-two_marked d e vs xs ys a b = either_marked (λ x. eqb x d) (λ x. eqb x e) vs xs ys a b ∙ (λ i. map (λ x. cond (eqb x d || or_none (eqb x e) i) 255 0) vs)
+two_marked d e vs xs ys a b = either_marked (λ x. eqb x d) (λ x. eqb x e) vs xs ys a b ∙ (λ i. map (λ x. cond (eqb x d || sym (or-false (eqb x e)) i) 255 0) vs)
 
 pub more_marked : (d : ℕ) (ds : List ℕ) (vs xs ys : List ℕ) → Marks (λ x. eqb x d) vs xs → Marks (is_one_of ds) vs ys → Marks (is_one_of (d ∷ ds)) vs (zip2 bit_or xs ys)
 more_marked d ds vs xs ys a b = either_marked (λ x. eqb x d) (is_one_of ds) vs xs ys a b
@@ -150,7 +147,7 @@ sixteen p xs i r mask within more before counts marks =
 -- a run goes on with the run that the rest begins with
 pub run_goes_on : (p : ℕ → Bool) (xs : List ℕ) (i n : ℕ) → i ≤ length xs → ((k : ℕ) → k < i → p (slice_index xs k) ≡ true) → IsRunOf p (take (length xs - i) (drop i xs)) n → IsRunOf p xs (i + n)
 run_goes_on p xs i n le before taken =
-    let run : IsRunOf p (drop i xs) n = subst (λ l. IsRunOf p l n) (take_all (length xs - i) (drop i xs) (omega (arith, length-drop i xs))) taken in
+    let run : IsRunOf p (drop i xs) n = subst (λ l. IsRunOf p l n) (take_rest xs i) taken in
     record {
       within = omega (arith, run.within, length-drop i xs);
       each = λ k lt.

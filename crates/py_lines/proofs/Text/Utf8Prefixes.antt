@@ -1,5 +1,5 @@
 -- Characters that a text begins with.
-use Rattle.std.proofs.Common.{◌≡◌, ℕ, ◌+◌, ◌-◌, ◌≤◌, length, take, drop, arith, length-append, true, List, [], ◌∷◌, ◌++◌, refl, sym, ap, ◌∙◌, subst, append_assoc, append-nil}
+use Rattle.std.proofs.Common.{◌≡◌, ℕ, ◌+◌, ◌-◌, ◌<◌, ◌≤◌, length, take, drop, arith, length-append, true, List, [], ◌∷◌, ◌++◌, refl, sym, ap, ◌∙◌, subst, append_assoc, append-nil}
 use Rattle.std.specs.Prelude.{encode_utf8_all, encode_utf8}
 use Rattle.std.specs.Str.{all_scalars}
 use Rattle.std.specs.Str.{StartsWithNoChar, IsValidUpTo, IsUtf8}
@@ -42,13 +42,17 @@ nothing_bad c rest scalar is = let e = ap length is in omega (arith, length-appe
 pub whole_text : (text bytes : List ℕ) → text ≡ bytes → StartsWithNoChar (drop (length text) bytes)
 whole_text text bytes is = subst StartsWithNoChar (sym (drop_all (length text) bytes (omega (arith, ap length is)))) nothing_bad
 
+-- no prefix of more bytes than these is UTF-8
+abbrev pub NoneLonger : List ℕ → ℕ → Type 0
+NoneLonger bytes n = (m : ℕ) → n < m → m ≤ length bytes → ¬ (IsUtf8 (take m bytes))
+
 -- after the longest prefix that is text, no character begins
-pub opening_text : (text bytes : List ℕ) (n : ℕ) → IsValidUpTo bytes n → length text ≡ n → StartsWithNoChar (drop (length text) bytes)
-opening_text text bytes n longest is = subst (λ (k : ℕ). StartsWithNoChar (drop k bytes)) (sym is)
-    (λ c rest scalar e.
+pub opening_text : (bytes : List ℕ) (n : ℕ) → IsUtf8 (take n bytes) → NoneLonger bytes n → StartsWithNoChar (drop n bytes)
+opening_text bytes n front longest c rest scalar e =
     let m : ℕ = n + length (encode_utf8 c) in
     let grown : take m bytes ≡ take n bytes ++ encode_utf8 c = take-add n (length (encode_utf8 c)) bytes ∙ ap (λ t. take n bytes ++ take (length (encode_utf8 c)) t) e ∙ ap (λ t. take n bytes ++ t) (take-append_seam (encode_utf8 c) rest) in
-    longest.longest m (omega (arith, length-encode c, len_utf8_bounds c)) (subst IsUtf8 (sym grown) (IsUtf8-append (take n bytes) (encode_utf8 c) longest.front (IsUtf8-encode c scalar))))
+    longest m (omega (arith, length-encode c, len_utf8_bounds c)) (omega (arith, ap length e, length-append (encode_utf8 c) rest, length-drop n bytes, length-encode c, len_utf8_bounds c))
+    (subst IsUtf8 (sym grown) (IsUtf8-append (take n bytes) (encode_utf8 c) front (IsUtf8-encode c scalar)))
 
 -- text after a prefix that is text
 pub joined_text : (bytes : List ℕ) (n : ℕ) → IsUtf8 (take n bytes) → IsUtf8 (take (length bytes - n) (drop n bytes)) → IsUtf8 bytes
@@ -63,11 +67,10 @@ pub record JoinedPrefix (bytes : List ℕ) (n : ℕ) : Type 0 where
 pub joined_prefix : (bytes : List ℕ) (n v : ℕ) → IsUtf8 (take n bytes) → IsValidUpTo (take (length bytes - n) (drop n bytes)) v → JoinedPrefix bytes (n + v)
 joined_prefix bytes n v prefix longest =
     let rest : IsValidUpTo (drop n bytes) v = subst (λ (t : List ℕ). IsValidUpTo t v) (take_rest bytes n) longest in
-    let within : v ≤ length (drop n bytes) = omega (arith, rest.short) in
     record {
       utf8 = subst IsUtf8 (sym (take-add n v bytes)) (IsUtf8-append (take n bytes) (take v (drop n bytes)) prefix rest.front);
       short = omega (arith, rest.short, length-drop n bytes);
-      bad = subst StartsWithNoChar (ap (λ k. drop k (drop n bytes)) (length-take-le v (drop n bytes) within) ∙ drop-drop v n bytes) (opening_text (take v (drop n bytes)) (drop n bytes) v rest (length-take-le v (drop n bytes) within));
+      bad = subst StartsWithNoChar (drop-drop v n bytes) (opening_text (drop n bytes) v rest.front (λ m more within. rest.longest m more));
     }
 
 -- a text has one split into characters and bytes that begin with none

@@ -1,6 +1,7 @@
 use Rattle.std.proofs.Common.{◌≡◌, ℕ, Bool, true, false, ◌||◌, ◌==◌, not, refl, ap, ◌∙◌, sym, arith}
 use Rattle.std.specs.Prelude.{slice_index}
 use Rattle.std.proofs.lemmas.Bool.{false_from_ne_true}
+use Rattle.std.proofs.Math.Bool.{or-false}
 use Rattle.memchr.specs.Find.{is_byte2}
 use Rattle.py_lines.specs.Character.{is_break}
 use Rattle.py_lines.specs.Private.Run.{is_comment_byte}
@@ -8,12 +9,7 @@ use Rattle.py_lines.proofs.run.comment_run.Goals as goal
 
 break_is : (x : ℕ) → is_byte2 10 13 x ≡ is_break x
 unfolding is_break
-break_is x = go (x == 10) (x == 13)
-  where
-    go : (a b : Bool) → a || b ≡ a || (b || false)
-    go true b = refl
-    go false true = refl
-    go false false = refl
+break_is x = ap (λ b. (x == 10) || b) (sym (or-false (x == 13)))
 
 no_break : (x : ℕ) → (is_byte2 10 13 x ≡ true → ⊥) → is_comment_byte x ≡ true
 no_break x none = ap not (sym (break_is x) ∙ false_from_ne_true _ none)
