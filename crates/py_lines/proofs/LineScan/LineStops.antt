@@ -7,7 +7,7 @@ use Rattle.std.proofs.lemmas.Bool.{and_parts, both_ways, not-true}
 use Rattle.std.proofs.lemmas.List.{take_rest}
 use Rattle.std.proofs.lemmas.Str.{cons_from_encodes, encode_ascii, encode_same, encodes_same, length-encode, len_utf8_ascii, len_utf8_bounds}
 use Rattle.py_lines.specs.Character.{is_line_feed, is_return}
-use Rattle.py_lines.specs.Piece.{Piece, ends, begins, spelled}
+use Rattle.py_lines.specs.Piece.{ends, begins, spelled}
 use Rattle.py_lines.specs.declared.mode.Mode.{Mode}
 use Rattle.py_lines.specs.declared.mode.Mode.TheVariants as modes
 use Rattle.py_lines.specs.declared.scan.Progress.{Progress}
@@ -18,7 +18,7 @@ use Rattle.py_lines.specs.declared.whole_pieces.Left.TheVariants as lefts
 use Rattle.py_lines.specs.declared.scan.Stop.{Stop}
 use Rattle.py_lines.specs.declared.scan.Stop.TheVariants as stops
 use Rattle.py_lines.specs.Private.Machine.{Scanned}
-use Rattle.py_lines.specs.Private.ScanMachine.{IsScanSound}
+use Rattle.py_lines.specs.Private.ScanMachine.{HoldsOpen, IsScanSound}
 use Rattle.py_lines.specs.Private.Scan.{Tallies, IsStacked, Takes, TakesNext, freed, line_start, stack_of, none_open, is_returned, is_return_mode, IsAtLineEnd, EndsWhole, ScansIn, Scans, StopsIn, StopsSo, StandsInString, TakesInString}
 use Rattle.py_lines.specs.Private.Run.{BeginsWith, ReachedInSomeLine, HoldsLongText, HoldsRun, HasAsciiQuote, Reached}
 use Rattle.py_lines.specs.Private.WholePieces.{LeavesOff}
@@ -29,7 +29,7 @@ use Rattle.py_lines.proofs.Pieces.PieceLists.{AreReadBefore-second}
 use Rattle.py_lines.proofs.LogicalLines.Cuts.{uncut}
 use Rattle.py_lines.proofs.Lexings.SettledLines.{ends-line, ends-append}
 use Rattle.py_lines.proofs.LineScan.LineCount.{line_ends-bytes}
-use Rattle.py_lines.proofs.LineScan.NextCharacter.{takes_fielded}
+use Rattle.py_lines.proofs.LineScan.NextCharacter.{return_mode, takes_fielded}
 use Rattle.py_lines.proofs.LineScan.LineSteps.{way_here, way_keeps, way_stop, at_line_end, returned, follows_nothing, follows_whole}
 use Rattle.py_lines.specs.Private.FieldScan.{IsInPlace}
 use Rattle.py_lines.specs.Private.FieldMachine.{FieldScanned}
@@ -111,14 +111,10 @@ feed_last m scan read len at =
     by_true false h = refl
 
 -- where CR is open, it was read last
-return_at : (m : Mode) (done : List Piece) (held read : List ℕ) → IsScanSound (record { done = done; mode = m; held = held }) read
-    → is_return_mode m ≡ true → ends is_return read ≡ true
-return_at modes.Return done held read sound is = ap (ends is_return) (sym sound.spell ∙ ap (λ t. spelled done ++ t) sound.holds.1)
-    ∙ ends-append is_return (spelled done) sound.holds.0 [] ∙ sound.holds.2
-return_at m done held read sound is = absurd (both_ways _ refl is)
-
 pub return_ends : (s : Scanned) (read : List ℕ) → IsScanSound s read → is_return_mode s.mode ≡ true → ends is_return read ≡ true
-return_ends s read sound is = return_at s.mode s.done s.held read sound is
+return_ends s read sound is =
+    let holds = subst (λ m. HoldsOpen m s.done s.held) (return_mode s.mode is) sound.holds in
+    ap (ends is_return) (sym sound.spell ∙ ap (λ t. spelled s.done ++ t) holds.1) ∙ ends-append is_return (spelled s.done) holds.0 [] ∙ holds.2
 
 -- what begins with another character begins with no byte of LF
 other_whole : (read bytes : List ℕ) (c : ℕ) (rest : List ℕ) → bytes ≡ encode_utf8 c ++ rest → is_line_feed c ≡ false → EndsWhole read bytes

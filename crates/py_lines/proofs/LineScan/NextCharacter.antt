@@ -169,7 +169,7 @@ module _ (old : Scan) (s : Scanned) (read : List ℕ) (c : ℕ) (on : KeepsUp ol
       by : (q : Progress) → TakesInString old i.state c q new → Takes old s c q new
       by progress.Going (inl goes) =
           subst (Takes old s c progress.Going) (sym goes.same)
-          (takes_grown new.fields modes.Fielded (move_so (moves.Grows modes.Fielded) goes.move) (goes.next, string_more s.held c i.state i.steps ∙ goes.goes, goes.follows))
+          (takes_grown goes.fields modes.Fielded (move_so (moves.Grows modes.Fielded) goes.move) (goes.next, string_more s.held c i.state i.steps ∙ goes.goes, goes.follows))
       by progress.Going (inr closes) = subst (Takes old s c progress.Going) (sym closes.same) (takes_closed closes.fields (move_so moves.Closes closes.move) (λ e. cc))
       by (progress.LineEnded len) never = absurd never
       by progress.Refused (move, same) = (ap (λ v. stack_if (moved s c v)) (move_so moves.Refused move), same)

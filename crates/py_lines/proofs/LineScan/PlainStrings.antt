@@ -1,8 +1,9 @@
 -- Strings between single quotes that bytes hold whole: of ASCII, with no escape.
-use Rattle.std.proofs.Common.{◌≡◌, ℕ, zero, suc, ◌+◌, ◌<◌, ◌≤◌, Bool, true, List, [], ◌∷◌, ◌++◌, length, take, drop, slice_index, refl, sym, ap, ◌∙◌, arith, length-append}
+use Rattle.std.proofs.Common.{◌≡◌, ℕ, suc, ◌+◌, ◌<◌, ◌≤◌, Bool, true, List, [], ◌∷◌, ◌++◌, length, take, drop, slice_index, refl, sym, ap, ◌∙◌, arith, length-append}
 use Rattle.std.specs.List.{list_all}
 use Rattle.std.proofs.lemmas.Bool.{and_from, both_ways, eq-eqb}
-use Rattle.std.proofs.lemmas.List.{length-take-le}
+use Rattle.std.proofs.lemmas.List.{length-take-le, take-append-drop}
+use Rattle.std.proofs.Math.Seq.{drop-cons}
 use Rattle.std.proofs.lemmas.List.Folds.{list_all-append}
 use Rattle.py_lines.specs.Character.{is_quote}
 use Rattle.py_lines.specs.Piece.{begins}
@@ -25,9 +26,7 @@ quoted_all passes prefix q run one before within =
     ∙ and_from _ _ before (and_from _ _ one (list_all-append passes run (q ∷ []) ∙ and_from _ _ within (and_from _ _ one refl)))
 
 pub split_at : (body : List ℕ) (n : ℕ) → n < length body → take n body ++ slice_index body n ∷ drop (suc n) body ≡ body
-split_at [] n within = absurd (omega (arith, within))
-split_at (b ∷ bs) zero within = refl
-split_at (b ∷ bs) (suc n) within = ap (λ t. b ∷ t) (split_at bs n (omega (arith, within)))
+split_at body n within = ap (λ t. take n body ++ t) (sym (drop-cons body n 0 within)) ∙ take-append-drop n body
 
 pub text_whole : (bytes : List ℕ) (q n : ℕ) → begins is_quote bytes ≡ true → q ≡ slice_index bytes 0
     → IsRunOf (is_text_byte q) (drop 1 bytes) n → 0 < n → n < length (drop 1 bytes) → slice_index (drop 1 bytes) n ≡ q

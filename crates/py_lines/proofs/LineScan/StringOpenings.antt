@@ -114,7 +114,7 @@ module _ (old : Scan) (s : Scanned) (read : List ℕ) (c : ℕ) (on : KeepsUp ol
         by progress.Going (inl goes) =
             let holds = subst (λ m. HoldsOpen m s.done s.held) here on.sound.holds in
             subst (Takes old s c progress.Going) (sym goes.same)
-            (takes_grown old s read c on new.fields modes.Fielded (grows_so (λ e. cc)) (goes.next, string_more s.held c _ holds ∙ opened_as_body (host_in h) s.held c parts.0 ∙ goes.goes, goes.follows))
+            (takes_grown old s read c on goes.fields modes.Fielded (grows_so (λ e. cc)) (goes.next, string_more s.held c _ holds ∙ opened_as_body (host_in h) s.held c parts.0 ∙ goes.goes, goes.follows))
         by progress.Going (inr shut) = absurd (let clash = sym goes_so ∙ shut.move in cc)
         by (progress.LineEnded len) never = absurd never
         by progress.Refused stuck = absurd (let clash = sym goes_so ∙ stuck.0 in cc)

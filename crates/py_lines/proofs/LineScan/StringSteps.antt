@@ -15,7 +15,7 @@ use Rattle.py_lines.specs.declared.scan.OpenPiece.{OpenPiece}
 use Rattle.py_lines.specs.declared.scan.Scan.{Scan}
 use Rattle.py_lines.specs.declared.mode.Start.TheVariants as starts
 use Rattle.py_lines.specs.Private.Machine.{Scanned, start_of, character_kind}
-use Rattle.py_lines.specs.Private.FieldScan.{Follows, ComesTo, PushesField, RefusesField, EndsField}
+use Rattle.py_lines.specs.Private.FieldScan.{ComesTo, PushesField, RefusesField, EndsField}
 use Rattle.py_lines.specs.Private.FieldMachine.{FieldMode, Level, FieldScanned, grows, field_state, field_move, field_moved, frames, has_room_at, field_text_start, field_step, field_steps_from}
 use Rattle.py_lines.specs.Private.FieldFaults.{here}
 use Rattle.py_lines.specs.Private.ScanMachine.{string_state, string_move, fielded_move, move_at, IsInString, IsScanSound}
@@ -112,15 +112,7 @@ module _ (old : Scan) (f : FieldScan) (c depth : ℕ) (p : FieldProgress) (same 
   pub goes_on : (new : Scan) → p ≡ progress.Going → new ≡ in_mode (with_character (with_field_scan old f) c) modes.Fielded → GoesOnInString old t c new
   goes_on new going is =
       let (next, goes, move, inside, follows) = came_to progress.Going going in
-      let scans : new.fields ≡ f = ap (λ (s : Scan). s.fields) is in
-      record {
-        next = next;
-        goes = goes;
-        move = move;
-        inside = inside;
-        follows = subst (λ (g : FieldScan). Follows g old.piece.start next) (sym scans) follows;
-        same = is ∙ ap (λ (g : FieldScan). in_mode (with_character (with_field_scan old g) c) modes.Fielded) (sym scans);
-      }
+      record { fields = f; next = next; goes = goes; move = move; inside = inside; follows = follows; same = is }
 
   pub closes_it : (new : Scan) → p ≡ progress.Closed → new ≡ freed (with_character (with_field_scan old f) c) → ClosesString old t c new
   closes_it new closed is = record { fields = f; move = came_to progress.Closed closed; same = is }

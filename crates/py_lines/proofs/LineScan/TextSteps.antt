@@ -182,10 +182,7 @@ module _ (n : ℕ) (base : List Piece) (after : List ℕ) (level : brackets_of b
 
   -- the machine where the line has come
   pub joined : (read : List ℕ) (s : Scanned) (st : List Bracket) → AreReadBefore base (read ++ after) → Base n base → GoesTo (line_start (first_mode n)) read s st → Joined base read s st after
-  joined [] s st fit is goes = joined_none s st fit is (the_state (line_start (first_mode n)) s goes.run)
-    where
-      the_state : (a b : Scanned) → Some a ≡ Some b → a ≡ b
-      the_state a b same = cc
+  joined [] s st fit is goes = joined_none s st fit is (let same = goes.run in cc)
   joined (c ∷ cs) s st fit is goes = joined_full c cs s st fit is goes
 
 -- a line after others begins with no mark

@@ -67,9 +67,6 @@ module _ (bytes : List ℕ) (m : Mode) (before : List ℕ) where
     stands = subst (λ (t : List ℕ). comes m t k after) (append_assoc before c.run run) on;
   }
 
-  later_byte : (from i : ℕ) → slice_index (drop from bytes) i ≡ slice_index bytes (from + i)
-  later_byte from i = get_or-drop from bytes i 0
-
   -- over plain bytes
   plain_further : (from len n : ℕ) (st : List Bracket) → ComesBefore from n st → from + len ≤ length bytes
       → ((i : ℕ) → from ≤ i → i < from + len → is_plain (slice_index bytes i) ≡ true) → ComesBefore (from + len) n st
@@ -77,7 +74,7 @@ module _ (bytes : List ℕ) (m : Mode) (before : List ℕ) where
       let run = take len (drop from bytes) in
       let all : list_all is_plain run ≡ true =
       all_pass is_plain (drop from bytes) len (omega (arith, room, length-drop from bytes))
-      (λ i less. ap is_plain (later_byte from i) ∙ plain (from + i) (omega arith) (omega (arith, less))) in
+      (λ i less. ap is_plain (get_or-drop from bytes i 0) ∙ plain (from + i) (omega arith) (omega (arith, less))) in
       let spell = (low_encodes is_plain run (λ c is. code_low c (plain_code c is)) all).0 in
       let split : drop from bytes ≡ run ++ drop (from + len) bytes =
       sym (take-append-drop len (drop from bytes)) ∙ ap (λ t. run ++ t) (drop-drop len from bytes) in
@@ -114,16 +111,13 @@ record EndsSo (len : ℕ) (after : List ℕ) (returned : Bool) (m : Mode) (read 
 
 module _ (first : Scan) (bytes : List ℕ) (m : Mode) (line : ℕ) (whole : List ℕ) (start : IsScanSound (line_start m) [])
     (r : Reached m line whole first bytes) where
-  before_size : byte_len r.read ≡ first.stop
-  before_size = sym (way_stop m first r.read r.way start)
-
   before_tail : first.piece.mode ≡ modes.Free → tail_of r.read ≡ None
   before_tail free =
       (free_tail m r.read (line_ends r.read) (stack_of first.brackets) (way_free m first r.read start r.scalars r.way free)).0
 
   size : (at n : ℕ) (st : List Bracket) (stands : Stand) → (c : ComesTo bytes m r.read at n st stands)
       → byte_len (r.read ++ c.run) ≡ first.stop + at
-  size at n st stands c = omega (arith, byte_len-append r.read c.run, before_size, ap length c.spell, length-take-le at bytes c.within)
+  size at n st stands c = omega (arith, byte_len-append r.read c.run, way_stop m first r.read r.way start, ap length c.spell, length-take-le at bytes c.within)
 
   spells : (at n : ℕ) (st : List Bracket) (stands : Stand) → (c : ComesTo bytes m r.read at n st stands)
       → encode_utf8_all (r.read ++ c.run) ++ drop at bytes ≡ whole

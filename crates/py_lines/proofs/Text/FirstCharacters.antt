@@ -44,6 +44,10 @@ begins_with bytes rest c scalar is = record {
   spell = ap (λ t. encode_utf8 c ++ t) (ap (drop (len_utf8 c)) is ∙ ap (λ (n : ℕ). drop n (encode_utf8 c ++ rest)) (sym (length-encode c)) ∙ drop-append_seam (encode_utf8 c) rest) ∙ sym is;
 }
 
+-- so many bytes it has
+pub first_size : {bytes : List ℕ} {c : ℕ} → BeginsWith bytes c → len_utf8 c + length (drop (len_utf8 c) bytes) ≡ length bytes
+first_size {bytes = bytes} {c = c} next = omega (arith, ap length next.spell, length-append (encode_utf8 c) (drop (len_utf8 c) bytes), length-encode c)
+
 pub ascii_begins : (bytes : List ℕ) → 0 < length bytes → slice_index bytes 0 < 128 → BeginsWith bytes (slice_index bytes 0)
 ascii_begins [] some low = absurd (omega (arith, some))
 ascii_begins (b ∷ bs) some low = begins_with (b ∷ bs) bs b (low_scalar b (omega (arith, low))) (ap (λ t. t ++ bs) (sym (encode_ascii b low)))

@@ -11,7 +11,7 @@ use Rattle.std.specs.Str.{IsAscii}
 use Rattle.std.proofs.lemmas.List.{take_rest, length-map, length-drop, length-append, length-replicate, get_or-drop, get_or_append_left, get_or-append_right, get_or-replicate, take-map}
 use Rattle.std.proofs.lemmas.List.Sums.{prefix_len-le-length, prefix_len_passes, prefix_len_stops}
 use Rattle.std.proofs.lemmas.Bool.{both_ways, ne_eqb, cases_lt}
-use Rattle.std.proofs.Math.Bool.{or-false}
+use Rattle.std.proofs.Math.Bool.{not-not, or-false}
 use Rattle.py_lines.specs.Character.{is_one_of}
 use Rattle.py_lines.specs.Private.Run.{CountsSet, Marks, IsRunOf}
 
@@ -75,10 +75,6 @@ unset : (b : Bool) → ltb (cond b 255 0) 128 ≡ not b
 unset true = refl
 unset false = refl
 
-not_not : (b : Bool) → not (not b) ≡ b
-not_not true = refl
-not_not false = refl
-
 -- a bit for each lane that isn't marked
 abbrev pub unset_bits : List ℕ → ℕ
 unset_bits ms = mask_l (map (top 7) (zip2 (λ a b. cond (ltb a b) 255 0) ms (replicate 16 128))) % 2 ^ 64
@@ -95,7 +91,7 @@ pub first_unset : (p : ℕ → Bool) (vs ms : List ℕ) → length vs ≡ 16 →
 first_unset p vs ms long e =
     ap (λ (m : ℕ). cond (eqb m 0) 16 (count_trailing_zeros 64 m)) (unset_bits_are p vs ms long e)
     ∙ first_set_mask_l (λ x. not (p x)) vs 16 long (omega arith)
-    ∙ (λ i. prefix_len (λ x. not_not (p x) i) vs)
+    ∙ (λ i. prefix_len (λ x. not-not (p x) i) vs)
 
 pub all_set : (p : ℕ → Bool) (vs ms : List ℕ) → length vs ≡ 16 → Marks p vs ms → unset_bits ms ≡ 0 → 16 ≡ prefix_len p vs
 all_set p vs ms long e none = sym (ap (λ (m : ℕ). cond (eqb m 0) 16 (count_trailing_zeros 64 (unset_bits ms))) none) ∙ first_unset p vs ms long e

@@ -5,7 +5,7 @@ use Rattle.std.specs.Str.{all_scalars}
 use Rattle.std.specs.Str.{StartsWithNoChar, IsValidUpTo, IsUtf8}
 use Rattle.std.specs.Char.{IsScalar}
 use Rattle.std.proofs.lemmas.Str.{cons_from_encodes, encode_same, length-encode, len_utf8_bounds, IsUtf8-append, IsUtf8-encode, encodes-append}
-use Rattle.std.proofs.lemmas.List.{drop_all, drop-drop, length-drop, length-take-le, take-append-drop, take_rest}
+use Rattle.std.proofs.lemmas.List.{drop_all, drop-drop, length-drop, take-append-drop, take_rest}
 use Rattle.std.proofs.Math.Seq.{take-add, take-append_seam}
 use Rattle.std.proofs.lemmas.Bool.{and_parts, and_from}
 

@@ -93,12 +93,13 @@ pub record StandsInString (scan : Scan) (t : FieldScanned) : Type 0 where
 
 -- a character goes on in that string
 pub record GoesOnInString (old : Scan) (t : FieldScanned) (c : ℕ) (new : Scan) : Type 0 where
+  pub fields : FieldScan
   pub next : FieldScanned
   pub goes : field_step t c ≡ Some next
   pub move : fielded_move (depth_of old.brackets) (Some t) c ≡ moves.Grows modes.Fielded
   pub inside : IsInString next
-  pub follows : Follows new.fields old.piece.start next
-  pub same : new ≡ in_mode (with_character (with_field_scan old new.fields) c) modes.Fielded
+  pub follows : Follows fields old.piece.start next
+  pub same : new ≡ in_mode (with_character (with_field_scan old fields) c) modes.Fielded
 
 -- or closes it
 pub record ClosesString (old : Scan) (t : FieldScanned) (c : ℕ) (new : Scan) : Type 0 where

@@ -1,10 +1,8 @@
-use Rattle.std.proofs.Common.{◌-◌, length, take, drop, sym, subst, arith, length-append, ap, ◌∙◌}
-use Rattle.std.specs.Prelude.{encode_utf8}
-use Rattle.std.specs.Char.{len_utf8}
-use Rattle.std.proofs.lemmas.Str.{length-encode}
+use Rattle.std.proofs.Common.{◌-◌, length, take, drop, sym, subst, arith, ◌∙◌}
 use Rattle.py_lines.specs.declared.scan.Scan.{Scan}
 use Rattle.py_lines.specs.declared.scan.Stop.TheVariants as stops
 use Rattle.py_lines.proofs.LineScan.LineStops.{GoesTo, StopsNow, gone, goes_long, left_ends, left_goes, goes_run, goes_character, stops_line, stops_returned, stops_refused, stops_text}
+use Rattle.py_lines.proofs.Text.FirstCharacters.{first_size}
 use Rattle.py_lines.proofs.scan.Scan.extend.Goals as goal
 use Rattle.py_lines.proofs.scan.Scan.extend.Goals.{In-Bytes, In-Going}
 
@@ -43,10 +41,8 @@ returns-then-ends_before c = record {
 pub push-requires : goal.push-requires
 push-requires c =
     let at = gone c.requires.way (left_to (goal.at.push-requires c).In-Bytes) in
-    let size = ap length c.in-Some.ensures.spell in
-    let char = length-append (encode_utf8 c.in-Some.c) (drop (len_utf8 c.in-Some.c) c.in-Bytes.left.now) in
     record {
-      bytes = omega (arith, c.requires.bytes, at.room, size, char, length-encode c.in-Some.c);
+      bytes = omega (arith, c.requires.bytes, at.room, first_size c.in-Some.ensures);
       lines = omega (arith, c.requires.lines, at.room, at.lines);
       placed = at.placed;
     }

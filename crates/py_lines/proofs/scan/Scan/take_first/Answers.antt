@@ -1,10 +1,11 @@
-use Rattle.std.proofs.Common.{◌≡◌, ◌-◌, ◌<◌, length, take, drop, sym, ap, ◌∙◌, subst, arith, List, ℕ, length-append, length-drop}
-use Rattle.std.specs.Prelude.{encode_utf8, encode_utf8_all}
+use Rattle.std.proofs.Common.{◌≡◌, ◌-◌, length, take, drop, sym, ap, ◌∙◌, subst, arith, List, ℕ, length-append}
+use Rattle.std.specs.Prelude.{encode_utf8_all}
 use Rattle.std.specs.Char.{len_utf8}
 use Rattle.std.proofs.lemmas.List.{take_rest}
-use Rattle.std.proofs.lemmas.Str.{length-encode, len_utf8_bounds}
+use Rattle.std.proofs.lemmas.Str.{len_utf8_bounds}
 use Rattle.py_lines.specs.Private.Run.{HoldsRun}
 use Rattle.py_lines.proofs.LineTokens.StringScans.{InFirst, at_start, begins_string, first_run, first_stands, passed_all, passed_before, passed_with, still_first}
+use Rattle.py_lines.proofs.Text.FirstCharacters.{first_size}
 use Rattle.py_lines.proofs.scan.Scan.take_first.Goals as goal
 use Rattle.py_lines.proofs.scan.Scan.take_first.Goals.{Else-is_free}
 
@@ -29,11 +30,9 @@ returns-then-ends_piece_before c p is begin =
 
 pub push-requires : goal.push-requires
 push-requires c =
-    let spell = ap length c.in-Some.ensures.spell in
-    let char = length-append (encode_utf8 c.in-Some.c) (drop (len_utf8 c.in-Some.c) c.characters.rest.now) in
     let stands = first_stands c.characters.invariant.first in
     record {
-      bytes = omega (arith, c.requires.bytes, stands.room, spell, char, length-encode c.in-Some.c);
+      bytes = omega (arith, c.requires.bytes, stands.room, first_size c.in-Some.ensures);
       lines = omega (arith, c.requires.bytes, stands.room, stands.lines, stands.line);
       placed = stands.placed;
     }
@@ -67,25 +66,9 @@ characters-preserved c =
     record { first = first_run (goes (goal.at.characters-preserved c).Else-is_free) (subst Held after c.hold-rest.ensures) }
 
 pub slice_bounds-hold-count : goal.slice_bounds-hold-count
-slice_bounds-hold-count c =
-    let after = drop (len_utf8 c.in-Some.c) c.characters.rest.now in
-    let spell = ap length c.in-Some.ensures.spell in
-    omega (arith, c.len_utf8.ensures.value, spell, length-append (encode_utf8 c.in-Some.c) after, length-encode c.in-Some.c)
+slice_bounds-hold-count c = omega (arith, c.len_utf8.ensures.value, first_size c.in-Some.ensures)
 
 pub characters-smaller : goal.characters-smaller
 characters-smaller c =
-    let rest = c.characters.rest.now in
-    let left = c.hold-rest.result.now in
-    let held = ap length (c.hold-rest.ensures.spell ∙ after_is rest c.in-Some.c c.len_utf8.result c.len_utf8.ensures.value) in
-    let less : length left < length rest
-    = omega (
-      arith,
-      held,
-      length-append (encode_utf8_all c.hold-rest.ensures.run) left,
-      length-drop (len_utf8 c.in-Some.c) rest,
-      len_utf8_bounds c.in-Some.c,
-      ap length c.in-Some.ensures.spell,
-      length-append (encode_utf8 c.in-Some.c) (drop (len_utf8 c.in-Some.c) rest),
-      length-encode c.in-Some.c,
-    ) in
-    less
+    let held = ap length (c.hold-rest.ensures.spell ∙ after_is c.characters.rest.now c.in-Some.c c.len_utf8.result c.len_utf8.ensures.value) in
+    omega (arith, held, length-append (encode_utf8_all c.hold-rest.ensures.run) c.hold-rest.result.now, first_size c.in-Some.ensures, len_utf8_bounds c.in-Some.c)
