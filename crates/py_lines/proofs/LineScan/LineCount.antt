@@ -32,12 +32,11 @@ counted_push line old read c is = record {
 }
 
 -- a text has no more line ends than characters
-one_end : (c : ℕ) (cs : List ℕ) → cond (ends_line c cs) 1 0 ≤ 1
-one_end c cs = cond_both (ends_line c cs) 1 0 (λ n. n ≤ 1) (λ h. omega arith) (λ h. omega arith)
-
 pub line_ends-le : (cs : List ℕ) → line_ends cs ≤ length cs
 line_ends-le [] = omega arith
-line_ends-le (c ∷ cs) = omega (arith, one_end c cs, line_ends-le cs)
+line_ends-le (c ∷ cs) =
+    let one = cond_both (ends_line c cs) 1 0 (λ n. n ≤ 1) (λ h. omega arith) (λ h. omega arith) in
+    omega (arith, one, line_ends-le cs)
 
 pub line_ends-bytes : (cs : List ℕ) → line_ends cs ≤ byte_len cs
 line_ends-bytes cs = omega (arith, line_ends-le cs, length-le-encodes cs)

@@ -246,14 +246,14 @@ module _ {first : Scan} {text : List ℕ} {old : Scan} {before : List ℕ} (goes
         by t progress.Refused is comes o = subst (λ scan. Reached m line whole scan before) (sym comes.1) o
 
 -- at a line's start the scan stands before all of it
-pub begun_reached : (old : Scan) (text bytes : List ℕ) → bytes ≡ text → Tallies old (line_start old.piece.mode)
-    → IsStacked old (line_start old.piece.mode) → Reached old.piece.mode old.line text old bytes
-begun_reached old text bytes is tallies stacked = record {
+pub begun_reached : {m : Mode} {line : ℕ} {text bytes : List ℕ} {old : Scan} → bytes ≡ text → Tallies old (line_start m) → IsStacked old (line_start m)
+    → old.line ≡ line → Reached m line text old bytes
+begun_reached {m = m} is tallies stacked line = record {
   read = [];
-  way = record { state = line_start old.piece.mode; steps = refl; tallies = tallies; stacked = stacked; one_line = tt };
+  way = record { state = line_start m; steps = refl; tallies = tallies; stacked = stacked; one_line = tt };
   spell = is;
   scalars = refl;
-  line = refl;
+  line = line;
 }
 
 -- what follows characters of a text is characters

@@ -4,6 +4,7 @@ use Rattle.std.specs.Prelude.{encode_utf8_all, if◌then◌else◌, nat_lt}
 use Rattle.std.specs.Str.{all_scalars}
 use Rattle.std.specs.List.{count_by, list_all}
 use Rattle.std.proofs.lemmas.Bool.{and_parts, both_ways, eqb-true, false_from_ne_true, or_cases}
+use Rattle.std.proofs.Math.Bool.{and-true, or-false}
 use Rattle.std.proofs.lemmas.List.Sums.{sum_by-append}
 use Rattle.std.proofs.lemmas.Str.{encodes-append}
 use Rattle.py_lines.specs.Character.{is_backslash, is_line_feed, is_quote, is_return}
@@ -73,11 +74,7 @@ module _ (q : ℕ) (quote : is_quote q ≡ true) where
   -- each LF among them ends a line
   counts : (c : ℕ) → is_return c ≡ false → counts_after false c ≡ cond (is_feed c) 1 0
   unfolding counts_after is_line_feed
-  counts c unreturned = rw unreturned (go (c == 10))
-    where
-      go : (feeds : Bool) → ◌≡◌ {A = ℕ} (if (feeds || false) && true then 1 else 0) (cond feeds 1 0)
-      go true = refl
-      go false = refl
+  counts c unreturned = rw (unreturned, or-false (c == 10), and-true (c == 10)) refl
 
   pub long_counts : (before run : List ℕ) → ends is_return before ≡ false → list_all (is_long_byte q) run ≡ true
       → (line_ends (before ++ run) ≡ line_ends before + count_by is_feed run) × (ends is_return (before ++ run) ≡ false)

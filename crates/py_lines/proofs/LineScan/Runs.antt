@@ -209,13 +209,8 @@ holds_run old mid new text n held how = record {
 
 -- no line ends in a run
 pub counts_none : (after : Bool) (c : ℕ) → is_break c ≡ false → counts_after after c ≡ 0
-unfolding counts_after is_break is_return is_line_feed
-counts_none after c none = go (c == 10) (c == 13) none
-  where
-    go : (f r : Bool) → f || (r || false) ≡ false → ◌≡◌ {A = ℕ} (if (r || false) then 1 else (if (f || false) && not after then 1 else 0)) 0
-    go true r e = absurd (both_ways _ e refl)
-    go false true e = absurd (both_ways _ e refl)
-    go false false e = refl
+unfolding counts_after is_break is_line_feed
+counts_none after c none = rw (break-return c none, (or_parts (c == 10) (is_one_of (codes "\r") c) none).0) refl
 
 pub line_ends-run : (before run : List ℕ) → list_all (λ d. not (is_break d)) run ≡ true → line_ends (before ++ run) ≡ line_ends before
 line_ends-run before [] all = ap line_ends (append-nil before)

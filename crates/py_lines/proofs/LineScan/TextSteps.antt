@@ -205,12 +205,6 @@ follows_base n base u read after to (Base.lined body last is class any mode) spe
     unmarked [] fit' goes = refl
     unmarked (p ∷ ps) fit' goes = no_mark p.class p.text (spelled ps) fit'.0 goes
 
--- where a character isn't taken, the text through it isn't live
-pub dead_stop : (before : List ℕ) (s : Scanned) (st : List Bracket) (c : ℕ) → RunsTo before s st → advance s c ≡ None → ¬ (IsLive (before ++ c ∷ []))
-dead_stop before s st c steps none live =
-    let found = live_runs (before ++ c ∷ []) live in
-    stops_there c steps none found.2
-
 -- a character that the line refuses isn't taken in the text
 pub refused_at : (base : List Piece) (read after more : List ℕ) (s : Scanned) (first : List Bracket) (c : ℕ) (j : Joined base read s first after) → brackets_of base ≡ Some [] → after ≡ c ∷ more → stack_if (scan_step s c) ≡ None → advance j.state c ≡ None
 refused_at base read after more s first c j level follows refuses = ap kept_if (j.next c more follows) ∙ stops (scan_step s c) refuses
@@ -221,4 +215,5 @@ refused_at base read after more s first c j level follows refuses = ap kept_if (
 
 -- so it ends the text's life
 pub dead_at : (base : List Piece) (read after more : List ℕ) (s : Scanned) (first : List Bracket) (c : ℕ) (j : Joined base read s first after) → brackets_of base ≡ Some [] → after ≡ c ∷ more → stack_if (scan_step s c) ≡ None → ¬ (IsLive ((spelled base ++ read) ++ c ∷ []))
-dead_at base read after more s first c j level follows refuses = dead_stop (spelled base ++ read) j.state j.st c j.steps (refused_at base read after more s first c j level follows refuses)
+dead_at base read after more s first c j level follows refuses live =
+    stops_there c j.steps (refused_at base read after more s first c j level follows refuses) (live_runs ((spelled base ++ read) ++ c ∷ []) live).2

@@ -29,7 +29,7 @@ use Rattle.py_lines.proofs.LogicalLines.Cuts.{byte_len-append}
 use Rattle.py_lines.proofs.ScanMachine.Advance.{steps_push}
 use Rattle.py_lines.proofs.LineScan.PieceEnd.{no_class_bracket}
 use Rattle.py_lines.proofs.LineScan.LineSteps.{way_keeps}
-use Rattle.py_lines.proofs.LineScan.LineStops.{Stands, stands_reached}
+use Rattle.py_lines.proofs.LineScan.LineStops.{Stands, begun_reached, stands_reached}
 use Rattle.py_lines.proofs.LineScan.Runs.{reached_character, reached_run}
 use Rattle.py_lines.proofs.LineScan.TextSteps.{begun_sound}
 use Rattle.py_lines.proofs.LineTokens.Strings.{ComesTo, PassesString, sound_from, passes_string, whole_at_end, whole_before, whole_with, open_with, not_refused}
@@ -67,16 +67,7 @@ HasPassed text scan = (scan.stop ≡ byte_len text) × (scan.count.line ≡ 1 + 
 -- at a line's start
 pub at_start : (bytes : List ℕ) {scan : Scan} → Tallies scan (line_start modes.Free) → IsStacked scan (line_start modes.Free)
     → scan.line ≡ 1 → InFirst bytes scan bytes
-at_start bytes tallies stacked line = record {
-  reached = record {
-    read = [];
-    way = record { state = line_start modes.Free; steps = refl; tallies = tallies; stacked = stacked; one_line = tt };
-    spell = refl;
-    scalars = refl;
-    line = line;
-  };
-  first = tallies.counts.start;
-}
+at_start bytes tallies stacked line = record { reached = begun_reached refl tallies stacked line; first = tallies.counts.start }
 
 none_done : (ps : List Piece) (rest : List ℕ) → AreReadBefore ps rest → byte_len (spelled ps) ≡ 0 → ps ≡ []
 none_done [] rest fit none = refl

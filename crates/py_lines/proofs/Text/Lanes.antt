@@ -99,27 +99,6 @@ all_set p vs ms long e none = sym (ap (λ (m : ℕ). cond (eqb m 0) 16 (count_tr
 pub some_unset : (p : ℕ → Bool) (vs ms : List ℕ) → length vs ≡ 16 → Marks p vs ms → (unset_bits ms ≡ 0 → ⊥) → count_trailing_zeros 64 (unset_bits ms) ≡ prefix_len p vs
 some_unset p vs ms long e some = sym (ap (λ b. cond b 16 (count_trailing_zeros 64 (unset_bits ms))) (ne_eqb _ _ some)) ∙ first_unset p vs ms long e
 
--- from a run in sixteen bytes to a run in all
-sixteen_le : (p : ℕ → Bool) (xs : List ℕ) (i r : ℕ) → i + 16 ≤ length xs → r ≡ prefix_len p (chunk i 16 xs) → r ≤ 16
-sixteen_le p xs i r room counted = omega (arith, counted, length-chunk i 16 xs room, prefix_len-le-length p (chunk i 16 xs))
-
-sixteen_pass : (p : ℕ → Bool) (xs : List ℕ) (i r : ℕ) → i + 16 ≤ length xs → r ≡ prefix_len p (chunk i 16 xs)
-    → ((k : ℕ) → k < i → p (slice_index xs k) ≡ true) → (k : ℕ) → k < i + r → p (slice_index xs k) ≡ true
-sixteen_pass p xs i r room counted before k lt =
-    elim (cases_lt k i) [
-      | inl low ↦ before k low
-      | inr high ↦
-          let le = sixteen_le p xs i r room counted in
-          let at : slice_index (chunk i 16 xs) (k - i) ≡ slice_index xs k = get_or-chunk i 16 xs (k - i) 0 (omega arith) ∙ ap (λ j. slice_index xs j) (omega arith) in
-          subst (λ x. p x ≡ true) at (prefix_len_passes p (chunk i 16 xs) (k - i) 0 (omega (arith, counted)))
-    ]
-
-sixteen_stop : (p : ℕ → Bool) (xs : List ℕ) (i r : ℕ) → i + 16 ≤ length xs → r ≡ prefix_len p (chunk i 16 xs)
-    → r < 16 → p (slice_index xs (i + r)) ≡ false
-sixteen_stop p xs i r room counted short =
-    let at : slice_index (chunk i 16 xs) (prefix_len p (chunk i 16 xs)) ≡ slice_index xs (i + r) = ap (λ j. slice_index (chunk i 16 xs) j) (sym counted) ∙ get_or-chunk i 16 xs r 0 short in
-    subst (λ x. p x ≡ false) at (prefix_len_stops p (chunk i 16 xs) 0 (omega (arith, counted, length-chunk i 16 xs room)))
-
 -- sixteen bytes more were looked at, of which so many go on with a run
 pub record Sixteen (p : ℕ → Bool) (xs : List ℕ) (i r : ℕ) : Type 0 where
   pub room : i + 16 ≤ length xs
@@ -131,13 +110,24 @@ pub sixteen : (p : ℕ → Bool) (xs : List ℕ) (i r : ℕ) (mask : List ℕ) �
     → CountsSet mask r → Marks p (chunk i 16 xs) mask → Sixteen p xs i r
 sixteen p xs i r mask within more before counts marks =
     let room : i + 16 ≤ length xs = omega (arith, within, more) in
-    let counted = counts p (chunk i 16 xs) (length-chunk i 16 xs room) marks in
-    let each = sixteen_pass p xs i r room counted before in
+    let block = chunk i 16 xs in
+    let size = length-chunk i 16 xs room in
+    let counted = counts p block size marks in
+    let most : r ≤ 16 = omega (arith, counted, size, prefix_len-le-length p block) in
+    let each : (k : ℕ) → k < i + r → p (slice_index xs k) ≡ true = λ k lt. elim (cases_lt k i) [
+      | inl low ↦ before k low
+      | inr high ↦
+          let at : slice_index block (k - i) ≡ slice_index xs k = get_or-chunk i 16 xs (k - i) 0 (omega arith) ∙ ap (λ j. slice_index xs j) (omega arith) in
+          subst (λ x. p x ≡ true) at (prefix_len_passes p block (k - i) 0 (omega (arith, counted)))
+    ] in
+    let stop : r < 16 → p (slice_index xs (i + r)) ≡ false = λ short.
+        subst (λ x. p x ≡ false) (ap (λ j. slice_index block j) (sym counted) ∙ get_or-chunk i 16 xs r 0 short)
+        (prefix_len_stops p block 0 (omega (arith, counted, size, short))) in
     record {
       room = room;
-      most = sixteen_le p xs i r room counted;
+      most = most;
       each = each;
-      ends = λ short. record { within = omega (arith, room, short); each = each; ends = λ lt. sixteen_stop p xs i r room counted short };
+      ends = λ short. record { within = omega (arith, room, short); each = each; ends = λ lt. stop short };
     }
 
 -- a run goes on with the run that the rest begins with

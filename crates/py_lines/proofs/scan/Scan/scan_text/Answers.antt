@@ -1,4 +1,4 @@
-use Rattle.std.proofs.Common.{sym, ap, ◌∙◌}
+use Rattle.std.proofs.Common.{refl, sym, ap, ◌∙◌}
 use Rattle.py_lines.specs.declared.scan.Scan.{Scan}
 use Rattle.py_lines.specs.Private.Scan.{ScansIn}
 use Rattle.py_lines.proofs.LineScan.LineStops.{begun_reached, scans_returned, scans_alone}
@@ -6,11 +6,11 @@ use Rattle.py_lines.proofs.scan.Scan.scan_text.Goals.{After-extend-stop}
 use Rattle.py_lines.proofs.scan.Scan.scan_text.Goals as goal
 
 pub extend-stop-requires-clause-way : goal.extend-stop-requires-clause-way
-extend-stop-requires-clause-way c = (c.args.self.now.piece.mode, c.args.self.now.line, c.args.text.now, c.requires.sound, begun_reached c.args.self.now c.args.text.now c.as_bytes.result.now c.as_bytes.ensures.value c.requires.start c.requires.stacked)
+extend-stop-requires-clause-way c = (c.args.self.now.piece.mode, c.args.self.now.line, c.args.text.now, c.requires.sound, begun_reached c.as_bytes.ensures.value c.requires.start c.requires.stacked refl)
 
 -- what the scan of the text's bytes came to
 scanned : (c : After-extend-stop) → ScansIn c.args.self.now.piece.mode c.args.self.now.line c.args.text.now c.extend-stop.new.self c.extend-stop.result
-scanned c = c.extend-stop.ensures.stops c.args.self.now.piece.mode c.args.self.now.line c.args.text.now c.requires.sound (begun_reached c.args.self.now c.args.text.now c.as_bytes.result.now c.as_bytes.ensures.value c.requires.start c.requires.stacked)
+scanned c = c.extend-stop.ensures.stops c.args.self.now.piece.mode c.args.self.now.line c.args.text.now c.requires.sound (begun_reached c.as_bytes.ensures.value c.requires.start c.requires.stacked refl)
 
 pub returns-then-is_returned : goal.returns-then-is_returned
 returns-then-is_returned c =
