@@ -1,6 +1,6 @@
 -- Characters that leave the open piece as it is are held in one step.
 use Rattle.std.proofs.Common.{◌≡◌, ℕ, ◌+◌, ◌<◌, ◌≤◌, ◌⊎◌, inl, inr, Bool, true, false, leb, not, ◌||◌, ◌&&◌, ◌==◌, Some, List, [], ◌∷◌, ◌++◌, length, take, drop, slice_index, refl, sym, ap, ◌∙◌, subst, append_assoc, append-nil, arith, ⊎_elim, take-append-drop, length-append, lit<}
-use Rattle.std.specs.Prelude.{encode_utf8_all, encode_utf8, codes, nat_le, if◌then◌else◌}
+use Rattle.std.specs.Prelude.{encode_utf8_all, encode_utf8, codes, nat_le}
 use Rattle.std.specs.Char.{IsScalar}
 use Rattle.std.specs.List.{list_all}
 use Rattle.std.proofs.lemmas.Bool.{and_parts, and_from, cases_lt, both_ways, eqb-true, false_from_ne_true, not-true, leb-false, or_parts}
@@ -164,6 +164,7 @@ held_in scan text n spans quote other =
       scalars = scalars;
       size = ap length spell ∙ size;
       none = λ nothing. refl;
+      fields = scan.fields;
       same = refl;
       stay = stay_in m run other (characters_stay m run quote (λ i less.
           let short : i < n = omega (arith, less, ap length spell, size) in
@@ -181,6 +182,7 @@ string_held old fields text n here held = record {
   scalars = held.scalars;
   size = held.size;
   none = λ nothing. ap (with_field_scan old) (held.none nothing);
+  fields = fields;
   same = refl;
   stay = subst (λ (m : Mode). Stay m old fields held.run) (sym here) (λ text t steps stop follows inside. held.stay old.piece.start text t steps stop follows inside);
 }
@@ -199,13 +201,11 @@ holds_run old mid new text n held how = record {
   run = held.run;
   spell = held.spell;
   scalars = held.scalars;
-  stay = subst (λ fields. Stay old.piece.mode old fields held.run) (sym fields_are) held.stay;
-  reads = ⊎_elim (λ some. inr (full_from held.run (omega (arith, held.size, some.0)), some.1 ∙ ap (with_bytes mid) (sym held.size) ∙ ap (λ scan. with_bytes scan (byte_len held.run)) (held.same ∙ ap (with_field_scan old) (sym fields_are))))
+  fields = held.fields;
+  stay = held.stay;
+  reads = ⊎_elim (λ some. inr (full_from held.run (omega (arith, held.size, some.0)), some.1 ∙ (λ i. with_bytes (held.same i) (sym held.size i))))
       (λ none. inl (none_from held.run (omega (arith, held.size, none.0)), none.1 ∙ held.none (omega (arith, none.0)))) how;
 }
-  where
-    fields_are : new.fields ≡ mid.fields
-    fields_are = ⊎_elim (λ some. ap (λ (scan : Scan). scan.fields) some.1) (λ none. ap (λ (scan : Scan). scan.fields) none.1) how
 
 -- no line ends in a run
 pub counts_none : (after : Bool) (c : ℕ) → is_break c ≡ false → counts_after after c ≡ 0
@@ -286,12 +286,12 @@ way_held m old new read text rest way start holds =
     })
     (λ some.
     let s = way.state in
-    let stay : Stay s.mode old new.fields holds.run = subst (λ (n : Mode). Stay n old new.fields holds.run) way.tallies.counts.mode holds.stay in
-    let on = runs_on old new.fields s.done s.mode s.held read holds.run (sound_steps m read s start way.steps way.stacked) way.tallies way.stacked stay in
+    let stay : Stay s.mode old holds.fields holds.run = subst (λ (n : Mode). Stay n old holds.fields holds.run) way.tallies.counts.mode holds.stay in
+    let on = runs_on old holds.fields s.done s.mode s.held read holds.run (sound_steps m read s start way.steps way.stacked) way.tallies way.stacked stay in
     record {
       state = scanned s.done s.mode (s.held ++ holds.run);
       steps = steps_by-append move_at (Some (line_start m)) read holds.run ∙ ap (λ o. scan_steps o holds.run) way.steps ∙ on.steps;
-      tallies = subst (λ (n : Scan). Tallies n (scanned s.done s.mode (s.held ++ holds.run))) (sym some.1) (record { counts = counts_run old new.fields s holds.run on.none some.0 way.tallies.counts; fields = on.follows });
+      tallies = subst (λ (n : Scan). Tallies n (scanned s.done s.mode (s.held ++ holds.run))) (sym some.1) (record { counts = counts_run old holds.fields s holds.run on.none some.0 way.tallies.counts; fields = on.follows });
       stacked = way.stacked ∙ ap (λ (n : Scan). Some (stack_of n.brackets)) (sym some.1);
       one_line = way.one_line;
     }) holds.reads

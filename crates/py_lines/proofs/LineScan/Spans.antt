@@ -22,25 +22,21 @@ ascii_utf8 bytes n within low =
     let short : i < n = omega (arith, less, size) in
     subst (λ (b : ℕ). b < 128) (sym (get_or-take n bytes i 0 short)) (low i short))))
 
--- a run of ASCII in the body of a string
-pub text_spans : (q : ℕ) (bytes : List ℕ) (n : ℕ) → IsRunOf (is_text_byte q) bytes n → Spans (is_body_byte q) bytes n
-text_spans q bytes n is = record {
-  run = record { within = is.within; each = λ i less. (and_parts (is_body_byte q (slice_index bytes i)) (nat_lt (slice_index bytes i) 128) (is.each i less)).0 };
-  utf8 = ascii_utf8 bytes n is.within (λ i less. ltb-true (slice_index bytes i) 128 (and_parts (is_body_byte q (slice_index bytes i)) (nat_lt (slice_index bytes i) 128) (is.each i less)).1);
-}
-
 -- a run of ASCII
-low_spans : (passes : ℕ → Bool) → ((c : ℕ) → passes c ≡ true → c < 128) → (bytes : List ℕ) (n : ℕ) → IsRunOf passes bytes n → Spans passes bytes n
-low_spans passes low bytes n is = record {
-  run = record { within = is.within; each = is.each };
-  utf8 = ascii_utf8 bytes n is.within (λ i less. low (slice_index bytes i) (is.each i less));
+low_spans : (passes other : ℕ → Bool) → ((c : ℕ) → passes c ≡ true → (other c ≡ true) × (c < 128)) → (bytes : List ℕ) (n : ℕ) → IsRunOf passes bytes n → Spans other bytes n
+low_spans passes other low bytes n is = record {
+  run = record { within = is.within; each = λ i less. (low (slice_index bytes i) (is.each i less)).0 };
+  utf8 = ascii_utf8 bytes n is.within (λ i less. (low (slice_index bytes i) (is.each i less)).1);
 }
 
 pub word_spans : (bytes : List ℕ) (n : ℕ) → IsRunOf is_ascii_word bytes n → Spans is_ascii_word bytes n
-word_spans = low_spans is_ascii_word word_byte_low
+word_spans = low_spans is_ascii_word is_ascii_word (λ c h. (h, word_byte_low c h))
 
 pub space_spans : (bytes : List ℕ) (n : ℕ) → IsRunOf is_space bytes n → Spans is_space bytes n
-space_spans = low_spans is_space space_low
+space_spans = low_spans is_space is_space (λ c h. (h, space_low c h))
+
+pub text_spans : (q : ℕ) (bytes : List ℕ) (n : ℕ) → IsRunOf (is_text_byte q) bytes n → Spans (is_body_byte q) bytes n
+text_spans q = low_spans (is_text_byte q) (is_body_byte q) (λ c h. let parts = and_parts (is_body_byte q c) (nat_lt c 128) h in (parts.0, ltb-true c 128 parts.1))
 
 -- the text that a run begins with
 pub run_spans : (passes : ℕ → Bool) (bytes : List ℕ) (r n : ℕ) → IsRunOf passes bytes r → n ≤ length (take r bytes) → IsUtf8 (take n (take r bytes)) → Spans passes bytes n

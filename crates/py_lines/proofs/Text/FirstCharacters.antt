@@ -6,7 +6,7 @@ use Rattle.std.specs.Char.{IsScalar, len_utf8}
 use Rattle.std.proofs.Math.Nat.{le-min, min-le_left}
 use Rattle.std.proofs.Math.Utf8.{low_scalar, scalar_cases}
 use Rattle.std.proofs.lemmas.Bool.{and_parts, both_ways}
-use Rattle.std.proofs.lemmas.List.{take_all}
+use Rattle.std.proofs.lemmas.List.{get_or_append_left, take_all}
 use Rattle.std.proofs.lemmas.Str.{cons_from_encodes, encode_ascii, length-encode, len_utf8_bounds, IsUtf8-encode}
 use Rattle.std.proofs.Math.Seq.{take-append_seam, drop-append_seam}
 use Rattle.py_lines.specs.Private.Run.{BeginsWith}
@@ -60,15 +60,11 @@ some_bytes (b ∷ bs) none = omega arith
 abbrev pub Tells : List ℕ → ℕ → Type 0
 Tells bytes len = (c : ℕ) → IsScalar c → slice_index bytes 0 ≡ slice_index (encode_utf8 c) 0 → len ≡ len_utf8 c
 
-some_index : (a b : List ℕ) → 0 < length a → slice_index (a ++ b) 0 ≡ slice_index a 0
-some_index [] b some = absurd (omega (arith, some))
-some_index (x ∷ xs) b some = refl
-
 -- if so many bytes aren't text, no character begins there
 pub none_encoded : (bytes : List ℕ) (len n k : ℕ) → Tells bytes len → n ≡ min len (length bytes) → IsValidUpTo (take n bytes) k → StartsWithNoChar bytes
 none_encoded bytes len n k tells least valid c rest scalar is =
     let size : length bytes ≡ length (encode_utf8 c) + length rest = ap length is ∙ length-append (encode_utf8 c) rest in
-    let first : slice_index bytes 0 ≡ slice_index (encode_utf8 c) 0 = ap (λ t. slice_index t 0) is ∙ some_index (encode_utf8 c) rest (omega (arith, length-encode c, len_utf8_bounds c)) in
+    let first : slice_index bytes 0 ≡ slice_index (encode_utf8 c) 0 = ap (λ t. slice_index t 0) is ∙ get_or_append_left (encode_utf8 c) rest 0 0 (omega (arith, length-encode c, len_utf8_bounds c)) in
     let told : len ≡ length (encode_utf8 c) = tells c scalar first ∙ sym (length-encode c) in
     let both : length (encode_utf8 c) ≤ min len (length bytes) = le-min (omega (arith, told)) (omega (arith, size)) in
     let all : n ≡ length (encode_utf8 c) = omega (arith, least, both, told, min-le_left len (length bytes)) in

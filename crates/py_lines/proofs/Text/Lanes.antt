@@ -121,8 +121,8 @@ sixteen p xs i r mask within more before counts marks =
           subst (λ x. p x ≡ true) at (prefix_len_passes p block (k - i) 0 (omega (arith, counted)))
     ] in
     let stop : r < 16 → p (slice_index xs (i + r)) ≡ false = λ short.
-        subst (λ x. p x ≡ false) (ap (λ j. slice_index block j) (sym counted) ∙ get_or-chunk i 16 xs r 0 short)
-        (prefix_len_stops p block 0 (omega (arith, counted, size, short))) in
+    subst (λ x. p x ≡ false) (ap (λ j. slice_index block j) (sym counted) ∙ get_or-chunk i 16 xs r 0 short)
+    (prefix_len_stops p block 0 (omega (arith, counted, size, short))) in
     record {
       room = room;
       most = most;

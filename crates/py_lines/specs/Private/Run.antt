@@ -152,16 +152,18 @@ pub record HeldIn (old : Scan) (text : List ℕ) (n : ℕ) (new : Scan) : Type 0
   pub scalars : all_scalars run ≡ true
   pub size : byte_len run ≡ n
   pub none : n ≡ 0 → new ≡ old
-  pub stay : Stay old.piece.mode old new.fields run
-  pub same : new ≡ with_field_scan old new.fields
+  pub fields : FieldScan
+  pub stay : Stay old.piece.mode old fields run
+  pub same : new ≡ with_field_scan old fields
 
 -- some characters that the text begins with, and that leave the open piece as it is, were read; or none
 pub record HoldsRun (old : Scan) (text rest : List ℕ) (new : Scan) : Type 0 where
   pub run : List ℕ
   pub spell : encode_utf8_all run ++ rest ≡ text
   pub scalars : all_scalars run ≡ true
-  pub stay : Stay old.piece.mode old new.fields run
-  pub reads : ((run ≡ []) × (new ≡ old)) ⊎ (IsFull run × (new ≡ with_bytes (with_field_scan old new.fields) (byte_len run)))
+  pub fields : FieldScan
+  pub stay : Stay old.piece.mode old fields run
+  pub reads : ((run ≡ []) × (new ≡ old)) ⊎ (IsFull run × (new ≡ with_bytes (with_field_scan old fields) (byte_len run)))
 
 -- bytes of an open string of three quotes were read, with which the text begins
 pub record ReadsLongText (old : Scan) (text rest : List ℕ) (new : Scan) : Type 0 where
