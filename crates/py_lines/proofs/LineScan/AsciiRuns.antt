@@ -4,8 +4,7 @@ use Rattle.std.specs.Prelude.{encode_utf8_all, codes, nat_lt}
 use Rattle.std.specs.Str.{all_scalars}
 use Rattle.std.specs.List.{list_all}
 use Rattle.std.specs.Char.{IsScalar}
-use Rattle.std.proofs.lemmas.Bool.{and_parts, and_from, both_ways}
-use Rattle.std.proofs.lemmas.Bool.Decides.{nat_tests}
+use Rattle.std.proofs.lemmas.Bool.{and_parts, and_from, both_ways, lt-ltb, ltb-true}
 use Rattle.std.proofs.lemmas.Str.{encode_ascii}
 use Rattle.std.proofs.Math.Utf8.{low_scalar}
 use Rattle.py_lines.specs.Character.{is_space, is_word_start, is_quote, is_operator, is_break}
@@ -83,10 +82,10 @@ abbrev pub is_low : ℕ → Bool
 is_low c = nat_lt c 128
 
 pub low_is : (c : ℕ) → nat_lt c 128 ≡ true → c < 128
-low_is c h = grind (arith, nat_tests)
+low_is c h = ltb-true c 128 h
 
 pub is_low_from : (c : ℕ) → c < 128 → nat_lt c 128 ≡ true
-is_low_from c h = grind (arith, nat_tests)
+is_low_from c h = lt-ltb c 128 h
 
 pub free_is : (m : Mode) → is_free m ≡ true → m ≡ modes.Free
 free_is modes.Free h = refl

@@ -129,7 +129,7 @@ reached_long m at text old new mid rest r start (inl (same, still)) =
 reached_long m at text old new mid rest r start (inr reads) =
     let way = r.way in
     let sound = sound_steps m r.read way.state start way.steps way.stacked in
-    let quote = long_quote way.state.mode way.state.done way.state.held reads.quote sound.holds (sym way.tallies.counts.mode ∙ reads.here) in
+    let quote = (subst (λ (n : Mode). HoldsOpen n way.state.done way.state.held) (sym way.tallies.counts.mode ∙ reads.here) sound.holds).0.opens in
     let chars = long_characters reads.quote quote reads.run reads.all in
     record {
       read = r.read ++ reads.run;
@@ -139,6 +139,3 @@ reached_long m at text old new mid rest r start (inr reads) =
       scalars = all_scalars-append r.read reads.run r.scalars chars.1;
       line = ap (λ (s : Scan). s.line) reads.reads ∙ r.line;
     }
-  where
-    long_quote : (mode : Mode) (done : List Piece) (held : List ℕ) (q : ℕ) → HoldsOpen mode done held → mode ≡ modes.Long q → is_quote q ≡ true
-    long_quote mode done held q holds is = let here : HoldsOpen (modes.Long q) done held = subst (λ (n : Mode). HoldsOpen n done held) is holds in here.0.opens

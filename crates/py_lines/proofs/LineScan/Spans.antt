@@ -1,9 +1,7 @@
 -- Whole characters that leave the open piece as it is.
-use Rattle.std.proofs.Common.{◌≡◌, ℕ, ◌+◌, ◌-◌, ◌<◌, ◌≤◌, Bool, true, false, Some, List, length, take, drop, slice_index, inl, inr, sym, ap, ◌∙◌, subst, arith, length-drop, length-take}
+use Rattle.std.proofs.Common.{◌≡◌, ℕ, ◌+◌, ◌-◌, ◌<◌, ◌≤◌, Bool, true, Some, List, length, take, drop, slice_index, inl, inr, sym, ap, ◌∙◌, subst, arith, length-drop, length-take}
 use Rattle.std.specs.Prelude.{IsUtf8, nat_lt}
-use Rattle.std.specs.Char.{is_ascii}
 use Rattle.std.proofs.lemmas.Bool.{and_from, and_parts, both_ways, cases_lt, false_from_ne_true, lt-ltb, ltb-true}
-use Rattle.std.proofs.lemmas.Bool.Decides.{nat_tests}
 use Rattle.std.proofs.lemmas.List.{length-take-le, get_or-take, get_or-drop, take-take, take_rest}
 use Rattle.std.proofs.lemmas.List.Elements.{All-from_get_or}
 use Rattle.std.proofs.lemmas.Str.{IsUtf8-from_ascii, IsUtf8-append}
@@ -67,18 +65,12 @@ spans_on passes bytes n m first taken =
 remark_parts : (c : ℕ) → is_remark_byte c ≡ true → (is_comment_byte c ≡ true) × (c < 128)
 remark_parts c h = let parts = and_parts (is_comment_byte c) (nat_lt c 128) h in (parts.0, ltb-true c 128 parts.1)
 
-comment_ends : (c : ℕ) → c < 128 → is_remark_byte c ≡ false → is_comment_byte c ≡ false
-comment_ends c less none = false_from_ne_true _ (λ is. both_ways _ none (and_from _ _ is (lt-ltb c 128 less)))
-
 pub ascii_comment : (bytes : List ℕ) (n : ℕ) → IsRunOf is_remark_byte bytes n → n < length bytes → slice_index bytes n < 128 → IsWholeComment bytes (Some n)
 ascii_comment bytes n is more low = (
-  record { within = is.within; each = λ i less. (remark_parts (slice_index bytes i) (is.each i less)).0; ends = λ less. comment_ends (slice_index bytes n) low (is.ends less) },
+  record { within = is.within; each = λ i less. (remark_parts (slice_index bytes i) (is.each i less)).0; ends = λ less. false_from_ne_true _ (λ passes. both_ways _ (is.ends less) (and_from _ _ passes (lt-ltb (slice_index bytes n) 128 low))) },
   ascii_utf8 bytes n is.within (λ i less. (remark_parts (slice_index bytes i) (is.each i less)).1),
   more,
 )
-
-pub ascii_low : (c : ℕ) → is_ascii c ≡ true → c < 128
-ascii_low c h = grind (arith, nat_tests)
 
 -- and where ASCII begins it
 pub wide_comment : (bytes : List ℕ) (n m : ℕ) → IsRunOf is_remark_byte bytes n → IsRunOf is_comment_byte (take (length bytes - n) (drop n bytes)) m → IsUtf8 (take m (take (length bytes - n) (drop n bytes))) → n + m < length bytes → IsWholeComment bytes (Some (n + m))

@@ -1,4 +1,4 @@
-use Rattle.std.proofs.Common.{◌+◌, refl, sym, ap, ◌∙◌, arith}
+use Rattle.std.proofs.Common.{refl, sym, ap, ◌∙◌, arith}
 use Rattle.py_lines.specs.declared.passing.Passing.{Passing}
 use Rattle.py_lines.proofs.LineScan.AsciiRuns.{free_is}
 use Rattle.py_lines.proofs.LineScan.WholePieces.{StandsAt, begins_passing, operator_left, stands_ended, stands_left, stands_next}
@@ -17,9 +17,7 @@ specials-init c = record {
 pub specials-smaller : goal.specials-smaller
 specials-smaller c =
     let q = c.pass.new.self in
-    let far =
-    passed_further c.args.bytes.now c.specials.at (c.specials.self.stop + c.specials.at) c.specials.passing.all c.specials.passing.closed
-    c.specials.self.brackets q c.pass.new.brackets c.in-Passed.ensures in
+    let far = passed_further _ _ _ _ _ _ q _ c.in-Passed.ensures in
     let next = c.next-at-in-Passed.ensures q.all.len far.1 in
     let further = far.0 in
     omega (arith, further, next.after, next.within)
@@ -27,9 +25,7 @@ specials-smaller c =
 pub specials-preserved : goal.specials-preserved
 specials-preserved c =
     let q = c.pass.new.self in
-    let far =
-    passed_further c.args.bytes.now c.specials.at (c.specials.self.stop + c.specials.at) c.specials.passing.all c.specials.passing.closed
-    c.specials.self.brackets q c.pass.new.brackets c.in-Passed.ensures in
+    let far = passed_further _ _ _ _ _ _ q _ c.in-Passed.ensures in
     stands_next c.args.self.now c.args.bytes.now c.specials.at c.specials.self c.specials.passing c.specials.invariant c.pass.new.brackets q
     c.next-at-in-Passed.result c.next-at-in-Passed.new.self c.in-Passed.ensures (c.next-at-in-Passed.ensures q.all.len far.1)
 
