@@ -9,16 +9,11 @@ use Rattle.py_lines.specs.Piece.{ends}
 use Rattle.py_lines.specs.LogicalLine.{byte_len, ends_line, line_ends}
 use Rattle.py_lines.specs.Private.Scan.{counts_after, count_with}
 use Rattle.py_lines.specs.declared.count.Count.{Count}
-use Rattle.py_lines.proofs.LogicalLines.Cuts.{byte_len-append}
 pub use Rattle.py_lines.proofs.LogicalLines.Cuts.{ends-last}
 use Rattle.py_lines.proofs.LineScan.Increments.{line_ends-step}
 
 pub byte_len-one : (c : ℕ) → byte_len (c ∷ []) ≡ len_utf8 c
 byte_len-one c = ap length (append-nil (encode_utf8 c)) ∙ length-encode c
-
--- the bytes with one more character
-pub byte_len-push : (cs : List ℕ) (c : ℕ) → byte_len (cs ++ c ∷ []) ≡ byte_len cs + len_utf8 c
-byte_len-push cs c = byte_len-append cs (c ∷ []) ∙ ap (λ (n : ℕ). byte_len cs + n) (byte_len-one c)
 
 -- what the count has come to after characters
 pub record Counted (line : ℕ) (count : Count) (read : List ℕ) : Type 0 where

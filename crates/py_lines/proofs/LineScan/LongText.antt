@@ -21,11 +21,11 @@ use Rattle.py_lines.specs.Private.Run.{HoldsLongText, ReadsLongText, Reached, is
 use Rattle.py_lines.specs.Balance.{depth_through}
 use Rattle.py_lines.proofs.Text.CharacterTests.{feed-not-quote, feed-not-return, feed-not-slash, feed_from}
 use Rattle.py_lines.proofs.Text.Utf8Prefixes.{all_scalars-append}
-use Rattle.py_lines.proofs.LogicalLines.Cuts.{byte_len-append}
 use Rattle.py_lines.proofs.Machine.PieceSteps.{run_by, scanned, steps_by-append}
 use Rattle.py_lines.proofs.LineScan.Increments.{line_ends-step}
 use Rattle.py_lines.proofs.LineScan.LineCount.{ends-last}
 use Rattle.py_lines.proofs.LineScan.LineSteps.{sound_steps}
+use Rattle.py_lines.proofs.LineScan.PieceEnd.{counts_longer}
 use Rattle.py_lines.proofs.LineScan.Runs.{body_parts, break-return}
 use Rattle.py_lines.proofs.LineScan.AsciiRuns.{low_encodes, low_is}
 
@@ -100,7 +100,6 @@ long_way m old new read text rest way start reads quote =
     let counts = way.tallies.counts in
     let here : s.mode ≡ modes.Long q = sym counts.mode ∙ reads.here in
     let more = long_counts q quote (spelled s.done ++ s.held) run (sym counts.after ∙ reads.parted) reads.all in
-    let longer : (spelled s.done ++ s.held) ++ run ≡ spelled s.done ++ (s.held ++ run) = append_assoc (spelled s.done) s.held run in
     let size : byte_len run ≡ length run = ap length (long_characters q quote run reads.all).0 in
     let held : scan_steps (Some (scanned s.done s.mode s.held)) run ≡ Some (scanned s.done s.mode (s.held ++ run)) =
     subst (λ (n : Mode). scan_steps (Some (scanned s.done n s.held)) run ≡ Some (scanned s.done n (s.held ++ run))) (sym here) (long_held q quote s.done s.held run reads.all) in
@@ -110,13 +109,8 @@ long_way m old new read text rest way start reads quote =
       state = scanned s.done s.mode (s.held ++ run);
       steps = steps_by-append move_at (Some (line_start m)) read run ∙ ap (λ o. scan_steps o run) way.steps ∙ held;
       tallies = record {
-        counts = record {
-          mode = counts.mode;
-          start = counts.start;
-          stop = omega (arith, counts.stop, byte_len-append (spelled s.done ++ s.held) run, ap byte_len longer, size);
-          here = omega (arith, counts.here, more.0, ap line_ends longer);
-          after = reads.parted ∙ sym more.1 ∙ ap (ends is_return) longer;
-        };
+        counts = counts_longer old after s s.mode run counts (ap (λ (k : Mode). record { mode = k; start = old.piece.start }) counts.mode) (ap (λ (n : ℕ). old.stop + n) (sym size))
+            (omega (arith, counts.here, more.0)) (reads.parted ∙ sym more.1);
         fields = subst (λ (n : Mode). FieldsFollow after n (s.held ++ run)) (sym here) tt;
       };
       stacked = way.stacked;

@@ -1,12 +1,11 @@
 -- The scan follows the machine from character to character.
 use Rattle.std.proofs.Common.{◌≡◌, ℕ, ◌+◌, Bool, true, false, not, ◌&&◌, ◌==◌, Some, List, [], ◌∷◌, ◌++◌, length, refl, sym, ap, ◌∙◌, subst, append_assoc, arith, lit<, inl, inr}
-use Rattle.std.specs.Char.{len_utf8}
 use Rattle.std.proofs.lemmas.Bool.{cond_both, both_ways, eqb-true}
 use Rattle.std.proofs.lemmas.Str.{encode_ascii}
 use Rattle.py_lines.specs.Character.{is_line_feed, is_return}
-use Rattle.py_lines.specs.Piece.{Class, operator, line_end, Piece, ends, spelled}
+use Rattle.py_lines.specs.Piece.{Class, operator, line_end, Piece, spelled}
 use Rattle.py_lines.specs.Balance.{depth_through}
-use Rattle.py_lines.specs.LogicalLine.{is_line_end_class, byte_len, line_ends}
+use Rattle.py_lines.specs.LogicalLine.{is_line_end_class, byte_len}
 use Rattle.py_lines.specs.declared.mode.Mode.{Mode}
 use Rattle.py_lines.specs.declared.mode.Mode.TheVariants as modes
 use Rattle.py_lines.specs.declared.mode.Move.{Move}
@@ -31,23 +30,16 @@ use Rattle.py_lines.proofs.Machine.LiveTexts.{keeps, stack_closed}
 use Rattle.py_lines.proofs.ScanMachine.Steps.{breaks_in, meets}
 use Rattle.py_lines.proofs.LogicalLines.Cuts.{byte_len-append}
 use Rattle.py_lines.proofs.LineScan.Increments.{stack_push, EndsNoLine-push}
-use Rattle.py_lines.proofs.LineScan.LineCount.{byte_len-push, counted_push}
+use Rattle.py_lines.proofs.LineScan.LineCount.{byte_len-one, counted_push}
 use Rattle.py_lines.proofs.LineScan.BracketStack.{none_length}
 use Rattle.py_lines.proofs.LineScan.StringSteps.{InString, fielded_at, no_fields, opens_plain, string_more, string_move_is}
-use Rattle.py_lines.proofs.LineScan.PieceEnd.{closed_text, shut_as, closes_shut, no_bracket}
+use Rattle.py_lines.proofs.LineScan.PieceEnd.{counts_longer, closed_text, shut_as, closes_shut, no_bracket}
 
 -- one more character in the piece that is open
 counts_read : (old : Scan) (f : FieldScan) (s : Scanned) (c : ℕ) (m : Mode) → Counts old s → Counts (in_mode (with_character (with_field_scan old f) c) m) (scanned s.done m (s.held ++ c ∷ []))
 counts_read old f s c m counts =
-    let longer : (spelled s.done ++ s.held) ++ c ∷ [] ≡ spelled s.done ++ (s.held ++ c ∷ []) = append_assoc (spelled s.done) s.held (c ∷ []) in
     let counted = counted_push old.line old.count (spelled s.done ++ s.held) c (record { here = counts.here; after = counts.after }) in
-    record {
-      mode = refl;
-      start = counts.start;
-      stop = ap (λ (n : ℕ). n + len_utf8 c) counts.stop ∙ sym (byte_len-push (spelled s.done ++ s.held) c) ∙ ap byte_len longer;
-      here = counted.here ∙ ap (λ t. old.line + line_ends t) longer;
-      after = counted.after ∙ ap (ends is_return) longer;
-    }
+    counts_longer old (in_mode (with_character (with_field_scan old f) c) m) s m (c ∷ []) counts refl (ap (λ (n : ℕ). old.stop + n) (sym (byte_len-one c))) counted.here counted.after
 
 -- where no piece is open, no character closes one
 closes_some : (m : Mode) (depth : ℕ) (open_text : List ℕ) (c : ℕ) → move_in m depth open_text c ≡ moves.Closes → m ≡ modes.Free → ⊥

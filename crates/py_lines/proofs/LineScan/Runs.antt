@@ -28,12 +28,12 @@ use Rattle.unicode_ident.proofs.IdentLemmas.{is_xid_continue-ascii, is_xid_start
 use Rattle.py_lines.proofs.Text.CharacterTests.{none_of, excluded}
 use Rattle.py_lines.proofs.LineScan.Increments.{line_ends-step}
 use Rattle.py_lines.proofs.LineScan.LineCount.{ends-last}
+use Rattle.py_lines.proofs.LineScan.PieceEnd.{counts_longer}
 use Rattle.py_lines.proofs.LineScan.StringSteps.{here_at, in_string, string_more}
 use Rattle.py_lines.proofs.LineScan.LineSteps.{sound_steps}
 use Rattle.py_lines.proofs.ScanMachine.Advance.{steps_push}
 use Rattle.py_lines.specs.declared.scan.Progress.TheVariants as progress
 use Rattle.py_lines.proofs.Text.Utf8Prefixes.{all_scalars-append, scalars_more, spell_more}
-use Rattle.py_lines.proofs.LogicalLines.Cuts.{byte_len-append}
 pub use Rattle.py_lines.proofs.LogicalLines.Cuts.{break-return}
 use Rattle.py_lines.proofs.Machine.PieceSteps.{scanned, longer, all_held, steps_by-append, grown_by, run_by}
 use Rattle.py_lines.proofs.Pieces.OpenBrackets.{stands}
@@ -235,14 +235,8 @@ all_no_break m (c ∷ cs) all =
 -- the scan keeps count over a run
 pub counts_run : (old : Scan) (fields : FieldScan) (s : Scanned) (run : List ℕ) → list_all (λ d. not (is_break d)) run ≡ true → IsFull run → Counts old s → Counts (with_bytes (with_field_scan old fields) (byte_len run)) (scanned s.done s.mode (s.held ++ run))
 counts_run old fields s run all full counts =
-    let longer : (spelled s.done ++ s.held) ++ run ≡ spelled s.done ++ (s.held ++ run) = append_assoc (spelled s.done) s.held run in
-    record {
-      mode = counts.mode;
-      start = counts.start;
-      stop = ap (λ (n : ℕ). n + byte_len run) counts.stop ∙ sym (byte_len-append (spelled s.done ++ s.held) run) ∙ ap byte_len longer;
-      here = counts.here ∙ ap (λ (n : ℕ). old.line + n) (sym (line_ends-run (spelled s.done ++ s.held) run all) ∙ ap line_ends longer);
-      after = sym (ends-run (spelled s.done ++ s.held) run full all) ∙ ap (ends is_return) longer;
-    }
+    counts_longer old (with_bytes (with_field_scan old fields) (byte_len run)) s s.mode run counts (ap (λ (m : Mode). record { mode = m; start = old.piece.start }) counts.mode) refl
+    (counts.here ∙ ap (λ (n : ℕ). old.line + n) (sym (line_ends-run (spelled s.done ++ s.held) run all))) (sym (ends-run (spelled s.done ++ s.held) run full all))
 
 -- a string with fields that goes on over a run
 pub string_run : (done : List Piece) (held run : List ℕ) (t u : FieldScanned) → string_state held ≡ Some t → GoesThrough (depth_through 0 done) t run u → (scan_steps (Some (scanned done modes.Fielded held)) run ≡ Some (scanned done modes.Fielded (held ++ run))) × (string_state (held ++ run) ≡ Some u)
