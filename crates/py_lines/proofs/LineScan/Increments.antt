@@ -36,8 +36,7 @@ counts_two x c = go (is_return x) (is_line_feed x) (is_return c) (is_line_feed c
     go rx fx true true a b = absurd (both_ways _ (b refl) refl)
     go true true rc fc a b = absurd (both_ways _ (a refl) refl)
     go true false false true a b = refl
-    go false true false true a b = refl
-    go false false false true a b = refl
+    go false fx false true a b = refl
     go rx fx rc fc a b = refl
 
 pub line_ends-step : (xs : List ℕ) (c : ℕ) → line_ends (xs ++ c ∷ []) ≡ line_ends xs + counts_after (ends is_return xs) c

@@ -326,7 +326,9 @@ module _ (first : Scan) (bytes : List ℕ) (at : ℕ) (scan : Scan) (p : Passing
       → PassesSo bytes at (scan.stop + at) p.all p.closed scan.brackets q c → FindsNext bytes q.all.len to marks
       → StandsAt first bytes to (with_brackets scan c) (record q { marks = marks })
   stands_next c q to marks so next =
-      let over = subst (λ (k : ℕ). PassesOver bytes at (k + at) so.len so.more so.closes (stack_of scan.brackets) (stack_of c)) (ap (λ (s : Scan). s.stop) on.same) so.over in
+      let over =
+      subst (λ (k : ℕ). PassesOver bytes at (k + at) so.len so.more so.closes (stack_of scan.brackets) (stack_of c))
+      (ap (λ (s : Scan). s.stop) on.same) so.over in
       record {
         same = ap (λ (s : Scan). with_brackets s c) on.same;
         passed = subst (λ (x : Passing). HasPassed first bytes x.all.len c x.all x.closed) (sym so.is)
