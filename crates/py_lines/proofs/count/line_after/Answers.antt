@@ -6,7 +6,7 @@ use Rattle.std.proofs.lemmas.List.{nil_from_length}
 use Rattle.py_lines.specs.LogicalLine.{line_ends}
 use Rattle.py_lines.specs.declared.count.Count.{Count}
 use Rattle.py_lines.proofs.LineScan.LineCount.{Counted, counted_push, line_ends-bytes}
-use Rattle.py_lines.proofs.Text.CharsIterator.{advances}
+use Rattle.py_lines.proofs.Text.Utf8Prefixes.{spell_more}
 use Rattle.py_lines.proofs.count.line_after.Goals as goal
 
 pub push-requires : goal.push-requires
@@ -17,10 +17,10 @@ push-requires c =
 pub loop-c-preserved : goal.loop-c-preserved
 loop-c-preserved c =
     let inv = c.loop-c.invariant in
-    let on = advances c.args.text.now c.loop-c.yielded c.in-Some.c (chars_rest c.loop-c.c-iterator) (chars_rest c.next.new.self) c.utf8.text inv.spell c.in-Some.ensures.steps.0 in
     record {
       counted = subst (λ (n : Count). Counted c.args.line n (c.loop-c.yielded ++ c.in-Some.c ∷ [])) (sym c.push.ensures) (counted_push c.args.line c.loop-c.count c.loop-c.yielded c.in-Some.c inv.counted);
-      spell = on.spell;
+      spell = spell_more c.loop-c.yielded (chars_rest c.next.new.self) c.args.text.now c.in-Some.c
+          (ap (λ t. encode_utf8_all c.loop-c.yielded ++ t) (sym c.in-Some.ensures.steps.0) ∙ inv.spell);
     }
 
 pub returns : goal.returns
