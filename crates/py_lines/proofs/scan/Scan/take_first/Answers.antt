@@ -18,15 +18,13 @@ characters-init c = record { first = at_start c.args.bytes.now c.requires.start 
 
 pub returns-in_default : goal.returns-in_default
 returns-in_default c p is begin =
-    let passed = passed_all c.characters.invariant.first (begins_string c.args.bytes.now p is begin) c.in_default.ensures in
-    (passed.stop, passed.line)
+    passed_all c.characters.invariant.first (begins_string c.args.bytes.now p is begin) c.in_default.ensures
 
 pub returns-then-ends_piece_before : goal.returns-then-ends_piece_before
 returns-then-ends_piece_before c p is begin =
     let text = begins_string c.args.bytes.now p is begin in
     let ends = c.ends_piece_before.ensures.ends c.if-ends_piece_before.true in
-    let passed = passed_before c.characters.invariant.first text c.in-Some.ensures ends.0 ends.1 in
-    (passed.stop, passed.line)
+    passed_before c.characters.invariant.first text c.in-Some.ensures ends.0 ends.1
 
 pub push-requires : goal.push-requires
 push-requires c =
@@ -42,8 +40,7 @@ returns-then-is_free c p is begin =
     let text = begins_string c.args.bytes.now p is begin in
     let on = c.ends_piece_before.ensures.goes c.if-ends_piece_before.false in
     let free = sym c.is_free.ensures ∙ c.if-is_free.true in
-    let passed = passed_with c.characters.invariant.first c.push.result c.push.new.self c.in-Some.ensures on c.push.ensures text free in
-    (passed.stop, passed.line)
+    passed_with c.characters.invariant.first c.push.result c.push.new.self c.in-Some.ensures on c.push.ensures text free
 
 -- the string that goes on
 goes : (c : Else-is_free) → InFirst c.args.bytes.now c.push.new.self (drop (len_utf8 c.in-Some.c) c.characters.rest.now)
