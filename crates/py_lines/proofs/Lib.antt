@@ -70,17 +70,17 @@
 -- bytes fed settle, and whether they decide a fault. Of the bytes fed no more are taken than up to the line's end, so
 -- a line is ready as soon as it is settled.
 --
--- One reading (proofs/Fields): two readings of a text are compared from left to right. The first pieces are the same: two
--- strings with fields by their parts, where each part is told by the characters that follow, and all other pieces by the machine
--- without fields. Where a list of pieces or parts ends, so does the other. Fields are the same if those in them are, so this goes
--- by how many stand one in another. What is open in a text is defined (specs/OpenFields.antt); proofs/OpenFields shows it by rows.
+-- One reading (proofs/Fields): the machine with fields goes over a piece that is read, finds it, and may stop there. It is in one state
+-- after a text, so where two pieces begin in one place it finds one alone, and they are the same. So of two lists of pieces one begins
+-- with the other. An operator ends with its first character, whatever follows. What is open in a text is defined
+-- (specs/OpenFields.antt); proofs/OpenFields shows it by rows.
 --
 -- Texts without a prefix of strings with fields before a quote (proofs/Elsewhere): the machine without fields goes through exactly
 -- those that are live without fields, and there it goes as the scanning machine does. So such a text is live with fields exactly
 -- if it is live without. Nothing that is open in it is a string with fields, so its fault is the same, and its lexing.
 --
 -- proofs/Text has characters, the bytes that spell them, and vectors of bytes (Lanes). Files named WorkedRows and
--- DepthRows are rows worked out by hand, on the definitions alone.
+-- DepthRows are rows worked out by hand, which are proved of the definitions.
 pub mod Text
 pub mod Pieces
 pub mod Neighbours
