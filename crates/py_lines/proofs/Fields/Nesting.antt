@@ -1,7 +1,7 @@
 -- A field whose own fields are fields is one: what holds of some number of them, one in another, holds of more.
 use Rattle.std.proofs.Common.{◌≡◌, ℕ, zero, suc, ◌+◌, ◌<◌, ◌≤◌, Bool, List, [], ◌∷◌, ◌++◌, refl, inl, inr, arith}
 use Rattle.py_lines.specs.Piece.{Class, string, Piece}
-use Rattle.py_lines.specs.PieceGrammar.{joined, InClassIn, MayPrecedeIn, AreReadIn}
+use Rattle.py_lines.specs.PieceGrammar.{joined, InClassIn, AreReadIn}
 use Rattle.py_lines.specs.Balance.{depth_after}
 use Rattle.py_lines.specs.Fields.{IsShallow, AreInside, IsSpecification, IsField, simple, specified, FieldsWithin, Fields, fielded, IsShallowWith, ShallowWithin, ShallowFields, AnyPieces}
 use Rattle.py_lines.specs.FieldStrings.{Host, Place, IsPart, bare, slash, escape, escaped_end, name, double, field, named_after, AreParts, with_fields}
@@ -10,45 +10,78 @@ use Rattle.py_lines.specs.FieldStrings.{Host, Place, IsPart, bare, slash, escape
 abbrev pub Within : (Host → List ℕ → Type 0) → (Host → List ℕ → Type 0) → Type 0
 Within F G = (host : Host) (text : List ℕ) → F host text → G host text
 
-part_map : (F G : Host → List ℕ → Type 0) → Within F G → (host : Host) (place : Place) (named : Bool) (part rest : List ℕ) → IsPart F host place named part rest → IsPart G host place named part rest
-part_map F G f host place named part rest (bare c a b d e) = bare c a b d e
-part_map F G f host place named part rest (slash s a b d) = slash s a b d
-part_map F G f host place named part rest (escape s c a b d e g h) = escape s c a b d e g h
-part_map F G f host place named part rest (escaped_end s r c a b d e g) = escaped_end s r c a b d e g
-part_map F G f host place named part rest (name s c d a b e g) = name s c d a b e g
-part_map F G f host place named part rest (double c d a b e g h) = double c d a b e g h
-part_map F G f host place named part rest (field is a b) = field (f host part is) a b
+-- what holds of every number that is no less than some one
+abbrev Later : (ℕ → Type 0) → Type 0
+Later P = (n : ℕ) × ((m : ℕ) → n ≤ m → P m)
 
-pub parts_map : (F G : Host → List ℕ → Type 0) → Within F G → (host : Host) (place : Place) (named : Bool) (parts : List (List ℕ)) (rest : List ℕ) → AreParts F host place named parts rest → AreParts G host place named parts rest
-parts_map F G f host place named [] rest each = tt
-parts_map F G f host place named (p ∷ ps) rest each = (part_map F G f host place named p _ each.0, parts_map F G f host place (named_after named p) ps rest each.1)
+both_later : (P Q : ℕ → Type 0) → Later P → Later Q → Later (λ m. P m × Q m)
+both_later P Q (n, first) (m, second) = (n + m, λ k le. (first k (omega arith), second k (omega arith)))
 
-pub string_map : (F G : Host → List ℕ → Type 0) → Within F G → (text : List ℕ) → InClassIn (with_fields F) string text → InClassIn (with_fields G) string text
-string_map F G f text (inl plain) = inl plain
-string_map F G f text (inr is) = inr (record { prefix = is.prefix; host = is.host; parts = is.parts; spell = is.spell; begun = is.begun; raw = is.raw; opens = is.opens; each = parts_map F G f is.host _ _ is.parts _ is.each; first = is.first })
+-- where fields are others of every later number, what is made of these is made of those
+module _ (F : Host → List ℕ → Type 0) (W : ℕ → Host → List ℕ → Type 0) (into : (host : Host) (text : List ℕ) → F host text → Later (λ n. W n host text)) where
+  part_within : (host : Host) (place : Place) (named : Bool) (part rest : List ℕ) → IsPart F host place named part rest → Later (λ n. IsPart (W n) host place named part rest)
+  part_within host place named part rest (bare c a b d e) = (zero, λ m le. bare c a b d e)
+  part_within host place named part rest (slash s a b d) = (zero, λ m le. slash s a b d)
+  part_within host place named part rest (escape s c a b d e g h) = (zero, λ m le. escape s c a b d e g h)
+  part_within host place named part rest (escaped_end s r c a b d e g) = (zero, λ m le. escaped_end s r c a b d e g)
+  part_within host place named part rest (name s c d a b e g) = (zero, λ m le. name s c d a b e g)
+  part_within host place named part rest (double c d a b e g h) = (zero, λ m le. double c d a b e g h)
+  part_within host place named part rest (field is a b) =
+      let own = into host part is in
+      (own.0, λ m le. field (own.1 m le) a b)
 
-pub class_map : (F G : Host → List ℕ → Type 0) → Within F G → (class : Class) (text : List ℕ) → InClassIn (with_fields F) class text → InClassIn (with_fields G) class text
-class_map F G f string text is = string_map F G f text is
-class_map F G f class text is = is
+  parts_within : (host : Host) (place : Place) (named : Bool) (parts : List (List ℕ)) (rest : List ℕ) → AreParts F host place named parts rest → Later (λ n. AreParts (W n) host place named parts rest)
+  parts_within host place named [] rest each = (zero, λ m le. tt)
+  parts_within host place named (p ∷ ps) rest each = both_later _ _ (part_within host place named p (joined ps ++ rest) each.0) (parts_within host place (named_after named p) ps rest each.1)
 
--- what a piece may stand before doesn't depend on fields
-precede_map : (F G : Host → List ℕ → Type 0) (class : Class) (text rest : List ℕ) → MayPrecedeIn (with_fields F) class text rest → MayPrecedeIn (with_fields G) class text rest
-precede_map F G class text rest before = before
+  pub string_within : (text : List ℕ) → InClassIn (with_fields F) string text → Later (λ n. InClassIn (with_fields (W n)) string text)
+  string_within text (inl plain) = (zero, λ m le. inl plain)
+  string_within text (inr is) =
+      let each = parts_within is.host _ _ is.parts _ is.each in
+      (each.0, λ m le. inr (record { prefix = is.prefix; host = is.host; parts = is.parts; spell = is.spell; begun = is.begun; raw = is.raw; opens = is.opens; each = each.1 m le; first = is.first }))
 
-read_map : (F G : Host → List ℕ → Type 0) → Within F G → (ps : List Piece) (rest : List ℕ) → AreReadIn (with_fields F) ps rest → AreReadIn (with_fields G) ps rest
-read_map F G f [] rest fit = tt
-read_map F G f (p ∷ ps) rest fit = (class_map F G f p.class p.text fit.0, precede_map F G p.class p.text _ fit.1, fit.2, read_map F G f ps rest fit.3)
+  class_within : (class : Class) (text : List ℕ) → InClassIn (with_fields F) class text → Later (λ n. InClassIn (with_fields (W n)) class text)
+  class_within string text is = string_within text is
+  class_within class text is = (zero, λ m le. is)
 
-inside_map : (F G : Host → List ℕ → Type 0) → Within F G → (ps : List Piece) (rest : List ℕ) → AreInside (with_fields F) ps rest → AreInside (with_fields G) ps rest
-inside_map F G f ps rest is = record { fit = read_map F G f ps rest is.fit; unmarked = is.unmarked; balanced = is.balanced; colon = is.colon }
+  read_within : (ps : List Piece) (rest : List ℕ) → AreReadIn (with_fields F) ps rest → Later (λ n. AreReadIn (with_fields (W n)) ps rest)
+  read_within [] rest fit = (zero, λ m le. tt)
+  read_within (p ∷ ps) rest fit =
+      let both = both_later _ _ (class_within p.class p.text fit.0) (read_within ps rest fit.3) in
+      (both.0, λ m le. let own = both.1 m le in (own.0, fit.1, fit.2, own.1))
 
-specification_map : (F G : Host → List ℕ → Type 0) → Within F G → (host : Host) (parts : List (List ℕ)) → IsSpecification F host parts → IsSpecification G host parts
-specification_map F G f host parts is = record { each = parts_map F G f host _ _ parts _ is.each; ended = is.ended; open_yet = is.open_yet }
+  pub inside_within : (ps : List Piece) (rest : List ℕ) → AreInside (with_fields F) ps rest → Later (λ n. AreInside (with_fields (W n)) ps rest)
+  inside_within ps rest is =
+      let fit = read_within ps rest is.fit in
+      (fit.0, λ m le. record { fit = fit.1 m le; unmarked = is.unmarked; balanced = is.balanced; colon = is.colon })
+
+  pub specification_within : (host : Host) (parts : List (List ℕ)) → IsSpecification F host parts → Later (λ n. IsSpecification (W n) host parts)
+  specification_within host parts is =
+      let each = parts_within host _ _ parts _ is.each in
+      (each.0, λ m le. record { each = each.1 m le; ended = is.ended; open_yet = is.open_yet })
+
+-- what is made of some fields is made of more
+always : {P : Type 0} → Later (λ n. P) → P
+always (n, holds) = holds n (omega arith)
+
+module _ (F G : Host → List ℕ → Type 0) (f : Within F G) where
+  abbrev into_all : (host : Host) (text : List ℕ) → F host text → Later (λ n. G host text)
+  into_all host text is = (zero, λ m le. f host text is)
+
+  pub parts_map : (host : Host) (place : Place) (named : Bool) (parts : List (List ℕ)) (rest : List ℕ) → AreParts F host place named parts rest → AreParts G host place named parts rest
+  parts_map host place named parts rest each = always (parts_within F (λ n. G) into_all host place named parts rest each)
+
+  pub string_map : (text : List ℕ) → InClassIn (with_fields F) string text → InClassIn (with_fields G) string text
+  string_map text is = always (string_within F (λ n. G) into_all text is)
+
+  pub class_map : (class : Class) (text : List ℕ) → InClassIn (with_fields F) class text → InClassIn (with_fields G) class text
+  class_map class text is = always (class_within F (λ n. G) into_all class text is)
 
 -- a field, by its pieces, what they meet, and its specification
 pub field_map : (F G D E : Host → List ℕ → Type 0) (P Q : List Piece → Type 0) → Within F G → Within D E → ((ps : List Piece) → P ps → Q ps) → (host : Host) (text : List ℕ) → IsField (with_fields F) P D host text → IsField (with_fields G) Q E host text
-field_map F G D E P Q f g h host text (simple inside spell is passes) = simple inside spell (inside_map F G f inside _ is) (h inside passes)
-field_map F G D E P Q f g h host text (specified inside parts spell is passes own) = specified inside parts spell (inside_map F G f inside _ is) (h inside passes) (specification_map D E g host parts own)
+field_map F G D E P Q f g h host text (simple inside spell is passes) = simple inside spell (always (inside_within F (λ n. G) (into_all F G f) inside _ is)) (h inside passes)
+field_map F G D E P Q f g h host text (specified inside parts spell is passes own) =
+    specified inside parts spell (always (inside_within F (λ n. G) (into_all F G f) inside _ is)) (h inside passes) (always (specification_within D (λ n. E) (into_all D E g) host parts own))
 
 within_more : (n m : ℕ) → n ≤ m → Within (FieldsWithin n) (FieldsWithin m)
 within_more zero m le host text is = absurd is
@@ -57,64 +90,17 @@ within_more (suc n) (suc m) le host text is =
     let f : Within (FieldsWithin n) (FieldsWithin m) = within_more n m (omega arith) in
     field_map (FieldsWithin n) (FieldsWithin m) (FieldsWithin n) (FieldsWithin m) _ _ f f (λ ps passes. passes) host text is
 
--- what holds of every number that is no less than some one
-abbrev Later : (ℕ → Type 0) → Type 0
-Later P = (n : ℕ) × ((m : ℕ) → n ≤ m → P m)
-
-both_later : (P Q : ℕ → Type 0) → Later P → Later Q → Later (λ m. P m × Q m)
-both_later P Q (n, first) (m, second) = (n + m, λ k le. (first k (omega arith), second k (omega arith)))
-
--- what is made of fields of some number is made of those of any later one
-module _ (W : ℕ → Host → List ℕ → Type 0) (more : (n m : ℕ) → n ≤ m → Within (W n) (W m)) where
-  abbrev Some : Host → List ℕ → Type 0
-  Some host text = (n : ℕ) × W n host text
-
-  part_within : (host : Host) (place : Place) (named : Bool) (part rest : List ℕ) → IsPart Some host place named part rest → Later (λ n. IsPart (W n) host place named part rest)
-  part_within host place named part rest (bare c a b d e) = (zero, λ m le. bare c a b d e)
-  part_within host place named part rest (slash s a b d) = (zero, λ m le. slash s a b d)
-  part_within host place named part rest (escape s c a b d e g h) = (zero, λ m le. escape s c a b d e g h)
-  part_within host place named part rest (escaped_end s r c a b d e g) = (zero, λ m le. escaped_end s r c a b d e g)
-  part_within host place named part rest (name s c d a b e g) = (zero, λ m le. name s c d a b e g)
-  part_within host place named part rest (double c d a b e g h) = (zero, λ m le. double c d a b e g h)
-  part_within host place named part rest (field is a b) = (is.0, λ m le. field (more is.0 m le host part is.1) a b)
-
-  parts_within : (host : Host) (place : Place) (named : Bool) (parts : List (List ℕ)) (rest : List ℕ) → AreParts Some host place named parts rest → Later (λ n. AreParts (W n) host place named parts rest)
-  parts_within host place named [] rest each = (zero, λ m le. tt)
-  parts_within host place named (p ∷ ps) rest each = both_later _ _ (part_within host place named p (joined ps ++ rest) each.0) (parts_within host place (named_after named p) ps rest each.1)
-
-  pub string_within : (text : List ℕ) → InClassIn (with_fields Some) string text → Later (λ n. InClassIn (with_fields (W n)) string text)
-  string_within text (inl plain) = (zero, λ m le. inl plain)
-  string_within text (inr is) =
-      let each = parts_within is.host _ _ is.parts _ is.each in
-      (each.0, λ m le. inr (record { prefix = is.prefix; host = is.host; parts = is.parts; spell = is.spell; begun = is.begun; raw = is.raw; opens = is.opens; each = each.1 m le; first = is.first }))
-
-  class_within : (class : Class) (text : List ℕ) → InClassIn (with_fields Some) class text → Later (λ n. InClassIn (with_fields (W n)) class text)
-  class_within string text is = string_within text is
-  class_within class text is = (zero, λ m le. is)
-
-  read_within : (ps : List Piece) (rest : List ℕ) → AreReadIn (with_fields Some) ps rest → Later (λ n. AreReadIn (with_fields (W n)) ps rest)
-  read_within [] rest fit = (zero, λ m le. tt)
-  read_within (p ∷ ps) rest fit =
-      let both = both_later _ _ (class_within p.class p.text fit.0) (read_within ps rest fit.3) in
-      (both.0, λ m le. let own = both.1 m le in (own.0, precede_map Some (W m) p.class p.text _ fit.1, fit.2, own.1))
-
-  pub inside_within : (ps : List Piece) (rest : List ℕ) → AreInside (with_fields Some) ps rest → Later (λ n. AreInside (with_fields (W n)) ps rest)
-  inside_within ps rest is =
-      let fit = read_within ps rest is.fit in
-      (fit.0, λ m le. record { fit = fit.1 m le; unmarked = is.unmarked; balanced = is.balanced; colon = is.colon })
-
-  pub specification_within : (host : Host) (parts : List (List ℕ)) → IsSpecification Some host parts → Later (λ n. IsSpecification (W n) host parts)
-  specification_within host parts is =
-      let each = parts_within host _ _ parts _ is.each in
-      (each.0, λ m le. record { each = each.1 m le; ended = is.ended; open_yet = is.open_yet })
+-- fields of some number are fields of every later one
+later_fields : (host : Host) (text : List ℕ) → Fields host text → Later (λ n. FieldsWithin n host text)
+later_fields host text (n, is) = (n, λ m le. within_more n m le host text is)
 
 -- so a field of strings whose fields are fields is one
 pub field_is : (host : Host) (text : List ℕ) → IsField fielded AnyPieces Fields host text → Fields host text
 field_is host text (simple inside spell is passes) =
-    let own = inside_within FieldsWithin within_more inside _ is in
+    let own = inside_within Fields FieldsWithin later_fields inside _ is in
     (suc own.0, simple inside spell (own.1 own.0 (omega arith)) passes)
 field_is host text (specified inside parts spell is passes specification) =
-    let own = both_later _ _ (inside_within FieldsWithin within_more inside _ is) (specification_within FieldsWithin within_more host parts specification) in
+    let own = both_later _ _ (inside_within Fields FieldsWithin later_fields inside _ is) (specification_within Fields FieldsWithin later_fields host parts specification) in
     let both = own.1 own.0 (omega arith) in
     (suc own.0, specified inside parts spell both.0 passes both.1)
 
@@ -137,6 +123,9 @@ shallow_more (suc n) (suc m) le depth host text is =
     let f : (d : ℕ) → Within (ShallowWithin n d) (ShallowWithin m d) = shallow_more n m (omega arith) in
     (is.0, field_map Fields Fields (ShallowWithin n (depth + 1)) (ShallowWithin m (depth + 1)) _ _ (λ h t one. one) (f (depth + 1)) (shallow_map (ShallowWithin n) (ShallowWithin m) f (depth + 1)) host text is.1)
 
+later_shallow : (depth : ℕ) (host : Host) (text : List ℕ) → ShallowFields depth host text → Later (λ n. ShallowWithin n depth host text)
+later_shallow depth host text (n, is) = (n, λ m le. shallow_more n m le depth host text is)
+
 shallow_within : (depth : ℕ) (ps : List Piece) → IsShallow depth ps → Later (λ n. IsShallowWith (ShallowWithin n) depth ps)
 shallow_within depth [] shallow = (zero, λ m le. tt)
 shallow_within depth (p ∷ ps) shallow =
@@ -145,7 +134,7 @@ shallow_within depth (p ∷ ps) shallow =
   where
     at : (class : Class) → (class ≡ string → InClassIn (with_fields (ShallowFields depth)) string p.text) → Later (λ n. class ≡ string → InClassIn (with_fields (ShallowWithin n depth)) string p.text)
     at string h =
-        let own = string_within (λ n. ShallowWithin n depth) (λ n m le. shallow_more n m le depth) p.text (h refl) in
+        let own = string_within (ShallowFields depth) (λ n. ShallowWithin n depth) (later_shallow depth) p.text (h refl) in
         (own.0, λ m le is. own.1 m le)
     at class h = (zero, λ m le is. absurd (cc))
 
@@ -154,7 +143,7 @@ shallow_is depth host text room (simple inside spell is passes) =
     let own = shallow_within (depth + 1) inside passes in
     (suc own.0, (room, simple inside spell is (own.1 own.0 (omega arith))))
 shallow_is depth host text room (specified inside parts spell is passes specification) =
-    let own = both_later _ _ (shallow_within (depth + 1) inside passes) (specification_within (λ n. ShallowWithin n (depth + 1)) (λ n m le. shallow_more n m le (depth + 1)) host parts specification) in
+    let own = both_later _ _ (shallow_within (depth + 1) inside passes) (specification_within (ShallowFields (depth + 1)) (λ n. ShallowWithin n (depth + 1)) (later_shallow (depth + 1)) host parts specification) in
     let both = own.1 own.0 (omega arith) in
     (suc own.0, (room, specified inside parts spell is both.0 both.1))
 
