@@ -36,7 +36,7 @@ code_plain (modes.FieldEmpty h) other = absurd (both_ways _ other refl)
 code_plain m other = refl
 
 as_plain : (v : Move) → IsOpenAfter v → code_moved v ≡ plain_move v
-as_plain (moves.Grows m) one = ap grows (code_plain m one.1)
+as_plain (moves.Grows m) one = ap grows (code_plain m one)
 as_plain moves.Closes other = refl
 as_plain moves.Breaks other = refl
 as_plain moves.Refused other = refl

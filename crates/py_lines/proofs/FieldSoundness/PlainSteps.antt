@@ -60,7 +60,7 @@ QuotedSo held c (moves.Grows n) = class_of n ≡ string → BeginsPlain (held ++
 QuotedSo held c other = Unit {0}
 
 keeps_class : (class : Class) (held : List ℕ) (c : ℕ) (v : Move) → NoWord class v → (class ≡ string → BeginsPlain held) → QuotedSo held c v
-keeps_class class held c (moves.Grows n) same own = λ at. begins_plain-more held c (own (sym same.3 ∙ at))
+keeps_class class held c (moves.Grows n) same own = λ at. begins_plain-more held c (own (sym same.2 ∙ at))
 keeps_class class held c v same own = tt
 
 quoted_so : (m : Mode) (held : List ℕ) (c : ℕ) → Holds m [] held → (class_of m ≡ string → BeginsPlain held) → begins_host m held c ≡ false → QuotedSo held c (move_of m c)

@@ -43,7 +43,7 @@ unfolding meet_of
 enters_after (modes.Word s) c one two = cond_both (is_word_character c) _ _ Elsewhere (λ _ e. cc) (λ _. cond_both (is_quote c) _ _ Elsewhere (λ _. quote_elsewhere s c) (λ _ e. cc))
 enters_after (modes.FieldOpened h) c one two = absurd (one h refl)
 enters_after (modes.FieldEmpty h) c one two = absurd (two h refl)
-enters_after m c one two = λ e. both_ways _ (subst IsOpenAfter e (open_after m c)).1 refl
+enters_after m c one two = λ e. both_ways _ (subst IsOpenAfter e (open_after m c)) refl
 
 -- after one quote: what comes is neither the quote nor a line end
 first_of_body : (h : StringWithFields) (c : ℕ) → meet_of (modes.FieldOpened h) c ≡ moves.Grows modes.Fielded → (c == h.quote ≡ false) × (is_break c ≡ false)

@@ -217,7 +217,7 @@ room_closes depth c = refl
 
 -- both machines take the same move of the machine without fields, in a list of the outermost text
 plain_moved : (m : Mode) (done : List Piece) (held : List ℕ) (st : List Bracket) (c : ℕ) (v : Move) → move_of m c ≡ v → brackets_of done ≡ Some st → ((n : Mode) → v ≡ moves.Grows n → Own n (depth_through 0 done) (held ++ c ∷ [])) → Alike (kept_if (moved (scanned done m held) c v)) (roomy (has_room_at (frames (field_state [] done (openers_of st) (plain m) held)) c (plain_move v)) (field_moved (field_state [] done (openers_of st) (plain m) held) c (plain_move v)))
-plain_moved m done held st c (moves.Grows n) is stack own = alike_if _ _ _ st (room_grows _ c (plain n)) (tied_plain n done st (held ++ c ∷ []) (subst IsOpenAfter is (open_after m c)).1 (own n refl) stack)
+plain_moved m done held st c (moves.Grows n) is stack own = alike_if _ _ _ st (room_grows _ c (plain n)) (tied_plain n done st (held ++ c ∷ []) (subst IsOpenAfter is (open_after m c)) (own n refl) stack)
 plain_moved m done held st c moves.Closes is stack own =
     let neutral = closing_neutral m (held ++ c ∷ []) c is in
     alike_if _ _ _ st (room_closes _ c) (tied_fresh done (piece (class_of m) (held ++ c ∷ [])) st neutral.0 neutral.1 stack)
@@ -254,7 +254,7 @@ breaks_as moves.Refused h = absurd (cc)
 pub plain_steps : (m : Mode) (done : List Piece) (held : List ℕ) (st : List Bracket) (c : ℕ) → is_word_mode m ≡ false → move_at (scanned done m held) c ≡ meet_of m c → meet_of m c ≡ move_of m c → begins_host m held c ≡ false → brackets_of done ≡ Some st → StepsAlike (scanned done m held) (field_state [] done (openers_of st) (plain m) held) c
 plain_steps m done held st c word at meets other stack =
     by_moves (scanned done m held) (field_state [] done (openers_of st) (plain m) held) c (move_of m c) (plain_move (move_of m c)) (at ∙ meets) (plain_moves m held c other) (λ h. (meets ∙ breaks_as (move_of m c) h, refl))
-    (plain_moved m done held st c (move_of m c) refl stack (λ n is. (plain_mode n done (openers_of st) (depth_through 0 done) (held ++ c ∷ []) (subst IsOpenAfter is (open_after m c)).1).1 (subst (NoWord (class_of m)) is (no_word m c word)).1))
+    (plain_moved m done held st c (move_of m c) refl stack (λ n is. (plain_mode n done (openers_of st) (depth_through 0 done) (held ++ c ∷ []) (subst IsOpenAfter is (open_after m c))).1 (subst (NoWord (class_of m)) is (no_word m c word)).0))
 
 -- a word that goes on
 pub word_on : (s : Spelling) (held : List ℕ) (c : ℕ) → Holds (modes.Word s) [] held → is_word_character c ≡ true → Holds (modes.Word (spelling_with s c)) [] (held ++ c ∷ [])
