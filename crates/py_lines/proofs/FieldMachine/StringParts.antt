@@ -11,7 +11,7 @@ use Rattle.py_lines.specs.Private.FieldMachine.{At, between, after_one, after_tw
 use Rattle.py_lines.proofs.Text.CharacterTests.{none_of, not_quote, slash-not-quote, return-not-brace}
 use Rattle.py_lines.proofs.Fields.Elsewhere.{none_false}
 use Rattle.py_lines.proofs.Fields.Parts.{BeginOpen, ordinary, names_is, name-not-brace, name-not-return}
-use Rattle.py_lines.proofs.Machine.StringSteps.{tail_triple}
+use Rattle.py_lines.proofs.Machine.StringSteps.{later_triple}
 use Rattle.py_lines.proofs.FieldMachine.Runs.{Goes, GrowsTo, goes-append, goes-to, goes-grown}
 
 pub kept_or : (a b : Bool) → b ≡ false → a || b ≡ a
@@ -94,12 +94,6 @@ itself_grows host place named at c other no_slash no_break itself = rw (other, n
     go : (b : Bool) → b ≡ (c == 125) → (if b then ending_move host place named else grows (body host place named between)) ≡ grows (body host place (named && not b) between)
     go true is = brace_stays host place named c (sym is) itself
     go false is = ap (λ n. grows (body host place n between)) (sym (and-true named))
-
--- what stays open after one part more
-seen_later : (q : ℕ) (at : At) (part : List ℕ) (tail : List (List ℕ)) → has_triple q (quotes_seen q at ++ part ∷ tail) ≡ false → has_triple q tail ≡ false
-seen_later q after_one part tail h = tail_triple q part tail (tail_triple q (q ∷ []) (part ∷ tail) h)
-seen_later q after_two part tail h = tail_triple q part tail (tail_triple q (q ∷ []) (part ∷ tail) (tail_triple q (q ∷ []) ((q ∷ []) ∷ part ∷ tail) h))
-seen_later q at part tail h = tail_triple q part tail h
 
 pub three_quotes : (q : ℕ) (tail : List (List ℕ)) → begins_triple q ((q ∷ []) ∷ (q ∷ []) ∷ (q ∷ []) ∷ tail) ≡ true
 three_quotes q tail = rw (eq-eqb q q refl)
@@ -219,7 +213,7 @@ module _ (host : Host) (place : Place) (named : Bool) (at : At) (rest : List ℕ
       go true same = subst (λ x. may_stand host x ≡ true → Passes host place named at rest tail (x ∷ [])) (sym (eqb-true c host.quote same)) own_quote stands
       go false other = λ here open_yet.
           one_grows _ between c here (itself_grows host place named (settled at) c other no_slash (no_break_in_short host c other stands) itself)
-          (goes_on host place _ rest) (seen_later host.quote at (c ∷ []) tail open_yet)
+          (goes_on host place _ rest) (later_triple host.quote (quotes_seen host.quote at) (c ∷ []) tail open_yet)
 
   -- a backslash, and what the string's text grows by after it
   slash_then : (text : List ℕ) (s : ℕ) (to : FieldMode) → is_backslash s ≡ true → MayGoOn host place named at (s ∷ text ++ rest) → GrowsTo (body host place named after_slash) text to → GrowsTo (body host place named at) (s ∷ text) to
@@ -231,19 +225,19 @@ module _ (host : Host) (place : Place) (named : Bool) (at : At) (rest : List ℕ
     to = after_slash;
     grown = slash_then [] s _ slashes here (ap (λ n. body host place n after_slash) (sym (slash_unnamed named s slashes)));
     on = goes_on-slash host place _ rest braces;
-    open_yet = seen_later host.quote at (s ∷ []) tail open_yet;
+    open_yet = later_triple host.quote (quotes_seen host.quote at) (s ∷ []) tail open_yet;
   }
 
   -- a part after which the string stands between two
   passes_between : (part : List ℕ) → (MayGoOn host place named at (part ++ rest) → GrowsTo (body host place named at) part (body host place (named_after named part) between)) → Passes host place named at rest tail part
-  passes_between part grown here open_yet = record { to = between; grown = grown here; on = goes_on host place _ rest; open_yet = seen_later host.quote at part tail open_yet }
+  passes_between part grown here open_yet = record { to = between; grown = grown here; on = goes_on host place _ rest; open_yet = later_triple host.quote (quotes_seen host.quote at) part tail open_yet }
 
   -- a backslash and a character that is no brace
   escape_passes : (s c : ℕ) → is_backslash s ≡ true → is_brace c ≡ false → may_be_escaped host place c ≡ true → names host c && begins_open rest ≡ false → is_return c && begins is_line_feed rest ≡ false → Passes host place named at rest tail (s ∷ c ∷ [])
   escape_passes s c slashes brace may none ended here open_yet = go (is_return c) (names host c) refl refl
     where
       yet : has_triple host.quote tail ≡ false
-      yet = seen_later host.quote at (s ∷ c ∷ []) tail open_yet
+      yet = later_triple host.quote (quotes_seen host.quote at) (s ∷ c ∷ []) tail open_yet
 
       by : (to : At) → ((held : List ℕ) → field_move (body host place named after_slash) held c ≡ grows (body host place named to)) → MayGoOn host place named to rest → has_triple host.quote (quotes_seen host.quote to ++ tail) ≡ false → PartGrows host place named named at (s ∷ c ∷ []) rest tail
       by to moves on seen = record { to = to; grown = slash_then (c ∷ []) s _ slashes here (body host place named to, moves, refl); on = on; open_yet = seen }
@@ -311,7 +305,7 @@ module _ (Room : ℕ → Type 0) (outer : List Level) (done : List Piece) (opene
         goes = goes-to Room _ _ _ part (go host place at held part is quotes single (first head.0 head.1 part head.2 here))
             (ap (λ n. within (body host place n between) (held ++ part)) (sym (subst (λ t. named_after false t ≡ false) (sym head.2) (field_unnamed (head.0 ∷ head.1)))));
         on = goes_on host place _ rest;
-        open_yet = seen_later host.quote at part tail open_yet;
+        open_yet = later_triple host.quote (quotes_seen host.quote at) part tail open_yet;
       }
     where
       first : (c : ℕ) (cs t : List ℕ) → t ≡ 123 ∷ c ∷ cs → MayGoOn host place false at (t ++ rest) → MayGoOn host place false at t

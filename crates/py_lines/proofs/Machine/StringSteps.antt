@@ -168,14 +168,10 @@ quote_grows q none items h = (rw (eq-eqb q q refl), h)
 quote_grows q one items h = (rw (eq-eqb q q refl), h)
 quote_grows q two items h = absurd (both_ways _ (or_parts (begins_triple q ((q ∷ []) ∷ (q ∷ []) ∷ (q ∷ []) ∷ items)) _ h).0 (rw (eq-eqb q q refl)))
 
-pub tail_triple : (q : ℕ) (item : List ℕ) (items : List (List ℕ)) → has_triple q (item ∷ items) ≡ false → has_triple q items ≡ false
-tail_triple q item items h = (or_parts (begins_triple q (item ∷ items)) (has_triple q items) h).1
-
--- after another item
-after_other : (q : ℕ) (seen : QuotesBefore) (item : List ℕ) (items : List (List ℕ)) → has_triple q (quotes_before q seen ++ item ∷ items) ≡ false → has_triple q items ≡ false
-after_other q none item items h = tail_triple q item items h
-after_other q one item items h = tail_triple q item items (tail_triple q (q ∷ []) (item ∷ items) h)
-after_other q two item items h = tail_triple q item items (tail_triple q (q ∷ []) (item ∷ items) (tail_triple q (q ∷ []) ((q ∷ []) ∷ item ∷ items) h))
+-- what stays open after some items and one more
+pub later_triple : (q : ℕ) (before : List (List ℕ)) (item : List ℕ) (items : List (List ℕ)) → has_triple q (before ++ item ∷ items) ≡ false → has_triple q items ≡ false
+later_triple q [] item items h = (or_parts (begins_triple q (item ∷ items)) (has_triple q items) h).1
+later_triple q (b ∷ bs) item items h = later_triple q bs item items (or_parts (begins_triple q (b ∷ (bs ++ item ∷ items))) (has_triple q (bs ++ item ∷ items)) h).1
 
 -- the items of a long string
 pub grown-long : (q : ℕ) (seen : QuotesBefore) (items : List (List ℕ)) → is_quote q ≡ true → list_all is_item items ≡ true → has_triple q (quotes_before q seen ++ items) ≡ false → Grown (mode_at q seen) (joined items) (mode_at q (seen_after q seen items))
@@ -190,7 +186,7 @@ grown-long q seen (i ∷ is) quotes each triple =
         let same = bare_quote q i h in
         let one_more = quote_grows q seen is (subst (λ (j : List ℕ). has_triple q (quotes_before q seen ++ j ∷ is) ≡ false) same triple) in
         (subst (λ (j : List ℕ). Grown (mode_at q seen) j (mode_at q (next seen))) (sym same) (mode_at q (next seen), one_more.0, refl), one_more.1)
-    go item false h = (grown-other q seen i quotes item h, after_other q seen i is triple)
+    go item false h = (grown-other q seen i quotes item h, later_triple q (quotes_before q seen) i is triple)
 
 seen_after-append : (q : ℕ) (seen : QuotesBefore) (xs ys : List (List ℕ)) → seen_after q seen (xs ++ ys) ≡ seen_after q (seen_after q seen xs) ys
 seen_after-append q seen [] ys = refl
