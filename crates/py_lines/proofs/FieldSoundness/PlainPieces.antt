@@ -2,7 +2,7 @@
 -- grammar with fields.
 use Rattle.std.proofs.Common.{◌≡◌, ℕ, true, List, [], ◌∷◌, ◌++◌, refl, ap, ◌∙◌, append_assoc}
 use Rattle.py_lines.specs.Piece.{operator, line_end}
-use Rattle.py_lines.specs.PieceGrammar.{InPlainClass, MayPrecedePlain, AreReadPlain}
+use Rattle.py_lines.specs.PieceGrammar.{without_fields, InPlainClass, MayPrecedePlain, AreReadPlain}
 use Rattle.py_lines.specs.declared.mode.Mode.{Mode}
 use Rattle.py_lines.specs.declared.mode.Move.{Move}
 use Rattle.py_lines.specs.declared.mode.Move.TheVariants as moves
@@ -10,7 +10,7 @@ use Rattle.py_lines.specs.declared.mode.Start.{Start}
 use Rattle.py_lines.specs.declared.mode.Start.TheVariants as starts
 use Rattle.py_lines.specs.Private.Machine.{Holds, IsSound, closed, class_of, started, moved, move_of, start_of, is_final}
 use Rattle.py_lines.specs.Private.ScanMachine.{BeginsPlain}
-use Rattle.py_lines.proofs.Pieces.PieceLists.{piece, AreReadPlain-first}
+use Rattle.py_lines.proofs.Pieces.PieceLists.{piece, AreReadIn-first}
 use Rattle.py_lines.proofs.Machine.Starts.{starts_so}
 use Rattle.py_lines.proofs.Machine.PieceSteps.{scanned}
 use Rattle.py_lines.proofs.Machine.Soundness.{SoundIf, step_sound, start_sound, end_sound}
@@ -64,8 +64,8 @@ move_holds m held c holds = go (move_of m c) (step_sound [] m held held c (alone
   where
     breaks : (s : Start) → SoundIf (started (closed m [] held) c s) (held ++ c ∷ []) → BreaksBefore m held c s
     breaks (starts.Open n) sound = sound.fit
-    breaks starts.Operator sound = λ more. AreReadPlain-first (closed m [] held) (piece operator (c ∷ []) ∷ []) more (sound.fit more)
-    breaks starts.LineEnd sound = λ more. AreReadPlain-first (closed m [] held) (piece line_end (c ∷ []) ∷ []) more (sound.fit more)
+    breaks starts.Operator sound = λ more. AreReadIn-first without_fields (closed m [] held) (piece operator (c ∷ []) ∷ []) more (sound.fit more)
+    breaks starts.LineEnd sound = λ more. AreReadIn-first without_fields (closed m [] held) (piece line_end (c ∷ []) ∷ []) more (sound.fit more)
     breaks starts.Nothing sound = tt
 
     go : (v : Move) → SoundIf (moved (scanned [] m held) c v) (held ++ c ∷ []) → MoveHolds m held c v

@@ -1,7 +1,7 @@
 -- Lists of pieces one after another.
 use Rattle.std.proofs.Common.{◌≡◌, ℕ, false, List, [], ◌∷◌, ◌++◌, refl, sym, ap, ◌∙◌, subst, append_assoc, append-nil}
 use Rattle.py_lines.specs.Piece.{Class, Piece, is_mark_class, begins_marked, spelled}
-use Rattle.py_lines.specs.PieceGrammar.{Grammar, without_fields, InClassIn, MayPrecedeIn, AreReadIn, AreReadPlain, joined}
+use Rattle.py_lines.specs.PieceGrammar.{Grammar, InClassIn, MayPrecedeIn, AreReadIn, joined}
 use Rattle.py_lines.specs.Fields.{fielded, InClass, MayPrecede, AreReadBefore}
 
 abbrev pub piece : Class → List ℕ → Piece
@@ -81,6 +81,3 @@ AreReadIn-first grammar (p ∷ ps) qs rest fit = (
 
 pub AreReadBefore-first : (ps qs : List Piece) (rest : List ℕ) → AreReadBefore (ps ++ qs) rest → AreReadBefore ps (spelled qs ++ rest)
 AreReadBefore-first ps qs rest fit = AreReadIn-first fielded ps qs rest fit
-
-pub AreReadPlain-first : (ps qs : List Piece) (rest : List ℕ) → AreReadPlain (ps ++ qs) rest → AreReadPlain ps (spelled qs ++ rest)
-AreReadPlain-first ps qs rest fit = AreReadIn-first without_fields ps qs rest fit
