@@ -94,15 +94,15 @@ long_quotes : (host : Host) → host.is_long ≡ true → quotes_of host ≡ hos
 long_quotes host h = rw h
 
 -- one more part, with which they fit so
-pub push_part : (limit : Limit) (outer : List Level) (host : Host) (place : Place) (named : Bool) (held part : List ℕ) (A B : List (List ℕ) → Type 0) (h : WholeParts limit outer host place named held A) → B (h.parts ++ part ∷ []) → has_triple host.quote (h.parts ++ part ∷ []) ≡ false → WholeParts limit outer host place (named_after named part) (held ++ part) B
-push_part limit outer host place named held part A B h fit open_yet = record {
+pub push_part : (limit : Limit) (outer : List Level) (host : Host) (place : Place) (named after : Bool) (held part : List ℕ) (A B : List (List ℕ) → Type 0) (h : WholeParts limit outer host place named held A) → B (h.parts ++ part ∷ []) → has_triple host.quote (h.parts ++ part ∷ []) ≡ false → named_after named part ≡ after → WholeParts limit outer host place after (held ++ part) B
+push_part limit outer host place named after held part A B h fit open_yet is = record {
   begin = h.begin;
   parts = h.parts ++ part ∷ [];
   spell = ap (λ t. t ++ part) h.spell ∙ append_assoc h.begin (joined h.parts) part ∙ ap (λ t. h.begin ++ t) (sym (joined-push h.parts part));
   opens_with = h.opens_with;
   quotes = h.quotes;
   fit = fit;
-  named_is = named-push false h.parts part ∙ ap (λ n. named_after n part) h.named_is;
+  named_is = named-push false h.parts part ∙ ap (λ n. named_after n part) h.named_is ∙ is;
   open_yet = open_yet;
 }
 
@@ -117,21 +117,20 @@ module _ (limit : Limit) (outer : List Level) (depth : ℕ) (host : Host) where
   between_next place named held next more h = record { all = longer_next place named held next more h.all; apart = h.apart; full = h.full }
 
   -- one more part
-  push : (place : Place) (named : Bool) (held part next : List ℕ) (h : HoldsParts limit outer depth host place named held part) → ((more : List ℕ) → IsPart (limit.FieldsAt depth) host place named part (next ++ more)) → has_triple host.quote (h.parts ++ part ∷ []) ≡ false → HoldsParts limit outer depth host place (named_after named part) (held ++ part) next
+  push : (place : Place) (named after : Bool) (held part next : List ℕ) (h : HoldsParts limit outer depth host place named held part) → ((more : List ℕ) → IsPart (limit.FieldsAt depth) host place named part (next ++ more)) → has_triple host.quote (h.parts ++ part ∷ []) ≡ false → named_after named part ≡ after → HoldsParts limit outer depth host place after (held ++ part) next
   unfolding push_part
-  push place named held part next h each open_yet =
-      push_part limit outer host place named held part _ _ h
-      (λ more. parts-push (limit.FieldsAt depth) host place false h.parts part (next ++ more) (h.fit (next ++ more)) (subst (λ n. IsPart (limit.FieldsAt depth) host place n part (next ++ more)) (sym h.named_is) (each more))) open_yet
+  push place named after held part next h each open_yet is =
+      push_part limit outer host place named after held part _ _ h
+      (λ more. parts-push (limit.FieldsAt depth) host place false h.parts part (next ++ more) (h.fit (next ++ more)) (subst (λ n. IsPart (limit.FieldsAt depth) host place n part (next ++ more)) (sym h.named_is) (each more))) open_yet is
 
   -- one that is no quote
   pub push_between : (place : Place) (named after : Bool) (held part next : List ℕ) → HoldsParts limit outer depth host place named held part → ((more : List ℕ) → IsPart (limit.FieldsAt depth) host place named part (next ++ more)) → is_bare (λ d. d == host.quote) part ≡ false → IsFull part → named_after named part ≡ after → HoldsBetween limit outer depth host place after (held ++ part) next
   unfolding push
-  push_between place named after held part next h each other full is =
-      subst (λ n. HoldsBetween limit outer depth host place n (held ++ part) next) is (record {
-        all = push place named held part next h each (triple-other host.quote h.parts part [] other h.open_yet refl);
-        apart = ap (has_triple host.quote) (append_assoc h.parts (part ∷ []) ((host.quote ∷ []) ∷ (host.quote ∷ []) ∷ [])) ∙ triple-other host.quote h.parts part ((host.quote ∷ []) ∷ (host.quote ∷ []) ∷ []) other h.open_yet refl;
-        full = λ at short. subst IsFull (sym (joined-push h.parts part)) (full-append (joined h.parts) part full);
-      })
+  push_between place named after held part next h each other full is = record {
+    all = push place named after held part next h each (triple-other host.quote h.parts part [] other h.open_yet refl) is;
+    apart = ap (has_triple host.quote) (append_assoc h.parts (part ∷ []) ((host.quote ∷ []) ∷ (host.quote ∷ []) ∷ [])) ∙ triple-other host.quote h.parts part ((host.quote ∷ []) ∷ (host.quote ∷ []) ∷ []) other h.open_yet refl;
+    full = λ at short. subst IsFull (sym (joined-push h.parts part)) (full-append (joined h.parts) part full);
+  }
 
   -- what a character does in a string with fields
   abbrev pub IsIn : Place → FieldMode → Type 0
@@ -189,28 +188,23 @@ module _ (limit : Limit) (outer : List Level) (depth : ℕ) (host : Host) where
       bare host.quote refl (quote-not-slash host.quote quotes) (ap (λ b. b || not (is_barred host.quote host.quote)) long)
       (ordinary_character place named host.quote (and_left _ _ (quote-not-open host.quote quotes)) (quote_no_end host.quote quotes))
 
-  quote_named : (named : Bool) → is_quote host.quote ≡ true → named_after named (host.quote ∷ []) ≡ named
-  quote_named named quotes = kept_named named (host.quote == 125) (quote_no_end host.quote quotes)
+  quote_on : (place : Place) (named : Bool) (text next : List ℕ) → host.is_long ≡ true → (h : HoldsParts limit outer depth host place named text (host.quote ∷ [])) → has_triple host.quote (h.parts ++ (host.quote ∷ []) ∷ []) ≡ false → HoldsParts limit outer depth host place named (text ++ host.quote ∷ []) next
+  unfolding push
+  quote_on place named text next long h open_yet =
+      push place named named text (host.quote ∷ []) next h (λ more. quote_part place named (next ++ more) h.quotes long) open_yet (kept_named named (host.quote == 125) (quote_no_end host.quote h.quotes))
+
+  apart_after : (parts : List (List ℕ)) → has_triple host.quote (parts ++ (host.quote ∷ []) ∷ (host.quote ∷ []) ∷ []) ≡ false → has_triple host.quote ((parts ++ (host.quote ∷ []) ∷ []) ++ (host.quote ∷ []) ∷ []) ≡ false
+  apart_after parts apart = ap (has_triple host.quote) (append_assoc parts ((host.quote ∷ []) ∷ []) ((host.quote ∷ []) ∷ [])) ∙ apart
 
   -- after one quote of a long string, and after two
   pub one_quote : (place : Place) (named : Bool) (text next : List ℕ) → host.is_long ≡ true → HoldsBetween limit outer depth host place named text (host.quote ∷ []) → HoldsParts limit outer depth host place named (text ++ host.quote ∷ []) next
-  one_quote place named text next long h =
-      subst (λ n. HoldsParts limit outer depth host place n (text ++ host.quote ∷ []) next) (quote_named named h.all.quotes)
-      (push place named text (host.quote ∷ []) next h.all (λ more. quote_part place named (next ++ more) h.all.quotes long)
-      (triple-left host.quote (h.all.parts ++ (host.quote ∷ []) ∷ []) ((host.quote ∷ []) ∷ []) (ap (has_triple host.quote) (append_assoc h.all.parts ((host.quote ∷ []) ∷ []) ((host.quote ∷ []) ∷ [])) ∙ h.apart)))
+  one_quote place named text next long h = quote_on place named text next long h.all (triple-left host.quote (h.all.parts ++ (host.quote ∷ []) ∷ []) ((host.quote ∷ []) ∷ []) (apart_after h.all.parts h.apart))
 
   pub two_quotes : (place : Place) (named : Bool) (text next : List ℕ) → host.is_long ≡ true → HoldsBetween limit outer depth host place named text (host.quote ∷ []) → HoldsParts limit outer depth host place named (text ++ host.quote ∷ host.quote ∷ []) next
-  unfolding push
+  unfolding one_quote quote_on
   two_quotes place named text next long h =
-      let after : Bool = named_after named (host.quote ∷ []) in
-      let first : HoldsParts limit outer depth host place after (text ++ host.quote ∷ []) (host.quote ∷ []) =
-      push place named text (host.quote ∷ []) (host.quote ∷ []) h.all (λ more. quote_part place named (host.quote ∷ more) h.all.quotes long)
-      (triple-left host.quote (h.all.parts ++ (host.quote ∷ []) ∷ []) ((host.quote ∷ []) ∷ []) (ap (has_triple host.quote) (append_assoc h.all.parts ((host.quote ∷ []) ∷ []) ((host.quote ∷ []) ∷ [])) ∙ h.apart)) in
-      let same : named_after after (host.quote ∷ []) ≡ named = ap (λ n. named_after n (host.quote ∷ [])) (quote_named named h.all.quotes) ∙ quote_named named h.all.quotes in
       subst (λ t. HoldsParts limit outer depth host place named t next) (append_assoc text (host.quote ∷ []) (host.quote ∷ []))
-      (subst (λ n. HoldsParts limit outer depth host place n ((text ++ host.quote ∷ []) ++ host.quote ∷ []) next) same
-      (push place after (text ++ host.quote ∷ []) (host.quote ∷ []) next first (λ more. quote_part place after (next ++ more) h.all.quotes long)
-      (ap (has_triple host.quote) (append_assoc h.all.parts ((host.quote ∷ []) ∷ []) ((host.quote ∷ []) ∷ [])) ∙ h.apart)))
+      (quote_on place named (text ++ host.quote ∷ []) next long (one_quote place named text (host.quote ∷ []) long h) (apart_after h.all.parts h.apart))
 
   -- the quotes that close the string
   whole_string : (named : Bool) (text more : List ℕ) → quotes_of host ≡ host.quote ∷ more → HoldsBetween limit outer depth host literal named text (host.quote ∷ []) → IsFieldString (limit.FieldsAt depth) (text ++ host.quote ∷ more)

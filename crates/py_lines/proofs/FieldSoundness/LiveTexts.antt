@@ -10,7 +10,7 @@ use Rattle.py_lines.specs.FieldStrings.{Host, Place, literal}
 use Rattle.py_lines.specs.declared.mode.Mode.{Mode}
 use Rattle.py_lines.specs.declared.mode.Mode.TheVariants as modes
 use Rattle.py_lines.specs.Private.Machine.{Holds, is_final}
-use Rattle.py_lines.specs.Private.FieldMachine.{At, between, after_one, after_two, after_slash, after_return, after_name, after_brace, FieldMode, plain, opened, empty, body, Level, FieldScanned, field_state, field_fresh, field_text_start, begins_host, plain_move, field_move, field_started, field_step, field_steps_from, field_pieces, have_room, has_room}
+use Rattle.py_lines.specs.Private.FieldMachine.{At, after_brace, FieldMode, plain, opened, empty, body, Level, FieldScanned, field_state, field_fresh, field_text_start, begins_host, plain_move, field_move, field_started, field_step, field_steps_from, field_pieces, have_room, has_room}
 use Rattle.py_lines.proofs.Pieces.PieceLists.{piece}
 use Rattle.py_lines.proofs.Text.CharacterTests.{not_quote}
 use Rattle.py_lines.proofs.Machine.LiveTexts.{IsReady, closing-not-quote, quote-scalar, comment-breaks, feed-starts, completes}
@@ -20,6 +20,7 @@ use Rattle.py_lines.proofs.FieldMachine.Completeness.{reading_reached}
 use Rattle.py_lines.proofs.FieldSoundness.Holds.{Limit, HoldsAt, IsFieldSound}
 use Rattle.py_lines.proofs.FieldSoundness.Closing.{IsReadyField, ready-fresh, Finishes, Readies, at_once, grows_first, closes_last, finishes_after, levels_close, list_finishes, body_finishes}
 use Rattle.py_lines.proofs.FieldSoundness.HostSteps.{sound_at}
+use Rattle.py_lines.proofs.FieldSoundness.OpenEnds.{at_open}
 use Rattle.py_lines.proofs.FieldSoundness.WholeTexts.{two_hundred, rooms_at, final_is_reading}
 use Rattle.py_lines.proofs.FieldMachine.StringRuns.{second_quote}
 
@@ -62,13 +63,8 @@ module _ (Room : ℕ → Type 0) (outer : List Level) (done : List Piece) (opene
 
 -- the quote of a string that is open
 pub quotes_at : (limit : Limit) (outer : List Level) (depth : ℕ) (host : Host) (place : Place) (named : Bool) (at : At) (held : List ℕ) → HoldsAt limit outer depth host place named at held → is_quote host.quote ≡ true
-quotes_at limit outer depth host place named between held h = h.all.quotes
-quotes_at limit outer depth host place named after_one held h = h.3.all.quotes
-quotes_at limit outer depth host place named after_two held h = h.3.all.quotes
-quotes_at limit outer depth host place named after_slash held h = h.4.quotes
-quotes_at limit outer depth host place named after_return held h = h.7.quotes
-quotes_at limit outer depth host place named after_name held h = h.7.quotes
 quotes_at limit outer depth host place named after_brace held h = h.4.quotes
+quotes_at limit outer depth host place named at held h = (at_open limit outer depth host place named at held (λ same. absurd (cc)) h).parts.quotes
 
 -- so from every state
 pub state_finishes : (limit : Limit) (Room : ℕ → Type 0) (outer : List Level) (done : List Piece) (openers : List ℕ) (m : FieldMode) (held read : List ℕ) → IsFieldSound limit (field_state outer done openers m held) read → Finishes Room (field_state outer done openers m held)

@@ -39,12 +39,12 @@ stands_map A B characters start f at = record {
 }
 
 -- parts of a string up to a text's end, where the last backslash may have nothing to escape yet
-record OpenUpTo (limit : Limit) (outer : List Level) (depth : ℕ) (host : Host) (place : Place) (named : Bool) (held : List ℕ) : Type 0 where
-  text : List ℕ
-  last : List ℕ
-  spell : held ≡ text ++ last
-  escapes : IsUnescaped last
-  parts : PartsAt limit outer depth host place named text last
+pub record OpenUpTo (limit : Limit) (outer : List Level) (depth : ℕ) (host : Host) (place : Place) (named : Bool) (held : List ℕ) : Type 0 where
+  pub text : List ℕ
+  pub last : List ℕ
+  pub spell : held ≡ text ++ last
+  pub escapes : IsUnescaped last
+  pub parts : PartsAt limit outer depth host place named text last
 
 whole_open : (limit : Limit) (outer : List Level) (depth : ℕ) (host : Host) (place : Place) (named : Bool) (held : List ℕ) → HoldsParts limit outer depth host place named held [] → OpenUpTo limit outer depth host place named held
 whole_open limit outer depth host place named held h = record { text = held; last = []; spell = sym (append-nil held); escapes = inl refl; parts = parts_at limit outer depth host place named held [] [] h }
@@ -56,12 +56,12 @@ escape_open limit outer depth host place named text s c slashes brace may h = re
   last = [];
   spell = sym (append-nil (text ++ s ∷ c ∷ []));
   escapes = inl refl;
-  parts = push_part limit outer host place named text (s ∷ c ∷ []) _ _ h
+  parts = push_part limit outer host place named named text (s ∷ c ∷ []) _ _ h
       (parts-push (limit.FieldsAt depth) host place false h.parts (s ∷ c ∷ []) [] (h.fit (c ∷ [])) (escape s c refl slashes brace may (and_right _ _ refl) (and_right _ _ refl)))
-      (triple-other host.quote h.parts (s ∷ c ∷ []) [] refl h.open_yet refl);
+      (triple-other host.quote h.parts (s ∷ c ∷ []) [] refl h.open_yet refl) refl;
 }
 
-at_open : (limit : Limit) (outer : List Level) (depth : ℕ) (host : Host) (place : Place) (named : Bool) (at : At) (held : List ℕ) → (at ≡ after_brace → ⊥) → HoldsAt limit outer depth host place named at held → OpenUpTo limit outer depth host place named held
+pub at_open : (limit : Limit) (outer : List Level) (depth : ℕ) (host : Host) (place : Place) (named : Bool) (at : At) (held : List ℕ) → (at ≡ after_brace → ⊥) → HoldsAt limit outer depth host place named at held → OpenUpTo limit outer depth host place named held
 at_open limit outer depth host place named between held other h = whole_open limit outer depth host place named held h.all
 at_open limit outer depth host place named after_one held other h =
     subst (OpenUpTo limit outer depth host place named) (sym h.1) (whole_open limit outer depth host place named _ (one_quote limit outer depth host place named h.0 [] h.2 h.3))
