@@ -13,7 +13,7 @@ use Rattle.py_lines.proofs.Pieces.PieceLists.{piece}
 use Rattle.py_lines.proofs.Fields.Prefixes.{field_letters}
 use Rattle.py_lines.proofs.Fields.Parts.{BeginOpen, short_part}
 use Rattle.py_lines.proofs.Fields.Elsewhere.{none_false, quotes_begin}
-use Rattle.py_lines.proofs.FieldMachine.Runs.{Goes, HasRoomFor, StopsAt, goes-append, goes-grown, goes-to, goes-grows, goes-closes, stops-fresh}
+use Rattle.py_lines.proofs.FieldMachine.Runs.{Goes, HasRoomFor, StopsAt, goes-append, goes-grown, goes-to, goes-grows, goes-closes}
 use Rattle.py_lines.proofs.FieldMachine.PieceRuns.{FieldFinds, fresh_found, word_goes}
 use Rattle.py_lines.proofs.FieldMachine.StringParts.{settled, quotes_seen, MayGoOn, goes_on, body_moves, quote_grows, goes_on-quotes, three_quotes, FieldsGo, parts_go}
 

@@ -8,8 +8,7 @@ use Rattle.py_lines.specs.OpenFields.{IsSlash, Spot, StandsOpen, IsOpenUpTo, IsO
 use Rattle.py_lines.specs.FieldStrings.{is_field_prefix, Host, Place, literal, specification}
 use Rattle.py_lines.specs.declared.mode.Mode.{Mode}
 use Rattle.py_lines.specs.declared.mode.Mode.TheVariants as modes
-use Rattle.py_lines.specs.Private.FieldMachine.{before, FieldMode, plain, FieldScanned, field_state, field_text_start, field_pieces, field_started, field_steps_from, in_open_short, in_open_long, after_open_backslash, InSpecificationOf, body}
-use Rattle.py_lines.specs.Private.Machine.{Scanned, fresh, steps_from}
+use Rattle.py_lines.specs.Private.FieldMachine.{before, FieldMode, plain, FieldScanned, field_state, field_text_start, field_pieces, field_started, field_steps_from, in_open_short, in_open_long, after_open_backslash, InSpecificationOf}
 use Rattle.py_lines.proofs.Fields.Parts.{some_head}
 use Rattle.py_lines.proofs.Machine.Starts.{start-slash}
 use Rattle.py_lines.proofs.Machine.StringSteps.{GrownTo}

@@ -7,7 +7,6 @@ use Rattle.py_lines.specs.Piece.{Class, string, spelled, Piece}
 use Rattle.py_lines.specs.PieceGrammar.{MayPrecedeIn}
 use Rattle.py_lines.specs.Fields.{fielded}
 use Rattle.py_lines.specs.FieldStrings.{Host, Place, literal, specification, quotes_of, IsFieldString}
-use Rattle.py_lines.specs.declared.mode.Mode.TheVariants as modes
 use Rattle.py_lines.specs.Private.FieldMachine.{text_place, before, between, FieldMode, plain, opened, empty, body, FieldMove, grows, closes, breaks, begins_code, opens_field, ends_field, refused, Level, FieldScanned, field_state, field_fresh, field_text_start, begins_host, long_host, field_move, body_move, field_moved, field_step, field_steps_from, field_class_of, levels_open, frames}
 use Rattle.py_lines.proofs.Pieces.PieceLists.{piece}
 use Rattle.py_lines.proofs.Fields.Prefixes.{field_letters, first_quote}
@@ -168,14 +167,12 @@ HaveRoom limit None cs = Unit {0}
 HaveRoom limit (Some s) [] = Unit {0}
 HaveRoom limit (Some s) (c ∷ cs) = HasRoom limit (frames s) c (field_move s.mode s.held c) × HaveRoom limit (field_step s c) cs
 
-pub run_sound : (limit : Limit) (s : FieldScanned) (read cs : List ℕ) → IsFieldSound limit s read → HaveRoom limit (Some s) cs → FieldSoundIf limit (field_steps_from (Some s) cs) (read ++ cs)
-run_sound limit s read [] sound room = subst (IsFieldSound limit s) (sym (append-nil read)) sound
-run_sound limit s read (c ∷ cs) sound room =
-    go (field_step s c) (step_sound limit s.outer s.done s.openers s.mode s.held read c sound room.0) room.1 (λ t next later. run_sound limit t (read ++ c ∷ []) cs next later)
-  where
-    go : (o : Option FieldScanned) → FieldSoundIf limit o (read ++ c ∷ []) → HaveRoom limit o cs → ((t : FieldScanned) → IsFieldSound limit t (read ++ c ∷ []) → HaveRoom limit (Some t) cs → FieldSoundIf limit (field_steps_from (Some t) cs) ((read ++ c ∷ []) ++ cs)) → FieldSoundIf limit (field_steps_from o cs) (read ++ c ∷ cs)
-    go None next room later = tt
-    go (Some t) next room later = subst (FieldSoundIf limit (field_steps_from (Some t) cs)) (append_assoc read (c ∷ []) cs) (later t next room)
+pub run_sound : (limit : Limit) (o : Option FieldScanned) (read cs : List ℕ) → FieldSoundIf limit o read → HaveRoom limit o cs → FieldSoundIf limit (field_steps_from o cs) (read ++ cs)
+run_sound limit None read cs sound room = tt
+run_sound limit (Some s) read [] sound room = subst (IsFieldSound limit s) (sym (append-nil read)) sound
+run_sound limit (Some s) read (c ∷ cs) sound room =
+    subst (FieldSoundIf limit (field_steps_from (field_step s c) cs)) (append_assoc read (c ∷ []) cs)
+    (run_sound limit (field_step s c) (read ++ c ∷ []) cs (step_sound limit s.outer s.done s.openers s.mode s.held read c sound room.0) room.1)
 
 pub start_is_sound : (limit : Limit) → IsFieldSound limit field_text_start []
 start_is_sound limit = record {
@@ -188,4 +185,4 @@ start_is_sound limit = record {
 
 -- where the machine goes to from the start is sound
 pub sound_at : (limit : Limit) (cs : List ℕ) (s : FieldScanned) → HaveRoom limit (Some field_text_start) cs → field_steps_from (Some field_text_start) cs ≡ Some s → IsFieldSound limit s cs
-sound_at limit cs s room steps = subst (λ o. FieldSoundIf limit o cs) steps (run_sound limit field_text_start [] cs (start_is_sound limit) room)
+sound_at limit cs s room steps = subst (λ o. FieldSoundIf limit o cs) steps (run_sound limit (Some field_text_start) [] cs (start_is_sound limit) room)
