@@ -1,5 +1,4 @@
 -- Where the machine with fields has come, what it holds is read: it is sound.
-pub mod PlainPieces
 pub mod OpenLists
 pub mod Holds
 pub mod Bodies

@@ -23,7 +23,7 @@ use Rattle.py_lines.proofs.Pieces.PieceLists.{piece, spelled-push}
 use Rattle.py_lines.proofs.Text.CharacterTests.{excluded, quote-not-word}
 use Rattle.py_lines.proofs.Machine.LiveTexts as live
 use Rattle.py_lines.proofs.Machine.Starts as begun
-use Rattle.py_lines.proofs.FieldSoundness.PlainPieces.{MoveHolds, move_holds, StartHolds, start_holds}
+use Rattle.py_lines.proofs.Machine.Soundness.{MoveHolds, move_holds, StartHolds, start_holds}
 use Rattle.py_lines.proofs.ScanMachine.Spellings.{Tells, word_tells, other_begins}
 use Rattle.py_lines.proofs.ScanMachine.BodyMoves.{IsBodyMode}
 use Rattle.py_lines.proofs.FieldMachine.PlainSteps.{is_fielded_mode, IsOpenAfter, open_after}

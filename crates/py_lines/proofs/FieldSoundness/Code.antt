@@ -17,7 +17,7 @@ use Rattle.py_lines.specs.Private.ScanMachine.{BeginsPlain}
 use Rattle.py_lines.proofs.Pieces.PieceLists.{piece}
 use Rattle.py_lines.proofs.Text.CharacterTests.{not_quote}
 use Rattle.py_lines.proofs.Machine.Starts.{StartsSo, starts_so}
-use Rattle.py_lines.proofs.FieldSoundness.PlainPieces.{StartHolds, start_holds}
+use Rattle.py_lines.proofs.Machine.Soundness.{StartHolds, start_holds}
 use Rattle.py_lines.proofs.FieldSoundness.OpenLists.{OpensIf, opens-operator, opens-depth, balanced_at}
 use Rattle.py_lines.proofs.FieldSoundness.Holds.{Limit, OpensSpecification, HoldsParts, HoldsBetween, IsSingle, HoldsLevel, HoldsLevels, Stands, AtStart, IsFieldSound}
 use Rattle.py_lines.proofs.FieldSoundness.Bodies.{longer_next, push_between}

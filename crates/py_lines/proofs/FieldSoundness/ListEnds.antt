@@ -11,7 +11,7 @@ use Rattle.py_lines.specs.Private.FieldMachine.{text_place, FieldMode, plain, op
 use Rattle.py_lines.proofs.Pieces.PieceLists.{piece, spelled-push, AreReadIn-push, follows_any}
 use Rattle.py_lines.proofs.Fields.Nesting.{class_map}
 use Rattle.py_lines.proofs.Fields.Elsewhere.{IsPlainText, plain_class, plain_precede}
-use Rattle.py_lines.proofs.FieldSoundness.PlainPieces.{end_holds}
+use Rattle.py_lines.proofs.Machine.Soundness.{end_holds}
 use Rattle.py_lines.proofs.FieldSoundness.OpenLists.{Opens, opens-other}
 use Rattle.py_lines.proofs.FieldSoundness.Holds.{Limit, IsFieldSound}
 use Rattle.py_lines.proofs.FieldSoundness.Lists.{neutral, passes-push, colon-push, marked-push}

@@ -1,11 +1,10 @@
 -- What each character does outside strings with fields.
-use Rattle.std.proofs.Common.{◌≡◌, ℕ, ◌+◌, Bool, true, false, ◌&&◌, List, [], ◌∷◌, ◌++◌, length, refl, sym, ap, ◌∙◌, subst, inl, inr, ◌⊎◌}
+use Rattle.std.proofs.Common.{append_assoc, ◌≡◌, ℕ, ◌+◌, Bool, true, false, ◌&&◌, List, [], ◌∷◌, ◌++◌, length, refl, sym, ap, ◌∙◌, subst, inl, inr, ◌⊎◌}
 use Rattle.std.specs.List.{list_any}
 use Rattle.std.proofs.lemmas.Bool.{cond_both, and_parts, both_ways, or_from, false_from_ne_true}
 use Rattle.py_lines.specs.Character.{is_word_character, is_quote}
 use Rattle.py_lines.specs.Piece.{Class, word, string, operator, Piece, begins, is_mark_class}
 use Rattle.py_lines.specs.PieceGrammar.{InPlainClass, InClassIn, MayPrecedePlain, MayPrecedeIn, AreReadPlain}
-use Rattle.py_lines.specs.Balance.{is_opening}
 use Rattle.py_lines.specs.Fields.{Fields, fielded}
 use Rattle.py_lines.specs.FieldStrings.{is_field_prefix, literal, with_fields}
 use Rattle.py_lines.specs.declared.mode.Spelling.{Spelling}
@@ -13,10 +12,8 @@ use Rattle.py_lines.specs.declared.mode.Mode.{Mode}
 use Rattle.py_lines.specs.declared.mode.Mode.TheVariants as modes
 use Rattle.py_lines.specs.declared.mode.Move.{Move}
 use Rattle.py_lines.specs.declared.mode.Move.TheVariants as moves
-use Rattle.py_lines.specs.declared.mode.Start.{Start}
-use Rattle.py_lines.specs.declared.mode.Start.TheVariants as starts
-use Rattle.py_lines.specs.Private.Machine.{Holds, closed, class_of, move_of, start_of, is_prefix_spelling}
-use Rattle.py_lines.specs.Private.FieldMachine.{text_place, FieldMode, plain, opened, FieldMove, closes, breaks, Level, field_state, field_fresh, host_of, begins_host, plain_move, field_started, field_moved, levels_open}
+use Rattle.py_lines.specs.Private.Machine.{Holds, closed, class_of, move_of, is_prefix_spelling}
+use Rattle.py_lines.specs.Private.FieldMachine.{text_place, FieldMode, plain, opened, FieldMove, closes, Level, field_state, field_fresh, host_of, begins_host, plain_move, field_moved, levels_open}
 use Rattle.py_lines.specs.Private.ScanMachine.{BeginsPlain}
 use Rattle.py_lines.proofs.Pieces.PieceLists.{piece}
 use Rattle.py_lines.proofs.Text.CharacterTests.{quote-not-start}
@@ -25,10 +22,22 @@ use Rattle.py_lines.proofs.Fields.Prefixes.{word_quotes}
 use Rattle.py_lines.proofs.FieldMachine.Runs.{HasRoomFor}
 use Rattle.py_lines.proofs.FieldMachine.PlainSteps.{NoWord, no_word}
 use Rattle.py_lines.proofs.Fields.Elsewhere.{IsPlainText, plain_class, plain_precede}
-use Rattle.py_lines.proofs.FieldSoundness.PlainPieces.{begins_plain-more, BreaksBefore, MoveHolds, move_holds}
+use Rattle.py_lines.proofs.Machine.Soundness.{MoveHolds, move_holds}
 use Rattle.py_lines.proofs.FieldSoundness.Holds.{Limit, HoldsMode, Stands, AtStart, IsFieldSound}
 use Rattle.py_lines.proofs.FieldSoundness.Lists.{FieldSoundIf, sound_in, stands_at, stands_more, stands_push, adds_neutral, fresh_sound}
 use Rattle.py_lines.proofs.FieldSoundness.Code.{Ready, start_sound}
+
+-- a text whose first quote comes after no prefix of a string with fields stays so where it goes on
+pub begins_plain-more : (text : List ℕ) (c : ℕ) → BeginsPlain text → BeginsPlain (text ++ c ∷ [])
+begins_plain-more text c is = record {
+  prefix = is.prefix;
+  quote = is.quote;
+  body = is.body ++ c ∷ [];
+  spell = ap (λ t. t ++ c ∷ []) is.spell ∙ append_assoc is.prefix (is.quote ∷ is.body) (c ∷ []);
+  none = is.none;
+  opens = is.opens;
+  plain = is.plain;
+}
 
 -- what may open at a character that does this, where so many brackets and fields are open before it
 abbrev pub HasRoom : Limit → ℕ → ℕ → FieldMove → Type 0
@@ -135,16 +144,6 @@ module _ (limit : Limit) (outer : List Level) (done : List Piece) (openers : Lis
           (ends_before limit outer done openers (plain m) held read c (class_of m) sound refl class (plain_class _ (class_of m) held (c ∷ []) (is_plain []) (fit []).0)
           (λ more. plain_precede Fields (class_of m) held (c ∷ more) (is_plain more) (fit more).1) marked)
 
-  breaks_sound : BreaksBefore m held c (start_of c) → (is_opening c ≡ true → limit.Room (length openers + levels_open outer)) → FieldSoundIf limit (field_moved (field_state outer done openers (plain m) held) c breaks) (read ++ c ∷ [])
-  breaks_sound own room = go (start_of c) refl own
-    where
-      started : (s : Start) → start_of c ≡ s → ((more : List ℕ) → AreReadPlain (closed m [] held) (c ∷ more)) → FieldSoundIf limit (field_started outer (closed m done held) openers c s) (read ++ c ∷ [])
-      started s at fit = subst (λ (x : Start). FieldSoundIf limit (field_started outer (closed m done held) openers c x) (read ++ c ∷ [])) at (start_sound limit outer (closed m done held) openers read c (ready fit) room)
-
-      go : (s : Start) → start_of c ≡ s → BreaksBefore m held c s → FieldSoundIf limit (field_started outer (closed m done held) openers c s) (read ++ c ∷ [])
-      go starts.Nothing at fit = tt
-      go s at fit = started s at fit
-
   -- so whatever it does
   pub plain_sound : HasRoom limit (length openers + levels_open outer) c (plain_move (move_of m c)) → FieldSoundIf limit (field_moved (field_state outer done openers (plain m) held) c (plain_move (move_of m c))) (read ++ c ∷ [])
   plain_sound room = go (move_of m c) (move_holds m held c sound.mode.0) (quoted_so m held c sound.mode.0 sound.mode.1 other) refl room
@@ -156,7 +155,7 @@ module _ (limit : Limit) (outer : List Level) (done : List Piece) (openers : Lis
       go : (v : Move) → MoveHolds m held c v → QuotedSo held c v → move_of m c ≡ v → HasRoom limit (length openers + levels_open outer) c (plain_move v) → FieldSoundIf limit (field_moved (field_state outer done openers (plain m) held) c (plain_move v)) (read ++ c ∷ [])
       go (moves.Grows n) holds quoted so room = grew limit outer done openers (plain m) (plain n) held read c sound refl (holds, quoted) (no_start n holds)
       go moves.Closes holds quoted so room = closes_sound holds so
-      go moves.Breaks holds quoted so room = breaks_sound holds room
+      go moves.Breaks holds quoted so room = start_sound limit outer (closed m done held) openers read c (ready holds) room
       go moves.Refused holds quoted so room = tt
 
 -- a word that is the prefix of a string with fields, before a quote
