@@ -1,7 +1,7 @@
 -- The machine with fields goes through the text of a piece that has no fields.
-use Rattle.std.proofs.Common.{◌≡◌, ℕ, Bool, true, false, ◌&&◌, ◌||◌, ◌==◌, Option, Some, List, [], ◌∷◌, ◌++◌, length, refl, sym, ap, ◌∙◌, subst, inl, inr, append_assoc}
+use Rattle.std.proofs.Common.{◌≡◌, ℕ, true, false, ◌&&◌, ◌==◌, Option, Some, List, [], ◌∷◌, ◌++◌, length, refl, sym, ap, ◌∙◌, subst, inl, inr, append_assoc}
 use Rattle.std.specs.List.{list_all}
-use Rattle.std.proofs.lemmas.Bool.{both_ways, cond_both, eqb-true, and_right}
+use Rattle.std.proofs.lemmas.Bool.{both_ways, cond_both, eqb-true}
 use Rattle.py_lines.specs.Character.{is_word_character, is_word_start, is_quote, is_operator}
 use Rattle.py_lines.specs.Piece.{Class, word, string, operator, line_end, Piece, begins}
 use Rattle.py_lines.specs.PieceGrammar.{is_prefix, IsPrefix, InPlainClass, MayPrecedeIn}
@@ -20,7 +20,7 @@ use Rattle.py_lines.proofs.Machine.PieceSteps.{StopsBefore, EndsWith, ends_befor
 use Rattle.py_lines.proofs.Machine.Spellings.{prefix_spelling}
 use Rattle.py_lines.proofs.Machine.StringSteps.{opens_at}
 use Rattle.py_lines.proofs.Fields.Prefixes.{word_quotes}
-use Rattle.py_lines.proofs.Fields.Elsewhere.{precede_without}
+use Rattle.py_lines.proofs.Fields.Elsewhere.{precede_without, either_prefix}
 use Rattle.py_lines.proofs.FieldMachine.Runs.{Goes, StopsAt, goes-append, goes-grown, goes-to, goes-grows, goes-closes, goes-begins, stops-fresh}
 use Rattle.py_lines.proofs.FieldMachine.PlainSteps.{no_host, plain_moves, grown-alike, grown-quiet, front_quiet}
 use Rattle.py_lines.proofs.FieldMachine.ListBrackets.{none_some}
@@ -54,10 +54,6 @@ stops_after m class text (c ∷ cs) is none stops = plain_moves m text c (no_hos
     no_host_after : (n : Mode) → class_of n ≡ class → begins_host n text c ≡ false
     no_host_after (modes.Word s) so = none (sym so)
     no_host_after n so = refl
-
-either_prefix : (a b q : Bool) → (a || b) && q ≡ false → (a && q ≡ false) × (b && q ≡ false)
-either_prefix true b q h = (h, and_right b q h)
-either_prefix false b q h = (refl, h)
 
 ends_no_prefix : (F : Host → List ℕ → Type 0) (class : Class) (text rest : List ℕ) → MayPrecedeIn (with_fields F) class text rest → EndsNoPrefix class text rest
 ends_no_prefix F word text rest before is = (either_prefix (is_prefix text) (is_field_prefix text) (begins is_quote rest) before.1).1

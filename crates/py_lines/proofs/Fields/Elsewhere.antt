@@ -1,6 +1,6 @@
 -- A text that has no string with fields reads the same with them and without.
 use Rattle.std.proofs.Common.{◌≡◌, ℕ, Bool, true, false, ◌||◌, ◌&&◌, List, [], ◌∷◌, ◌++◌, refl, sym, ap, ◌∙◌, subst, inl, inr, ⊎_elim, append_assoc, append-nil}
-use Rattle.std.proofs.lemmas.Bool.{and_parts, or_parts, or_from, or_cases, both_ways, false_from_ne_true}
+use Rattle.std.proofs.lemmas.Bool.{and_parts, and_right, or_parts, or_from, or_cases, both_ways, false_from_ne_true}
 use Rattle.std.specs.Prelude.{if◌then◌else◌}
 use Rattle.py_lines.specs.Character.{is_quote, is_r, is_f, is_t}
 use Rattle.py_lines.specs.Piece.{Class, word, string, Piece, begins, spelled}
@@ -116,16 +116,16 @@ class_without F string text rest h (inr is) = absurd (has_prefix F text rest h i
 class_without F class text rest h is = is
 
 -- and what it may precede
-fewer_false : (x y z : Bool) → (x || y) && z ≡ false → x && z ≡ false
-fewer_false false y z h = refl
-fewer_false true y z h = h
+pub either_prefix : (x y z : Bool) → (x || y) && z ≡ false → (x && z ≡ false) × (y && z ≡ false)
+either_prefix true y z h = (h, and_right y z h)
+either_prefix false y z h = (refl, h)
 
 more_prefixes : (prefix : List ℕ) → IsNoneOr is_prefix prefix → IsNoneOr (λ p. is_prefix p || is_field_prefix p) prefix
 more_prefixes prefix (inl none) = inl none
 more_prefixes prefix (inr some) = inr (ap (λ b. b || is_field_prefix prefix) some)
 
 pub precede_without : (F : Host → List ℕ → Type 0) (class : Class) (text rest : List ℕ) → MayPrecedeIn (with_fields F) class text rest → MayPrecedePlain class text rest
-precede_without F word text rest before = (before.0, fewer_false (is_prefix text) (is_field_prefix text) (begins is_quote rest) before.1)
+precede_without F word text rest before = (before.0, (either_prefix (is_prefix text) (is_field_prefix text) (begins is_quote rest) before.1).0)
 precede_without F string text rest before = λ prefix q is begun quotes. before prefix q is (more_prefixes prefix begun) quotes
 precede_without F class text rest before = before
 
