@@ -40,14 +40,11 @@ unfolding body_move
 goes_on host place named [] = refl
 goes_on host place named (c ∷ cs) = refl
 
-no_brace : (at : At) → is_after_brace (with_quote at) ≡ false
-no_brace after_one = refl
-no_brace at = refl
-
 pub goes_on-quotes : (host : Host) (place : Place) (named : Bool) (at : At) (rest : List ℕ) → MayGoOn host place named (with_quote at) rest
 unfolding body_move
-goes_on-quotes host place named at [] = no_brace at
+goes_on-quotes host place named after_one [] = refl
 goes_on-quotes host place named after_one (c ∷ cs) = refl
+goes_on-quotes host place named at [] = refl
 goes_on-quotes host place named at (c ∷ cs) = refl
 
 -- after a backslash, before a brace

@@ -139,11 +139,9 @@ letter_escaped host specification named = refl
 
 letter_moves : (host : Host) (place : Place) (named : Bool) (at : At) (held : List ℕ) → is_quote host.quote ≡ true → (at ≡ after_brace → ⊥) → field_move (body host place named at) held 97 ≡ grows (body host place named between)
 unfolding field_move body_move is_line_feed
-letter_moves host place named after_one held quotes other = letter_between host place named after_one quotes
-letter_moves host place named after_two held quotes other = letter_between host place named after_two quotes
 letter_moves host place named after_slash held quotes other = letter_escaped host place named
 letter_moves host place named after_brace held quotes other = absurd (other refl)
-letter_moves host place named at held quotes other = letter_between host place named between quotes
+letter_moves host place named at held quotes other = letter_between host place named _ quotes
 
 name_ends : (host : Host) (place : Place) (held : List ℕ) → is_quote host.quote ≡ true → field_move (body host place true between) held 125 ≡ grows (body host place false between)
 unfolding field_move body_move between_move is_backslash is_break is_quote
