@@ -1,11 +1,11 @@
 -- A fault that the known bytes of a text decide is that of every text that begins with them.
-use Rattle.std.proofs.Common.{◌≡◌, ℕ, ◌+◌, ◌≤◌, Option, None, Some, List, [], ◌∷◌, ◌++◌, length, refl, sym, ap, ◌∙◌, subst, ⊎_elim, inl, inr, append_assoc}
+use Rattle.std.proofs.Common.{◌≡◌, ℕ, ◌+◌, ◌≤◌, Option, None, Some, List, [], ◌∷◌, ◌++◌, length, sym, ap, ◌∙◌, subst, ⊎_elim, inl, inr, append_assoc}
 use Rattle.std.specs.Prelude.{encode_utf8_all}
 use Rattle.std.specs.Str.{StartsWithNoChar}
 use Rattle.py_lines.specs.Piece.{Piece, spelled}
-use Rattle.py_lines.specs.LogicalLine.{LogicalLine, byte_len, line_ends}
+use Rattle.py_lines.specs.LogicalLine.{LogicalLine}
 use Rattle.py_lines.specs.Reading.{Decodes, IsBalancedReading, EndsLine, IsReadPrefix}
-use Rattle.py_lines.specs.Faults.{IsLive, IsCharacterFault, IsFaultAt, IsLexicalFault, at_character, at_bytes}
+use Rattle.py_lines.specs.Faults.{IsLive, IsCharacterFault, IsLexicalFault, at_character, at_bytes}
 use Rattle.py_lines.specs.Lexed.{IsLexed}
 use Rattle.py_lines.specs.Settled.{StaysFaulty, Decides}
 use Rattle.py_lines.specs.declared.fault.FaultKind.{FaultKind}
@@ -16,17 +16,12 @@ use Rattle.py_lines.proofs.Text.Decoding.{decoding}
 use Rattle.py_lines.proofs.Text.Splits.{Either, either}
 use Rattle.py_lines.proofs.FieldSoundness.LiveTexts.{live_before}
 use Rattle.py_lines.proofs.Faults.FaultPrefixes.{field_fault_prefix, undecodable}
-use Rattle.py_lines.proofs.Faults.Verdict.{not_live}
 use Rattle.py_lines.proofs.Text.Decoding.{decoded}
-use Rattle.py_lines.proofs.Lexings.Existence.{reading_live}
+use Rattle.py_lines.proofs.Lexings.Existence.{IsLineOf, lexical, reading_live}
+use Rattle.py_lines.proofs.Lexings.LineEnds.{none_both}
 use Rattle.py_lines.proofs.Lexings.Uniqueness.{same_fault}
-use Rattle.py_lines.proofs.LogicalLines.Cuts.{same_place}
 
--- a text that dies at a character has no reading, nor has one that goes on from there
-dies_unread : (kind : FaultKind) (characters : List ℕ) (offset : ℕ) → IsCharacterFault kind characters offset → (pieces : List Piece) → ¬ (IsBalancedReading pieces characters)
-dies_unread kind characters offset fault pieces reading = not_live characters kind offset fault (reading_live pieces characters reading)
-
--- its fault stays where it is
+-- the fault of a text that dies at a character stays where it is
 goes_on_faulty : (kind : FaultKind) (characters rest : List ℕ) (offset : ℕ) → IsCharacterFault kind characters offset → IsCharacterFault kind (characters ++ rest) offset
 goes_on_faulty kind characters rest offset fault = record {
   cause = fault.cause;
@@ -59,10 +54,16 @@ prefix_on kind characters rest offset pieces fault prefix = record {
         go (Either.longer c k later one two) = absurd (fault.dies.dead (live_before (fault.before ++ fault.c ∷ []) (c ∷ k) (subst IsLive one (reading_live others (spelled others) reading))))
 
 -- the line of a fault stays
-line_on : (characters tail rest other : List ℕ) (fault : Fault) → IsLexicalFault characters tail fault → IsFaultAt fault.kind characters tail fault.offset → (before after : List ℕ) → before ++ after ≡ characters ++ rest → byte_len before ≡ fault.offset → fault.line ≡ 1 + line_ends before
-line_on characters tail rest other fault refused at before after spell place =
-    let found = field_fault_prefix fault.kind characters tail fault.offset at in
-    refused.line found.prefix found.rest found.spell found.place ∙ ap (λ t. 1 + line_ends t) (same_place found.prefix (found.rest ++ rest) before after (sym (append_assoc found.prefix found.rest rest) ∙ ap (λ t. t ++ rest) found.spell ∙ sym spell) (found.place ∙ sym place))
+line_on : (characters tail rest : List ℕ) (fault : Fault) → IsLexicalFault characters tail fault → IsLineOf fault (characters ++ rest)
+line_on characters tail rest fault refused =
+    let found = field_fault_prefix fault.kind characters tail fault.offset refused.place in
+    record {
+      prefix = found.prefix;
+      rest = found.rest ++ rest;
+      spell = sym (append_assoc found.prefix found.rest rest) ∙ ap (λ t. t ++ rest) found.spell;
+      place = found.place;
+      line = refused.line found.prefix found.rest found.spell found.place;
+    }
 
 -- the known bytes, and what they say of a text that goes on
 pub record Continued (text more : List ℕ) (fault : Fault) (characters tail : List ℕ) : Type 0 where
@@ -82,18 +83,10 @@ by_character text more fault d stays =
       whole = d.characters ++ on.rest;
       left = w.tail;
       decodes = subst (λ t. Decodes (text ++ more) t w.tail) on.split w.decodes;
-      refused = record {
-        unread = λ all. dies_unread fault.kind (d.characters ++ on.rest) fault.offset later;
-        place = at_character later;
-        line = line_on d.characters d.tail on.rest w.tail fault d.refused d.refused.place;
-      };
+      refused = lexical (d.characters ++ on.rest) w.tail fault (at_character later) (line_on d.characters d.tail on.rest fault d.refused);
       stays = inl later;
       prefix = λ pieces prefix. prefix_on fault.kind d.characters on.rest fault.offset pieces stays prefix;
     }
-
-nothing_left : (a b : List ℕ) → a ++ b ≡ [] → a ≡ []
-nothing_left [] b h = refl
-nothing_left (c ∷ cs) b h = absurd (cc)
 
 by_bytes : (text more : List ℕ) (fault : Fault) (d : Decides text fault) → fault.kind ≡ faults.BadUtf8 → ((after : List ℕ) → StartsWithNoChar (d.tail ++ after)) → Continued text more fault d.characters d.tail
 by_bytes text more fault d is hopeless =
@@ -103,8 +96,8 @@ by_bytes text more fault d is hopeless =
       left = d.tail ++ more;
       decodes = record { are = d.decodes.are; spell = sym (append_assoc (encode_utf8_all d.characters) d.tail more) ∙ ap (λ t. t ++ more) d.decodes.spell; bad = hopeless more };
       refused = record {
-        unread = λ nothing. absurd (at.bad (nothing_left d.tail more nothing));
-        place = at_bytes (record { is = is; bad = λ nothing. at.bad (nothing_left d.tail more nothing); live = at.live; place = at.place });
+        unread = λ nothing. absurd (at.bad (none_both d.tail more nothing).0);
+        place = at_bytes (record { is = is; bad = λ nothing. at.bad (none_both d.tail more nothing).0; live = at.live; place = at.place });
         line = d.refused.line;
       };
       stays = inr (is, λ after. subst StartsWithNoChar (sym (append_assoc d.tail more after)) (hopeless (more ++ after)));

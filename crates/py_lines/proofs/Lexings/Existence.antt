@@ -1,13 +1,11 @@
--- Every text is read, or has a lexical fault; so every text has some logical lines, and then its end or its fault.
-use Rattle.std.proofs.Common.{◌≡◌, ℕ, ◌+◌, true, false, Option, None, Some, List, [], ◌∷◌, ◌++◌, ◌⊎◌, inl, inr, refl, sym, ap, ◌∙◌, subst, append_assoc, append-nil}
+-- Every text is read, or has a lexical fault.
+use Rattle.std.proofs.Common.{◌≡◌, ℕ, ◌+◌, true, false, Option, None, Some, List, [], ◌∷◌, ◌++◌, ◌⊎◌, inl, inr, refl, sym, ap, ◌∙◌, subst, ⊎_elim, append_assoc, append-nil}
 use Rattle.std.proofs.lemmas.Bool.{cases_Bool, and_from}
 use Rattle.py_lines.specs.Piece.{Piece}
 use Rattle.py_lines.specs.Balance as brackets
-use Rattle.py_lines.specs.LogicalLine.{LogicalLine, lines_of, byte_len, line_ends}
+use Rattle.py_lines.specs.LogicalLine.{byte_len, line_ends}
 use Rattle.py_lines.specs.Reading.{Decodes, IsBalancedReading}
-use Rattle.py_lines.specs.Faults.{IsLive, IsCharacterFault, IsEndFault, IsFaultAt, at_character, at_bytes, at_end, IsReadOrFaulty, IsLexicalFault}
-use Rattle.py_lines.specs.Lexed.{IsLexed}
-use Rattle.py_lines.specs.Settled.{IsSettled}
+use Rattle.py_lines.specs.Faults.{IsLive, IsCharacterFault, IsFaultAt, at_character, at_bytes, at_end, IsReadOrFaulty, IsLexicalFault}
 use Rattle.py_lines.specs.Given.{AreFirstLines}
 use Rattle.py_lines.specs.declared.fault.FaultKind.TheVariants as faults
 use Rattle.py_lines.specs.declared.fault.FaultKind.{FaultKind}
@@ -21,7 +19,6 @@ use Rattle.py_lines.proofs.Faults.CharacterFaults.{IsStuck}
 use Rattle.py_lines.proofs.Faults.CauseAt.{cause_fits}
 use Rattle.py_lines.proofs.Faults.FaultPrefixes.{field_fault_prefix}
 use Rattle.py_lines.proofs.Faults.Verdict.{not_live}
-use Rattle.py_lines.proofs.Lexings.Prefixes.{read_prefix_exists, settled_prefix_exists}
 
 -- a text is live, or has a fault at a character
 abbrev IsLiveOrFaulty : List ℕ → Type 0
@@ -47,69 +44,44 @@ live_or_faulty (c ∷ cs) read s steps room = go (field_step s c) refl (cases_Bo
 pub reading_live : (pieces : List Piece) (characters : List ℕ) → IsBalancedReading pieces characters → IsLive characters
 reading_live pieces characters reading = record { more = []; pieces = pieces; scalars = refl; reading = subst (IsBalancedReading pieces) (sym (append-nil characters)) reading }
 
--- the fault at a place, with the line of that
-with_line : (characters tail : List ℕ) (kind : FaultKind) (offset : ℕ) → (tail ≡ [] → (pieces : List Piece) → ¬ (IsBalancedReading pieces characters)) → IsFaultAt kind characters tail offset → (fault : Fault) × IsLexicalFault characters tail fault
-with_line characters tail kind offset unread at =
-    let prefix = field_fault_prefix kind characters tail offset at in (
-      record { kind = kind; offset = offset; line = 1 + line_ends prefix.prefix },
-      record {
-        unread = unread;
-        place = at;
-        line = λ before after spell place. ap (λ t. 1 + line_ends t) (same_place prefix.prefix prefix.rest before after (prefix.spell ∙ sym spell) (prefix.place ∙ sym place));
-      },
-    )
+-- a text with a fault has none
+pub fault_unread : (kind : FaultKind) (characters tail : List ℕ) (offset : ℕ) → IsFaultAt kind characters tail offset → tail ≡ [] → (pieces : List Piece) → ¬ (IsBalancedReading pieces characters)
+fault_unread kind characters tail offset (at_character fault) none pieces reading = not_live characters kind offset fault (reading_live pieces characters reading)
+fault_unread kind characters tail offset (at_bytes fault) none pieces reading = fault.bad none
+fault_unread kind characters tail offset (at_end fault) none pieces reading = end_unread characters tail kind offset fault pieces reading
 
--- a live text is read, or has a fault at its end
-abbrev IsReadOrLexical : List ℕ → List ℕ → Type 0
-IsReadOrLexical characters tail = ((tail ≡ []) × ((pieces : List Piece) × IsBalancedReading pieces characters)) ⊎ ((fault : Fault) × IsLexicalFault characters tail fault)
+-- the line of a place, told by the prefix that ends there
+pub record IsLineOf (fault : Fault) (characters : List ℕ) : Type 0 where
+  pub prefix : List ℕ
+  pub rest : List ℕ
+  pub spell : prefix ++ rest ≡ characters
+  pub place : byte_len prefix ≡ fault.offset
+  pub line : fault.line ≡ 1 + line_ends prefix
 
-live_end : (characters tail : List ℕ) → IsLive characters → IsReadOrLexical characters tail
-live_end characters [] live = go (live_goes characters live).0 (read_or_open characters (live_goes characters live).0 (live_goes characters live).1 (live_goes characters live).2)
-  where
-    go : (s : FieldScanned) → IsBalancedReading (field_pieces s) characters ⊎ ((kind : FaultKind) × (offset : ℕ) × IsEndFault kind characters [] offset) → IsReadOrLexical characters []
-    go s (inl reading) = inl (refl, (field_pieces s, reading))
-    go s (inr (kind, offset, fault)) = inr (with_line characters [] kind offset (λ none. end_unread characters [] kind offset fault) (at_end fault))
-live_end characters (d ∷ ds) live =
-    inr (with_line characters (d ∷ ds) faults.BadUtf8 (byte_len characters) (λ none. absurd (cc)) (at_bytes (record { is = refl; bad = λ (h : d ∷ ds ≡ []). cc; live = live; place = refl })))
+-- a fault with its line is that of the text
+pub lexical : (characters tail : List ℕ) (fault : Fault) → IsFaultAt fault.kind characters tail fault.offset → IsLineOf fault characters → IsLexicalFault characters tail fault
+lexical characters tail fault at is = record {
+  unread = fault_unread fault.kind characters tail fault.offset at;
+  place = at;
+  line = λ before after spell place. is.line ∙ ap (λ t. 1 + line_ends t) (same_place is.prefix is.rest before after (is.spell ∙ sym spell) (is.place ∙ sym place));
+}
+
+pub with_line : (characters tail : List ℕ) (kind : FaultKind) (offset : ℕ) → IsFaultAt kind characters tail offset → (fault : Fault) × IsLexicalFault characters tail fault
+with_line characters tail kind offset at =
+    let p = field_fault_prefix kind characters tail offset at in
+    let fault : Fault = record { kind = kind; offset = offset; line = 1 + line_ends p.prefix } in
+    (fault, lexical characters tail fault at (record { prefix = p.prefix; rest = p.rest; spell = p.spell; place = p.place; line = refl }))
 
 -- every text is read or has a fault
-read_or_lexical : (characters tail : List ℕ) → IsReadOrLexical characters tail
-read_or_lexical characters tail = go (live_or_faulty characters [] field_text_start refl refl)
-  where
-    go : IsLiveOrFaulty characters → IsReadOrLexical characters tail
-    go (inl live) = live_end characters tail live
-    go (inr (kind, offset, at)) = inr (with_line characters tail kind offset (λ none pieces reading. not_live characters kind offset at (reading_live pieces characters reading)) (at_character at))
-
 pub read_or_faulty : (characters tail : List ℕ) → IsReadOrFaulty characters tail
-read_or_faulty characters tail = go (read_or_lexical characters tail)
+read_or_faulty characters tail = go tail (live_or_faulty characters [] field_text_start refl refl)
   where
-    go : IsReadOrLexical characters tail → IsReadOrFaulty characters tail
-    go (inl read) = inl read
-    go (inr (fault, is)) = inr (fault.kind, fault.offset, is.place)
-
--- so it has logical lines, and then its end or its fault
-pub some_lexing_of : (text : List ℕ) → (lines : List LogicalLine) × (end : Option Fault) × IsLexed text lines end
-some_lexing_of text = go (read_or_lexical (decoding text).characters (decoding text).tail)
-  where
-    characters : List ℕ
-    characters = (decoding text).characters
-
-    tail : List ℕ
-    tail = (decoding text).tail
-
-    go : IsReadOrLexical characters tail → (lines : List LogicalLine) × (end : Option Fault) × IsLexed text lines end
-    go (inl (whole, (pieces, reading))) =
-        (lines_of pieces, None, record { characters = characters; pieces = pieces; decodes = subst (Decodes text characters) whole (decoding text).decodes; reading = reading; cut = refl })
-    go (inr (fault, is)) =
-        let prefix = read_prefix_exists characters in
-        (lines_of prefix.0, Some fault, record { characters = characters; tail = tail; pieces = prefix.0; decodes = (decoding text).decodes; prefix = prefix.1; refused = is; cut = refl })
-
--- the known bytes of every text settle some lines
-pub some_settled : (text : List ℕ) → (lines : List LogicalLine) × IsSettled text lines
-some_settled text =
-    let of = decoding text in
-    let prefix = settled_prefix_exists of.characters of.tail in
-    (lines_of prefix.0, record { characters = of.characters; tail = of.tail; pieces = prefix.0; decodes = of.decodes; prefix = prefix.1; cut = refl })
+    go : (t : List ℕ) → IsLiveOrFaulty characters → IsReadOrFaulty characters t
+    go t (inr (kind, offset, at)) = inr (kind, offset, at_character at)
+    go (d ∷ ds) (inl live) = inr (faults.BadUtf8, byte_len characters, at_bytes (record { is = refl; bad = λ (h : d ∷ ds ≡ []). cc; live = live; place = refl }))
+    go [] (inl live) =
+        let run = live_goes characters live in
+        ⊎_elim (λ reading. inl (refl, (field_pieces run.0, reading))) (λ fault. inr (fault.0, fault.1, at_end fault.2)) (read_or_open characters run.0 run.1 run.2)
 
 -- no line comes before the start of a text of these characters
 pub first_at : (text characters tail : List ℕ) (place line : ℕ) → Decodes text characters tail → place ≡ 0 → line ≡ 1 → AreFirstLines text place line []

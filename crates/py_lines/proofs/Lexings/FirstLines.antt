@@ -16,7 +16,7 @@ use Rattle.py_lines.proofs.Text.Decoding.{decoded}
 use Rattle.py_lines.proofs.Text.Splits.{Either, either}
 use Rattle.py_lines.proofs.LogicalLines.Cuts.{byte_len-append, line_ends-pieces}
 use Rattle.py_lines.proofs.Lexings.LineEnds.{ended_reading, none_both}
-use Rattle.py_lines.proofs.Lexings.Existence.{some_lexing_of}
+use Rattle.py_lines.proofs.Lexings.Prefixes.{some_lexing_of}
 use Rattle.py_lines.proofs.Lexings.SettledLines.{lines_begin, settled_first}
 use Rattle.std.proofs.lemmas.List.{nil_from_length, take-append-drop, length-take}
 use Rattle.py_lines.proofs.LogicalLines.NextLine.{line_ends-spelled}

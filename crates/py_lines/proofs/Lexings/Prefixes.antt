@@ -1,5 +1,5 @@
--- The longest prefix of a text that is read and ends a line: there is one, and no other. Of each prefix the machine with fields
--- decides whether it is read.
+-- The longest prefix of a text that is read and ends a line: there is one, and no other. So every text has some logical lines, and
+-- then its end or its fault.
 use Rattle.std.proofs.Common.{◌≡◌, ℕ, ◌≤◌, ◌<◌, true, false, ◌==◌, Option, None, Some, List, [], ◌∷◌, ◌++◌, ◌⊎◌, inl, inr, length, take, drop, zero, suc, refl, sym, ap, ◌∙◌, subst, ⊎_elim, take-append-drop, length-append, arith}
 use Rattle.std.proofs.lemmas.List.{same_from_push, length-take}
 use Rattle.std.proofs.Math.Seq.{take-append_seam, drop-append_seam}
@@ -8,13 +8,15 @@ use Rattle.py_lines.specs.Character.{is_return}
 use Rattle.py_lines.specs.Piece.{Class, line_end, Piece, ends, spelled}
 use Rattle.py_lines.specs.Balance as balance
 use Rattle.py_lines.specs.Balance.{depth_through}
-use Rattle.py_lines.specs.Reading.{EndsLine, IsLongest, IsReadPrefix, IsBalancedReading}
-use Rattle.py_lines.specs.Settled.{EndsForGood, IsSettledPrefix}
-use Rattle.py_lines.specs.Private.FieldMachine.{FieldScanned, field_text_start, field_steps_from, have_room, may_end, field_pieces, IsFieldFinal}
-use Rattle.py_lines.proofs.Faults.EndPlaces.{same_state}
+use Rattle.py_lines.specs.Reading.{Decodes, EndsLine, IsLongest, IsReadPrefix, IsBalancedReading}
+use Rattle.py_lines.specs.Settled.{EndsForGood, IsSettled, IsSettledPrefix}
+use Rattle.py_lines.specs.Faults.{IsReadOrFaulty}
+use Rattle.py_lines.specs.Lexed.{IsLexed}
+use Rattle.py_lines.specs.LogicalLine.{LogicalLine, lines_of}
+use Rattle.py_lines.specs.declared.fault.Fault.{Fault}
+use Rattle.py_lines.proofs.Text.Decoding.{decoding}
 use Rattle.py_lines.proofs.Fields.OneReading.{one_fielded_reading}
-use Rattle.py_lines.proofs.FieldMachine.Completeness.{reading_reached}
-use Rattle.py_lines.proofs.FieldSoundness.WholeTexts.{final_is_reading}
+use Rattle.py_lines.proofs.Lexings.Existence.{fault_unread, read_or_faulty, with_line}
 
 -- two prefixes of one text that are as long are the same
 same_prefix : (a b x y : List ℕ) → a ++ x ≡ b ++ y → length a ≡ length b → (a ≡ b) × (x ≡ y)
@@ -64,38 +66,8 @@ module _ (Good : List ℕ → List ℕ → Type 0) (decide : (xs ys : List ℕ) 
 abbrev IsRead : List ℕ → Type 0
 IsRead xs = (pieces : List Piece) × IsBalancedReading pieces xs
 
-empty_or_not : {A : Type 0} (xs : List A) → (xs ≡ []) ⊎ ¬ (xs ≡ [])
-empty_or_not [] = inl refl
-empty_or_not (x ∷ xs) = inr (λ h. cc)
-
-final_or_not : (s : FieldScanned) → IsFieldFinal s ⊎ ¬ (IsFieldFinal s)
-final_or_not s = go (empty_or_not s.outer) (empty_or_not s.openers) (cases_Bool (may_end s.mode))
-  where
-    go : (s.outer ≡ []) ⊎ ¬ (s.outer ≡ []) → (s.openers ≡ []) ⊎ ¬ (s.openers ≡ []) → (may_end s.mode ≡ true) ⊎ (may_end s.mode ≡ false) → IsFieldFinal s ⊎ ¬ (IsFieldFinal s)
-    go (inl one) (inl two) (inl may) = inl (record { outside = one; closed_all = two; ends = may })
-    go (inr one) two may = inr (λ final. one final.outside)
-    go (inl one) (inr two) may = inr (λ final. two final.closed_all)
-    go (inl one) (inl two) (inr may) = inr (λ final. both_ways _ may final.ends)
-
 pub read_or_not : (xs : List ℕ) → IsRead xs ⊎ ¬ (IsRead xs)
-read_or_not xs = go (field_steps_from (Some field_text_start) xs) refl
-  where
-    start : Option FieldScanned
-    start = Some field_text_start
-
-    at : (s : FieldScanned) → field_steps_from start xs ≡ Some s → (have_room start xs ≡ true) ⊎ (have_room start xs ≡ false) → IsFieldFinal s ⊎ ¬ (IsFieldFinal s) → IsRead xs ⊎ ¬ (IsRead xs)
-    at s steps (inl room) (inl final) = inl (field_pieces s, final_is_reading xs s steps room final)
-    at s steps (inr full) final = inr (λ is. both_ways _ full (reading_reached is.0 xs is.1).room)
-    at s steps (inl room) (inr open_yet) = inr (λ is.
-        let whole = reading_reached is.0 xs is.1 in
-        open_yet (subst IsFieldFinal (same_state xs whole.to s whole.steps steps) whole.final))
-
-    go : (o : Option FieldScanned) → field_steps_from start xs ≡ o → IsRead xs ⊎ ¬ (IsRead xs)
-    go None none = inr (λ is.
-        let whole = reading_reached is.0 xs is.1 in
-        let stuck : None ≡ Some whole.to = sym none ∙ whole.steps in
-        absurd (cc))
-    go (Some s) steps = at s steps (cases_Bool (have_room start xs)) (final_or_not s)
+read_or_not xs = ⊎_elim (λ whole. inl whole.1) (λ fault. inr (λ is. fault_unread fault.0 xs [] fault.1 fault.2 refl is.0 is.1)) (read_or_faulty xs [])
 
 -- whether pieces end a line
 last_of : (p : Piece) (ps : List Piece) → (body : List Piece) × (last : Piece) × (p ∷ ps ≡ body ++ last ∷ [])
@@ -179,3 +151,28 @@ one_longest EndSo pieces others characters one two =
     let longer = two.longest pieces one.rest one.spell one.reading one.ended in
     let cut = same_prefix (spelled pieces) (spelled others) one.rest two.rest (one.spell ∙ sym two.spell) (omega (arith, shorter, longer)) in
     one_fielded_reading pieces others (spelled others) (subst (λ t. IsBalancedReading pieces t) cut.0 one.reading).reads two.reading.reads
+
+-- so a text has logical lines, and then its end or its fault
+pub some_lexing_of : (text : List ℕ) → (lines : List LogicalLine) × (end : Option Fault) × IsLexed text lines end
+some_lexing_of text = go (read_or_faulty (decoding text).characters (decoding text).tail)
+  where
+    characters : List ℕ
+    characters = (decoding text).characters
+
+    tail : List ℕ
+    tail = (decoding text).tail
+
+    go : IsReadOrFaulty characters tail → (lines : List LogicalLine) × (end : Option Fault) × IsLexed text lines end
+    go (inl (whole, (pieces, reading))) =
+        (lines_of pieces, None, record { characters = characters; pieces = pieces; decodes = subst (Decodes text characters) whole (decoding text).decodes; reading = reading; cut = refl })
+    go (inr (kind, offset, at)) =
+        let (fault, is) = with_line characters tail kind offset at in
+        let prefix = read_prefix_exists characters in
+        (lines_of prefix.0, Some fault, record { characters = characters; tail = tail; pieces = prefix.0; decodes = (decoding text).decodes; prefix = prefix.1; refused = is; cut = refl })
+
+-- the known bytes of every text settle some lines
+pub some_settled : (text : List ℕ) → (lines : List LogicalLine) × IsSettled text lines
+some_settled text =
+    let of = decoding text in
+    let prefix = settled_prefix_exists of.characters of.tail in
+    (lines_of prefix.0, record { characters = of.characters; tail = of.tail; pieces = prefix.0; decodes = of.decodes; prefix = prefix.1; cut = refl })

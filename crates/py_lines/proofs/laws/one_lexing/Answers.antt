@@ -1,4 +1,4 @@
-use Rattle.py_lines.proofs.Lexings.Existence.{some_lexing_of}
+use Rattle.py_lines.proofs.Lexings.Prefixes.{some_lexing_of}
 use Rattle.py_lines.proofs.Lexings.Uniqueness.{one_lexing_of, one_end_of}
 use Rattle.py_lines.proofs.laws.one_lexing.Goals as goal
 
