@@ -5,7 +5,7 @@ use Rattle.std.proofs.lemmas.Bool.{both_ways, cond_both, and_parts, and_from, or
 use Rattle.py_lines.specs.Character.{is_line_feed, is_return, is_break}
 use Rattle.py_lines.specs.Piece.{Piece, spelled}
 use Rattle.py_lines.specs.Balance.{is_opening, is_closing}
-use Rattle.py_lines.specs.Faults.{IsFieldDue, OpensBraceTooDeep, InShortSpecification, BreaksString, OpensTooDeep, Cause, brace_too_deep, breaks_string, breaks_join, closes_wrong, opens_too_deep, ends_specification, begins_nothing, kind_of_cause, Explains, causes_before, NoneExplains, IsCharacterFault}
+use Rattle.py_lines.specs.Faults.{IsFieldDue, OpensBraceTooDeep, InShortSpecification, BreaksString, OpensTooDeep, Cause, brace_too_deep, breaks_string, breaks_join, closes_wrong, opens_too_deep, ends_specification, begins_nothing, kind_of_cause, Explains, causes_before, NoneExplains, IsCharacterFault, open_short, open_join}
 use Rattle.py_lines.specs.OpenFields.{InOpenShort}
 use Rattle.py_lines.specs.LogicalLine.{byte_len}
 use Rattle.py_lines.specs.FieldStrings.{Host, literal, specification}
@@ -15,7 +15,7 @@ use Rattle.py_lines.specs.Private.FieldMachine.{text_place, before, between, aft
 use Rattle.py_lines.specs.Private.FieldFaults.{is_waiting, quotes_specification, cause_in, cause_place, here, piece_start}
 use Rattle.py_lines.proofs.Text.CharacterTests.{break-not-opening, break-not-closing, break-not-quote, opening-not-quote}
 use Rattle.py_lines.proofs.Machine.Starts.{start-feed, start-return}
-use Rattle.py_lines.proofs.FieldMachine.WhatIsOpen.{comes_to, short_open_comes, backslash_comes, specification_comes}
+use Rattle.py_lines.proofs.FieldMachine.WhatIsOpen.{comes_to, backslash_comes, specification_comes}
 use Rattle.py_lines.proofs.FieldSoundness.Holds.{IsFieldSound}
 use Rattle.py_lines.proofs.FieldSoundness.Bodies.{Moved}
 use Rattle.py_lines.proofs.FieldSoundness.BodyMoves.{body_moves}
@@ -23,8 +23,8 @@ use Rattle.py_lines.proofs.FieldSoundness.Lists.{not_specification}
 use Rattle.py_lines.proofs.FieldSoundness.WholeTexts.{two_hundred}
 use Rattle.py_lines.proofs.FieldSoundness.OpenEnds.{specification_is_open, slash_is_open}
 use Rattle.py_lines.proofs.Faults.EndFaults.{due_at, brace_is_due, no_brace_at, few_frames}
-use Rattle.py_lines.proofs.Faults.EndPlaces.{brace_more}
-use Rattle.py_lines.proofs.Faults.Ends.{deep_state, sound_to, short_place, join_place, starts_there, opened_in_specification, specification_named}
+use Rattle.py_lines.proofs.Faults.EndPlaces.{brace_more, short_unfinished}
+use Rattle.py_lines.proofs.Faults.Ends.{deep_state, sound_to, named, opened_in_specification, specification_named}
 use Rattle.py_lines.proofs.Faults.CharacterFaults.{IsStuck, grows_free, bracket_at, started, short_in, short_specification, specification_mode, stuck_dies}
 use Rattle.py_lines.proofs.Faults.Refusals.{IsShortHere, Refuses, Reason, reason}
 
@@ -76,15 +76,11 @@ module _ (read : List ℕ) (s : FieldScanned) (steps : field_steps_from (Some fi
   place_is breaks_string c offset fits = go fits.inside
     where
       go : InOpenShort read fits.start ⊎ InShortSpecification read fits.start → offset ≡ piece_start s
-      go (inl short) =
-          let own = comes_to read _ s (short_open_comes read fits.start short) steps in
-          starts_there s fits.start offset (short_place s.mode own.0) own.1 fits.place
+      go (inl short) = (named read s steps room open_short offset (fits.start, short, fits.place)).1
       go (inr is) =
           let own = comes_to read _ s (specification_comes is.host read is.field is.inside) steps in
           fits.place ∙ ap byte_len (sym (own.0.string_is ∙ own.1 ∙ is.before)) ∙ ap (λ p. byte_len (before p s.outer ++ spelled s.done)) (sym (opened_in_specification is.host s.mode s.outer read own.0.mode_is).1)
-  place_is breaks_join c offset fits =
-      let own = comes_to read _ s (backslash_comes read fits.start fits.after) steps in
-      starts_there s fits.start offset (join_place s.mode own.0) own.1 fits.place
+  place_is breaks_join c offset fits = (named read s steps room open_join offset (fits.start, fits.after, fits.place)).1
   place_is closes_wrong c offset fits = fits.place ∙ sym text_is
   place_is opens_too_deep c offset fits = fits.place ∙ sym text_is
   place_is ends_specification c offset fits =
@@ -199,8 +195,8 @@ module _ (s : FieldScanned) (read : List ℕ) (c : ℕ) (after : List ℕ) (step
 
       by : Why s c → is_break c ≡ true
       by (Why.begins outer ps os step none apart) = absurd (apart short)
-      by (Why.deep_field h is full) = not_specification (sym (short_place s.mode short) ∙ (reason_is (opens_field h) is).1)
-      by (Why.closes_field brace at) = not_specification (sym (short_place s.mode short) ∙ at)
+      by (Why.deep_field h is full) = not_specification (sym ((short_unfinished s.outer s.openers s.mode short).1) ∙ (reason_is (opens_field h) is).1)
+      by (Why.closes_field brace at) = not_specification (sym ((short_unfinished s.outer s.openers s.mode short).1) ∙ at)
       by (Why.refuses (inl (break, at))) = break
       by (Why.refuses (inr (inl (slash, other)))) = absurd (both_ways _ own.slash slash)
       by (Why.refuses (inr (inr (same, quotes)))) = absurd (both_ways _ (own.quotes c) same)

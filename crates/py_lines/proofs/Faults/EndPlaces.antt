@@ -79,22 +79,22 @@ one_place open_brace s characters offset place one two = omega (arith, one, two)
 one_place open_inside s characters offset place one two = omega (arith, one, two)
 one_place what s characters offset place one two = one ∙ sym two
 
--- the kinds, by the mode
-pub short_unfinished : (outer : List Level) (openers : List ℕ) (m : FieldMode) → in_open_short m ≡ true → unfinished_in outer openers m ≡ Some open_short
-short_unfinished outer openers (plain m) is = rw is
-short_unfinished outer openers (opened host) is = refl
+-- the kinds, by the mode: a string or a backslash stands in no specification
+pub short_unfinished : (outer : List Level) (openers : List ℕ) (m : FieldMode) → in_open_short m ≡ true → (unfinished_in outer openers m ≡ Some open_short) × (text_place m ≡ literal)
+short_unfinished outer openers (plain m) is = (rw is, refl)
+short_unfinished outer openers (opened host) is = (refl, refl)
 short_unfinished outer openers (body host literal named after_brace) is = absurd (both_ways _ refl is)
-short_unfinished outer openers (body host literal named at) is = rw (not-true host.is_long is)
+short_unfinished outer openers (body host literal named at) is = (rw (not-true host.is_long is), refl)
 short_unfinished outer openers m is = absurd (both_ways _ refl is)
 
-pub long_unfinished : (outer : List Level) (openers : List ℕ) (m : FieldMode) → in_open_long m ≡ true → unfinished_in outer openers m ≡ Some open_long
-long_unfinished outer openers (plain m) is = rw ((long_mode m is).1, is)
+pub long_unfinished : (outer : List Level) (openers : List ℕ) (m : FieldMode) → in_open_long m ≡ true → (unfinished_in outer openers m ≡ Some open_long) × (text_place m ≡ literal)
+long_unfinished outer openers (plain m) is = (rw ((long_mode m is).1, is), refl)
 long_unfinished outer openers (body host literal named after_brace) is = absurd (both_ways _ refl is)
-long_unfinished outer openers (body host literal named at) is = rw is
+long_unfinished outer openers (body host literal named at) is = (rw is, refl)
 long_unfinished outer openers m is = absurd (both_ways _ refl is)
 
-pub join_unfinished : (outer : List Level) (openers : List ℕ) (m : FieldMode) → after_open_backslash m ≡ true → unfinished_in outer openers m ≡ Some open_join
-join_unfinished outer openers (plain modes.Backslash) is = refl
+pub join_unfinished : (outer : List Level) (openers : List ℕ) (m : FieldMode) → after_open_backslash m ≡ true → (unfinished_in outer openers m ≡ Some open_join) × (text_place m ≡ literal)
+join_unfinished outer openers (plain modes.Backslash) is = (refl, refl)
 join_unfinished outer openers m is = absurd (both_ways _ refl is)
 
 -- the text may end in a mode in which nothing of the kind is open

@@ -8,7 +8,7 @@ use Rattle.py_lines.specs.FieldStrings.{Host, literal, specification}
 use Rattle.py_lines.specs.Reading.{IsBalancedReading}
 use Rattle.py_lines.specs.Faults.{OpensBraceTooDeep, Unfinished, open_brace, open_short, open_long, open_join, open_bracket, open_inside, kind_of_unfinished, IsOpenAtEnd, IsEndFault}
 use Rattle.py_lines.specs.declared.fault.FaultKind.{FaultKind}
-use Rattle.py_lines.specs.Private.FieldMachine.{text_place, before, after_brace, FieldMode, body, Level, FieldScanned, field_state, field_text_start, field_steps_from, field_pieces, have_room, IsFieldFinal, in_open_short, in_open_long, after_open_backslash, InSpecificationOf, levels_open, may_end, frames, plain, field_closed}
+use Rattle.py_lines.specs.Private.FieldMachine.{text_place, before, after_brace, FieldMode, body, Level, FieldScanned, field_state, field_text_start, field_steps_from, field_pieces, have_room, IsFieldFinal, InSpecificationOf, levels_open, may_end, frames, plain, field_closed}
 use Rattle.py_lines.proofs.FieldMachine.Completeness.{reading_reached}
 use Rattle.py_lines.proofs.FieldMachine.WhatIsOpen.{Comes, comes_to, short_open_comes, long_open_comes, backslash_comes, SpecificationAt, specification_comes}
 use Rattle.py_lines.proofs.FieldMachine.OpenCode.{CodeAt, in_code, at_brace, code_comes, brace_comes}
@@ -22,7 +22,7 @@ use Rattle.py_lines.specs.Private.FieldFaults.{is_waiting, unfinished_code, unfi
 use Rattle.py_lines.proofs.Faults.EndPlaces.{same_state, opened_text, IsPlaced, brace_more, one_place, short_unfinished, long_unfinished, join_unfinished, code_unfinished, specification_unfinished, bracket_back, one_bracket}
 use Rattle.std.specs.Prelude.{if◌then◌else◌}
 use Rattle.py_lines.specs.Balance as balance
-use Rattle.py_lines.specs.Balance.{is_opener, is_closer, IsBalanced}
+use Rattle.py_lines.specs.Balance.{is_opener, IsBalanced}
 use Rattle.py_lines.specs.declared.mode.Mode.TheVariants as modes
 use Rattle.py_lines.specs.Private.Machine.{Bracket, brackets_of, class_of}
 use Rattle.py_lines.proofs.LogicalLines.Cuts.{byte_len-append}
@@ -47,21 +47,9 @@ read_or_open characters s steps room = go (unfinished_at s) (open_in s.outer s.d
     go None final = inl (final_is_reading characters s steps room final)
     go (Some what) at = inr (kind_of_unfinished what, at.0, record { unfinished = what; is = refl; whole = refl; live = goes_live characters s steps room; ends_in = at.1 })
 
--- the place of a string or a backslash
-pub short_place : (m : FieldMode) → in_open_short m ≡ true → text_place m ≡ literal
-short_place (body host specification named at) is = absurd (both_ways _ refl is)
-short_place m is = refl
-
-long_place : (m : FieldMode) → in_open_long m ≡ true → text_place m ≡ literal
-long_place (body host specification named at) is = absurd (both_ways _ refl is)
-long_place m is = refl
-
-pub join_place : (m : FieldMode) → after_open_backslash m ≡ true → text_place m ≡ literal
-join_place (body host place named at) is = absurd (both_ways _ refl is)
-join_place m is = refl
-
-pub starts_there : (s : FieldScanned) (start : List ℕ) (offset : ℕ) → text_place s.mode ≡ literal → before literal s.outer ++ spelled s.done ≡ start → offset ≡ byte_len start → offset ≡ byte_len (before (text_place s.mode) s.outer ++ spelled s.done)
-starts_there s start offset at is place = place ∙ ap byte_len (sym is) ∙ ap (λ p. byte_len (before p s.outer ++ spelled s.done)) (sym at)
+-- what is open starts where the open piece does
+starts_there : (s : FieldScanned) (what : Unfinished) (start : List ℕ) (offset : ℕ) → (unfinished_at s ≡ Some what) × (text_place s.mode ≡ literal) → before literal s.outer ++ spelled s.done ≡ start → offset ≡ byte_len start → (unfinished_at s ≡ Some what) × (offset ≡ piece_start s)
+starts_there s what start offset (is, at) same place = (is, place ∙ ap byte_len (sym same) ∙ ap (λ p. byte_len (before p s.outer ++ spelled s.done)) (sym at))
 
 -- the text up to the `{` of the field
 opened_at_end : (m : FieldMode) (outer : List Level) (characters : List ℕ) → may_end m ≡ true → opened_text m outer characters ≡ before literal outer
@@ -123,13 +111,13 @@ module _ (characters : List ℕ) (s : FieldScanned) (steps : field_steps_from (S
       brace_named outer openers m (waits, full) = absurd (both_ways _ refl waits)
   named open_short offset (start, is, place) =
       let own = comes_to characters _ s (short_open_comes characters start is) steps in
-      (short_unfinished s.outer s.openers s.mode own.0, starts_there s start offset (short_place s.mode own.0) own.1 place)
+      starts_there s open_short start offset (short_unfinished s.outer s.openers s.mode own.0) own.1 place
   named open_long offset (start, is, place) =
       let own = comes_to characters _ s (long_open_comes characters start is) steps in
-      (long_unfinished s.outer s.openers s.mode own.0, starts_there s start offset (long_place s.mode own.0) own.1 place)
+      starts_there s open_long start offset (long_unfinished s.outer s.openers s.mode own.0) own.1 place
   named open_join offset (start, is, place) =
       let own = comes_to characters _ s (backslash_comes characters start is) steps in
-      (join_unfinished s.outer s.openers s.mode own.0, starts_there s start offset (join_place s.mode own.0) own.1 place)
+      starts_there s open_join start offset (join_unfinished s.outer s.openers s.mode own.0) own.1 place
   named open_bracket offset (start, is, place) =
       subst (λ (n : ℕ). (unfinished_at s ≡ Some open_bracket) × IsPlaced open_bracket s characters n) (sym place) (bracket_back characters start s is steps)
   named open_inside offset (start, inl is, place, other) = code_named start offset (comes_to characters (CodeAt start) s (code_comes characters start is) steps) place other

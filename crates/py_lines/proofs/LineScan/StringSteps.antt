@@ -14,13 +14,13 @@ use Rattle.py_lines.specs.declared.scan.LineFault.{LineFault}
 use Rattle.py_lines.specs.declared.scan.OpenPiece.{OpenPiece}
 use Rattle.py_lines.specs.declared.scan.Scan.{Scan}
 use Rattle.py_lines.specs.declared.mode.Start.TheVariants as starts
-use Rattle.py_lines.specs.Private.Machine.{Scanned, start_of, character_kind}
+use Rattle.py_lines.specs.Private.Machine.{Scanned, start_of}
 use Rattle.py_lines.specs.Private.FieldScan.{ComesTo, PushesField, RefusesField, EndsField}
 use Rattle.py_lines.specs.Private.FieldMachine.{FieldMode, Level, FieldScanned, grows, field_state, field_move, field_moved, frames, has_room_at, field_text_start, field_step, field_steps_from}
 use Rattle.py_lines.specs.Private.FieldFaults.{here}
 use Rattle.py_lines.specs.Private.ScanMachine.{string_state, string_move, fielded_move, move_at, IsInString, IsScanSound}
 use Rattle.py_lines.specs.Private.LineState.{first_mode}
-use Rattle.py_lines.specs.Private.Scan.{refused_place, IsRefusal, IsRefusalIn, IsUnfinished, IsUnfinishedIn, IsPlainUnfinished, FieldsFollow, StandsInString, GoesOnInString, ClosesString, freed, in_mode, with_character, with_field_scan, KeepsUp, Tallies, IsStacked, line_start, stack_of, depth_of}
+use Rattle.py_lines.specs.Private.Scan.{IsRefusal, IsUnfinished, FieldsFollow, StandsInString, GoesOnInString, ClosesString, freed, in_mode, with_character, with_field_scan, KeepsUp, Tallies, IsStacked, line_start, stack_of, depth_of}
 use Rattle.py_lines.proofs.FieldSoundness.HostSteps.{sound_at}
 use Rattle.py_lines.proofs.FieldSoundness.LiveTexts.{steps-append}
 use Rattle.py_lines.proofs.FieldSoundness.WholeTexts.{no_limit, any_rooms}
@@ -127,23 +127,11 @@ pub first_plain : (n : ℕ) → first_mode n ≡ modes.Fielded → ⊥
 first_plain zero is = cc
 first_plain (suc n) is = cc
 
--- what is wrong in the string that is open, and elsewhere
+-- what is wrong in the string that is open
 pub refusal_in : (scan : Scan) (c depth : ℕ) (line_fault : LineFault) → scan.piece.mode ≡ modes.Fielded → depth ≡ depth_of scan.brackets → RefusesField scan.fields c scan.stop depth line_fault → IsRefusal scan c line_fault
-refusal_in scan c depth line_fault here same refuses = subst (λ m. IsRefusalIn m scan c line_fault) (sym here) (λ t stands stuck. subst (λ d. RefusesField scan.fields c scan.stop d line_fault) same refuses stands.placed scan.piece.start t stands.follows stands.inside stands.stop stuck)
-
-pub refusal_elsewhere : (scan : Scan) (c : ℕ) (line_fault : LineFault) → (scan.piece.mode ≡ modes.Fielded → ⊥) → line_fault.kind ≡ character_kind scan.piece.mode c → line_fault.place ≡ refused_place scan → IsRefusal scan c line_fault
-refusal_elsewhere scan c line_fault other kind place = go scan.piece.mode other kind
-  where
-    go : (m : Mode) → (m ≡ modes.Fielded → ⊥) → line_fault.kind ≡ character_kind m c → IsRefusalIn m scan c line_fault
-    go modes.Fielded other' kind' = absurd (other' refl)
-    go m other' kind' = (kind', place)
+refusal_in scan c depth line_fault here same refuses =
+    (λ fielded t stands stuck. subst (λ d. RefusesField scan.fields c scan.stop d line_fault) same refuses stands.placed scan.piece.start t stands.follows stands.inside stands.stop stuck, λ other. absurd (other here))
 
 pub unfinished_in : (scan : Scan) (depth : ℕ) (line_fault : LineFault) → scan.piece.mode ≡ modes.Fielded → depth ≡ depth_of scan.brackets → EndsField scan.fields scan.stop depth line_fault → IsUnfinished scan (Some line_fault)
-unfinished_in scan depth line_fault here same ends = subst (λ m. IsUnfinishedIn m scan (Some line_fault)) (sym here) (λ t stands. subst (λ d. EndsField scan.fields scan.stop d line_fault) same ends stands.placed scan.piece.start t stands.follows stands.inside stands.stop)
-
-pub unfinished_elsewhere : (scan : Scan) (line_fault : Option LineFault) → (scan.piece.mode ≡ modes.Fielded → ⊥) → IsPlainUnfinished scan line_fault → IsUnfinished scan line_fault
-unfinished_elsewhere scan line_fault other holds = go scan.piece.mode other
-  where
-    go : (m : Mode) → (m ≡ modes.Fielded → ⊥) → IsUnfinishedIn m scan line_fault
-    go modes.Fielded other' = absurd (other' refl)
-    go m other' = holds
+unfinished_in scan depth line_fault here same ends =
+    (λ fielded t stands. subst (λ d. EndsField scan.fields scan.stop d line_fault) same ends stands.placed scan.piece.start t stands.follows stands.inside stands.stop, λ other. absurd (other here))

@@ -22,7 +22,7 @@ use Rattle.py_lines.specs.Private.FieldFaults.{cause_in, cause_place}
 use Rattle.py_lines.specs.Private.FieldScan.{unfinished_round, IsUnfinishedAt}
 use Rattle.py_lines.specs.Private.ScanMachine.{string_state, string_move, fielded_move, has_room_in, scan_step, StringsFit, IsScanSound}
 use Rattle.py_lines.specs.Private.LineState.{first_mode}
-use Rattle.py_lines.specs.Private.Scan.{IsUnderWay, Tallies, stack_of, depth_of, stack_if, refused_place, IsRefusalIn, IsRefusal, IsOpenFrom, IsPlainUnfinished, IsUnfinishedIn, IsUnfinished}
+use Rattle.py_lines.specs.Private.Scan.{IsUnderWay, Tallies, stack_of, depth_of, stack_if, IsRefusal, IsOpenFrom, IsPlainUnfinished, IsUnfinished}
 use Rattle.py_lines.proofs.Text.Splits.{Either, either}
 use Rattle.py_lines.proofs.Pieces.PieceLists.{piece, spelled-append}
 use Rattle.py_lines.proofs.Machine.PieceSteps.{scanned}
@@ -41,23 +41,6 @@ pub record Within (read : List ℕ) (offset : ℕ) : Type 0 where
   pub later : List ℕ
   pub split : prefix ++ later ≡ read
   pub size : offset ≡ byte_len prefix
-
--- outside strings with fields
-refusal_plain : (m : Mode) (scan : Scan) (c : ℕ) (line_fault : LineFault) → (m ≡ modes.Fielded → ⊥) → IsRefusalIn m scan c line_fault → (line_fault.kind ≡ character_kind m c) × (line_fault.place ≡ refused_place scan)
-refusal_plain modes.Fielded scan c line_fault other is = absurd (other refl)
-refusal_plain m scan c line_fault other is = is
-
-unfinished_plain : (m : Mode) (scan : Scan) (line_fault : LineFault) → (m ≡ modes.Fielded → ⊥) → IsUnfinishedIn m scan (Some line_fault) → IsPlainUnfinished scan (Some line_fault)
-unfinished_plain modes.Fielded scan line_fault other is = absurd (other refl)
-unfinished_plain m scan line_fault other is = is
-
--- a text that may end there
-pub finished : (scan : Scan) → IsUnfinished scan None → (is_final scan.piece.mode ≡ true) × (stack_of scan.brackets ≡ [])
-finished scan is = go scan.piece.mode is
-  where
-    go : (m : Mode) → IsUnfinishedIn m scan None → (is_final scan.piece.mode ≡ true) × (stack_of scan.brackets ≡ [])
-    go modes.Fielded h = absurd h
-    go m h = h
 
 place_by : (b : Bool) (k start stop done whole : ℕ) → (b ≡ true → done ≡ k + start) → whole ≡ k + stop → (if b then done else whole) ≡ k + (if b then start else stop)
 place_by true k start stop done whole first second = first refl
@@ -88,6 +71,10 @@ fielded_or : (m : Mode) → (m ≡ modes.Fielded) ⊎ (m ≡ modes.Fielded → �
 fielded_or modes.Fielded = inl refl
 fielded_or m = inr (λ h. cc)
 
+-- a text that may end there
+pub finished : (scan : Scan) → IsUnfinished scan None → (is_final scan.piece.mode ≡ true) × (stack_of scan.brackets ≡ [])
+finished scan is = ⊎_elim (λ fielded. absurd (is.0 fielded)) is.1 (fielded_or scan.piece.mode)
+
 -- a line under way, after pieces that end a line
 module _ (n : ℕ) (base : List Piece) (level : brackets_of base ≡ Some []) (strings : StringsFit 0 base) (is : Base n base) (scan : Scan) (read : List ℕ) (way : IsUnderWay (first_mode n) scan read) where
   sound : IsScanSound way.state read
@@ -116,7 +103,7 @@ module _ (n : ℕ) (base : List Piece) (level : brackets_of base ≡ Some []) (s
 
     elsewhere : (j : Joined base read way.state (stack_of scan.brackets) (c ∷ after)) → (way.state.mode ≡ modes.Fielded → ⊥) → HasFault
     elsewhere j other =
-        let own = refusal_plain scan.piece.mode scan c line_fault (λ h. other (sym way.tallies.counts.mode ∙ h)) is_line_fault in
+        let own = is_line_fault.1 (λ h. other (sym way.tallies.counts.mode ∙ h)) in
         let stopped = refused_at base read (c ∷ after) after way.state (stack_of scan.brackets) c j level refl refuses in
         let stop : byte_len (spelled base ++ read) ≡ byte_len (spelled base) + scan.stop = byte_len-append (spelled base) read ∙ ap (λ k. byte_len (spelled base) + k) (sym (way_stop (first_mode n) scan read way (begun_sound n))) in
         rw (own.0, own.1, way.tallies.counts.mode, ← j.short, ← j.slash)
@@ -132,8 +119,7 @@ module _ (n : ℕ) (base : List Piece) (level : brackets_of base ≡ Some []) (s
         let at = j.inside fielded in
         let stopped = refused_at base read (c ∷ after) after way.state (stack_of scan.brackets) c j level refl refuses in
         let stuck = refused_string scan way.state.done way.state.held u c way.stacked own.steps (subst (λ m. stack_if (scan_step (scanned way.state.done m way.state.held) c) ≡ None) fielded refuses) in
-        let told = subst (λ m. IsRefusalIn m scan c line_fault) (way.tallies.counts.mode ∙ fielded) is_line_fault in
-        let named = told u own.stands stuck in
+        let named = is_line_fault.0 (way.tallies.counts.mode ∙ fielded) u own.stands stuck in
         let depth : length j.st ≡ depth_of scan.brackets = stack_is j.state j.st at j.steps.stack in
         let cause_same = ap (λ k. cause_in (k + frames u) u.mode c) (sym depth) in
         let place : byte_len (spelled j.state.done) + cause_place u (cause_in (length j.st + frames u) u.mode c) ≡ byte_len (spelled base) + line_fault.place = omega (arith, named.1, ap (cause_place u) cause_same, ap (λ (x : Scanned). byte_len (spelled x.done)) at, done_bytes) in
@@ -157,7 +143,7 @@ module _ (n : ℕ) (base : List Piece) (level : brackets_of base ≡ Some []) (s
         rw (own.0 ∙ ap end_kind (sym mode_is)) (ends_plain (spelled base ++ read) j.state j.st j.steps (j.plain other) (byte_len (spelled base) + line_fault.place) (open_from own.1))
       where
         own : IsPlainUnfinished scan (Some line_fault)
-        own = unfinished_plain scan.piece.mode scan line_fault (λ h. other (sym way.tallies.counts.mode ∙ h)) is_line_fault
+        own = is_line_fault.1 (λ h. other (sym way.tallies.counts.mode ∙ h))
 
         mode_is : j.state.mode ≡ scan.piece.mode
         mode_is = ap (λ (x : Scanned). x.mode) (j.same some).0 ∙ sym way.tallies.counts.mode
@@ -173,8 +159,7 @@ module _ (n : ℕ) (base : List Piece) (level : brackets_of base ≡ Some []) (s
         let own = string_in fielded in
         let u = own.state in
         let at = j.inside fielded in
-        let told = subst (λ m. IsUnfinishedIn m scan (Some line_fault)) (way.tallies.counts.mode ∙ fielded) is_line_fault in
-        let named = told u own.stands in
+        let named = is_line_fault.0 (way.tallies.counts.mode ∙ fielded) u own.stands in
         let depth : length j.st ≡ depth_of scan.brackets = stack_is j.state j.st at j.steps.stack in
         let start : byte_len (spelled base) + scan.piece.start ≡ byte_len (spelled j.state.done) = sym done_bytes ∙ sym (ap (λ (x : Scanned). byte_len (spelled x.done)) at) in
         rw named.2

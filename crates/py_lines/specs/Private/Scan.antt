@@ -295,15 +295,12 @@ pub record ScansIn (m : Mode) (line : ℕ) (whole : List ℕ) (scan : Scan) (sto
 abbrev pub refused_place : Scan → ℕ
 refused_place scan = if in_short scan.piece.mode || is_after_backslash scan.piece.mode then scan.piece.start else scan.stop
 
--- what is wrong where a character is refused, in each mode
-abbrev pub IsRefusalIn : Mode → Scan → ℕ → LineFault → Type 0
-IsRefusalIn modes.Fielded scan c line_fault =
-    (t : FieldScanned) → StandsInString scan t → fielded_move (depth_of scan.brackets) (Some t) c ≡ moves.Refused
-    → IsFieldFault scan.piece.start (depth_of scan.brackets) t c line_fault
-IsRefusalIn m scan c line_fault = (line_fault.kind ≡ character_kind m c) × (line_fault.place ≡ refused_place scan)
-
+-- what is wrong where a character is refused: in a string with fields, and elsewhere
 abbrev pub IsRefusal : Scan → ℕ → LineFault → Type 0
-IsRefusal scan c line_fault = IsRefusalIn scan.piece.mode scan c line_fault
+IsRefusal scan c line_fault =
+    (scan.piece.mode ≡ modes.Fielded → (t : FieldScanned) → StandsInString scan t → fielded_move (depth_of scan.brackets) (Some t) c ≡ moves.Refused
+    → IsFieldFault scan.piece.start (depth_of scan.brackets) t c line_fault)
+    × ((scan.piece.mode ≡ modes.Fielded → ⊥) → (line_fault.kind ≡ character_kind scan.piece.mode c) × (line_fault.place ≡ refused_place scan))
 
 -- the innermost open bracket stands at this byte
 abbrev pub HasInnermostAt : List Bracket → ℕ → Type 0
@@ -320,12 +317,13 @@ abbrev pub IsPlainUnfinished : Scan → Option LineFault → Type 0
 IsPlainUnfinished scan None = (is_final scan.piece.mode ≡ true) × (stack_of scan.brackets ≡ [])
 IsPlainUnfinished scan (Some line_fault) = (line_fault.kind ≡ end_kind scan.piece.mode) × IsOpenFrom scan line_fault.place
 
--- and in each mode: in such a string something is open
-abbrev pub IsUnfinishedIn : Mode → Scan → Option LineFault → Type 0
-IsUnfinishedIn modes.Fielded scan None = ⊥
-IsUnfinishedIn modes.Fielded scan (Some line_fault) =
+-- and in such a string: there something is open
+abbrev pub IsFieldedUnfinished : Scan → Option LineFault → Type 0
+IsFieldedUnfinished scan None = ⊥
+IsFieldedUnfinished scan (Some line_fault) =
     (t : FieldScanned) → StandsInString scan t → IsFieldEnd scan.piece.start (depth_of scan.brackets) t line_fault
-IsUnfinishedIn m scan line_fault = IsPlainUnfinished scan line_fault
 
 abbrev pub IsUnfinished : Scan → Option LineFault → Type 0
-IsUnfinished scan line_fault = IsUnfinishedIn scan.piece.mode scan line_fault
+IsUnfinished scan line_fault =
+    (scan.piece.mode ≡ modes.Fielded → IsFieldedUnfinished scan line_fault)
+    × ((scan.piece.mode ≡ modes.Fielded → ⊥) → IsPlainUnfinished scan line_fault)
