@@ -21,11 +21,11 @@ use Rattle.py_lines.proofs.FieldSoundness.Bodies.{Moved}
 use Rattle.py_lines.proofs.FieldSoundness.BodyMoves.{body_moves}
 use Rattle.py_lines.proofs.FieldSoundness.Lists.{not_specification}
 use Rattle.py_lines.proofs.FieldSoundness.WholeTexts.{two_hundred}
-use Rattle.py_lines.proofs.FieldSoundness.OpenEnds.{specification_is_open, slash_is_open}
-use Rattle.py_lines.proofs.Faults.EndFaults.{due_at, brace_is_due, no_brace_at, few_frames}
-use Rattle.py_lines.proofs.Faults.EndPlaces.{brace_more, short_unfinished}
-use Rattle.py_lines.proofs.Faults.Ends.{deep_state, sound_to, named, opened_in_specification, specification_named}
-use Rattle.py_lines.proofs.Faults.CharacterFaults.{IsStuck, grows_free, bracket_at, started, short_in, short_specification, specification_mode, stuck_dies}
+use Rattle.py_lines.proofs.FieldSoundness.OpenEnds.{specification_is_open}
+use Rattle.py_lines.proofs.Faults.EndFaults.{EndsSo, due_at, brace_is_due, no_brace_at, few_frames}
+use Rattle.py_lines.proofs.Faults.EndPlaces.{brace_more, short_unfinished, join_unfinished}
+use Rattle.py_lines.proofs.Faults.Ends.{deep_state, sound_to, open_now, named, opened_in_specification, specification_named}
+use Rattle.py_lines.proofs.Faults.CharacterFaults.{IsStuck, grows_free, bracket_at, started, short_specification, specification_mode, stuck_dies}
 use Rattle.py_lines.proofs.Faults.Refusals.{IsShortHere, Refuses, Reason, reason}
 
 -- a line end begins a piece
@@ -207,8 +207,8 @@ module _ (s : FieldScanned) (read : List ℕ) (c : ℕ) (after : List ℕ) (step
     where
       inside : IsShortHere s.mode → (offset : ℕ) × BreaksString read c offset
       inside (inl short) =
-          let start : List ℕ = before literal s.outer ++ spelled s.done in
-          (byte_len start, record { start = start; breaks = break; inside = inl (short_in s read c sound steps s.mode short sound); place = refl })
+          let (offset, (start, is, place)) = subst (EndsSo s read) (short_unfinished s.outer s.openers s.mode short).0 (open_now read s steps room) in
+          (offset, record { start = start; breaks = break; inside = inl is; place = place })
       inside (inr (host, is, short)) =
           let own = short_specification s read c sound steps s.mode host is short sound in
           (byte_len own.0, record { start = own.0; breaks = break; inside = inr own.1; place = refl })
@@ -239,13 +239,9 @@ module _ (s : FieldScanned) (read : List ℕ) (c : ℕ) (after : List ℕ) (step
 
   -- what follows a backslash
   join_fits : after_open_backslash s.mode ≡ true → (offset : ℕ) × Explains breaks_join read c offset
-  join_fits slash = go s.mode slash sound
-    where
-      go : (m : FieldMode) → after_open_backslash m ≡ true → IsFieldSound two_hundred (field_state s.outer s.done s.openers m s.held) read → (offset : ℕ) × Explains breaks_join read c offset
-      go (plain m) is own =
-          let start : List ℕ = before literal s.outer ++ spelled s.done in
-          (byte_len start, record { start = start; after = slash_is_open two_hundred s.outer s.done s.openers m s.held read own is; place = refl })
-      go m is own = absurd (both_ways _ refl is)
+  join_fits slash =
+      let (offset, (start, is, place)) = subst (EndsSo s read) (join_unfinished s.outer s.openers s.mode slash).0 (open_now read s steps room) in
+      (offset, record { start = start; after = is; place = place })
 
   -- the quote of the string of a specification
   end_back : (offset : ℕ) → Explains ends_specification read c offset → quotes_specification s.mode c ≡ true

@@ -1,21 +1,21 @@
 -- What is open where the machine with fields can't go on, or has no room to: the text dies there.
-use Rattle.std.proofs.Common.{◌≡◌, ℕ, ◌+◌, true, false, not, ◌&&◌, ◌==◌, Option, None, Some, List, [], ◌∷◌, ◌++◌, ◌⊎◌, inl, inr, length, refl, sym, ap, ◌∙◌, subst, append_assoc, append-nil, arith}
-use Rattle.std.proofs.lemmas.Bool.{both_ways, and_parts, not-true}
+use Rattle.std.proofs.Common.{◌≡◌, ℕ, ◌+◌, true, false, ◌&&◌, ◌==◌, Option, None, Some, List, [], ◌∷◌, ◌++◌, ◌⊎◌, inl, inr, length, refl, sym, ap, ◌∙◌, subst, append_assoc, append-nil, arith}
+use Rattle.std.proofs.lemmas.Bool.{both_ways, and_parts}
 use Rattle.std.proofs.lemmas.List.{append_cancel_right}
 use Rattle.py_lines.specs.Piece.{operator, Piece, begins_marked, spelled}
 use Rattle.py_lines.specs.Balance.{IsBalanced, is_opening, depth_after, depth_through}
 use Rattle.py_lines.specs.Fields.{HasNoColon, fielded}
 use Rattle.py_lines.specs.Faults.{IsLive, DiesAt, IsAtDepth, InShortSpecification}
-use Rattle.py_lines.specs.OpenFields.{BeginsList, StandsOpen, IsPlainShortPrefix, IsOpenLiteral, InOpenShort, InSpecification}
+use Rattle.py_lines.specs.OpenFields.{BeginsList, InSpecification}
 use Rattle.py_lines.specs.FieldStrings.{Host, literal, specification}
 use Rattle.py_lines.specs.Private.Machine.{start_of}
-use Rattle.py_lines.specs.Private.FieldMachine.{before, FieldMode, plain, opened, empty, body, grows, Level, FieldScanned, field_state, field_fresh, field_text_start, field_move, field_moved, field_started, field_step, field_steps_from, levels_open, frames, has_room, has_room_at, have_room, is_after_brace, in_open_short, InSpecificationOf}
+use Rattle.py_lines.specs.Private.FieldMachine.{before, FieldMode, opened, body, grows, Level, FieldScanned, field_state, field_fresh, field_text_start, field_move, field_moved, field_started, field_step, field_steps_from, levels_open, frames, has_room, has_room_at, have_room, InSpecificationOf}
 use Rattle.py_lines.proofs.Pieces.PieceLists.{piece, spelled-push, AreReadIn-first}
 use Rattle.py_lines.proofs.FieldSoundness.Holds.{IsFieldSound}
 use Rattle.py_lines.proofs.FieldSoundness.HostSteps.{sound_at}
 use Rattle.py_lines.proofs.FieldSoundness.WholeTexts.{no_limit, any_rooms, two_hundred}
 use Rattle.py_lines.proofs.FieldSoundness.OpenTexts.{are_begun, list_begins}
-use Rattle.py_lines.proofs.FieldSoundness.OpenEnds.{stands_map, literal_is_open, opened_is_open, specification_is_open, short_is_open}
+use Rattle.py_lines.proofs.FieldSoundness.OpenEnds.{specification_is_open}
 use Rattle.py_lines.proofs.FieldSoundness.LiveTexts.{live_goes, goes_live, steps-append}
 use Rattle.py_lines.proofs.Text.CharacterTests.{none_of}
 use Rattle.py_lines.proofs.Machine.Starts.{start-operator}
@@ -99,20 +99,7 @@ module _ (s : FieldScanned) (read : List ℕ) (c : ℕ) (sound : IsFieldSound tw
   pub started : (outer : List Level) (ps : List Piece) (os : List ℕ) → is_opening c ≡ true → field_started outer ps os c (start_of c) ≡ Some (field_fresh outer (ps ++ piece operator (c ∷ []) ∷ []) (c ∷ os))
   started outer ps os opens = ap (field_started outer ps os c) (start-operator c (opening_operator c opens)) ∙ operator_stays outer ps os (c ∷ os) c (opening_pushes os c opens) (opening_stays outer os c opens)
 
-  -- a line end in a short string
-  pub short_in : (m : FieldMode) → in_open_short m ≡ true → IsFieldSound two_hundred (field_state s.outer s.done s.openers m s.held) read → InOpenShort read (before literal s.outer ++ spelled s.done)
-  short_in (plain m) is own = short_is_open two_hundred s.outer s.done s.openers m s.held read own is
-  short_in (opened host) is own =
-      stands_map (IsOpenLiteral false) (λ front. IsPlainShortPrefix front ⊎ IsOpenLiteral false front) read (before literal s.outer ++ spelled s.done) (λ front at. inr at) (opened_is_open two_hundred s.outer s.done s.openers host s.held read own)
-  short_in (empty host) is own = absurd (both_ways _ refl is)
-  short_in (body host literal named at) is own =
-      let parts = and_parts (not (is_after_brace at)) (not host.is_long) is in
-      let start : List ℕ = before literal s.outer ++ spelled s.done in
-      stands_map (IsOpenLiteral false) (λ front. IsPlainShortPrefix front ⊎ IsOpenLiteral false front) read start (λ front x. inr x)
-      (subst (λ b. StandsOpen (IsOpenLiteral b) read start) (not-true host.is_long parts.1)
-      (literal_is_open two_hundred s.outer s.done s.openers host named at s.held read own (λ same. both_ways _ (not-true (is_after_brace at) parts.0) (ap is_after_brace same))))
-  short_in (body host specification named at) is own = absurd (both_ways _ refl is)
-
+  -- a line end in a specification of a short string
   pub short_specification : (m : FieldMode) (host : Host) → InSpecificationOf host m → host.is_long ≡ false → IsFieldSound two_hundred (field_state s.outer s.done s.openers m s.held) read → (start : List ℕ) × InShortSpecification read start
   short_specification (body other specification named at) host is short own =
       let found = specification_is_open two_hundred s.outer s.done s.openers other named at s.held read own (no_brace_at s.outer (frames s) s.held other named at own.mode) in

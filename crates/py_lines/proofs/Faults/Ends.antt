@@ -39,9 +39,13 @@ deep_state characters s after place steps deep =
 pub sound_to : (characters : List ℕ) (s : FieldScanned) → field_steps_from (Some field_text_start) characters ≡ Some s → have_room (Some field_text_start) characters ≡ true → IsFieldSound two_hundred s characters
 sound_to characters s steps room = sound_at two_hundred characters s (rooms_at (Some field_text_start) characters room) steps
 
+-- what is open at the end
+pub open_now : (characters : List ℕ) (s : FieldScanned) → field_steps_from (Some field_text_start) characters ≡ Some s → have_room (Some field_text_start) characters ≡ true → EndsSo s characters (unfinished_at s)
+open_now characters s steps room = open_in s.outer s.done s.openers s.mode s.held characters (sound_to characters s steps room) (λ place deep. deep_state characters s [] place steps deep)
+
 -- a live text is read, or has a fault at its end
 pub read_or_open : (characters : List ℕ) (s : FieldScanned) → field_steps_from (Some field_text_start) characters ≡ Some s → have_room (Some field_text_start) characters ≡ true → IsBalancedReading (field_pieces s) characters ⊎ ((kind : FaultKind) × (offset : ℕ) × IsEndFault kind characters [] offset)
-read_or_open characters s steps room = go (unfinished_at s) (open_in s.outer s.done s.openers s.mode s.held characters (sound_to characters s steps room) (λ place deep. deep_state characters s [] place steps deep))
+read_or_open characters s steps room = go (unfinished_at s) (open_now characters s steps room)
   where
     go : (o : Option Unfinished) → EndsSo s characters o → IsBalancedReading (field_pieces s) characters ⊎ ((kind : FaultKind) × (offset : ℕ) × IsEndFault kind characters [] offset)
     go None final = inl (final_is_reading characters s steps room final)
@@ -205,7 +209,7 @@ module _ (read : List ℕ) (s : FieldScanned) (steps : field_steps_from (Some fi
   -- what is open at the end, and where
   pub unfinished_fits : (what : Unfinished) → unfinished_at s ≡ Some what → (offset : ℕ) × IsEndFault (kind_of_unfinished what) read [] offset × StandsThere s what offset
   unfinished_fits what is =
-      let found = subst (EndsSo s read) is (open_in s.outer s.done s.openers s.mode s.held read (sound_to read s steps room) (λ place deep. deep_state read s [] place steps deep)) in (
+      let found = subst (EndsSo s read) is (open_now read s steps room) in (
         found.0,
         record { unfinished = what; is = refl; whole = refl; live = goes_live read s steps room; ends_in = found.1 },
         there what found.0 (named read s steps room what found.0 found.1).1,
