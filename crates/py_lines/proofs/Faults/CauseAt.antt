@@ -1,7 +1,7 @@
 -- Where the machine with fields can't go on, its state and the character tell the cause of the fault, and the fault's byte.
 use Rattle.std.proofs.Common.{◌≡◌, ℕ, ◌+◌, ◌≤◌, Bool, true, false, not, ◌&&◌, ◌||◌, ◌==◌, None, Some, List, [], ◌∷◌, ◌++◌, ◌⊎◌, inl, inr, length, nat_lt, refl, sym, ap, ◌∙◌, subst, ⊎_elim, arith}
-use Rattle.std.specs.Prelude.{if◌then◌else◌}
-use Rattle.std.proofs.lemmas.Bool.{both_ways, cond_both, and_parts, and_from, or_cases, or_left, eqb-true, eq-eqb, ltb-false}
+use Rattle.std.specs.Prelude.{codes, if◌then◌else◌}
+use Rattle.std.proofs.lemmas.Bool.{both_ways, cond_both, and_parts, and_from, eqb-true, eq-eqb, ltb-false}
 use Rattle.py_lines.specs.Character.{is_line_feed, is_return, is_break}
 use Rattle.py_lines.specs.Piece.{Piece, spelled}
 use Rattle.py_lines.specs.Balance.{is_opening, is_closing}
@@ -13,8 +13,9 @@ use Rattle.py_lines.specs.declared.mode.Mode.TheVariants as modes
 use Rattle.py_lines.specs.Private.Machine.{start_of}
 use Rattle.py_lines.specs.Private.FieldMachine.{text_place, before, between, after_brace, FieldMode, plain, body, FieldMove, grows, closes, breaks, begins_code, opens_field, ends_field, refused, Level, FieldScanned, field_state, field_text_start, field_pieces, field_move, field_moved, field_started, field_step, opened_level, field_steps_from, levels_open, frames, has_room_at, have_room, body_move, in_open_short, after_open_backslash, InSpecificationOf}
 use Rattle.py_lines.specs.Private.FieldFaults.{is_waiting, quotes_specification, cause_in, cause_place, here, piece_start}
-use Rattle.py_lines.proofs.Text.CharacterTests.{break-not-opening, break-not-closing, break-not-quote, opening-not-quote}
+use Rattle.py_lines.proofs.Text.CharacterTests.{each_of, break-not-opening, break-not-closing, break-not-quote, opening-not-quote}
 use Rattle.py_lines.proofs.Machine.Starts.{start-feed, start-return}
+use Rattle.py_lines.proofs.FieldMachine.ListBrackets.{none_some}
 use Rattle.py_lines.proofs.FieldMachine.WhatIsOpen.{comes_to, backslash_comes, specification_comes}
 use Rattle.py_lines.proofs.FieldSoundness.Holds.{IsFieldSound}
 use Rattle.py_lines.proofs.FieldSoundness.Bodies.{Moved}
@@ -29,25 +30,12 @@ use Rattle.py_lines.proofs.Faults.CharacterFaults.{IsStuck, grows_free, bracket_
 use Rattle.py_lines.proofs.Faults.Refusals.{IsShortHere, Refuses, Reason, reason}
 
 -- a line end begins a piece
-some_none : {A : Type 0} {a : A} → Some a ≡ None → ⊥
-some_none h = cc
-
-return_or_feed : (c : ℕ) → is_break c ≡ true → (is_line_feed c ≡ true) ⊎ (is_return c ≡ true)
-unfolding is_break is_line_feed is_return
-return_or_feed c h = ⊎_elim (λ (feed : c == 10 ≡ true). inl (or_left (c == 10) false feed)) (λ (other : (c == 13) || false ≡ true). inr other) (or_cases (c == 10) ((c == 13) || false) h)
-
 break_starts : (outer : List Level) (ps : List Piece) (os : List ℕ) (c : ℕ) → is_break c ≡ true → field_started outer ps os c (start_of c) ≡ None → ⊥
-break_starts outer ps os c break none =
-    ⊎_elim (λ feed. some_none (sym (ap (field_started outer ps os c) (start-feed c feed)) ∙ none))
-    (λ return. some_none (sym (ap (field_started outer ps os c) (start-return c return)) ∙ none)) (return_or_feed c break)
-
-open_brace_opens : is_opening 123 ≡ true
-unfolding is_opening
-open_brace_opens = refl
-
-end_brace_closes : is_closing 125 ≡ true
-unfolding is_closing
-end_brace_closes = refl
+unfolding is_break is_line_feed is_return
+break_starts outer ps os c = each_of (λ d. field_started outer ps os d (start_of d) ≡ None → ⊥) (codes "\n\r") c (
+  λ none. none_some (sym none ∙ ap (field_started outer ps os 10) (start-feed 10 refl)),
+  (λ none. none_some (sym none ∙ ap (field_started outer ps os 13) (start-return 13 refl)), tt),
+)
 
 -- where a `{` waits and the character is stuck, it is no second one
 not_second : (host : Host) (named : Bool) (held : List ℕ) (c : ℕ) → ((n : FieldMode) → field_move (body host literal named after_brace) held c ≡ grows n → ⊥) → c == 123 ≡ false
@@ -122,7 +110,7 @@ module _ (s : FieldScanned) (read : List ℕ) (c : ℕ) (after : List ℕ) (step
 
   no_closes : field_move s.mode s.held c ≡ closes → ⊥
   unfolding has_room_at
-  no_closes is = ⊎_elim (λ none. some_none (sym (ap (field_moved s c) is) ∙ none)) (λ full. both_ways _ full (ap (has_room_at (frames s) c) is)) stuck
+  no_closes is = ⊎_elim (λ none. none_some (sym none ∙ ap (field_moved s c) is)) (λ full. both_ways _ full (ap (has_room_at (frames s) c) is)) stuck
 
   reason_is : (v : FieldMove) → field_move s.mode s.held c ≡ v → Reason s.mode c v
   reason_is v is = subst (Reason s.mode c) is (reason two_hundred s.outer (frames s) s.mode s.held c sound.mode)
@@ -165,13 +153,14 @@ module _ (s : FieldScanned) (read : List ℕ) (c : ℕ) (after : List ℕ) (step
           let room = code_room (is_opening c) (frames s) (sym (ap (has_room_at (frames s) c) is) ∙ full) few (not_deep shallow (reason_is (begins_code h) is)) in
           inr (room.0, omega (arith, room.1))) at)
           (λ short. both_ways _ (short_alone s.mode short).waits (reason_is (begins_code h) is))
-      go (opens_field h) is (inl none) = absurd (some_none (sym (ap (field_moved s c) is) ∙ none))
+      go (opens_field h) is (inl none) = absurd (none_some (sym none ∙ ap (field_moved s c) is))
       go (opens_field h) is (inr full) = Why.deep_field h is (omega (arith, few, ltb-false (frames s) 200 (sym (ap (has_room_at (frames s) c) is) ∙ full)))
       go ends_field is at = Why.closes_field (reason_is ends_field is).0 (reason_is ends_field is).1
       go refused is at = Why.refuses (reason_is refused is)
 
   -- a line end is refused where a short string is open, or a specification of one
   pub short_here : is_deep ≡ false → is_break c ≡ true → IsShortHere s.mode
+  unfolding is_opening is_closing
   short_here shallow break = by (why shallow)
     where
       no_opening : is_opening c ≡ false
@@ -180,8 +169,8 @@ module _ (s : FieldScanned) (read : List ℕ) (c : ℕ) (after : List ℕ) (step
       by : Why s c → IsShortHere s.mode
       by (Why.begins outer ps os step (inl none) apart) = absurd (break_starts outer ps os c break (sym step ∙ none))
       by (Why.begins outer ps os step (inr (opens, full)) apart) = absurd (both_ways _ no_opening opens)
-      by (Why.deep_field h is full) = absurd (both_ways _ no_opening (ap is_opening (reason_is (opens_field h) is).0 ∙ open_brace_opens))
-      by (Why.closes_field brace at) = absurd (both_ways _ (break-not-closing c break) (ap is_closing brace ∙ end_brace_closes))
+      by (Why.deep_field h is full) = absurd (both_ways _ no_opening (ap is_opening (reason_is (opens_field h) is).0))
+      by (Why.closes_field brace at) = absurd (both_ways _ (break-not-closing c break) (ap is_closing brace))
       by (Why.refuses (inl (at, short))) = short
       by (Why.refuses (inr (inl (slash, other)))) = absurd (both_ways _ other break)
       by (Why.refuses (inr (inr (same, quotes)))) = absurd (both_ways _ (break-not-quote c break) quotes)
@@ -224,15 +213,16 @@ module _ (s : FieldScanned) (read : List ℕ) (c : ℕ) (after : List ℕ) (step
 
   -- an opening bracket that is refused, or the `{` of a field
   opening_fits : is_deep ≡ false → is_break c ≡ false → after_open_backslash s.mode ≡ false → is_closing c ≡ false → is_opening c ≡ true → (offset : ℕ) × OpensTooDeep read c offset
+  unfolding is_closing
   opening_fits shallow no_break no_slash no_closing opens = by (why shallow)
     where
       by : Why s c → (offset : ℕ) × OpensTooDeep read c offset
-      by (Why.begins outer ps os step (inl none) apart) = absurd (some_none (sym (started s read c sound steps outer ps os opens) ∙ sym step ∙ none))
+      by (Why.begins outer ps os step (inl none) apart) = absurd (none_some (sym none ∙ step ∙ started s read c sound steps outer ps os opens))
       by (Why.begins outer ps os step (inr (also, full)) apart) =
           (byte_len read, record { opens = opens; deep = inl (bracket_at s read c sound steps outer ps os opens (step ∙ started s read c sound steps outer ps os opens) full); place = refl })
       by (Why.deep_field h is full) =
           (byte_len read, record { opens = opens; deep = inr ((reason_is (opens_field h) is).0, opens_due s.mode h (reason_is (opens_field h) is).1 is sound full); place = refl })
-      by (Why.closes_field brace at) = absurd (both_ways _ no_closing (ap is_closing brace ∙ end_brace_closes))
+      by (Why.closes_field brace at) = absurd (both_ways _ no_closing (ap is_closing brace))
       by (Why.refuses (inl (break, short))) = absurd (both_ways _ no_break break)
       by (Why.refuses (inr (inl (slash, other)))) = absurd (both_ways _ no_slash slash)
       by (Why.refuses (inr (inr (same, quotes)))) = absurd (both_ways _ (opening-not-quote c opens) quotes)

@@ -10,12 +10,14 @@ use Rattle.py_lines.specs.Faults.{OpensBraceTooDeep, Unfinished, open_brace, ope
 use Rattle.py_lines.specs.declared.fault.FaultKind.{FaultKind}
 use Rattle.py_lines.specs.Private.FieldMachine.{text_place, before, after_brace, FieldMode, body, Level, FieldScanned, field_state, field_text_start, field_steps_from, field_pieces, have_room, IsFieldFinal, InSpecificationOf, levels_open, may_end, frames, plain, field_closed}
 use Rattle.py_lines.proofs.FieldMachine.Completeness.{reading_reached}
+use Rattle.py_lines.proofs.FieldMachine.ListBrackets.{none_some}
 use Rattle.py_lines.proofs.FieldMachine.WhatIsOpen.{Comes, comes_to, short_open_comes, long_open_comes, backslash_comes, SpecificationAt, specification_comes}
 use Rattle.py_lines.proofs.FieldMachine.OpenCode.{CodeAt, in_code, at_brace, code_comes, brace_comes}
 use Rattle.py_lines.proofs.FieldMachine.OpenStrings.{HasOpened}
 use Rattle.py_lines.proofs.FieldSoundness.Holds.{IsFieldSound}
 use Rattle.py_lines.proofs.FieldSoundness.HostSteps.{sound_at}
 use Rattle.py_lines.proofs.FieldSoundness.WholeTexts.{two_hundred, rooms_at, final_is_reading}
+use Rattle.py_lines.proofs.ScanMachine.Follows.{some_is}
 use Rattle.py_lines.proofs.FieldSoundness.LiveTexts.{live_goes, goes_live}
 use Rattle.py_lines.proofs.Faults.EndFaults.{IsDeepBrace, EndsSo, brace_open, open_in}
 use Rattle.py_lines.specs.Private.FieldFaults.{is_waiting, unfinished_code, unfinished_literal, unfinished_in, unfinished_at, here, piece_start}
@@ -128,15 +130,12 @@ module _ (characters : List ℕ) (s : FieldScanned) (steps : field_steps_from (S
   named open_inside offset (start, inr (host, is), place, other) = specification_named host start offset (comes_to characters _ s (specification_comes host characters start is) steps).0 place
 
 -- so the fault at the end is one
-some_same : (a b : Unfinished) → Some a ≡ Some b → a ≡ b
-some_same a b h = cc
-
 pub one_end : (characters tail : List ℕ) (kind other : FaultKind) (offset place : ℕ) → IsEndFault kind characters tail offset → IsEndFault other characters tail place → (kind ≡ other) × (offset ≡ place)
 one_end characters tail kind other offset place first second =
     let run = live_goes characters first.live in
     let one = named characters run.0 run.1 run.2 first.unfinished offset first.ends_in in
     let two = named characters run.0 run.1 run.2 second.unfinished place second.ends_in in
-    let same : first.unfinished ≡ second.unfinished = some_same first.unfinished second.unfinished (sym one.0 ∙ two.0) in (
+    let same : first.unfinished ≡ second.unfinished = some_is first.unfinished second.unfinished (sym one.0 ∙ two.0) in (
       first.is ∙ ap kind_of_unfinished same ∙ sym second.is,
       one_place second.unfinished run.0 characters offset place (subst (λ (w : Unfinished). IsPlaced w run.0 characters offset) same one.1) two.1,
     )
@@ -149,16 +148,8 @@ end_unread characters tail kind offset fault pieces reading =
     let same = same_state characters whole.to run.0 whole.steps run.1 in
     let final : IsFieldFinal run.0 = subst IsFieldFinal same whole.final in
     let open_yet = named characters run.0 run.1 run.2 fault.unfinished offset fault.ends_in in
-    let none : unfinished_at run.0 ≡ None = code_unfinished run.0.outer run.0.openers run.0.mode final.ends ∙ closed run.0.outer run.0.openers final.outside final.closed_all in
-    none_open fault.unfinished (sym none ∙ open_yet.0)
-  where
-    closed : (outer : List Level) (openers : List ℕ) → outer ≡ [] → openers ≡ [] → unfinished_code outer openers ≡ None
-    closed [] [] outside all = refl
-    closed [] (o ∷ os) outside all = absurd (cc)
-    closed (l ∷ ls) openers outside all = absurd (cc)
-
-    none_open : (what : Unfinished) → None ≡ Some what → ⊥
-    none_open what h = cc
+    let none : unfinished_at run.0 ≡ None = code_unfinished run.0.outer run.0.openers run.0.mode final.ends ∙ rw (final.outside, final.closed_all) refl in
+    none_some (sym none ∙ open_yet.0)
 
 -- The fault of what is open stands at this byte, that of a field directly before the text up to its `{` ends. Where that is a bracket,
 -- it is the innermost of those that the finished pieces of the innermost list leave open.

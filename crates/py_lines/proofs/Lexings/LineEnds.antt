@@ -1,6 +1,7 @@
 -- Pieces that end a line: what they are read before, how deep they are, and how long.
-use Rattle.std.proofs.Common.{◌≡◌, ℕ, ◌+◌, Some, List, [], ◌∷◌, ◌++◌, length, refl, sym, ap, ◌∙◌, subst, inl, inr, length-append, arith, Bool, true, false, ◌&&◌, append-nil}
+use Rattle.std.proofs.Common.{◌≡◌, ℕ, ◌+◌, Some, List, [], ◌∷◌, ◌++◌, length, refl, sym, ap, ◌∙◌, subst, inl, inr, length-append, Bool, true, false, ◌&&◌, append-nil}
 use Rattle.std.proofs.lemmas.Bool.{both_ways, and_right, and_from, eq-eqb}
+use Rattle.std.proofs.lemmas.List.{nil_from_length}
 use Rattle.py_lines.specs.Piece.{Class, operator, line_end, Piece, spelled, ends, begins, is_mark_class}
 use Rattle.py_lines.specs.Balance.{IsBalanced, depth_after, depth_through}
 use Rattle.py_lines.specs.Fields.{fielded, InClass, AreReadBefore, IsShallow}
@@ -122,15 +123,11 @@ pub depth_prefix : (prefix : List Piece) → EndsLine prefix → depth_through 0
 depth_prefix prefix (inl none) = ap (depth_through 0) none
 depth_prefix prefix (inr (body, last, is, class, deep)) = ap (depth_through 0) is ∙ depth_line body last class deep
 
-no_brackets : (st : List Bracket) → length st ≡ 0 → st ≡ []
-no_brackets [] h = refl
-no_brackets (b ∷ bs) h = absurd (omega arith)
-
 -- pieces that leave no bracket open
 pub level_stack : (prefix others : List Piece) (st : List Bracket) → brackets_of (prefix ++ others) ≡ Some st → depth_through 0 prefix ≡ 0 → brackets_of prefix ≡ Some []
 level_stack prefix others st steps deep =
     let first = stack_before prefix others st steps in
-    first.1 ∙ ap (λ l. Some l) (no_brackets first.0 (sym (stands prefix first.0 first.1).depth ∙ deep))
+    first.1 ∙ ap (λ l. Some l) (nil_from_length first.0 (sym (stands prefix first.0 first.1).depth ∙ deep))
 
 -- as those that end a line
 pub prefix_stack : (prefix others : List Piece) (st : List Bracket) → brackets_of (prefix ++ others) ≡ Some st → EndsLine prefix → brackets_of prefix ≡ Some []

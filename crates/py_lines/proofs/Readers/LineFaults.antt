@@ -25,6 +25,7 @@ use Rattle.py_lines.specs.Private.LineState.{first_mode}
 use Rattle.py_lines.specs.Private.Scan.{IsUnderWay, Tallies, stack_of, depth_of, stack_if, IsRefusal, IsOpenFrom, IsPlainUnfinished, IsUnfinished}
 use Rattle.py_lines.proofs.Text.Splits.{Either, either}
 use Rattle.py_lines.proofs.Pieces.PieceLists.{piece, spelled-append}
+use Rattle.py_lines.proofs.FieldMachine.ListBrackets.{none_some}
 use Rattle.py_lines.proofs.Machine.PieceSteps.{scanned}
 use Rattle.py_lines.proofs.Machine.LiveTexts.{keeps}
 use Rattle.py_lines.proofs.Machine.EarlierPieces.{after_pieces, shift, shift_if, length-shift, stack-after}
@@ -47,9 +48,6 @@ place_by true k start stop done whole first second = first refl
 place_by false k start stop done whole first second = second
 
 -- a string that refuses a character
-some_none : {A : Type 0} {a : A} → Some a ≡ None → ⊥
-some_none h = cc
-
 abbrev RefusesIf : List Piece → List ℕ → ℕ → Move → Type 0
 RefusesIf done held c v = stack_if (moved (scanned done modes.Fielded held) c v) ≡ None → v ≡ moves.Refused
 
@@ -59,9 +57,9 @@ refused_string scan done held u c stacked at refuses =
     (ap (λ v. stack_if (moved (scanned done modes.Fielded held) c v)) (sym (string_move_is scan done held u c _ stacked at refl)) ∙ refuses)
   where
     by : (outer : List Level) (move : FieldMove) (next : Option FieldScanned) → RefusesIf done held c (string_move outer move next)
-    by [] closes next none = absurd (some_none (sym (keeps done (piece string (held ++ c ∷ [])) (stack_of scan.brackets) refl refl stacked) ∙ none))
+    by [] closes next none = absurd (none_some (sym none ∙ keeps done (piece string (held ++ c ∷ [])) (stack_of scan.brackets) refl refl stacked))
     by outer move None none = refl
-    by outer move (Some next) none = absurd (some_none (sym stacked ∙ none))
+    by outer move (Some next) none = absurd (none_some (sym none ∙ stacked))
 
 unfinished_shift : (k start : ℕ) (u : FieldScanned) (what : Unfinished) (place : ℕ) → IsUnfinishedAt start u what place → IsUnfinishedAt (k + start) u what (k + place)
 unfinished_shift k start u open_bracket place (b, others, stack, at) = (b, others, stack, omega (arith, at))
