@@ -83,10 +83,7 @@ begun_room true depth full few = (refl, omega (arith, few, ltb-false depth 200 f
 begun_room false depth full few = absurd (both_ways _ full refl)
 
 code_room : (opens : Bool) (depth : ℕ) → nat_lt (if opens then depth + 1 else depth) 200 ≡ false → depth ≤ 200 → (200 ≤ depth → ⊥) → (opens ≡ true) × (depth + 1 ≡ 200)
-code_room true depth full few fewer = (refl, at_most depth (ltb-false (depth + 1) 200 full) few fewer)
-  where
-    at_most : (n : ℕ) → 200 ≤ n + 1 → n ≤ 200 → (200 ≤ n → ⊥) → n + 1 ≡ 200
-    at_most n many most other = omega arith
+code_room true depth full few fewer = let many = ltb-false (depth + 1) 200 full in (refl, omega (arith, few, fewer, many))
 code_room false depth full few fewer = absurd (fewer (ltb-false depth 200 full))
 
 -- Why a character is stuck, where no `{` waits at depth 200: it begins no piece, or a bracket too deep; it opens a field too deep; it

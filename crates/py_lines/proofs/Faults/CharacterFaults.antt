@@ -58,13 +58,10 @@ at_depth outer ps openers read c sound =
       deep = refl;
     }
 
-opening_no_colon : (c : ℕ) → is_opening c ≡ true → c == 58 ≡ false
-unfolding is_opening
-opening_no_colon c h = none_of (λ d. d == 58) (40 ∷ 91 ∷ 123 ∷ []) c refl h
-
 opening_stays : (outer : List Level) (openers : List ℕ) (c : ℕ) → is_opening c ≡ true → IsNoColon outer openers c
+unfolding is_opening
 opening_stays [] openers c opens = tt
-opening_stays (level ∷ outer) openers c opens = ap (λ b. b && (length openers == 0)) (opening_no_colon c opens)
+opening_stays (level ∷ outer) openers c opens = ap (λ b. b && (length openers == 0)) (none_of (λ d. d == 58) (40 ∷ 91 ∷ 123 ∷ []) c refl opens)
 
 -- the brackets that are open before one that has opened
 pushed_depth : (ps : List Piece) (os : List ℕ) (c : ℕ) → is_opening c ≡ true → Opens (c ∷ os) (ps ++ piece operator (c ∷ []) ∷ []) → depth_through 0 ps ≡ length os

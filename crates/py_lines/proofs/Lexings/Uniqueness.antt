@@ -26,7 +26,7 @@ same_fault characters tail fault second f g =
     λ i. record { kind = is.0 i; offset = is.1 i; line = line i }
 
 -- so it has one list of lines, and one end
-both_of : (text : List ℕ) (lines others : List LogicalLine) (end other : Option Fault) → IsLexed text lines end → IsLexed text others other → (lines ≡ others) × (end ≡ other)
+pub both_of : (text : List ℕ) (lines others : List LogicalLine) (end other : Option Fault) → IsLexed text lines end → IsLexed text others other → (lines ≡ others) × (end ≡ other)
 both_of text lines others None None r s = (one_fielded_lexing text lines others r s, refl)
 both_of text lines others None (Some fault) r s = absurd (never_both text lines others fault r s)
 both_of text lines others (Some fault) None r s = absurd (never_both text others lines fault s r)
@@ -35,12 +35,6 @@ both_of text lines others (Some fault) (Some second) r s =
     let pieces = one_longest _ r.pieces s.pieces s.characters (subst (λ (t : List ℕ). IsReadPrefix r.pieces t) same.0 r.prefix) s.prefix in
     let refused = subst (λ (t : List ℕ). IsLexicalFault t s.tail fault) same.0 (subst (λ (t : List ℕ). IsLexicalFault r.characters t fault) same.1 r.refused) in
     (r.cut ∙ ap lines_of pieces ∙ sym s.cut, ap Some (same_fault s.characters s.tail fault second refused s.refused))
-
-pub one_lexing_of : (text : List ℕ) (lines others : List LogicalLine) (end other : Option Fault) → IsLexed text lines end → IsLexed text others other → lines ≡ others
-one_lexing_of text lines others end other r s = (both_of text lines others end other r s).0
-
-pub one_end_of : (text : List ℕ) (lines others : List LogicalLine) (end other : Option Fault) → IsLexed text lines end → IsLexed text others other → end ≡ other
-one_end_of text lines others end other r s = (both_of text lines others end other r s).1
 
 -- the known bytes settle one list of lines
 pub one_settled : (text : List ℕ) (lines others : List LogicalLine) → IsSettled text lines → IsSettled text others → lines ≡ others
