@@ -7,8 +7,7 @@ use Rattle.py_lines.specs.Piece.{spelled}
 use Rattle.py_lines.specs.Fields.{AreReadBefore}
 use Rattle.py_lines.specs.Reading.{Decodes, IsBalancedReading}
 use Rattle.py_lines.specs.Lexed.{IsLexed, IsLexedToFault}
-use Rattle.py_lines.specs.LogicalLine.{LogicalLine, cut, byte_len, line_of, lines_of}
-use Rattle.py_lines.specs.Given.{AreFirstLines}
+use Rattle.py_lines.specs.LogicalLine.{LogicalLine, cut, byte_len, line_of}
 use Rattle.py_lines.specs.declared.fault.Fault.{Fault}
 use Rattle.py_lines.specs.declared.fault.FaultKind.TheVariants.{BadUtf8}
 use Rattle.py_lines.specs.declared.line_state.LineState.{LineState}
@@ -21,8 +20,6 @@ use Rattle.py_lines.proofs.Machine.PieceSteps.{pieces_at}
 use Rattle.py_lines.proofs.ScanMachine.Advance.{GoesTo, RunsTo}
 use Rattle.py_lines.proofs.ScanMachine.LiveTexts.{reading_at}
 use Rattle.py_lines.proofs.LineScan.TextSteps.{way_goes}
-use Rattle.py_lines.proofs.LogicalLines.NextLine.{lines_of-push}
-use Rattle.py_lines.proofs.LogicalLines.Cuts.{byte_len-append}
 use Rattle.py_lines.proofs.Lexings.Answers.{refused_at_end}
 use Rattle.py_lines.proofs.Readers.LineFaults.{Within, unfinished_fault}
 use Rattle.py_lines.proofs.Feeds.Known as of

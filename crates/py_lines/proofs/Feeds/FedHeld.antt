@@ -30,7 +30,7 @@ use Rattle.py_lines.proofs.Text.Decoding.{decoded}
 use Rattle.py_lines.proofs.LineScan.TextSteps.{way_goes}
 use Rattle.py_lines.proofs.Feeds.Known.{IsKnown, both_none, goes_with_first, known_after, is_known}
 use Rattle.py_lines.proofs.Feeds.Steps.{reached_by}
-use Rattle.py_lines.proofs.Feeds.SettledSoFar.{MayGetFeed, Follow, settled_open, settled_ready, ended_before, IsNextLine}
+use Rattle.py_lines.proofs.Feeds.SettledSoFar.{MayGetFeed, settled_open, settled_ready, ended_before, IsNextLine}
 use Rattle.py_lines.proofs.Feeds.DecidedSoFar.{undecided}
 use Rattle.py_lines.proofs.Feeds.ReadyLines.{ended_alone, ended_holds, ended_scan, pieces_alone, same_before}
 use Rattle.py_lines.proofs.Feeds.LastBytes.{exactly_encoded}
@@ -64,22 +64,17 @@ module _ (text : List ℕ) (place : ℕ) {line : ℕ} {bytes : List ℕ} {scan :
       let some = (ended_alone s).line.some in
       ended_before text place line lines s.read s.rest known (pieces_alone s) next_line
       (subst (λ l. IsSettled (take (place + length l) text) lines) (sym s.spell) (settled (omega (arith, some, ap length s.spell, length-append (encode_utf8_all s.read) s.rest))))
-      (λ none. ap (ends is_return) next_line.line.spell ∙ by_whole s.stops.1 none) (by_some s.read some)
+      (by_whole s.stops.1)
     where
       by_whole : EndsWhole s.read s.rest → s.rest ≡ [] → ends is_return s.read ≡ false
       by_whole (inl feed) none = feed
       by_whole (inr (b, more, is, other)) none = absurd (omega (arith, ap length (sym is ∙ none)))
 
-      by_some : (cs : List ℕ) → 0 < length (encode_utf8_all cs) → 0 < length cs
-      by_some [] some = some
-      by_some (c ∷ cs) some = omega arith
-
   -- where they are the line, with one byte more after CR alone, it is settled
   settled_fed : EndsExactly s.read s.rest → IsSettled (take (place + length bytes) text) (lines ++ line_of place line (pieces_alone s) ∷ [])
   settled_fed exact =
-      let follow : Follow (pieces_alone s) s.rest = ⊎_elim (λ done. Follow.by_feed done.1 (ap (ends is_return) next_line.line.spell ∙ done.0)) (λ one. Follow.by_byte one.1.0 one.1.1 one.1.2) exact in
       subst (λ t. IsSettled (take (place + length t) text) (lines ++ line_of place line (pieces_alone s) ∷ [])) s.spell
-      (settled_ready text place line lines s.read s.rest known (pieces_alone s) next_line follow)
+      (settled_ready text place line lines s.read s.rest known (pieces_alone s) next_line exact)
 
 -- what is held then
 pub scanned_ended : (f : Feed) (end_len : ℕ) (s : StopsHeld f (stops.LineEnd end_len)) (before later : List ℕ) → before ++ later ≡ f.held.items

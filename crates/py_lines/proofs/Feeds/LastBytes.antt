@@ -42,6 +42,11 @@ ends-encoded (c ∷ d ∷ cs) =
     let some = some_bytes d cs in
     ap (λ t. ends is_return (encode_utf8 c ++ t)) some.2 ∙ ends-append is_return (encode_utf8 c) some.0 some.1 ∙ ap (ends is_return) (sym some.2) ∙ ends-encoded (d ∷ cs)
 
+-- the last of some characters is the last of all
+pub ends-later : (p : ℕ → Bool) (first later : List ℕ) → (later ≡ [] → ⊥) → ends p (first ++ later) ≡ ends p later
+ends-later p first [] some = absurd (some refl)
+ends-later p first (c ∷ cs) some = ends-append p first c cs
+
 -- what comes after a line goes by its last character
 pub exact_as : (line other more : List ℕ) → ends is_return line ≡ ends is_return other → EndsExactly line more → EndsExactly other more
 exact_as line other more same exact = subst (λ (b : Bool). ((b ≡ false) × (more ≡ [])) ⊎ ((b ≡ true) × IsOneOther more)) same exact

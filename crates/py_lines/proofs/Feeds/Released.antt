@@ -1,5 +1,5 @@
 -- A settled line is released, or the text's last: the lines before it and this one are the first of the whole text.
-use Rattle.std.proofs.Common.{◌≡◌, ℕ, ◌+◌, List, [], ◌∷◌, ◌++◌, length, take, drop, refl, sym, ap, ◌∙◌, subst, inr, append-nil, arith, ◌<◌, Option, None, Some, length-append}
+use Rattle.std.proofs.Common.{◌≡◌, ℕ, ◌+◌, List, [], ◌∷◌, ◌++◌, length, take, drop, refl, sym, ap, ◌∙◌, subst, inr, append_assoc, append-nil, arith, Option, None, Some, length-append}
 use Rattle.std.specs.Prelude.{encode_utf8_all, IsSome}
 use Rattle.std.proofs.lemmas.List.{take-append-drop, append_cancel_left, drop-drop}
 use Rattle.std.proofs.lemmas.Str.{encodes-append, encodes_same}
@@ -9,15 +9,12 @@ use Rattle.py_lines.specs.Lexed.{IsLexedWhole, IsLexed}
 use Rattle.py_lines.specs.Settled.{IsSettled}
 use Rattle.py_lines.specs.Given.{AreFirstLines}
 use Rattle.py_lines.specs.LogicalLine.{LogicalLine, byte_len, line_ends, lines_of}
-use Rattle.py_lines.proofs.Text.Utf8Prefixes.{one_decoding, all_scalars-parts}
-use Rattle.py_lines.proofs.Text.Continued.{goes_on}
-use Rattle.py_lines.proofs.Text.Decoding.{decoding}
+use Rattle.py_lines.proofs.Text.Decoding.{decoded}
 use Rattle.py_lines.proofs.LogicalLines.Cuts.{byte_len-append}
 use Rattle.py_lines.proofs.LogicalLines.NextLine.{texts, texts-append, texts-lines}
 use Rattle.py_lines.proofs.Lexings.FirstLines.{base_lines}
 use Rattle.py_lines.proofs.Lexings.SettledLines.{settled_first}
-use Rattle.py_lines.proofs.Feeds.Known as of
-use Rattle.py_lines.proofs.Feeds.Known.{IsKnown, first_at, goes_after, goes_at, is_known}
+use Rattle.py_lines.proofs.Feeds.Known.{first_at, goes_after, goes_at}
 use Rattle.std.proofs.lemmas.Bool.{both_ways}
 use Rattle.std.proofs.Math.Seq.{drop-append_seam}
 use Rattle.py_lines.specs.ScannerState.{ScannerState, GoesOnWith, IsScanning, HasEnded, HoldsReady, HoldsLast, Releases, fed_of, ready_lines}
@@ -32,48 +29,39 @@ spells_more : (first all : List Piece) (lines : List LogicalLine) (l : LogicalLi
 spells_more first all lines l read given more same = encodes_same (spelled all) (spelled first ++ read)
     (sym (texts-lines all) ∙ ap texts (sym more) ∙ texts-append lines (l ∷ []) ∙ ap (λ t. texts lines ++ t) (append-nil l.text ∙ same) ∙ ap (λ t. t ++ encode_utf8_all read) (ap texts given ∙ texts-lines first) ∙ sym (encodes-append (spelled first) read))
 
--- the settled lines are those given and one more: it reaches as far as its text
-module _ (text : List ℕ) (place line : ℕ) (lines : List LogicalLine) (read rest : List ℕ) (k : IsKnown text place line lines read rest) (l : LogicalLine) (same : l.text ≡ encode_utf8_all read) (s : IsSettled (of.bytes text place line lines read rest k) (lines ++ l ∷ [])) where
-  spells : spelled s.pieces ≡ spelled k.base ++ read
-  spells = spells_more k.base s.pieces lines l read k.cut s.cut same
+-- the lines given and this one, which begin with this text after them
+module _ {text : List ℕ} {place line : ℕ} {lines : List LogicalLine} (first : AreFirstLines text place line lines) (read : List ℕ) (l : LogicalLine) (same : l.text ≡ encode_utf8_all read) where
+  -- are the first lines of the text up to where it ends
+  reached : {here number : ℕ} → AreFirstLines text here number (lines ++ l ∷ []) → AreFirstLines text (place + byte_len read) (line + line_ends read) (lines ++ l ∷ [])
+  reached next =
+      let spells = spells_more first.pieces next.pieces lines l read first.cut next.cut same in
+      let characters = (decoded text first.characters next.characters first.tail next.tail first.decodes next.decodes).0 in
+      let rest : first.rest ≡ read ++ next.rest = append_cancel_left (spelled first.pieces) first.rest (read ++ next.rest)
+      (first.spell ∙ characters ∙ sym next.spell ∙ ap (λ t. t ++ next.rest) spells ∙ append_assoc (spelled first.pieces) read next.rest) in
+      let sum = base_lines first.pieces read next.rest (subst (AreReadBefore first.pieces) rest first.fit) in
+      first_at (omega (arith, first.here, next.here, ap byte_len spells, byte_len-append (spelled first.pieces) read)) (omega (arith, first.number, next.number, ap line_ends spells, sum)) next
 
-  pub released : AreFirstLines text (place + byte_len read) (line + line_ends read) (lines ++ l ∷ [])
-  released =
-      let n = place + length (encode_utf8_all read ++ rest) in
-      let first = (settled_first (take n text) (drop n text) (lines ++ l ∷ []) s).0 in
-      let here : byte_len (spelled s.pieces) ≡ place + byte_len read = ap byte_len spells ∙ byte_len-append (spelled k.base) read ∙ ap (λ (m : ℕ). m + byte_len read) (sym k.here) in
-      let lines_sum = base_lines k.base read k.more k.fit in
-      let lines_here : 1 + line_ends (spelled s.pieces) ≡ line + line_ends read = omega (arith, ap line_ends spells, lines_sum, k.number) in
-      subst (λ t. AreFirstLines t (place + byte_len read) (line + line_ends read) (lines ++ l ∷ [])) (take-append-drop n text) (first_at (sym here) (sym lines_here) first)
+  -- where bytes of the text settle them
+  pub released : (n : ℕ) → IsSettled (take n text) (lines ++ l ∷ []) → AreFirstLines text (place + byte_len read) (line + line_ends read) (lines ++ l ∷ [])
+  released n s = reached (subst (λ t. AreFirstLines t (byte_len (spelled s.pieces)) (1 + line_ends (spelled s.pieces)) (lines ++ l ∷ [])) (take-append-drop n text) (settled_first (take n text) (drop n text) (lines ++ l ∷ []) s).0)
 
--- The text's last line is released: the lines before it and this one are the first of the text, up to its end.
-module _ (text : List ℕ) (place line : ℕ) (lines : List LogicalLine) (read : List ℕ) (l : LogicalLine) (same : l.text ≡ encode_utf8_all read) (first : AreFirstLines text place line lines) (all : IsLexedWhole text (lines ++ l ∷ [])) where
-  last_spells : spelled all.pieces ≡ spelled first.pieces ++ read
-  last_spells = spells_more first.pieces all.pieces lines l read first.cut all.cut same
-
-  last_rest : first.rest ≡ read
-  last_rest =
-      let characters = (one_decoding first.characters all.characters first.tail [] first.decodes.are all.decodes.are first.decodes.bad all.decodes.bad (first.decodes.spell ∙ sym all.decodes.spell)).0 in
-      append_cancel_left (spelled first.pieces) first.rest read (first.spell ∙ characters ∙ sym all.reading.reads.spell ∙ last_spells)
-
-  pub last_released : AreFirstLines text (place + byte_len read) (line + line_ends read) (lines ++ l ∷ [])
-  last_released =
-      let sum = base_lines first.pieces read [] (subst (AreReadBefore first.pieces) (last_rest ∙ sym (append-nil read)) first.fit) in
-      record {
-        characters = all.characters;
-        tail = [];
-        pieces = all.pieces;
-        rest = [];
-        decodes = all.decodes;
-        spell = append-nil (spelled all.pieces) ∙ all.reading.reads.spell;
-        fit = all.reading.reads.fit;
-        balanced = all.reading.balanced;
-        shallow = all.reading.shallow;
-        ended = inr refl;
-        here = ap (λ (m : ℕ). m + byte_len read) first.here ∙ sym (byte_len-append (spelled first.pieces) read) ∙ ap byte_len (sym last_spells);
-        number = omega (arith, first.number, sum, ap line_ends last_spells);
-        cut = all.cut;
-      }
+  -- and where they are all its lines
+  last_released : IsLexedWhole text (lines ++ l ∷ []) → AreFirstLines text (place + byte_len read) (line + line_ends read) (lines ++ l ∷ [])
+  last_released all = reached (record {
+    characters = all.characters;
+    tail = [];
+    pieces = all.pieces;
+    rest = [];
+    decodes = all.decodes;
+    spell = append-nil (spelled all.pieces) ∙ all.reading.reads.spell;
+    fit = all.reading.reads.fit;
+    balanced = all.reading.balanced;
+    shallow = all.reading.shallow;
+    ended = inr refl;
+    here = refl;
+    number = refl;
+    cut = all.cut;
+  })
 
 -- a line is ready where a caller sees one
 pub ready_from : (f : Feed) → IsSoundFeed f → IsSome (ready_of f f.ready) → (n : ℕ) × (f.ready ≡ Some n) × IsReady f n
@@ -114,16 +102,10 @@ module _ (old new : Feed) (n : ℕ) (r : HoldsLine old n) (go : LetsGo old new) 
       → IsScanning (scanning_of new) text (lines ++ unit ∷ []) × IsSettled (take (fed_of (scanning_of new)) text) (lines ++ unit ∷ [])
   scans_on text lines scanning =
       let goes : GoesOnWith text old.state.place (encode_utf8_all r.read ++ r.rest) = subst (GoesOnWith text old.state.place) (sym r.spell) scanning.held in
-      let some : 0 < length (encode_utf8_all r.read ++ r.rest) = omega (arith, r.some, length-append (encode_utf8_all r.read) r.rest) in
-      let k = is_known text old.state.place old.state.line lines r.read r.rest scanning.first r.scalars goes some in
-      let settled_old : IsSettled (take (old.state.place + length old.held.items) text) (lines ++ unit ∷ []) =
-      scanning.settled (omega (arith, some, ap length r.spell)) in
-      let settled_known : IsSettled (take (old.state.place + length (encode_utf8_all r.read ++ r.rest)) text) (lines ++ unit ∷ []) =
-      subst (λ l. IsSettled (take (old.state.place + length l) text) (lines ++ unit ∷ [])) (sym r.spell) settled_old in
+      let settled_old : IsSettled (take (old.state.place + length old.held.items) text) (lines ++ unit ∷ []) = scanning.settled (omega (arith, size, r.some)) in
       let settled_new : IsSettled (take (fed_of (scanning_of new)) text) (lines ++ unit ∷ []) = subst
       (λ (m : ℕ). IsSettled (take m text) (lines ++ unit ∷ [])) (sym fed_is) settled_old in
-      let first : AreFirstLines text (old.state.place + byte_len r.read) (old.state.line + line_ends r.read) (lines ++ unit ∷ []) =
-      released text old.state.place old.state.line lines r.read r.rest k unit text_is settled_known in
+      let first = released scanning.first r.read unit text_is (old.state.place + length old.held.items) settled_old in
       let held = goes_at text place_is rest_is (goes_after text old.state.place (encode_utf8_all r.read) r.rest goes) in (
         record {
           first = first_here text (lines ++ unit ∷ []) first;
@@ -143,8 +125,7 @@ module _ (old new : Feed) (n : ℕ) (r : HoldsLine old n) (go : LetsGo old new) 
   ends_on text lines ended =
       let all : IsLexedWhole text (lines ++ unit ∷ []) = ended.lexed in
       record {
-        first = first_here text (lines ++ unit ∷ []) (last_released text old.state.place old.state.line lines r.read unit text_is
-            ended.first all);
+        first = first_here text (lines ++ unit ∷ []) (last_released ended.first r.read unit text_is all);
         lexed = subst (λ x. IsLexed text ((lines ++ unit ∷ []) ++ ready_lines x) None) (sym none_ready)
             (subst (λ l. IsLexed text l None) (sym (append-nil (lines ++ unit ∷ []))) all);
         held = go.held ∙ ap (drop old.state.scan.stop) ended.held ∙ drop-drop old.state.scan.stop old.state.place text ∙ ap (λ (m : ℕ). drop m text) (sym go.place);

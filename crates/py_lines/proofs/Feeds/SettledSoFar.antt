@@ -1,16 +1,18 @@
 -- What the known bytes settle: the lines given, where the machine has found no line end after them, or one line more.
-use Rattle.std.proofs.Common.{◌≡◌, ℕ, ◌<◌, ◌≤◌, ◌⊎◌, Bool, false, Some, List, [], ◌∷◌, ◌++◌, length, refl, sym, ap, ◌∙◌, subst, ⊎_elim, inl, inr, append_assoc, append-nil, arith, length-append}
+use Rattle.std.proofs.Common.{◌≡◌, ℕ, ◌<◌, ◌≤◌, ◌⊎◌, false, Some, List, [], ◌∷◌, ◌++◌, length, refl, sym, ap, ◌∙◌, subst, ⊎_elim, inl, inr, append-nil, arith, length-append}
 use Rattle.std.specs.Prelude.{encode_utf8_all}
 use Rattle.std.specs.Str.{StartsWithNoChar}
 use Rattle.std.proofs.lemmas.Bool.{cases_lt, and_from, false_from_ne_true}
+use Rattle.std.proofs.lemmas.List.{nil_from_length}
 use Rattle.std.proofs.lemmas.Str.{encodes-append, encodes_same, encode_ascii}
 use Rattle.py_lines.specs.Character.{is_line_feed, is_return}
 use Rattle.py_lines.specs.Piece.{line_end, Piece, ends, spelled}
 use Rattle.py_lines.specs.Balance.{depth_through}
-use Rattle.py_lines.specs.Fields.{AreReadBefore, IsShallow}
+use Rattle.py_lines.specs.Fields.{AreReadBefore}
 use Rattle.py_lines.specs.Reading.{Decodes, IsBalancedReading, EndsLine}
+use Rattle.py_lines.specs.ScannerState.{EndsExactly}
 use Rattle.py_lines.specs.Settled.{EndsForGood, IsSettled}
-use Rattle.py_lines.specs.LogicalLine.{LogicalLine, line_of}
+use Rattle.py_lines.specs.LogicalLine.{LogicalLine, byte_len, line_of}
 use Rattle.py_lines.specs.Private.Machine.{Scanned, Bracket, brackets_of}
 use Rattle.py_lines.specs.Private.ScanMachine.{IsScanSound}
 use Rattle.py_lines.specs.Private.Scan.{EndsNoLine, line_start}
@@ -18,23 +20,20 @@ use Rattle.py_lines.specs.Private.LineState.{first_mode}
 use Rattle.py_lines.specs.declared.mode.Mode.{Mode}
 use Rattle.py_lines.specs.declared.mode.Mode.TheVariants as modes
 use Rattle.std.proofs.Math.Utf8.{low_scalar}
-use Rattle.py_lines.specs.Balance as brackets
 use Rattle.py_lines.proofs.Text.CharacterTests.{return_is, feed_is}
 use Rattle.py_lines.proofs.Text.Continued.{goes_on}
 use Rattle.py_lines.proofs.Text.Utf8Prefixes.{all_scalars-append, nothing_bad}
 use Rattle.py_lines.proofs.Text.Utf8Shapes.{no_char}
-use Rattle.py_lines.proofs.Pieces.PieceLists.{spelled-append, AreReadBefore-append, AreReadBefore-second}
-use Rattle.py_lines.proofs.Pieces.OpenBrackets.{balanced_depth, depth_through-append}
-use Rattle.py_lines.proofs.Pieces.ShallowPieces.{IsShallow-append, fits_reading}
-use Rattle.py_lines.proofs.LogicalLines.NextLine.{lines_of-push, texts, texts-lines}
-use Rattle.py_lines.proofs.Lexings.LinePrefix.{read-alone, EndsNoneYet, settled_at, settled_line}
-use Rattle.py_lines.proofs.Lexings.SettledLines.{ends-line}
+use Rattle.py_lines.proofs.LogicalLines.NextLine.{texts, texts-lines}
+use Rattle.py_lines.proofs.Lexings.LinePrefix.{EndsNoneYet, settled_at, settled_line}
+use Rattle.py_lines.proofs.Lexings.LineEnds.{ended_reading}
 use Rattle.py_lines.proofs.Machine.PieceSteps.{scanned, pieces_at}
 use Rattle.py_lines.proofs.ScanMachine.Advance.{GoesTo}
 use Rattle.py_lines.proofs.LineScan.NextCharacter.{closed_one_line}
 use Rattle.py_lines.proofs.LineScan.LineSteps.{sound_steps}
-use Rattle.py_lines.proofs.LineScan.TextSteps.{begun_sound, follows_base}
-use Rattle.py_lines.proofs.Readers.LineAnswers.{IsReadLine}
+use Rattle.py_lines.proofs.LineScan.TextSteps.{begun_sound}
+use Rattle.py_lines.proofs.Readers.LineAnswers.{IsReadLine, balanced_after, ends_after, fits_after, shallow_after, spelled_after}
+use Rattle.py_lines.proofs.Feeds.LastBytes.{ends-later}
 use Rattle.py_lines.proofs.Feeds.Known as of
 use Rattle.py_lines.proofs.Feeds.Known.{IsKnown, both_none}
 
@@ -76,11 +75,6 @@ wide_alone b wide = no_char (b ∷ []) (λ g. let t = g.second wide in omega ari
 no_feed : (c : ℕ) → (c ≡ 10 → ⊥) → is_line_feed c ≡ false
 no_feed c h = false_from_ne_true _ (λ feeds. h (feed_is c feeds))
 
--- bytes after a line that its line end has closed: none, or one that follows a CR and is no LF
-pub data Follow (u : List Piece) (rest : List ℕ) : Type 0 where
-  by_feed : rest ≡ [] → ends is_return (spelled u) ≡ false → Follow u rest
-  by_byte : (b : ℕ) → rest ≡ b ∷ [] → (b ≡ 10 → ⊥) → Follow u rest
-
 -- a line after the lines given, which may stand before what follows
 pub record IsNextLine (place : ℕ) (read more : List ℕ) (u : List Piece) : Type 0 where
   pub body : List Piece
@@ -92,48 +86,27 @@ pub record IsNextLine (place : ℕ) (read more : List ℕ) (u : List Piece) : Ty
   pub line : IsReadLine (line_start (first_mode place)) read u
 
 module _ (text : List ℕ) (place line : ℕ) (lines : List LogicalLine) (read rest : List ℕ) (k : IsKnown text place line lines read rest) (u : List Piece) (next : IsNextLine place read k.more u) where
-  all_fit : AreReadBefore (k.base ++ u) k.more
-  all_fit = AreReadBefore-append k.base u k.more (subst (λ t. AreReadBefore k.base (t ++ k.more)) (sym next.line.spell) k.fit) next.fit (follows_base place k.base u read k.more next.line.to (of.stands text place line lines read rest k) next.line.spell next.fit next.line.steps)
-
   all_spelled : spelled (k.base ++ u) ≡ spelled k.base ++ read
-  all_spelled = spelled-append k.base u ∙ ap (λ t. spelled k.base ++ t) next.line.spell
-
-  split : k.base ++ u ≡ (k.base ++ next.body) ++ next.last ∷ []
-  split = ap (λ l. k.base ++ l) next.is ∙ sym (append_assoc k.base next.body (next.last ∷ []))
+  all_spelled = spelled_after k next.line next.fit
 
   ends_line : EndsLine (k.base ++ u)
-  ends_line = inr (
-    k.base ++ next.body,
-    next.last,
-    split,
-    next.class,
-    depth_through-append 0 k.base next.body ∙ ap (λ (d : ℕ). depth_through d next.body) (balanced_depth k.base k.balanced 0) ∙ next.level,
-  )
+  ends_line = ends_after k next.line next.fit next.body next.last next.is next.class next.level
 
   all_reading : IsBalancedReading (k.base ++ u) (spelled (k.base ++ u))
-  all_reading =
-      let balanced = fits_reading u next.line.stacked next.line.strings in
-      let level : depth_through 0 k.base ≡ 0 = balanced_depth k.base k.balanced 0 in
-      record {
-        reads = record { spell = refl; fit = subst (λ l. AreReadBefore l []) (sym split) (read-alone (k.base ++ next.body) next.last k.more next.class (subst (λ l. AreReadBefore l k.more) split all_fit)) };
-        balanced = brackets.both (k.base ++ u) k.base u refl k.balanced balanced.0;
-        shallow = IsShallow-append 0 k.base u k.shallow (subst (λ (d : ℕ). IsShallow d u) (sym level) balanced.1);
-      }
+  all_reading = ended_reading (k.base ++ u) k.more (fits_after k next.line next.fit) (balanced_after k next.line next.fit) (shallow_after k next.line next.fit) ends_line
 
-  last_ends : (p : ℕ → Bool) → ends p (spelled (k.base ++ u)) ≡ ends p (spelled u)
-  last_ends p =
-      let holds = (AreReadBefore-second next.body (next.last ∷ []) k.more (subst (λ l. AreReadBefore l k.more) next.is next.fit)).0 in
-      ap (λ (l : List Piece). ends p (spelled l)) split ∙ ends-line p (k.base ++ next.body) next.last next.class holds ∙ sym (ends-line p next.body next.last next.class holds) ∙ ap (λ (l : List Piece). ends p (spelled l)) (sym next.is)
+  last_ends : ends is_return (spelled (k.base ++ u)) ≡ ends is_return read
+  last_ends = ap (ends is_return) all_spelled ∙ ends-later is_return (spelled k.base) read (λ none. omega (arith, next.line.some, ap byte_len none))
 
   by_rest : (characters tail left : List ℕ) → Decodes (of.bytes text place line lines read rest k) characters tail → spelled (k.base ++ u) ++ left ≡ characters → EndsForGood (k.base ++ u) (left ++ tail) → (left ≡ []) ⊎ ((c : ℕ) × (left ≡ c ∷ []) × (is_line_feed c ≡ false) × (tail ≡ [])) → IsSettled (of.bytes text place line lines read rest k) (lines ++ line_of place line u ∷ [])
-  by_rest characters tail left decodes spell good near = record { characters = characters; tail = tail; pieces = k.base ++ u; decodes = decodes; prefix = settled_line characters tail (k.base ++ u) left spell all_reading good near; cut = of.lines_more text place line lines read rest k u k.more next.line.whole all_fit }
+  by_rest characters tail left decodes spell good near = record { characters = characters; tail = tail; pieces = k.base ++ u; decodes = decodes; prefix = settled_line characters tail (k.base ++ u) left spell all_reading good near; cut = of.lines_more text place line lines read rest k u k.more next.line.whole (fits_after k next.line next.fit) }
 
   -- one line more is settled
-  pub settled_ready : Follow u rest → IsSettled (of.bytes text place line lines read rest k) (lines ++ line_of place line u ∷ [])
-  settled_ready (Follow.by_feed nothing no_cr) =
+  pub settled_ready : EndsExactly read rest → IsSettled (of.bytes text place line lines read rest k) (lines ++ line_of place line u ∷ [])
+  settled_ready (inl (no_cr, nothing)) =
       by_rest (spelled k.base ++ read) [] [] (subst (λ t. Decodes (of.bytes text place line lines read rest k) (spelled k.base ++ read) t) nothing (of.decodes text place line lines read rest k (subst StartsWithNoChar (sym nothing) nothing_bad)))
-      (append-nil (spelled (k.base ++ u)) ∙ all_spelled) (ends_line, λ h. last_ends is_return ∙ no_cr) (inl refl)
-  settled_ready (Follow.by_byte b is other) = ⊎_elim narrow wide (cases_lt b 128)
+      (append-nil (spelled (k.base ++ u)) ∙ all_spelled) (ends_line, λ h. last_ends ∙ no_cr) (inl refl)
+  settled_ready (inr (returned, (b, is, other))) = ⊎_elim narrow wide (cases_lt b 128)
     where
       wide : 128 ≤ b → IsSettled (of.bytes text place line lines read rest k) (lines ++ line_of place line u ∷ [])
       wide high = by_rest (spelled k.base ++ read) rest [] (of.decodes text place line lines read rest k (subst StartsWithNoChar (sym is) (wide_alone b high)))
@@ -149,16 +122,17 @@ module _ (text : List ℕ) (place line : ℕ) (lines : List LogicalLine) (read r
           (inr (b, refl, no_feed b other, refl))
 
   -- a line that has ended for good in the known bytes is settled: the lines given are then not all that is
-  pub ended_before : IsSettled (of.bytes text place line lines read rest k) lines → (rest ≡ [] → ends is_return (spelled u) ≡ false) → 0 < length read → ⊥
-  ended_before s good some =
+  pub ended_before : IsSettled (of.bytes text place line lines read rest k) lines → (rest ≡ [] → ends is_return read ≡ false) → ⊥
+  ended_before s good =
       let on = goes_on (spelled k.base ++ read) rest s.characters s.tail k.scalars s.decodes.are s.decodes.bad (sym k.known ∙ sym s.decodes.spell) in
       let spell : spelled (k.base ++ u) ++ on.rest ≡ s.characters = ap (λ t. t ++ on.rest) all_spelled ∙ sym on.split in
       let ended : EndsForGood (k.base ++ u) (on.rest ++ s.tail) = (
         ends_line,
         λ none.
             let parts = both_none on.rest s.tail none in
-            last_ends is_return ∙ good (sym on.left ∙ ap (λ t. encode_utf8_all t ++ s.tail) parts.0 ∙ parts.1),
+            last_ends ∙ good (sym on.left ∙ ap (λ t. encode_utf8_all t ++ s.tail) parts.0 ∙ parts.1),
       ) in
       let bound = s.prefix.longest (k.base ++ u) on.rest spell all_reading ended in
       let same : spelled s.pieces ≡ spelled k.base = encodes_same (spelled s.pieces) (spelled k.base) (sym (texts-lines s.pieces) ∙ ap texts (sym s.cut ∙ k.cut) ∙ texts-lines k.base) in
-      omega (arith, bound, ap length same, ap length all_spelled, length-append (spelled k.base) read, some)
+      let none : read ≡ [] = nil_from_length read (omega (arith, bound, ap length same, ap length all_spelled, length-append (spelled k.base) read)) in
+      omega (arith, next.line.some, ap byte_len none)

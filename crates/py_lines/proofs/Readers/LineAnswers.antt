@@ -8,8 +8,8 @@ use Rattle.std.proofs.lemmas.Str.{length-le-encodes, encodes-append, IsUtf8-drop
 use Rattle.std.proofs.Math.Seq.{take-append_seam}
 use Rattle.py_lines.specs.Piece.{Class, line_end, Piece, spelled}
 use Rattle.py_lines.specs.Fields.{InClass, AreReadBefore, IsShallow}
-use Rattle.py_lines.specs.Reading.{Decodes}
-use Rattle.py_lines.specs.LogicalLine.{LogicalLine, cut, byte_len, line_ends, line_of, lines_of, end_len_of}
+use Rattle.py_lines.specs.Reading.{Decodes, EndsLine}
+use Rattle.py_lines.specs.LogicalLine.{LogicalLine, cut, byte_len, line_ends, line_of, end_len_of}
 use Rattle.py_lines.specs.Reader.{HasGiven, Continues, standing_at}
 use Rattle.py_lines.specs.Private.Machine.{Scanned, brackets_of}
 use Rattle.py_lines.specs.Private.ScanMachine.{scan_steps, StringsFit}
@@ -27,18 +27,18 @@ use Rattle.py_lines.specs.Private.Source.{line_of_source, scanned_text, GivesTok
 use Rattle.py_lines.specs.Token.{EachLiesIn}
 use Rattle.py_lines.proofs.Lexings.Existence.{first_at}
 use Rattle.py_lines.proofs.Text.Utf8Prefixes.{prefix_chars, all_scalars-parts, one_decoding}
-use Rattle.py_lines.proofs.Pieces.PieceLists.{spelled-append, AreReadBefore-append, AreReadBefore-second, MayFollow}
+use Rattle.py_lines.proofs.Pieces.PieceLists.{spelled-append, AreReadBefore-append, AreReadBefore-second}
 use Rattle.py_lines.proofs.Lexings.LinePrefix.{line_first}
 use Rattle.py_lines.proofs.LogicalLines.TokenPlaces.{tokens_lie}
 use Rattle.py_lines.proofs.LogicalLines.Cuts.{byte_len-append, one_line}
 use Rattle.py_lines.proofs.LineScan.LineCount.{line_ends-bytes}
-use Rattle.py_lines.proofs.LineScan.TextSteps.{base_of, follows_base}
+use Rattle.py_lines.proofs.LineScan.TextSteps.{follows_base}
 use Rattle.py_lines.proofs.Lexings.FirstLines.{base_lines, ends_for_good, given_begin}
+use Rattle.py_lines.proofs.Feeds.Known as of
 use Rattle.py_lines.proofs.Feeds.Known.{IsKnown, is_known}
-use Rattle.py_lines.proofs.LogicalLines.NextLine.{lines_of-push}
 use Rattle.py_lines.proofs.Pieces.OpenBrackets.{balanced_depth, depth_through-append}
 use Rattle.py_lines.proofs.Pieces.ShallowPieces.{IsShallow-append, fits_reading}
-use Rattle.py_lines.specs.Balance.{depth_through}
+use Rattle.py_lines.specs.Balance.{IsBalanced, depth_through}
 use Rattle.py_lines.specs.Balance as brackets
 use Rattle.py_lines.specs.Given.{AreFirstLines}
 use Rattle.py_lines.specs.Settled.{EndsForGood}
@@ -138,36 +138,48 @@ pub data IsEnded (u : List Piece) (nothing : Type 0) : Type 0 where
   by_line : (body : List Piece) (last : Piece) → u ≡ body ++ last ∷ [] → last.class ≡ line_end → depth_through 0 body ≡ 0 → IsEnded u nothing
   by_text : nothing → IsEnded u nothing
 
--- the lines given, and one more
-one_more : (text : List ℕ) (place line : ℕ) (lines : List LogicalLine) (read rest : List ℕ) (k : IsKnown text place line lines read rest) (m : Scanned) (u : List Piece) → IsReadLine m read u → AreReadBefore u k.more → MayFollow k.base u → IsEnded u (k.more ++ k.tail ≡ []) → AreFirstLines text (place + byte_len read) (line + line_ends read) (lines ++ line_of place line u ∷ [])
-one_more text place line lines read rest k m u own fit follows ended =
-    let all : AreReadBefore (k.base ++ u) k.more = AreReadBefore-append k.base u k.more (subst (λ t. AreReadBefore k.base (t ++ k.more)) (sym own.spell) k.fit) fit follows in
-    let spelled_all : spelled (k.base ++ u) ≡ spelled k.base ++ read = spelled-append k.base u ∙ ap (λ t. spelled k.base ++ t) own.spell in
-    let balanced = fits_reading u own.stacked own.strings in
-    record {
-      characters = spelled k.base ++ (read ++ k.more);
-      tail = k.tail;
-      pieces = k.base ++ u;
-      rest = k.more;
-      decodes = k.decodes;
-      spell = ap (λ t. t ++ k.more) spelled_all ∙ append_assoc (spelled k.base) read k.more;
-      fit = all;
-      balanced = brackets.both (k.base ++ u) k.base u refl k.balanced balanced.0;
-      shallow = IsShallow-append 0 k.base u k.shallow (subst (λ (d : ℕ). IsShallow d u) (sym level) balanced.1);
-      ended = ends ended;
-      here = omega (arith, k.here, byte_len-append (spelled k.base) read, ap byte_len spelled_all);
-      number = omega (arith, k.number, base_lines k.base read k.more k.fit, ap line_ends spelled_all);
-      cut = ap (λ l. l ++ line_of place line u ∷ []) k.cut ∙ ap (λ (n : ℕ). lines_of k.base ++ line_of n line u ∷ []) k.here ∙ ap (λ (n : ℕ). lines_of k.base ++ line_of (byte_len (spelled k.base)) n u ∷ []) k.number
-          ∙ sym (lines_of-push k.base u k.more k.ended own.whole all);
-    }
-  where
-    level : depth_through 0 k.base ≡ 0
-    level = balanced_depth k.base k.balanced 0
+-- a line that was read after the lines given
+module _ {text : List ℕ} {place line : ℕ} {lines : List LogicalLine} {read rest : List ℕ} (k : IsKnown text place line lines read rest) {u : List Piece} (own : IsReadLine (line_start (first_mode place)) read u) (fit : AreReadBefore u k.more) where
+  pub fits_after : AreReadBefore (k.base ++ u) k.more
+  fits_after = AreReadBefore-append k.base u k.more (subst (λ t. AreReadBefore k.base (t ++ k.more)) (sym own.spell) k.fit) fit (follows_base place k.base u read k.more own.to (of.stands text place line lines read rest k) own.spell fit own.steps)
 
-    ends : IsEnded u (k.more ++ k.tail ≡ []) → EndsForGood (k.base ++ u) (k.more ++ k.tail) ⊎ (k.more ++ k.tail ≡ [])
-    ends (IsEnded.by_line body last is class deep) =
-        ends_for_good (k.base ++ u) (k.more ++ k.tail) (inr (k.base ++ body, last, ap (λ l. k.base ++ l) is ∙ sym (append_assoc k.base body (last ∷ [])), class, depth_through-append 0 k.base body ∙ ap (λ (d : ℕ). depth_through d body) level ∙ deep))
-    ends (IsEnded.by_text none) = inr none
+  pub spelled_after : spelled (k.base ++ u) ≡ spelled k.base ++ read
+  spelled_after = spelled-append k.base u ∙ ap (λ t. spelled k.base ++ t) own.spell
+
+  level : depth_through 0 k.base ≡ 0
+  level = balanced_depth k.base k.balanced 0
+
+  pub balanced_after : IsBalanced (k.base ++ u)
+  balanced_after = brackets.both (k.base ++ u) k.base u refl k.balanced (fits_reading u own.stacked own.strings).0
+
+  pub shallow_after : IsShallow 0 (k.base ++ u)
+  shallow_after = IsShallow-append 0 k.base u k.shallow (subst (λ (d : ℕ). IsShallow d u) (sym level) (fits_reading u own.stacked own.strings).1)
+
+  pub ends_after : (body : List Piece) (last : Piece) → u ≡ body ++ last ∷ [] → last.class ≡ line_end → depth_through 0 body ≡ 0 → EndsLine (k.base ++ u)
+  ends_after body last is class deep =
+      inr (k.base ++ body, last, ap (λ l. k.base ++ l) is ∙ sym (append_assoc k.base body (last ∷ [])), class, depth_through-append 0 k.base body ∙ ap (λ (d : ℕ). depth_through d body) level ∙ deep)
+
+  -- the lines given, and one more
+  one_more : IsEnded u (k.more ++ k.tail ≡ []) → AreFirstLines text (place + byte_len read) (line + line_ends read) (lines ++ line_of place line u ∷ [])
+  one_more ended = record {
+    characters = spelled k.base ++ (read ++ k.more);
+    tail = k.tail;
+    pieces = k.base ++ u;
+    rest = k.more;
+    decodes = k.decodes;
+    spell = ap (λ t. t ++ k.more) spelled_after ∙ append_assoc (spelled k.base) read k.more;
+    fit = fits_after;
+    balanced = balanced_after;
+    shallow = shallow_after;
+    ended = ends ended;
+    here = omega (arith, k.here, byte_len-append (spelled k.base) read, ap byte_len spelled_after);
+    number = omega (arith, k.number, base_lines k.base read k.more k.fit, ap line_ends spelled_after);
+    cut = of.lines_more text place line lines read rest k u k.more own.whole fits_after;
+  }
+    where
+      ends : IsEnded u (k.more ++ k.tail ≡ []) → EndsForGood (k.base ++ u) (k.more ++ k.tail) ⊎ (k.more ++ k.tail ≡ [])
+      ends (IsEnded.by_line body last is class deep) = ends_for_good (k.base ++ u) (k.more ++ k.tail) (ends_after body last is class deep)
+      ends (IsEnded.by_text none) = inr none
 
 module _ (old : Source) (stop : Stop) (has : HasScanned old stop) where
   -- the bytes that begin no character, and what comes after the characters that were read
@@ -221,8 +233,7 @@ module _ (old : Source) (stop : Stop) (has : HasScanned old stop) where
       let k = known lines had in
       let rest = rest_is lines had in
       let own = follows k.more rest.0 in
-      let begin = follows_base old.state.place k.base u read k.more line.line.to (base_of old.state.place k.base (read ++ k.more) k.fit k.ended k.here) line.line.spell own.0 line.line.steps in
-      record { first = rw (text, here, reached) (one_more old.bytes.now old.state.place old.state.line lines read left k (line_start (first_mode old.state.place)) u line.line own.0 begin (subst (λ t. IsEnded u (k.more ++ t ≡ [])) (sym rest.1) own.1)); no_fault = no_fault } in
+      record { first = rw (text, here, reached) (one_more k line.line own.0 (subst (λ t. IsEnded u (k.more ++ t ≡ [])) (sym rest.1) own.1)); no_fault = no_fault } in
       let goes_on : Continues (reader_of old) next (reader_of new) = record {
         given = given;
         begins = λ lines had. given_begin (reader_of new) (lines ++ next ∷ []) (given lines had);

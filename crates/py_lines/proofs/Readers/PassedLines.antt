@@ -38,7 +38,7 @@ use Rattle.py_lines.specs.Settled.{IsSettled}
 use Rattle.py_lines.specs.Given.{AreFirstLines}
 use Rattle.py_lines.specs.ScannerState.{EndsExactly, GoesOnWith}
 use Rattle.py_lines.proofs.Feeds.Known.{IsKnown, goes_with_first, is_known}
-use Rattle.py_lines.proofs.Feeds.SettledSoFar.{Follow, IsNextLine, settled_ready}
+use Rattle.py_lines.proofs.Feeds.SettledSoFar.{IsNextLine, settled_ready}
 use Rattle.py_lines.proofs.Feeds.Released.{released}
 use Rattle.py_lines.proofs.Lexings.FirstLines.{given_begin}
 
@@ -143,10 +143,6 @@ exactly_whole : (line more : List ℕ) → EndsExactly line more → EndsWhole l
 exactly_whole line more (inl (feed, none)) = inl feed
 exactly_whole line more (inr (is, (b, one, other))) = inr (b, [], one, other)
 
-follow_of : (u : List Piece) (line more : List ℕ) → spelled u ≡ line → EndsExactly line more → Follow u more
-follow_of u line more spell (inl (feed, none)) = Follow.by_feed none (ap (ends is_return) spell ∙ feed)
-follow_of u line more spell (inr (is, (b, one, other))) = Follow.by_byte b one other
-
 -- the bytes of a text up to a place, and so many more, settle these lines, and they are its first
 abbrev pub AreSettledAt : List ℕ → ℕ → ℕ → ℕ → List LogicalLine → Type 0
 AreSettledAt text place line known lines = AreFirstLines text place line lines × IsSettled (take (place + known) text) lines
@@ -174,13 +170,13 @@ module _ (text : List ℕ) (place line : ℕ) (given : List LogicalLine) (first 
   }
 
   settled : IsSettled (take (place + length (encode_utf8_all read ++ more)) text) (given ++ line_of place line pieces ∷ [])
-  settled = settled_ready text place line given read more known pieces next (follow_of pieces read more as_line.spell exact)
+  settled = settled_ready text place line given read more known pieces next exact
 
   pub line_settled : AreSettledAt text (place + byte_len read) (line + n) (length more) (given ++ line_of place line pieces ∷ [])
   line_settled =
       let sizes : place + length (encode_utf8_all read ++ more) ≡ place + byte_len read + length more = omega (arith, length-append (encode_utf8_all read) more) in (
         subst (λ (m : ℕ). AreFirstLines text (place + byte_len read) (line + m) (given ++ line_of place line pieces ∷ [])) whole.holds.count
-            (released text place line given read more known (line_of place line pieces) (ap encode_utf8_all as_line.spell) settled),
+            (released first read (line_of place line pieces) (ap encode_utf8_all as_line.spell) (place + length (encode_utf8_all read ++ more)) settled),
         subst (λ (m : ℕ). IsSettled (take m text) (given ++ line_of place line pieces ∷ [])) sizes settled,
       )
 
