@@ -147,14 +147,9 @@ meets_fault old new piece fault none not_ready (m, within, (text, none_ready, de
 pub runs_short : (old new : Feed) → old.state.fault ≡ None → old.ready ≡ None → IsUnchanged old new
     → ScannerRunsOut (scanning_of old) (scanning_of new)
 runs_short old new fault ready (same, none, opens) =
-    let place = same.place in
-    let line = same.line in
-    let held = same.held in
     let is_ready : ready_of new new.ready ≡ ready_of old old.ready = ap (ready_of new) none ∙ sym (ap (ready_of old) ready) in
-    let ended = same.ended in
-    let kept = same.fault in
     record {
-      same = λ i. record { place = place i; line = line i; held = held i; ready = is_ready i; ended = ended i; fault = kept i };
+      same = λ i. record { place = same.place i; line = same.line i; held = same.held i; ready = is_ready i; ended = same.ended i; fault = same.fault i };
       none_ready = ap (ready_of old) ready;
       no_fault = fault;
     }

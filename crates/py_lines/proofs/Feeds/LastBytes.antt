@@ -6,6 +6,7 @@ use Rattle.std.proofs.lemmas.Str.{length-le-encodes}
 use Rattle.py_lines.specs.Character.{is_return}
 use Rattle.py_lines.specs.Piece.{ends}
 use Rattle.py_lines.specs.ScannerState.{EndsExactly, IsOneOther}
+use Rattle.py_lines.specs.Private.Scan.{EndsWhole}
 use Rattle.py_lines.proofs.Text.CharacterTests.{return_is}
 use Rattle.py_lines.proofs.Text.Utf8Shapes.{one, two, three, four}
 use Rattle.py_lines.proofs.Lexings.LineEnds.{ends-append}
@@ -50,6 +51,9 @@ ends-later p first (c ∷ cs) some = ends-append p first c cs
 -- what comes after a line goes by its last character
 pub exact_as : (line other more : List ℕ) → ends is_return line ≡ ends is_return other → EndsExactly line more → EndsExactly other more
 exact_as line other more same exact = subst (λ (b : Bool). ((b ≡ false) × (more ≡ [])) ⊎ ((b ≡ true) × IsOneOther more)) same exact
+
+pub whole_as : (line other more : List ℕ) → ends is_return line ≡ ends is_return other → EndsWhole line more → EndsWhole other more
+whole_as line other more same whole = subst (λ (b : Bool). (b ≡ false) ⊎ ((c : ℕ) × (others : List ℕ) × (more ≡ c ∷ others) × (c ≡ 10 → ⊥))) same whole
 
 -- so it comes after its bytes
 pub exactly_encoded : (line more : List ℕ) → EndsExactly line more → EndsExactly (encode_utf8_all line) more

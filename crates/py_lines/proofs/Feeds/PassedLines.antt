@@ -22,12 +22,11 @@ use Rattle.py_lines.specs.Private.Scan.{EndsWhole}
 use Rattle.py_lines.specs.Private.Outline.{AreWholeLines, BeginWithLines}
 use Rattle.py_lines.proofs.SimpleLines.Tails.{return_returns}
 use Rattle.py_lines.proofs.SimpleLines.Lines.{lines_few}
-use Rattle.py_lines.proofs.Lexings.LineEnds.{ends-append}
 use Rattle.py_lines.proofs.LineScan.LineCount.{ends-last}
 use Rattle.py_lines.proofs.Text.CharacterTests.{return_is}
 use Rattle.py_lines.proofs.Readers.PassedLines.{AreSettledAt, line_settled, lines_at, lines_spell, shown, take_slice}
 use Rattle.py_lines.proofs.Feeds.Known.{goes_after, goes_with_first}
-use Rattle.py_lines.proofs.Feeds.LastBytes.{ends-encoded, exact_as}
+use Rattle.py_lines.proofs.Feeds.LastBytes.{ends-encoded, ends-later, exact_as, whole_as}
 use Rattle.py_lines.proofs.Feeds.Loops.{begun_open, begun_unchanged}
 use Rattle.py_lines.proofs.Feeds.FedScanner.{runs_short, sound_unchanged}
 
@@ -37,10 +36,9 @@ same_first line [] others more some whole = absurd (omega (arith, some))
 same_first line (x ∷ xs) others more some (inl feed) = inl feed
 same_first line (x ∷ xs) others more some (inr (b, rest, is, other)) = inr (x, xs ++ more, refl, λ feeds. other (ap first_or_zero (sym is) ∙ feeds))
 
--- what is known after the last of some lines is known after all of them
-last_exact : (read line later more : List ℕ) → read ≡ line ++ later → 0 < length later → EndsExactly read more → EndsExactly later more
-last_exact read line [] more is some exact = absurd (omega (arith, some))
-last_exact read line (c ∷ cs) more is some exact = exact_as read (c ∷ cs) more (ap (ends is_return) is ∙ ends-append is_return line c cs) exact
+-- the last of some lines ends as all of them do
+last_ends : (read line later : List ℕ) → read ≡ line ++ later → 0 < length later → ends is_return read ≡ ends is_return later
+last_ends read line later is some = ap (ends is_return) is ∙ ends-later is_return line later (λ none. omega (arith, some, ap length none))
 
 -- so lines, of which there is one at least
 lines_settled : (t : List ℕ) (texts : List (List ℕ)) (text : List ℕ) (place line : ℕ) (given : List LogicalLine) (read more : List ℕ) (n : ℕ) (after : List ℕ) (are : AreWholeLines (t ∷ texts) read n after) → AreFirstLines text place line given → GoesOnWith text place (encode_utf8_all read ++ more) → EndsExactly read more
@@ -61,13 +59,11 @@ lines_settled t (u ∷ texts) text place line given read more n after are first 
     let near : GoesOnWith text place (own_bytes ++ own.more) = goes_with_first text place (own_bytes ++ own.more) own.unseen (subst (GoesOnWith text place) (ap (λ b. own_bytes ++ b) own.spell ∙ sym (append_assoc own_bytes own.more own.unseen)) split) in
     let one = line_settled text place line given first t own.more are.own are.some near own.exact (later_bytes ++ after) are.whole in
     let here = line_of place line (are.whole.body ++ are.whole.last ∷ []) in
-    let others = lines_settled u texts text (place + byte_len t) (line + are.own) (given ++ here ∷ []) are.later more are.more after are.lines one.0 (goes_after text place own_bytes (later_bytes ++ more) split) (last_exact read t are.later more are.spell some exact) in
+    let others = lines_settled u texts text (place + byte_len t) (line + are.own) (given ++ here ∷ []) are.later more are.more after are.lines one.0 (goes_after text place own_bytes (later_bytes ++ more) split) (exact_as read are.later more (last_ends read t are.later are.spell some) exact) in
     let place_is : place + byte_len t + byte_len are.later ≡ place + byte_len read = omega (arith, ap length spell, length-append own_bytes later_bytes) in
     let line_is : line + are.own + are.more ≡ line + n = omega (arith, are.count) in
     let rest = lines_at (u ∷ texts) (place + byte_len t) (line + are.own) are.later are.more after are.lines in
-    subst (λ l. AreSettledAt text (place + byte_len read) (line + n) (length more) l) (append_assoc given (here ∷ []) rest)
-    (subst (λ (m : ℕ). AreSettledAt text m (line + n) (length more) ((given ++ here ∷ []) ++ rest)) place_is
-    (subst (λ (m : ℕ). AreSettledAt text (place + byte_len t + byte_len are.later) m (length more) ((given ++ here ∷ []) ++ rest)) line_is others))
+    rw (← append_assoc given (here ∷ []) rest, ← place_is, ← line_is) others
 
 all_settled : (texts : List (List ℕ)) (text : List ℕ) (place line : ℕ) (given : List LogicalLine) (read more : List ℕ) (n : ℕ) (after : List ℕ) (are : AreWholeLines texts read n after) → 0 < byte_len read → AreFirstLines text place line given → GoesOnWith text place (encode_utf8_all read ++ more) → EndsExactly read more
     → AreSettledAt text (place + byte_len read) (line + n) (length more) (given ++ lines_at texts place line read n after are)
@@ -86,13 +82,8 @@ lines_whole t [] read n after are =
     let all : t ≡ read = sym (are.spell ∙ ap (λ u. t ++ u) are.lines.0 ∙ append-nil t) in
     subst (λ u. EndsWhole u after) all (subst (λ u. EndsWhole t (encode_utf8_all u ++ after)) are.lines.0 are.whole.whole)
 lines_whole t (u ∷ texts) read n after are =
-    by are.later are.spell (omega (arith, ap length are.lines.spell, length-append u are.lines.later, are.lines.some)) (lines_whole u texts are.later are.more after are.lines)
-  where
-    by : (later : List ℕ) → read ≡ t ++ later → 0 < length later → EndsWhole later after → EndsWhole read after
-    by [] is some whole = absurd (omega (arith, some))
-    by (c ∷ cs) is some whole =
-        let same : ends is_return read ≡ ends is_return (c ∷ cs) = ap (ends is_return) is ∙ ends-append is_return t c cs in
-        ⊎_elim (λ feed. inl (same ∙ feed)) (λ one. inr one) whole
+    let some : 0 < length are.later = omega (arith, ap length are.lines.spell, length-append u are.lines.later, are.lines.some) in
+    whole_as are.later read after (sym (last_ends read t are.later are.spell some)) (lines_whole u texts are.later are.more after are.lines)
 
 bytes_whole : (bytes : List ℕ) (p : Passed) → 0 < p.len → BeginWithLines bytes p → EndsWhole (take p.len bytes) (drop p.len bytes)
 bytes_whole bytes p some found = by found.texts found.whole
@@ -100,8 +91,7 @@ bytes_whole bytes p some found = by found.texts found.whole
     by : (texts : List (List ℕ)) → AreWholeLines texts found.read p.line_ends (drop p.len bytes) → EndsWhole (take p.len bytes) (drop p.len bytes)
     by [] are = absurd (omega (arith, some, ap length found.spell, ap byte_len are.0, length-take-le p.len bytes found.within))
     by (t ∷ texts) are =
-        let same : ends is_return (take p.len bytes) ≡ ends is_return found.read = ap (ends is_return) (sym found.spell) ∙ ends-encoded found.read in
-        ⊎_elim (λ feed. inl (same ∙ feed)) (λ one. inr one) (lines_whole t texts found.read p.line_ends (drop p.len bytes) are)
+        whole_as found.read (take p.len bytes) (drop p.len bytes) (sym (ends-encoded found.read) ∙ ap (ends is_return) found.spell) (lines_whole t texts found.read p.line_ends (drop p.len bytes) are)
 
 -- after lines that CR alone doesn't end nothing is held
 pub nothing_after : (bytes : List ℕ) (p : Passed) → 0 < p.len → BeginWithLines bytes p → (slice_index bytes (p.len - 1) ≡ 13 → ⊥) → HoldsAfterLines bytes p.len []

@@ -111,21 +111,7 @@ module _ (f : Feed) (end_len : ℕ) (h : HoldsLine f end_len) where
     line_read : line_of_feed with_read end_len ≡ line_held f end_len h
     line_read =
         let are = tokens h.pieces h.text in
-        let text = sym h.text.spell in
-        let number = h.number in
-        let kind = are.kind in
-        let list = are.tokens in
-        let indent = are.indent in
-        let ends = h.ends in
-        λ i. record {
-          kind = kind i;
-          text = text i;
-          tokens = list i;
-          offset = f.state.place;
-          line = number i;
-          indent = indent i;
-          end_len = ends i;
-        }
+        λ i. record { kind = are.kind i; text = sym h.text.spell i; tokens = are.tokens i; offset = f.state.place; line = h.number i; indent = are.indent i; end_len = h.ends i }
 
     pub read_ready : f.ready ≡ Some end_len → HasRoom f 0 → (scanning_of with_read ≡ with_line (record f { ended = ended }) (Some (line_held f end_len h))) × IsSoundFeed with_read
     read_ready ready room = (
