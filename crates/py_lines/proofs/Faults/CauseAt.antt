@@ -13,7 +13,7 @@ use Rattle.py_lines.specs.declared.mode.Mode.TheVariants as modes
 use Rattle.py_lines.specs.Private.Machine.{start_of}
 use Rattle.py_lines.specs.Private.FieldMachine.{text_place, before, between, after_brace, FieldMode, plain, body, FieldMove, grows, closes, breaks, begins_code, opens_field, ends_field, refused, Level, FieldScanned, field_state, field_text_start, field_pieces, field_move, field_moved, field_started, field_step, opened_level, field_steps_from, levels_open, frames, has_room_at, have_room, body_move, in_open_short, after_open_backslash, InSpecificationOf}
 use Rattle.py_lines.specs.Private.FieldFaults.{is_waiting, quotes_specification, cause_in, cause_place, here, piece_start}
-use Rattle.py_lines.proofs.Text.CharacterTests.{each_of, break-not-opening, break-not-closing, break-not-quote, opening-not-quote}
+use Rattle.py_lines.proofs.Text.CharacterTests.{each_of, opening-not-quote, break-not-others}
 use Rattle.py_lines.proofs.Machine.Starts.{start-feed, start-return}
 use Rattle.py_lines.proofs.FieldMachine.ListBrackets.{none_some}
 use Rattle.py_lines.proofs.FieldMachine.WhatIsOpen.{comes_to, backslash_comes, specification_comes}
@@ -161,16 +161,16 @@ module _ (s : FieldScanned) (read : List ℕ) (c : ℕ) (after : List ℕ) (step
   short_here shallow break = by (why shallow)
     where
       no_opening : is_opening c ≡ false
-      no_opening = break-not-opening c break
+      no_opening = (break-not-others c break).0
 
       by : Why s c → IsShortHere s.mode
       by (Why.begins outer ps os step (inl none) apart) = absurd (break_starts outer ps os c break (sym step ∙ none))
       by (Why.begins outer ps os step (inr (opens, full)) apart) = absurd (both_ways _ no_opening opens)
       by (Why.deep_field h is full) = absurd (both_ways _ no_opening (ap is_opening (reason_is (opens_field h) is).0))
-      by (Why.closes_field brace at) = absurd (both_ways _ (break-not-closing c break) (ap is_closing brace))
+      by (Why.closes_field brace at) = absurd (both_ways _ (break-not-others c break).1 (ap is_closing brace))
       by (Why.refuses (inl (at, short))) = short
       by (Why.refuses (inr (inl (slash, other)))) = absurd (both_ways _ other break)
-      by (Why.refuses (inr (inr (same, quotes)))) = absurd (both_ways _ (break-not-quote c break) quotes)
+      by (Why.refuses (inr (inr (same, quotes)))) = absurd (both_ways _ (break-not-others c break).2 quotes)
 
   -- and in a short string nothing else is
   pub only_breaks : in_open_short s.mode ≡ true → is_break c ≡ true

@@ -6,7 +6,7 @@ use Rattle.py_lines.specs.PieceGrammar.{is_prefix}
 use Rattle.py_lines.specs.declared.mode.Spelling.{Spelling}
 use Rattle.py_lines.specs.declared.mode.Spelling.TheVariants as spellings
 use Rattle.py_lines.specs.Private.Machine.{first_spelling, spelling_with, is_prefix_spelling, spelling_on}
-use Rattle.py_lines.proofs.Text.CharacterTests.{r-not-digit, b-not-digit, f-not-digit, b-not-r, f-not-r, t-not-u, u-not-digit, excluded}
+use Rattle.py_lines.proofs.Text.CharacterTests.{digit-not-letter, r-not-others, t-not-u}
 
 pub name_stays : (cs : List ℕ) → spelling_on spellings.Name cs ≡ spellings.Name
 unfolding spelling_with
@@ -38,7 +38,7 @@ unfolding first_spelling
 one_letter a =
     let P : Spelling → Type 0 = λ s. is_r a || is_b a || is_f a || is_u a ≡ is_prefix_spelling s in
     cond_both (is_digit a) _ _ P
-    (λ digit. rw (excluded is_digit is_r a (r-not-digit a) digit, excluded is_digit is_b a (b-not-digit a) digit, excluded is_digit is_f a (f-not-digit a) digit, excluded is_digit is_u a (u-not-digit a) digit))
+    (λ digit. let none = digit-not-letter a digit in rw (none.0, none.1, none.2, none.4))
     (λ n. cond_both (is_r a) _ _ P (λ r. rw r)
     (λ not_r. cond_both (is_b a) _ _ P (λ b. rw (not_r, b))
     (λ not_b. cond_both (is_f a) _ _ P (λ f. rw (not_r, not_b, f))
@@ -52,9 +52,9 @@ two_letters a b =
     let Q : Spelling → Type 0 = λ s. is_b b || is_f b || false ≡ is_prefix_spelling s in
     let R : Spelling → Type 0 = λ s. is_r b ≡ is_prefix_spelling s in
     cond_both (is_digit a) _ _ P
-    (λ digit. rw (excluded is_digit is_r a (r-not-digit a) digit, excluded is_digit is_b a (b-not-digit a) digit, excluded is_digit is_f a (f-not-digit a) digit))
+    (λ digit. let none = digit-not-letter a digit in rw (none.0, none.1, none.2))
     (λ n. cond_both (is_r a) _ _ P
-    (λ r. rw (r, excluded is_r is_b a (b-not-r a) r, excluded is_r is_f a (f-not-r a) r) (cond_both (is_b b) _ _ Q (λ h. rw h) (λ h. cond_both (is_f b) _ _ Q (λ k. rw (h, k)) (λ k. cond_both (is_t b) spellings.Tr spellings.Name Q (λ l. rw (h, k)) (λ l. rw (h, k))))))
+    (λ r. rw (r, (r-not-others a r).0, (r-not-others a r).1) (cond_both (is_b b) _ _ Q (λ h. rw h) (λ h. cond_both (is_f b) _ _ Q (λ k. rw (h, k)) (λ k. cond_both (is_t b) spellings.Tr spellings.Name Q (λ l. rw (h, k)) (λ l. rw (h, k))))))
     (λ not_r. cond_both (is_b a) _ _ P
     (λ both. rw (not_r, both) (cond_both (is_r b) spellings.Prefix spellings.Name R (λ h. rw h) (λ h. rw h)))
     (λ not_b. cond_both (is_f a) _ _ P

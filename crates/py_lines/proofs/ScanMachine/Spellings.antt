@@ -9,7 +9,7 @@ use Rattle.py_lines.specs.declared.mode.Spelling.{Spelling}
 use Rattle.py_lines.specs.declared.mode.Spelling.TheVariants as spellings
 use Rattle.py_lines.specs.Private.Machine.{first_spelling, spelling_with, is_prefix_spelling, spelling_on}
 use Rattle.py_lines.specs.Private.ScanMachine.{is_field_spelling, is_raw_spelling, begins_string}
-use Rattle.py_lines.proofs.Text.CharacterTests.{r-not-digit, f-not-digit, t-not-digit, f-not-r, t-not-r, f-not-b, t-not-b, excluded}
+use Rattle.py_lines.proofs.Text.CharacterTests.{digit-not-letter, r-not-others, b-not-others}
 use Rattle.py_lines.proofs.Machine.Spellings.{name_stays, number_stays, third}
 
 -- what a spelling says is what the word is
@@ -24,9 +24,9 @@ unfolding first_spelling
 one_letter a =
     let P : Spelling → Type 0 = Tells (a ∷ []) in
     let none : is_f a ≡ false → is_t a ≡ false → is_field_prefix (a ∷ []) ≡ false = λ f t. rw (f, t) in
-    cond_both (is_digit a) _ _ P (λ digit. none_told (a ∷ []) spellings.Number (none (excluded is_digit is_f a (f-not-digit a) digit) (excluded is_digit is_t a (t-not-digit a) digit)) refl)
-    (λ n. cond_both (is_r a) _ _ P (λ r. none_told (a ∷ []) spellings.R (none (excluded is_r is_f a (f-not-r a) r) (excluded is_r is_t a (t-not-r a) r)) refl)
-    (λ not_r. cond_both (is_b a) _ _ P (λ b. none_told (a ∷ []) spellings.B (none (excluded is_b is_f a (f-not-b a) b) (excluded is_b is_t a (t-not-b a) b)) refl)
+    cond_both (is_digit a) _ _ P (λ digit. none_told (a ∷ []) spellings.Number (none (digit-not-letter a digit).2 (digit-not-letter a digit).3) refl)
+    (λ n. cond_both (is_r a) _ _ P (λ r. none_told (a ∷ []) spellings.R (none (r-not-others a r).1 (r-not-others a r).2) refl)
+    (λ not_r. cond_both (is_b a) _ _ P (λ b. none_told (a ∷ []) spellings.B (none (b-not-others a b).0 (b-not-others a b).1) refl)
     (λ not_b. cond_both (is_f a) _ _ P (λ f. (rw f, λ h. rw not_r))
     (λ not_f. cond_both (is_t a) _ _ P (λ t. (rw (not_f, t), λ h. rw not_r))
     (λ not_t. cond_both (is_u a) spellings.Prefix spellings.Name P (λ u. none_told (a ∷ []) spellings.Prefix (none not_f not_t) refl) (λ not_u. none_told (a ∷ []) spellings.Name (none not_f not_t) refl))))))
@@ -37,7 +37,7 @@ unfolding spelling_with
 after_r a b r not_f not_t =
     let P : Spelling → Type 0 = Tells (a ∷ b ∷ []) in
     let is : is_field_prefix (a ∷ b ∷ []) ≡ is_f b || is_t b || false = rw (r, not_f, not_t) in
-    cond_both (is_b b) _ _ P (λ h. none_told (a ∷ b ∷ []) spellings.Prefix (is ∙ rw (excluded is_b is_f b (f-not-b b) h, excluded is_b is_t b (t-not-b b) h)) refl)
+    cond_both (is_b b) _ _ P (λ h. none_told (a ∷ b ∷ []) spellings.Prefix (is ∙ rw ((b-not-others b h).0, (b-not-others b h).1)) refl)
     (λ not_b. cond_both (is_f b) _ _ P (λ f. (is ∙ rw f, λ h. rw r))
     (λ other_f. cond_both (is_t b) spellings.Tr spellings.Name P (λ t. (is ∙ rw (other_f, t), λ h. rw r)) (λ other_t. none_told (a ∷ b ∷ []) spellings.Name (is ∙ rw (other_f, other_t)) refl)))
 
@@ -52,11 +52,11 @@ unfolding first_spelling spelling_with
 two_letters a b =
     let P : Spelling → Type 0 = λ s. Tells (a ∷ b ∷ []) (spelling_with s b) in
     let none : is_r a ≡ false → is_f a ≡ false → is_t a ≡ false → is_field_prefix (a ∷ b ∷ []) ≡ false = λ r f t. rw (r, f, t) in
-    cond_both (is_digit a) _ _ P (λ digit. none_told (a ∷ b ∷ []) spellings.Number (none (excluded is_digit is_r a (r-not-digit a) digit) (excluded is_digit is_f a (f-not-digit a) digit) (excluded is_digit is_t a (t-not-digit a) digit)) refl)
-    (λ n. cond_both (is_r a) _ _ P (λ r. after_r a b r (excluded is_r is_f a (f-not-r a) r) (excluded is_r is_t a (t-not-r a) r))
+    cond_both (is_digit a) _ _ P (λ digit. none_told (a ∷ b ∷ []) spellings.Number (none (digit-not-letter a digit).0 (digit-not-letter a digit).2 (digit-not-letter a digit).3) refl)
+    (λ n. cond_both (is_r a) _ _ P (λ r. after_r a b r (r-not-others a r).1 (r-not-others a r).2)
     (λ not_r. cond_both (is_b a) _ _ P
     (λ both.
-    let nothing = none not_r (excluded is_b is_f a (f-not-b a) both) (excluded is_b is_t a (t-not-b a) both) in
+    let nothing = none not_r (b-not-others a both).0 (b-not-others a both).1 in
     cond_both (is_r b) spellings.Prefix spellings.Name (Tells (a ∷ b ∷ [])) (λ h. none_told (a ∷ b ∷ []) spellings.Prefix nothing refl) (λ h. none_told (a ∷ b ∷ []) spellings.Name nothing refl))
     (λ not_b. cond_both (is_f a) _ _ P (λ f. after_field a b spellings.Fr not_r (rw f) refl refl)
     (λ not_f. cond_both (is_t a) _ _ P (λ t. after_field a b spellings.Tr not_r (rw (not_f, t)) refl refl)

@@ -53,49 +53,24 @@ pub mark_is : (c : ℕ) → is_mark c ≡ true → c ≡ 65279
 unfolding is_mark
 mark_is c h = the_one 65279 c h
 
-pub r-not-digit : (c : ℕ) → is_r c ≡ true → is_digit c ≡ false
-unfolding is_r is_digit
-r-not-digit c h = none_of is_digit (codes "rR") c refl h
+-- a digit is no letter of a prefix
+pub digit-not-letter : (c : ℕ) → is_digit c ≡ true → (is_r c ≡ false) × (is_b c ≡ false) × (is_f c ≡ false) × (is_t c ≡ false) × (is_u c ≡ false)
+unfolding is_digit is_r is_b is_f is_t is_u
+digit-not-letter c digit =
+    let none : (ds : List ℕ) → list_any is_digit ds ≡ false → is_one_of ds c ≡ false = λ ds none. excluded is_digit (is_one_of ds) c (none_of is_digit ds c none) digit in
+    (none (codes "rR") refl, none (codes "bB") refl, none (codes "fF") refl, none (codes "tT") refl, none (codes "uU") refl)
 
-pub b-not-digit : (c : ℕ) → is_b c ≡ true → is_digit c ≡ false
-unfolding is_b is_digit
-b-not-digit c h = none_of is_digit (codes "bB") c refl h
+pub r-not-others : (c : ℕ) → is_r c ≡ true → (is_b c ≡ false) × (is_f c ≡ false) × (is_t c ≡ false)
+unfolding is_r is_b is_f is_t
+r-not-others c h = (none_of is_b (codes "rR") c refl h, none_of is_f (codes "rR") c refl h, none_of is_t (codes "rR") c refl h)
 
-pub f-not-digit : (c : ℕ) → is_f c ≡ true → is_digit c ≡ false
-unfolding is_f is_digit
-f-not-digit c h = none_of is_digit (codes "fF") c refl h
-
-pub b-not-r : (c : ℕ) → is_b c ≡ true → is_r c ≡ false
-unfolding is_b is_r
-b-not-r c h = none_of is_r (codes "bB") c refl h
-
-pub f-not-r : (c : ℕ) → is_f c ≡ true → is_r c ≡ false
-unfolding is_f is_r
-f-not-r c h = none_of is_r (codes "fF") c refl h
-
-pub t-not-digit : (c : ℕ) → is_t c ≡ true → is_digit c ≡ false
-unfolding is_t is_digit
-t-not-digit c h = none_of is_digit (codes "tT") c refl h
-
-pub t-not-r : (c : ℕ) → is_t c ≡ true → is_r c ≡ false
-unfolding is_t is_r
-t-not-r c h = none_of is_r (codes "tT") c refl h
-
-pub f-not-b : (c : ℕ) → is_f c ≡ true → is_b c ≡ false
-unfolding is_f is_b
-f-not-b c h = none_of is_b (codes "fF") c refl h
-
-pub t-not-b : (c : ℕ) → is_t c ≡ true → is_b c ≡ false
-unfolding is_t is_b
-t-not-b c h = none_of is_b (codes "tT") c refl h
+pub b-not-others : (c : ℕ) → is_b c ≡ true → (is_f c ≡ false) × (is_t c ≡ false)
+unfolding is_b is_f is_t
+b-not-others c h = (none_of is_f (codes "bB") c refl h, none_of is_t (codes "bB") c refl h)
 
 pub t-not-u : (c : ℕ) → is_t c ≡ true → is_u c ≡ false
 unfolding is_t is_u
 t-not-u c h = none_of is_u (codes "tT") c refl h
-
-pub u-not-digit : (c : ℕ) → is_u c ≡ true → is_digit c ≡ false
-unfolding is_u is_digit
-u-not-digit c h = none_of is_digit (codes "uU") c refl h
 
 -- the letters of prefixes
 abbrev BeginsWord : ℕ → Type 0
@@ -189,17 +164,9 @@ pub slash-not-break : (c : ℕ) → is_break c ≡ true → is_backslash c ≡ f
 unfolding is_break is_backslash
 slash-not-break c h = none_of is_backslash (10 ∷ 13 ∷ []) c refl h
 
-pub break-not-opening : (c : ℕ) → is_break c ≡ true → is_opening c ≡ false
-unfolding is_break is_opening
-break-not-opening c h = none_of is_opening (codes "\n\r") c refl h
-
-pub break-not-closing : (c : ℕ) → is_break c ≡ true → is_closing c ≡ false
-unfolding is_break is_closing
-break-not-closing c h = none_of is_closing (codes "\n\r") c refl h
-
-pub break-not-quote : (c : ℕ) → is_break c ≡ true → is_quote c ≡ false
-unfolding is_break is_quote
-break-not-quote c h = none_of is_quote (codes "\n\r") c refl h
+pub break-not-others : (c : ℕ) → is_break c ≡ true → (is_opening c ≡ false) × (is_closing c ≡ false) × (is_quote c ≡ false)
+unfolding is_break is_opening is_closing is_quote
+break-not-others c h = (none_of is_opening (codes "\n\r") c refl h, none_of is_closing (codes "\n\r") c refl h, none_of is_quote (codes "\n\r") c refl h)
 
 pub opening-not-quote : (c : ℕ) → is_opening c ≡ true → is_quote c ≡ false
 unfolding is_opening is_quote
