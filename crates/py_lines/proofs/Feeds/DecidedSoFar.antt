@@ -155,7 +155,8 @@ module _ (text : List ℕ) (state : LineState) (lines : List LogicalLine) (read 
       let decodes : Decodes all_known characters [] = of.decodes text state.place state.line lines (read ++ c ∷ []) [] k nothing_bad in
       let open_yet = open_return s.mode s.done s.held c st way.stacked refuses (ap (λ (m : Mode). (is_return_mode m && none_open st) && not (is_line_feed c)) (sym way.tallies.counts.mode) ∙ not_yet) in
       let prefix : HasPrefix j.state k.base = record { others = pieces_at s; spell = j.pieces; reading = of.reading text state.place state.line lines (read ++ c ∷ []) [] k; ended = k.ended; none = closed_one_line s.mode s.done s.held st way.stacked way.one_line open_yet } in
-      let found = refused_fault state.place k.base level strings base state.scan read way c [] (alone read fit) refuses line_fault is_line_fault in
+      let alone : AreReadBefore k.base (read ++ c ∷ []) = subst (AreReadBefore k.base) (append-nil (read ++ c ∷ [])) (of.read_then k.base (read ++ c ∷ []) k.more [] (λ none. omega (arith, ap length none, length-append read (c ∷ []))) k.fit) in
+      let found = refused_fault state.place k.base level strings base state.scan read way c [] alone refuses line_fault is_line_fault in
       let place : fault.offset ≡ byte_len (spelled k.base) + line_fault.place = at.place ∙ ap (λ (n : ℕ). n + line_fault.place) k.here in
       let is : IsCharacterFault fault.kind characters fault.offset = rw (at.is, place) (subst (λ t. IsCharacterFault line_fault.kind t (byte_len (spelled k.base) + line_fault.place)) spell found) in
       let longer : Within (read ++ c ∷ []) line_fault.place = record { prefix = w.prefix; later = w.later ++ c ∷ []; split = sym (append_assoc w.prefix w.later (c ∷ [])) ∙ ap (λ t. t ++ c ∷ []) w.split; size = w.size } in
@@ -171,10 +172,6 @@ module _ (text : List ℕ) (state : LineState) (lines : List LogicalLine) (read 
         },
         subst (λ l. IsLexedToFault all_known l fault) (sym k.cut) lexed,
       )
-    where
-      alone : (xs : List ℕ) → AreReadBefore k.base (xs ++ c ∷ k.more) → AreReadBefore k.base (xs ++ c ∷ [])
-      alone [] fit = of.read_then k.base c [] k.more [] fit
-      alone (x ∷ xs) fit = of.read_then k.base x xs (c ∷ k.more) (c ∷ []) fit
 
 -- what the first bytes decide after the lines given, all do
 decided_whole : (text : List ℕ) (place : ℕ) (lines : List LogicalLine) (n most : ℕ) (fault : Fault) → n ≤ most → Decides (take (place + n) text) fault × IsLexed (take (place + n) text) lines (Some fault) → IsDecidedAt text place lines most fault

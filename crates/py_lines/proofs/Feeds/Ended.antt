@@ -41,17 +41,13 @@ module _ (text : List ℕ) (state : LineState) (lines : List LogicalLine) (read 
   pub ended_unfinished : is_returned state.scan ≡ false → rest ≡ [] → 0 < byte_len read → (line_fault : LineFault) → IsUnfinished state.scan (Some line_fault) → (fault : Fault) (w : Within read line_fault.place) → IsFaultAfter state line_fault.kind line_fault.place (encode_utf8_all w.prefix) fault → IsLexed text lines (Some fault)
   ended_unfinished not_yet none some line_fault is_line_fault fault w at =
       let j = joined_here text state lines read rest k way not_yet in
-      let found = unfinished_fault state.place k.base (of.level text state.place state.line lines read rest k) (of.strings text state.place state.line lines read rest k) (of.stands text state.place state.line lines read rest k) state.scan read way (alone read some k.fit) some line_fault is_line_fault in
+      let found = unfinished_fault state.place k.base (of.level text state.place state.line lines read rest k) (of.strings text state.place state.line lines read rest k) (of.stands text state.place state.line lines read rest k) state.scan read way (of.read_then k.base read k.more [] (λ nothing. omega (arith, some, ap byte_len nothing)) k.fit) some line_fault is_line_fault in
       let place : fault.offset ≡ byte_len (spelled k.base) + line_fault.place = at.place ∙ ap (λ (n : ℕ). n + line_fault.place) k.here in
       subst (λ l. IsLexedToFault text l fault) (sym k.cut)
       (refused_at_end text (spelled k.base ++ read) j.state j.st k.base fault (all_decoded none) j.steps
       (prefix_of text state lines read rest k way not_yet)
       (rw (at.is, place) found)
       (line_after text state lines read rest k line_fault.kind line_fault.place fault w at))
-    where
-      alone : (xs : List ℕ) → 0 < byte_len xs → AreReadBefore k.base (xs ++ k.more) → AreReadBefore k.base (xs ++ [])
-      alone [] full fit = absurd (omega (arith, full))
-      alone (x ∷ xs) full fit = of.read_then k.base x xs k.more [] fit
 
   -- the text's last line
   pub ended_line : rest ≡ [] → stack_of state.scan.brackets ≡ [] → is_final way.state.mode ≡ true → 0 < byte_len read → cut 0 (pieces_at way.state) ≡ pieces_at way.state ∷ [] → IsLexed text (lines ++ line_of state.place state.line (pieces_at way.state) ∷ []) None

@@ -30,7 +30,7 @@ use Rattle.py_lines.proofs.Text.Decoding.{decoded}
 use Rattle.py_lines.proofs.LineScan.TextSteps.{way_goes}
 use Rattle.py_lines.proofs.Feeds.Known.{IsKnown, both_none, goes_with_first, known_after, is_known}
 use Rattle.py_lines.proofs.Feeds.Steps.{reached_by}
-use Rattle.py_lines.proofs.Feeds.SettledSoFar.{MayGetFeed, settled_open, settled_ready, ended_before, IsNextLine}
+use Rattle.py_lines.proofs.Feeds.SettledSoFar.{settled_open, settled_ready, ended_before, IsNextLine}
 use Rattle.py_lines.proofs.Feeds.DecidedSoFar.{undecided}
 use Rattle.py_lines.proofs.Feeds.ReadyLines.{ended_alone, ended_holds, ended_scan, pieces_alone, same_before}
 use Rattle.py_lines.proofs.Feeds.LastBytes.{exactly_encoded}
@@ -93,11 +93,6 @@ scanned_ended f end_len s before later spell which = (
     whole : EndsExactly s.read s.rest → HoldsReady f.held.items (Some (line_of f.state.place f.state.line (pieces_alone s)))
     whole exact = (s.rest, sym s.spell ∙ ap (λ t. t ++ s.rest) (sym text_is), subst (λ t. EndsExactly t s.rest) (sym text_is) (exactly_encoded s.read s.rest exact))
 
-may_get : (m : Mode) (st : List Bracket) (rest : List ℕ) → (is_return_mode m && none_open st ≡ true → rest ≡ []) → MayGetFeed m st rest
-may_get modes.Return [] rest last = last refl
-may_get modes.Return (b ∷ bs) rest last = tt
-may_get m st rest last = tt
-
 -- no line has ended in what is held, which was scanned
 module _ (f : Feed) (s : IsScanned f None) (text : List ℕ) (lines : List LogicalLine) (first : AreFirstLines text f.state.place f.state.line lines) (goes : GoesOnWith text f.state.place f.held.items) where
   module _ (some : 0 < length f.held.items) where
@@ -107,7 +102,7 @@ module _ (f : Feed) (s : IsScanned f None) (text : List ℕ) (lines : List Logic
     settled_scanned : IsSettled (take (f.state.place + length f.held.items) text) lines
     settled_scanned =
         let (way, bad) = s.0.stops in
-        let last : MayGetFeed way.state.mode (stack_of f.state.scan.brackets) s.0.rest = may_get way.state.mode (stack_of f.state.scan.brackets) s.0.rest (λ h. s.2 (ap (λ (m : Mode). is_return_mode m && none_open (stack_of f.state.scan.brackets)) way.tallies.counts.mode ∙ h)) in
+        let last = λ (h : is_return_mode way.state.mode && none_open (stack_of f.state.scan.brackets) ≡ true). s.2 (ap (λ (m : Mode). is_return_mode m && none_open (stack_of f.state.scan.brackets)) way.tallies.counts.mode ∙ h) in
         subst (λ l. IsSettled (take (f.state.place + length l) text) lines) s.0.spell
         (settled_open text f.state.place f.state.line lines s.0.read s.0.rest known_open way.state (stack_of f.state.scan.brackets) (way_goes way) way.one_line bad (omega (arith, some, ap length s.0.spell)) last)
 

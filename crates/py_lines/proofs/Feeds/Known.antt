@@ -156,5 +156,6 @@ module _ (text : List ℕ) (place line : ℕ) (lines : List LogicalLine) (read r
   joins s st goes = joined place k.base k.more level strings read s st k.fit stands goes
 
 -- the lines given are read before what was read, whatever follows that
-pub read_then : (base : List Piece) (c : ℕ) (read more others : List ℕ) → AreReadBefore base ((c ∷ read) ++ more) → AreReadBefore base ((c ∷ read) ++ others)
-read_then base c read more others fit = read_before fielded base c (read ++ more) (read ++ others) fit
+pub read_then : (base : List Piece) (read more others : List ℕ) → (read ≡ [] → ⊥) → AreReadBefore base (read ++ more) → AreReadBefore base (read ++ others)
+read_then base [] more others some fit = absurd (some refl)
+read_then base (c ∷ cs) more others some fit = read_before fielded base c (cs ++ more) (cs ++ others) fit

@@ -28,25 +28,15 @@ ends-encode c = ⊎_elim (λ narrow. ap (ends is_return) (one c narrow)) (λ wid
         (cases_lt c 65536))
         (cases_lt c 2048)
 
--- some bytes
-some_bytes : (d : ℕ) (cs : List ℕ) → (b : ℕ) × (bs : List ℕ) × (encode_utf8_all (d ∷ cs) ≡ b ∷ bs)
-some_bytes d cs = by (encode_utf8_all (d ∷ cs)) refl
-  where
-    by : (bytes : List ℕ) → encode_utf8_all (d ∷ cs) ≡ bytes → (b : ℕ) × (bs : List ℕ) × (encode_utf8_all (d ∷ cs) ≡ b ∷ bs)
-    by [] is = absurd (omega (arith, length-le-encodes (d ∷ cs), ap length is))
-    by (b ∷ bs) is = (b, bs, is)
-
-pub ends-encoded : (cs : List ℕ) → ends is_return (encode_utf8_all cs) ≡ ends is_return cs
-ends-encoded [] = refl
-ends-encoded (c ∷ []) = ap (ends is_return) (append-nil (encode_utf8 c)) ∙ ends-encode c
-ends-encoded (c ∷ d ∷ cs) =
-    let some = some_bytes d cs in
-    ap (λ t. ends is_return (encode_utf8 c ++ t)) some.2 ∙ ends-append is_return (encode_utf8 c) some.0 some.1 ∙ ap (ends is_return) (sym some.2) ∙ ends-encoded (d ∷ cs)
-
 -- the last of some characters is the last of all
 pub ends-later : (p : ℕ → Bool) (first later : List ℕ) → (later ≡ [] → ⊥) → ends p (first ++ later) ≡ ends p later
 ends-later p first [] some = absurd (some refl)
 ends-later p first (c ∷ cs) some = ends-append p first c cs
+
+pub ends-encoded : (cs : List ℕ) → ends is_return (encode_utf8_all cs) ≡ ends is_return cs
+ends-encoded [] = refl
+ends-encoded (c ∷ []) = ap (ends is_return) (append-nil (encode_utf8 c)) ∙ ends-encode c
+ends-encoded (c ∷ d ∷ cs) = ends-later is_return (encode_utf8 c) (encode_utf8_all (d ∷ cs)) (λ none. omega (arith, length-le-encodes (d ∷ cs), ap length none)) ∙ ends-encoded (d ∷ cs)
 
 -- what comes after a line goes by its last character
 pub exact_as : (line other more : List ℕ) → ends is_return line ≡ ends is_return other → EndsExactly line more → EndsExactly other more

@@ -235,9 +235,7 @@ module _ (f : Feed) (bytes : List ℕ) (before stop : ℕ) (p : Passed) (stands 
       unfolding lines
       first text given scanning goes =
           let there : f.state.place + byte_len read ≡ state.place = omega (arith, place, read_size) in
-          let at = all_settled found.texts text f.state.place f.state.line given read held.items p.line_ends beyond are (omega (arith, some, read_size)) scanning.first goes exact in
-          subst (λ (m : ℕ). AreSettledAt text m state.line (length held.items) (given ++ lines)) there
-          (subst (λ (m : ℕ). AreSettledAt text (f.state.place + byte_len read) m (length held.items) (given ++ lines)) (sym line) at)
+          rw (← there, line) (all_settled found.texts text f.state.place f.state.line given read held.items p.line_ends beyond are (omega (arith, some, read_size)) scanning.first goes exact)
 
       scans : (text : List ℕ) (given : List LogicalLine) → IsScanning (scanning_of f) text given → GoesOnWith text f.state.place (take p.len bytes ++ held.items) → HasSettled (scanning_of after) text (given ++ lines)
       scans text given scanning goes =

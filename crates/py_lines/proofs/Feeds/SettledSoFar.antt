@@ -1,5 +1,5 @@
 -- What the known bytes settle: the lines given, where the machine has found no line end after them, or one line more.
-use Rattle.std.proofs.Common.{◌≡◌, ℕ, ◌<◌, ◌≤◌, ◌⊎◌, false, Some, List, [], ◌∷◌, ◌++◌, length, refl, sym, ap, ◌∙◌, subst, ⊎_elim, inl, inr, append-nil, arith, length-append}
+use Rattle.std.proofs.Common.{◌≡◌, true, ◌&&◌, ℕ, ◌<◌, ◌≤◌, ◌⊎◌, false, Some, List, [], ◌∷◌, ◌++◌, length, refl, sym, ap, ◌∙◌, subst, ⊎_elim, inl, inr, append-nil, arith, length-append}
 use Rattle.std.specs.Prelude.{encode_utf8_all}
 use Rattle.std.specs.Str.{StartsWithNoChar}
 use Rattle.std.proofs.lemmas.Bool.{cases_lt, and_from, false_from_ne_true}
@@ -15,7 +15,7 @@ use Rattle.py_lines.specs.Settled.{EndsForGood, IsSettled}
 use Rattle.py_lines.specs.LogicalLine.{LogicalLine, byte_len, line_of}
 use Rattle.py_lines.specs.Private.Machine.{Scanned, Bracket, brackets_of}
 use Rattle.py_lines.specs.Private.ScanMachine.{IsScanSound}
-use Rattle.py_lines.specs.Private.Scan.{EndsNoLine, line_start}
+use Rattle.py_lines.specs.Private.Scan.{EndsNoLine, is_return_mode, line_start, none_open}
 use Rattle.py_lines.specs.Private.LineState.{first_mode}
 use Rattle.py_lines.specs.declared.mode.Mode.{Mode}
 use Rattle.py_lines.specs.declared.mode.Mode.TheVariants as modes
@@ -37,19 +37,15 @@ use Rattle.py_lines.proofs.Feeds.LastBytes.{ends-later}
 use Rattle.py_lines.proofs.Feeds.Known as of
 use Rattle.py_lines.proofs.Feeds.Known.{IsKnown, both_none}
 
--- a CR that ends the line, unless LF follows, is the last byte known
-abbrev pub MayGetFeed : Mode → List Bracket → List ℕ → Type 0
-MayGetFeed modes.Return [] rest = rest ≡ []
-MayGetFeed m st rest = Unit {0}
-
-ends_none : (m : Mode) (done : List Piece) (held read rest : List ℕ) (st : List Bracket) → IsScanSound (scanned done m held) read → brackets_of done ≡ Some st → EndsNoLine 0 done → MayGetFeed m st rest → EndsNoneYet (pieces_at (scanned done m held)) rest
-ends_none modes.Return done held read rest [] sound stacked one_line last = EndsNoneYet.by_return done held refl one_line (sound.holds.1 ∙ ap (λ d. d ∷ []) (return_is sound.holds.0 sound.holds.2)) last
+-- no line has ended, where a CR that ends the line, unless LF follows, is the last byte known
+ends_none : (m : Mode) (done : List Piece) (held read rest : List ℕ) (st : List Bracket) → IsScanSound (scanned done m held) read → brackets_of done ≡ Some st → EndsNoLine 0 done → (is_return_mode m && none_open st ≡ true → rest ≡ []) → EndsNoneYet (pieces_at (scanned done m held)) rest
+ends_none modes.Return done held read rest [] sound stacked one_line last = EndsNoneYet.by_return done held refl one_line (sound.holds.1 ∙ ap (λ d. d ∷ []) (return_is sound.holds.0 sound.holds.2)) (last refl)
 ends_none modes.Return done held read rest (b ∷ bs) sound stacked one_line last = EndsNoneYet.none (closed_one_line modes.Return done held (b ∷ bs) stacked one_line (λ same. refl))
 ends_none m done held read rest st sound stacked one_line last = EndsNoneYet.none (closed_one_line m done held st stacked one_line (λ same. absurd (cc)))
 
 module _ (text : List ℕ) (place line : ℕ) (lines : List LogicalLine) (read rest : List ℕ) (k : IsKnown text place line lines read rest) where
   -- no line has ended since
-  pub settled_open : (s : Scanned) (st : List Bracket) → GoesTo (line_start (first_mode place)) read s st → EndsNoLine 0 s.done → StartsWithNoChar rest → 0 < length (encode_utf8_all read ++ rest) → MayGetFeed s.mode st rest → IsSettled (of.bytes text place line lines read rest k) lines
+  pub settled_open : (s : Scanned) (st : List Bracket) → GoesTo (line_start (first_mode place)) read s st → EndsNoLine 0 s.done → StartsWithNoChar rest → 0 < length (encode_utf8_all read ++ rest) → (is_return_mode s.mode && none_open st ≡ true → rest ≡ []) → IsSettled (of.bytes text place line lines read rest k) lines
   settled_open s st goes one_line bad some last =
       let j = of.joins text place line lines read rest k s st goes in
       let sound = sound_steps (first_mode place) read s (begun_sound place) goes.run goes.stack in
