@@ -41,15 +41,16 @@ last_ends : (read line later : List ℕ) → read ≡ line ++ later → 0 < leng
 last_ends read line later is some = ap (ends is_return) is ∙ ends-later is_return line later (λ none. omega (arith, some, ap length none))
 
 -- so lines, of which there is one at least
-lines_settled : (t : List ℕ) (texts : List (List ℕ)) (text : List ℕ) (place line : ℕ) (given : List LogicalLine) (read more : List ℕ) (n : ℕ) (after : List ℕ) (are : AreWholeLines (t ∷ texts) read n after) → AreFirstLines text place line given → GoesOnWith text place (encode_utf8_all read ++ more) → EndsExactly read more
-    → AreSettledAt text (place + byte_len read) (line + n) (length more) (given ++ lines_at (t ∷ texts) place line read n after are)
-lines_settled t [] text place line given read more n after are first goes exact =
+all_settled : (texts : List (List ℕ)) (text : List ℕ) (place line : ℕ) (given : List LogicalLine) (read more : List ℕ) (n : ℕ) (after : List ℕ) (are : AreWholeLines texts read n after) → 0 < byte_len read → AreFirstLines text place line given → GoesOnWith text place (encode_utf8_all read ++ more) → EndsExactly read more
+    → AreSettledAt text (place + byte_len read) (line + n) (length more) (given ++ lines_at texts place line read n after are)
+all_settled [] text place line given read more n after are full first goes exact = absurd (omega (arith, full, ap byte_len are.0))
+all_settled (t ∷ []) text place line given read more n after are full first goes exact =
     let all : read ≡ t = are.spell ∙ ap (λ u. t ++ u) are.lines.0 ∙ append-nil t in
     let own : n ≡ are.own = omega (arith, are.count, are.lines.1) in
     subst (λ (m : ℕ). AreSettledAt text (place + byte_len read) (line + m) (length more) (given ++ lines_at (t ∷ []) place line read n after are)) (sym own)
     (subst (λ u. AreSettledAt text (place + byte_len u) (line + are.own) (length more) (given ++ lines_at (t ∷ []) place line read n after are)) (sym all)
     (line_settled text place line given first t more are.own are.some (subst (λ u. GoesOnWith text place (encode_utf8_all u ++ more)) all goes) (subst (λ u. EndsExactly u more) all exact) (encode_utf8_all are.later ++ after) are.whole))
-lines_settled t (u ∷ texts) text place line given read more n after are first goes exact =
+all_settled (t ∷ u ∷ texts) text place line given read more n after are full first goes exact =
     let own_bytes = encode_utf8_all t in
     let later_bytes = encode_utf8_all are.later in
     let spell : encode_utf8_all read ≡ own_bytes ++ later_bytes = ap encode_utf8_all are.spell ∙ encodes-append t are.later in
@@ -59,16 +60,11 @@ lines_settled t (u ∷ texts) text place line given read more n after are first 
     let near : GoesOnWith text place (own_bytes ++ own.more) = goes_with_first text place (own_bytes ++ own.more) own.unseen (subst (GoesOnWith text place) (ap (λ b. own_bytes ++ b) own.spell ∙ sym (append_assoc own_bytes own.more own.unseen)) split) in
     let one = line_settled text place line given first t own.more are.own are.some near own.exact (later_bytes ++ after) are.whole in
     let here = line_of place line (are.whole.body ++ are.whole.last ∷ []) in
-    let others = lines_settled u texts text (place + byte_len t) (line + are.own) (given ++ here ∷ []) are.later more are.more after are.lines one.0 (goes_after text place own_bytes (later_bytes ++ more) split) (exact_as read are.later more (last_ends read t are.later are.spell some) exact) in
+    let others = all_settled (u ∷ texts) text (place + byte_len t) (line + are.own) (given ++ here ∷ []) are.later more are.more after are.lines (omega (arith, some, length-le-encodes are.later)) one.0 (goes_after text place own_bytes (later_bytes ++ more) split) (exact_as read are.later more (last_ends read t are.later are.spell some) exact) in
     let place_is : place + byte_len t + byte_len are.later ≡ place + byte_len read = omega (arith, ap length spell, length-append own_bytes later_bytes) in
     let line_is : line + are.own + are.more ≡ line + n = omega (arith, are.count) in
     let rest = lines_at (u ∷ texts) (place + byte_len t) (line + are.own) are.later are.more after are.lines in
     rw (← append_assoc given (here ∷ []) rest, ← place_is, ← line_is) others
-
-all_settled : (texts : List (List ℕ)) (text : List ℕ) (place line : ℕ) (given : List LogicalLine) (read more : List ℕ) (n : ℕ) (after : List ℕ) (are : AreWholeLines texts read n after) → 0 < byte_len read → AreFirstLines text place line given → GoesOnWith text place (encode_utf8_all read ++ more) → EndsExactly read more
-    → AreSettledAt text (place + byte_len read) (line + n) (length more) (given ++ lines_at texts place line read n after are)
-all_settled [] text place line given read more n after are some first goes exact = absurd (omega (arith, some, ap byte_len are.0))
-all_settled (t ∷ texts) text place line given read more n after are some first goes exact = lines_settled t texts text place line given read more n after are first goes exact
 
 -- the last byte of the first so many
 last_of : (bytes : List ℕ) (len : ℕ) → 0 < len → len ≤ length bytes → ends is_return (take len bytes) ≡ is_return (slice_index bytes (len - 1))
@@ -108,19 +104,14 @@ module _ (bytes : List ℕ) (p : Passed) (some : 0 < p.len) (found : BeginWithLi
   returned : ends is_return (take p.len bytes) ≡ true
   returned = last_of bytes p.len some found.within ∙ ap is_return is ∙ return_returns
 
+  next_byte : (b : ℕ) × (more : List ℕ) × (drop p.len bytes ≡ b ∷ more) × (b ≡ 10 → ⊥)
+  next_byte = ⊎_elim (λ feed. absurd (both_ways _ feed returned)) (λ one. one) (bytes_whole bytes p some found)
+
   pub byte_follows : p.len < length bytes
-  byte_follows = by (bytes_whole bytes p some found)
-    where
-      by : EndsWhole (take p.len bytes) (drop p.len bytes) → p.len < length bytes
-      by (inl feed) = absurd (both_ways _ feed returned)
-      by (inr (b, more, spell, other)) = omega (arith, ap length spell, length-drop p.len bytes)
+  byte_follows = let (b, more, spell, other) = next_byte in omega (arith, ap length spell, length-drop p.len bytes)
 
   byte_other : slice_index bytes p.len ≡ 10 → ⊥
-  byte_other feeds = by (bytes_whole bytes p some found)
-    where
-      by : EndsWhole (take p.len bytes) (drop p.len bytes) → ⊥
-      by (inl feed) = both_ways _ feed returned
-      by (inr (b, more, spell, other)) = other (ap first_or_zero (sym spell ∙ drop_more bytes p.len 0 byte_follows) ∙ feeds)
+  byte_other feeds = let (b, more, spell, other) = next_byte in other (ap first_or_zero (sym spell ∙ drop_more bytes p.len 0 byte_follows) ∙ feeds)
 
   pub byte_after : HoldsAfterLines bytes p.len (slice_index bytes p.len ∷ [])
   byte_after =

@@ -99,7 +99,7 @@ module _ (bytes : List ℕ) (m : Mode) (before : List ℕ) where
     stands = closed_stands closes (drop at bytes) m (before ++ c.run) n st c.stands;
   }
 
-none_stack : (st : List Bracket) → none_open st ≡ true → st ≡ []
+pub none_stack : (st : List Bracket) → none_open st ≡ true → st ≡ []
 none_stack [] none = refl
 none_stack (b ∷ bs) none = absurd (both_ways _ refl none)
 
