@@ -4,7 +4,6 @@ use Rattle.std.specs.Prelude.{encode_utf8_all}
 use Rattle.std.specs.Str.{StartsWithNoChar}
 use Rattle.std.proofs.lemmas.List.{take_all}
 use Rattle.py_lines.specs.Piece.{spelled}
-use Rattle.py_lines.specs.Fields.{AreReadBefore}
 use Rattle.py_lines.specs.Reading.{Decodes, IsBalancedReading}
 use Rattle.py_lines.specs.Lexed.{IsLexed, IsLexedToFault}
 use Rattle.py_lines.specs.LogicalLine.{LogicalLine, cut, byte_len, line_of}

@@ -1,8 +1,8 @@
 -- The text ends with what is held: its last line, or the fault that stands there.
-use Rattle.std.proofs.Common.{◌≡◌, ℕ, ◌+◌, ◌-◌, ◌<◌, ◌≤◌, true, false, None, Some, Ok, Err, List, [], ◌∷◌, ◌++◌, length, inl, inr, refl, sym}
+use Rattle.std.proofs.Common.{◌≡◌, ℕ, ◌+◌, ◌-◌, ◌<◌, ◌≤◌, true, false, None, Some, Ok, Err, List, [], ◌++◌, length, inl, inr, refl, sym}
 use Rattle.std.proofs.Common.{ap, ◌∙◌, subst, append-nil, arith}
 use Rattle.std.specs.Prelude.{encode_utf8_all}
-use Rattle.std.proofs.lemmas.Bool.{both_ways, and_parts, false_from_ne_true}
+use Rattle.std.proofs.lemmas.Bool.{and_parts, false_from_ne_true}
 use Rattle.std.proofs.lemmas.List.{nil_from_length}
 use Rattle.py_lines.specs.LogicalLine.{LogicalLine, byte_len}
 use Rattle.py_lines.specs.Lexed.{IsLexed}
@@ -13,7 +13,7 @@ use Rattle.py_lines.specs.declared.fault.FaultKind.TheVariants.{BadUtf8}
 use Rattle.py_lines.specs.declared.fault.LexError.{LexError}
 use Rattle.py_lines.specs.declared.feed.Feed.{Feed}
 use Rattle.py_lines.specs.declared.scan.LineFault.{LineFault}
-use Rattle.py_lines.specs.Private.Machine.{Bracket, is_final}
+use Rattle.py_lines.specs.Private.Machine.{is_final}
 use Rattle.py_lines.specs.Private.Scan.{is_returned, is_return_mode, none_open, stack_of, line_start, IsUnfinished, IsUnderWay}
 use Rattle.py_lines.specs.Private.LineState.{IsEndLineFault, first_mode}
 use Rattle.py_lines.specs.Private.Run.{Reached}

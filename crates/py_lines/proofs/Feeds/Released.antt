@@ -3,12 +3,12 @@ use Rattle.std.proofs.Common.{◌≡◌, ℕ, ◌+◌, List, [], ◌∷◌, ◌+
 use Rattle.std.specs.Prelude.{encode_utf8_all, IsSome}
 use Rattle.std.proofs.lemmas.List.{take-append-drop, append_cancel_left, drop-drop}
 use Rattle.std.proofs.lemmas.Str.{encodes-append, encodes_same}
-use Rattle.py_lines.specs.Piece.{Piece, spelled}
+use Rattle.py_lines.specs.Piece.{spelled}
 use Rattle.py_lines.specs.Fields.{AreReadBefore}
 use Rattle.py_lines.specs.Lexed.{IsLexedWhole, IsLexed}
 use Rattle.py_lines.specs.Settled.{IsSettled}
 use Rattle.py_lines.specs.Given.{AreFirstLines}
-use Rattle.py_lines.specs.LogicalLine.{LogicalLine, byte_len, line_ends, lines_of}
+use Rattle.py_lines.specs.LogicalLine.{LogicalLine, byte_len, line_ends}
 use Rattle.py_lines.proofs.Text.Decoding.{decoded}
 use Rattle.py_lines.proofs.LogicalLines.Cuts.{byte_len-append}
 use Rattle.py_lines.proofs.LogicalLines.NextLine.{texts, texts-append, texts-lines}
@@ -24,17 +24,14 @@ use Rattle.py_lines.specs.Private.Feed.{HasRoom, HoldsLine, IsReady, StandsSo, I
 use Rattle.py_lines.proofs.LineScan.LineCount.{line_ends-bytes}
 use Rattle.py_lines.proofs.Feeds.ReadyLines.{ready_seen, with_line}
 
--- the pieces of the lines given and one more spell its characters after those of the lines given
-spells_more : (first all : List Piece) (lines : List LogicalLine) (l : LogicalLine) (read : List ℕ) → lines ≡ lines_of first → lines ++ l ∷ [] ≡ lines_of all → l.text ≡ encode_utf8_all read → spelled all ≡ spelled first ++ read
-spells_more first all lines l read given more same = encodes_same (spelled all) (spelled first ++ read)
-    (sym (texts-lines all) ∙ ap texts (sym more) ∙ texts-append lines (l ∷ []) ∙ ap (λ t. texts lines ++ t) (append-nil l.text ∙ same) ∙ ap (λ t. t ++ encode_utf8_all read) (ap texts given ∙ texts-lines first) ∙ sym (encodes-append (spelled first) read))
-
--- the lines given and this one, which begin with this text after them
+-- the lines given, and this one after them
 module _ {text : List ℕ} {place line : ℕ} {lines : List LogicalLine} (first : AreFirstLines text place line lines) (read : List ℕ) (l : LogicalLine) (same : l.text ≡ encode_utf8_all read) where
   -- are the first lines of the text up to where it ends
   reached : {here number : ℕ} → AreFirstLines text here number (lines ++ l ∷ []) → AreFirstLines text (place + byte_len read) (line + line_ends read) (lines ++ l ∷ [])
   reached next =
-      let spells = spells_more first.pieces next.pieces lines l read first.cut next.cut same in
+      let spells : spelled next.pieces ≡ spelled first.pieces ++ read = encodes_same (spelled next.pieces) (spelled first.pieces ++ read)
+      (sym (texts-lines next.pieces) ∙ ap texts (sym next.cut) ∙ texts-append lines (l ∷ []) ∙ ap (λ t. texts lines ++ t) (append-nil l.text ∙ same) ∙ ap (λ t. t ++ encode_utf8_all read) (ap texts first.cut ∙ texts-lines first.pieces)
+      ∙ sym (encodes-append (spelled first.pieces) read)) in
       let characters = (decoded text first.characters next.characters first.tail next.tail first.decodes next.decodes).0 in
       let rest : first.rest ≡ read ++ next.rest = append_cancel_left (spelled first.pieces) first.rest (read ++ next.rest)
       (first.spell ∙ characters ∙ sym next.spell ∙ ap (λ t. t ++ next.rest) spells ∙ append_assoc (spelled first.pieces) read next.rest) in

@@ -184,10 +184,8 @@ tells_ok bytes utf8 none =
     subst (λ t. ¬ (IsHopeless t)) (sym empty) part_none
 
 pub tells_error : (bytes : List ℕ) (n : ℕ) (len : Option ℕ) → StartsWithNoChar bytes → IsValidUpTo bytes n → len ≡ utf8_error_len (drop n bytes) → (b : Bool) → b ≡ is_some len → TellsHopeless bytes b
-tells_error bytes n len none valid is b same = go len (subst (Verdict bytes) (sym (is ∙ ap (λ (m : ℕ). utf8_error_len (drop m bytes)) (valid_none bytes n none valid))) (verdict bytes none)) b same
+tells_error bytes n len none valid is b same = subst (TellsHopeless bytes) (sym same) (go len (subst (Verdict bytes) (sym (is ∙ ap (λ (m : ℕ). utf8_error_len (drop m bytes)) (valid_none bytes n none valid))) (verdict bytes none)))
   where
-    go : (o : Option ℕ) → Verdict bytes o → (t : Bool) → t ≡ is_some o → TellsHopeless bytes t
-    go None says true same' = absurd (cc)
-    go None says false same' = says
-    go (Some k) says true same' = says
-    go (Some k) says false same' = absurd (cc)
+    go : (o : Option ℕ) → Verdict bytes o → TellsHopeless bytes (is_some o)
+    go None says = says
+    go (Some k) says = says
