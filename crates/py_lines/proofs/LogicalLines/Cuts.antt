@@ -195,46 +195,31 @@ line_depth p d h = go p.class p.text h
 
 -- the cut after a line end at depth 0
 cut-line : (body : List Piece) (last : Piece) (qs : List Piece) (d : ℕ) → last.class ≡ line_end → depth_through d body ≡ 0 → cut d (body ++ last ∷ qs) ≡ cut d (body ++ last ∷ []) ++ cut 0 qs
-cut-line [] last qs d is deep =
-    let h : is_line_end_class last.class && (d == 0) ≡ true = and_from _ _ (ap is_line_end_class is) (eq-eqb d 0 deep) in
-    ap (λ (b : Bool). cond b ((last ∷ []) ∷ cut d qs) (put_first last (cut (depth_after d last) qs))) h
-    ∙ ap (λ (n : ℕ). (last ∷ []) ∷ cut n qs) deep
-    ∙ ap (λ us. us ++ cut 0 qs) (sym (ap (λ (b : Bool). cond b ((last ∷ []) ∷ []) (put_first last [])) h))
+cut-line [] last qs d is deep = rw (is, deep)
 cut-line (p ∷ body) last qs d is deep =
-    let later = cut-line body last qs (depth_after d p) is deep in
     ⊎_elim
     (λ (h : is_line_end_class p.class && (d == 0) ≡ true).
     let level : depth_after d p ≡ d = line_depth p d (and_parts (is_line_end_class p.class) (d == 0) h).0 in
-    let same = cut-line body last qs d is (ap (λ (n : ℕ). depth_through n body) (sym level) ∙ deep) in
-    ap (λ (b : Bool). cond b ((p ∷ []) ∷ cut d (body ++ last ∷ qs)) (put_first p (cut (depth_after d p) (body ++ last ∷ qs)))) h
-    ∙ ap (λ us. (p ∷ []) ∷ us) same
-    ∙ ap (λ us. us ++ cut 0 qs) (sym (ap (λ (b : Bool). cond b ((p ∷ []) ∷ cut d (body ++ last ∷ [])) (put_first p (cut (depth_after d p) (body ++ last ∷ [])))) h)))
+    rw h (ap (λ us. (p ∷ []) ∷ us) (cut-line body last qs d is (ap (λ (n : ℕ). depth_through n body) (sym level) ∙ deep))))
     (λ (h : is_line_end_class p.class && (d == 0) ≡ false).
-    ap (λ (b : Bool). cond b ((p ∷ []) ∷ cut d (body ++ last ∷ qs)) (put_first p (cut (depth_after d p) (body ++ last ∷ qs)))) h
-    ∙ ap (put_first p) later
-    ∙ put-append p (cut (depth_after d p) (body ++ last ∷ [])) (cut 0 qs) (after_nonempty body last (depth_after d p))
-    ∙ ap (λ us. us ++ cut 0 qs) (sym (ap (λ (b : Bool). cond b ((p ∷ []) ∷ cut d (body ++ last ∷ [])) (put_first p (cut (depth_after d p) (body ++ last ∷ [])))) h)))
+    rw h (ap (put_first p) (cut-line body last qs (depth_after d p) is deep) ∙ put-append p (cut (depth_after d p) (body ++ last ∷ [])) (cut 0 qs) (after_nonempty body last (depth_after d p))))
     (cases_Bool (is_line_end_class p.class && (d == 0)))
 
 -- pieces that end a line are cut from those after them
 pub cut-append : (ps qs : List Piece) → EndsLine ps → cut 0 (ps ++ qs) ≡ cut 0 ps ++ cut 0 qs
-cut-append ps qs (inl none) = ap (λ l. cut 0 (l ++ qs)) none ∙ ap (λ l. cut 0 l ++ cut 0 qs) (sym none)
+cut-append ps qs (inl none) = rw none
 cut-append ps qs (inr (body, last, is, class, deep)) =
     ap (λ l. cut 0 (l ++ qs)) is ∙ ap (cut 0) (append_assoc body (last ∷ []) qs) ∙ cut-line body last qs 0 class deep ∙ ap (λ l. cut 0 l ++ cut 0 qs) (sym is)
 
 -- pieces with no line end at depth 0 are one part
 one_part : (d : ℕ) (p : Piece) (ps : List Piece) → EndsNoLine d (p ∷ ps) → cut d (p ∷ ps) ≡ (p ∷ ps) ∷ []
-one_part d p [] none = ap (λ (b : Bool). cond b ((p ∷ []) ∷ []) (put_first p [])) none.0
-one_part d p (q ∷ ps) none =
-    ap (λ (b : Bool). cond b ((p ∷ []) ∷ cut d (q ∷ ps)) (put_first p (cut (depth_after d p) (q ∷ ps)))) none.0
-    ∙ ap (put_first p) (one_part (depth_after d p) q ps none.1)
+one_part d p [] none = rw none.0
+one_part d p (q ∷ ps) none = rw (none.0, one_part (depth_after d p) q ps none.1)
 
 -- and so they are with one after them
 pub one_line : (d : ℕ) (body : List Piece) (last : Piece) → EndsNoLine d body → last.class ≡ line_end → depth_through d body ≡ 0 → cut d (body ++ last ∷ []) ≡ (body ++ last ∷ []) ∷ []
-one_line d [] last none is deep = ap (λ (b : Bool). cond b ((last ∷ []) ∷ []) (put_first last [])) (and_from _ _ (ap is_line_end_class is) (eq-eqb d 0 deep))
-one_line d (p ∷ body) last none is deep =
-    ap (λ (b : Bool). cond b ((p ∷ []) ∷ cut d (body ++ last ∷ [])) (put_first p (cut (depth_after d p) (body ++ last ∷ [])))) none.0
-    ∙ ap (put_first p) (one_line (depth_after d p) body last none.1 is deep)
+one_line d [] last none is deep = rw (is, deep)
+one_line d (p ∷ body) last none is deep = rw (none.0, one_line (depth_after d p) body last none.1 is deep)
 
 pub last_part : (p : Piece) (ps : List Piece) → EndsNoLine 0 (p ∷ ps) → cut 0 (p ∷ ps) ≡ (p ∷ ps) ∷ []
 last_part p ps none = one_part 0 p ps none
