@@ -14,7 +14,7 @@ use Rattle.py_lines.specs.FieldStrings.{Host, quotes_of}
 use Rattle.py_lines.specs.Fields.{InClass, MayPrecede, AreReadBefore}
 use Rattle.py_lines.specs.Reading.{EndsLine}
 use Rattle.py_lines.specs.LogicalLine.{is_line_end_class, put_first, cut, byte_len, ends_line, line_ends}
-use Rattle.py_lines.proofs.Text.CharacterTests.{each_of, none_of}
+use Rattle.py_lines.proofs.Text.CharacterTests.{return_is}
 use Rattle.py_lines.proofs.Text.Splits.{Either, either}
 use Rattle.py_lines.specs.Private.Scan.{EndsNoLine}
 
@@ -24,64 +24,33 @@ ends-last p [] c = refl
 ends-last p (d ∷ []) c = refl
 ends-last p (d ∷ e ∷ text) c = ends-last p (e ∷ text) c
 
-ends-all : (p q : ℕ → Bool) (text : List ℕ) → ((c : ℕ) → p c ≡ true → q c ≡ false) → list_all p text ≡ true → ends q text ≡ false
-ends-all p q [] apart all = refl
-ends-all p q (c ∷ []) apart all = apart c (and_parts (p c) true all).0
-ends-all p q (c ∷ d ∷ cs) apart all = ends-all p q (d ∷ cs) apart (and_parts (p c) (list_all p (d ∷ cs)) all).1
-
-ends-none : (p q : ℕ → Bool) (text : List ℕ) → ((c : ℕ) → p c ≡ false → q c ≡ false) → list_any p text ≡ false → ends q text ≡ false
-ends-none p q [] apart none = refl
-ends-none p q (c ∷ []) apart none = apart c (or_parts (p c) false none).0
-ends-none p q (c ∷ d ∷ cs) apart none = ends-none p q (d ∷ cs) apart (or_parts (p c) (list_any p (d ∷ cs)) none).1
-
-mark-not-return : (c : ℕ) → is_mark c ≡ true → is_return c ≡ false
-unfolding is_mark is_return
-mark-not-return c h = none_of is_return (65279 ∷ []) c refl h
-
-space-not-return : (c : ℕ) → is_space c ≡ true → is_return c ≡ false
-unfolding is_space is_return
-space-not-return c h = none_of is_return (32 ∷ 9 ∷ 12 ∷ []) c refl h
-
-return-not-word : (c : ℕ) → is_return c ≡ true → is_word_character c ≡ false
-unfolding unicode_ident is_return is_word_character
-return-not-word c h = none_of is_word_character (13 ∷ []) c refl h
-
-return-not-start : (c : ℕ) → is_return c ≡ true → is_word_start c ≡ false
-unfolding unicode_ident is_return is_word_start is_digit
-return-not-start c h = none_of is_word_start (13 ∷ []) c refl h
-
-return-not-operator : (c : ℕ) → is_return c ≡ true → is_operator c ≡ false
-unfolding is_return is_operator
-return-not-operator c h = none_of is_operator (13 ∷ []) c refl h
-
-return-breaks : (c : ℕ) → is_return c ≡ true → is_break c ≡ true
-unfolding is_return is_break
-return-breaks c h = each_of (λ x. is_break x ≡ true) (13 ∷ []) c (refl, tt) h
+-- CR does not pass this test
+not_return : (p : ℕ → Bool) → p 13 ≡ false → (c : ℕ) → p c ≡ true → is_return c ≡ false
+not_return p other c h = false_from_ne_true _ (λ k. both_ways _ (ap p (return_is c k) ∙ other) h)
 
 pub break-return : (c : ℕ) → is_break c ≡ false → is_return c ≡ false
-break-return c h = false_from_ne_true _ (λ k. both_ways _ h (return-breaks c k))
+unfolding is_break
+break-return c h = not_return (λ x. not (is_break x)) refl c (rw h)
 
-hash-not-return : (c : ℕ) → is_hash c ≡ true → is_return c ≡ false
-unfolding is_hash is_return
-hash-not-return c h = none_of is_return (35 ∷ []) c refl h
-
-quote-not-return : (c : ℕ) → is_quote c ≡ true → is_return c ≡ false
-unfolding is_quote is_return
-quote-not-return c h = none_of is_return (39 ∷ 34 ∷ []) c refl h
-
-character-not-return : (c : ℕ) → is_word_character c ≡ true → is_return c ≡ false
-character-not-return c h = false_from_ne_true _ (λ k. both_ways _ (return-not-word c k) h)
+ends-all : (p : ℕ → Bool) → p 13 ≡ false → (text : List ℕ) → list_all p text ≡ true → ends is_return text ≡ false
+ends-all p other [] all = refl
+ends-all p other (c ∷ []) all = not_return p other c (and_parts (p c) true all).0
+ends-all p other (c ∷ d ∷ cs) all = ends-all p other (d ∷ cs) (and_parts (p c) (list_all p (d ∷ cs)) all).1
 
 ends-word : (first : ℕ) (others : List ℕ) → is_word_start first ≡ true → list_all is_word_character others ≡ true → ends is_return (first ∷ others) ≡ false
-ends-word first [] opens run = false_from_ne_true _ (λ k. both_ways _ (return-not-start first k) opens)
-ends-word first (c ∷ cs) opens run = ends-all is_word_character is_return (c ∷ cs) character-not-return run
+unfolding unicode_ident is_word_character is_word_start is_digit
+ends-word first [] opens run = not_return is_word_start refl first opens
+ends-word first (c ∷ cs) opens run = ends-all is_word_character refl (c ∷ cs) run
 
 ends-comment : (hash : ℕ) (body : List ℕ) → is_hash hash ≡ true → list_any is_break body ≡ false → ends is_return (hash ∷ body) ≡ false
-ends-comment hash [] opens none = hash-not-return hash opens
-ends-comment hash (c ∷ cs) opens none = ends-none is_break is_return (c ∷ cs) break-return none
+unfolding is_hash
+ends-comment hash [] opens none = not_return is_hash refl hash opens
+ends-comment hash (c ∷ []) opens none = break-return c (or_parts (is_break c) false none).0
+ends-comment hash (c ∷ d ∷ cs) opens none = ends-comment hash (d ∷ cs) opens (or_parts (is_break c) (list_any is_break (d ∷ cs)) none).1
 
 ends-quote : (prefix body : List ℕ) (q : ℕ) → is_quote q ≡ true → ends is_return (prefix ++ (body ++ q ∷ [])) ≡ false
-ends-quote prefix body q quotes = ap (ends is_return) (sym (append_assoc prefix body (q ∷ []))) ∙ ends-last is_return (prefix ++ body) q ∙ quote-not-return q quotes
+unfolding is_quote
+ends-quote prefix body q quotes = ap (ends is_return) (sym (append_assoc prefix body (q ∷ []))) ∙ ends-last is_return (prefix ++ body) q ∙ not_return is_quote refl q quotes
 
 ends-quotes : (prefix : List ℕ) (host : Host) (inside : List ℕ) → is_quote host.quote ≡ true → ends is_return (prefix ++ (quotes_of host ++ (inside ++ quotes_of host))) ≡ false
 ends-quotes prefix host inside quotes =
@@ -92,8 +61,9 @@ ends-quotes prefix host inside quotes =
 
 -- no CR LF is cut between a piece and what follows
 pub uncut : (class : Class) (text rest : List ℕ) → InClass class text → MayPrecede class text rest → ends is_return text && begins is_line_feed rest ≡ false
-uncut mark text rest (c, is, passes) before = and_left _ _ (ap (ends is_return) is ∙ mark-not-return c passes)
-uncut space text rest (first, others, is, run) before = and_left _ _ (ends-all is_space is_return text space-not-return run)
+unfolding is_mark is_space is_operator
+uncut mark text rest (c, is, passes) before = and_left _ _ (ap (ends is_return) is ∙ not_return is_mark refl c passes)
+uncut space text rest (first, others, is, run) before = and_left _ _ (ends-all is_space refl text run)
 uncut word text rest (first, others, is, opens, run) before = and_left _ _ (ap (ends is_return) is ∙ ends-word first others opens run)
 uncut string text rest (inl (inl short)) before =
     let is = short.0 in
@@ -103,7 +73,7 @@ uncut string text rest (inl (inr long)) before =
     let q = is.quote in
     and_left _ _ (ap (ends is_return) (is.spell ∙ ap (λ t. is.prefix ++ (q ∷ q ∷ q ∷ t)) (sym (append_assoc (joined is.items) (q ∷ q ∷ []) (q ∷ [])))) ∙ ends-quote is.prefix (q ∷ q ∷ q ∷ (joined is.items ++ q ∷ q ∷ [])) q is.opens)
 uncut string text rest (inr is) before = and_left _ _ (ap (ends is_return) is.spell ∙ ends-quotes is.prefix is.host (joined is.parts) is.opens)
-uncut operator text rest (c, is, passes) before = and_left _ _ (ap (ends is_return) is ∙ false_from_ne_true _ (λ k. both_ways _ (return-not-operator c k) passes))
+uncut operator text rest (c, is, passes) before = and_left _ _ (ap (ends is_return) is ∙ not_return is_operator refl c passes)
 uncut comment text rest (hash, body, is, opens, holds) before = and_left _ _ (ap (ends is_return) is ∙ ends-comment hash body opens holds)
 uncut join text rest is before = before
 uncut line_end text rest is before = before
@@ -111,24 +81,11 @@ uncut line_end text rest is before = before
 -- line ends of two texts, between which no CR LF is cut
 ends_line-first : (c : ℕ) (rest : List ℕ) → is_return c && begins is_line_feed rest ≡ false → ends_line c [] ≡ ends_line c rest
 ends_line-first c rest h =
-    ⊎_elim
-    (λ (k : is_return c ≡ true). ap (λ (b : Bool). is_line_feed c || (is_return c && not b)) (sym (sym (ap (λ (b : Bool). b && begins is_line_feed rest) k) ∙ h)))
-    (λ (k : is_return c ≡ false). ap (λ (b : Bool). is_line_feed c || (b && not false)) k ∙ sym (ap (λ (b : Bool). is_line_feed c || (b && not (begins is_line_feed rest))) k))
-    (cases_Bool (is_return c))
-
--- what one character counts
-counted : Bool → ℕ
-counted b = if b then 1 else 0
-
-counted-first : (c : ℕ) (rest : List ℕ) → is_return c && begins is_line_feed rest ≡ false → counted (ends_line c rest) ≡ counted (ends_line c [])
-counted-first c rest h = ap counted (sym (ends_line-first c rest h))
+    ⊎_elim (λ (k : is_return c ≡ true). let none : begins is_line_feed rest ≡ false = rw k at h in rw (k, none)) (λ (k : is_return c ≡ false). rw k) (cases_Bool (is_return c))
 
 pub line_ends-append : (xs ys : List ℕ) → ends is_return xs && begins is_line_feed ys ≡ false → line_ends (xs ++ ys) ≡ line_ends xs + line_ends ys
-unfolding counted
 line_ends-append [] ys h = omega arith
-line_ends-append (c ∷ []) ys h =
-    let one = counted-first c ys h in
-    omega arith
+line_ends-append (c ∷ []) ys h = rw (ends_line-first c ys h) (omega arith)
 line_ends-append (c ∷ d ∷ xs) ys h =
     let later = line_ends-append (d ∷ xs) ys h in
     omega arith
