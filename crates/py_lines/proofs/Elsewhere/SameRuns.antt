@@ -48,22 +48,17 @@ same_move modes.Fielded done depth held c cs holds h = absurd holds
 same_move m done depth held c cs holds h = refl
 
 -- characters, one after another
-same_runs : (s : Scanned) (read cs : List ℕ) → IsSound s read → may_have_fields (read ++ cs) ≡ false → scan_steps (Some s) cs ≡ steps_from (Some s) cs
-same_runs s read [] sound h = refl
-same_runs s read (c ∷ cs) sound h =
+same_runs : (cs : List ℕ) (o : Option Scanned) (read : List ℕ) → SoundIf o read → may_have_fields (read ++ cs) ≡ false → scan_steps o cs ≡ steps_from o cs
+same_runs cs None read sound h = refl
+same_runs [] (Some s) read sound h = refl
+same_runs (c ∷ cs) (Some s) read sound h =
     let whole : may_have_fields (spelled s.done ++ (s.held ++ c ∷ cs)) ≡ false =
     ap may_have_fields (sym (append_assoc (spelled s.done) s.held (c ∷ cs)) ∙ ap (λ t. t ++ c ∷ cs) sound.spell) ∙ h in
-    let move : move_at s c ≡ move_of s.mode c = same_move s.mode s.done (depth_through 0 s.done) s.held c cs sound.holds (later (spelled s.done) (s.held ++ c ∷ cs) whole) in
-    ap (λ (v : Move). scan_steps (moved s c v) cs) move
-    ∙ go (step s c) (step_sound s.done s.mode s.held read c sound)
-    (λ t next. same_runs t (read ++ c ∷ []) cs next (ap may_have_fields (append_assoc read (c ∷ []) cs) ∙ h))
-  where
-    go : (o : Option Scanned) → SoundIf o (read ++ c ∷ []) → ((t : Scanned) → IsSound t (read ++ c ∷ []) → scan_steps (Some t) cs ≡ steps_from (Some t) cs) → scan_steps o cs ≡ steps_from o cs
-    go None next more = refl
-    go (Some t) next more = more t next
+    ap (λ (v : Move). scan_steps (moved s c v) cs) (same_move s.mode s.done (depth_through 0 s.done) s.held c cs sound.holds (later (spelled s.done) (s.held ++ c ∷ cs) whole))
+    ∙ same_runs cs (step s c) (read ++ c ∷ []) (step_sound s.done s.mode s.held read c sound) (ap may_have_fields (append_assoc read (c ∷ []) cs) ∙ h)
 
 from_start : (cs : List ℕ) → may_have_fields cs ≡ false → scan_steps (Some text_start) cs ≡ steps_from (Some text_start) cs
-from_start cs h = same_runs text_start [] cs start_is_sound h
+from_start cs h = same_runs cs (Some text_start) [] start_is_sound h
 
 -- so a text is live with fields exactly if it is live without
 pub live_with : (cs : List ℕ) → may_have_fields cs ≡ false → IsLiveIn plain_dialect cs → IsLiveIn fielded_dialect cs
