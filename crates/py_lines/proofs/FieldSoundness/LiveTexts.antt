@@ -90,7 +90,7 @@ room-append (Some t) (c ∷ a) b s steps first second =
     let parts = and_parts (has_room t c) (have_room (field_step t c) a) first in
     and_from _ _ parts.0 (room-append (field_step t c) a b s steps parts.1 second)
 
-steps_before : (o : Option FieldScanned) (b : List ℕ) (s : FieldScanned) → field_steps_from o b ≡ Some s → (t : FieldScanned) × (o ≡ Some t)
+pub steps_before : (o : Option FieldScanned) (b : List ℕ) (s : FieldScanned) → field_steps_from o b ≡ Some s → (t : FieldScanned) × (o ≡ Some t)
 steps_before None b s steps =
     let stuck : None ≡ Some s = steps in
     absurd (cc)

@@ -26,6 +26,11 @@ GoesTo from characters to brackets = GoesBy move_at from characters to brackets
 abbrev pub RunsTo : List ℕ → Scanned → List Bracket → Type 0
 RunsTo characters to brackets = GoesTo text_start characters to brackets
 
+-- where it does, there is a state that it goes on from
+pub first_state : (o : Option Scanned) (cs : List ℕ) (s : Scanned) → scan_steps o cs ≡ Some s → (t : Scanned) × (o ≡ Some t)
+first_state None cs s run = let stuck : None ≡ Some s = run in absurd (cc)
+first_state (Some t) cs s run = (t, refl)
+
 -- one character more
 pub steps_push : (from : Scanned) (read : List ℕ) (s : Scanned) (c : ℕ) → scan_steps (Some from) read ≡ Some s → scan_steps (Some from) (read ++ c ∷ []) ≡ scan_step s c
 steps_push from read s c steps = steps_by-append move_at (Some from) read (c ∷ []) ∙ ap (λ o. scan_steps o (c ∷ [])) steps ∙ whole (scan_step s c)

@@ -1,6 +1,6 @@
 -- What is proved of the machine with fields, said of the scanning machine: a text is live exactly where it goes through it, with its brackets,
 -- and where it may end its pieces read the text.
-use Rattle.std.proofs.Common.{◌≡◌, ℕ, true, Option, None, Some, List, [], ◌∷◌, refl, ap, ◌∙◌, subst}
+use Rattle.std.proofs.Common.{◌≡◌, ℕ, true, Option, None, Some, List, [], ◌∷◌, refl, sym, ap, ◌∙◌, subst}
 use Rattle.std.proofs.lemmas.Bool.{and_parts}
 use Rattle.py_lines.specs.Reading.{IsBalancedReading}
 use Rattle.py_lines.specs.Faults.{IsLive}
@@ -10,7 +10,7 @@ use Rattle.py_lines.specs.Private.ScanMachine.{scan_step, scan_steps}
 use Rattle.py_lines.proofs.Pieces.ShallowPieces.{fits_reading}
 use Rattle.py_lines.proofs.Machine.PieceSteps.{pieces_at}
 use Rattle.py_lines.proofs.Machine.LiveTexts.{stack_closed}
-use Rattle.py_lines.proofs.FieldSoundness.LiveTexts.{live_goes, goes_live}
+use Rattle.py_lines.proofs.FieldSoundness.LiveTexts.{live_goes, goes_live, steps_before}
 use Rattle.py_lines.proofs.ScanMachine.Advance.{kept, kept_if, GoesTo, RunsTo}
 use Rattle.py_lines.proofs.ScanMachine.Follows.{IsTied, roomy, Alike, some_is}
 use Rattle.py_lines.proofs.ScanMachine.Runs.{tied_step}
@@ -23,24 +23,24 @@ pub record GoesAlong (from : Scanned) (cs : List ℕ) (t : FieldScanned) : Type 
   pub goes : GoesTo from cs state brackets
   pub tied : IsTied t state brackets
 
+-- where the machine with fields takes a character, the scanning machine takes it too
+scan_takes : (o : Option Scanned) (f : FieldScanned) → Alike (kept_if o) (Some f) → (n : Scanned) × (st : List Bracket) × (o ≡ Some n) × IsTied f n st
+scan_takes None f tie = absurd tie
+scan_takes (Some n) f alike = by (brackets_of n.done) alike
+  where
+    by : (b : Option (List Bracket)) → Alike (kept n b) (Some f) → (u : Scanned) × (st : List Bracket) × (Some n ≡ Some u) × IsTied f u st
+    by None tie = absurd tie
+    by (Some st) (first, tied) = (n, first, refl, tied)
+
 pub goes_along : (cs : List ℕ) (s : Scanned) (st : List Bracket) (t u : FieldScanned) → IsTied t s st → field_steps_from (Some t) cs ≡ Some u → have_room (Some t) cs ≡ true → GoesAlong s cs u
 goes_along [] s st t u tied steps room = record { state = s; brackets = st; goes = record { run = refl; stack = tied.stack }; tied = subst (λ (x : FieldScanned). IsTied x s st) (some_is t u steps) tied }
 goes_along (c ∷ cs) s st t u tied steps room =
     let parts = and_parts (has_room t c) (have_room (field_step t c) cs) room in
-    go (scan_step s c) (field_step t c) refl (subst (λ b. Alike (kept_if (scan_step s c)) (roomy b (field_step t c))) parts.0 (tied_step t s st c tied).alike) steps parts.1
-    (λ n first f. goes_along cs n first f u)
-  where
-    go : (o : Option Scanned) (p : Option FieldScanned) → scan_step s c ≡ o → Alike (kept_if o) p → field_steps_from p cs ≡ Some u → have_room p cs ≡ true
-        → ((n : Scanned) (first : List Bracket) (f : FieldScanned) → IsTied f n first → field_steps_from (Some f) cs ≡ Some u → have_room (Some f) cs ≡ true → GoesAlong n cs u) → GoesAlong s (c ∷ cs) u
-    go o None is alike run rooms later = let stuck : None ≡ Some u = run in absurd (cc)
-    go None (Some f) is alike run rooms later = absurd alike
-    go (Some n) (Some f) is alike run rooms later = by (brackets_of n.done) alike
-      where
-        by : (b : Option (List Bracket)) → Alike (kept n b) (Some f) → GoesAlong s (c ∷ cs) u
-        by None tie = absurd tie
-        by (Some st') (first, tie) =
-            let on = later n first f tie run rooms in
-            record { state = on.state; brackets = on.brackets; goes = record { run = ap (λ o. scan_steps o cs) is ∙ on.goes.run; stack = on.goes.stack }; tied = on.tied }
+    let (f, next) = steps_before (field_step t c) cs u steps in
+    let alike = subst (λ p. Alike (kept_if (scan_step s c)) p) (ap (λ b. roomy b (field_step t c)) parts.0 ∙ next) (tied_step t s st c tied).alike in
+    let (n, first, taken, tie) = scan_takes (scan_step s c) f alike in
+    let on = goes_along cs n first f u tie (ap (λ p. field_steps_from p cs) (sym next) ∙ steps) (ap (λ p. have_room p cs) (sym next) ∙ parts.1) in
+    record { state = on.state; brackets = on.brackets; goes = record { run = ap (λ o. scan_steps o cs) taken ∙ on.goes.run; stack = on.goes.stack }; tied = on.tied }
 
 -- a text is live exactly where the scanning machine goes through it
 pub live_runs : (cs : List ℕ) → IsLive cs → (s : Scanned) × (st : List Bracket) × RunsTo cs s st

@@ -25,7 +25,7 @@ use Rattle.py_lines.proofs.FieldSoundness.HostSteps as field_soundness
 use Rattle.py_lines.proofs.FieldSoundness.ListEnds.{EndsList, list_ends}
 use Rattle.py_lines.proofs.FieldSoundness.WholeTexts.{two_hundred, room_at}
 use Rattle.py_lines.proofs.FieldSoundness.LiveTexts.{steps-append, room-append}
-use Rattle.py_lines.proofs.ScanMachine.Advance.{kept, kept_if, GoesTo, RunsTo}
+use Rattle.py_lines.proofs.ScanMachine.Advance.{kept, kept_if, GoesTo, RunsTo, first_state}
 use Rattle.py_lines.proofs.ScanMachine.Rebased.{based, rebased_in}
 use Rattle.py_lines.proofs.ScanMachine.Follows.{openers_of, flat, Own, IsTied, roomy, Alike, some_is}
 use Rattle.py_lines.proofs.ScanMachine.Runs.{before_none, tied_step}
@@ -127,41 +127,35 @@ module _ (s : Scanned) (read : List ℕ) (c : ℕ) (sound : IsScanSound s read) 
       let flat_field = field_as t (field_state [] done os (plain m) held) all is field in
       sound_as m (plain m) done os held all flat_field (open_of m done held flat_field.mode flat_field.start)
 
+-- where the scanning machine takes a character, the other has room for it and takes it too
+both_take : (n : Scanned) (b : Bool) (p : Option FieldScanned) → Alike (Some n) (roomy b p) → (f : FieldScanned) × (st : List Bracket) × (b ≡ true) × (p ≡ Some f) × IsTied f n st
+both_take n false p tie = absurd tie
+both_take n true None tie = absurd tie
+both_take n true (Some f) (st, tied) = (f, st, refl, refl, tied)
+
 -- characters, one after another
 run_sound : (m : Mode) (cs : List ℕ) (s : Scanned) (read : List ℕ) (st : List Bracket) → StandsSound m read s st → (u : Scanned) (last : List Bracket) → GoesTo s cs u last → StandsSound m (read ++ cs) u last
 run_sound m [] s read st here u last to =
     let same : s ≡ u = some_is s u to.run in
     let stack : st ≡ last = some_is st last (sym here.tied.stack ∙ ap (λ (x : Scanned). brackets_of x.done) same ∙ to.stack) in
-    subst (λ x. StandsSound m x u last) (sym (append-nil read)) (subst (StandsSound m read u) stack (subst (λ (x : Scanned). StandsSound m read x st) same here))
+    rw (append-nil, ← same, ← stack) here
 run_sound m (c ∷ cs) s read st here u last to =
-    go (scan_step s c) (tied_step t s st c here.tied).alike (moved_stays s c (move_at s c)) to.run
-    (λ n first next run. subst (λ x. StandsSound m x u last) (append_assoc read (c ∷ []) cs) (run_sound m cs n (read ++ c ∷ []) first next u last (record { run = run; stack = to.stack })))
-  where
-    t : FieldScanned
-    t = here.state
-
-    go : (o : Option Scanned) → Alike (kept_if o) (roomy (has_room t c) (field_step t c)) → Stays s c o → scan_steps o cs ≡ Some u
-        → ((n : Scanned) (first : List Bracket) → StandsSound m (read ++ c ∷ []) n first → scan_steps (Some n) cs ≡ Some u → StandsSound m (read ++ c ∷ cs) u last) → StandsSound m (read ++ c ∷ cs) u last
-    go None alike stays run later = let stuck : None ≡ Some u = run in absurd (cc)
-    go (Some n) alike stays run later =
-        let before = stack_at {move = move_at} {s = n} {t = u} {cs = cs} {st = last} (record { run = run; stack = to.stack }) in
-        by (has_room t c) (field_step t c) refl refl (subst (λ b. Alike (kept n b) (roomy (has_room t c) (field_step t c))) before.1 alike)
-      where
-        by : (b : Bool) (p : Option FieldScanned) → has_room t c ≡ b → field_step t c ≡ p → Alike (Some n) (roomy b p) → StandsSound m (read ++ c ∷ cs) u last
-        by false p room is tie = absurd tie
-        by true None room is tie = absurd tie
-        by true (Some f) room is (first, tied) =
-            let next = field_soundness.step_sound two_hundred t.outer t.done t.openers t.mode t.held read c here.field (room_at (frames t) c _ room) in
-            let field : IsFieldSound two_hundred f (read ++ c ∷ []) = subst (λ o. FieldSoundIf two_hundred o (read ++ c ∷ [])) is next in
-            let here_next : StandsSound m (read ++ c ∷ []) n first = record {
-              state = f;
-              steps = steps-append (Some (field_start m)) read (c ∷ []) ∙ ap (λ o. field_steps_from o (c ∷ [])) here.steps ∙ ap (λ o. field_steps_from o []) is;
-              room = room-append (Some (field_start m)) read (c ∷ []) t here.steps here.room (and_from _ _ room (ap (λ o. have_room o []) is));
-              tied = tied;
-              field = field;
-              scan = next_sound s read c here.scan n.mode n.done n.held (openers_of first) f stays tied.flat_is tied.own field;
-            } in
-            later n first here_next run
+    let t = here.state in
+    let (n, taken) = first_state (scan_step s c) cs u to.run in
+    let on : GoesTo n cs u last = record { run = ap (λ o. scan_steps o cs) (sym taken) ∙ to.run; stack = to.stack } in
+    let kept_so = ap kept_if taken ∙ ap (kept n) (stack_at on).1 in
+    let (f, first, room, is, tied) = both_take n (has_room t c) (field_step t c) (subst (λ o. Alike o (roomy (has_room t c) (field_step t c))) kept_so (tied_step t s st c here.tied).alike) in
+    let next = field_soundness.step_sound two_hundred t.outer t.done t.openers t.mode t.held read c here.field (room_at (frames t) c _ room) in
+    let field : IsFieldSound two_hundred f (read ++ c ∷ []) = subst (λ o. FieldSoundIf two_hundred o (read ++ c ∷ [])) is next in
+    let here_next : StandsSound m (read ++ c ∷ []) n first = record {
+      state = f;
+      steps = steps-append (Some (field_start m)) read (c ∷ []) ∙ ap (λ o. field_steps_from o (c ∷ [])) here.steps ∙ ap (λ o. field_steps_from o []) is;
+      room = room-append (Some (field_start m)) read (c ∷ []) t here.steps here.room (and_from _ _ room (ap (λ o. have_room o []) is));
+      tied = tied;
+      field = field;
+      scan = next_sound s read c here.scan n.mode n.done n.held (openers_of first) f (subst (Stays s c) taken (moved_stays s c (move_at s c))) tied.flat_is tied.own field;
+    } in
+    subst (λ x. StandsSound m x u last) (append_assoc read (c ∷ []) cs) (run_sound m cs n (read ++ c ∷ []) first here_next u last on)
 
 -- nothing is read at a line's start, so it is the text's or that of a line after it
 not_empty : (xs : List ℕ) (y : ℕ) (ys : List ℕ) → [] ≡ xs ++ y ∷ ys → ⊥
