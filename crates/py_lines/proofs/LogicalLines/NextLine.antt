@@ -1,5 +1,5 @@
 -- One more logical line after those given, and one more token after those of a line.
-use Rattle.std.proofs.Common.{◌≡◌, ℕ, ◌+◌, Bool, true, false, ◌&&◌, ◌==◌, List, [], ◌∷◌, ◌++◌, refl, sym, ap, ◌∙◌, subst, append_assoc, append-nil, add_assoc, arith}
+use Rattle.std.proofs.Common.{◌≡◌, ℕ, ◌+◌, Bool, true, false, ◌&&◌, ◌==◌, List, [], ◌∷◌, ◌++◌, refl, sym, ap, ◌∙◌, subst, append_assoc, append-nil, add_assoc, add-zero, arith}
 use Rattle.std.specs.Prelude.{encode_utf8_all}
 use Rattle.std.proofs.lemmas.Bool.{cond_both}
 use Rattle.std.proofs.lemmas.Str.{encodes-append}
@@ -62,17 +62,8 @@ line_ends-spelled (p ∷ ps) rest fit =
     ∙ ap (λ (n : ℕ). line_ends p.text + n) (line_ends-spelled ps rest fit.3)
 
 lines_from-append : (offset line : ℕ) (us vs : List (List Piece)) → lines_from offset line (us ++ vs) ≡ lines_from offset line us ++ lines_from (offset + byte_len (parts_spelled us)) (line + parts_lines us) vs
-lines_from-append offset line [] vs =
-    let one : offset + 0 ≡ offset = omega arith in
-    let two : line + 0 ≡ line = omega arith in
-    ap (λ (n : ℕ). lines_from n line vs) (sym one) ∙ ap (λ (n : ℕ). lines_from (offset + 0) n vs) (sym two)
-lines_from-append offset line (u ∷ us) vs =
-    let b = byte_len (spelled u) in
-    let l = line_ends (spelled u) in
-    ap (λ x. line_of offset line u ∷ x)
-    (lines_from-append (offset + b) (line + l) us vs
-    ∙ ap (λ (n : ℕ). lines_from (offset + b) (line + l) us ++ lines_from n ((line + l) + parts_lines us) vs) (add_assoc offset b (byte_len (parts_spelled us)) ∙ ap (λ (n : ℕ). offset + n) (sym (byte_len-append (spelled u) (parts_spelled us))))
-    ∙ ap (λ (n : ℕ). lines_from (offset + b) (line + l) us ++ lines_from (offset + byte_len (spelled u ++ parts_spelled us)) n vs) (add_assoc line l (parts_lines us)))
+lines_from-append offset line [] vs = simp add-zero
+lines_from-append offset line (u ∷ us) vs = rw (lines_from-append (offset + byte_len (spelled u)) (line + line_ends (spelled u)) us vs) (simp (byte_len-append, add_assoc))
 
 -- a logical line after those given: its offset and its line are those of its place
 pub lines_of-push : (given unit : List Piece) (rest : List ℕ) → EndsLine given → cut 0 unit ≡ unit ∷ [] → AreReadBefore (given ++ unit) rest → lines_of (given ++ unit) ≡ lines_of given ++ line_of (byte_len (spelled given)) (1 + line_ends (spelled given)) unit ∷ []
@@ -94,19 +85,8 @@ lines_of-more given others ended = (
 
 -- the tokens of pieces, one list after another
 pub tokens_from-append : (start line : ℕ) (ps qs : List Piece) → tokens_from start line (ps ++ qs) ≡ tokens_from start line ps ++ tokens_from (start + byte_len (spelled ps)) (line + lines_in ps) qs
-tokens_from-append start line [] qs =
-    let one : start + byte_len [] ≡ start = omega arith in
-    let two : line + 0 ≡ line = omega arith in
-    ap (λ (n : ℕ). tokens_from n line qs) (sym one) ∙ ap (λ (n : ℕ). tokens_from (start + byte_len []) n qs) (sym two)
-tokens_from-append start line (p ∷ ps) qs =
-    let b = byte_len p.text in
-    let l = line_ends p.text in
-    let here = tokens_of_piece start (start + b) line p.class p.text in
-    ap (λ x. here ++ x)
-    (tokens_from-append (start + b) (line + l) ps qs
-    ∙ ap (λ (n : ℕ). tokens_from (start + b) (line + l) ps ++ tokens_from n ((line + l) + lines_in ps) qs) (add_assoc start b (byte_len (spelled ps)) ∙ ap (λ (n : ℕ). start + n) (sym (byte_len-append p.text (spelled ps))))
-    ∙ ap (λ (n : ℕ). tokens_from (start + b) (line + l) ps ++ tokens_from (start + byte_len (p.text ++ spelled ps)) n qs) (add_assoc line l (lines_in ps)))
-    ∙ sym (append_assoc here (tokens_from (start + b) (line + l) ps) _)
+tokens_from-append start line [] qs = simp add-zero
+tokens_from-append start line (p ∷ ps) qs = rw (tokens_from-append (start + byte_len p.text) (line + line_ends p.text) ps qs) (simp (byte_len-append, add_assoc, append_assoc))
 
 -- the bytes of logical lines, one after another
 abbrev pub texts : List LogicalLine → List ℕ
