@@ -32,7 +32,7 @@ use Rattle.py_lines.proofs.ScanMachine.Advance.{RunsTo, advance}
 use Rattle.py_lines.proofs.ScanMachine.BodyMoves.{IsBodyMode}
 use Rattle.py_lines.proofs.ScanMachine.Rebased.{rebased, rebased_in, rebased_if, based, frames_more}
 use Rattle.py_lines.proofs.ScanMachine.Follows.{openers_of, openers-length, flat, Own, Alike, roomy, some_is}
-use Rattle.py_lines.proofs.ScanMachine.Runs.{before_none, tied_step}
+use Rattle.py_lines.proofs.ScanMachine.Runs.{tied_step}
 use Rattle.py_lines.proofs.ScanMachine.Soundness.{StandsSound, comes_along}
 
 -- the mode of the machine with fields, outside a string with fields that holds something
@@ -87,8 +87,8 @@ record IsShifted (bytes depth : ℕ) (outer : List Level) (t u : FieldScanned) :
 -- their brackets outermost.
 module _ (done : List Piece) (os : List ℕ) where
   text_based : (p : Place) (l : Level) (ls : List Level) → before p (based done os l ls) ≡ spelled done ++ before p (based [] [] l ls)
-  text_based literal l [] = ap (λ x. x ++ (spelled done ++ l.front)) (before_none l.place) ∙ ap (λ x. spelled done ++ (x ++ l.front)) (sym (before_none l.place))
-  text_based specification l [] = ap (λ x. x ++ spelled done) (before_none l.place) ∙ sym (append-nil (spelled done)) ∙ ap (λ x. spelled done ++ (x ++ [])) (sym (before_none l.place))
+  text_based literal l [] = refl
+  text_based specification l [] = sym (append-nil (spelled done))
   text_based literal l (k ∷ ks) = ap (λ x. x ++ (spelled l.done ++ l.front)) (text_based l.place k ks) ∙ append_assoc (spelled done) (before l.place (based [] [] k ks)) (spelled l.done ++ l.front)
   text_based specification l (k ∷ ks) = ap (λ x. x ++ spelled l.done) (text_based l.place k ks) ∙ append_assoc (spelled done) (before l.place (based [] [] k ks)) (spelled l.done)
 
@@ -113,18 +113,16 @@ module _ (done : List Piece) (os : List ℕ) where
   open_body m (host, place, named, at, is) = absurd (cc)
 
   shifted : (outer : List Level) (ps : List Piece) (bs : List ℕ) (m : FieldMode) (held : List ℕ) → (outer ≡ [] → IsBodyMode m) → IsShifted (byte_len (spelled done)) (length os) outer (rebased_in done os outer ps bs m held) (rebased_in [] [] outer ps bs m held)
-  shifted [] ps bs m held inside =
-      let bytes : (more : List ℕ) → byte_len (before (text_place m) [] ++ (spelled done ++ more)) ≡ byte_len (spelled done) + byte_len (before (text_place m) [] ++ more) = λ more. rw (before_none (text_place m)) (byte_len-append (spelled done) more) in
-      record {
-        mode_is = refl;
-        frames_is = omega arith;
-        here_is = bytes held;
-        start_is = ap (λ x. byte_len (before (text_place m) [] ++ x)) (sym (append-nil (spelled done))) ∙ bytes [];
-        open_is = open_body m (inside refl);
-        outer_is = λ none. none;
-        field_is = λ some. absurd (some refl);
-        done_is = λ some. absurd (some refl);
-      }
+  shifted [] ps bs m held inside = record {
+    mode_is = refl;
+    frames_is = omega arith;
+    here_is = byte_len-append (spelled done) held;
+    start_is = omega arith;
+    open_is = open_body m (inside refl);
+    outer_is = λ none. none;
+    field_is = λ some. absurd (some refl);
+    done_is = λ some. absurd (some refl);
+  }
   shifted (l ∷ ls) ps bs m held inside = record {
     mode_is = refl;
     frames_is = frames_more done os (field_state (l ∷ ls) ps bs m held);
@@ -239,7 +237,7 @@ module _ (read : List ℕ) (s : Scanned) (st : List Bracket) (runs : RunsTo read
   flat_is other = flat_state s.mode s.done (openers_of st) s.held t other along.tied.flat_is
 
   begun_is : (s.mode ≡ modes.Fielded → ⊥) → piece_start t ≡ byte_len (spelled s.done)
-  begun_is other = sym (ap piece_start (flat_is other)) ∙ ap (λ x. byte_len (x ++ spelled s.done)) (before_none (text_place (flat_mode s.mode)))
+  begun_is other = sym (ap piece_start (flat_is other))
 
   -- a character that is refused
   module _ (c : ℕ) (after : List ℕ) (refused : advance s c ≡ None) where

@@ -3,7 +3,7 @@ use Rattle.std.proofs.Common.{◌≡◌, ℕ, ◌+◌, Bool, true, false, Option
 use Rattle.std.specs.Prelude.{if◌then◌else◌}
 use Rattle.py_lines.specs.Piece.{string, Piece, spelled}
 use Rattle.py_lines.specs.Balance.{depth_through}
-use Rattle.py_lines.specs.FieldStrings.{Place, literal, specification}
+use Rattle.py_lines.specs.FieldStrings.{Place}
 use Rattle.py_lines.specs.declared.mode.Mode.{Mode}
 use Rattle.py_lines.specs.declared.mode.Mode.TheVariants as modes
 use Rattle.py_lines.specs.declared.mode.Move.{Move}
@@ -45,10 +45,6 @@ ends_or_stays [] (grows m) stays = inr (stays refl)
 ends_or_stays [] closes stays = inl (refl, refl)
 ends_or_stays [] breaks stays = absurd (stays refl)
 ends_or_stays [] v stays = inr tt
-
-pub before_none : (p : Place) → before p [] ≡ []
-before_none literal = refl
-before_none specification = refl
 
 module _ (done : List Piece) (held : List ℕ) (st : List Bracket) (c : ℕ) (stack : brackets_of done ≡ Some st) (t : FieldScanned) (alone : GoesAlone (depth_through 0 done) held t) (inside : IsInString t) (bare : t ≡ rebased [] [] t) where
   abbrev S : Scanned
@@ -119,7 +115,7 @@ module _ (done : List Piece) (held : List ℕ) (st : List Bracket) (c : ℕ) (st
   outside_is none =
       let sound = sound_at no_limit held t (any_rooms (Some field_text_start) held) alone.steps in
       let nothing : t.done ≡ [] = ap (λ (x : FieldScanned). x.done) bare ∙ ap (λ (l : List Level). (rebased_in [] [] l t.done t.openers t.mode t.held).done) none in
-      sym (ap (λ (l : List Level). before (text_place t.mode) l ++ (spelled t.done ++ t.held)) none ∙ ap (λ x. x ++ (spelled t.done ++ t.held)) (before_none (text_place t.mode)) ∙ ap (λ (l : List Piece). spelled l ++ t.held) nothing) ∙ sound.spell
+      sym (ap (λ (l : List Level). before (text_place t.mode) l ++ (spelled t.done ++ t.held)) none ∙ ap (λ (l : List Piece). spelled l ++ t.held) nothing) ∙ sound.spell
 
   -- the string closes
   closing : has_room_in (depth_through 0 done) t c ≡ true → t.outer ≡ [] → v ≡ closes → IsBodyMode t.mode → StepsAlike S T c

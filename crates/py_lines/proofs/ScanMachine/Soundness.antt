@@ -28,7 +28,7 @@ use Rattle.py_lines.proofs.FieldSoundness.LiveTexts.{steps-append, room-append}
 use Rattle.py_lines.proofs.ScanMachine.Advance.{kept, kept_if, GoesTo, RunsTo, first_state}
 use Rattle.py_lines.proofs.ScanMachine.Rebased.{based, rebased_in}
 use Rattle.py_lines.proofs.ScanMachine.Follows.{openers_of, flat, Own, IsTied, roomy, Alike, some_is}
-use Rattle.py_lines.proofs.ScanMachine.Runs.{before_none, tied_step}
+use Rattle.py_lines.proofs.ScanMachine.Runs.{tied_step}
 
 -- the machine with fields where a line begins in this mode
 abbrev pub field_start : Mode → FieldScanned
@@ -94,7 +94,7 @@ field_as t u read is field = subst (λ x. IsFieldSound two_hundred x read) (sym 
 -- outside a string with fields that holds something
 sound_as : (m : Mode) (n : FieldMode) (done : List Piece) (os held read : List ℕ) → IsFieldSound two_hundred (field_state [] done os n held) read → HoldsOpen m done held → IsScanSound (scanned done m held) read
 sound_as m n done os held read field holds = record {
-  spell = ap (λ x. x ++ (spelled done ++ held)) (sym (before_none (text_place n))) ∙ field.spell;
+  spell = field.spell;
   holds = holds;
   fit = field.list.fit;
   strings = strings_shallow 0 done field.list.passes;

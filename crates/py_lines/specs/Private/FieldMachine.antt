@@ -331,7 +331,6 @@ text_place other = literal
 
 -- the characters before the innermost list; where a specification is open, those before its string
 abbrev pub before : Place → List Level → List ℕ
-before literal [] = []
+before place [] = []
 before literal (l ∷ ls) = before l.place ls ++ (spelled l.done ++ l.front)
-before specification [] = []
 before specification (l ∷ ls) = before l.place ls ++ spelled l.done
