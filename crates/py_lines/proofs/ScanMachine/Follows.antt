@@ -4,7 +4,7 @@ use Rattle.std.proofs.Common.{◌≡◌, ℕ, ◌+◌, Bool, true, false, not, �
 use Rattle.std.specs.Prelude.{if◌then◌else◌}
 use Rattle.std.specs.Str.{byte}
 use Rattle.std.specs.List.{list_all, list_any}
-use Rattle.std.proofs.lemmas.Bool.{cases_Bool, both_ways, and_right, and_parts, and_from}
+use Rattle.std.proofs.lemmas.Bool.{cases_Bool, cond_both, both_ways, and_right, and_parts, and_from}
 use Rattle.py_lines.specs.Character.{is_mark, is_word_character, is_quote, is_break, is_backslash, is_r}
 use Rattle.py_lines.specs.Piece.{operator, line_end, Piece, spelled}
 use Rattle.py_lines.specs.Balance.{is_opening, is_closing, closing_of, is_opener, is_closer, depth_through}
@@ -19,7 +19,8 @@ use Rattle.py_lines.specs.declared.mode.Start.{Start}
 use Rattle.py_lines.specs.declared.mode.Start.TheVariants as starts
 use Rattle.py_lines.specs.Private.Machine.{Scanned, fresh, class_of, closed, started, moved, move_of, start_of, Holds, is_prefix_spelling, first_spelling, spelling_with, Bracket, closed_by, opened_by, brackets_after, brackets_of}
 use Rattle.py_lines.specs.Private.FieldMachine.{between, after_slash, after_brace, FieldMode, plain, opened, empty, body, FieldMove, grows, closes, breaks, refused, FieldScanned, field_state, field_fresh, field_text_start, begins_host, host_of, long_host, plain_move, field_move, field_moved, field_step, field_started, field_pieces, openers_with, after_operator, frames, has_room, has_room_at, between_move, body_move}
-use Rattle.py_lines.specs.Private.ScanMachine.{is_field_spelling, is_raw_spelling, host_in, quote_move, opened_move, meet_of, string_state, have_room_in, move_at, scan_step, IsInString}
+use Rattle.py_lines.specs.Private.ScanMachine.{is_field_spelling, is_raw_spelling, begins_string, host_in, quote_move, opened_move, meet_of, string_state, have_room_in, move_at, scan_step, IsInString}
+use Rattle.py_lines.specs.Private.FieldScan.{code_mode, code_moved}
 use Rattle.py_lines.proofs.Pieces.PieceLists.{piece}
 use Rattle.py_lines.proofs.Pieces.OpenBrackets.{stack_push}
 use Rattle.py_lines.specs.LogicalLine.{byte_len}
@@ -299,52 +300,42 @@ module _ (s : Spelling) (done : List Piece) (held : List ℕ) (st : List Bracket
   abbrev S : Scanned
   S = scanned done (modes.Word s) held
 
-  -- where the machine without fields says what happens
-  word_plain : (v : Move) → move_of (modes.Word s) c ≡ v → move_at S c ≡ v → begins_host (modes.Word s) held c ≡ false → ((n : Mode) → v ≡ moves.Grows n → Own n (depth_through 0 done) (held ++ c ∷ [])) → StepsAlike S T c
-  word_plain v is at none more = by_moves S T c v (plain_move v) at (plain_moves (modes.Word s) held c none ∙ ap plain_move is) (λ h. (at ∙ breaks_as v h, refl)) (plain_moved (modes.Word s) done held st c v is stack more)
+  -- both machines meet a character alike
+  word_meets : field_move (plain (modes.Word s)) held c ≡ code_moved (meet_of (modes.Word s) c)
+  unfolding meet_of quote_move field_move move_of
+  word_meets =
+      ⊎_elim (λ (passes : is_word_character c ≡ true). rw (and_right (is_field_prefix held) _ (excluded is_word_character is_quote c (quote-not-word c) passes), passes))
+      (λ (other : is_word_character c ≡ false). ⊎_elim
+      (λ (quotes : is_quote c ≡ true). ⊎_elim
+      (λ (field : is_field_spelling s ≡ true). rw (tells.0 ∙ field, quotes, other, field) (ap (λ (b : Bool). grows (opened (record { quote = c; is_long = false; is_raw = b }))) (tells.1 field)))
+      (λ (none : is_field_spelling s ≡ false). rw (tells.0 ∙ none, quotes, other, none, other_begins s none) (⊎_elim (λ (b : is_prefix_spelling s ≡ true). rw b) (λ (b : is_prefix_spelling s ≡ false). rw b) (cases_Bool (is_prefix_spelling s))))
+      (cases_Bool (is_field_spelling s)))
+      (λ (none : is_quote c ≡ false). rw (and_right (is_field_prefix held) _ none, and_right (is_prefix_spelling s) _ none, other, none))
+      (cases_Bool (is_quote c)))
+      (cases_Bool (is_word_character c))
 
-  in_word : is_word_character c ≡ true → StepsAlike S T c
-  unfolding meet_of move_of
-  in_word passes =
-      let n : Mode = modes.Word (spelling_with s c) in
-      word_plain (moves.Grows n) (rw passes) (rw passes) (and_right _ _ (excluded is_word_character is_quote c (quote-not-word c) passes))
-      (λ m is. subst (λ (x : Mode). Own x (depth_through 0 done) (held ++ c ∷ [])) (grown_is n m is) (word_on s held c own passes))
-    where
-      grown_is : (a b : Mode) → moves.Grows a ≡ moves.Grows b → a ≡ b
-      grown_is a b h = cc
+  abbrev WordSteps : Move → Type 0
+  WordSteps v = meet_of (modes.Word s) c ≡ v → StepsAlike S T c
 
-  no_quote : is_word_character c ≡ false → is_quote c ≡ false → StepsAlike S T c
-  unfolding meet_of move_of
-  no_quote other none = word_plain moves.Breaks (rw (other, and_right (is_prefix_spelling s) _ none)) (rw (other, none)) (and_right (is_field_prefix held) _ none) (λ n is. absurd (cc))
+  word_breaks : WordSteps moves.Breaks
+  word_breaks is = by_moves S T c moves.Breaks breaks is (word_meets ∙ ap code_moved is) (λ h. (is, refl)) (broken (closed (modes.Word s) done held) st c (stack_closed (modes.Word s) done held st stack))
 
-  plain_quote : is_word_character c ≡ false → is_quote c ≡ true → is_field_spelling s ≡ false → StepsAlike S T c
-  unfolding meet_of move_of quote_move
-  plain_quote other quotes plain_word = go (is_prefix_spelling s) refl
-    where
-      none : begins_host (modes.Word s) held c ≡ false
-      none = ap (λ b. b && is_quote c) (tells.0 ∙ plain_word)
-
-      go : (b : Bool) → is_prefix_spelling s ≡ b → StepsAlike S T c
-      go true prefix = word_plain (moves.Grows (modes.Opened c)) (rw (other, prefix, quotes)) (rw (other, quotes, plain_word, other_begins s plain_word, prefix)) none (λ n is. subst (λ (x : Mode). Own x (depth_through 0 done) (held ++ c ∷ [])) (opened_is n is) tt)
-        where
-          opened_is : (n : Mode) → moves.Grows (modes.Opened c) ≡ moves.Grows n → modes.Opened c ≡ n
-          opened_is n h = cc
-      go false prefix = word_plain moves.Breaks (rw (other, prefix)) (rw (other, quotes, plain_word, other_begins s plain_word, prefix)) none (λ n is. absurd (cc))
-
-  field_quote : is_word_character c ≡ false → is_quote c ≡ true → is_field_spelling s ≡ true → StepsAlike S T c
-  unfolding meet_of quote_move
-  field_quote other quotes field =
-      let h : StringWithFields = record { quote = c; is_long = false; is_raw = is_raw_spelling s } in
-      let host : host_in h ≡ host_of held c = ap (λ (b : Bool). record { quote = c; is_long = false; is_raw = b }) (sym (tells.1 field)) in
-      let move : field_move (plain (modes.Word s)) held c ≡ grows (opened (host_in h)) = host_moves s held c (tells.0 ∙ field) quotes ∙ ap (λ (x : Host). grows (opened x)) (sym host) in
-      grows_to S T st c (modes.FieldOpened h) (opened (host_in h)) (rw (other, quotes, field)) move
-      (record { stack = stack; flat_is = refl; own = (alone_grows (depth_through 0 done) held c _ (opened (host_in h)) (word_alone s (depth_through 0 done) held own) move, refl) })
+  word_grows : (n : Mode) → is_fielded_mode n ≡ false → code_mode n ≡ plain n → Own n (depth_through 0 done) (held ++ c ∷ []) → WordSteps (moves.Grows n)
+  word_grows n other same grown is = grows_to S T st c n (plain n) is (word_meets ∙ ap code_moved is ∙ ap grows same) (tied_plain n done st (held ++ c ∷ []) other grown stack)
 
   pub word_steps : StepsAlike S T c
+  unfolding meet_of quote_move
   word_steps =
-      ⊎_elim (λ passes. in_word passes)
-      (λ other. ⊎_elim (λ quotes. ⊎_elim (λ field. field_quote other quotes field) (λ plain_word. plain_quote other quotes plain_word) (cases_Bool (is_field_spelling s))) (λ none. no_quote other none) (cases_Bool (is_quote c)))
-      (cases_Bool (is_word_character c))
+      let h : StringWithFields = record { quote = c; is_long = false; is_raw = is_raw_spelling s } in
+      let depth = depth_through 0 done in
+      cond_both (is_word_character c) (moves.Grows (modes.Word (spelling_with s c))) _ WordSteps (λ passes. word_grows (modes.Word (spelling_with s c)) refl refl (word_on s held c own passes))
+      (λ other. cond_both (is_quote c) _ moves.Breaks WordSteps
+      (λ quotes. cond_both (is_field_spelling s) (moves.Grows (modes.FieldOpened h)) _ WordSteps
+      (λ field is.
+      let move = word_meets ∙ ap code_moved is in
+      grows_to S T st c (modes.FieldOpened h) (opened (host_in h)) is move (record { stack = stack; flat_is = refl; own = (alone_grows depth held c _ (opened (host_in h)) (word_alone s depth held own) move, refl) }))
+      (λ none. cond_both (begins_string s) (moves.Grows (modes.Opened c)) moves.Breaks WordSteps (λ b. word_grows (modes.Opened c) refl refl tt) (λ b. word_breaks)))
+      (λ none. word_breaks)) refl
 
 -- one quote of a string with fields
 break_refused : (host : Host) (c : ℕ) → host.is_long ≡ false → c == host.quote ≡ false → is_break c ≡ true → between_move host literal false between c ≡ refused
