@@ -22,7 +22,7 @@ use Rattle.py_lines.proofs.FieldMachine.Nesting.{passed_shallow, begin_shallow, 
 use Rattle.py_lines.proofs.FieldMachine.PieceRuns.{FieldFinds}
 use Rattle.py_lines.proofs.FieldMachine.Completeness.{reached}
 use Rattle.py_lines.proofs.ScanMachine.Steps.{StopsBefore}
-use Rattle.py_lines.proofs.ScanMachine.Rebased.{rebased, rebased_if, mode_based, none_based}
+use Rattle.py_lines.proofs.ScanMachine.Rebased.{rebased, rebased_if, none_based}
 use Rattle.py_lines.proofs.ScanMachine.Follows.{openers_of, flat, Own, IsTied, some_is}
 use Rattle.py_lines.proofs.ScanMachine.Runs.{tied_step}
 use Rattle.py_lines.proofs.ScanMachine.Soundness.{start_tied}
@@ -48,7 +48,7 @@ final_alike modes.Fielded done held os t is own none ends =
     let x : FieldScanned = own.state in
     let whole : rebased done os x ≡ t = some_is _ t (sym (ap (rebased_if done os) own.goes.steps) ∙ is) in
     let (host, place, named, at, body_mode) = own.inside (none_based done os x.outer x.done x.openers x.mode x.held (ap (λ (u : FieldScanned). u.outer) whole ∙ none)) in
-    let mode : x.mode ≡ t.mode = sym (mode_based done os x.outer x.done x.openers x.mode x.held) ∙ ap (λ (u : FieldScanned). u.mode) whole in
+    let mode : x.mode ≡ t.mode = ap (λ (u : FieldScanned). u.mode) whole in
     absurd (both_ways _ (ap may_end (sym mode ∙ body_mode)) ends)
 final_alike m done held os t is own none ends = (ap (λ (x : FieldScanned). may_end x.mode) (some_is _ t is) ∙ ends, ap field_pieces (sym (some_is _ t is)))
 

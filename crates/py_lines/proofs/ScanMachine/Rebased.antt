@@ -11,16 +11,24 @@ use Rattle.py_lines.specs.Private.Machine.{start_of}
 use Rattle.py_lines.specs.Private.FieldMachine.{between, FieldMode, body, FieldMove, closes, breaks, begins_code, ends_field, Level, FieldScanned, field_state, field_move, field_moved, field_step, field_started, field_operator, field_closed, code_operator, after_operator, openers_with, opened_level, field_ended, levels_open, frames}
 use Rattle.py_lines.proofs.ScanMachine.BodyMoves.{KeepsString}
 
+-- what stands in the innermost field, or in none
+abbrev in_field : {A : Type 0} → List Level → A → A → A
+in_field [] inside outside = outside
+in_field (l ∷ ls) inside outside = inside
+
 module _ (done : List Piece) (os : List ℕ) where
   -- the levels, with these pieces and brackets before the outermost string
   abbrev pub based : Level → List Level → List Level
   based l [] = record l { done = done; openers = os } ∷ []
   based l (k ∷ ks) = l ∷ based k ks
 
+  abbrev pub levels_based : List Level → List Level
+  levels_based [] = []
+  levels_based (l ∷ ls) = based l ls
+
   -- a state in a string, with these before it
   abbrev pub rebased_in : List Level → List Piece → List ℕ → FieldMode → List ℕ → FieldScanned
-  rebased_in [] ps bs m held = field_state [] done os m held
-  rebased_in (l ∷ ls) ps bs m held = field_state (based l ls) ps bs m held
+  rebased_in outer ps bs m held = field_state (levels_based outer) (in_field outer ps done) (in_field outer bs os) m held
 
   abbrev pub rebased : FieldScanned → FieldScanned
   rebased t = rebased_in t.outer t.done t.openers t.mode t.held
@@ -29,11 +37,7 @@ module _ (done : List Piece) (os : List ℕ) where
   rebased_if None = None
   rebased_if (Some t) = Some (rebased t)
 
-  -- its mode is the same, and it stands in no field where the other doesn't
-  pub mode_based : (outer : List Level) (ps : List Piece) (bs : List ℕ) (m : FieldMode) (held : List ℕ) → (rebased_in outer ps bs m held).mode ≡ m
-  mode_based [] ps bs m held = refl
-  mode_based (l ∷ ls) ps bs m held = refl
-
+  -- it stands in no field where the other doesn't
   pub none_based : (outer : List Level) (ps : List Piece) (bs : List ℕ) (m : FieldMode) (held : List ℕ) → (rebased_in outer ps bs m held).outer ≡ [] → outer ≡ []
   none_based [] ps bs m held none = refl
   none_based (l ∷ []) ps bs m held none = absurd (cc)
@@ -60,10 +64,8 @@ module _ (done : List Piece) (os : List ℕ) where
   operator_alike l (k ∷ ks) ps (b ∷ bs) c = after_alike l (k ∷ ks) ps c (openers_with (b ∷ bs) c)
 
   started_alike : (l : Level) (ls : List Level) (ps : List Piece) (bs : List ℕ) (c : ℕ) (st : Start) → field_started (based l ls) ps bs c st ≡ rebased_if (field_started (l ∷ ls) ps bs c st)
-  started_alike l ls ps bs c (starts.Open m) = refl
   started_alike l ls ps bs c starts.Operator = operator_alike l ls ps bs c
-  started_alike l ls ps bs c starts.LineEnd = refl
-  started_alike l ls ps bs c starts.Nothing = refl
+  started_alike l ls ps bs c st = refl
 
   -- moves other than those that end the outermost string
   pub moved_alike : (outer : List Level) (ps : List Piece) (bs : List ℕ) (m : FieldMode) (held : List ℕ) (c : ℕ) (v : FieldMove) → KeepsString outer v → field_moved (rebased_in outer ps bs m held) c v ≡ rebased_if (field_moved (field_state outer ps bs m held) c v)
@@ -77,11 +79,7 @@ module _ (done : List Piece) (os : List ℕ) where
   moved_alike outer ps bs m held c v keeps = refl
 
   pub step_alike : (t : FieldScanned) (c : ℕ) → KeepsString t.outer (field_move t.mode t.held c) → field_step (rebased t) c ≡ rebased_if (field_step t c)
-  step_alike t c keeps = go t.outer keeps
-    where
-      go : (outer : List Level) → KeepsString outer (field_move t.mode t.held c) → field_step (rebased_in outer t.done t.openers t.mode t.held) c ≡ rebased_if (field_step (field_state outer t.done t.openers t.mode t.held) c)
-      go [] h = moved_alike [] t.done t.openers t.mode t.held c (field_move t.mode t.held c) h
-      go (l ∷ ls) h = moved_alike (l ∷ ls) t.done t.openers t.mode t.held c (field_move t.mode t.held c) h
+  step_alike t c keeps = moved_alike t.outer t.done t.openers t.mode t.held c (field_move t.mode t.held c) keeps
 
 -- the brackets before it count in the depth
 levels_more : (done : List Piece) (os : List ℕ) (l : Level) (ls : List Level) → levels_open (based done os l ls) ≡ length os + levels_open (based [] [] l ls)

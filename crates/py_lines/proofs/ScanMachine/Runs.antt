@@ -3,13 +3,13 @@ use Rattle.std.proofs.Common.{◌≡◌, ℕ, ◌+◌, Bool, true, false, Option
 use Rattle.std.specs.Prelude.{if◌then◌else◌}
 use Rattle.py_lines.specs.Piece.{string, Piece, spelled}
 use Rattle.py_lines.specs.Balance.{depth_through}
-use Rattle.py_lines.specs.FieldStrings.{Place}
+use Rattle.py_lines.specs.FieldStrings.{Host, Place}
 use Rattle.py_lines.specs.declared.mode.Mode.{Mode}
 use Rattle.py_lines.specs.declared.mode.Mode.TheVariants as modes
 use Rattle.py_lines.specs.declared.mode.Move.{Move}
 use Rattle.py_lines.specs.declared.mode.Move.TheVariants as moves
 use Rattle.py_lines.specs.Private.Machine.{Scanned, fresh, moved, Bracket, brackets_of}
-use Rattle.py_lines.specs.Private.FieldMachine.{FieldMode, FieldMove, grows, closes, breaks, Level, FieldScanned, field_state, field_fresh, field_text_start, field_class_of, field_move, field_moved, field_step, frames, has_room, has_room_at, text_place, before}
+use Rattle.py_lines.specs.Private.FieldMachine.{At, FieldMode, FieldMove, grows, closes, breaks, Level, FieldScanned, field_state, field_fresh, field_text_start, field_class_of, field_move, field_moved, field_step, frames, has_room, has_room_at, text_place, before}
 use Rattle.py_lines.specs.Private.ScanMachine.{meet_of, string_move, has_room_in, fielded_move, move_at, IsInString}
 use Rattle.py_lines.proofs.Pieces.PieceLists.{piece}
 use Rattle.py_lines.proofs.Pieces.OpenBrackets.{stands}
@@ -19,13 +19,9 @@ use Rattle.py_lines.proofs.FieldSoundness.WholeTexts.{no_limit, any_rooms}
 use Rattle.py_lines.proofs.ScanMachine.Advance.{kept_if}
 use Rattle.py_lines.proofs.ScanMachine.Rebased.{rebased, rebased_in, rebased_if, none_based, step_alike, frames_more}
 use Rattle.py_lines.proofs.ScanMachine.Rooms.{GoesAlone, alone_more}
-use Rattle.py_lines.proofs.ScanMachine.BodyMoves.{IsBodyMode, StaysBody, body_stays, KeepsString, moved_inside, InStringIf}
+use Rattle.py_lines.proofs.ScanMachine.BodyMoves.{IsBodyMode, StaysBody, KeepsString, moved_inside, InStringIf}
+use Rattle.py_lines.proofs.FieldScans.Moves.{BodyMoved, body_moved}
 use Rattle.py_lines.proofs.ScanMachine.Follows.{openers_of, openers-length, flat, IsAlone, Own, IsTied, roomy, Alike, alike_kept, some_is, tied_fresh, StepsAlike, plain_steps, word_steps, opened_steps, empty_steps}
-
--- a state keeps its mode and the text of its open piece, whatever stands before it
-same_mode : (done : List Piece) (os : List ℕ) (outer : List Level) (ps : List Piece) (bs : List ℕ) (m : FieldMode) (held : List ℕ) (c : ℕ) → field_move (rebased_in done os outer ps bs m held).mode (rebased_in done os outer ps bs m held).held c ≡ field_move m held c
-same_mode done os [] ps bs m held c = refl
-same_mode done os (l ∷ ls) ps bs m held c = refl
 
 -- what comes of a move that does not end the string
 abbrev goes_or_not : Option FieldScanned → Move
@@ -37,6 +33,12 @@ string_stays [] closes o keeps = absurd keeps
 string_stays [] breaks o keeps = absurd keeps
 string_stays outer v None keeps = refl
 string_stays outer v (Some n) keeps = refl
+
+-- a move in the body leaves it open, or does not end it before the character
+body_stays : (host : Host) (place : Place) (named : Bool) (at : At) (c : ℕ) (v : FieldMove) → BodyMoved host place named at c v → StaysBody v
+body_stays host place named at c (grows n) (b, a, is, waits) = (host, place, b, a, is)
+body_stays host place named at c breaks is = absurd is
+body_stays host place named at c v is = tt
 
 -- a move in the body ends the string or does not
 ends_or_stays : (outer : List Level) (v : FieldMove) → (outer ≡ [] → StaysBody v) → ((outer ≡ []) × (v ≡ closes)) ⊎ KeepsString outer v
@@ -63,15 +65,10 @@ module _ (done : List Piece) (held : List ℕ) (st : List Bracket) (c : ℕ) (st
   deep = (stands done st stack).depth ∙ sym (openers-length st)
 
   body_at : IsBodyMode t.mode → StaysBody v
-  body_at (host, place, named, at, is) = subst (λ (m : FieldMode). StaysBody (field_move m t.held c)) (sym is) (body_stays host place named at t.held c)
-
-  same_move : field_move T.mode T.held c ≡ v
-  same_move = same_mode done os t.outer t.done t.openers t.mode t.held c
+  body_at (host, place, named, at, is) = subst (λ (m : FieldMode). StaysBody (field_move m t.held c)) (sym is) (body_stays host place named at c _ (body_moved host place named at t.held c))
 
   room_same : has_room T c ≡ has_room_in (depth_through 0 done) t c
-  room_same =
-      ap (has_room_at (frames T) c) same_move
-      ∙ ap (λ (n : ℕ). has_room_at n c v) (frames_more done os t ∙ ap (λ (x : FieldScanned). length os + frames x) (sym bare) ∙ ap (λ (n : ℕ). n + frames t) (sym deep))
+  room_same = ap (λ (n : ℕ). has_room_at n c v) (frames_more done os t ∙ ap (λ (x : FieldScanned). length os + frames x) (sym bare) ∙ ap (λ (n : ℕ). n + frames t) (sym deep))
 
   scan_move : (b : Bool) → has_room_in (depth_through 0 done) t c ≡ b → move_at S c ≡ (if b then string_move t.outer v (field_step t c) else moves.Refused)
   scan_move b room = ap (λ (o : Option FieldScanned). fielded_move (depth_through 0 done) o c) alone.steps ∙ ap (λ (x : Bool). if x then string_move t.outer v (field_step t c) else moves.Refused) room
@@ -82,7 +79,7 @@ module _ (done : List Piece) (held : List ℕ) (st : List Bracket) (c : ℕ) (st
     alike = subst (λ (x : Move). Alike (kept_if (moved S c x)) (roomy (has_room T c) (field_step T c))) (sym one)
         (subst (λ (x : Bool). Alike (kept_if (moved S c w)) (roomy x (field_step T c))) (sym two)
         (subst (λ (x : Option FieldScanned). Alike (kept_if (moved S c w)) (roomy b x)) (sym three) alike));
-    ends = λ outside h. absurd (subst StaysBody (sym same_move ∙ h) (body_at (inside (none_based done os t.outer t.done t.openers t.mode t.held outside))));
+    ends = λ outside h. absurd (subst StaysBody h (body_at (inside (none_based done os t.outer t.done t.openers t.mode t.held outside))));
   }
 
   no_room : has_room_in (depth_through 0 done) t c ≡ false → StepsAlike S T c
