@@ -285,8 +285,8 @@ pub host_moves : (s : Spelling) (held : List ℕ) (c : ℕ) → is_field_prefix 
 unfolding field_move
 host_moves s held c field quotes = rw (field, quotes)
 
--- a word, in both machines
-module _ (s : Spelling) (done : List Piece) (held : List ℕ) (st : List Bracket) (c : ℕ) (own : Holds (modes.Word s) [] held) (stack : brackets_of done ≡ Some st) where
+-- a word meets a character alike in both machines
+module _ (s : Spelling) (held : List ℕ) (c : ℕ) (own : Holds (modes.Word s) [] held) where
   tells : (is_field_prefix held ≡ is_field_spelling s) × (is_field_spelling s ≡ true → list_any is_r held ≡ is_raw_spelling s)
   tells =
       let word = word_tells own.0 own.1 in (
@@ -294,14 +294,7 @@ module _ (s : Spelling) (done : List Piece) (held : List ℕ) (st : List Bracket
         λ h. ap (list_any is_r) own.2 ∙ word.1 (ap is_field_spelling (sym own.5) ∙ h) ∙ ap is_raw_spelling (sym own.5),
       )
 
-  abbrev T : FieldScanned
-  T = field_state [] done (openers_of st) (plain (modes.Word s)) held
-
-  abbrev S : Scanned
-  S = scanned done (modes.Word s) held
-
-  -- both machines meet a character alike
-  word_meets : field_move (plain (modes.Word s)) held c ≡ code_moved (meet_of (modes.Word s) c)
+  pub word_meets : field_move (plain (modes.Word s)) held c ≡ code_moved (meet_of (modes.Word s) c)
   unfolding meet_of quote_move field_move move_of
   word_meets =
       ⊎_elim (λ (passes : is_word_character c ≡ true). rw (and_right (is_field_prefix held) _ (excluded is_word_character is_quote c (quote-not-word c) passes), passes))
@@ -314,14 +307,22 @@ module _ (s : Spelling) (done : List Piece) (held : List ℕ) (st : List Bracket
       (cases_Bool (is_quote c)))
       (cases_Bool (is_word_character c))
 
+-- so both go on alike after it
+module _ (s : Spelling) (done : List Piece) (held : List ℕ) (st : List Bracket) (c : ℕ) (own : Holds (modes.Word s) [] held) (stack : brackets_of done ≡ Some st) where
+  abbrev T : FieldScanned
+  T = field_state [] done (openers_of st) (plain (modes.Word s)) held
+
+  abbrev S : Scanned
+  S = scanned done (modes.Word s) held
+
   abbrev WordSteps : Move → Type 0
   WordSteps v = meet_of (modes.Word s) c ≡ v → StepsAlike S T c
 
   word_breaks : WordSteps moves.Breaks
-  word_breaks is = by_moves S T c moves.Breaks breaks is (word_meets ∙ ap code_moved is) (λ h. (is, refl)) (broken (closed (modes.Word s) done held) st c (stack_closed (modes.Word s) done held st stack))
+  word_breaks is = by_moves S T c moves.Breaks breaks is (word_meets s held c own ∙ ap code_moved is) (λ h. (is, refl)) (broken (closed (modes.Word s) done held) st c (stack_closed (modes.Word s) done held st stack))
 
   word_grows : (n : Mode) → is_fielded_mode n ≡ false → code_mode n ≡ plain n → Own n (depth_through 0 done) (held ++ c ∷ []) → WordSteps (moves.Grows n)
-  word_grows n other same grown is = grows_to S T st c n (plain n) is (word_meets ∙ ap code_moved is ∙ ap grows same) (tied_plain n done st (held ++ c ∷ []) other grown stack)
+  word_grows n other same grown is = grows_to S T st c n (plain n) is (word_meets s held c own ∙ ap code_moved is ∙ ap grows same) (tied_plain n done st (held ++ c ∷ []) other grown stack)
 
   pub word_steps : StepsAlike S T c
   unfolding meet_of quote_move
@@ -332,7 +333,7 @@ module _ (s : Spelling) (done : List Piece) (held : List ℕ) (st : List Bracket
       (λ other. cond_both (is_quote c) _ moves.Breaks WordSteps
       (λ quotes. cond_both (is_field_spelling s) (moves.Grows (modes.FieldOpened h)) _ WordSteps
       (λ field is.
-      let move = word_meets ∙ ap code_moved is in
+      let move = word_meets s held c own ∙ ap code_moved is in
       grows_to S T st c (modes.FieldOpened h) (opened (host_in h)) is move (record { stack = stack; flat_is = refl; own = (alone_grows depth held c _ (opened (host_in h)) (word_alone s depth held own) move, refl) }))
       (λ none. cond_both (begins_string s) (moves.Grows (modes.Opened c)) moves.Breaks WordSteps (λ b. word_grows (modes.Opened c) refl refl tt) (λ b. word_breaks)))
       (λ none. word_breaks)) refl
