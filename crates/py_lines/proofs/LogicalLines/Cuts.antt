@@ -123,25 +123,17 @@ same_place b a d e same bytes = go (either b a d e same)
         let none : c ∷ k ≡ [] = no_bytes (c ∷ k) (omega arith) in
         absurd (cc)
 
--- the parts that a list of pieces is cut into
-abbrev some_parts : List (List Piece) → Type 0
-some_parts [] = ⊥
-some_parts (u ∷ us) = Unit {0}
+-- a piece before the parts that a list of some pieces is cut into, and others after them
+put_twice : (p q : Piece) (us vs : List (List Piece)) → put_first p (put_first q us ++ vs) ≡ put_first p (put_first q us) ++ vs
+put_twice p q [] vs = refl
+put_twice p q (u ∷ us) vs = refl
 
-put-some : (p : Piece) (us : List (List Piece)) → some_parts (put_first p us)
-put-some p [] = tt
-put-some p (u ∷ us) = tt
+put_cut : (p : Piece) (d : ℕ) (q : Piece) (ps : List Piece) (vs : List (List Piece)) → put_first p (cut d (q ∷ ps) ++ vs) ≡ put_first p (cut d (q ∷ ps)) ++ vs
+put_cut p d q ps vs = cond_both (is_line_end_class q.class && (d == 0)) _ _ (λ us. put_first p (us ++ vs) ≡ put_first p us ++ vs) (λ h. refl) (λ h. put_twice p q (cut (depth_after d q) ps) vs)
 
-cut-some : (d : ℕ) (p : Piece) (ps : List Piece) → some_parts (cut d (p ∷ ps))
-cut-some d p ps = cond_both (is_line_end_class p.class && (d == 0)) _ _ some_parts (λ h. tt) (λ h. put-some p (cut (depth_after d p) ps))
-
-put-append : (p : Piece) (us vs : List (List Piece)) → some_parts us → put_first p (us ++ vs) ≡ put_first p us ++ vs
-put-append p [] vs h = absurd h
-put-append p (u ∷ us) vs h = refl
-
-after_nonempty : (body : List Piece) (last : Piece) (d : ℕ) → some_parts (cut d (body ++ last ∷ []))
-after_nonempty [] last d = cut-some d last []
-after_nonempty (p ∷ body) last d = cut-some d p (body ++ last ∷ [])
+put_line : (p : Piece) (d : ℕ) (body : List Piece) (last : Piece) (vs : List (List Piece)) → put_first p (cut d (body ++ last ∷ []) ++ vs) ≡ put_first p (cut d (body ++ last ∷ [])) ++ vs
+put_line p d [] last vs = put_cut p d last [] vs
+put_line p d (q ∷ body) last vs = put_cut p d q (body ++ last ∷ []) vs
 
 pub line_depth : (p : Piece) (d : ℕ) → is_line_end_class p.class ≡ true → depth_after d p ≡ d
 line_depth p d h = go p.class p.text h
@@ -159,7 +151,7 @@ cut-line (p ∷ body) last qs d is deep =
     let level : depth_after d p ≡ d = line_depth p d (and_parts (is_line_end_class p.class) (d == 0) h).0 in
     rw h (ap (λ us. (p ∷ []) ∷ us) (cut-line body last qs d is (ap (λ (n : ℕ). depth_through n body) (sym level) ∙ deep))))
     (λ (h : is_line_end_class p.class && (d == 0) ≡ false).
-    rw h (ap (put_first p) (cut-line body last qs (depth_after d p) is deep) ∙ put-append p (cut (depth_after d p) (body ++ last ∷ [])) (cut 0 qs) (after_nonempty body last (depth_after d p))))
+    rw h (ap (put_first p) (cut-line body last qs (depth_after d p) is deep) ∙ put_line p (depth_after d p) body last (cut 0 qs)))
     (cases_Bool (is_line_end_class p.class && (d == 0)))
 
 -- pieces that end a line are cut from those after them
