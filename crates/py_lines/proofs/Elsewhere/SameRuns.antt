@@ -1,7 +1,7 @@
 -- The machine with fields and the one without go alike through a text that has no prefix of a string with fields before a quote.
-use Rattle.std.proofs.Common.{◌≡◌, ℕ, Bool, true, false, ◌&&◌, Option, None, Some, List, [], ◌∷◌, ◌++◌, refl, sym, ap, ◌∙◌, append_assoc}
+use Rattle.std.proofs.Common.{◌≡◌, ℕ, Bool, true, false, ◌&&◌, Option, None, Some, List, [], ◌∷◌, ◌++◌, refl, sym, ap, ◌∙◌, ⊎_elim, append_assoc}
 use Rattle.std.specs.Prelude.{if◌then◌else◌}
-use Rattle.std.proofs.lemmas.Bool.{both_ways}
+use Rattle.std.proofs.lemmas.Bool.{cases_Bool}
 use Rattle.py_lines.specs.Character.{is_quote}
 use Rattle.py_lines.specs.Piece.{Piece, spelled}
 use Rattle.py_lines.specs.Balance.{depth_through}
@@ -17,24 +17,20 @@ use Rattle.py_lines.specs.declared.mode.Move.TheVariants as moves
 use Rattle.py_lines.specs.Private.Machine.{Scanned, text_start, moved, step, steps_from, move_of, is_prefix_spelling, Holds, IsSound}
 use Rattle.py_lines.specs.Private.ScanMachine.{is_field_spelling, quote_move, meet_of, move_in, move_at, scan_steps}
 use Rattle.py_lines.proofs.Machine.Soundness.{SoundIf, step_sound}
-use Rattle.py_lines.proofs.ScanMachine.Spellings.{word_tells}
+use Rattle.py_lines.proofs.ScanMachine.Spellings.{word_tells, other_begins}
 use Rattle.py_lines.proofs.ScanMachine.LiveTexts.{live_runs, runs_live}
 use Rattle.py_lines.proofs.Fields.Elsewhere.{later, no_field_prefix, none_false}
 use Rattle.py_lines.proofs.Elsewhere.PlainRuns.{plain_live_runs, plain_runs_live, start_is_sound}
 
 -- what follows a word, which is no prefix of a string with fields where that is a quote
-same_end : (s : Spelling) (c : ℕ) (quotes : Bool) → (quotes ≡ true → is_field_spelling s ≡ false) → (if quotes then quote_move s c else moves.Breaks) ≡ (if is_prefix_spelling s && quotes then moves.Grows (modes.Opened c) else moves.Breaks)
-unfolding quote_move
-same_end spellings.F c true none = absurd (both_ways _ (none refl) refl)
-same_end spellings.Fr c true none = absurd (both_ways _ (none refl) refl)
-same_end spellings.T c true none = absurd (both_ways _ (none refl) refl)
-same_end spellings.Tr c true none = absurd (both_ways _ (none refl) refl)
-same_end s c true none = refl
-same_end s c false none = rw (none_false (is_prefix_spelling s))
-
 same_word : (s : Spelling) (c : ℕ) → (is_quote c ≡ true → is_field_spelling s ≡ false) → meet_of (modes.Word s) c ≡ move_of (modes.Word s) c
-unfolding meet_of move_of
-same_word s c none = rw (same_end s c (is_quote c) none)
+unfolding meet_of move_of quote_move
+same_word s c none =
+    ⊎_elim
+    (λ (quotes : is_quote c ≡ true).
+    rw (quotes, none quotes, other_begins s (none quotes)) (⊎_elim (λ (b : is_prefix_spelling s ≡ true). rw b) (λ (b : is_prefix_spelling s ≡ false). rw b) (cases_Bool (is_prefix_spelling s))))
+    (λ (other : is_quote c ≡ false). rw (other, none_false (is_prefix_spelling s)))
+    (cases_Bool (is_quote c))
 
 -- one character
 same_move : (m : Mode) (done : List Piece) (depth : ℕ) (held : List ℕ) (c : ℕ) (cs : List ℕ) → Holds m done held → may_have_fields (held ++ c ∷ cs) ≡ false → move_in m depth held c ≡ move_of m c
