@@ -1,6 +1,6 @@
 -- The scanning machine and the machine with fields go alike through a text from its start: with the brackets that are open, the state of the
 -- one gives that of the other.
-use Rattle.std.proofs.Common.{◌≡◌, ℕ, ◌+◌, Bool, true, false, not, ◌&&◌, ◌||◌, ◌==◌, Option, None, Some, List, [], ◌∷◌, ◌++◌, length, nat_lt, refl, sym, ap, ◌∙◌, subst, ⊎_elim, arith}
+use Rattle.std.proofs.Common.{◌≡◌, ℕ, ◌+◌, Bool, true, false, not, ◌||◌, ◌==◌, Option, None, Some, List, [], ◌∷◌, ◌++◌, length, nat_lt, refl, sym, ap, ◌∙◌, subst, ⊎_elim, arith}
 use Rattle.std.specs.Prelude.{if◌then◌else◌}
 use Rattle.std.specs.Str.{byte}
 use Rattle.std.specs.List.{list_all, list_any}
@@ -17,7 +17,7 @@ use Rattle.py_lines.specs.declared.mode.Move.{Move}
 use Rattle.py_lines.specs.declared.mode.Move.TheVariants as moves
 use Rattle.py_lines.specs.declared.mode.Start.{Start}
 use Rattle.py_lines.specs.declared.mode.Start.TheVariants as starts
-use Rattle.py_lines.specs.Private.Machine.{Scanned, fresh, class_of, closed, started, moved, move_of, start_of, Holds, is_prefix_spelling, first_spelling, spelling_with, Bracket, closed_by, opened_by, brackets_after, brackets_of}
+use Rattle.py_lines.specs.Private.Machine.{Scanned, fresh, class_of, closed, started, moved, move_of, start_of, Holds, is_prefix_spelling, first_spelling, spelling_with, Bracket, brackets_after, brackets_of}
 use Rattle.py_lines.specs.Private.FieldMachine.{between, after_slash, after_brace, FieldMode, plain, opened, empty, body, FieldMove, grows, closes, breaks, refused, FieldScanned, field_state, field_fresh, field_text_start, begins_host, host_of, long_host, plain_move, field_move, field_moved, field_step, field_started, field_pieces, openers_with, after_operator, frames, has_room, has_room_at, between_move, body_move}
 use Rattle.py_lines.specs.Private.ScanMachine.{is_field_spelling, is_raw_spelling, begins_string, host_in, quote_move, opened_move, meet_of, string_state, have_room_in, move_at, scan_step, IsInString}
 use Rattle.py_lines.specs.Private.FieldScan.{code_mode, code_moved}
@@ -122,10 +122,9 @@ opens_no c x is other = go (is_opening c) refl
 alike_if : (b : Bool) (u : Scanned) (x : FieldScanned) (st : List Bracket) → b ≡ true → IsTied x u st → Alike (kept_if (Some u)) (roomy b (Some x))
 alike_if b u x st room tied = subst (λ (r : Bool). Alike (kept_if (Some u)) (roomy r (Some x))) (sym room) (alike_kept u x st tied)
 
-each_pair : (F : Bool → Bool → Type 0) → ((b : Bool) → F true b) → F false true → F false false → (a b : Bool) → F a b
-each_pair F one two three true b = one b
-each_pair F one two three false true = two
-each_pair F one two three false false = three
+pub none_alike : (b : Bool) → Alike None (roomy b None)
+none_alike true = tt
+none_alike false = tt
 
 -- an operator meets the brackets of both machines alike
 module _ (done : List Piece) (c : ℕ) where
@@ -136,10 +135,10 @@ module _ (done : List Piece) (c : ℕ) where
   top = record { opener = c; place = byte_len (spelled done) }
 
   abbrev Meets : Option (List Bracket) → Option FieldScanned → Type 0
-  Meets next o = ((st : List Bracket) → next ≡ Some st → brackets_of met ≡ Some st) → Alike (kept (fresh met) next) o
+  Meets next o = brackets_of met ≡ next → Alike (kept (fresh met) next) o
 
   meets_some : (st : List Bracket) → Meets (Some st) (Some (field_fresh [] met (openers_of st)))
-  meets_some st is = (st, record { stack = is st refl; flat_is = refl; own = tt })
+  meets_some st is = (st, record { stack = is; flat_is = refl; own = tt })
 
   meets_roomy : (b : Bool) (st : List Bracket) → Meets (if b then Some st else None) (roomy b (Some (field_fresh [] met (openers_of st))))
   meets_roomy true st = meets_some st
@@ -152,31 +151,25 @@ module _ (done : List Piece) (c : ℕ) where
   operator_meets : (st : List Bracket) → Meets (brackets_after st (byte_len (spelled done)) (piece operator (c ∷ []))) (roomy (not (is_opening c) || nat_lt (length (openers_of st)) 200) (after_operator [] done c (openers_with (openers_of st) c)))
   unfolding brackets_after openers_with
   operator_meets [] =
-      each_pair (λ opens shuts. Meets (if opens then Some (top ∷ []) else (if shuts then None else Some [])) (roomy (not opens || true) (after_operator [] done c (if opens then Some (c ∷ []) else (if shuts then None else Some [])))))
-      (λ shuts. meets_some (top ∷ [])) (λ is. tt) (meets_some []) (is_opening c) (is_closing c)
+      ⊎_elim (λ (h : is_opening c ≡ true). rw h (meets_some (top ∷ [])))
+      (λ (h : is_opening c ≡ false). ⊎_elim (λ (k : is_closing c ≡ true). rw (h, k) (λ is. tt)) (λ (k : is_closing c ≡ false). rw (h, k) (meets_some [])) (cases_Bool (is_closing c)))
+      (cases_Bool (is_opening c))
   operator_meets (b ∷ bs) =
-      let st : List Bracket = b ∷ bs in
-      let os : List ℕ = openers_of st in
-      let shut : Option (List ℕ) = if c == closing_of b.opener then Some (openers_of bs) else None in
-      each_pair (λ opens shuts. Meets (if opens then opened_by c (byte_len (spelled done)) st else (if shuts then closed_by c st else Some st)) (roomy (not opens || nat_lt (length os) 200) (after_operator [] done c (if opens then Some (c ∷ os) else (if shuts then shut else Some os)))))
-      (λ shuts. subst (λ n. Meets (opened_by c (byte_len (spelled done)) st) (roomy (nat_lt n 200) (Some (field_fresh [] met (c ∷ os))))) (sym (openers-length st)) (meets_roomy (nat_lt (length st) 200) (top ∷ st)))
-      (meets_closed (c == closing_of b.opener) bs) (meets_some st) (is_opening c) (is_closing c)
+      ⊎_elim (λ (h : is_opening c ≡ true). rw (h, openers-length (b ∷ bs)) (meets_roomy (nat_lt (length (b ∷ bs)) 200) (top ∷ b ∷ bs)))
+      (λ (h : is_opening c ≡ false). ⊎_elim (λ (k : is_closing c ≡ true). rw (h, k) (meets_closed (c == closing_of b.opener) bs)) (λ (k : is_closing c ≡ false). rw (h, k) (meets_some (b ∷ bs))) (cases_Bool (is_closing c)))
+      (cases_Bool (is_opening c))
 
   operator_alike : (st : List Bracket) → brackets_of done ≡ Some st → Alike (kept_if (Some (fresh met))) (roomy (not (is_opening c) || nat_lt (length (openers_of st)) 200) (after_operator [] done c (openers_with (openers_of st) c)))
   operator_alike st stack =
       let at = stack_push done (piece operator (c ∷ [])) st stack in
-      subst (λ next. Alike (kept (fresh met) next) (roomy (not (is_opening c) || nat_lt (length (openers_of st)) 200) (after_operator [] done c (openers_with (openers_of st) c)))) (sym at) (operator_meets st (λ next is. at ∙ is))
+      subst (λ next. Alike (kept (fresh met) next) (roomy (not (is_opening c) || nat_lt (length (openers_of st)) 200) (after_operator [] done c (openers_with (openers_of st) c)))) (sym at) (operator_meets st at)
 
 -- a character that begins a piece, after pieces with these brackets open
 started_with : (done : List Piece) (st : List Bracket) (c : ℕ) (x : Start) → start_of c ≡ x → brackets_of done ≡ Some st → StartsSo c x → Alike (kept_if (started done c x)) (roomy (not (is_opening c) || nat_lt (length (openers_of st)) 200) (field_started [] done (openers_of st) c x))
 started_with done st c starts.Operator is stack so = operator_alike done c st stack
 started_with done st c starts.LineEnd is stack so =
     alike_if _ _ _ st (ap (λ b. not b || nat_lt (length (openers_of st)) 200) (opens_no c starts.LineEnd is (λ e. cc))) (tied_fresh done (piece line_end (c ∷ [])) st refl refl stack)
-started_with done st c starts.Nothing is stack so = nothing_there (not (is_opening c) || nat_lt (length (openers_of st)) 200)
-  where
-    nothing_there : (b : Bool) → Alike None (roomy b None)
-    nothing_there true = tt
-    nothing_there false = tt
+started_with done st c starts.Nothing is stack so = none_alike (not (is_opening c) || nat_lt (length (openers_of st)) 200)
 started_with done st c (starts.Open n) is stack so =
     alike_if _ _ _ st (ap (λ b. not b || nat_lt (length (openers_of st)) 200) (opens_no c (starts.Open n) is (λ e. cc))) (tied_plain n done st (c ∷ []) (begun_plain n so).0 (begun_plain n so).1 stack)
   where
@@ -195,10 +188,6 @@ unfolding has_room_at
 broken done st c stack =
     let deep : length (openers_of st) ≡ length (openers_of st) + 0 = omega arith in
     subst (λ (n : ℕ). Alike (kept_if (started done c (start_of c))) (roomy (not (is_opening c) || nat_lt n 200) (field_started [] done (openers_of st) c (start_of c)))) deep (started_with done st c (start_of c) refl stack (starts_so c))
-
-pub none_alike : (b : Bool) → Alike None (roomy b None)
-none_alike true = tt
-none_alike false = tt
 
 free_never : (c : ℕ) → move_of modes.Free c ≡ moves.Closes → ⊥
 unfolding move_of
