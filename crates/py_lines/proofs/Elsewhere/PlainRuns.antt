@@ -1,28 +1,25 @@
 -- A text is live without fields exactly where the machine without fields goes through it: what is open can be closed.
-use Rattle.std.proofs.Common.{◌≡◌, ℕ, true, false, None, Some, List, [], ◌∷◌, ◌++◌, refl, sym, ap, ◌∙◌, subst, append_assoc, append-nil}
+use Rattle.std.proofs.Common.{◌≡◌, ℕ, true, None, Some, List, [], ◌∷◌, ◌++◌, refl, sym, ap, ◌∙◌, subst, append_assoc, append-nil}
 use Rattle.std.specs.Str.{all_scalars}
 use Rattle.std.specs.Char.{IsScalar}
 use Rattle.std.specs.Prelude.{Option}
-use Rattle.std.proofs.lemmas.Bool.{and_from, both_ways, eq-eqb}
+use Rattle.std.proofs.lemmas.Bool.{and_from, eq-eqb}
 use Rattle.py_lines.specs.Piece.{operator, comment, line_end, Piece, spelled}
-use Rattle.py_lines.specs.Balance.{closing_of, is_opener, is_closer}
+use Rattle.py_lines.specs.Balance.{closing_of}
 use Rattle.py_lines.specs.LogicalLine.{byte_len}
 use Rattle.py_lines.specs.Dialect.{plain_dialect}
 use Rattle.py_lines.specs.WithoutFields.{IsPlainReading}
 use Rattle.py_lines.specs.Faults.{IsLiveIn}
 use Rattle.py_lines.specs.declared.mode.Mode.{Mode}
 use Rattle.py_lines.specs.declared.mode.Mode.TheVariants as modes
-use Rattle.py_lines.specs.declared.mode.Move.{Move}
-use Rattle.py_lines.specs.declared.mode.Move.TheVariants as moves
-use Rattle.py_lines.specs.Private.Machine.{Scanned, fresh, text_start, class_of, started, moved, step, move_from, steps_from, move_of, is_final, Holds, IsSound, Bracket, brackets_through, brackets_of}
+use Rattle.py_lines.specs.Private.Machine.{Scanned, fresh, text_start, class_of, started, moved, step, move_from, steps_from, is_final, Holds, IsSound, Bracket, brackets_of}
 use Rattle.py_lines.proofs.Pieces.PieceLists.{piece}
 use Rattle.py_lines.proofs.Pieces.OpenBrackets.{closer_pops, balanced-from_stack, stack-from_balanced, stack_before, stack_push}
 use Rattle.py_lines.proofs.Machine.Starts.{start-operator}
-use Rattle.py_lines.proofs.Machine.PieceSteps.{scanned, pieces_at, steps_by-append, run_before, closes}
+use Rattle.py_lines.proofs.Machine.PieceSteps.{scanned, pieces_at, steps_by-append, run_before}
 use Rattle.py_lines.proofs.Machine.ReadingSteps.{reach}
 use Rattle.py_lines.proofs.Machine.Soundness.{SoundIf, step_sound, end_sound}
 use Rattle.py_lines.proofs.Machine.FinishedPieces.{GoesBy, stack_at, closed_grows}
-use Rattle.py_lines.proofs.Text.Utf8Prefixes.{all_scalars-append}
 use Rattle.py_lines.proofs.ScanMachine.Follows.{closing_neutral}
 use Rattle.py_lines.proofs.Machine.LiveTexts.{keeps, stack_closed, IsReady, ready-free, closing-operator, comment-breaks, feed-starts, closing_of-closing, closing-scalar, completes}
 

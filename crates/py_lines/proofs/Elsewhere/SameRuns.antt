@@ -1,6 +1,5 @@
 -- The machine with fields and the one without go alike through a text that has no prefix of a string with fields before a quote.
-use Rattle.std.proofs.Common.{◌≡◌, ℕ, Bool, true, false, ◌&&◌, Option, None, Some, List, [], ◌∷◌, ◌++◌, refl, sym, ap, ◌∙◌, ⊎_elim, append_assoc}
-use Rattle.std.specs.Prelude.{if◌then◌else◌}
+use Rattle.std.proofs.Common.{◌≡◌, ℕ, true, false, Option, None, Some, List, [], ◌∷◌, ◌++◌, refl, sym, ap, ◌∙◌, ⊎_elim, append_assoc}
 use Rattle.std.proofs.lemmas.Bool.{cases_Bool}
 use Rattle.py_lines.specs.Character.{is_quote}
 use Rattle.py_lines.specs.Piece.{Piece, spelled}
@@ -9,13 +8,11 @@ use Rattle.py_lines.specs.FieldStrings.{is_field_prefix, may_have_fields}
 use Rattle.py_lines.specs.Dialect.{fielded_dialect, plain_dialect}
 use Rattle.py_lines.specs.Faults.{IsLiveIn}
 use Rattle.py_lines.specs.declared.mode.Spelling.{Spelling}
-use Rattle.py_lines.specs.declared.mode.Spelling.TheVariants as spellings
 use Rattle.py_lines.specs.declared.mode.Mode.{Mode}
 use Rattle.py_lines.specs.declared.mode.Mode.TheVariants as modes
 use Rattle.py_lines.specs.declared.mode.Move.{Move}
-use Rattle.py_lines.specs.declared.mode.Move.TheVariants as moves
-use Rattle.py_lines.specs.Private.Machine.{Scanned, text_start, moved, step, steps_from, move_of, is_prefix_spelling, Holds, IsSound}
-use Rattle.py_lines.specs.Private.ScanMachine.{is_field_spelling, quote_move, meet_of, move_in, move_at, scan_steps}
+use Rattle.py_lines.specs.Private.Machine.{Scanned, text_start, moved, step, steps_from, move_of, is_prefix_spelling, Holds}
+use Rattle.py_lines.specs.Private.ScanMachine.{is_field_spelling, quote_move, meet_of, move_in, scan_steps}
 use Rattle.py_lines.proofs.Machine.Soundness.{SoundIf, step_sound}
 use Rattle.py_lines.proofs.ScanMachine.Spellings.{word_tells, other_begins}
 use Rattle.py_lines.proofs.ScanMachine.LiveTexts.{live_runs, runs_live}

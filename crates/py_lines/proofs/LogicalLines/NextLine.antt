@@ -8,7 +8,7 @@ use Rattle.py_lines.specs.Piece.{Piece, begins, ends, spelled}
 use Rattle.py_lines.specs.Balance.{depth_after}
 use Rattle.py_lines.specs.Fields.{AreReadBefore}
 use Rattle.py_lines.specs.Reading.{EndsLine}
-use Rattle.py_lines.specs.LogicalLine.{is_line_end_class, put_first, cut, byte_len, line_ends, LogicalLine, line_of, lines_from, lines_of, tokens_of_piece, tokens_from}
+use Rattle.py_lines.specs.LogicalLine.{is_line_end_class, put_first, cut, byte_len, line_ends, LogicalLine, line_of, lines_from, lines_of, tokens_from}
 use Rattle.py_lines.proofs.Pieces.PieceLists.{AreReadBefore-first}
 use Rattle.py_lines.proofs.LogicalLines.Cuts.{uncut, line_ends-append, lines_in, byte_len-append, cut-append}
 

@@ -12,7 +12,7 @@ use Rattle.py_lines.specs.declared.mode.Move.TheVariants as moves
 use Rattle.py_lines.specs.declared.mode.Start.{Start}
 use Rattle.py_lines.specs.declared.mode.Start.TheVariants as starts
 use Rattle.py_lines.specs.Private.Machine.{Scanned, text_start, closed, started, moved, start_of, is_final, Bracket, brackets_of}
-use Rattle.py_lines.specs.Private.FieldMachine.{FieldMode, plain, opened, empty, Level, FieldScanned, field_state, field_text_start, field_step, field_steps_from, frames, has_room, have_room, text_place}
+use Rattle.py_lines.specs.Private.FieldMachine.{FieldMode, plain, opened, empty, Level, FieldScanned, field_state, field_text_start, field_step, field_steps_from, frames, has_room, have_room}
 use Rattle.py_lines.specs.Private.ScanMachine.{host_in, move_at, scan_step, scan_steps, IsBare, HoldsOpen, StringsFit, IsScanSound}
 use Rattle.py_lines.specs.Private.Scan.{line_start}
 use Rattle.py_lines.proofs.Pieces.ShallowPieces.{strings_shallow}
