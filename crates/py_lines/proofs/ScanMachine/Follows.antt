@@ -156,7 +156,8 @@ module _ (done : List Piece) (c : ℕ) where
       (cases_Bool (is_opening c))
   operator_meets (b ∷ bs) =
       ⊎_elim (λ (h : is_opening c ≡ true). rw (h, openers-length (b ∷ bs)) (meets_roomy (nat_lt (length (b ∷ bs)) 200) (top ∷ b ∷ bs)))
-      (λ (h : is_opening c ≡ false). ⊎_elim (λ (k : is_closing c ≡ true). rw (h, k) (meets_closed (c == closing_of b.opener) bs)) (λ (k : is_closing c ≡ false). rw (h, k) (meets_some (b ∷ bs))) (cases_Bool (is_closing c)))
+      (λ (h : is_opening c ≡ false). ⊎_elim (λ (k : is_closing c ≡ true). rw (h, k) (meets_closed (c == closing_of b.opener) bs))
+      (λ (k : is_closing c ≡ false). rw (h, k) (meets_some (b ∷ bs))) (cases_Bool (is_closing c)))
       (cases_Bool (is_opening c))
 
   operator_alike : (st : List Bracket) → brackets_of done ≡ Some st → Alike (kept_if (Some (fresh met))) (roomy (not (is_opening c) || nat_lt (length (openers_of st)) 200) (after_operator [] done c (openers_with (openers_of st) c)))
@@ -290,7 +291,9 @@ module _ (s : Spelling) (held : List ℕ) (c : ℕ) (own : Holds (modes.Word s) 
       (λ (other : is_word_character c ≡ false). ⊎_elim
       (λ (quotes : is_quote c ≡ true). ⊎_elim
       (λ (field : is_field_spelling s ≡ true). rw (tells.0 ∙ field, quotes, other, field) (ap (λ (b : Bool). grows (opened (record { quote = c; is_long = false; is_raw = b }))) (tells.1 field)))
-      (λ (none : is_field_spelling s ≡ false). rw (tells.0 ∙ none, quotes, other, none, other_begins s none) (⊎_elim (λ (b : is_prefix_spelling s ≡ true). rw b) (λ (b : is_prefix_spelling s ≡ false). rw b) (cases_Bool (is_prefix_spelling s))))
+      (λ (none : is_field_spelling s ≡ false).
+      rw (tells.0 ∙ none, quotes, other, none, other_begins s none)
+      (⊎_elim (λ (b : is_prefix_spelling s ≡ true). rw b) (λ (b : is_prefix_spelling s ≡ false). rw b) (cases_Bool (is_prefix_spelling s))))
       (cases_Bool (is_field_spelling s)))
       (λ (none : is_quote c ≡ false). rw (and_right (is_field_prefix held) _ none, and_right (is_prefix_spelling s) _ none, other, none))
       (cases_Bool (is_quote c)))
