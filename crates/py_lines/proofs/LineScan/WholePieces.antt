@@ -1,12 +1,10 @@
 -- Whole pieces are passed over: the scan comes to where all of them are closed.
-use Rattle.std.proofs.Common.{◌≡◌, ℕ, ◌+◌, ◌-◌, ◌<◌, ◌≤◌, inl, inr, Bool, true, false, not, ◌||◌, ◌==◌, if◌then◌else◌, None, List, [], ◌∷◌, ◌++◌, length, take, drop, slice_index, refl, sym, ap, ◌∙◌, subst, add-zero, append_assoc, append-nil, arith, length-drop}
+use Rattle.std.proofs.Common.{◌≡◌, ℕ, ◌+◌, ◌-◌, ◌<◌, ◌≤◌, inl, inr, Bool, true, false, not, ◌||◌, ◌==◌, if◌then◌else◌, None, List, [], ◌++◌, length, take, drop, slice_index, refl, sym, ap, ◌∙◌, subst, add-zero, append_assoc, append-nil, arith, length-drop}
 use Rattle.std.specs.Prelude.{encode_utf8_all}
-use Rattle.std.specs.List.{list_all}
-use Rattle.std.proofs.lemmas.Bool.{and_parts, both_ways, not-true, or_parts}
-use Rattle.std.proofs.lemmas.List.{drop-drop, get_or-drop, get_or-take, length-take-le, take-append-drop, take_rest}
+use Rattle.std.proofs.lemmas.Bool.{and_parts, not-true, or_parts}
+use Rattle.std.proofs.lemmas.List.{get_or-drop, get_or-take, length-take-le, take-append-drop, take_rest}
 use Rattle.std.proofs.lemmas.Str.{encodes-append}
-use Rattle.std.proofs.Math.Seq.{take-add}
-use Rattle.py_lines.specs.Character.{is_operator, is_return}
+use Rattle.py_lines.specs.Character.{is_operator}
 use Rattle.py_lines.specs.Piece.{ends}
 use Rattle.py_lines.specs.Balance.{is_closing, is_opening}
 use Rattle.py_lines.specs.LogicalLine.{byte_len, line_ends}
@@ -20,8 +18,8 @@ use Rattle.py_lines.specs.declared.plain_strings.Passed.{Passed}
 use Rattle.py_lines.specs.declared.scan.Scan.{Scan}
 use Rattle.py_lines.specs.declared.scan.Stop.TheVariants as stops
 use Rattle.py_lines.specs.Private.Machine.{Bracket}
-use Rattle.py_lines.specs.Private.Marks.{FindsNext, is_of_class, is_plain}
-use Rattle.py_lines.specs.Private.Outline.{BeginsOuterEnd, IsFreeAfter, IsLine, StandsBefore, StandsClosed, tail_of}
+use Rattle.py_lines.specs.Private.Marks.{FindsNext, is_of_class}
+use Rattle.py_lines.specs.Private.Outline.{BeginsOuterEnd, IsFreeAfter, StandsBefore, StandsClosed, tail_of}
 use Rattle.py_lines.specs.Private.Passing.{EndsLineSo, PassesOver, PassesSo, nothing_passed, passed_to, up_to}
 use Rattle.py_lines.specs.Private.Run.{Reached, WhereverReached}
 use Rattle.py_lines.specs.Private.Scan.{IsLineBefore, ScansIn, line_start, none_open, stack_of, with_brackets}
@@ -29,85 +27,11 @@ use Rattle.py_lines.specs.Private.ScanMachine.{IsScanSound}
 use Rattle.py_lines.specs.Private.WholePieces.{IsOperatorEnd, closed_after}
 use Rattle.py_lines.proofs.LineScan.BracketStack.{keeps_at}
 use Rattle.py_lines.proofs.LineScan.LineSteps.{way_stop, way_here}
-use Rattle.py_lines.proofs.LineScan.AsciiRuns.{all_pass, low_encodes}
 use Rattle.py_lines.proofs.LogicalLines.Cuts.{byte_len-append}
-use Rattle.py_lines.proofs.SimpleLines.Code.{code_low, code_run, outer_end_returns, outer_end_whole}
-use Rattle.py_lines.proofs.SimpleLines.Lines.{plain_code}
-use Rattle.py_lines.proofs.SimpleLines.Passing.{end_is, end_last, end_spells, end_split, end_within, operator_over}
-use Rattle.py_lines.proofs.SimpleLines.Tails.{closed_stands, free_tail}
-use Rattle.py_lines.proofs.SimpleLines.UnderWay.{free_way, line_before, tail_under_way, way_free}
-
--- how a line stands, in such a mode, after such characters
-abbrev Stand : Type 1
-Stand = Mode → List ℕ → ℕ → List Bracket → Type 0
-
--- after these characters of a line the bytes were passed up to this one, where the line stands so
-record ComesTo (bytes : List ℕ) (m : Mode) (before : List ℕ) (at n : ℕ) (st : List Bracket) (holds : Stand) : Type 0 where
-  within : at ≤ length bytes
-  run : List ℕ
-  spell : encode_utf8_all run ≡ take at bytes
-  stands : holds m (before ++ run) n st
-
-module _ (bytes : List ℕ) (m : Mode) (before : List ℕ) where
-  abbrev Comes : ℕ → ℕ → List Bracket → Stand → Type 0
-  Comes at n st stands = ComesTo bytes m before at n st stands
-
-  abbrev ComesBefore : ℕ → ℕ → List Bracket → Type 0
-  ComesBefore at n st = Comes at n st (StandsBefore (drop at bytes))
-
-  -- the line comes so many bytes further
-  further : (at len n k : ℕ) (st after : List Bracket) (stands comes : Stand) → (c : Comes at n st stands) → at + len ≤ length bytes
-      → (run : List ℕ) → encode_utf8_all run ≡ take len (drop at bytes) → comes m ((before ++ c.run) ++ run) k after
-      → Comes (at + len) k after comes
-  further at len n k st after stands comes c room run spell on = record {
-    within = room;
-    run = c.run ++ run;
-    spell = encodes-append c.run run ∙ ap (λ t. t ++ encode_utf8_all run) c.spell ∙ ap (λ t. take at bytes ++ t) spell
-        ∙ sym (take-add at len bytes);
-    stands = subst (λ (t : List ℕ). comes m t k after) (append_assoc before c.run run) on;
-  }
-
-  -- over plain bytes
-  plain_further : (from len n : ℕ) (st : List Bracket) → ComesBefore from n st → from + len ≤ length bytes
-      → ((i : ℕ) → from ≤ i → i < from + len → is_plain (slice_index bytes i) ≡ true) → ComesBefore (from + len) n st
-  plain_further from len n st come room plain =
-      let run = take len (drop from bytes) in
-      let all : list_all is_plain run ≡ true =
-      all_pass is_plain (drop from bytes) len (omega (arith, room, length-drop from bytes))
-      (λ i less. ap is_plain (get_or-drop from bytes i 0) ∙ plain (from + i) (omega arith) (omega (arith, less))) in
-      let spell = (low_encodes is_plain run (λ c is. code_low c (plain_code c is)) all).0 in
-      let split : drop from bytes ≡ run ++ drop (from + len) bytes =
-      sym (take-append-drop len (drop from bytes)) ∙ ap (λ t. run ++ t) (drop-drop len from bytes) in
-      further from len n n st st (StandsBefore (drop from bytes)) (StandsBefore (drop (from + len) bytes)) come room run spell
-      (code_run is_plain m (before ++ come.run) run (drop (from + len) bytes) n st plain_code all
-      (subst (λ (t : List ℕ). StandsBefore t m (before ++ come.run) n st) split come.stands))
-
-  -- over what is passed at a byte that isn't plain
-  over_further : (at place len more n : ℕ) (closes : Bool) (st after : List Bracket) → tail_of before ≡ None
-      → (c : ComesBefore at n st) → byte_len (before ++ c.run) ≡ place → PassesOver bytes at place len more closes st after
-      → Comes (at + len) (n + more) after (StandsClosed closes (drop (at + len) bytes))
-  over_further at place len more n closes st after none c here over =
-      further at len n (n + more) st after (StandsBefore (drop at bytes)) (StandsClosed closes (drop (at + len) bytes)) c over.within
-      over.run over.spell
-      (over.leads m (before ++ c.run) n (tail_under_way before c.run bytes at none c.spell) here c.stands)
-
-  stands_there : (at n : ℕ) (st : List Bracket) (closes : Bool) → Comes at n st (StandsClosed closes (drop at bytes)) → ComesBefore at n st
-  stands_there at n st closes c = record {
-    within = c.within;
-    run = c.run;
-    spell = c.spell;
-    stands = closed_stands closes (drop at bytes) m (before ++ c.run) n st c.stands;
-  }
-
-pub none_stack : (st : List Bracket) → none_open st ≡ true → st ≡ []
-none_stack [] none = refl
-none_stack (b ∷ bs) none = absurd (both_ways _ refl none)
-
--- a line that has ended after these characters, with so many bytes of them, of which CR may be the last
-record EndsSo (len : ℕ) (after : List ℕ) (returned : Bool) (m : Mode) (read : List ℕ) (n : ℕ) (st : List Bracket) : Type 0 where
-  line : IsLine m read n after
-  size : line.len ≡ len
-  returns : returned ≡ ends is_return read
+use Rattle.py_lines.proofs.SimpleLines.Lines.{ComesBefore, ComesTo, EndsSo, Stand, end_further, over_further, plain_further, stands_there}
+use Rattle.py_lines.proofs.SimpleLines.Passing.{operator_over}
+use Rattle.py_lines.proofs.SimpleLines.Tails.{free_tail}
+use Rattle.py_lines.proofs.SimpleLines.UnderWay.{free_way, line_before, way_free}
 
 module _ (first : Scan) (bytes : List ℕ) (m : Mode) (line : ℕ) (whole : List ℕ) (start : IsScanSound (line_start m) [])
     (r : Reached m line whole first bytes) where
@@ -115,11 +39,11 @@ module _ (first : Scan) (bytes : List ℕ) (m : Mode) (line : ℕ) (whole : List
   before_tail free =
       (free_tail m r.read (line_ends r.read) (stack_of first.brackets) (way_free m first r.read start r.scalars r.way free)).0
 
-  size : (at n : ℕ) (st : List Bracket) (stands : Stand) → (c : ComesTo bytes m r.read at n st stands)
+  size : (at n : ℕ) (st : List Bracket) (stands : Stand) → (c : ComesTo bytes m [] r.read at n st stands)
       → byte_len (r.read ++ c.run) ≡ first.stop + at
   size at n st stands c = omega (arith, byte_len-append r.read c.run, way_stop m first r.read r.way start, ap length c.spell, length-take-le at bytes c.within)
 
-  spells : (at n : ℕ) (st : List Bracket) (stands : Stand) → (c : ComesTo bytes m r.read at n st stands)
+  spells : (at n : ℕ) (st : List Bracket) (stands : Stand) → (c : ComesTo bytes m [] r.read at n st stands)
       → encode_utf8_all (r.read ++ c.run) ++ drop at bytes ≡ whole
   spells at n st stands c =
       ap (λ t. t ++ drop at bytes) (encodes-append r.read c.run ∙ ap (λ t. encode_utf8_all r.read ++ t) c.spell)
@@ -129,7 +53,7 @@ module _ (first : Scan) (bytes : List ℕ) (m : Mode) (line : ℕ) (whole : List
 
   -- no piece is open
   closed_reached : (passed : Passed) (b : Brackets)
-      → ComesTo bytes m r.read passed.len (line_ends r.read + passed.line_ends) (stack_of b) IsFreeAfter
+      → ComesTo bytes m [] r.read passed.len (line_ends r.read + passed.line_ends) (stack_of b) IsFreeAfter
       → Reached m line whole (closed_after (with_brackets first b) passed false) (drop passed.len bytes)
   closed_reached passed b c =
       let n = line_ends r.read + passed.line_ends in
@@ -146,33 +70,16 @@ module _ (first : Scan) (bytes : List ℕ) (m : Mode) (line : ℕ) (whole : List
 
   -- the line has ended
   ended : (at len k : ℕ) (b : Brackets) → at < length bytes
-      → ComesBefore bytes m r.read at (line_ends r.read + k) (stack_of b) → BeginsOuterEnd (drop at bytes) len
+      → ComesBefore bytes m [] r.read at (line_ends r.read + k) (stack_of b) → BeginsOuterEnd (drop at bytes) len
       → none_open (stack_of b) ≡ true
       → ScansIn m line whole (closed_after (with_brackets first b) (record { len = at + len; line_ends = k + 1 })
       (slice_index bytes (at + len - 1) == 13)) (stops.LineEnd len)
   ended at len k b within come found none =
-      let passed : Passed = record { len = at + len; line_ends = k + 1 } in
       let returned = slice_index bytes (at + len - 1) == 13 in
-      let scan = closed_after (with_brackets first b) passed returned in
-      let text = take len (drop at bytes) in
+      let scan = closed_after (with_brackets first b) (record { len = at + len; line_ends = k + 1 }) returned in
       let after = drop (at + len) bytes in
-      let read = r.read ++ come.run in
       let n = line_ends r.read + k in
-      let is = end_is bytes at within len found in
-      let spell = end_spells bytes at within len found in
-      let fits = found.within in
-      let on : StandsBefore (text ++ after) m read n [] =
-      subst (λ (s : List Bracket). StandsBefore (text ++ after) m read n s) (none_stack (stack_of b) none)
-      (subst (λ (t : List ℕ). StandsBefore t m read n (stack_of b)) (end_split bytes at within len found) come.stands) in
-      let line_is = outer_end_whole text after m read n is on in
-      let own : EndsSo len after returned m (read ++ text) (n + 1) [] = record {
-        line = line_is.0;
-        size = line_is.1 ∙ ap length spell ∙ length-take-le len (drop at bytes) fits;
-        returns = ap (λ (c : ℕ). c == 13) (end_last bytes at within len found) ∙ outer_end_returns text after read is;
-      } in
-      let c =
-      further bytes m r.read at len n (n + 1) (stack_of b) [] (StandsBefore (drop at bytes)) (EndsSo len after returned) come
-      (end_within bytes at within len found) text spell own in
+      let c = end_further bytes m [] r.read at len n (stack_of b) come within found none in
       let here : first.stop + (at + len) ≡ byte_len (r.read ++ c.run) = sym (size (at + len) (n + 1) [] (EndsSo len after returned) c) in
       let count : first.count.line + (k + 1) ≡ first.line + (n + 1) = omega (arith, way_here m first r.read r.way start) in
       record {
@@ -190,8 +97,8 @@ module _ (first : Scan) (bytes : List ℕ) (m : Mode) (line : ℕ) (whole : List
 
 -- how a line in which the bytes stood has come to this byte of them, with these that were passed
 record HasPassedIn (m : Mode) (before bytes : List ℕ) (at : ℕ) (b : Brackets) (all closed : Passed) : Type 0 where
-  free : ComesTo bytes m before closed.len (line_ends before + closed.line_ends) (stack_of b) IsFreeAfter
-  come : ComesTo bytes m before at (line_ends before + all.line_ends) (stack_of b) (StandsBefore (drop at bytes))
+  free : ComesTo bytes m [] before closed.len (line_ends before + closed.line_ends) (stack_of b) IsFreeAfter
+  come : ComesTo bytes m [] before at (line_ends before + all.line_ends) (stack_of b) (StandsBefore (drop at bytes))
 
 -- so in each line in which they stood before the scan, where no piece was open
 pub record HasPassed (first : Scan) (bytes : List ℕ) (at : ℕ) (b : Brackets) (all closed : Passed) : Type 0 where
@@ -212,13 +119,13 @@ begins_passing first bytes p free is = subst (λ (q : Passing). HasPassed first 
       few = omega arith;
       fewer = omega arith;
       come = λ m line whole start r.
-          let here : ComesTo bytes m r.read 0 (line_ends r.read + 0) (stack_of first.brackets) IsFreeAfter = record {
+          let here : ComesTo bytes m [] r.read 0 (line_ends r.read + 0) (stack_of first.brackets) IsFreeAfter = record {
             within = omega arith;
             run = [];
             spell = refl;
             stands = rw (append-nil r.read, add-zero) (way_free m first r.read start r.scalars r.way free);
           } in
-          record { free = here; come = stands_there bytes m r.read 0 (line_ends r.read + 0) (stack_of first.brackets) true here };
+          record { free = here; come = stands_there bytes m [] r.read 0 (line_ends r.read + 0) (stack_of first.brackets) true here };
     })
 
 -- over plain bytes, up to the next one that isn't plain or less far
@@ -231,13 +138,10 @@ plain_up_to first bytes from at to b all closed marks on next after before = rec
   fewer = on.fewer;
   come = λ m line whole start r.
       let o = on.come m line whole start r in
-      let n = line_ends r.read + all.line_ends in
-      let there : from + (to - from) ≡ to = omega (arith, after) in
       record {
         free = o.free;
-        come = subst (λ (k : ℕ). ComesBefore bytes m r.read k n (stack_of b)) there
-            (plain_further bytes m r.read from (to - from) n (stack_of b) o.come (omega (arith, there, before, next.within))
-            (λ i later less. next.plain i later (omega (arith, less, there, before))));
+        come = plain_further bytes m [] r.read from to (line_ends r.read + all.line_ends) (stack_of b) o.come after (omega (arith, before, next.within))
+            (λ i later less. next.plain i later (omega (arith, less, before)));
       };
 }
 
@@ -245,13 +149,13 @@ module _ (first : Scan) (bytes : List ℕ) (at : ℕ) (b : Brackets) (all closed
   -- what is passed at a byte that isn't plain
   comes_over : (len more : ℕ) (closes : Bool) (after : List Bracket) → PassesOver bytes at (first.stop + at) len more closes (stack_of b) after
       → (m : Mode) (line : ℕ) (whole : List ℕ) → IsScanSound (line_start m) [] → (r : Reached m line whole first bytes)
-      → ComesTo bytes m r.read (at + len) (line_ends r.read + (all.line_ends + more)) after (StandsClosed closes (drop (at + len) bytes))
+      → ComesTo bytes m [] r.read (at + len) (line_ends r.read + (all.line_ends + more)) after (StandsClosed closes (drop (at + len) bytes))
   comes_over len more closes after over m line whole start r =
       let o = on.come m line whole start r in
       let n = line_ends r.read + all.line_ends in
       let same : n + more ≡ line_ends r.read + (all.line_ends + more) = omega arith in
-      subst (λ (k : ℕ). ComesTo bytes m r.read (at + len) k after (StandsClosed closes (drop (at + len) bytes))) same
-      (over_further bytes m r.read at (first.stop + at) len more n closes (stack_of b) after
+      subst (λ (k : ℕ). ComesTo bytes m [] r.read (at + len) k after (StandsClosed closes (drop (at + len) bytes))) same
+      (over_further bytes m [] r.read at (first.stop + at) len more n closes (stack_of b) after refl
       (before_tail first bytes m line whole start r on.free) o.come
       (size first bytes m line whole start r at n (stack_of b) (StandsBefore (drop at bytes)) o.come) over)
 
@@ -267,7 +171,7 @@ module _ (first : Scan) (bytes : List ℕ) (at : ℕ) (b : Brackets) (all closed
         let there = comes_over len more true (stack_of c) over m line whole start r in
         record {
           free = there;
-          come = stands_there bytes m r.read (at + len) (line_ends r.read + (all.line_ends + more)) (stack_of c) true there;
+          come = stands_there bytes m [] r.read (at + len) (line_ends r.read + (all.line_ends + more)) (stack_of c) true there;
         };
   }
   over_passed c len more false over kept = record {

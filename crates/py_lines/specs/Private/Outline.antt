@@ -1,5 +1,5 @@
 -- Simple lines that bytes begin with, which are passed over: what the machine has come to in such a line, which begins in some mode.
-use Rattle.std.specs.Prelude.{◌≡◌, ℕ, ◌+◌, ◌-◌, ◌<◌, ◌≤◌, ◌⊎◌, ◌==◌, ◌||◌, ◌&&◌, Bool, true, false, if◌then◌else◌, Option, None, Some, List, [], ◌∷◌, ◌++◌, length, nat_lt, take, drop, slice_index, encode_utf8_all}
+use Rattle.std.specs.Prelude.{◌≡◌, ℕ, ◌+◌, ◌<◌, ◌≤◌, ◌⊎◌, ◌==◌, ◌||◌, Bool, true, false, if◌then◌else◌, Option, None, Some, List, [], ◌∷◌, ◌++◌, length, nat_lt, take, drop, slice_index, encode_utf8_all}
 use Rattle.std.specs.Str.{all_scalars}
 use Rattle.py_lines.specs.Character.{is_break, is_quote, is_return}
 use Rattle.py_lines.specs.Piece.{Piece, ends, line_end, string}
@@ -283,14 +283,3 @@ pub record BeginWithLines (bytes : List ℕ) (lines : Passed) : Type 0 where
   pub spell : encode_utf8_all read ≡ take lines.len bytes
   pub texts : List (List ℕ)
   pub whole : AreWholeLines texts read lines.line_ends (drop lines.len bytes)
-
--- after such lines the next has come to this byte; so many line ends stand before it, and these brackets are open
-pub record HasComeTo (bytes : List ℕ) (lines : Passed) (at n : ℕ) (st : List Bracket) : Type 0 where
-  pub within : at ≤ length bytes
-  pub ordered : lines.len ≤ at
-  pub lines_are : BeginWithLines bytes lines
-  pub more : ℕ
-  pub count : n ≡ lines.line_ends + more
-  pub read : List ℕ
-  pub spell : encode_utf8_all (lines_are.read ++ read) ≡ take at bytes
-  pub stands : StandsBefore (drop at bytes) modes.Free read more st
