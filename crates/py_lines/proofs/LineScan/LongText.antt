@@ -26,7 +26,7 @@ use Rattle.py_lines.proofs.LineScan.Increments.{line_ends-step}
 use Rattle.py_lines.proofs.LineScan.LineCount.{ends-last}
 use Rattle.py_lines.proofs.LineScan.LineSteps.{sound_steps}
 use Rattle.py_lines.proofs.LineScan.PieceEnd.{counts_longer}
-use Rattle.py_lines.proofs.LineScan.Runs.{body_parts, break-return}
+use Rattle.py_lines.proofs.LineScan.Runs.{body_parts, break-return, reached_over}
 use Rattle.py_lines.proofs.LineScan.AsciiRuns.{low_encodes, low_is}
 
 module _ (q : ℕ) (quote : is_quote q ≡ true) where
@@ -91,45 +91,26 @@ module _ (q : ℕ) (quote : is_quote q ≡ true) where
       )
 
 -- the scan goes over them
-long_way : (m : Mode) (old new : Scan) (read text rest : List ℕ) (way : IsUnderWay m old read) → IsScanSound (line_start m) [] → (reads : ReadsLongText old text rest new)
-    → is_quote reads.quote ≡ true → IsUnderWay m new (read ++ reads.run)
-long_way m old new read text rest way start reads quote =
+pub reached_long : (m : Mode) (at : ℕ) (text : List ℕ) (old new : Scan) (mid rest : List ℕ) → Reached m at text old mid → IsScanSound (line_start m) [] → HoldsLongText old mid rest new → Reached m at text new rest
+reached_long m at text old new mid rest r start (inl (same, still)) = rw still (subst (Reached m at text old) (sym same) r)
+reached_long m at text old new mid rest r start (inr reads) =
     let q = reads.quote in
     let run = reads.run in
-    let s = way.state in
-    let counts = way.tallies.counts in
+    let s = r.way.state in
+    let counts = r.way.tallies.counts in
     let here : s.mode ≡ modes.Long q = sym counts.mode ∙ reads.here in
+    let sound = sound_steps m r.read s start r.way.steps r.way.stacked in
+    let quote = (subst (λ (n : Mode). HoldsOpen n s.done s.held) here sound.holds).0.opens in
+    let chars = long_characters q quote run reads.all in
     let more = long_counts q quote (spelled s.done ++ s.held) run (sym counts.after ∙ reads.parted) reads.all in
-    let size : byte_len run ≡ length run = ap length (long_characters q quote run reads.all).0 in
-    let held : scan_steps (Some (scanned s.done s.mode s.held)) run ≡ Some (scanned s.done s.mode (s.held ++ run)) =
-    subst (λ (n : Mode). scan_steps (Some (scanned s.done n s.held)) run ≡ Some (scanned s.done n (s.held ++ run))) (sym here) (long_held q quote s.done s.held run reads.all) in
-    let after : Scan = with_lines old run in
-    subst (λ (scan : Scan). IsUnderWay m scan (read ++ run)) (sym reads.reads)
-    (record {
-      state = scanned s.done s.mode (s.held ++ run);
-      steps = steps_by-append move_at (Some (line_start m)) read run ∙ ap (λ o. scan_steps o run) way.steps ∙ held;
+    reached_over m at text old new mid rest run r chars.1 (ap (λ t. t ++ rest) chars.0 ∙ reads.spell) (rw (reads.reads) (record {
+      steps = subst (λ (n : Mode). scan_steps (Some (scanned s.done n s.held)) run ≡ Some (scanned s.done n (s.held ++ run))) (sym here)
+          (long_held q quote s.done s.held run reads.all);
       tallies = record {
-        counts = counts_longer old after s s.mode run counts (ap (λ (k : Mode). record { mode = k; start = old.piece.start }) counts.mode) (ap (λ (n : ℕ). old.stop + n) (sym size))
-            (omega (arith, counts.here, more.0)) (reads.parted ∙ sym more.1);
-        fields = subst (λ (n : Mode). FieldsFollow after n (s.held ++ run)) (sym here) tt;
+        counts = counts_longer old (with_lines old run) s s.mode run counts (ap (λ (k : Mode). record { mode = k; start = old.piece.start }) counts.mode)
+            (ap (λ (n : ℕ). old.stop + n) (sym (ap length chars.0))) (omega (arith, counts.here, more.0)) (reads.parted ∙ sym more.1);
+        fields = subst (λ (n : Mode). FieldsFollow (with_lines old run) n (s.held ++ run)) (sym here) tt;
       };
-      stacked = way.stacked;
-      one_line = way.one_line;
-    })
-
-pub reached_long : (m : Mode) (at : ℕ) (text : List ℕ) (old new : Scan) (mid rest : List ℕ) → Reached m at text old mid → IsScanSound (line_start m) [] → HoldsLongText old mid rest new → Reached m at text new rest
-reached_long m at text old new mid rest r start (inl (same, still)) =
-    subst (λ (scan : Scan). Reached m at text scan rest) (sym still) (subst (λ (t : List ℕ). Reached m at text old t) (sym same) r)
-reached_long m at text old new mid rest r start (inr reads) =
-    let way = r.way in
-    let sound = sound_steps m r.read way.state start way.steps way.stacked in
-    let quote = (subst (λ (n : Mode). HoldsOpen n way.state.done way.state.held) (sym way.tallies.counts.mode ∙ reads.here) sound.holds).0.opens in
-    let chars = long_characters reads.quote quote reads.run reads.all in
-    record {
-      read = r.read ++ reads.run;
-      way = long_way m old new r.read mid rest way start reads quote;
-      spell = ap (λ t. t ++ rest) (encodes-append r.read reads.run) ∙ append_assoc (encode_utf8_all r.read) (encode_utf8_all reads.run) rest
-          ∙ ap (λ t. encode_utf8_all r.read ++ t) (ap (λ t. t ++ rest) chars.0 ∙ reads.spell) ∙ r.spell;
-      scalars = all_scalars-append r.read reads.run r.scalars chars.1;
-      line = ap (λ (s : Scan). s.line) reads.reads ∙ r.line;
-    }
+      brackets = refl;
+      line = refl;
+    }))

@@ -2,6 +2,7 @@
 use Rattle.std.proofs.Common.{◌≡◌, ℕ, ◌+◌, ◌<◌, ◌≤◌, ◌⊎◌, inl, inr, Bool, true, false, leb, not, ◌||◌, ◌&&◌, ◌==◌, Some, List, [], ◌∷◌, ◌++◌, length, take, drop, slice_index, refl, sym, ap, ◌∙◌, subst, append_assoc, append-nil, arith, ⊎_elim, take-append-drop, length-append, lit<}
 use Rattle.std.specs.Prelude.{encode_utf8_all, encode_utf8, codes, nat_le}
 use Rattle.std.specs.Char.{IsScalar}
+use Rattle.std.specs.Str.{all_scalars}
 use Rattle.std.specs.List.{list_all}
 use Rattle.std.proofs.lemmas.Bool.{and_parts, and_from, cases_lt, both_ways, eqb-true, false_from_ne_true, not-true, leb-false, or_parts}
 use Rattle.std.proofs.Math.Bool.{or_assoc, or_comm}
@@ -15,6 +16,7 @@ use Rattle.py_lines.specs.declared.mode.Spelling.TheVariants as spellings
 use Rattle.py_lines.specs.declared.mode.Mode.{Mode}
 use Rattle.py_lines.specs.declared.mode.Mode.TheVariants as modes
 use Rattle.py_lines.specs.declared.mode.Move.TheVariants as moves
+use Rattle.py_lines.specs.declared.brackets.Brackets.{Brackets}
 use Rattle.py_lines.specs.declared.scan.Scan.{Scan}
 use Rattle.py_lines.specs.Private.Machine.{Scanned, move_of, short_move, long_move, spelling_with, IsFull}
 use Rattle.py_lines.specs.Private.ScanMachine.{HoldsOpen, IsScanSound, fielded_move, meet_of, move_in, scan_steps, string_state, move_at}
@@ -267,38 +269,46 @@ runs_on old fields done modes.Fielded held read run sound tallies stacked stay =
     record { steps = ran.0; none = string_no_break (depth_through 0 done) i.state run u goes; follows = (u, ran.1, follows) }
 runs_on old fields done m held read run sound tallies stacked stay = record { steps = held_run done m held run stay; none = all_no_break m run stay; follows = tt }
 
--- and follows the machine
-pub way_held : (m : Mode) (old new : Scan) (read text rest : List ℕ) (way : IsUnderWay m old read) → IsScanSound (line_start m) [] → (holds : HoldsRun old text rest new) → IsUnderWay m new (read ++ holds.run)
-way_held m old new read text rest way start holds =
-    ⊎_elim
-    (λ none. record {
-      state = way.state;
-      steps = ap (λ t. scan_steps (Some (line_start m)) (read ++ t)) none.0 ∙ ap (scan_steps (Some (line_start m))) (append-nil read) ∙ way.steps;
-      tallies = subst (λ (n : Scan). Tallies n way.state) (sym none.1) way.tallies;
-      stacked = subst (λ (n : Scan). IsStacked n way.state) (sym none.1) way.stacked;
-      one_line = way.one_line;
-    })
-    (λ some.
-    let s = way.state in
-    let stay : Stay s.mode old holds.fields holds.run = subst (λ (n : Mode). Stay n old holds.fields holds.run) way.tallies.counts.mode holds.stay in
-    let on = runs_on old holds.fields s.done s.mode s.held read holds.run (sound_steps m read s start way.steps way.stacked) way.tallies way.stacked stay in
-    record {
-      state = scanned s.done s.mode (s.held ++ holds.run);
-      steps = steps_by-append move_at (Some (line_start m)) read holds.run ∙ ap (λ o. scan_steps o holds.run) way.steps ∙ on.steps;
-      tallies = subst (λ (n : Scan). Tallies n (scanned s.done s.mode (s.held ++ holds.run))) (sym some.1) (record { counts = counts_run old holds.fields s holds.run on.none some.0 way.tallies.counts; fields = on.follows });
-      stacked = way.stacked ∙ ap (λ (n : Scan). Some (stack_of n.brackets)) (sym some.1);
-      one_line = way.one_line;
-    }) holds.reads
+-- the machine goes on in the open piece over these characters, and the scan follows it
+pub record GoesOver (old new : Scan) (s : Scanned) (run : List ℕ) : Type 0 where
+  pub steps : scan_steps (Some s) run ≡ Some (scanned s.done s.mode (s.held ++ run))
+  pub tallies : Tallies new (scanned s.done s.mode (s.held ++ run))
+  pub brackets : new.brackets ≡ old.brackets
+  pub line : new.line ≡ old.line
+
+pub reached_over : (m : Mode) (at : ℕ) (text : List ℕ) (old new : Scan) (mid rest run : List ℕ) (r : Reached m at text old mid) → all_scalars run ≡ true
+    → encode_utf8_all run ++ rest ≡ mid → GoesOver old new r.way.state run → Reached m at text new rest
+reached_over m at text old new mid rest run r scalars spell over = record {
+  read = r.read ++ run;
+  way = record {
+    state = scanned r.way.state.done r.way.state.mode (r.way.state.held ++ run);
+    steps = steps_by-append move_at (Some (line_start m)) r.read run ∙ ap (λ o. scan_steps o run) r.way.steps ∙ over.steps;
+    tallies = over.tallies;
+    stacked = r.way.stacked ∙ ap (λ (b : Brackets). Some (stack_of b)) (sym over.brackets);
+    one_line = r.way.one_line;
+  };
+  spell = ap (λ t. t ++ rest) (encodes-append r.read run) ∙ append_assoc (encode_utf8_all r.read) (encode_utf8_all run) rest
+      ∙ ap (λ t. encode_utf8_all r.read ++ t) spell ∙ r.spell;
+  scalars = all_scalars-append r.read run r.scalars scalars;
+  line = over.line ∙ r.line;
+}
 
 -- over a run too
 pub reached_run : (m : Mode) (at : ℕ) (text : List ℕ) (old new : Scan) (mid rest : List ℕ) → Reached m at text old mid → IsScanSound (line_start m) [] → HoldsRun old mid rest new → Reached m at text new rest
-reached_run m at text old new mid rest r start holds = record {
-  read = r.read ++ holds.run;
-  way = way_held m old new r.read mid rest r.way start holds;
-  spell = ap (λ t. t ++ rest) (encodes-append r.read holds.run) ∙ append_assoc (encode_utf8_all r.read) (encode_utf8_all holds.run) rest ∙ ap (λ t. encode_utf8_all r.read ++ t) holds.spell ∙ r.spell;
-  scalars = all_scalars-append r.read holds.run r.scalars holds.scalars;
-  line = ⊎_elim (λ none. ap (λ (s : Scan). s.line) none.1) (λ some. ap (λ (s : Scan). s.line) some.1) holds.reads ∙ r.line;
-}
+reached_run m at text old new mid rest r start holds =
+    ⊎_elim
+    (λ none. rw (none.1) (subst (Reached m at text old) (sym holds.spell ∙ ap (λ t. encode_utf8_all t ++ rest) none.0) r))
+    (λ some.
+    let way = r.way in
+    let s = way.state in
+    let stay : Stay s.mode old holds.fields holds.run = subst (λ (n : Mode). Stay n old holds.fields holds.run) way.tallies.counts.mode holds.stay in
+    let on = runs_on old holds.fields s.done s.mode s.held r.read holds.run (sound_steps m r.read s start way.steps way.stacked) way.tallies way.stacked stay in
+    reached_over m at text old new mid rest holds.run r holds.scalars holds.spell (rw (some.1) (record {
+      steps = on.steps;
+      tallies = record { counts = counts_run old holds.fields s holds.run on.none some.0 way.tallies.counts; fields = on.follows };
+      brackets = refl;
+      line = refl;
+    }))) holds.reads
 
 -- and over a character
 pub reached_character : (m : Mode) (at : ℕ) (text : List ℕ) (old new : Scan) (before rest : List ℕ) (c : ℕ) (r : Reached m at text old before) → IsScalar c → before ≡ encode_utf8 c ++ rest → Takes old r.way.state c progress.Going new → Reached m at text new rest

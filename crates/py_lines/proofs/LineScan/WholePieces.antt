@@ -251,20 +251,17 @@ module _ (first : Scan) (bytes : List ℕ) (at : ℕ) (scan : Scan) (p : Passing
       (ended first bytes m line whole start r at len p.all.line_ends scan.brackets within (here.come m line whole start r).come so.ends so.none)
 
   -- where the scan leaves off
-  left_reached : (k : ℕ) (all closed : Passed) → HasPassed first bytes k scan.brackets all closed → (new : Scan)
-      → new ≡ closed_after scan closed false → Leaves first bytes new closed
-  left_reached k all closed passed new set m line whole start r =
-      rw (set ∙ ap (λ (s : Scan). closed_after s closed false) on.same, take_rest bytes closed.len)
-      (closed_reached first bytes m line whole start r closed scan.brackets (passed.come m line whole start r).free)
+  left_so : (k : ℕ) (x q : Passing) (new : Scan) → HasPassed first bytes k scan.brackets x.all x.closed → q ≡ x
+      → new ≡ closed_after scan q.closed false → Leaves first bytes new q.closed
+  left_so k x q new passed is set m line whole start r =
+      rw (set ∙ ap (λ (s : Scan). closed_after s q.closed false) on.same, is, take_rest bytes x.closed.len)
+      (closed_reached first bytes m line whole start r x.closed scan.brackets (passed.come m line whole start r).free)
 
   pub stands_left : (q : Passing) (new : Scan) → q ≡ p → new ≡ closed_after scan q.closed false → Leaves first bytes new q.closed
-  stands_left q new is set = subst (λ (x : Passing). new ≡ closed_after scan x.closed false → Leaves first bytes new x.closed) (sym is)
-      (left_reached p.all.len p.all p.closed on.passed new) set
+  stands_left q new is set = left_so p.all.len p q new on.passed is set
 
   pub operator_left : (len : ℕ) (q : Passing) (new : Scan) → IsOperatorEnd (take (at - p.all.len) (drop p.all.len bytes)) len → 0 < len
       → q ≡ passed_to p (p.all.len + len) 0 true → new ≡ closed_after scan q.closed false → Leaves first bytes new q.closed
   operator_left len q new ends some is set =
-      let passed = up_to p.all (p.all.len + len) 0 in
-      subst (λ (x : Passing). new ≡ closed_after scan x.closed false → Leaves first bytes new x.closed) (sym is)
-      (left_reached (p.all.len + len) passed passed
-      (operator_closes first bytes p.all.len at len scan.brackets p.all p.closed p.marks on.passed on.next ends some) new) set
+      left_so (p.all.len + len) (passed_to p (p.all.len + len) 0 true) q new
+      (operator_closes first bytes p.all.len at len scan.brackets p.all p.closed p.marks on.passed on.next ends some) is set

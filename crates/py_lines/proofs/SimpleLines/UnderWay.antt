@@ -1,5 +1,5 @@
 -- A scan under way in a line stands as the lines that are passed over do, where no piece is open.
-use Rattle.std.proofs.Common.{◌≡◌, ℕ, ◌+◌, inl, inr, subst, true, false, Option, None, Some, List, [], ◌∷◌, ◌++◌, take, refl, sym, ap, ◌∙◌, append-nil}
+use Rattle.std.proofs.Common.{◌≡◌, ℕ, ◌+◌, inl, inr, subst, true, false, Some, List, [], ◌∷◌, ◌++◌, refl, sym, ap, ◌∙◌, append-nil}
 use Rattle.std.specs.Prelude.{encode_utf8_all}
 use Rattle.std.proofs.lemmas.Str.{encodes_same}
 use Rattle.std.specs.Str.{all_scalars}
@@ -8,20 +8,18 @@ use Rattle.py_lines.specs.LogicalLine.{byte_len, line_ends}
 use Rattle.py_lines.specs.Piece.{line_end, Piece, begins, ends, spelled}
 use Rattle.py_lines.specs.declared.mode.Mode.{Mode}
 use Rattle.py_lines.specs.declared.mode.Mode.TheVariants as modes
-use Rattle.py_lines.specs.declared.mode.Spelling.{Spelling}
 use Rattle.py_lines.specs.declared.scan.Scan.{Scan}
 use Rattle.py_lines.specs.Private.Machine.{Bracket, Scanned, fresh}
 use Rattle.py_lines.specs.Private.ScanMachine.{IsScanSound, StringsFit, HoldsOpen}
 use Rattle.py_lines.specs.Fields.{AreReadBefore}
 use Rattle.py_lines.specs.Private.Scan.{IsLineBefore, IsUnderWay, line_start, stack_of}
-use Rattle.py_lines.specs.Private.Outline.{IsEndedBy, IsFreeAfter, IsLine, tail_of, tail_on}
+use Rattle.py_lines.specs.Private.Outline.{IsEndedBy, IsFreeAfter, IsLine}
 use Rattle.py_lines.proofs.Machine.PieceSteps.{scanned}
 use Rattle.py_lines.proofs.Pieces.PieceLists.{piece, spelled-push}
 use Rattle.py_lines.proofs.LineScan.LineSteps.{returned_fit, sound_steps}
 use Rattle.py_lines.proofs.LineScan.LineCount.{ends-last}
 use Rattle.py_lines.proofs.Lexings.LineEnds.{line_string}
-use Rattle.py_lines.proofs.SimpleLines.Code.{tail-encoded}
-use Rattle.py_lines.proofs.SimpleLines.Tails.{come_sound, ended_stack, free_tail, return_returns, tail_on-append}
+use Rattle.py_lines.proofs.SimpleLines.Tails.{come_sound, ended_stack, free_tail, return_returns}
 
 -- a machine that stands in no piece holds nothing
 free_at : (m : Mode) (done : List Piece) (held : List ℕ) → m ≡ modes.Free → HoldsOpen m done held → scanned done m held ≡ fresh done
@@ -109,8 +107,3 @@ line_before m read n after scan begun line mode start stop here returned more ap
               (ap (begins is_line_feed) (encodes_same beyond more same) ∙ apart returns)),
           line_string line.body (piece line_end (13 ∷ [])) refl held.strings,
         )
-
--- from where no word is open on, what a line ends with is what its bytes end with
-pub tail_under_way : (read run bytes : List ℕ) (at : ℕ) → tail_of read ≡ None → encode_utf8_all run ≡ take at bytes → tail_of (read ++ run) ≡ tail_of (take at bytes)
-tail_under_way read run bytes at none spell =
-    tail_on-append None read run ∙ ap (λ (o : Option Spelling). tail_on o run) none ∙ sym (tail-encoded None run) ∙ ap tail_of spell
