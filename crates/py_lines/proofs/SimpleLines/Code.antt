@@ -1,5 +1,5 @@
 -- Code is passed over: the machine goes through its words, spaces, operators and brackets, up to a line end.
-use Rattle.std.proofs.Common.{◌≡◌, ◌==◌, ℕ, ◌+◌, ◌-◌, length, slice_index, ◌<◌, ◌≤◌, ◌⊎◌, inl, inr, Bool, true, false, not, ◌||◌, Option, None, Some, List, [], ◌∷◌, ◌++◌, refl, sym, ap, ◌∙◌, subst, append_assoc, append-nil, arith, lit<, ⊎_elim}
+use Rattle.std.proofs.Common.{◌≡◌, ◌==◌, ℕ, ◌+◌, ◌-◌, length, slice_index, ◌<◌, ◌≤◌, ◌⊎◌, inl, inr, Bool, true, false, not, ◌||◌, ◌&&◌, Option, None, Some, List, [], ◌∷◌, ◌++◌, refl, sym, ap, ◌∙◌, subst, append_assoc, append-nil, arith, lit<, ⊎_elim}
 use Rattle.std.specs.Prelude.{codes, encode_utf8, encode_utf8_all}
 use Rattle.std.specs.Str.{all_scalars}
 use Rattle.std.specs.List.{list_all}
@@ -8,7 +8,7 @@ use Rattle.std.proofs.lemmas.Bool.Decides.{nat_tests}
 use Rattle.py_lines.specs.Character.{is_break, is_line_feed, is_operator, is_quote, is_return, is_space, is_word_character}
 use Rattle.py_lines.specs.Piece.{operator, line_end, Piece, ends, spelled}
 use Rattle.py_lines.specs.Balance.{depth_through, is_opening, is_closing}
-use Rattle.py_lines.specs.LogicalLine.{byte_len}
+use Rattle.py_lines.specs.LogicalLine.{byte_len, is_line_end_class}
 use Rattle.py_lines.specs.declared.mode.Spelling.{Spelling}
 use Rattle.py_lines.specs.declared.mode.Mode.{Mode}
 use Rattle.py_lines.specs.declared.mode.Mode.TheVariants as modes
@@ -188,18 +188,22 @@ module _ (initial : Mode) (read : List ℕ) (n : ℕ) (st : List Bracket) (c : �
   pub opens : (m : Mode) {k : ℕ} → start_of c ≡ starts.Open m → HoldsLineEnds (read ++ c ∷ []) k → HasCome initial (read ++ c ∷ []) k st (scanned pieces m (c ∷ []))
   opens m is holds = record { start = on.come.start; steps = begins_as [] (starts.Open m) is; stacked = closed_stack; one_line = closed_line; holds = holds }
 
-  -- it is an operator, which the brackets allow: no piece is open then
-  pub operator_closes : (after : List Bracket) → is_operator c ≡ true → brackets_after st (byte_len read) (piece operator (c ∷ [])) ≡ Some after → IsFreeAfter initial (read ++ c ∷ []) n after
-  operator_closes after is may = record {
-    done = pieces ++ piece operator (c ∷ []) ∷ [];
-    come = record {
-      start = on.come.start;
-      steps = begins_as [] starts.Operator (start-operator c is);
-      stacked = stack_push pieces (piece operator (c ∷ [])) st closed_stack ∙ ap (λ (k : ℕ). brackets_after st k (piece operator (c ∷ []))) (closed_place initial read n st on.state on.come) ∙ may;
-      one_line = EndsNoLine-push 0 pieces (piece operator (c ∷ [])) closed_line refl;
-      holds = holds_one read c n on.come.holds (operator_ascii c is) (operator-no_break c is);
-    };
+  -- a piece is closed that begins there: no piece is open then
+  pub closes_with : {after : List Bracket} {k : ℕ} (text : List ℕ) (p : Piece) → scan_steps (Some (line_start initial)) (read ++ text) ≡ Some (fresh (pieces ++ p ∷ []))
+      → brackets_of (pieces ++ p ∷ []) ≡ Some after → is_line_end_class p.class && (depth_through 0 pieces == 0) ≡ false → HoldsLineEnds (read ++ text) k
+      → IsFreeAfter initial (read ++ text) k after
+  closes_with text p steps stacked inside holds = record {
+    done = pieces ++ p ∷ [];
+    come = record { start = on.come.start; steps = steps; stacked = stacked; one_line = EndsNoLine-push 0 pieces p closed_line inside; holds = holds };
   }
+
+  -- so an operator, which the brackets allow
+  pub operator_closes : (after : List Bracket) → is_operator c ≡ true → brackets_after st (byte_len read) (piece operator (c ∷ [])) ≡ Some after → IsFreeAfter initial (read ++ c ∷ []) n after
+  operator_closes after is may =
+      let p = piece operator (c ∷ []) in
+      closes_with (c ∷ []) p (begins_as [] starts.Operator (start-operator c is))
+      (stack_push pieces p st closed_stack ∙ ap (λ (k : ℕ). brackets_after st k p) (closed_place initial read n st on.state on.come) ∙ may)
+      refl (holds_one read c n on.come.holds (operator_ascii c is) (operator-no_break c is))
 
 -- CR opens a line end
 return_opens : (initial : Mode) (read : List ℕ) (n : ℕ) (st : List Bracket) (on : EndsBefore 13 initial read n st)
@@ -219,20 +223,13 @@ no_tail_line_end false read = no_tail read 10 refl
 no_tail_line_end true read = ap tail_of (sym (append_assoc read (13 ∷ []) (10 ∷ []))) ∙ no_tail (read ++ 13 ∷ []) 10 refl
 
 pub line_end_inside : (returned : Bool) (initial : Mode) (read : List ℕ) (n : ℕ) (st : List Bracket) → EndsBefore (line_end_first returned) initial read n st → none_open st ≡ false → IsFreeAfter initial (read ++ line_end_of returned) (n + 1) st
-line_end_inside returned initial read n [] on some = absurd (both_ways _ some refl)
-line_end_inside returned initial read n (b ∷ bs) on some =
-    let stack = closed_stack initial read n (b ∷ bs) (line_end_first returned) on in
-    let done = pieces initial read n (b ∷ bs) (line_end_first returned) on in
-    record {
-      done = done ++ piece line_end (line_end_of returned) ∷ [];
-      come = record {
-        start = on.come.start;
-        steps = line_end_steps returned initial read n (b ∷ bs) on;
-        stacked = keeps done (piece line_end (line_end_of returned)) (b ∷ bs) refl refl stack;
-        one_line = EndsNoLine-push 0 done (piece line_end (line_end_of returned)) (closed_line initial read n (b ∷ bs) (line_end_first returned) on) (depth_none done (b ∷ bs) stack);
-        holds = holds_line_end returned read n on.come.holds on.parted;
-      };
-    }
+line_end_inside returned initial read n st on some =
+    let c = line_end_first returned in
+    let p = piece line_end (line_end_of returned) in
+    let done = pieces initial read n st c on in
+    let stack = closed_stack initial read n st c on in
+    closes_with initial read n st c on (line_end_of returned) p (line_end_steps returned initial read n st on) (keeps done p st refl refl stack)
+    (depth_none done st stack ∙ some) (holds_line_end returned read n on.come.holds on.parted)
 
 -- a line end outside brackets: the line is whole
 abbrev pub EndsWith : List ℕ → Mode → List ℕ → ℕ → List ℕ → Type 0

@@ -10,13 +10,12 @@ use Rattle.py_lines.specs.Private.Machine.{Bracket, fresh, move_of}
 use Rattle.py_lines.specs.Private.ScanMachine.{meet_of, scan_steps}
 use Rattle.py_lines.specs.Private.Scan.{line_start}
 use Rattle.py_lines.specs.Private.Run.{is_ascii_word}
-use Rattle.py_lines.specs.Private.Outline.{BeginsOuterEnd, EndsBefore, HasCome, HasOuterEnd, IsFreeAfter, IsOuterEnd, PassesFirst, StandsBefore, line_end_of}
+use Rattle.py_lines.specs.Private.Outline.{BeginsOuterEnd, EndsBefore, HasCome, HasOuterEnd, HoldsLineEnds, IsFreeAfter, IsOuterEnd, PassesFirst, StandsBefore, line_end_of}
 use Rattle.py_lines.proofs.Machine.LiveTexts.{keeps}
 use Rattle.py_lines.proofs.Machine.PieceSteps.{scanned}
 use Rattle.py_lines.proofs.Machine.Starts.{start-slash}
-use Rattle.py_lines.proofs.LineScan.Increments.{EndsNoLine-push}
 use Rattle.py_lines.proofs.LineScan.AsciiRuns.{is_low, low_encodes, low_is}
-use Rattle.py_lines.proofs.SimpleLines.Code.{return_waits, begins_as, closed_line, code_ends, grown, holds_line_end, holds_one, holds_return, no_tail_return, one_unreturned, opens, pieces}
+use Rattle.py_lines.proofs.SimpleLines.Code.{return_waits, begins_as, closes_with, code_ends, grown, holds_line_end, holds_one, holds_return, no_tail_return, one_unreturned, opens, pieces}
 use Rattle.py_lines.proofs.LineTokens.FirstCharacters.{slash_is}
 use Rattle.py_lines.proofs.SimpleLines.Tails.{free_stands}
 use Rattle.py_lines.proofs.SimpleLines.FirstBytes.{outer_end_low, passed_from}
@@ -43,19 +42,12 @@ module _ (initial : Mode) (read : List ℕ) (n : ℕ) (st : List Bracket) (on : 
   join_steps false = begins_as initial read n st 92 on (10 ∷ []) (starts.Open modes.Backslash) (start-slash 92 refl)
   join_steps true = begins_as initial read n st 92 on (13 ∷ 10 ∷ []) (starts.Open modes.Backslash) (start-slash 92 refl)
 
-  join_leads : (returned : Bool) → IsFreeAfter initial ((read ++ 92 ∷ []) ++ line_end_of returned) (n + 1) st
+  join_leads : (returned : Bool) → IsFreeAfter initial (read ++ 92 ∷ line_end_of returned) (n + 1) st
   join_leads returned =
-      let whole = piece join (92 ∷ line_end_of returned) in
-      record {
-        done = done ++ whole ∷ [];
-        come = record {
-          start = on.come.start;
-          steps = ap (scan_steps (Some (line_start initial))) (append_assoc read (92 ∷ []) (line_end_of returned)) ∙ join_steps returned;
-          stacked = keeps done whole st refl refl opened.stacked;
-          one_line = EndsNoLine-push 0 done whole (closed_line initial read n st 92 on) refl;
-          holds = holds_line_end returned (read ++ 92 ∷ []) n opened.holds (λ feeds. one_unreturned read 92 slash-not-break);
-        };
-      }
+      let p = piece join (92 ∷ line_end_of returned) in
+      closes_with initial read n st 92 on (92 ∷ line_end_of returned) p (join_steps returned) (keeps done p st refl refl opened.stacked) refl
+      (subst (λ (t : List ℕ). HoldsLineEnds t (n + 1)) (append_assoc read (92 ∷ []) (line_end_of returned))
+      (holds_line_end returned (read ++ 92 ∷ []) n opened.holds (λ feeds. one_unreturned read 92 slash-not-break)))
 
   -- CR alone, before another byte
   return_leads : (c : ℕ) → (c ≡ 10 → ⊥) → EndsBefore c initial ((read ++ 92 ∷ []) ++ 13 ∷ []) (n + 1) st
@@ -69,10 +61,11 @@ module _ (initial : Mode) (read : List ℕ) (n : ℕ) (st : List Bracket) (on : 
   }
 
   -- after either
-  joined : (text after : List ℕ) → IsOuterEnd text after → StandsBefore after initial ((read ++ 92 ∷ []) ++ text) (n + 1) st
-  joined text after (inl (returned, is)) = rw is (free_stands after initial ((read ++ 92 ∷ []) ++ line_end_of returned) (n + 1) st (join_leads returned))
+  joined : (text after : List ℕ) → IsOuterEnd text after → StandsBefore after initial (read ++ 92 ∷ text) (n + 1) st
+  joined text after (inl (returned, is)) = rw is (free_stands after initial (read ++ 92 ∷ line_end_of returned) (n + 1) st (join_leads returned))
   joined text [] (inr (is, other)) = absurd other
-  joined text (c ∷ cs) (inr (is, other)) = rw is (inr (return_leads c other))
+  joined text (c ∷ cs) (inr (is, other)) =
+      rw is (inr (subst (λ (t : List ℕ). EndsBefore c initial t (n + 1) st) (append_assoc read (92 ∷ []) (13 ∷ [])) (return_leads c other)))
 
 pub join_passed : (bytes : List ℕ) (len : ℕ) → 0 < length bytes → is_backslash (slice_index bytes 0) ≡ true → HasOuterEnd (take (length bytes - 1) (drop 1 bytes)) (Some len)
     → PassesFirst bytes (Some (record { len = 1 + len; line_ends = 1 }))
@@ -86,8 +79,7 @@ join_passed bytes len some slash found =
         run = 92 ∷ text;
         spell = (low_encodes is_low (92 ∷ text) low_is (outer_end_low text (drop len cs) ends.is)).0;
         leads = λ initial read n st on.
-            subst (λ (t : List ℕ). StandsBefore (drop len cs) initial t (n + 1) st) (append_assoc read (92 ∷ []) text)
-            (joined initial read n st (code_ends cs initial read n st 92 (lit< tt) refl on) text (drop len cs) ends.is);
+            joined initial read n st (code_ends cs initial read n st 92 (lit< tt) refl on) text (drop len cs) ends.is;
       };
     })
   where
