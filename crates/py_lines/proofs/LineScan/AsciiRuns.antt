@@ -15,7 +15,7 @@ use Rattle.py_lines.specs.declared.mode.Mode.TheVariants as modes
 use Rattle.py_lines.specs.Private.Machine.{first_spelling, spelling_with, spelling_on, IsFull}
 use Rattle.py_lines.specs.Private.Run.{is_ascii_word, is_free, word_spelling}
 use Rattle.py_lines.proofs.Text.CharacterTests.{none_of}
-use Rattle.py_lines.proofs.LineScan.Runs.{stays-no_break, word_byte_low, word_byte_starts}
+use Rattle.py_lines.proofs.LineScan.Runs.{word_byte_low, word_byte_starts}
 
 -- a run of bytes as a list
 pub all_pass : (passes : ℕ → Bool) (bytes : List ℕ) (n : ℕ) → n ≤ length bytes → ((i : ℕ) → i < n → passes (slice_index bytes i) ≡ true)
@@ -58,15 +58,9 @@ low_encodes passes (c ∷ cs) low all =
 pub word_starts : (c : ℕ) → is_ascii_word c ≡ true → is_word_start c ≡ true
 word_starts c h = word_byte_starts c (word_byte_low c h) ∙ h
 
-pub word_whole : (c : ℕ) → is_ascii_word c ≡ true → not (is_break c) ≡ true
-word_whole c h = ap not (stays-no_break (modes.Word spellings.Name) c h)
-
 pub space-not-quote : (c : ℕ) → is_space c ≡ true → is_quote c ≡ false
 unfolding is_space is_quote
 space-not-quote c h = none_of is_quote (codes " \t" ++ 0x0C ∷ []) c refl h
-
-pub space_whole : (c : ℕ) → is_space c ≡ true → not (is_break c) ≡ true
-space_whole c h = ap not (stays-no_break modes.Space c h)
 
 -- an operator after closed pieces
 pub operator-no_break : (c : ℕ) → is_operator c ≡ true → is_break c ≡ false

@@ -6,22 +6,20 @@ use Rattle.std.specs.List.{count_by, list_all}
 use Rattle.std.proofs.lemmas.Bool.{and_parts, both_ways, eqb-true, false_from_ne_true, or_cases}
 use Rattle.std.proofs.Math.Bool.{and-true, or-false}
 use Rattle.std.proofs.lemmas.List.Sums.{sum_by-append}
-use Rattle.std.proofs.lemmas.Str.{encodes-append}
 use Rattle.py_lines.specs.Character.{is_backslash, is_line_feed, is_quote, is_return}
 use Rattle.py_lines.specs.Piece.{Piece, ends, spelled}
-use Rattle.py_lines.specs.LogicalLine.{byte_len, line_ends}
+use Rattle.py_lines.specs.LogicalLine.{line_ends}
 use Rattle.py_lines.specs.declared.mode.Mode.{Mode}
 use Rattle.py_lines.specs.declared.mode.Mode.TheVariants as modes
 use Rattle.py_lines.specs.declared.mode.Move.TheVariants as moves
 use Rattle.py_lines.specs.declared.scan.Scan.{Scan}
 use Rattle.py_lines.specs.Private.Machine.{long_move, move_of}
 use Rattle.py_lines.specs.Private.ScanMachine.{HoldsOpen, IsScanSound, meet_of, move_at, move_in, scan_steps}
-use Rattle.py_lines.specs.Private.Scan.{FieldsFollow, IsUnderWay, counts_after, line_start}
-use Rattle.py_lines.specs.Private.Run.{HoldsLongText, ReadsLongText, Reached, is_feed, is_long_byte, is_text_byte, is_body_byte, with_lines}
+use Rattle.py_lines.specs.Private.Scan.{FieldsFollow, counts_after, line_start}
+use Rattle.py_lines.specs.Private.Run.{HoldsLongText, Reached, is_feed, is_long_byte, is_text_byte, is_body_byte, with_lines}
 use Rattle.py_lines.specs.Balance.{depth_through}
 use Rattle.py_lines.proofs.Text.CharacterTests.{feed-not-quote, feed-not-return, feed-not-slash, feed_from}
-use Rattle.py_lines.proofs.Text.Utf8Prefixes.{all_scalars-append}
-use Rattle.py_lines.proofs.Machine.PieceSteps.{run_by, scanned, steps_by-append}
+use Rattle.py_lines.proofs.Machine.PieceSteps.{run_by, scanned}
 use Rattle.py_lines.proofs.LineScan.Increments.{line_ends-step}
 use Rattle.py_lines.proofs.LineScan.LineCount.{ends-last}
 use Rattle.py_lines.proofs.LineScan.LineSteps.{sound_steps}

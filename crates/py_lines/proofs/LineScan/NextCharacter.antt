@@ -54,9 +54,12 @@ depth_none ps st stacked = none_length st (depth_through 0 ps) (sym (stands ps s
 pub none_level : (ps : List Piece) (st : List Bracket) → brackets_of ps ≡ Some st → none_open st ≡ true → depth_through 0 ps ≡ 0
 none_level ps st stacked none = eqb-true _ 0 (depth_none ps st stacked ∙ none)
 
+pub empty_stack : (st : List Bracket) → none_open st ≡ true → st ≡ []
+empty_stack [] none = refl
+empty_stack (b ∷ bs) none = absurd (both_ways _ refl none)
+
 pub none_stack : (ps : List Piece) (st : List Bracket) → brackets_of ps ≡ Some st → none_open st ≡ true → brackets_of ps ≡ Some []
-none_stack ps [] stacked none = stacked
-none_stack ps (b ∷ bs) stacked none = absurd (both_ways _ refl none)
+none_stack ps st stacked none = stacked ∙ ap Some (empty_stack st none)
 
 class_closed : (m : Mode) → (m ≡ modes.Return → ⊥) → is_line_end_class (class_of m) ≡ false
 class_closed modes.Return other = absurd (other refl)

@@ -21,7 +21,7 @@ use Rattle.py_lines.specs.declared.scan.Scan.{Scan}
 use Rattle.py_lines.specs.Private.Machine.{Scanned, move_of, short_move, long_move, spelling_with, IsFull}
 use Rattle.py_lines.specs.Private.ScanMachine.{HoldsOpen, IsScanSound, fielded_move, meet_of, move_in, scan_steps, string_state, move_at}
 use Rattle.py_lines.specs.declared.field_scan.FieldScan.{FieldScan}
-use Rattle.py_lines.specs.Private.Scan.{Counts, FieldsFollow, Tallies, IsStacked, depth_of, with_field_scan, IsUnderWay, line_start, stack_of, counts_after, Takes}
+use Rattle.py_lines.specs.Private.Scan.{Counts, FieldsFollow, Tallies, IsStacked, depth_of, with_field_scan, line_start, stack_of, counts_after, Takes}
 use Rattle.py_lines.specs.Balance.{depth_through}
 use Rattle.py_lines.specs.Private.FieldMachine.{FieldScanned}
 use Rattle.py_lines.specs.Private.FieldScan.{GoesThrough, HoldsField}

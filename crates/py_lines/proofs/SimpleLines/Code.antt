@@ -3,13 +3,14 @@ use Rattle.std.proofs.Common.{◌≡◌, ◌==◌, ℕ, ◌+◌, ◌-◌, length
 use Rattle.std.specs.Prelude.{codes, encode_utf8, encode_utf8_all}
 use Rattle.std.specs.Str.{all_scalars}
 use Rattle.std.specs.List.{list_all}
-use Rattle.std.proofs.lemmas.Bool.{and_from, and_parts, both_ways, cases_lt, false_from_ne_true, not-true, or_parts}
+use Rattle.std.proofs.lemmas.Bool.{and_from, and_parts, both_ways, cases_lt, false_from_ne_true, or_parts}
 use Rattle.std.proofs.lemmas.Bool.Decides.{nat_tests}
 use Rattle.py_lines.specs.Character.{is_break, is_line_feed, is_operator, is_quote, is_return, is_space, is_word_character}
 use Rattle.py_lines.specs.Piece.{operator, line_end, Piece, ends, spelled}
 use Rattle.py_lines.specs.Balance.{depth_through, is_opening, is_closing}
 use Rattle.py_lines.specs.LogicalLine.{byte_len, is_line_end_class}
 use Rattle.py_lines.specs.declared.mode.Spelling.{Spelling}
+use Rattle.py_lines.specs.declared.mode.Spelling.TheVariants as spellings
 use Rattle.py_lines.specs.declared.mode.Mode.{Mode}
 use Rattle.py_lines.specs.declared.mode.Mode.TheVariants as modes
 use Rattle.py_lines.specs.declared.mode.Move.TheVariants as moves
@@ -31,8 +32,8 @@ use Rattle.py_lines.proofs.LineScan.Increments.{EndsNoLine-push, line_ends-step,
 use Rattle.py_lines.proofs.LineScan.LineCount.{ends-last}
 use Rattle.py_lines.proofs.LineScan.NextCharacter.{closed_one_line, depth_none, none_level}
 use Rattle.py_lines.proofs.LineScan.PieceEnd.{closed_text}
-use Rattle.py_lines.proofs.LineScan.Runs.{break_low, ends-run, line_ends-run, space_low, word_byte_continues, word_byte_low}
-use Rattle.py_lines.proofs.LineScan.AsciiRuns.{ascii_scalar, operator-no_break, word_starts, word_whole, space-not-quote, space_whole}
+use Rattle.py_lines.proofs.LineScan.Runs.{break_low, ends-run, line_ends-run, space_low, stays-no_break, word_byte_continues, word_byte_low}
+use Rattle.py_lines.proofs.LineScan.AsciiRuns.{ascii_scalar, operator-no_break, word_starts, space-not-quote}
 use Rattle.py_lines.proofs.LineScan.TextSteps.{begun_sound}
 use Rattle.py_lines.proofs.SimpleLines.Tails.{apart_tail, come_sound, feed_unreturned, free_closed, free_goes_on, no_tail, no_tail_with, return_returns, stands, tail_on-append, tail_push}
 use Rattle.py_lines.proofs.LineTokens.Spellings.{high_bytes}
@@ -338,7 +339,7 @@ unfolding meet_of
 word_grows s c is = rw (word_byte_continues c (word_byte_low c is) ∙ is) refl
 
 word-not-break : (c : ℕ) → is_ascii_word c ≡ true → is_break c ≡ false
-word-not-break c is = not-true _ (word_whole c is)
+word-not-break c is = stays-no_break (modes.Word spellings.Name) c is
 
 -- the line goes on after a byte, if the word is open that it ends with then
 goes_after : (initial : Mode) (read : List ℕ) (n : ℕ) (st : List Bracket) (c : ℕ) (s : Scanned) → is_break c ≡ false → HasCome initial (read ++ c ∷ []) n st s → IsTail (tail_with (tail_of read) c) s.mode → GoesOnAfter initial (read ++ c ∷ []) n st
@@ -368,7 +369,7 @@ space-not-word : (c : ℕ) → is_space c ≡ true → is_word_character c ≡ f
 space-not-word c is = word_byte_continues c (space_low c is) ∙ space-no-word c is
 
 space-not-break : (c : ℕ) → is_space c ≡ true → is_break c ≡ false
-space-not-break c is = not-true _ (space_whole c is)
+space-not-break c is = stays-no_break modes.Space c is
 
 space_after : (initial : Mode) (read : List ℕ) (n : ℕ) (st : List Bracket) (c : ℕ) → is_space c ≡ true → (done : List Piece) (held : List ℕ) → HasCome initial (read ++ c ∷ []) n st (scanned done modes.Space held) → GoesOnAfter initial (read ++ c ∷ []) n st
 space_after initial read n st c is done held come =

@@ -2,7 +2,7 @@
 use Rattle.std.proofs.Common.{◌≡◌, ℕ, ◌+◌, ◌-◌, ◌<◌, ◌≤◌, ◌==◌, inl, inr, Bool, true, false, not, ◌&&◌, ◌||◌, Option, None, Some, List, [], ◌∷◌, ◌++◌, length, take, drop, slice_index, refl, sym, ap, ◌∙◌, subst, append_assoc, append-nil, arith, length-drop, ⊎_elim}
 use Rattle.std.specs.List.{list_all}
 use Rattle.std.specs.Str.{all_scalars}
-use Rattle.std.proofs.lemmas.Bool.{and_parts, both_ways, or_cases, or_parts, not-true}
+use Rattle.std.proofs.lemmas.Bool.{and_parts, or_cases, or_parts, not-true}
 use Rattle.std.proofs.lemmas.List.{append_cancel_left, drop-drop, length-take-le, take-append-drop}
 use Rattle.std.proofs.lemmas.Str.{encodes-append}
 use Rattle.std.proofs.Math.Seq.{take-add}
@@ -26,6 +26,7 @@ use Rattle.py_lines.specs.Private.Outline.{AreWholeLines, BeginWithLines, Begins
 use Rattle.py_lines.specs.Private.Passing.{EndsLineSo, PassesOver, PassesSo, nothing_passed, up_to}
 use Rattle.py_lines.proofs.FieldScans.TextLengths.{later}
 use Rattle.py_lines.proofs.LineScan.LineCount.{line_ends-bytes}
+use Rattle.py_lines.proofs.LineScan.NextCharacter.{empty_stack}
 use Rattle.py_lines.proofs.LineScan.AsciiRuns.{all_pass, low_encodes}
 use Rattle.py_lines.proofs.LogicalLines.Cuts.{byte_len-append}
 use Rattle.py_lines.proofs.Text.Utf8Prefixes.{all_scalars-append}
@@ -114,10 +115,6 @@ pub record EndsSo (len : ℕ) (after : List ℕ) (returned : Bool) (m : Mode) (r
   pub size : line.len ≡ len
   pub returns : returned ≡ ends is_return read
 
-none_stack : (st : List Bracket) → none_open st ≡ true → st ≡ []
-none_stack [] none = refl
-none_stack (b ∷ bs) none = absurd (both_ways _ refl none)
-
 module _ (bytes : List ℕ) (m : Mode) (past before : List ℕ) where
   abbrev pub Comes : ℕ → ℕ → List Bracket → Stand → Type 0
   Comes at n st stands = ComesTo bytes m past before at n st stands
@@ -182,7 +179,7 @@ module _ (bytes : List ℕ) (m : Mode) (past before : List ℕ) where
       let read = before ++ come.run in
       let is = end_is bytes at within len found in
       let spell = end_spells bytes at within len found in
-      let line_is = outer_end_whole text after m read n is (rw (← none_stack st none, ← end_split bytes at within len found) come.stands) in
+      let line_is = outer_end_whole text after m read n is (rw (← empty_stack st none, ← end_split bytes at within len found) come.stands) in
       further at len n (n + 1) st [] (StandsBefore (drop at bytes)) (EndsSo len after (slice_index bytes (at + len - 1) == 13)) come
       (end_within bytes at within len found) text spell (record {
         line = line_is.0;
@@ -266,7 +263,7 @@ module _ (bytes : List ℕ) where
       ∙ ap (λ t. t ++ after) (sym c.spell ∙ encodes-append past.read c.run ∙ ap (λ t. t ++ encode_utf8_all c.run) past.spell)
       ∙ append_assoc (take lines.len bytes) (encode_utf8_all c.run) after) in
       let pushed = line_push past.texts past.read c.run lines.line_ends (on.more + 1) after (subst (AreWholeLines past.texts past.read lines.line_ends) split past.whole) some c.stands.line in
-      rw (none_stack st none) (line_begins (record { len = at + len; line_ends = n + 1 }) (record {
+      rw (empty_stack st none) (line_begins (record { len = at + len; line_ends = n + 1 }) (record {
         within = c.within;
         read = past.read ++ c.run;
         spell = c.spell;
@@ -280,8 +277,16 @@ module _ (bytes : List ℕ) where
       let past = on.lines_are in
       let before = lines_few past.texts past.read lines.line_ends (drop lines.len bytes) past.whole in
       let holds = stands_holds (drop at bytes) modes.Free on.come.run on.more st on.come.stands in
-      omega (arith, on.count, before, holds.count, line_ends-bytes on.come.run, line_size lines at on.more st (StandsBefore (drop at bytes)) past on.come,
-      ap length past.spell, length-take-le lines.len bytes past.within)
+      omega (
+        arith,
+        on.count,
+        before,
+        holds.count,
+        line_ends-bytes on.come.run,
+        line_size lines at on.more st (StandsBefore (drop at bytes)) past on.come,
+        ap length past.spell,
+        length-take-le lines.len bytes past.within,
+      )
 
 -- the line that is open after these lines has come to this byte, which isn't plain, or the bytes end there
 pub record StandsAt (bytes : List ℕ) (lines : Passed) (at : ℕ) (p : Passing) (b : Brackets) : Type 0 where
