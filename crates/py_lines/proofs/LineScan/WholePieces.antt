@@ -1,5 +1,5 @@
 -- Whole pieces are passed over: the scan comes to where all of them are closed.
-use Rattle.std.proofs.Common.{◌≡◌, ℕ, ◌+◌, ◌-◌, ◌<◌, ◌≤◌, inl, inr, Bool, true, false, not, ◌||◌, ◌==◌, if◌then◌else◌, None, List, [], ◌++◌, length, take, drop, slice_index, refl, sym, ap, ◌∙◌, subst, add-zero, append_assoc, append-nil, arith, length-drop}
+use Rattle.std.proofs.Common.{◌≡◌, ℕ, ◌+◌, ◌-◌, ◌<◌, ◌≤◌, inl, inr, Bool, true, false, not, ◌||◌, ◌==◌, if◌then◌else◌, List, [], ◌++◌, length, take, drop, slice_index, refl, sym, ap, ◌∙◌, subst, add-zero, append_assoc, append-nil, arith, length-drop}
 use Rattle.std.specs.Prelude.{encode_utf8_all}
 use Rattle.std.proofs.lemmas.Bool.{and_parts, not-true, or_parts}
 use Rattle.std.proofs.lemmas.List.{get_or-drop, get_or-take, length-take-le, take-append-drop, take_rest}
@@ -19,7 +19,7 @@ use Rattle.py_lines.specs.declared.scan.Scan.{Scan}
 use Rattle.py_lines.specs.declared.scan.Stop.TheVariants as stops
 use Rattle.py_lines.specs.Private.Machine.{Bracket}
 use Rattle.py_lines.specs.Private.Marks.{FindsNext, is_of_class}
-use Rattle.py_lines.specs.Private.Outline.{BeginsOuterEnd, IsFreeAfter, StandsBefore, StandsClosed, tail_of}
+use Rattle.py_lines.specs.Private.Outline.{BeginsOuterEnd, IsFreeAfter, StandsBefore, StandsClosed}
 use Rattle.py_lines.specs.Private.Passing.{EndsLineSo, PassesOver, PassesSo, nothing_passed, passed_to, up_to}
 use Rattle.py_lines.specs.Private.Run.{Reached, WhereverReached}
 use Rattle.py_lines.specs.Private.Scan.{IsLineBefore, ScansIn, line_start, none_open, stack_of, with_brackets}
@@ -35,10 +35,6 @@ use Rattle.py_lines.proofs.SimpleLines.UnderWay.{free_way, line_before, way_free
 
 module _ (first : Scan) (bytes : List ℕ) (m : Mode) (line : ℕ) (whole : List ℕ) (start : IsScanSound (line_start m) [])
     (r : Reached m line whole first bytes) where
-  before_tail : first.piece.mode ≡ modes.Free → tail_of r.read ≡ None
-  before_tail free =
-      (free_tail m r.read (line_ends r.read) (stack_of first.brackets) (way_free m first r.read start r.scalars r.way free)).0
-
   size : (at n : ℕ) (st : List Bracket) (stands : Stand) → (c : ComesTo bytes m [] r.read at n st stands)
       → byte_len (r.read ++ c.run) ≡ first.stop + at
   size at n st stands c = omega (arith, byte_len-append r.read c.run, way_stop m first r.read r.way start, ap length c.spell, length-take-le at bytes c.within)
@@ -156,7 +152,7 @@ module _ (first : Scan) (bytes : List ℕ) (at : ℕ) (b : Brackets) (all closed
       let same : n + more ≡ line_ends r.read + (all.line_ends + more) = omega arith in
       subst (λ (k : ℕ). ComesTo bytes m [] r.read (at + len) k after (StandsClosed closes (drop (at + len) bytes))) same
       (over_further bytes m [] r.read at (first.stop + at) len more n closes (stack_of b) after refl
-      (before_tail first bytes m line whole start r on.free) o.come
+      (free_tail m r.read (line_ends r.read) (stack_of first.brackets) (way_free m first r.read start r.scalars r.way on.free)).0 o.come
       (size first bytes m line whole start r at n (stack_of b) (StandsBefore (drop at bytes)) o.come) over)
 
   over_passed : (c : Brackets) (len more : ℕ) (closes : Bool)

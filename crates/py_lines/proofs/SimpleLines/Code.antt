@@ -6,7 +6,7 @@ use Rattle.std.specs.List.{list_all}
 use Rattle.std.proofs.lemmas.Bool.{and_from, and_parts, both_ways, cases_lt, false_from_ne_true, or_parts}
 use Rattle.std.proofs.lemmas.Bool.Decides.{nat_tests}
 use Rattle.py_lines.specs.Character.{is_break, is_line_feed, is_operator, is_quote, is_return, is_space, is_word_character}
-use Rattle.py_lines.specs.Piece.{operator, line_end, Piece, ends, spelled}
+use Rattle.py_lines.specs.Piece.{operator, line_end, Piece, ends}
 use Rattle.py_lines.specs.Balance.{depth_through, is_opening, is_closing}
 use Rattle.py_lines.specs.LogicalLine.{byte_len, is_line_end_class}
 use Rattle.py_lines.specs.declared.mode.Spelling.{Spelling}
@@ -109,12 +109,6 @@ pub line_end_unreturned : (returned : Bool) (read : List ℕ) → ends is_return
 line_end_unreturned false read = ends-last is_return read 10 ∙ feed_unreturned
 line_end_unreturned true read = ap (ends is_return) (sym (append_assoc read (13 ∷ []) (10 ∷ []))) ∙ ends-last is_return (read ++ 13 ∷ []) 10 ∙ feed_unreturned
 
--- the pieces where the open one is closed
-closed_place : (initial : Mode) (read : List ℕ) (n : ℕ) (st : List Bracket) (s : Scanned) → HasCome initial read n st s → byte_len (spelled (pieces_at s)) ≡ byte_len read
-closed_place initial read n st s come =
-    let sound = come_sound initial read n st s come in
-    ap byte_len (closed_text s.mode s.done s.held sound.holds ∙ sound.spell)
-
 pub tail_code : (t : Option Spelling) (m : Mode) → IsTail t m → is_code_mode m ≡ true
 tail_code None modes.Free apart = refl
 tail_code None modes.Space apart = refl
@@ -202,8 +196,10 @@ module _ (initial : Mode) (read : List ℕ) (n : ℕ) (st : List Bracket) (c : �
   pub operator_closes : (after : List Bracket) → is_operator c ≡ true → brackets_after st (byte_len read) (piece operator (c ∷ [])) ≡ Some after → IsFreeAfter initial (read ++ c ∷ []) n after
   operator_closes after is may =
       let p = piece operator (c ∷ []) in
+      let sound = come_sound initial read n st on.state on.come in
+      let place = ap byte_len (closed_text on.state.mode on.state.done on.state.held sound.holds ∙ sound.spell) in
       closes_with (c ∷ []) p (begins_as [] starts.Operator (start-operator c is))
-      (stack_push pieces p st closed_stack ∙ ap (λ (k : ℕ). brackets_after st k p) (closed_place initial read n st on.state on.come) ∙ may)
+      (stack_push pieces p st closed_stack ∙ ap (λ (k : ℕ). brackets_after st k p) place ∙ may)
       refl (holds_one read c n on.come.holds (operator_ascii c is) (operator-no_break c is))
 
 -- CR opens a line end

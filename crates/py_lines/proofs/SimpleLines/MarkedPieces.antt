@@ -118,6 +118,8 @@ module _ (bytes : List ℕ) (at end : ℕ) (further : at < end) (within : end < 
       let k = end - at - 1 in
       let stops : is_remark_byte (slice_index bytes end) ≡ false = rw breaks refl in
       let run = run_of is_remark_byte remark stops in
+      let there : at + (1 + k) ≡ end = omega (arith, further) in
+      let last : slice_index (drop 1 rest) k ≡ slice_index bytes end = rest_byte k ∙ ap (λ (i : ℕ). slice_index bytes i) there in
       let low : slice_index (drop 1 rest) k < 128 = subst (λ (c : ℕ). c < 128) (sym last) (break_low (slice_index bytes end) breaks) in
       let whole = ascii_comment (drop 1 rest) k run (omega (arith, further, within, length-drop at bytes, length-drop 1 rest)) low in
       let first = comment_passed rest k (omega (arith, further, within, length-drop at bytes)) (ap is_hash first_is ∙ hash) (subst (λ (t : List ℕ). IsWholeComment t (Some k)) (sym (rest_is rest 1)) whole) in
@@ -125,11 +127,6 @@ module _ (bytes : List ℕ) (at end : ℕ) (further : at < end) (within : end < 
       first_piece class.Hash bytes at (Some (record { len = end - at; line_ends = 0 })) (omega (arith, further, within)) (λ _. refl)
       (subst (λ (t : List ℕ). PassesFirst t (Some (record { len = end - at; line_ends = 0 }))) (sym (rest_is bytes at))
       (subst (λ (n : ℕ). PassesFirst rest (Some (record { len = n; line_ends = 0 }))) size first))
-    where
-      last : slice_index (drop 1 rest) (end - at - 1) ≡ slice_index bytes end
-      last =
-          let there : at + (1 + (end - at - 1)) ≡ end = omega (arith, further) in
-          rest_byte (end - at - 1) ∙ ap (λ (i : ℕ). slice_index bytes i) there
 
 -- a comment of ASCII goes on up to the next byte that isn't plain
 pub record ReadsComment (bytes : List ℕ) (at end : ℕ) (marks : Marks) : Type 0 where
