@@ -115,10 +115,6 @@ tail_code None modes.Space apart = refl
 tail_code None m apart = absurd (both_ways _ refl apart)
 tail_code (Some s) m is = ap is_code_mode is
 
--- no CR is open in code
-pub code_other : (m : Mode) → is_code_mode m ≡ true → m ≡ modes.Return → ⊥
-code_other m code is = let stuck : false ≡ true = sym (ap is_code_mode is) ∙ code in cc
-
 -- the mode breaks before such characters
 pub apart_breaks : (m : Mode) (c : ℕ) → is_apart_mode m ≡ true → is_space c ≡ false → meet_of m c ≡ moves.Breaks
 unfolding meet_of move_of
@@ -290,7 +286,7 @@ ends_at initial read n st c on breaks tail = record {
   come = on.come;
   breaks = breaks;
   parted = λ feeds. on.unreturned;
-  inside = λ returns. absurd (code_other on.state.mode (tail_code (tail_of read) on.state.mode on.tail) returns);
+  inside = λ returns. absurd (both_ways _ (ap is_code_mode returns) (tail_code (tail_of read) on.state.mode on.tail));
   tail = tail;
 }
 
