@@ -18,7 +18,7 @@ use Rattle.py_lines.specs.Private.Scan.{is_returned, is_return_mode, none_open, 
 use Rattle.py_lines.specs.Private.LineState.{IsEndLineFault, first_mode}
 use Rattle.py_lines.specs.Private.Run.{Reached}
 use Rattle.py_lines.specs.Private.Feed.{EndsText, FailsAt, Holds, IsScanned}
-use Rattle.py_lines.proofs.LineScan.WholePieces.{none_stack}
+use Rattle.py_lines.proofs.LineScan.NextCharacter.{empty_stack}
 use Rattle.py_lines.proofs.Machine.PieceSteps.{pieces_at}
 use Rattle.py_lines.proofs.Readers.LineAnswers.{IsScannedLine}
 use Rattle.py_lines.proofs.Readers.LineFaults.{Within, finished, unfinished_within}
@@ -101,7 +101,7 @@ module _ (old f : Feed) (keeps : Holds old old.held.items old.state.fault f) (s 
   returned_parts : is_returned f.state.scan ≡ true → (is_return_mode f.state.scan.piece.mode ≡ true) × (stack_of f.state.scan.brackets ≡ [])
   returned_parts returned =
       let parts = and_parts (is_return_mode f.state.scan.piece.mode) (none_open (stack_of f.state.scan.brackets)) returned in
-      (parts.0, none_stack (stack_of f.state.scan.brackets) parts.1)
+      (parts.0, empty_stack (stack_of f.state.scan.brackets) parts.1)
 
   -- it is ready
   last_line : (end_len : ℕ) → s.0.rest ≡ [] → is_final f.state.scan.piece.mode ≡ true → stack_of f.state.scan.brackets ≡ []
