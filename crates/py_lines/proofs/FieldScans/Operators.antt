@@ -42,7 +42,7 @@ unfolding code_operator openers_with
 wrong_in_field l ls done c ends specifies closing = rw (ends, specifies, closing-not-opening c closing, closing)
 
 -- only `:` is no piece of its list, where no bracket is open
-no_colon : (outer : List Level) (openers : List ℕ) (c : ℕ) → (c == 58) && (length openers == 0) ≡ false → IsNoColon outer openers c
+pub no_colon : (outer : List Level) (openers : List ℕ) (c : ℕ) → (c == 58) && (length openers == 0) ≡ false → IsNoColon outer openers c
 no_colon [] openers c h = tt
 no_colon (l ∷ ls) openers c h = h
 

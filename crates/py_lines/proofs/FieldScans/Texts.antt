@@ -13,13 +13,14 @@ use Rattle.py_lines.specs.declared.mode.Mode.TheVariants as modes
 use Rattle.py_lines.specs.declared.mode.Move.TheVariants as moves
 use Rattle.py_lines.specs.declared.mode.Spelling.TheVariants as spellings
 use Rattle.py_lines.specs.declared.mode.Start.TheVariants as starts
-use Rattle.py_lines.specs.Private.Machine.{IsFull, short_move, move_of, start_of, first_spelling, spelling_with, is_prefix_spelling}
+use Rattle.py_lines.specs.Private.Machine.{IsFull, closed, short_move, move_of, start_of, first_spelling, spelling_with, is_prefix_spelling}
 use Rattle.py_lines.specs.Private.FieldMachine.{At, FieldMode, between, after_brace, after_slash, plain, body, FieldMove, grows, closes, breaks, begins_code, ends_field, Level, FieldScanned, field_state, field_fresh, field_ended, field_pieces, begins_host, plain_move, between_move, body_move, field_move, field_moved, field_started, code_operator, openers_with, levels_open, frames, has_room_at}
 use Rattle.py_lines.specs.Private.FieldScan.{GoesThrough}
 use Rattle.py_lines.specs.Private.FieldText.{is_apart_mode, is_escaped, InText, AtBrace, AtCode, InCode, StandsInCode, AtSpecification, Leads, level_after, is_code_mode, is_code_bracket}
 use Rattle.py_lines.specs.Private.Run.{is_ascii_word, is_text_byte, is_body_byte, is_literal_byte, is_code_sign, is_code_byte}
 use Rattle.py_lines.proofs.Pieces.PieceLists.{piece}
 use Rattle.py_lines.proofs.Text.CharacterTests.{each_of, none_of, not_quote, operator_ascii, excluded, quote-not-word}
+use Rattle.py_lines.proofs.Machine.LiveTexts as live
 use Rattle.py_lines.proofs.Machine.Starts.{start-word, start-space, start-operator, start-quote}
 use Rattle.py_lines.proofs.FieldMachine.Runs.{room_at, stops-fresh}
 use Rattle.py_lines.proofs.FieldMachine.PlainSteps.{plain_moves}
@@ -28,6 +29,8 @@ use Rattle.py_lines.proofs.FieldMachine.ListBrackets.{opening_pushes, closing_po
 use Rattle.py_lines.proofs.FieldMachine.StringParts.{open_moves, other_escaped, second_brace, slash_grows}
 use Rattle.py_lines.proofs.FieldMachine.FieldRuns.{brace_ends, code_moves, colon_opens, end_moves, end_no_quote}
 use Rattle.py_lines.proofs.ScanMachine.Follows.{room_closes}
+use Rattle.py_lines.proofs.FieldScans.Frames.{AreOpenAlike, operator_alike}
+use Rattle.py_lines.proofs.FieldScans.Operators.{no_colon}
 use Rattle.py_lines.proofs.FieldScans.Runs.{text_stays, two_false}
 use Rattle.py_lines.proofs.FieldScans.Taking.{no_opening}
 use Rattle.py_lines.proofs.FieldScans.Steps.{goes_through, keeps_open, some_level}
@@ -210,26 +213,30 @@ word_opens_none : (c : ℕ) → is_ascii_word c ≡ true → is_opening c ≡ fa
 word_opens_none c h = excluded is_ascii_word is_opening c (opening-not-word c) h
 
 -- what a character does to a word, to space, and where no piece is open: it begins such a piece, or goes on in one
-abbrev pub BeginsOrGrows : (Mode → Bool) → ℕ → Mode → List ℕ → Type 0
+abbrev BeginsOrGrows : (Mode → Bool) → ℕ → Mode → List ℕ → Type 0
 BeginsOrGrows passes c m held = (field_move (plain m) held c ≡ breaks) ⊎ ((n : Mode) × (field_move (plain m) held c ≡ grows (plain n)) × (passes n ≡ true))
 
-piece_leads : (passes : Mode → Bool) (os : List ℕ) (quote c : ℕ) (begun : Mode) → c < 128 → is_break c ≡ false → is_opening c ≡ false → start_of c ≡ starts.Open begun → passes begun ≡ true → ((m : Mode) (held : List ℕ) → is_code_mode m ≡ true → BeginsOrGrows passes c m held) → Leads quote (InCode os) (c ∷ []) (StandsInCode passes os)
-piece_leads passes os quote c begun low none opens_none opens simple each =
-    from_code is_code_mode os quote (c ∷ []) (StandsInCode passes os) (λ outer l depth front done held m code room same quotes.
-    let C : FieldScanned = field_state (level_after l front ∷ outer) done os (plain m) held in
-    let next : FieldScanned = field_state (level_after l front ∷ outer) (field_pieces C) os (plain begun) (c ∷ []) in
-    ⊎_elim
-    (λ move. (
-      next,
-      breaks_to depth C next c low none move (no_opening _ c opens_none) (ap (field_started (level_after l front ∷ outer) (field_pieces C) os c) opens),
-      record { front = front; done = field_pieces C; mode = begun; held = c ∷ []; is = refl; simple = simple },
-    ))
-    (λ (n, move, more). (
-      field_state (level_after l front ∷ outer) done os (plain n) (held ++ c ∷ []),
-      grows_to depth C c (plain n) low none move,
-      record { front = front; done = done; mode = n; held = held ++ c ∷ []; is = refl; simple = more },
-    ))
-    (each m held code))
+-- from a place in code to another, through these characters: the list goes on, and the same brackets are open in it
+pub record CodeTo (passes : Mode → Bool) (depth : ℕ) (t : FieldScanned) (run : List ℕ) : Type 0 where
+  pub done : List Piece
+  pub mode : Mode
+  pub held : List ℕ
+  pub goes : GoesThrough depth t run (field_state t.outer done t.openers (plain mode) held)
+  pub simple : passes mode ≡ true
+  pub alike : AreOpenAlike t.done done
+
+-- one character that begins or continues a piece
+piece_goes : (passes : Mode → Bool) (depth : ℕ) (outer : List Level) (ps : List Piece) (os : List ℕ) (m : Mode) (held : List ℕ) (c : ℕ) (begun : Mode) → c < 128 → is_break c ≡ false → is_opening c ≡ false → start_of c ≡ starts.Open begun → passes begun ≡ true → BeginsOrGrows passes c m held → CodeTo passes depth (field_state outer ps os (plain m) held) (c ∷ [])
+piece_goes passes depth outer ps os m held c begun low none opens_none opens simple (inl move) = record {
+  done = closed m ps held;
+  mode = begun;
+  held = c ∷ [];
+  goes = breaks_to depth (field_state outer ps os (plain m) held) (field_state outer (closed m ps held) os (plain begun) (c ∷ [])) c low none move (no_opening _ c opens_none) (ap (field_started outer (closed m ps held) os c) opens);
+  simple = simple;
+  alike = live.stack_closed m ps held;
+}
+piece_goes passes depth outer ps os m held c begun low none opens_none opens simple (inr (n, move, more)) =
+    record { done = ps; mode = n; held = held ++ c ∷ []; goes = grows_to depth (field_state outer ps os (plain m) held) c (plain n) low none move; simple = more; alike = λ st same. same }
 
 -- in a word
 word_character : (c : ℕ) → is_ascii_word c ≡ true → is_word_character c ≡ true
@@ -244,9 +251,6 @@ word_moves c h modes.Free held simple = inl (plain_move_is modes.Free held c ref
 word_moves c h modes.Space held simple = inl (plain_move_is modes.Space held c refl (word_no_quote c (word_character c h)) ∙ rw (word_no_space c h) refl)
 word_moves c h (modes.Word s) held simple = inr (modes.Word (spelling_with s c), plain_move_is (modes.Word s) held c refl (word_no_quote c (word_character c h)) ∙ rw (word_character c h) refl, refl)
 word_moves c h m held simple = absurd (both_ways _ refl simple)
-
-word_leads : (os : List ℕ) (quote c : ℕ) → is_ascii_word c ≡ true → Leads quote (InCode os) (c ∷ []) (InCode os)
-word_leads os quote c h = piece_leads is_code_mode os quote c (modes.Word (first_spelling c)) (word_byte_low c h) (word_no_break c h) (word_opens_none c h) (word_starts c h) refl (word_moves c h)
 
 -- a space
 space_no_word : (c : ℕ) → is_space c ≡ true → is_word_character c ≡ false
@@ -265,9 +269,6 @@ space_moves c h (modes.Word s) held simple =
     inl (plain_move_is (modes.Word s) held c refl (space_others c h).0 ∙ rw (space_no_word c h, neither) refl)
 space_moves c h m held simple = absurd (both_ways _ refl simple)
 
-space_leads : (os : List ℕ) (quote c : ℕ) → is_space c ≡ true → Leads quote (InCode os) (c ∷ []) (AtCode os)
-space_leads os quote c h = let others = space_others c h in piece_leads is_apart_mode os quote c modes.Space (space_low c h) others.1 others.2 (start-space c h) refl (space_moves c h)
-
 -- an operator
 operator_no_word : (c : ℕ) → is_operator c ≡ true → is_word_character c ≡ false
 operator_no_word c h = word_byte_continues c (operator_ascii c h) ∙ operator-not-word c h
@@ -279,19 +280,28 @@ operator_others c h = (none_of is_space (codes "+-*/%@&|^~<>=!()[]{},:.;") c ref
 pub operator_breaks : (m : Mode) (held : List ℕ) (c : ℕ) → is_code_mode m ≡ true → is_operator c ≡ true → field_move (plain m) held c ≡ breaks
 operator_breaks m held c simple h = let others = operator_others c h in no_more m held c simple (operator_no_word c h) others.0 others.1
 
+pub operator_goes : (depth : ℕ) (outer : List Level) (ps : List Piece) (os after : List ℕ) (m : Mode) (held : List ℕ) (c : ℕ) → is_code_mode m ≡ true → is_operator c ≡ true → openers_with os c ≡ Some after → (c == 58) && (length os == 0) ≡ false → has_room_at (depth + (length os + levels_open outer)) c breaks ≡ true → GoesThrough depth (field_state outer ps os (plain m) held) (c ∷ []) (field_fresh outer (closed m ps held ++ piece operator (c ∷ []) ∷ []) after)
+operator_goes depth outer ps os after m held c simple h stands colon room =
+    breaks_to depth (field_state outer ps os (plain m) held) (field_fresh outer (closed m ps held ++ piece operator (c ∷ []) ∷ []) after) c (operator_ascii c h) (operator_others c h).2 (operator_breaks m held c simple h) room
+    (ap (field_started outer (closed m ps held) os c) (start-operator c h) ∙ operator_stays outer (closed m ps held) os after c stands (no_colon outer os c colon))
+
 operator_leads : (os after : List ℕ) (quote c : ℕ) → is_operator c ≡ true → openers_with os c ≡ Some after → (c == 58) && (length os == 0) ≡ false → ((n : ℕ) → n ≤ 101 → has_room_at (n + length os) c breaks ≡ true) → Leads quote (InCode os) (c ∷ []) (AtCode after)
-operator_leads os after quote c h stands no_colon rooms =
+operator_leads os after quote c h stands colon rooms =
     from_code is_code_mode os quote (c ∷ []) (AtCode after) (λ outer l depth front done held m simple room same quotes.
-    let C : FieldScanned = field_state (level_after l front ∷ outer) done os (plain m) held in
-    let ps = field_pieces C in
-    let next : FieldScanned = field_fresh (level_after l front ∷ outer) (ps ++ piece operator (c ∷ []) ∷ []) after in
     let n = depth + (length l.openers + levels_open outer + 1) in
     let deep : n + length os ≡ depth + (length os + (length l.openers + levels_open outer + 1)) = omega arith in (
-      next,
-      breaks_to depth C next c (operator_ascii c h) (operator_others c h).2 (operator_breaks m held c simple h) (subst (λ (k : ℕ). has_room_at k c breaks ≡ true) deep (rooms n (omega (arith, room))))
-          (ap (field_started (level_after l front ∷ outer) ps os c) (start-operator c h) ∙ operator_stays (level_after l front ∷ outer) ps os after c stands no_colon),
-      record { front = front; done = ps ++ piece operator (c ∷ []) ∷ []; mode = modes.Free; held = []; is = refl; simple = refl },
+      field_fresh (level_after l front ∷ outer) (closed m done held ++ piece operator (c ∷ []) ∷ []) after,
+      operator_goes depth (level_after l front ∷ outer) done os after m held c simple h stands colon (subst (λ (k : ℕ). has_room_at k c breaks ≡ true) deep (rooms n (omega (arith, room)))),
+      record { front = front; done = closed m done held ++ piece operator (c ∷ []) ∷ []; mode = modes.Free; held = []; is = refl; simple = refl },
     ))
+
+-- a sign is an operator that leaves the same brackets open
+pub sign_goes : (depth : ℕ) (outer : List Level) (ps : List Piece) (os : List ℕ) (m : Mode) (held : List ℕ) (c : ℕ) → is_code_mode m ≡ true → is_operator c ≡ true → is_opening c ≡ false → is_closing c ≡ false → c == 58 ≡ false → (done : List Piece) × GoesThrough depth (field_state outer ps os (plain m) held) (c ∷ []) (field_fresh outer done os) × AreOpenAlike ps done
+sign_goes depth outer ps os m held c simple is opens shuts colon = (
+  closed m ps held ++ piece operator (c ∷ []) ∷ [],
+  operator_goes depth outer ps os os m held c simple is (others_keep os c opens shuts) (ap (λ b. b && (length os == 0)) colon) (no_opening _ c opens),
+  λ st same. operator_alike (closed m ps held) c opens shuts st (live.stack_closed m ps held st same),
+)
 
 -- the operators that code has mostly
 sign_among : (c : ℕ) → is_code_sign c ≡ true → is_one_of (codes " !=*+,-./") c ≡ true
@@ -320,21 +330,40 @@ in_code os outer l t at = record { front = at.front; done = at.done; mode = at.m
 pub leads_from_code : (os : List ℕ) (quote : ℕ) (run : List ℕ) (Q : Spot) → Leads quote (InCode os) run Q → Leads quote (AtCode os) run Q
 leads_from_code os quote run Q leads outer l depth t same quotes room at = leads outer l depth t same quotes room (in_code os outer l t at)
 
-pub leads_to_code : (os : List ℕ) (quote : ℕ) (P : Spot) (run : List ℕ) → Leads quote P run (AtCode os) → Leads quote P run (InCode os)
-leads_to_code os quote P run leads outer l depth t same quotes room at =
-    let (u, goes, to) = leads outer l depth t same quotes room at in
-    (u, goes, in_code os outer l u to)
+-- over a sign, over another byte of code, and over a run of them
+signs_go : (depth : ℕ) (outer : List Level) (ps : List Piece) (os : List ℕ) (m : Mode) (held : List ℕ) (c : ℕ) → is_code_mode m ≡ true → is_code_sign c ≡ true → CodeTo is_apart_mode depth (field_state outer ps os (plain m) held) (c ∷ [])
+signs_go depth outer ps os m held c simple h =
+    sign_cases (CodeTo is_apart_mode depth (field_state outer ps os (plain m) held) (c ∷ [])) c h
+    (λ is. let others = space_others c is in piece_goes is_apart_mode depth outer ps os m held c modes.Space (space_low c is) others.1 others.2 (start-space c is) refl (space_moves c is m held simple))
+    (λ is opens shuts colon. let k = sign_goes depth outer ps os m held c simple is opens shuts colon in
+    record { done = k.0; mode = modes.Free; held = []; goes = k.1; simple = refl; alike = k.2 })
+
+code_goes : (depth : ℕ) (outer : List Level) (ps : List Piece) (os : List ℕ) (m : Mode) (held : List ℕ) (c : ℕ) → is_code_mode m ≡ true → is_code_byte c ≡ true → CodeTo is_code_mode depth (field_state outer ps os (plain m) held) (c ∷ [])
+code_goes depth outer ps os m held c simple h =
+    ⊎_elim (λ word. piece_goes is_code_mode depth outer ps os m held c (modes.Word (first_spelling c)) (word_byte_low c word) (word_no_break c word) (word_opens_none c word) (word_starts c word) refl (word_moves c word m held simple))
+    (λ sign. let k = signs_go depth outer ps os m held c simple sign in
+    record { done = k.done; mode = k.mode; held = k.held; goes = k.goes; simple = apart_code k.mode k.simple; alike = k.alike }) (or_cases (is_ascii_word c) (is_code_sign c) h)
+
+pub codes_go : (depth : ℕ) (outer : List Level) (ps : List Piece) (os : List ℕ) (m : Mode) (held : List ℕ) (run : List ℕ) → is_code_mode m ≡ true → list_all is_code_byte run ≡ true → CodeTo is_code_mode depth (field_state outer ps os (plain m) held) run
+codes_go depth outer ps os m held [] simple all = record { done = ps; mode = m; held = held; goes = refl; simple = simple; alike = λ st same. same }
+codes_go depth outer ps os m held (c ∷ cs) simple all =
+    let parts = and_parts (is_code_byte c) (list_all is_code_byte cs) all in
+    let k = code_goes depth outer ps os m held c simple parts.0 in
+    let later = codes_go depth outer k.done os k.mode k.held cs k.simple parts.1 in
+    record { done = later.done; mode = later.mode; held = later.held; goes = goes_on-append depth _ _ _ (c ∷ []) cs k.goes later.goes; simple = later.simple; alike = λ st same. later.alike st (k.alike st same) }
+
+-- wherever the code stands in its string
+code_leads : (passes : Mode → Bool) (os : List ℕ) (quote : ℕ) (run : List ℕ) → ((depth : ℕ) (outer : List Level) (ps : List Piece) (m : Mode) (held : List ℕ) → is_code_mode m ≡ true → CodeTo passes depth (field_state outer ps os (plain m) held) run) → Leads quote (InCode os) run (StandsInCode passes os)
+code_leads passes os quote run goes =
+    from_code is_code_mode os quote run (StandsInCode passes os) (λ outer l depth front done held m simple room same quotes.
+    let k = goes depth (level_after l front ∷ outer) done m held simple in
+    (field_state (level_after l front ∷ outer) k.done os (plain k.mode) k.held, k.goes, record { front = front; done = k.done; mode = k.mode; held = k.held; is = refl; simple = k.simple }))
 
 pub sign_leads : (os : List ℕ) (quote c : ℕ) → is_code_sign c ≡ true → Leads quote (InCode os) (c ∷ []) (AtCode os)
-sign_leads os quote c h =
-    sign_cases (Leads quote (InCode os) (c ∷ []) (AtCode os)) c h (space_leads os quote c)
-    (λ is opens shuts colon. operator_leads os os quote c is (others_keep os c opens shuts) (ap (λ b. b && (length os == 0)) colon) (λ n few. no_opening (n + length os) c opens))
-
-code_leads : (os : List ℕ) (quote c : ℕ) → is_code_byte c ≡ true → Leads quote (InCode os) (c ∷ []) (InCode os)
-code_leads os quote c h = ⊎_elim (word_leads os quote c) (λ sign. leads_to_code os quote (InCode os) (c ∷ []) (sign_leads os quote c sign)) (or_cases (is_ascii_word c) (is_code_sign c) h)
+sign_leads os quote c h = code_leads is_apart_mode os quote (c ∷ []) (λ depth outer ps m held simple. signs_go depth outer ps os m held c simple h)
 
 pub codes_lead : (os : List ℕ) (quote : ℕ) (run : List ℕ) → list_all is_code_byte run ≡ true → Leads quote (InCode os) run (InCode os)
-codes_lead os quote = leads-run is_code_byte quote (InCode os) (code_leads os quote)
+codes_lead os quote run all = code_leads is_code_mode os quote run (λ depth outer ps m held simple. codes_go depth outer ps os m held run simple all)
 
 -- a string without a prefix
 module _ (quote : ℕ) (outer : List Level) (l : Level) (depth : ℕ) (front : List ℕ) (os : List ℕ) (q : ℕ) (quotes : is_quote q ≡ true) where
