@@ -37,9 +37,7 @@ code_plain m other = refl
 
 as_plain : (v : Move) → IsOpenAfter v → code_moved v ≡ plain_move v
 as_plain (moves.Grows m) one = ap grows (code_plain m one)
-as_plain moves.Closes other = refl
-as_plain moves.Breaks other = refl
-as_plain moves.Refused other = refl
+as_plain v other = refl
 
 -- a word, before each character
 word_told : (s : Spelling) (held : List ℕ) → Holds (modes.Word s) [] held → Tells held s
@@ -216,19 +214,16 @@ body_says host place named at held c (begins_code h) waits (same, is) =
     (own, ap (body host place named) is ∙ there ∙ ap (λ (x : Host). body x literal own after_brace) (sym same))
 body_says host place named at held c (opens_field h) waits (same, is, none, brace) =
     (at, ap (λ (x : Host). body x place named at) (sym same) ∙ ap (λ (p : Place). body h p named at) is ∙ ap (λ (b : Bool). body h specification b at) none, brace)
-body_says host place named at held c ends_field waits h = tt
-body_says host place named at held c refused waits h = tt
+body_says host place named at held c v waits h = tt
 
 -- the first character after one quote begins and opens no field
 opened_says : (host : Host) (held : List ℕ) (c : ℕ) (v : FieldMove) → BodyMoved host literal false between c v → Says (opened host) held c v
 opened_says host held c (grows n) (b, a, is, fit) =
     subst (λ (x : spots.FieldMode). GrowsTo (opened host) x (held ++ c ∷ [])) (sym is) (record { place = refl; holds = tt; body_stays = λ own. (host, literal, b, a, refl); waits = tt })
-opened_says host held c closes is = (refl, string_neutral (held ++ c ∷ []))
-opened_says host held c breaks none = absurd none
 opened_says host held c (begins_code h) (same, is) = absurd (cc)
 opened_says host held c (opens_field h) (same, is, none, brace) = absurd (cc)
-opened_says host held c ends_field h = tt
-opened_says host held c refused h = tt
+opened_says host held c breaks none = absurd none
+opened_says host held c v moved = body_says host literal false between held c v tt moved
 
 nothing_held : (done : List Piece) (held : List ℕ) → held ≡ [] → spelled done ≡ spelled done ++ held
 nothing_held done held is = sym (append-nil (spelled done)) ∙ ap (λ t. spelled done ++ t) (sym is)
@@ -271,14 +266,8 @@ said m held c v holds waits is = subst (Says m held c) is (says m held c holds w
 -- no list stands in a specification that goes on
 pub list_at : (m n : spots.FieldMode) (done : List Piece) (openers : List ℕ) → text_place n ≡ text_place m → HasNoList m done openers → HasNoList n done openers
 list_at (body h specification b a) (body host specification named at) done openers same none = none
-list_at (body h literal b a) (body host specification named at) done openers same none = absurd (cc)
-list_at (plain m) (body host specification named at) done openers same none = absurd (cc)
-list_at (opened h) (body host specification named at) done openers same none = absurd (cc)
-list_at (empty h) (body host specification named at) done openers same none = absurd (cc)
-list_at m (body host literal named at) done openers same none = tt
-list_at m (plain n) done openers same none = tt
-list_at m (opened host) done openers same none = tt
-list_at m (empty host) done openers same none = tt
+list_at m (body host specification named at) done openers same none = absurd (cc)
+list_at m n done openers same none = tt
 
 -- the piece that a character begins
 begun_plain : (c : ℕ) (m : Mode) → begun.StartsSo c (starts.Open m) → code_mode m ≡ plain m

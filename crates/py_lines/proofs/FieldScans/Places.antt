@@ -89,9 +89,8 @@ body_placed host place named at c v fs placed moved = tt
 
 step_placed : (step : Move) (fs : List Frame) → (fs ≡ [] → ⊥) → Placed (code_moved step) fs
 step_placed (moves.Grows n) fs some = in_code n fs some
-step_placed moves.Closes fs some = tt
 step_placed moves.Breaks fs some = some
-step_placed moves.Refused fs some = tt
+step_placed step fs some = tt
 
 code_placed : (m : Mode) (c : ℕ) (fs : List Frame) → (fs ≡ [] → ⊥) → Placed (code_move m c) fs
 unfolding code_move spots.field_move spots.body_move
