@@ -95,7 +95,7 @@ module _ (old : FieldScan) (base depth c place : ℕ) (host : StringWithFields) 
   begins_there room new comes =
       let fresh : field_move (code_start t host).mode [] c ≡ breaks = stops-fresh (c ∷ []) in
       let (next, step, move, inside, follows) = comes enters (λ none. absurd (some_level L t.outer none)) code_at fresh in
-      going base depth t c (begins_code (host_in host)) is old new next (room_so old base depth c (host_in host) t true follow room) (sym (ap (field_moved (code_start t host) c) fresh) ∙ step) (λ none other. keeps_open _ refl other) inside follows
+      going base depth t c (begins_code (host_in host)) is old new new next refl (room_so old base depth c (host_in host) t true follow room) (sym (ap (field_moved (code_start t host) c) fresh) ∙ step) (λ none other. keeps_open _ refl other) inside follows
 
   pub closes_nothing : start_of c ≡ starts.Operator → (c ≡ byte "}" → ⊥) → is_closing c ≡ true → ComesTo base depth t c old progress.Refused old
   closes_nothing starts_with ends closing =
@@ -126,12 +126,12 @@ module _ (old : FieldScan) (base depth c place : ℕ) (host : StringWithFields) 
   pub shut_there : nat_lt (depth + length old.frames + 1) 201 ≡ false → ComesTo base depth t c old progress.Refused old
   shut_there room = no_room base depth t c (opens_field (host_in host)) is old (specified_room old base depth c (host_in host) t false follow room)
 
-  pub opens_there : nat_lt (depth + length old.frames + 1) 201 ≡ true → ComesTo base depth t c old progress.Going (freed_at (record old { frames = frame.Field (inner_field old host place) ∷ old.frames }) (place + 1))
-  opens_there room =
+  pub opens_there : nat_lt (depth + length old.frames + 1) 201 ≡ true → (new : FieldScan) → new ≡ freed_at (record old { frames = frame.Field (inner_field old host place) ∷ old.frames }) (place + 1) → ComesTo base depth t c old progress.Going new
+  opens_there room new like =
       let mid : FieldScan = record old { frames = frame.Field (inner_field old host place) ∷ old.frames } in
       let start : old.start ≡ base + byte_len (before specification t.outer ++ spelled t.done) = follow.start ∙ ap (λ p. base + byte_len (before p t.outer ++ spelled t.done)) in_specification in
       let bare : (t.done ≡ []) × (t.openers ≡ []) = subst (λ (m : FieldMode). HasNoList m t.done t.openers) e.1 follow.no_list in
-      going base depth t c (opens_field (host_in host)) is old (freed_at mid (place + 1)) (field_fresh (K ∷ t.outer) [] [])
+      going base depth t c (opens_field (host_in host)) is old new (freed_at mid (place + 1)) (field_fresh (K ∷ t.outer) [] []) like
       (specified_room old base depth c (host_in host) t true follow room) refl (λ none other. keeps_open _ refl other) (λ none. absurd (some_level K t.outer none))
       (follows_free mid base (K ∷ t.outer) [] [] (place + 1)
       (record {
@@ -140,11 +140,11 @@ module _ (old : FieldScan) (base depth c place : ℕ) (host : StringWithFields) 
       }))
 
 -- a field ends with its specification
-pub ends_there : (old : FieldScan) (base depth c : ℕ) (field : OpenField) (others : List Frame) → old.frames ≡ frame.Field field ∷ others → (t : FieldScanned) → Follows old base t → field_move t.mode t.held c ≡ ends_field → ComesTo base depth t c old progress.Going (ended_in (record old { frames = others }) field)
+pub ends_there : (old : FieldScan) (base depth c : ℕ) (field : OpenField) (others : List Frame) → old.frames ≡ frame.Field field ∷ others → (t : FieldScanned) → Follows old base t → field_move t.mode t.held c ≡ ends_field → (new : FieldScan) → new ≡ ended_in (record old { frames = others }) field → ComesTo base depth t c old progress.Going new
 unfolding has_room_at
-ends_there old base depth c field others top t follow is =
+ends_there old base depth c field others top t follow is new like =
     let i = innermost_field base t.outer t.done t.openers old.frames others field follow.frames top in
     let text : List ℕ = t.held ++ c ∷ [] in
-    going base depth t c ends_field is old (ended_in (record old { frames = others }) field) (field_ended i.level i.outside text)
+    going base depth t c ends_field is old new (ended_in (record old { frames = others }) field) (field_ended i.level i.outside text) like
     refl (ap (λ (ls : List Level). specification_ended ls text) i.outer_is) (λ none other. keeps_open _ refl other) (λ none. (i.level.host, i.level.place, false, between, refl))
     (resumed old base t.outer t.openers field others i text)

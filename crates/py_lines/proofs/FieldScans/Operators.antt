@@ -87,33 +87,33 @@ module _ (old : FieldScan) (base depth c place : ℕ) (t : FieldScanned) (follow
   b : Broken old base depth t c place follow inside at
   b = broken old base depth t c place follow inside at is
 
-  takes : (new : FieldScan) (next : FieldScanned) → field_operator t.outer Done t.openers c ≡ Some next → has_room_at (depth + frames t) c breaks ≡ true → IsInString next → Follows new base next → ComesTo base depth t c old progress.Going new
-  takes new next same room within follows = going base depth t c breaks is old new next room (ap (field_started t.outer Done t.openers c) starts_with ∙ same) (λ none other. b.within none) within follows
+  takes : (new made : FieldScan) (next : FieldScanned) → new ≡ made → field_operator t.outer Done t.openers c ≡ Some next → has_room_at (depth + frames t) c breaks ≡ true → IsInString next → Follows made base next → ComesTo base depth t c old progress.Going new
+  takes new made next like same room within follows = going base depth t c breaks is old new made next like room (ap (field_started t.outer Done t.openers c) starts_with ∙ same) (λ none other. b.within none) within follows
 
   refuses : field_operator t.outer Done t.openers c ≡ None → ComesTo base depth t c old progress.Refused old
   refuses none = no_step base depth t c breaks is old (ap (field_started t.outer Done t.openers c) starts_with ∙ none)
 
   -- it is a piece of its list, after which these brackets are open
-  stays : (new : FieldScan) (after : List ℕ) → openers_with t.openers c ≡ Some after → (c == 58) && (length t.openers == 0) ≡ false → has_room_at (depth + frames t) c breaks ≡ true → FramesFollow base t.outer (Done ++ piece operator (c ∷ []) ∷ []) after new.frames → ComesTo base depth t c old progress.Going (freed_at new (place + 1))
-  stays new after opens colon room frames =
-      takes (freed_at new (place + 1)) (field_fresh t.outer (Done ++ piece operator (c ∷ []) ∷ []) after)
+  stays : (new made : FieldScan) (after : List ℕ) → new ≡ freed_at made (place + 1) → openers_with t.openers c ≡ Some after → (c == 58) && (length t.openers == 0) ≡ false → has_room_at (depth + frames t) c breaks ≡ true → FramesFollow base t.outer (Done ++ piece operator (c ∷ []) ∷ []) after made.frames → ComesTo base depth t c old progress.Going new
+  stays new made after like opens colon room frames =
+      takes new (freed_at made (place + 1)) (field_fresh t.outer (Done ++ piece operator (c ∷ []) ∷ []) after) like
       (operator_stays t.outer Done t.openers after c opens (no_colon t.outer t.openers c colon)) room (λ none. absurd (b.within none))
-      (follows_free new base t.outer (Done ++ piece operator (c ∷ []) ∷ []) after (place + 1) (record { follow = frames; at = piece_after base place t.outer Done operator c (one_operator c starts_with) b.ready.at }))
+      (follows_free made base t.outer (Done ++ piece operator (c ∷ []) ∷ []) after (place + 1) (record { follow = frames; at = piece_after base place t.outer Done operator c (one_operator c starts_with) b.ready.at }))
 
   -- it opens a bracket
-  pub bracket_opens : is_opening c ≡ true → depth + length old.frames < 200 → ComesTo base depth t c old progress.Going (freed_at (record old { frames = frame.Bracket c place ∷ old.frames }) (place + 1))
-  bracket_opens opens room =
+  pub bracket_opens : is_opening c ≡ true → depth + length old.frames < 200 → (new : FieldScan) → new ≡ freed_at (record old { frames = frame.Bracket c place ∷ old.frames }) (place + 1) → ComesTo base depth t c old progress.Going new
+  bracket_opens opens room new like =
       let low : depth + frames t < 200 = omega (arith, room, open-length old base t follow) in
-      stays (record old { frames = frame.Bracket c place ∷ old.frames }) (c ∷ t.openers) (opening_pushes t.openers c opens) (ap (λ b. b && (length t.openers == 0)) (opening_no_colon c opens)) (opening_room (depth + frames t) c low)
+      stays new (record old { frames = frame.Bracket c place ∷ old.frames }) (c ∷ t.openers) like (opening_pushes t.openers c opens) (ap (λ b. b && (length t.openers == 0)) (opening_no_colon c opens)) (opening_room (depth + frames t) c low)
       (bracket_opened base t.outer Done t.openers old.frames c place b.within b.ready.follow opens (omega (arith, low)) b.ready.at)
 
   pub bracket_too_deep : is_opening c ≡ true → (depth + length old.frames < 200 → ⊥) → ComesTo base depth t c old progress.Refused old
   bracket_too_deep opens none = no_room base depth t c breaks is old (opening_none (depth + frames t) c opens (λ low. none (omega (arith, low, open-length old base t follow))))
 
   -- a sign that is no `:` is taken, whatever is open
-  pub sign_passes : is_opening c ≡ false → is_closing c ≡ false → (c == 58) && (length t.openers == 0) ≡ false → ComesTo base depth t c old progress.Going (freed_at old (place + 1))
-  sign_passes opens closes colon =
-      stays old t.openers (others_keep t.openers c opens closes) colon (no_opening (depth + frames t) c opens)
+  pub sign_passes : is_opening c ≡ false → is_closing c ≡ false → (c == 58) && (length t.openers == 0) ≡ false → (new : FieldScan) → new ≡ freed_at old (place + 1) → ComesTo base depth t c old progress.Going new
+  sign_passes opens closes colon new like =
+      stays new old t.openers like (others_keep t.openers c opens closes) colon (no_opening (depth + frames t) c opens)
       (frames_alike base t.outer Done (Done ++ piece operator (c ∷ []) ∷ []) t.openers old.frames (operator_alike Done c opens closes) b.ready.follow)
 
   -- inside brackets, of which the innermost is known
@@ -127,16 +127,16 @@ module _ (old : FieldScan) (base depth c place : ℕ) (t : FieldScanned) (follow
     colon : (c == 58) && (length t.openers == 0) ≡ false
     colon = ap (λ (os : List ℕ). (c == 58) && (length os == 0)) inner.4 ∙ and_right (c == 58) (length (opener ∷ Others) == 0) (other (length (opener ∷ Others)) 0 (λ none. omega (arith, none)))
 
-    pub bracket_closes : is_closing c ≡ true → c ≡ closing_of opener → ComesTo base depth t c old progress.Going (freed_at (record old { frames = others }) (place + 1))
-    bracket_closes closing fits =
+    pub bracket_closes : is_closing c ≡ true → c ≡ closing_of opener → (new : FieldScan) → new ≡ freed_at (record old { frames = others }) (place + 1) → ComesTo base depth t c old progress.Going new
+    bracket_closes closing fits new like =
         let same : c == closing_of opener ≡ true = eq-eqb c (closing_of opener) fits in
-        stays (record old { frames = others }) Others (ap (λ (os : List ℕ). openers_with os c) inner.4 ∙ closing_pops opener Others c closing same) colon (no_opening (depth + frames t) c (closing-not-opening c closing))
+        stays new (record old { frames = others }) Others like (ap (λ (os : List ℕ). openers_with os c) inner.4 ∙ closing_pops opener Others c closing same) colon (no_opening (depth + frames t) c (closing-not-opening c closing))
         (bracket_closed base t.outer Done t.openers Others old.frames others opener spot c b.ready.follow top inner.4 closing same)
 
     pub bracket_wrong : is_closing c ≡ true → (c ≡ closing_of opener → ⊥) → ComesTo base depth t c old progress.Refused old
     bracket_wrong closing wrong = refuses (ap (λ (os : List ℕ). field_operator t.outer Done os c) inner.4 ∙ wrong_is t.outer Done opener Others c closing (other c (closing_of opener) wrong))
 
-    pub bracket_passes : is_opening c ≡ false → is_closing c ≡ false → ComesTo base depth t c old progress.Going (freed_at old (place + 1))
+    pub bracket_passes : is_opening c ≡ false → is_closing c ≡ false → (new : FieldScan) → new ≡ freed_at old (place + 1) → ComesTo base depth t c old progress.Going new
     bracket_passes opens closes = sign_passes opens closes colon
 
   -- outside brackets, in a field that is known
@@ -147,18 +147,18 @@ module _ (old : FieldScan) (base depth c place : ℕ) (t : FieldScanned) (follow
     in_code : (o : Option FieldScanned) → field_operator (i.level ∷ i.outside) Done [] c ≡ o → field_operator t.outer Done t.openers c ≡ o
     in_code o same = ap (λ (os : List ℕ). field_operator t.outer Done os c) i.none ∙ ap (λ (ls : List Level). field_operator ls Done [] c) i.outer_is ∙ same
 
-    pub field_ends : c ≡ byte "}" → ComesTo base depth t c old progress.Going (ended_in (record old { frames = others }) field)
+    pub field_ends : c ≡ byte "}" → (new : FieldScan) → new ≡ ended_in (record old { frames = others }) field → ComesTo base depth t c old progress.Going new
     unfolding is_opening code_operator
-    field_ends ends =
+    field_ends ends new like =
         let text : List ℕ = i.level.front ++ (spelled Done ++ c ∷ []) in
-        takes (ended_in (record old { frames = others }) field) (field_ended i.level i.outside text) (in_code (Some (field_ended i.level i.outside text)) (rw (eq-eqb c (byte "}") ends)))
+        takes new (ended_in (record old { frames = others }) field) (field_ended i.level i.outside text) like (in_code (Some (field_ended i.level i.outside text)) (rw (eq-eqb c (byte "}") ends)))
         (no_opening (depth + frames t) c (ap is_opening ends)) (λ none. (i.level.host, i.level.place, false, between, refl)) (resumed old base t.outer t.openers field others i text)
 
-    pub field_specifies : (c ≡ byte "}" → ⊥) → c ≡ byte ":" → ComesTo base depth t c old progress.Going (record old { mode = field_modes.Body field.host regions.Specification false ats.Between; start = field.start })
+    pub field_specifies : (c ≡ byte "}" → ⊥) → c ≡ byte ":" → (new : FieldScan) → new ≡ record old { mode = field_modes.Body field.host regions.Specification false ats.Between; start = field.start } → ComesTo base depth t c old progress.Going new
     unfolding is_opening code_operator
-    field_specifies ends specifies =
-        takes (record old { mode = field_modes.Body field.host regions.Specification false ats.Between; start = field.start })
-        (field_state (i.level ∷ i.outside) [] [] (body i.level.host specification false between) (i.level.front ++ (spelled Done ++ c ∷ [])))
+    field_specifies ends specifies new like =
+        takes new (record old { mode = field_modes.Body field.host regions.Specification false ats.Between; start = field.start })
+        (field_state (i.level ∷ i.outside) [] [] (body i.level.host specification false between) (i.level.front ++ (spelled Done ++ c ∷ []))) like
         (in_code _ (rw (other c (byte "}") ends, eq-eqb c (byte ":") specifies))) (no_opening (depth + frames t) c (ap is_opening specifies)) (λ none. absurd (cc))
         (record {
           mode = ap (λ h. body h specification false between) i.host;
@@ -173,5 +173,5 @@ module _ (old : FieldScan) (base depth c place : ℕ) (t : FieldScanned) (follow
     pub field_closes_none : (c ≡ byte "}" → ⊥) → (c ≡ byte ":" → ⊥) → is_closing c ≡ true → ComesTo base depth t c old progress.Refused old
     field_closes_none ends specifies closing = refuses (in_code None (wrong_in_field i.level i.outside Done c (other c (byte "}") ends) (other c (byte ":") specifies) closing))
 
-    pub field_passes : (c ≡ byte ":" → ⊥) → is_opening c ≡ false → is_closing c ≡ false → ComesTo base depth t c old progress.Going (freed_at old (place + 1))
+    pub field_passes : (c ≡ byte ":" → ⊥) → is_opening c ≡ false → is_closing c ≡ false → (new : FieldScan) → new ≡ freed_at old (place + 1) → ComesTo base depth t c old progress.Going new
     field_passes specifies opens closes = sign_passes opens closes (ap (λ b. b && (length t.openers == 0)) (other c 58 specifies))

@@ -1,5 +1,5 @@
 -- What one more character comes to in a string with fields, by what it does in the machine.
-use Rattle.std.proofs.Common.{◌≡◌, ℕ, ◌+◌, Bool, true, false, None, Some, List, [], ◌∷◌, ◌++◌, refl, ap, ◌∙◌}
+use Rattle.std.proofs.Common.{◌≡◌, ℕ, ◌+◌, Bool, true, false, None, Some, List, [], ◌∷◌, ◌++◌, refl, sym, ap, ◌∙◌, subst}
 use Rattle.std.proofs.lemmas.Bool.{both_ways}
 use Rattle.std.specs.Prelude.{if◌then◌else◌}
 use Rattle.py_lines.specs.Piece.{Piece, spelled}
@@ -51,13 +51,13 @@ module _ (base depth : ℕ) (t : FieldScanned) (c : ℕ) (v : FieldMove) (is : f
       by_move ∙ ap (λ b. roomy b (string_move t.outer v (field_moved t c v))) room ∙ ap (string_move t.outer v) comes ∙ string_goes t.outer v next goes_on
 
   -- it is taken
-  pub going : (old new : FieldScan) (next : FieldScanned) → has_room_at (depth + frames t) c v ≡ true → field_moved t c v ≡ Some next → (t.outer ≡ [] → v ≡ closes → ⊥) → IsInString next → Follows new base next → ComesTo base depth t c old progress.Going new
-  going old new next room comes goes_on inside follow = (
+  pub going : (old new made : FieldScan) (next : FieldScanned) → new ≡ made → has_room_at (depth + frames t) c v ≡ true → field_moved t c v ≡ Some next → (t.outer ≡ [] → v ≡ closes → ⊥) → IsInString next → Follows made base next → ComesTo base depth t c old progress.Going new
+  going old new made next same room comes goes_on inside follow = (
     next,
     ap (field_moved t c) is ∙ comes,
     goes_through next room comes goes_on,
     inside,
-    follow,
+    subst (λ (scan : FieldScan). Follows scan base next) (sym same) follow,
   )
 
   -- it finds no room

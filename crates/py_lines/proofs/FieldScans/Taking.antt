@@ -87,19 +87,19 @@ module _ (old : FieldScan) (base depth : ℕ) (t : FieldScanned) (c place : ℕ)
   -- the open piece grows
   pub grown : (code : FieldMode) (m : spots.FieldMode) → field_move t.mode t.held c ≡ grows m → mode_from code ≡ m → ComesTo base depth t c old progress.Going (record old { mode = code })
   grown code m is same =
-      going base depth t c (grows m) is old (record old { mode = code }) (field_state t.outer t.done t.openers m (t.held ++ c ∷ []))
+      going base depth t c (grows m) is old (record old { mode = code }) (record old { mode = code }) (field_state t.outer t.done t.openers m (t.held ++ c ∷ [])) refl
       (room_grows (depth + frames t) c m) refl (λ none other. absurd (cc)) (λ none. (said t.mode t.held c (grows m) follow.holds follow.waits is).body_stays (inside none))
       (grown_follows old base t c code m follow is same)
 
   -- it closes, in a field's code
-  pub closed_in : field_move t.mode t.held c ≡ closes → (t.outer ≡ [] → ⊥) → ComesTo base depth t c old progress.Going (freed_at old (place + len_utf8 c))
-  closed_in is within =
+  pub closed_in : field_move t.mode t.held c ≡ closes → (t.outer ≡ [] → ⊥) → (new : FieldScan) → new ≡ freed_at old (place + len_utf8 c) → ComesTo base depth t c old progress.Going new
+  closed_in is within new same =
       let shut = said t.mode t.held c closes follow.holds follow.waits is in
       let done : List Piece = t.done ++ piece (field_class_of t.mode) (t.held ++ c ∷ []) ∷ [] in
       let text : List ℕ = before literal t.outer ++ (spelled t.done ++ t.held) in
       let stands : place ≡ base + byte_len text = at ∙ ap (λ p. base + byte_len (before p t.outer ++ (spelled t.done ++ t.held))) shut.0 in
       let written : text ++ c ∷ [] ≡ before literal t.outer ++ spelled done = append_assoc (before literal t.outer) (spelled t.done ++ t.held) (c ∷ []) ∙ ap (λ x. before literal t.outer ++ x) (append_assoc (spelled t.done) t.held (c ∷ []) ∙ sym (spelled-push t.done (field_class_of t.mode) (t.held ++ c ∷ []))) in
-      going base depth t c closes is old (freed_at old (place + len_utf8 c)) (field_fresh t.outer done t.openers)
+      going base depth t c closes is old new (freed_at old (place + len_utf8 c)) (field_fresh t.outer done t.openers) same
       (room_closes (depth + frames t) c) refl (λ none other. within none) (λ none. absurd (within none))
       (follows_free old base t.outer done t.openers (place + len_utf8 c)
       (record {
@@ -128,23 +128,23 @@ module _ (old : FieldScan) (base depth : ℕ) (t : FieldScanned) (c place : ℕ)
       }
 
   -- another piece begins with it
-  pub begun : field_move t.mode t.held c ≡ breaks → (m : Mode) → start_of c ≡ starts.Open m → ComesTo base depth t c old progress.Going (record old { mode = field_modes.Code m; start = place })
-  begun is m starts_with =
+  pub begun : field_move t.mode t.held c ≡ breaks → (m : Mode) → start_of c ≡ starts.Open m → (new : FieldScan) → new ≡ record old { mode = field_modes.Code m; start = place } → ComesTo base depth t c old progress.Going new
+  begun is m starts_with new same =
       let b = broken is in
       let s = starts_so c m starts_with in
-      going base depth t c breaks is old (record old { mode = field_modes.Code m; start = place }) (field_state t.outer (field_closed t.mode t.done t.held) t.openers (plain m) (c ∷ []))
+      going base depth t c breaks is old new (record old { mode = field_modes.Code m; start = place }) (field_state t.outer (field_closed t.mode t.done t.held) t.openers (plain m) (c ∷ [])) same
       (no_opening (depth + frames t) c (opens_no c (starts.Open m) starts_with (λ other. absurd (cc))))
       (ap (field_started t.outer (field_closed t.mode t.done t.held) t.openers c) starts_with)
       (λ none other. b.within none) (λ none. absurd (b.within none))
       (record { mode = s.1; holds = s.0; no_list = tt; waits = tt; full = λ w. absurd (cc); start = b.ready.at; frames = b.ready.follow })
 
   -- it is a line end
-  pub ended_line : field_move t.mode t.held c ≡ breaks → start_of c ≡ starts.LineEnd → ComesTo base depth t c old progress.Going (freed_at old (place + 1))
-  ended_line is starts_with =
+  pub ended_line : field_move t.mode t.held c ≡ breaks → start_of c ≡ starts.LineEnd → (new : FieldScan) → new ≡ freed_at old (place + 1) → ComesTo base depth t c old progress.Going new
+  ended_line is starts_with new same =
       let b = broken is in
       let closed : List Piece = field_closed t.mode t.done t.held in
       let done : List Piece = closed ++ piece line_end (c ∷ []) ∷ [] in
-      going base depth t c breaks is old (freed_at old (place + 1)) (field_fresh t.outer done t.openers)
+      going base depth t c breaks is old new (freed_at old (place + 1)) (field_fresh t.outer done t.openers) same
       (no_opening (depth + frames t) c (opens_no c starts.LineEnd starts_with (λ other. absurd (cc))))
       (ap (field_started t.outer closed t.openers c) starts_with)
       (λ none other. b.within none) (λ none. absurd (b.within none))

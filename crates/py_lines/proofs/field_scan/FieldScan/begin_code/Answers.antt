@@ -1,15 +1,14 @@
-use Rattle.std.proofs.Common.{◌≡◌, ℕ, ◌+◌, List, ◌∷◌, true, arith, length, nat_lt, sym, ap, ◌∙◌, subst}
+use Rattle.std.proofs.Common.{◌≡◌, ℕ, ◌+◌, List, ◌∷◌, true, arith, length, nat_lt, sym, ap, ◌∙◌}
 use Rattle.std.proofs.lemmas.Bool.{ltb-true}
 use Rattle.py_lines.specs.declared.frames.OpenField.{OpenField}
 use Rattle.py_lines.specs.declared.field_mode.FieldMode.TheVariants as field_modes
 use Rattle.py_lines.specs.declared.frames.Frame.{Frame}
 use Rattle.py_lines.specs.declared.frames.Frame.TheVariants as frame
 use Rattle.py_lines.specs.declared.field_scan.FieldScan.{FieldScan}
-use Rattle.py_lines.specs.declared.field_scan.FieldProgress.TheVariants as progress
 use Rattle.py_lines.specs.Private.FieldMachine.{begins_code}
 use Rattle.py_lines.specs.Private.ScanMachine.{host_in}
-use Rattle.py_lines.specs.Private.FieldScan.{ComesTo, freed_at, opened_with}
-use Rattle.py_lines.proofs.FieldScans.FieldOpenings.{begins_there, code_start, entered, no_room_there}
+use Rattle.py_lines.specs.Private.FieldScan.{freed_at, opened_with}
+use Rattle.py_lines.proofs.FieldScans.FieldOpenings.{begins_there, code_start, no_room_there}
 use Rattle.py_lines.proofs.FieldScans.Taking.{begun, ended_line}
 use Rattle.py_lines.proofs.field_scan.FieldScan.begin_code.Goals as goal
 use Rattle.py_lines.proofs.field_scan.FieldScan.begin_code.Goals.{Else-not-has_room}
@@ -34,14 +33,12 @@ pub returns-in-LineEnd-clause-takes : goal.returns-in-LineEnd-clause-takes
 returns-in-LineEnd-clause-takes c = λ base t f inside at is.
     let freed : List Frame → FieldScan = λ fs. freed_at (record c.args.self.now { frames = fs }) (c.args.place + 1) in
     let pushed = c.push.ensures ∙ ap (λ (x : OpenField). frame.Field x ∷ c.args.self.now.frames) c.waiting_field-field.ensures in
-    subst (λ (n : FieldScan). ComesTo base c.args.depth t c.args.c c.args.self.now progress.Going n) (sym (c.free.ensures ∙ ap freed pushed))
-    (begins_there c.args.self.now base c.args.depth c.args.c c.args.place c.args.host t f at is (room (goal.at.returns-in-LineEnd-clause-takes c).Else-not-has_room) (freed (entered c.args.self.now c.args.host c.args.place).frames)
-    (λ f i a b. ended_line _ base c.args.depth (code_start t c.args.host) c.args.c c.args.place f i a b (sym c.of.ensures ∙ c.in-LineEnd.is)))
+    begins_there c.args.self.now base c.args.depth c.args.c c.args.place c.args.host t f at is (room (goal.at.returns-in-LineEnd-clause-takes c).Else-not-has_room) _
+    (λ f i a b. ended_line _ base c.args.depth (code_start t c.args.host) c.args.c c.args.place f i a b (sym c.of.ensures ∙ c.in-LineEnd.is) _ (c.free.ensures ∙ ap freed pushed))
 
 pub returns-in-Open-clause-takes : goal.returns-in-Open-clause-takes
 returns-in-Open-clause-takes c = λ base t f inside at is.
     let begun_so : List Frame → FieldScan = λ fs. record { mode = field_modes.Code c.in-Open.mode; start = c.args.place; frames = fs } in
     let pushed = c.push-in-Open.ensures ∙ ap (λ (x : OpenField). frame.Field x ∷ c.args.self.now.frames) c.waiting_field-field.ensures in
-    subst (λ (n : FieldScan). ComesTo base c.args.depth t c.args.c c.args.self.now progress.Going n) (sym (ap begun_so pushed))
-    (begins_there c.args.self.now base c.args.depth c.args.c c.args.place c.args.host t f at is (room (goal.at.returns-in-Open-clause-takes c).Else-not-has_room) (begun_so (entered c.args.self.now c.args.host c.args.place).frames)
-    (λ f i a b. begun _ base c.args.depth (code_start t c.args.host) c.args.c c.args.place f i a b c.in-Open.mode (sym c.of.ensures ∙ c.in-Open.is)))
+    begins_there c.args.self.now base c.args.depth c.args.c c.args.place c.args.host t f at is (room (goal.at.returns-in-Open-clause-takes c).Else-not-has_room) _
+    (λ f i a b. begun _ base c.args.depth (code_start t c.args.host) c.args.c c.args.place f i a b c.in-Open.mode (sym c.of.ensures ∙ c.in-Open.is) _ (ap begun_so pushed))

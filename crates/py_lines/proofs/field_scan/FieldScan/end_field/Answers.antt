@@ -1,9 +1,7 @@
 use Rattle.std.proofs.Common.{false, ◌≡◌, List, drop, Some, ◌∷◌, sym, ap, ◌∙◌, subst}
 use Rattle.py_lines.specs.declared.frames.Frame.{Frame}
 use Rattle.py_lines.specs.declared.frames.Frame.TheVariants as frame
-use Rattle.py_lines.specs.declared.field_scan.FieldScan.{FieldScan}
-use Rattle.py_lines.specs.declared.field_scan.FieldProgress.TheVariants as progress
-use Rattle.py_lines.specs.Private.FieldScan.{ComesTo, IsInPlace, ended_in}
+use Rattle.py_lines.specs.Private.FieldScan.{IsInPlace, ended_in}
 use Rattle.py_lines.specs.Private.Frames.{IsInnermostFrame, StandsIn}
 use Rattle.py_lines.proofs.FieldScans.FieldOpenings.{ends_there}
 use Rattle.py_lines.specs.Private.FieldMachine.{between}
@@ -16,9 +14,8 @@ returns-clause-takes c = λ character place depth base t f inside at is.
     let top : IsInnermostFrame (Some c.in-Some-Field.field-0) c.args.self.now.frames = c.in-Some-Field.ensures in
     let last : Frame = frame.Field c.in-Some-Field.field in
     let first : c.args.self.now.frames ≡ last ∷ top.0 = top.1 ∙ ap (λ (f : Frame). f ∷ top.0) c.in-Some-Field.field-0-is in
-    subst (λ (n : FieldScan). ComesTo base depth t character c.args.self.now progress.Going n)
-    (sym (c.resume.ensures ∙ ap (λ (fs : List Frame). ended_in (record c.args.self.now { frames = fs }) c.in-Some-Field.field) (c.pop.ensures.rest ∙ ap (drop 1) first)))
-    (ends_there c.args.self.now base depth character c.in-Some-Field.field top.0 first t f is)
+    ends_there c.args.self.now base depth character c.in-Some-Field.field top.0 first t f is _
+    (c.resume.ensures ∙ ap (λ (fs : List Frame). ended_in (record c.args.self.now { frames = fs }) c.in-Some-Field.field) (c.pop.ensures.rest ∙ ap (drop 1) first))
 
 pub returns-clause-placed : goal.returns-clause-placed
 returns-clause-placed c = λ old.

@@ -1,9 +1,7 @@
-use Rattle.std.proofs.Common.{◌+◌, List, ap, sym, ◌∙◌, subst, arith}
+use Rattle.std.proofs.Common.{◌+◌, List, ap, sym, ◌∙◌, arith}
 use Rattle.std.proofs.lemmas.Bool.{ltb-true, lt-ltb, both_ways}
-use Rattle.py_lines.specs.declared.field_scan.FieldScan.{FieldScan}
-use Rattle.py_lines.specs.declared.field_scan.FieldProgress.TheVariants as progress
 use Rattle.py_lines.specs.declared.frames.Frame.{Frame}
-use Rattle.py_lines.specs.Private.FieldScan.{ComesTo, freed_at}
+use Rattle.py_lines.specs.Private.FieldScan.{freed_at}
 use Rattle.py_lines.proofs.FieldScans.Operators.{bracket_opens, bracket_too_deep}
 use Rattle.py_lines.proofs.field_scan.FieldScan.open_bracket.Goals as goal
 
@@ -14,7 +12,6 @@ returns-then-not-has_room-clause-takes c = λ base t follow inside at is.
 
 pub returns-clause-takes : goal.returns-clause-takes
 returns-clause-takes c = λ base t follow inside at is.
-    subst (λ (n : FieldScan). ComesTo base c.args.depth t c.args.c c.args.self.now progress.Going n)
-    (sym (c.free.ensures ∙ ap (λ (fs : List Frame). freed_at (record c.args.self.now { frames = fs }) (c.args.place + 1)) c.push.ensures))
-    (bracket_opens c.args.self.now base c.args.depth c.args.c c.args.place t follow inside at is c.requires.operator c.requires.opens
-    (let room = ltb-true _ 201 (sym c.has_room.ensures ∙ c.if-not-has_room.false) in omega (arith, room)))
+    bracket_opens c.args.self.now base c.args.depth c.args.c c.args.place t follow inside at is c.requires.operator c.requires.opens
+    (let room = ltb-true _ 201 (sym c.has_room.ensures ∙ c.if-not-has_room.false) in omega (arith, room)) _
+    (c.free.ensures ∙ ap (λ (fs : List Frame). freed_at (record c.args.self.now { frames = fs }) (c.args.place + 1)) c.push.ensures)

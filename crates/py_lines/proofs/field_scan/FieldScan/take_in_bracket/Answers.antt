@@ -1,9 +1,8 @@
 use Rattle.std.proofs.Common.{◌≡◌, [], ◌+◌, List, drop, sym, ap, ◌∙◌, subst}
 use Rattle.py_lines.specs.declared.field_scan.FieldScan.{FieldScan}
-use Rattle.py_lines.specs.declared.field_scan.FieldProgress.TheVariants as progress
 use Rattle.py_lines.specs.declared.frames.Frame.{Frame}
 use Rattle.py_lines.specs.declared.frames.Frame.TheVariants as frame
-use Rattle.py_lines.specs.Private.FieldScan.{ComesTo, IsInPlace, freed_at}
+use Rattle.py_lines.specs.Private.FieldScan.{IsInPlace, freed_at}
 use Rattle.py_lines.proofs.FieldScans.Operators.{bracket_closes, bracket_wrong, bracket_passes}
 use Rattle.py_lines.proofs.FieldScans.Places.{some_open}
 use Rattle.py_lines.proofs.field_scan.FieldScan.take_in_bracket.Goals as goal
@@ -18,17 +17,16 @@ returns-then-c-closing_of-clause-takes c = λ depth base t follow inside at is.
 pub returns-clause-takes : goal.returns-clause-takes
 returns-clause-takes c = λ depth base t follow inside at is.
     let (spot, (others, top)) = c.requires.innermost in
-    subst (λ (n : FieldScan). ComesTo base depth t c.args.c c.args.self.now progress.Going n) (sym c.free.ensures)
-    (elim c.if-is_closing.branch [
+    let free = λ (n : FieldScan). freed_at n (c.args.place + 1) in
+    elim c.if-is_closing.branch [
       | then-is_closing+else-c-closing_of w ↦
-          subst (λ (n : FieldScan). ComesTo base depth t c.args.c c.args.self.now progress.Going (freed_at n (c.args.place + 1)))
-          (sym (w.self-is ∙ ap (λ (fs : List Frame). record c.args.self.now { frames = fs }) (w.pop.ensures.rest ∙ ap (drop 1) top)))
-          (bracket_closes c.args.self.now base depth c.args.c c.args.place t follow inside at is c.requires.operator c.args.opener spot others top
-          (sym c.is_closing.ensures ∙ w.if-is_closing.true) (w.if-c-closing_of.false ∙ w.closing_of.ensures))
+          bracket_closes c.args.self.now base depth c.args.c c.args.place t follow inside at is c.requires.operator c.args.opener spot others top
+          (sym c.is_closing.ensures ∙ w.if-is_closing.true) (w.if-c-closing_of.false ∙ w.closing_of.ensures) _
+          (c.free.ensures ∙ ap free (w.self-is ∙ ap (λ (fs : List Frame). record c.args.self.now { frames = fs }) (w.pop.ensures.rest ∙ ap (drop 1) top)))
       | else-is_closing w ↦
-          subst (λ (n : FieldScan). ComesTo base depth t c.args.c c.args.self.now progress.Going (freed_at n (c.args.place + 1))) (sym w.self-is)
-          (bracket_passes c.args.self.now base depth c.args.c c.args.place t follow inside at is c.requires.operator c.args.opener spot others top c.requires.other (sym c.is_closing.ensures ∙ w.if-is_closing.false))
-    ])
+          bracket_passes c.args.self.now base depth c.args.c c.args.place t follow inside at is c.requires.operator c.args.opener spot others top c.requires.other (sym c.is_closing.ensures ∙ w.if-is_closing.false) _
+          (c.free.ensures ∙ ap free w.self-is)
+    ]
 
 pub returns-clause-placed : goal.returns-clause-placed
 returns-clause-placed c = λ old.

@@ -1,9 +1,7 @@
-use Rattle.std.proofs.Common.{false, List, drop, sym, ap, ◌∙◌, subst}
-use Rattle.py_lines.specs.declared.field_scan.FieldScan.{FieldScan}
-use Rattle.py_lines.specs.declared.field_scan.FieldProgress.TheVariants as progress
+use Rattle.std.proofs.Common.{false, List, drop, refl, sym, ap, ◌∙◌, subst}
 use Rattle.py_lines.specs.declared.frames.Frame.{Frame}
 use Rattle.py_lines.specs.declared.frames.Frame.TheVariants as frame
-use Rattle.py_lines.specs.Private.FieldScan.{ComesTo, IsInPlace, ended_in}
+use Rattle.py_lines.specs.Private.FieldScan.{IsInPlace, ended_in}
 use Rattle.py_lines.proofs.FieldScans.Operators.{field_ends, field_specifies, field_closes_none, field_passes}
 use Rattle.py_lines.specs.Private.FieldMachine.{between}
 use Rattle.py_lines.specs.Private.Frames.{StandsIn}
@@ -19,19 +17,17 @@ returns-then-is_closing-clause-takes c = λ depth base t follow inside at is.
 pub returns-then-c-eq125-clause-takes : goal.returns-then-c-eq125-clause-takes
 returns-then-c-eq125-clause-takes c = λ depth base t follow inside at is.
     let top = c.requires.innermost in
-    subst (λ (n : FieldScan). ComesTo base depth t c.args.c c.args.self.now progress.Going n)
-    (sym (c.resume.ensures ∙ ap (λ (fs : List Frame). ended_in (record c.args.self.now { frames = fs }) c.args.field) (c.pop.ensures.rest ∙ ap (drop 1) top.1)))
-    (field_ends c.args.self.now base depth c.args.c c.args.place t follow inside at is c.requires.operator c.args.field top.0 top.1 c.if-c-eq125.true)
+    field_ends c.args.self.now base depth c.args.c c.args.place t follow inside at is c.requires.operator c.args.field top.0 top.1 c.if-c-eq125.true _
+    (c.resume.ensures ∙ ap (λ (fs : List Frame). ended_in (record c.args.self.now { frames = fs }) c.args.field) (c.pop.ensures.rest ∙ ap (drop 1) top.1))
 
 pub returns-then-c-eq58-clause-takes : goal.returns-then-c-eq58-clause-takes
 returns-then-c-eq58-clause-takes c = λ depth base t follow inside at is.
-    field_specifies c.args.self.now base depth c.args.c c.args.place t follow inside at is c.requires.operator c.args.field c.requires.innermost.0 c.requires.innermost.1 c.if-c-eq125.false c.if-c-eq58.true
+    field_specifies c.args.self.now base depth c.args.c c.args.place t follow inside at is c.requires.operator c.args.field c.requires.innermost.0 c.requires.innermost.1 c.if-c-eq125.false c.if-c-eq58.true _ refl
 
 pub returns-else-is_closing-clause-takes : goal.returns-else-is_closing-clause-takes
 returns-else-is_closing-clause-takes c = λ depth base t follow inside at is.
-    subst (λ (n : FieldScan). ComesTo base depth t c.args.c c.args.self.now progress.Going n) (sym c.free.ensures)
-    (field_passes c.args.self.now base depth c.args.c c.args.place t follow inside at is c.requires.operator c.args.field c.requires.innermost.0 c.requires.innermost.1
-    c.if-c-eq58.false c.requires.other (sym c.is_closing.ensures ∙ c.if-is_closing.false))
+    field_passes c.args.self.now base depth c.args.c c.args.place t follow inside at is c.requires.operator c.args.field c.requires.innermost.0 c.requires.innermost.1
+    c.if-c-eq58.false c.requires.other (sym c.is_closing.ensures ∙ c.if-is_closing.false) _ c.free.ensures
 
 pub returns-then-c-eq125-clause-placed : goal.returns-then-c-eq125-clause-placed
 returns-then-c-eq125-clause-placed c = λ old.
