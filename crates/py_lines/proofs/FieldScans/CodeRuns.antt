@@ -27,7 +27,7 @@ use Rattle.py_lines.proofs.Text.CharacterTests.{operator_ascii}
 use Rattle.py_lines.proofs.FieldScans.Frames.{AreOpenAlike, frames_alike}
 use Rattle.py_lines.proofs.FieldScans.Runs.{holds_ascii}
 use Rattle.py_lines.proofs.FieldScans.Steps.{follows_free}
-use Rattle.py_lines.proofs.FieldScans.Texts.{codes_go, goes_on-append, operator-not-word, operator_others, sign_cases, sign_goes}
+use Rattle.py_lines.proofs.FieldScans.Texts.{codes_go, ends_in_word, goes_on-append, passes_code, operator-not-word, operator_others, sign_cases, sign_goes}
 
 -- a string's text with the characters that the machine has gone through
 string_through : (depth : ℕ) (held : List ℕ) (t u : FieldScanned) (run : List ℕ) → string_state held ≡ Some t → GoesThrough depth t run u → string_state (held ++ run) ≡ Some u
@@ -53,9 +53,9 @@ holds_code first depth place bytes all len free run (within, nothing_or_sign) so
     (λ base held t steps at follows inside.
     let at_start : List ℕ → FieldScanned = λ text. field_state t.outer t.done t.openers (plain modes.Free) text in
     let is : t ≡ at_start t.held = ap (λ m. field_state t.outer t.done t.openers m t.held) (sym follows.mode ∙ ap mode_from free) in
-    let k = codes_go depth t.outer t.done t.openers modes.Free t.held front refl front_code in
+    let k = codes_go false depth t.outer t.done t.openers modes.Free t.held front refl front_code in
     let (done, goes, alike) = sign_is ((done : List Piece) × GoesThrough depth (field_state t.outer k.done t.openers (plain k.mode) k.held) (last ∷ []) (field_fresh t.outer done t.openers) × AreOpenAlike k.done done) last last_code last_sign
-    (λ is_sign opens closes colon. sign_goes depth t.outer k.done t.openers k.mode k.held last k.simple is_sign opens closes colon) in
+    (λ is_sign opens closes colon. sign_goes depth t.outer k.done t.openers k.mode k.held last (passes_code (ends_in_word false front) k.mode k.simple) is_sign opens closes colon) in
     let u : FieldScanned = field_fresh t.outer done t.openers in
     let through : GoesThrough depth t (take len bytes) u = subst (λ x. GoesThrough depth x (take len bytes) u) (sym is) (subst (λ cs. GoesThrough depth (at_start t.held) cs u) (sym split) (goes_on-append depth _ _ u front (last ∷ []) k.goes goes)) in
     let stands : byte_len (before literal t.outer ++ (spelled done ++ [])) ≡ byte_len (held ++ take len bytes) = here_at (held ++ take len bytes) u (string_through depth held t u (take len bytes) steps through) in

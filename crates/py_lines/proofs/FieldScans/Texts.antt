@@ -324,11 +324,24 @@ apart_code modes.Free h = refl
 apart_code modes.Space h = refl
 apart_code m h = absurd (both_ways _ refl h)
 
-in_code : (os : List ℕ) (outer : List Level) (l : Level) (t : FieldScanned) → AtCode os outer l t → InCode os outer l t
-in_code os outer l t at = record { front = at.front; done = at.done; mode = at.mode; held = at.held; is = at.is; simple = apart_code at.mode at.simple }
+-- the modes of code where a word may be open, or where none is
+abbrev pub passing : Bool → Mode → Bool
+passing true = is_code_mode
+passing false = is_apart_mode
 
-pub leads_from_code : (os : List ℕ) (quote : ℕ) (run : List ℕ) (Q : Spot) → Leads quote (InCode os) run Q → Leads quote (AtCode os) run Q
-leads_from_code os quote run Q leads outer l depth t same quotes room at = leads outer l depth t same quotes room (in_code os outer l t at)
+pub passes_code : (word : Bool) (m : Mode) → passing word m ≡ true → is_code_mode m ≡ true
+passes_code true m h = h
+passes_code false m h = apart_code m h
+
+pub leads_to_code : (word : Bool) (os : List ℕ) (quote : ℕ) (P : Spot) (run : List ℕ) → Leads quote P run (StandsInCode (passing word) os) → Leads quote P run (InCode os)
+leads_to_code word os quote P run leads outer l depth t same quotes room at =
+    let (u, goes, to) = leads outer l depth t same quotes room at in
+    (u, goes, record { front = to.front; done = to.done; mode = to.mode; held = to.held; is = to.is; simple = passes_code word to.mode to.simple })
+
+-- whether a word stands last, where one stands before or none does
+abbrev pub ends_in_word : Bool → List ℕ → Bool
+ends_in_word word [] = word
+ends_in_word word (c ∷ cs) = ends_in_word (is_ascii_word c) cs
 
 -- over a sign, over another byte of code, and over a run of them
 signs_go : (depth : ℕ) (outer : List Level) (ps : List Piece) (os : List ℕ) (m : Mode) (held : List ℕ) (c : ℕ) → is_code_mode m ≡ true → is_code_sign c ≡ true → CodeTo is_apart_mode depth (field_state outer ps os (plain m) held) (c ∷ [])
@@ -338,32 +351,27 @@ signs_go depth outer ps os m held c simple h =
     (λ is opens shuts colon. let k = sign_goes depth outer ps os m held c simple is opens shuts colon in
     record { done = k.0; mode = modes.Free; held = []; goes = k.1; simple = refl; alike = k.2 })
 
-code_goes : (depth : ℕ) (outer : List Level) (ps : List Piece) (os : List ℕ) (m : Mode) (held : List ℕ) (c : ℕ) → is_code_mode m ≡ true → is_code_byte c ≡ true → CodeTo is_code_mode depth (field_state outer ps os (plain m) held) (c ∷ [])
-code_goes depth outer ps os m held c simple h =
-    ⊎_elim (λ word. piece_goes is_code_mode depth outer ps os m held c (modes.Word (first_spelling c)) (word_byte_low c word) (word_no_break c word) (word_opens_none c word) (word_starts c word) refl (word_moves c word m held simple))
-    (λ sign. let k = signs_go depth outer ps os m held c simple sign in
-    record { done = k.done; mode = k.mode; held = k.held; goes = k.goes; simple = apart_code k.mode k.simple; alike = k.alike }) (or_cases (is_ascii_word c) (is_code_sign c) h)
+code_goes : (depth : ℕ) (outer : List Level) (ps : List Piece) (os : List ℕ) (m : Mode) (held : List ℕ) (c : ℕ) → is_code_mode m ≡ true → is_code_byte c ≡ true → CodeTo (passing (is_ascii_word c)) depth (field_state outer ps os (plain m) held) (c ∷ [])
+code_goes depth outer ps os m held c simple h = go (is_ascii_word c) refl
+  where
+    go : (word : Bool) → is_ascii_word c ≡ word → CodeTo (passing word) depth (field_state outer ps os (plain m) held) (c ∷ [])
+    go true word = piece_goes is_code_mode depth outer ps os m held c (modes.Word (first_spelling c)) (word_byte_low c word) (word_no_break c word) (word_opens_none c word) (word_starts c word) refl (word_moves c word m held simple)
+    go false other = signs_go depth outer ps os m held c simple (ap (λ b. b || is_code_sign c) (sym other) ∙ h)
 
-pub codes_go : (depth : ℕ) (outer : List Level) (ps : List Piece) (os : List ℕ) (m : Mode) (held : List ℕ) (run : List ℕ) → is_code_mode m ≡ true → list_all is_code_byte run ≡ true → CodeTo is_code_mode depth (field_state outer ps os (plain m) held) run
-codes_go depth outer ps os m held [] simple all = record { done = ps; mode = m; held = held; goes = refl; simple = simple; alike = λ st same. same }
-codes_go depth outer ps os m held (c ∷ cs) simple all =
+pub codes_go : (word : Bool) (depth : ℕ) (outer : List Level) (ps : List Piece) (os : List ℕ) (m : Mode) (held : List ℕ) (run : List ℕ) → passing word m ≡ true → list_all is_code_byte run ≡ true → CodeTo (passing (ends_in_word word run)) depth (field_state outer ps os (plain m) held) run
+codes_go word depth outer ps os m held [] simple all = record { done = ps; mode = m; held = held; goes = refl; simple = simple; alike = λ st same. same }
+codes_go word depth outer ps os m held (c ∷ cs) simple all =
     let parts = and_parts (is_code_byte c) (list_all is_code_byte cs) all in
-    let k = code_goes depth outer ps os m held c simple parts.0 in
-    let later = codes_go depth outer k.done os k.mode k.held cs k.simple parts.1 in
+    let k = code_goes depth outer ps os m held c (passes_code word m simple) parts.0 in
+    let later = codes_go (is_ascii_word c) depth outer k.done os k.mode k.held cs k.simple parts.1 in
     record { done = later.done; mode = later.mode; held = later.held; goes = goes_on-append depth _ _ _ (c ∷ []) cs k.goes later.goes; simple = later.simple; alike = λ st same. later.alike st (k.alike st same) }
 
 -- wherever the code stands in its string
-code_leads : (passes : Mode → Bool) (os : List ℕ) (quote : ℕ) (run : List ℕ) → ((depth : ℕ) (outer : List Level) (ps : List Piece) (m : Mode) (held : List ℕ) → is_code_mode m ≡ true → CodeTo passes depth (field_state outer ps os (plain m) held) run) → Leads quote (InCode os) run (StandsInCode passes os)
-code_leads passes os quote run goes =
-    from_code is_code_mode os quote run (StandsInCode passes os) (λ outer l depth front done held m simple room same quotes.
-    let k = goes depth (level_after l front ∷ outer) done m held simple in
+pub codes_lead : (os : List ℕ) (quote : ℕ) (run : List ℕ) → list_all is_code_byte run ≡ true → Leads quote (AtCode os) run (StandsInCode (passing (ends_in_word false run)) os)
+codes_lead os quote run all =
+    from_code is_apart_mode os quote run (StandsInCode (passing (ends_in_word false run)) os) (λ outer l depth front done held m simple room same quotes.
+    let k = codes_go false depth (level_after l front ∷ outer) done os m held run simple all in
     (field_state (level_after l front ∷ outer) k.done os (plain k.mode) k.held, k.goes, record { front = front; done = k.done; mode = k.mode; held = k.held; is = refl; simple = k.simple }))
-
-pub sign_leads : (os : List ℕ) (quote c : ℕ) → is_code_sign c ≡ true → Leads quote (InCode os) (c ∷ []) (AtCode os)
-sign_leads os quote c h = code_leads is_apart_mode os quote (c ∷ []) (λ depth outer ps m held simple. signs_go depth outer ps os m held c simple h)
-
-pub codes_lead : (os : List ℕ) (quote : ℕ) (run : List ℕ) → list_all is_code_byte run ≡ true → Leads quote (InCode os) run (InCode os)
-codes_lead os quote run all = code_leads is_code_mode os quote run (λ depth outer ps m held simple. codes_go depth outer ps os m held run simple all)
 
 -- a string without a prefix
 module _ (quote : ℕ) (outer : List Level) (l : Level) (depth : ℕ) (front : List ℕ) (os : List ℕ) (q : ℕ) (quotes : is_quote q ≡ true) where
@@ -412,6 +420,9 @@ module _ (quote : ℕ) (outer : List Level) (l : Level) (depth : ℕ) (front : L
       goes_on-append depth (open_in ps (modes.Opened q) (q ∷ [])) two (closed_in ps ((q ∷ d ∷ []) ++ ds)) (d ∷ ds) (q ∷ [])
       (goes_on-append depth (open_in ps (modes.Opened q) (q ∷ [])) one two (d ∷ []) ds (text_on ps (modes.Opened q) (q ∷ []) d refl (opened_grows d parts.0) parts.0) (texts_on ps (q ∷ d ∷ []) ds parts.1))
       (text_ends ps ((q ∷ d ∷ []) ++ ds))
+
+pub quote_no_word : (q : ℕ) → is_quote q ≡ true → is_ascii_word q ≡ false
+quote_no_word q h = sym (word_byte_continues q (quote_ascii q h)) ∙ quote-not-word q h
 
 quote_opens_none : (q : ℕ) → is_quote q ≡ true → is_opening q ≡ false
 unfolding is_quote is_opening

@@ -1,6 +1,5 @@
-use Rattle.std.proofs.Common.{ℕ, ◌+◌, ◌<◌, List, [], length, drop, subst, arith}
-use Rattle.py_lines.specs.Private.FieldText.{InCode, InText, LeadsBy}
-use Rattle.py_lines.proofs.FieldScans.TextLengths.{code_ended, code_specified, field_of, rest_is}
+use Rattle.std.proofs.Common.{◌+◌, ◌<◌, length, arith}
+use Rattle.py_lines.proofs.FieldScans.TextLengths.{code_ended, code_specified, field_of}
 use Rattle.py_lines.proofs.whole_strings.field_len.Goals as goal
 
 pub returns-in-125 : goal.returns-in-125
@@ -12,9 +11,7 @@ returns-in-125 c =
 
 pub returns-in_ok-specification-in-58 : goal.returns-in_ok-specification-in-58
 returns-in_ok-specification-in-58 c =
-    let bytes = c.args.bytes.now in
-    let q = c.args.quote in
     let n = c.in_ok-len.len in
     let m = c.in_ok-specification-in-58.specification in
-    let specification : LeadsBy q (InCode []) (drop n bytes) m InText = subst (λ (t : List ℕ). LeadsBy q (InCode []) t m InText) (rest_is bytes n) c.in_ok-specification-in-58.ensures.1 in
-    field_of q bytes (n + m) c.requires (omega (arith, c.in_ok-specification-in-58.ensures.0)) (code_specified q bytes n m c.in_ok-len.ensures specification)
+    let specification = c.in_ok-specification-in-58.ensures in
+    field_of c.args.quote c.args.bytes.now (n + m) c.requires (omega (arith, specification.0)) (code_specified c.args.quote c.args.bytes.now n m c.in_ok-len.ensures specification.1)

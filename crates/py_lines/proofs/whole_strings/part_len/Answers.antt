@@ -1,6 +1,5 @@
-use Rattle.std.proofs.Common.{ℕ, List, drop, sym, ◌∙◌, subst, arith}
-use Rattle.py_lines.specs.Private.FieldText.{AtBrace, InText, LeadsBy}
-use Rattle.py_lines.proofs.FieldScans.TextLengths.{brace_part, double_part, escape_part, field_part, rest_is, some_bytes}
+use Rattle.std.proofs.Common.{sym, ◌∙◌, arith}
+use Rattle.py_lines.proofs.FieldScans.TextLengths.{brace_part, double_part, escape_part, field_part, some_bytes}
 use Rattle.py_lines.proofs.whole_strings.part_len.Goals as goal
 
 pub returns-in-125 : goal.returns-in-125
@@ -14,8 +13,4 @@ returns-in-123 c = (omega arith, double_part c.args.quote c.args.bytes.now c.if-
 
 pub returns-in_ok-field-in-123-2 : goal.returns-in_ok-field-in-123-2
 returns-in_ok-field-in-123-2 c =
-    let bytes = c.args.bytes.now in
-    let q = c.args.quote in
-    let n = c.in_ok-field-in-123-2.field in
-    let field : LeadsBy q AtBrace (drop 1 bytes) n InText = subst (λ (t : List ℕ). LeadsBy q AtBrace t n InText) (rest_is bytes 1) c.in_ok-field-in-123-2.ensures in
-    (omega arith, field_part q bytes n (some_bytes bytes (sym c.if-is_empty.ensures)) c.in-123.is field)
+    (omega arith, field_part c.args.quote c.args.bytes.now c.in_ok-field-in-123-2.field (some_bytes c.args.bytes.now (sym c.if-is_empty.ensures)) c.in-123.is c.in_ok-field-in-123-2.ensures)
