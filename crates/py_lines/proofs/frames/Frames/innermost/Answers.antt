@@ -1,4 +1,4 @@
-use Rattle.std.proofs.Common.{◌≤◌, ◌-◌, ◌∷◌, length, sym, ap, ◌∙◌, arith}
+use Rattle.std.proofs.Common.{◌-◌, ◌∷◌, sym, ap, ◌∙◌}
 use Rattle.py_lines.specs.declared.frames.Frame.{Frame}
 use Rattle.py_lines.proofs.FieldScans.FrameArrays.{first_frames, first_frames-last}
 use Rattle.py_lines.proofs.frames.Frames.innermost.Goals as goal
@@ -6,5 +6,4 @@ use Rattle.py_lines.proofs.frames.Frames.innermost.Goals as goal
 pub returns : goal.returns
 returns c =
     let q = c.self.inside in
-    let within : q.depth ≤ length q.slots = omega (arith, c.self.invariant.0, c.self.invariant.1) in
-    (first_frames q.slots (q.depth - 1), sym c.self.view_is ∙ first_frames-last q.slots q.depth within c.if-self-eq0.false ∙ ap (λ (f : Frame). f ∷ first_frames q.slots (q.depth - 1)) (sym c.frame.ensures))
+    (first_frames q.slots (q.depth - 1), sym c.self.view_is ∙ first_frames-last q.slots q.depth c.self.invariant.0 c.self.invariant.1 c.if-self-eq0.false ∙ ap (λ (f : Frame). f ∷ first_frames q.slots (q.depth - 1)) (sym c.frame.ensures))

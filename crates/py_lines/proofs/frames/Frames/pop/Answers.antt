@@ -1,4 +1,4 @@
-use Rattle.std.proofs.Common.{◌≤◌, length, drop, sym, ap, ◌∙◌, subst, arith}
+use Rattle.std.proofs.Common.{drop, sym, ap, ◌∙◌, subst, arith}
 use Rattle.py_lines.specs.Private.Frames.{AreNested}
 use Rattle.py_lines.proofs.FieldScans.FrameArrays.{first_frames, first_frames-pop, nested_rest}
 use Rattle.py_lines.proofs.frames.Frames.pop.Goals as goal
@@ -6,8 +6,7 @@ use Rattle.py_lines.proofs.frames.Frames.pop.Goals as goal
 pub returns-clause-rest : goal.returns-clause-rest
 returns-clause-rest c =
     let q = c.self.inside in
-    let within : q.depth ≤ length q.slots = omega (arith, c.self.invariant.0, c.self.invariant.1) in
-    ap (first_frames q.slots) c.saturating_sub-self-inside.ensures ∙ first_frames-pop q.slots q.depth within ∙ ap (drop 1) c.self.view_is
+    ap (first_frames q.slots) c.saturating_sub-self-inside.ensures ∙ first_frames-pop q.slots q.depth c.self.invariant.0 c.self.invariant.1 ∙ ap (drop 1) c.self.view_is
 
 pub returns-clause-nested : goal.returns-clause-nested
 returns-clause-nested c = λ frame others is. (subst AreNested (c.self.view_is ∙ is) c.self.invariant.2).0
@@ -15,5 +14,4 @@ returns-clause-nested c = λ frame others is. (subst AreNested (c.self.view_is �
 pub invariant_of-self : goal.invariant_of-self
 invariant_of-self c =
     let q = c.self.inside in
-    let within : q.depth ≤ length q.slots = omega (arith, c.self.invariant.0, c.self.invariant.1) in
-    (c.self.invariant.0, omega (arith, c.self.invariant.1, c.saturating_sub-self-inside.ensures), subst AreNested (sym (ap (first_frames q.slots) c.saturating_sub-self-inside.ensures ∙ first_frames-pop q.slots q.depth within)) (nested_rest (first_frames q.slots q.depth) c.self.invariant.2))
+    (c.self.invariant.0, omega (arith, c.self.invariant.1, c.saturating_sub-self-inside.ensures), subst AreNested (sym (ap (first_frames q.slots) c.saturating_sub-self-inside.ensures ∙ first_frames-pop q.slots q.depth c.self.invariant.0 c.self.invariant.1)) (nested_rest (first_frames q.slots q.depth) c.self.invariant.2))
