@@ -2,9 +2,9 @@
 use Rattle.std.proofs.Common.{◌≡◌, ℕ, Bool, true, false, not, ◌&&◌, ◌==◌, Some, List, [], ◌∷◌, ◌++◌, refl, sym, ap, ◌∙◌, subst, ⊎_elim, append-nil}
 use Rattle.std.specs.Str.{byte}
 use Rattle.std.proofs.lemmas.Bool.{cond_both, cases_Bool, both_ways, and_right, and_parts, not-true}
-use Rattle.py_lines.specs.Character.{is_word_character, is_quote, is_line_feed, is_return, is_break, is_backslash, is_brace}
+use Rattle.py_lines.specs.Character.{is_quote, is_line_feed, is_return, is_break, is_backslash, is_brace}
 use Rattle.py_lines.specs.Piece.{string, Piece, spelled}
-use Rattle.py_lines.specs.FieldStrings.{is_field_prefix, Host, Place, literal, specification, names}
+use Rattle.py_lines.specs.FieldStrings.{Host, Place, literal, specification, names}
 use Rattle.py_lines.specs.declared.host.StringWithFields.{StringWithFields}
 use Rattle.py_lines.specs.declared.mode.Spelling.{Spelling}
 use Rattle.py_lines.specs.declared.mode.Mode.{Mode}
@@ -20,13 +20,13 @@ use Rattle.py_lines.specs.Private.FieldMachine.{At, between, after_one, after_tw
 use Rattle.py_lines.specs.Private.ScanMachine.{is_field_spelling, is_raw_spelling, host_in, quote_move, meet_of}
 use Rattle.py_lines.specs.Private.FieldScan.{code_mode, mode_from, code_moved, code_move, meets_field, HoldsCode, HasNoList, WaitsInLiteral}
 use Rattle.py_lines.proofs.Pieces.PieceLists.{piece, spelled-push}
-use Rattle.py_lines.proofs.Text.CharacterTests.{excluded, quote-not-word}
+use Rattle.py_lines.proofs.Text.CharacterTests.{quote-not-word}
 use Rattle.py_lines.proofs.Machine.LiveTexts as live
 use Rattle.py_lines.proofs.Machine.Starts as begun
 use Rattle.py_lines.proofs.Machine.Soundness.{MoveHolds, move_holds, StartHolds, start_holds}
 use Rattle.py_lines.proofs.ScanMachine.Spellings.{Tells, word_tells, other_begins}
 use Rattle.py_lines.proofs.ScanMachine.BodyMoves.{IsBodyMode}
-use Rattle.py_lines.proofs.FieldMachine.PlainSteps.{is_fielded_mode, IsOpenAfter, open_after}
+use Rattle.py_lines.proofs.FieldMachine.PlainSteps.{is_fielded_mode, IsOpenAfter, open_after, plain_moves}
 use Rattle.py_lines.proofs.ScanMachine.Follows.{host_moves, closing_neutral}
 
 -- a move of the machine without fields is the same in the code's words
@@ -48,44 +48,37 @@ module _ (s : Spelling) (held : List ℕ) (c : ℕ) (own : Holds (modes.Word s) 
   abbrev Same : Type 0
   Same = code_move (modes.Word s) c ≡ field_move (plain (modes.Word s)) held c
 
-  in_word : is_word_character c ≡ true → Same
-  unfolding code_move meet_of field_move move_of
-  in_word passes =
-      let none : is_field_prefix held && is_quote c ≡ false = and_right (is_field_prefix held) _ (excluded is_word_character is_quote c (quote-not-word c) passes) in
-      rw (none, passes)
+  told : Tells held s
+  told = word_told s held own
 
-  no_quote : is_word_character c ≡ false → is_quote c ≡ false → Same
-  unfolding code_move meet_of field_move move_of
-  no_quote other quotes =
-      let none : is_field_prefix held && is_quote c ≡ false = and_right (is_field_prefix held) _ quotes in
-      let neither : is_prefix_spelling s && is_quote c ≡ false = and_right (is_prefix_spelling s) _ quotes in
-      rw (none, neither, other, quotes)
+  -- where no string with fields begins
+  plain_word : is_field_spelling s && is_quote c ≡ false → meet_of (modes.Word s) c ≡ move_of (modes.Word s) c → Same
+  unfolding code_move
+  plain_word other same =
+      ap code_moved same ∙ as_plain (move_of (modes.Word s) c) (open_after (modes.Word s) c) ∙ sym (plain_moves (modes.Word s) held c (ap (λ b. b && is_quote c) told.0 ∙ other))
 
-  field_quote : is_word_character c ≡ false → is_quote c ≡ true → is_field_spelling s ≡ true → Same
+  no_quote : is_quote c ≡ false → Same
+  unfolding meet_of move_of
+  no_quote none = plain_word (and_right (is_field_spelling s) _ none) (rw (and_right (is_prefix_spelling s) _ none, none))
+
+  plain_quote : is_quote c ≡ true → is_field_spelling s ≡ false → Same
+  unfolding meet_of quote_move move_of
+  plain_quote quotes other = plain_word (ap (λ b. b && is_quote c) other) (go (is_prefix_spelling s) refl)
+    where
+      go : (b : Bool) → is_prefix_spelling s ≡ b → meet_of (modes.Word s) c ≡ move_of (modes.Word s) c
+      go true prefix = rw (quotes, other, other_begins s other, prefix)
+      go false prefix = rw (quotes, other, other_begins s other, prefix)
+
+  field_quote : is_quote c ≡ true → is_field_spelling s ≡ true → Same
   unfolding code_move meet_of quote_move
-  field_quote other quotes field =
-      let told = word_told s held own in
+  field_quote quotes field =
       let h : StringWithFields = record { quote = c; is_long = false; is_raw = is_raw_spelling s } in
       let host : host_in h ≡ host_of held c = ap (λ (b : Bool). record { quote = c; is_long = false; is_raw = b }) (sym (told.1 field)) in
-      let left : code_move (modes.Word s) c ≡ grows (opened (host_in h)) = rw (other, quotes, field) in
+      let left : code_move (modes.Word s) c ≡ grows (opened (host_in h)) = rw (quote-not-word c quotes, quotes, field) in
       left ∙ ap (λ (x : Host). grows (opened x)) host ∙ sym (host_moves s held c (told.0 ∙ field) quotes)
 
-  plain_quote : is_word_character c ≡ false → is_quote c ≡ true → is_field_spelling s ≡ false → Same
-  unfolding code_move meet_of quote_move field_move move_of
-  plain_quote other quotes plain_word =
-      let told = word_told s held own in
-      let none : is_field_prefix held && is_quote c ≡ false = ap (λ b. b && is_quote c) (told.0 ∙ plain_word) in
-      go (is_prefix_spelling s) refl none
-    where
-      go : (b : Bool) → is_prefix_spelling s ≡ b → is_field_prefix held && is_quote c ≡ false → Same
-      go true prefix none = rw (none, other, quotes, plain_word, other_begins s plain_word, prefix)
-      go false prefix none = rw (none, other, quotes, plain_word, other_begins s plain_word, prefix)
-
   word_meets : Same
-  word_meets =
-      ⊎_elim (λ passes. in_word passes)
-      (λ other. ⊎_elim (λ quotes. ⊎_elim (λ field. field_quote other quotes field) (λ plain_word. plain_quote other quotes plain_word) (cases_Bool (is_field_spelling s))) (λ none. no_quote other none) (cases_Bool (is_quote c)))
-      (cases_Bool (is_word_character c))
+  word_meets = ⊎_elim (λ quotes. ⊎_elim (field_quote quotes) (plain_quote quotes) (cases_Bool (is_field_spelling s))) no_quote (cases_Bool (is_quote c))
 
 -- the code meets a character as the machine does
 pub meets : (m : FieldMode) (held : List ℕ) (c : ℕ) → HoldsCode (mode_from m) held → meets_field m c ≡ field_move (mode_from m) held c

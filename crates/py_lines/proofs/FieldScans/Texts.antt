@@ -168,23 +168,17 @@ from_code passes os quote run Q from outer l depth t same quotes room at =
     subst (λ x. (u : FieldScanned) × GoesThrough depth x run u × Q outer l u) (sym at.is) (from outer l depth at.front at.done at.held at.mode at.simple room same quotes)
 
 -- no string begins with what is no quote
-plain_move_is : (m : Mode) (held : List ℕ) (c : ℕ) → is_code_mode m ≡ true → is_quote c ≡ false → field_move (plain m) held c ≡ plain_move (move_of m c)
-plain_move_is (modes.Word s) held c simple none = plain_moves (modes.Word s) held c (and_right (is_field_prefix held) _ none)
-plain_move_is m held c simple none = plain_moves m held c (other m simple)
-  where
-    other : (m : Mode) → is_code_mode m ≡ true → begins_host m held c ≡ false
-    other modes.Free h = refl
-    other modes.Space h = refl
-    other (modes.Word s) h = and_right (is_field_prefix held) _ none
-    other n h = absurd (both_ways _ refl h)
+plain_move_is : (m : Mode) (held : List ℕ) (c : ℕ) → is_quote c ≡ false → field_move (plain m) held c ≡ plain_move (move_of m c)
+plain_move_is (modes.Word s) held c none = plain_moves (modes.Word s) held c (and_right (is_field_prefix held) _ none)
+plain_move_is m held c none = plain_moves m held c refl
 
 no_more : (m : Mode) (held : List ℕ) (c : ℕ) → is_code_mode m ≡ true → is_word_character c ≡ false → is_space c ≡ false → is_quote c ≡ false → field_move (plain m) held c ≡ breaks
 unfolding move_of
-no_more modes.Free held c simple word space none = plain_move_is modes.Free held c refl none
-no_more modes.Space held c simple word space none = plain_move_is modes.Space held c refl none ∙ rw space refl
+no_more modes.Free held c simple word space none = plain_move_is modes.Free held c none
+no_more modes.Space held c simple word space none = plain_move_is modes.Space held c none ∙ rw space refl
 no_more (modes.Word s) held c simple word space none =
     let neither : is_prefix_spelling s && is_quote c ≡ false = and_right (is_prefix_spelling s) _ none in
-    plain_move_is (modes.Word s) held c refl none ∙ rw (word, neither) refl
+    plain_move_is (modes.Word s) held c none ∙ rw (word, neither) refl
 no_more m held c simple word space none = absurd (both_ways _ refl simple)
 
 -- a letter, digit or underscore
@@ -247,9 +241,9 @@ word_starts c h = start-word c (word_byte_starts c (word_byte_low c h) ∙ h)
 
 pub word_moves : (c : ℕ) → is_ascii_word c ≡ true → (m : Mode) (held : List ℕ) → is_code_mode m ≡ true → BeginsOrGrows is_code_mode c m held
 unfolding move_of
-word_moves c h modes.Free held simple = inl (plain_move_is modes.Free held c refl (word_no_quote c (word_character c h)))
-word_moves c h modes.Space held simple = inl (plain_move_is modes.Space held c refl (word_no_quote c (word_character c h)) ∙ rw (word_no_space c h) refl)
-word_moves c h (modes.Word s) held simple = inr (modes.Word (spelling_with s c), plain_move_is (modes.Word s) held c refl (word_no_quote c (word_character c h)) ∙ rw (word_character c h) refl, refl)
+word_moves c h modes.Free held simple = inl (plain_move_is modes.Free held c (word_no_quote c (word_character c h)))
+word_moves c h modes.Space held simple = inl (plain_move_is modes.Space held c (word_no_quote c (word_character c h)) ∙ rw (word_no_space c h) refl)
+word_moves c h (modes.Word s) held simple = inr (modes.Word (spelling_with s c), plain_move_is (modes.Word s) held c (word_no_quote c (word_character c h)) ∙ rw (word_character c h) refl, refl)
 word_moves c h m held simple = absurd (both_ways _ refl simple)
 
 -- a space
@@ -262,11 +256,11 @@ space_others c h = (none_of is_quote (32 ∷ 9 ∷ 12 ∷ []) c refl h, none_of 
 
 pub space_moves : (c : ℕ) → is_space c ≡ true → (m : Mode) (held : List ℕ) → is_code_mode m ≡ true → BeginsOrGrows is_apart_mode c m held
 unfolding move_of
-space_moves c h modes.Free held simple = inl (plain_move_is modes.Free held c refl (space_others c h).0)
-space_moves c h modes.Space held simple = inr (modes.Space, plain_move_is modes.Space held c refl (space_others c h).0 ∙ rw h refl, refl)
+space_moves c h modes.Free held simple = inl (plain_move_is modes.Free held c (space_others c h).0)
+space_moves c h modes.Space held simple = inr (modes.Space, plain_move_is modes.Space held c (space_others c h).0 ∙ rw h refl, refl)
 space_moves c h (modes.Word s) held simple =
     let neither : is_prefix_spelling s && is_quote c ≡ false = and_right (is_prefix_spelling s) _ (space_others c h).0 in
-    inl (plain_move_is (modes.Word s) held c refl (space_others c h).0 ∙ rw (space_no_word c h, neither) refl)
+    inl (plain_move_is (modes.Word s) held c (space_others c h).0 ∙ rw (space_no_word c h, neither) refl)
 space_moves c h m held simple = absurd (both_ways _ refl simple)
 
 -- an operator
