@@ -62,10 +62,8 @@ holds_code first depth place bytes all len free run (within, nothing_or_sign) so
     let more : byte_len (take len bytes) ≡ len = ap length (low_encodes is_low (take len bytes) low_is low).0 ∙ length-take-le len bytes short in (
       u,
       through,
-      follows_free first base t.outer done t.openers (place + len) (record {
-        follow = frames_alike base t.outer t.done done t.openers first.frames (λ st same. alike st (k.alike st same)) follows.frames;
-        at = omega (arith, at, more, byte_len-append held (take len bytes), sym stands ∙ ap (λ x. byte_len (before literal t.outer ++ x)) (append-nil (spelled done)));
-      }),
+      follows_free first base t.outer done t.openers (place + len) (frames_alike base t.outer t.done done t.openers first.frames (λ st same. alike st (k.alike st same)) follows.frames)
+          (omega (arith, at, more, byte_len-append held (take len bytes), sym stands ∙ ap (λ x. byte_len (before literal t.outer ++ x)) (append-nil (spelled done)))),
     ))
   where
     least : len ≤ all

@@ -85,7 +85,7 @@ module _ (old : FieldScan) (base depth c place : ℕ) (host : StringWithFields) 
       let spot : place - 1 ≡ base + (byte_len (before literal (L ∷ t.outer)) - 1) = waiting_place old base t place follow (ap is_waiting waits.1) at ∙ ap (λ p. base + (byte_len (before p t.outer ++ (spelled t.done ++ t.held)) - 1)) in_literal in
       let start : old.start ≡ base + byte_len (before literal t.outer ++ spelled t.done) = follow.start ∙ ap (λ p. base + byte_len (before p t.outer ++ spelled t.done)) in_literal in
       follows_free (record old { frames = frame.Field (waiting_field old host place) ∷ old.frames }) base (L ∷ t.outer) [] [] place
-      (record { follow = field_opened base L t.outer old.frames (waiting_field old host place) follow.frames spot refl refl start tt; at = code_at })
+      (field_opened base L t.outer old.frames (waiting_field old host place) follow.frames spot refl refl start tt) code_at
 
   pub no_room_there : nat_lt (depth + length old.frames + opened_with c) 201 ≡ false → ComesTo base depth t c old progress.Refused old
   no_room_there room = no_room base depth t c (begins_code (host_in host)) is old (room_so old base depth c (host_in host) t false follow room)
@@ -134,10 +134,7 @@ module _ (old : FieldScan) (base depth c place : ℕ) (host : StringWithFields) 
       going base depth t c (opens_field (host_in host)) is old new (freed_at mid (place + 1)) (field_fresh (K ∷ t.outer) [] []) like
       (specified_room old base depth c (host_in host) t true follow room) refl (λ none other. keeps_open _ refl other) (λ none. absurd (some_level K t.outer none))
       (follows_free mid base (K ∷ t.outer) [] [] (place + 1)
-      (record {
-        follow = field_opened base K t.outer old.frames (inner_field old host place) follow.frames (omega (arith, brace_at)) refl refl start bare;
-        at = brace_at ∙ ap (λ x. base + byte_len x) (sym (append-nil (before literal (K ∷ t.outer))));
-      }))
+      (field_opened base K t.outer old.frames (inner_field old host place) follow.frames (omega (arith, brace_at)) refl refl start bare) (brace_at ∙ ap (λ x. base + byte_len x) (sym (append-nil (before literal (K ∷ t.outer))))))
 
 -- a field ends with its specification
 pub ends_there : (old : FieldScan) (base depth c : ℕ) (field : OpenField) (others : List Frame) → old.frames ≡ frame.Field field ∷ others → (t : FieldScanned) → Follows old base t → field_move t.mode t.held c ≡ ends_field → (new : FieldScan) → new ≡ ended_in (record old { frames = others }) field → ComesTo base depth t c old progress.Going new

@@ -1,5 +1,5 @@
 -- The frames that the scan of a string with fields keeps are the brackets and fields that are open in the machine.
-use Rattle.std.proofs.Common.{◌≡◌, ℕ, suc, ◌+◌, ◌-◌, ◌<◌, true, false, ◌==◌, Some, List, [], ◌∷◌, ◌++◌, length, refl, ap, ◌∙◌, subst, arith, length-append}
+use Rattle.std.proofs.Common.{◌≡◌, ℕ, suc, ◌+◌, ◌-◌, ◌<◌, true, false, ◌==◌, Some, List, [], ◌∷◌, ◌++◌, length, refl, sym, ap, ◌∙◌, subst, arith, length-append}
 use Rattle.py_lines.specs.Piece.{operator, Piece, spelled}
 use Rattle.py_lines.specs.LogicalLine.{byte_len}
 use Rattle.py_lines.specs.Balance.{is_opening, is_closing, closing_of}
@@ -66,18 +66,9 @@ innermost_field base (l ∷ ls) done openers fs others field (in_list _ _ _ _ _ 
 innermost_field base (l ∷ ls) done openers fs others field (in_list _ _ _ _ _ _ [] own rest stack openers_are frames_are place host region start bare within) top =
     let same : field ≡ own = cc (top, frames_are) in
     let round : rest ≡ others = cc (top, frames_are) in
-    record {
-      level = l;
-      outside = ls;
-      outer_is = refl;
-      none = openers_are;
-      place = ap (λ (f : OpenField). f.place) same ∙ place;
-      host = ap (λ (f : OpenField). host_in f.host) same ∙ host;
-      region = ap (λ (f : OpenField). region_in f.region) same ∙ region;
-      start = ap (λ (f : OpenField). f.start) same ∙ start;
-      bare = bare;
-      within = subst (FramesFollow base ls l.done l.openers) round within;
-    }
+    subst (λ (f : OpenField). InnermostField base (l ∷ ls) openers f others) (sym same)
+    (subst (λ (fs : List Frame). InnermostField base (l ∷ ls) openers own fs) round
+    (record { level = l; outside = ls; outer_is = refl; none = openers_are; place = place; host = host; region = region; start = start; bare = bare; within = within }))
 
 -- no frame is open round no field alone
 pub none_outside : (base : ℕ) (outer : List Level) (done : List Piece) (openers : List ℕ) (fs : List Frame) → FramesFollow base outer done openers fs → length fs ≡ 0 → outer ≡ []

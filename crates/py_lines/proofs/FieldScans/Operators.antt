@@ -98,14 +98,14 @@ module _ (old : FieldScan) (base depth c place : ℕ) (t : FieldScanned) (follow
   stays new made after like opens colon room frames =
       takes new (freed_at made (place + 1)) (field_fresh t.outer (Done ++ piece operator (c ∷ []) ∷ []) after) like
       (operator_stays t.outer Done t.openers after c opens (no_colon t.outer t.openers c colon)) room (λ none. absurd (b.within none))
-      (follows_free made base t.outer (Done ++ piece operator (c ∷ []) ∷ []) after (place + 1) (record { follow = frames; at = piece_after base place t.outer Done operator c (one_operator c starts_with) b.ready.at }))
+      (follows_free made base t.outer (Done ++ piece operator (c ∷ []) ∷ []) after (place + 1) frames (piece_after base place t.outer Done operator c (one_operator c starts_with) b.start))
 
   -- it opens a bracket
   pub bracket_opens : is_opening c ≡ true → depth + length old.frames < 200 → (new : FieldScan) → new ≡ freed_at (record old { frames = frame.Bracket c place ∷ old.frames }) (place + 1) → ComesTo base depth t c old progress.Going new
   bracket_opens opens room new like =
       let low : depth + frames t < 200 = omega (arith, room, open-length old base t follow) in
       stays new (record old { frames = frame.Bracket c place ∷ old.frames }) (c ∷ t.openers) like (opening_pushes t.openers c opens) (ap (λ b. b && (length t.openers == 0)) (opening_no_colon c opens)) (opening_room (depth + frames t) c low)
-      (bracket_opened base t.outer Done t.openers old.frames c place b.within b.ready.follow opens (omega (arith, low)) b.ready.at)
+      (bracket_opened base t.outer Done t.openers old.frames c place b.within b.frames opens (omega (arith, low)) b.start)
 
   pub bracket_too_deep : is_opening c ≡ true → (depth + length old.frames < 200 → ⊥) → ComesTo base depth t c old progress.Refused old
   bracket_too_deep opens none = no_room base depth t c breaks is old (opening_none (depth + frames t) c opens (λ low. none (omega (arith, low, open-length old base t follow))))
@@ -114,12 +114,12 @@ module _ (old : FieldScan) (base depth c place : ℕ) (t : FieldScanned) (follow
   pub sign_passes : is_opening c ≡ false → is_closing c ≡ false → (c == 58) && (length t.openers == 0) ≡ false → (new : FieldScan) → new ≡ freed_at old (place + 1) → ComesTo base depth t c old progress.Going new
   sign_passes opens closes colon new like =
       stays new old t.openers like (others_keep t.openers c opens closes) colon (no_opening (depth + frames t) c opens)
-      (frames_alike base t.outer Done (Done ++ piece operator (c ∷ []) ∷ []) t.openers old.frames (operator_alike Done c opens closes) b.ready.follow)
+      (frames_alike base t.outer Done (Done ++ piece operator (c ∷ []) ∷ []) t.openers old.frames (operator_alike Done c opens closes) b.frames)
 
   -- inside brackets, of which the innermost is known
   module _ (opener spot : ℕ) (others : List Frame) (top : old.frames ≡ frame.Bracket opener spot ∷ others) where
     inner : (k : Bracket) × (ks : List Bracket) × (brackets_of Done ≡ Some (k ∷ ks)) × (spot ≡ base + (byte_len (before literal t.outer) + k.place)) × (t.openers ≡ opener ∷ bracket_openers ks)
-    inner = innermost_bracket base t.outer Done t.openers old.frames others opener spot b.ready.follow top
+    inner = innermost_bracket base t.outer Done t.openers old.frames others opener spot b.frames top
 
     abbrev Others : List ℕ
     Others = bracket_openers inner.1
@@ -131,7 +131,7 @@ module _ (old : FieldScan) (base depth c place : ℕ) (t : FieldScanned) (follow
     bracket_closes closing fits new like =
         let same : c == closing_of opener ≡ true = eq-eqb c (closing_of opener) fits in
         stays new (record old { frames = others }) Others like (ap (λ (os : List ℕ). openers_with os c) inner.4 ∙ closing_pops opener Others c closing same) colon (no_opening (depth + frames t) c (closing-not-opening c closing))
-        (bracket_closed base t.outer Done t.openers Others old.frames others opener spot c b.ready.follow top inner.4 closing same)
+        (bracket_closed base t.outer Done t.openers Others old.frames others opener spot c b.frames top inner.4 closing same)
 
     pub bracket_wrong : is_closing c ≡ true → (c ≡ closing_of opener → ⊥) → ComesTo base depth t c old progress.Refused old
     bracket_wrong closing wrong = refuses (ap (λ (os : List ℕ). field_operator t.outer Done os c) inner.4 ∙ wrong_is t.outer Done opener Others c closing (other c (closing_of opener) wrong))
@@ -142,7 +142,7 @@ module _ (old : FieldScan) (base depth c place : ℕ) (t : FieldScanned) (follow
   -- outside brackets, in a field that is known
   module _ (field : OpenField) (others : List Frame) (top : old.frames ≡ frame.Field field ∷ others) where
     i : InnermostField base t.outer t.openers field others
-    i = innermost_field base t.outer Done t.openers old.frames others field b.ready.follow top
+    i = innermost_field base t.outer Done t.openers old.frames others field b.frames top
 
     in_code : (o : Option FieldScanned) → field_operator (i.level ∷ i.outside) Done [] c ≡ o → field_operator t.outer Done t.openers c ≡ o
     in_code o same = ap (λ (os : List ℕ). field_operator t.outer Done os c) i.none ∙ ap (λ (ls : List Level). field_operator ls Done [] c) i.outer_is ∙ same

@@ -8,7 +8,6 @@ use Rattle.py_lines.specs.FieldStrings.{literal}
 use Rattle.py_lines.specs.declared.mode.Mode.TheVariants as modes
 use Rattle.py_lines.specs.declared.mode.Move.{Move}
 use Rattle.py_lines.specs.declared.mode.Move.TheVariants as moves
-use Rattle.py_lines.specs.declared.frames.Frame.{Frame}
 use Rattle.py_lines.specs.declared.field_scan.FieldScan.{FieldScan}
 use Rattle.py_lines.specs.declared.field_scan.FieldProgress.TheVariants as progress
 use Rattle.py_lines.specs.Private.FieldMachine.{FieldMove, closes, Level, FieldScanned, field_fresh, field_move, field_moved, before, frames, has_room_at}
@@ -81,9 +80,5 @@ module _ (base depth : ℕ) (t : FieldScanned) (c : ℕ) (v : FieldMove) (is : f
       go false = refl
 
 -- the innermost list goes on at this byte
-pub record Ready (base : ℕ) (outer : List Level) (done : List Piece) (openers : List ℕ) (fs : List Frame) (place : ℕ) : Type 0 where
-  pub follow : FramesFollow base outer done openers fs
-  pub at : place ≡ base + byte_len (before literal outer ++ spelled done)
-
-pub follows_free : (old : FieldScan) (base : ℕ) (outer : List Level) (done : List Piece) (openers : List ℕ) (place : ℕ) → Ready base outer done openers old.frames place → Follows (freed_at old place) base (field_fresh outer done openers)
-follows_free old base outer done openers place ready = record { mode = refl; holds = refl; no_list = tt; waits = tt; full = λ w. absurd (cc); start = ready.at; frames = ready.follow }
+pub follows_free : (old : FieldScan) (base : ℕ) (outer : List Level) (done : List Piece) (openers : List ℕ) (place : ℕ) → FramesFollow base outer done openers old.frames → place ≡ base + byte_len (before literal outer ++ spelled done) → Follows (freed_at old place) base (field_fresh outer done openers)
+follows_free old base outer done openers place follow at = record { mode = refl; holds = refl; no_list = tt; waits = tt; full = λ w. absurd (cc); start = at; frames = follow }

@@ -18,7 +18,7 @@ use Rattle.py_lines.specs.Private.FieldMachine.{plain, FieldMove, grows, closes,
 use Rattle.py_lines.specs.Private.FieldMachine as spots
 use Rattle.py_lines.specs.Private.FieldFaults.{here}
 use Rattle.py_lines.specs.Private.ScanMachine.{IsInString}
-use Rattle.py_lines.specs.Private.FieldScan.{mode_from, meets_field, HoldsCode, Follows, freed_at, ComesTo}
+use Rattle.py_lines.specs.Private.FieldScan.{mode_from, meets_field, HoldsCode, Follows, FramesFollow, freed_at, ComesTo}
 use Rattle.py_lines.proofs.Text.CharacterTests.{operator_ascii}
 use Rattle.py_lines.proofs.Pieces.PieceLists.{piece, spelled-push}
 use Rattle.py_lines.proofs.Pieces.OpenBrackets.{stack_push, other_keeps}
@@ -30,7 +30,7 @@ use Rattle.py_lines.proofs.Machine.Starts.{StartsSo}
 use Rattle.py_lines.proofs.ScanMachine.Follows.{room_grows, room_closes, opens_no}
 use Rattle.py_lines.proofs.FieldScans.Frames.{AreOpenAlike, frames_alike}
 use Rattle.py_lines.proofs.FieldScans.Moves.{list_at, meets, said, starts_so}
-use Rattle.py_lines.proofs.FieldScans.Steps.{Ready, follows_free, going, comes_closed, no_step}
+use Rattle.py_lines.proofs.FieldScans.Steps.{follows_free, going, comes_closed, no_step}
 
 not_empty : (xs : List ℕ) (c : ℕ) → xs ++ c ∷ [] ≡ [] → ⊥
 not_empty [] c h = cc
@@ -102,10 +102,7 @@ module _ (old : FieldScan) (base depth : ℕ) (t : FieldScanned) (c place : ℕ)
       going base depth t c closes is old new (freed_at old (place + len_utf8 c)) (field_fresh t.outer done t.openers) same
       (room_closes (depth + frames t) c) refl (λ none other. within none) (λ none. absurd (within none))
       (follows_free old base t.outer done t.openers (place + len_utf8 c)
-      (record {
-        follow = frames_alike base t.outer t.done done t.openers old.frames (shut.1 t.done) follow.frames;
-        at = place_after base place c text stands ∙ ap (λ x. base + byte_len x) written;
-      }))
+      (frames_alike base t.outer t.done done t.openers old.frames (shut.1 t.done) follow.frames) (place_after base place c text stands ∙ ap (λ x. base + byte_len x) written))
 
   -- in the string itself it closes the string
   pub closed_out : field_move t.mode t.held c ≡ closes → t.outer ≡ [] → (new : FieldScan) → ComesTo base depth t c old progress.Closed new
@@ -114,17 +111,16 @@ module _ (old : FieldScan) (base depth : ℕ) (t : FieldScanned) (c place : ℕ)
   -- the open piece ends before it
   pub record Broken : Type 0 where
     pub within : t.outer ≡ [] → ⊥
-    pub ready : Ready base t.outer (field_closed t.mode t.done t.held) t.openers old.frames place
+    pub frames : FramesFollow base t.outer (field_closed t.mode t.done t.held) t.openers old.frames
+    pub start : place ≡ base + byte_len (before literal t.outer ++ spelled (field_closed t.mode t.done t.held))
 
   pub broken : field_move t.mode t.held c ≡ breaks → Broken
   broken is =
       let b = said t.mode t.held c breaks follow.holds follow.waits is in
       record {
         within = λ none. b.no_body (inside none);
-        ready = record {
-          follow = frames_alike base t.outer t.done (field_closed t.mode t.done t.held) t.openers old.frames (b.neutral t.done) follow.frames;
-          at = at ∙ ap (λ p. base + byte_len (before p t.outer ++ (spelled t.done ++ t.held))) b.place ∙ ap (λ x. base + byte_len (before literal t.outer ++ x)) (sym (b.spells t.done));
-        };
+        frames = frames_alike base t.outer t.done (field_closed t.mode t.done t.held) t.openers old.frames (b.neutral t.done) follow.frames;
+        start = at ∙ ap (λ p. base + byte_len (before p t.outer ++ (spelled t.done ++ t.held))) b.place ∙ ap (λ x. base + byte_len (before literal t.outer ++ x)) (sym (b.spells t.done));
       }
 
   -- another piece begins with it
@@ -136,7 +132,7 @@ module _ (old : FieldScan) (base depth : ℕ) (t : FieldScanned) (c place : ℕ)
       (no_opening (depth + frames t) c (opens_no c (starts.Open m) starts_with (λ other. absurd (cc))))
       (ap (field_started t.outer (field_closed t.mode t.done t.held) t.openers c) starts_with)
       (λ none other. b.within none) (λ none. absurd (b.within none))
-      (record { mode = s.1; holds = s.0; no_list = tt; waits = tt; full = λ w. absurd (cc); start = b.ready.at; frames = b.ready.follow })
+      (record { mode = s.1; holds = s.0; no_list = tt; waits = tt; full = λ w. absurd (cc); start = b.start; frames = b.frames })
 
   -- it is a line end
   pub ended_line : field_move t.mode t.held c ≡ breaks → start_of c ≡ starts.LineEnd → (new : FieldScan) → new ≡ freed_at old (place + 1) → ComesTo base depth t c old progress.Going new
@@ -149,7 +145,4 @@ module _ (old : FieldScan) (base depth : ℕ) (t : FieldScanned) (c place : ℕ)
       (ap (field_started t.outer closed t.openers c) starts_with)
       (λ none other. b.within none) (λ none. absurd (b.within none))
       (follows_free old base t.outer done t.openers (place + 1)
-      (record {
-        follow = frames_alike base t.outer closed done t.openers old.frames (neutral_alike closed line_end (c ∷ []) refl refl) b.ready.follow;
-        at = piece_after base place t.outer closed line_end c (one_feed c (feeds c starts_with)) b.ready.at;
-      }))
+      (frames_alike base t.outer closed done t.openers old.frames (neutral_alike closed line_end (c ∷ []) refl refl) b.frames) (piece_after base place t.outer closed line_end c (one_feed c (feeds c starts_with)) b.start))
