@@ -146,10 +146,6 @@ pub code_ended : (quote : ℕ) (bytes : List ℕ) (n : ℕ) → LeadsAlways (AtC
 code_ended quote bytes n code within ends =
     by_append quote (AtCode []) (InCode []) InText bytes n 1 (code.0, code.1 quote) (by_byte_at quote 125 (InCode []) InText bytes n within ends (field_ends quote))
 
--- code, and the specification that ends its field
-pub code_specified : (quote : ℕ) (bytes : List ℕ) (n m : ℕ) → LeadsAlways (AtCode []) bytes n (InCode []) → LeadsBy quote (InCode []) (rest_of bytes n) m InText → LeadsBy quote (AtCode []) bytes (n + m) InText
-code_specified quote bytes n m code specification = by_append quote (AtCode []) (InCode []) InText bytes n m (code.0, code.1 quote) specification
-
 -- code after the `{` of its field
 first_part : (bytes : List ℕ) (n : ℕ) → 0 < n → n ≤ length bytes → take n bytes ≡ slice_index bytes 0 ∷ drop 1 (take n bytes)
 first_part bytes zero some within = absurd (omega (arith, some))

@@ -449,13 +449,10 @@ bracket_is : (c : ℕ) → is_code_bracket c ≡ true → (is_operator c ≡ tru
 unfolding is_code_bracket is_operator is_opening is_closing
 bracket_is c h = each_of (λ x. (is_operator x ≡ true) × (is_opening x ≡ true) × (x == 58 ≡ false) × (is_operator (closing_of x) ≡ true) × (is_closing (closing_of x) ≡ true)) (40 ∷ 91 ∷ []) c ((refl, refl, refl, refl, refl), ((refl, refl, refl, refl, refl), tt)) h
 
-open_room : (n c : ℕ) → n ≤ 101 → has_room_at (n + length {A = ℕ} []) c breaks ≡ true
-open_room n c few = room_at (n + length {A = ℕ} []) c breaks (λ opens. omega (arith, few))
-
 pub opening_leads : (quote c : ℕ) → is_code_bracket c ≡ true → Leads quote (InCode []) (c ∷ []) (AtCode (c ∷ []))
 opening_leads quote c h =
     let is = bracket_is c h in
-    operator_leads [] (c ∷ []) quote c is.0 (opening_pushes [] c is.1) (ap (λ b. b && true) is.2) (λ n few. open_room n c few)
+    operator_leads [] (c ∷ []) quote c is.0 (opening_pushes [] c is.1) (ap (λ b. b && true) is.2) (λ n few. room_at (n + length {A = ℕ} []) c breaks (λ opens. omega (arith, few)))
 
 pub closing_leads : (quote o c : ℕ) → is_code_bracket o ≡ true → c ≡ closing_of o → Leads quote (InCode (o ∷ [])) (c ∷ []) (AtCode [])
 closing_leads quote o c h same =
@@ -477,19 +474,15 @@ end_leads quote c Q to h opens ends there =
       there outer l front ps,
     ))
 
-operator_is : (c : ℕ) → is_one_of (codes "}:") c ≡ true → (is_operator c ≡ true) × (is_opening c ≡ false)
-unfolding is_operator is_opening
-operator_is c h = each_of (λ x. (is_operator x ≡ true) × (is_opening x ≡ false)) (codes "}:") c ((refl, refl), ((refl, refl), tt)) h
-
 pub field_ends : (quote : ℕ) → Leads quote (InCode []) (125 ∷ []) InText
+unfolding is_operator is_opening
 field_ends quote =
-    let is = operator_is 125 refl in
-    end_leads quote 125 InText (λ level outer ps. field_ended level outer (level.front ++ (spelled ps ++ 125 ∷ []))) is.0 is.1 brace_ends (λ outer l front ps. (front ++ (spelled ps ++ 125 ∷ []), refl))
+    end_leads quote 125 InText (λ level outer ps. field_ended level outer (level.front ++ (spelled ps ++ 125 ∷ []))) refl refl brace_ends (λ outer l front ps. (front ++ (spelled ps ++ 125 ∷ []), refl))
 
 pub specification_begins : (quote : ℕ) → Leads quote (InCode []) (58 ∷ []) AtSpecification
+unfolding is_operator is_opening
 specification_begins quote =
-    let is = operator_is 58 refl in
-    end_leads quote 58 AtSpecification (λ level outer ps. field_state (level ∷ outer) [] [] (body level.host specification false between) (level.front ++ (spelled ps ++ 58 ∷ []))) is.0 is.1 colon_opens (λ outer l front ps. (front, front ++ (spelled ps ++ 58 ∷ []), refl))
+    end_leads quote 58 AtSpecification (λ level outer ps. field_state (level ∷ outer) [] [] (body level.host specification false between) (level.front ++ (spelled ps ++ 58 ∷ []))) refl refl colon_opens (λ outer l front ps. (front, front ++ (spelled ps ++ 58 ∷ []), refl))
 
 -- a specification
 specified_leads : (quote c : ℕ) → is_literal_byte quote c ≡ true → Leads quote AtSpecification (c ∷ []) AtSpecification

@@ -1,5 +1,6 @@
-use Rattle.std.proofs.Common.{◌+◌, ◌<◌, length, arith}
-use Rattle.py_lines.proofs.FieldScans.TextLengths.{code_ended, code_specified, field_of}
+use Rattle.std.proofs.Common.{[], ◌+◌, ◌<◌, length, arith}
+use Rattle.py_lines.specs.Private.FieldText.{AtCode, InCode, InText}
+use Rattle.py_lines.proofs.FieldScans.TextLengths.{by_append, code_ended, field_of}
 use Rattle.py_lines.proofs.whole_strings.field_len.Goals as goal
 
 pub returns-in-125 : goal.returns-in-125
@@ -14,4 +15,4 @@ returns-in_ok-specification-in-58 c =
     let n = c.in_ok-len.len in
     let m = c.in_ok-specification-in-58.specification in
     let specification = c.in_ok-specification-in-58.ensures in
-    field_of c.args.quote c.args.bytes.now (n + m) c.requires (omega (arith, specification.0)) (code_specified c.args.quote c.args.bytes.now n m c.in_ok-len.ensures specification.1)
+    field_of c.args.quote c.args.bytes.now (n + m) c.requires (omega (arith, specification.0)) (by_append c.args.quote (AtCode []) (InCode []) InText c.args.bytes.now n m (c.in_ok-len.ensures.0, c.in_ok-len.ensures.1 c.args.quote) specification.1)
