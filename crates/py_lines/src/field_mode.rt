@@ -1,13 +1,9 @@
 //! The piece that is open in a string with fields, and what a character does to it.
 
 ghost use Rattle.std.specs.Prelude.{◌≡◌};
-ghost use Rattle.py_lines.specs.FieldStrings.{names};
-ghost use Rattle.py_lines.specs.Private.FieldMachine.{is_barred_escape, is_after_two, with_quote, closing_move};
-ghost use Rattle.py_lines.specs.Private.FieldMachine.{opening_move, ending_move, between_move, escape_move, body_move};
-ghost use Rattle.py_lines.specs.Private.FieldMachine.{after_open_backslash};
+ghost use Rattle.py_lines.specs.Private.FieldMachine.{between_move, body_move, after_open_backslash};
 ghost use Rattle.py_lines.specs.Private.FieldFaults.{is_waiting, quotes_specification};
-ghost use Rattle.py_lines.specs.Private.FieldScan.{at_in, region_in, mode_from, field_move_from, code_moved, code_move};
-ghost use Rattle.py_lines.specs.Private.FieldScan.{keeps_byte, meets_field, stays_field};
+ghost use Rattle.py_lines.specs.Private.FieldScan.{at_in, region_in, mode_from, field_move_from, keeps_byte, meets_field};
 ghost use Rattle.py_lines.specs.Private.ScanMachine.{host_in};
 
 use crate::character::{
@@ -57,55 +53,6 @@ pub enum FieldMove {
     Refused,
 }
 
-impl At {
-    /// Whether two quotes of a long string stand directly before.
-    fn is_after_two(self) -> bool
-        ensures { result ≡ is_after_two (at_in self) }
-    {
-        matches!(self, At::AfterTwo)
-    }
-
-    /// After one more quote of a long string.
-    fn with_quote(self) -> At
-        ensures { at_in result ≡ with_quote (at_in self) }
-    {
-        match self {
-            At::AfterOne => At::AfterTwo,
-            _ => At::AfterOne,
-        }
-    }
-}
-
-/// What a quote that would close the string does: in a specification it may not stand.
-fn closing_move(region: Region) -> FieldMove
-    ensures { field_move_from result ≡ closing_move (region_in region) }
-{
-    match region {
-        Region::Literal => FieldMove::Closes,
-        Region::Specification => FieldMove::Refused,
-    }
-}
-
-/// What a `{` does that doesn't stand for itself.
-fn opening_move(host: StringWithFields, region: Region) -> FieldMove
-    ensures { field_move_from result ≡ opening_move (host_in host) (region_in region) }
-{
-    match region {
-        Region::Literal => FieldMove::Grows(FieldMode::Body(host, region, false, At::AfterBrace)),
-        Region::Specification => FieldMove::OpensField(host),
-    }
-}
-
-/// What a `}` does.
-fn ending_move(host: StringWithFields, region: Region, named: bool) -> FieldMove
-    ensures { field_move_from result ≡ ending_move (host_in host) (region_in region) named }
-{
-    match region {
-        Region::Specification if !named => FieldMove::EndsField,
-        _ => FieldMove::Grows(FieldMode::Body(host, region, false, At::Between)),
-    }
-}
-
 /// What a character does between two parts of a string, or after a quote of its own.
 #[tactic(auto, unfolding(crate::specs::Private::FieldMachine::between_move))]
 fn between_move(host: StringWithFields, region: Region, named: bool, at: At, c: char) -> FieldMove
@@ -113,115 +60,69 @@ fn between_move(host: StringWithFields, region: Region, named: bool, at: At, c: 
         ≡ between_move (host_in host) (region_in region) named (at_in at) c }
 {
     if c == host.quote {
-        if host.is_long && !at.is_after_two() {
-            FieldMove::Grows(FieldMode::Body(host, region, named, at.with_quote()))
+        if host.is_long && !matches!(at, At::AfterTwo) {
+            let quotes = match at {
+                At::AfterOne => At::AfterTwo,
+                _ => At::AfterOne,
+            };
+            FieldMove::Grows(FieldMode::Body(host, region, named, quotes))
         } else {
-            closing_move(region)
+            match region {
+                Region::Literal => FieldMove::Closes,
+                Region::Specification => FieldMove::Refused,
+            }
         }
     } else if is_backslash(c) {
         FieldMove::Grows(FieldMode::Body(host, region, named, At::AfterSlash))
     } else if is_break(c) && !host.is_long {
         FieldMove::Refused
     } else if c == '{' && !named {
-        opening_move(host, region)
+        match region {
+            Region::Literal => {
+                FieldMove::Grows(FieldMode::Body(host, region, false, At::AfterBrace))
+            }
+            Region::Specification => FieldMove::OpensField(host),
+        }
     } else if c == '}' {
-        ending_move(host, region, named)
-    } else {
-        FieldMove::Grows(FieldMode::Body(host, region, named, At::Between))
-    }
-}
-
-/// Whether a character may not stand after a backslash: a line end in a specification of a short string.
-fn is_barred_escape(host: StringWithFields, region: Region, c: char) -> bool
-    ensures { result ≡ is_barred_escape (host_in host) (region_in region) c }
-{
-    match region {
-        Region::Literal => false,
-        Region::Specification => is_break(c) && !host.is_long,
-    }
-}
-
-/// Whether a name in braces may follow this character after a backslash.
-fn names(host: StringWithFields, c: char) -> bool
-    ensures { result ≡ names (host_in host) c }
-{
-    c == 'N' && !host.is_raw
-}
-
-/// What a character does after a backslash: a brace keeps its meaning.
-#[tactic(auto, unfolding(crate::specs::Private::FieldMachine::escape_move))]
-fn escape_move(host: StringWithFields, region: Region, named: bool, c: char) -> FieldMove
-    ensures { field_move_from result ≡ escape_move (host_in host) (region_in region) named c }
-{
-    if is_brace(c) {
-        between_move(host, region, named, At::Between, c)
-    } else if is_barred_escape(host, region, c) {
-        FieldMove::Refused
-    } else if is_return(c) {
-        FieldMove::Grows(FieldMode::Body(host, region, named, At::AfterReturn))
-    } else if names(host, c) {
-        FieldMove::Grows(FieldMode::Body(host, region, named, At::AfterName))
+        match region {
+            Region::Specification if !named => FieldMove::EndsField,
+            _ => FieldMove::Grows(FieldMode::Body(host, region, false, At::Between)),
+        }
     } else {
         FieldMove::Grows(FieldMode::Body(host, region, named, At::Between))
     }
 }
 
 /// What a character does in the body of a string with fields.
-#[tactic(auto, unfolding(crate::specs::Private::FieldMachine::body_move))]
+#[tactic(auto, unfolding(crate::specs::Private::FieldMachine::body_move, crate::specs::Private::FieldMachine::escape_move))]
 fn body_move(host: StringWithFields, region: Region, named: bool, at: At, c: char) -> FieldMove
     ensures { field_move_from result
         ≡ body_move (host_in host) (region_in region) named (at_in at) c }
 {
+    // A specification of a short string holds no line end, and none after a backslash.
+    let bars_line_ends = matches!(region, Region::Specification) && !host.is_long;
     match at {
-        At::AfterSlash => escape_move(host, region, named, c),
+        // A brace keeps its meaning after a backslash.
+        At::AfterSlash if is_brace(c) => between_move(host, region, named, At::Between, c),
+        At::AfterSlash if bars_line_ends && is_break(c) => FieldMove::Refused,
+        At::AfterSlash if is_return(c) => {
+            FieldMove::Grows(FieldMode::Body(host, region, named, At::AfterReturn))
+        }
+        At::AfterSlash if c == 'N' && !host.is_raw => {
+            FieldMove::Grows(FieldMode::Body(host, region, named, At::AfterName))
+        }
         At::AfterReturn if is_line_feed(c) => {
             FieldMove::Grows(FieldMode::Body(host, region, named, At::Between))
         }
-        At::AfterReturn => between_move(host, region, named, At::Between, c),
         At::AfterName if c == '{' => {
             FieldMove::Grows(FieldMode::Body(host, region, true, At::Between))
         }
-        At::AfterName => between_move(host, region, named, At::Between, c),
-        At::AfterBrace if c == '{' => {
+        At::AfterBrace if c != '{' => FieldMove::BeginsCode(host),
+        At::AfterSlash | At::AfterBrace => {
             FieldMove::Grows(FieldMode::Body(host, region, named, At::Between))
         }
-        At::AfterBrace => FieldMove::BeginsCode(host),
+        At::AfterReturn | At::AfterName => between_move(host, region, named, At::Between, c),
         _ => between_move(host, region, named, at, c),
-    }
-}
-
-/// A move of a piece of code.
-fn code_moved(step: Move) -> FieldMove
-    ensures { field_move_from result ≡ code_moved step }
-{
-    match step {
-        Move::Grows(mode) => FieldMove::Grows(FieldMode::Code(mode)),
-        Move::Closes => FieldMove::Closes,
-        Move::Breaks => FieldMove::Breaks,
-        Move::Refused => FieldMove::Refused,
-    }
-}
-
-/// What a character does to the piece of code that is open.
-#[tactic(auto, unfolding(crate::specs::Private::FieldScan::code_move))]
-fn code_move(mode: Mode, c: char) -> FieldMove
-    ensures { field_move_from result ≡ code_move mode c }
-{
-    match mode {
-        Mode::FieldOpened(host) if c == host.quote => {
-            FieldMove::Grows(FieldMode::Code(Mode::FieldEmpty(host)))
-        }
-        Mode::FieldOpened(host) => between_move(host, Region::Literal, false, At::Between, c),
-        Mode::FieldEmpty(host) if c == host.quote => {
-            let long = StringWithFields {
-                quote: host.quote,
-                is_long: true,
-                is_raw: host.is_raw,
-            };
-            FieldMove::Grows(FieldMode::Body(long, Region::Literal, false, At::Between))
-        }
-        Mode::FieldEmpty(_) => FieldMove::Breaks,
-        _ => code_moved(mode.meet(c)),
     }
 }
 
@@ -250,38 +151,57 @@ impl FieldMode {
         }
     }
 
-    /// Whether a character leaves the piece that is open as it is, where it ends no line.
-    fn stays(self, c: char) -> bool
-        ensures { result ≡ stays_field self c }
-    {
-        match self {
-            FieldMode::Body(host, _, _, At::Between) => {
-                c != host.quote && !is_backslash(c) && !is_brace(c)
-            }
-            FieldMode::Code(Mode::Inside(quote) | Mode::Long(quote)) => {
-                c != quote && !is_backslash(c)
-            }
-            FieldMode::Code(Mode::Word(Spelling::Number | Spelling::Name)) => is_word_character(c),
-            FieldMode::Code(Mode::Space) => is_space(c),
-            FieldMode::Code(Mode::Comment) => true,
-            _ => false,
-        }
-    }
-
-    /// Whether a byte is a character that does so, of ASCII, and ends no line.
+    /// Whether a byte is a character of ASCII that ends no line, and leaves the piece that is open as it is.
     pub fn keeps(self, b: u8) -> bool
         ensures { result ≡ keeps_byte self b }
     {
-        b < 128 && !is_break(b as char) && self.stays(b as char)
+        let c = b as char;
+        b < 128
+            && !is_break(c)
+            && match self {
+                FieldMode::Body(host, _, _, At::Between) => {
+                    c != host.quote && !is_backslash(c) && !is_brace(c)
+                }
+                FieldMode::Code(Mode::Inside(quote) | Mode::Long(quote)) => {
+                    c != quote && !is_backslash(c)
+                }
+                FieldMode::Code(Mode::Word(Spelling::Number | Spelling::Name)) => {
+                    is_word_character(c)
+                }
+                FieldMode::Code(Mode::Space) => is_space(c),
+                FieldMode::Code(Mode::Comment) => true,
+                _ => false,
+            }
     }
 
     /// What a character does to the piece that is open.
+    #[tactic(auto, unfolding(crate::specs::Private::FieldScan::code_move))]
     pub fn meet(self, c: char) -> FieldMove
         ensures { field_move_from result ≡ meets_field self c }
     {
         match self {
-            FieldMode::Code(mode) => code_move(mode, c),
             FieldMode::Body(host, region, named, at) => body_move(host, region, named, at, c),
+            FieldMode::Code(Mode::FieldOpened(host)) if c == host.quote => {
+                FieldMove::Grows(FieldMode::Code(Mode::FieldEmpty(host)))
+            }
+            FieldMode::Code(Mode::FieldOpened(host)) => {
+                between_move(host, Region::Literal, false, At::Between, c)
+            }
+            FieldMode::Code(Mode::FieldEmpty(host)) if c == host.quote => {
+                let long = StringWithFields {
+                    quote: host.quote,
+                    is_long: true,
+                    is_raw: host.is_raw,
+                };
+                FieldMove::Grows(FieldMode::Body(long, Region::Literal, false, At::Between))
+            }
+            FieldMode::Code(Mode::FieldEmpty(_)) => FieldMove::Breaks,
+            FieldMode::Code(mode) => match mode.meet(c) {
+                Move::Grows(mode) => FieldMove::Grows(FieldMode::Code(mode)),
+                Move::Closes => FieldMove::Closes,
+                Move::Breaks => FieldMove::Breaks,
+                Move::Refused => FieldMove::Refused,
+            },
         }
     }
 }

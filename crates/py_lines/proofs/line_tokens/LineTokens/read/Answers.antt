@@ -1,4 +1,4 @@
-use Rattle.std.proofs.Common.{ℕ, ◌+◌, ◌<◌, arith, rules}
+use Rattle.std.proofs.Common.{◌+◌, ◌<◌, arith, rules}
 use Rattle.py_lines.proofs.LineTokens.Lines.{IsTakenNext, has_next, next_taken, whole_read}
 use Rattle.py_lines.proofs.line_tokens.LineTokens.read.Goals as goal
 use Rattle.py_lines.proofs.line_tokens.LineTokens.read.Goals.{After-first_piece-piece}
