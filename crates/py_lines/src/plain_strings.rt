@@ -1,6 +1,6 @@
 //! Strings without fields that bytes hold whole, where they are simple: they are passed over.
 
-ghost use Rattle.std.specs.Prelude.{◌≡◌, ◌<◌, ◌≤◌, true, IsTrue, length, slice_index};
+ghost use Rattle.std.specs.Prelude.{◌≡◌, ◌<◌, ◌≤◌, true, length, slice_index};
 ghost use Rattle.py_lines.specs.Character.{is_quote};
 ghost use Rattle.py_lines.specs.Private.Outline.{BeginsLong, HasEscape, HasLineEnd, HasString, IsInLong};
 ghost use Rattle.py_lines.specs.Private.Outline.{PassesOrNot, PassesPart};
@@ -78,13 +78,6 @@ fn short_string(bytes: &[u8]) -> Option<Passed>
     }
 }
 
-/// Whether the bytes begin with three such quotes.
-fn begins_long(quote: u8, bytes: &[u8]) -> bool
-    ensures { IsTrue result → BeginsLong quote bytes.now }
-{
-    bytes.len() > 2 && bytes[0] == quote && bytes[1] == quote && bytes[2] == quote
-}
-
 /// Passes a quote of the text of a string of three such quotes, with which the bytes begin, and the line end or the text after it.
 fn lone_quote(quote: u8, bytes: &[u8]) -> Option<Passed>
     requires quote { is_quote quote ≡ true }
@@ -158,7 +151,7 @@ fn long_string(bytes: &[u8]) -> Option<Passed>
         len += text.len;
         line_ends += text.line_ends;
         let rest = &bytes[len..];
-        if begins_long(quote, rest) {
+        if rest.len() > 2 && rest[0] == quote && rest[1] == quote && rest[2] == quote {
             return Some(Passed {
                 len: len + 3,
                 line_ends,
