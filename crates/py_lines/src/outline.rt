@@ -1,9 +1,9 @@
 //! The outline of simple lines: where each of them ends, told by what opens and closes alone. No token is made.
 
 ghost use Rattle.std.specs.Prelude.{◌≡◌, ◌<◌, true, length, slice_index};
-ghost use Rattle.py_lines.specs.Character.{is_backslash, is_hash, is_quote};
+ghost use Rattle.py_lines.specs.Character.{is_quote};
 ghost use Rattle.py_lines.specs.Private.Marks.{is_of_class};
-ghost use Rattle.py_lines.specs.Private.Outline.{BeginWithLines, HasOuterEnd, PassesFirst, PassesPiece};
+ghost use Rattle.py_lines.specs.Private.Outline.{BeginWithLines, HasOuterEnd, PassesPiece};
 ghost use Rattle.py_lines.specs.declared.class.Class.TheVariants.{Quote};
 
 use crate::brackets::Brackets;
@@ -14,19 +14,6 @@ use crate::prefix::Prefix;
 use crate::run::whole_comment;
 use crate::whole_strings::quoted_text_len;
 
-/// Passes the comment that the bytes begin with, up to a line end, where it is whole characters.
-fn comment(bytes: &[u8]) -> Option<Passed>
-    requires some { 0 < length bytes.now }
-    requires hash { is_hash (slice_index bytes.now 0) ≡ true }
-    ensures { PassesFirst bytes.now result }
-{
-    let text = whole_comment(&bytes[1..])?;
-    Some(Passed {
-        len: 1 + text,
-        line_ends: 0,
-    })
-}
-
 /// How many bytes the line end has that the bytes begin with (Python Language Reference, 2.1.2). CR at their end is none: LF may follow.
 pub fn outer_end_len(bytes: &[u8]) -> Option<usize>
     ensures { HasOuterEnd bytes.now result }
@@ -35,19 +22,6 @@ pub fn outer_end_len(bytes: &[u8]) -> Option<usize>
         return Some(1);
     }
     line_end_len(bytes)
-}
-
-/// Passes the join of two lines that the bytes begin with: a backslash and a line end (Python Language Reference, 2.1.5).
-fn join(bytes: &[u8]) -> Option<Passed>
-    requires some { 0 < length bytes.now }
-    requires backslash { is_backslash (slice_index bytes.now 0) ≡ true }
-    ensures { PassesFirst bytes.now result }
-{
-    let line_end = outer_end_len(&bytes[1..])?;
-    Some(Passed {
-        len: 1 + line_end,
-        line_ends: 1,
-    })
 }
 
 /// Passes the string whose first quote stands at this byte, where it is simple.
@@ -76,9 +50,23 @@ pub fn piece(bytes: &[u8], class: Class, at: usize) -> Option<Passed>
     requires class { is_of_class class (slice_index bytes.now at) ≡ true }
     ensures { PassesPiece class bytes.now at result }
 {
+    let rest = &bytes[at..];
     match class {
-        Class::Hash => comment(&bytes[at..]),
-        Class::Backslash => join(&bytes[at..]),
+        Class::Hash => {
+            let text = whole_comment(&rest[1..])?;
+            Some(Passed {
+                len: 1 + text,
+                line_ends: 0,
+            })
+        }
+        // A join of two lines (Python Language Reference, 2.1.5).
+        Class::Backslash => {
+            let line_end = outer_end_len(&rest[1..])?;
+            Some(Passed {
+                len: 1 + line_end,
+                line_ends: 1,
+            })
+        }
         Class::Quote => string(bytes, at),
         _ => None,
     }

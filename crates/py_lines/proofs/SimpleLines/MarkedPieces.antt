@@ -51,15 +51,15 @@ abbrev pub Between : (ℕ → Bool) → List ℕ → ℕ → ℕ → Type 0
 Between passes bytes at end = (i : ℕ) → at < i → i < end → passes (slice_index bytes i) ≡ true
 
 -- a piece with which the bytes from there on begin
-pub first_piece : (class : Class) (bytes : List ℕ) (at : ℕ) (piece : Option Passed) → at < length bytes → ((len : ℕ) → closes_itself class len ≡ false) → PassesFirst (rest_of bytes at) piece → PassesPiece class bytes at piece
-first_piece class bytes at None here open_yet first = tt
-first_piece class bytes at (Some p) here open_yet found =
+pub first_piece : (class own : Class) (bytes : List ℕ) (at : ℕ) (piece : Option Passed) → class ≡ own → at < length bytes → ((len : ℕ) → closes_itself own len ≡ false) → PassesFirst (rest_of bytes at) piece → PassesPiece class bytes at piece
+first_piece class own bytes at None is here open_yet first = tt
+first_piece class own bytes at (Some p) is here open_yet found =
     let first : PassesFirst (drop at bytes) (Some p) = subst (λ (t : List ℕ). PassesFirst t (Some p)) (rest_is bytes at) found in (
       omega (arith, here, first.part.within, length-drop at bytes),
       record {
         some = first.some;
         few = first.few;
-        part = record { within = first.part.within; run = first.part.run; spell = first.part.spell; leads = λ m read n st on. rw (open_yet p.len) (first.part.leads m read n st on.2) };
+        part = record { within = first.part.within; run = first.part.run; spell = first.part.spell; leads = λ m read n st on. rw (is, open_yet p.len) (first.part.leads m read n st on.2) };
       },
     )
 
@@ -124,7 +124,7 @@ module _ (bytes : List ℕ) (at end : ℕ) (further : at < end) (within : end < 
       let whole = ascii_comment (drop 1 rest) k run (omega (arith, further, within, length-drop at bytes, length-drop 1 rest)) low in
       let first = comment_passed rest k (omega (arith, further, within, length-drop at bytes)) (ap is_hash first_is ∙ hash) (subst (λ (t : List ℕ). IsWholeComment t (Some k)) (sym (rest_is rest 1)) whole) in
       let size : 1 + k ≡ end - at = omega (arith, further) in
-      first_piece class.Hash bytes at (Some (record { len = end - at; line_ends = 0 })) (omega (arith, further, within)) (λ _. refl)
+      first_piece class.Hash class.Hash bytes at (Some (record { len = end - at; line_ends = 0 })) refl (omega (arith, further, within)) (λ _. refl)
       (subst (λ (t : List ℕ). PassesFirst t (Some (record { len = end - at; line_ends = 0 }))) (sym (rest_is bytes at))
       (subst (λ (n : ℕ). PassesFirst rest (Some (record { len = n; line_ends = 0 }))) size first))
 
