@@ -9,7 +9,7 @@ use Rattle.py_lines.specs.Faults.{IsLive, DiesAt, IsAtDepth, InShortSpecificatio
 use Rattle.py_lines.specs.OpenFields.{BeginsList, InSpecification}
 use Rattle.py_lines.specs.FieldStrings.{Host, literal, specification}
 use Rattle.py_lines.specs.Private.Machine.{start_of}
-use Rattle.py_lines.specs.Private.FieldMachine.{before, FieldMode, opened, body, grows, Level, FieldScanned, field_state, field_fresh, field_text_start, field_move, field_moved, field_started, field_step, field_steps_from, levels_open, frames, has_room, has_room_at, have_room, InSpecificationOf}
+use Rattle.py_lines.specs.Private.FieldMachine.{before, FieldMode, body, grows, Level, FieldScanned, field_state, field_fresh, field_text_start, field_move, field_moved, field_started, field_step, field_steps_from, levels_open, frames, has_room, has_room_at, have_room, InSpecificationOf}
 use Rattle.py_lines.proofs.Pieces.PieceLists.{piece, spelled-push, AreReadIn-first}
 use Rattle.py_lines.proofs.FieldSoundness.Holds.{IsFieldSound}
 use Rattle.py_lines.proofs.FieldSoundness.HostSteps.{sound_at}

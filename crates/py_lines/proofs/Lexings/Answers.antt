@@ -1,5 +1,5 @@
 -- What a reader answers in the end, from where the machine stands.
-use Rattle.std.proofs.Common.{◌≡◌, ℕ, ◌+◌, List, [], ◌∷◌, ◌++◌, refl, subst, append-nil}
+use Rattle.std.proofs.Common.{◌≡◌, ℕ, List, [], ◌∷◌, ◌++◌, refl, subst, append-nil}
 use Rattle.py_lines.specs.Piece.{Piece, spelled}
 use Rattle.py_lines.specs.LogicalLine.{lines_of, byte_len}
 use Rattle.py_lines.specs.Reading.{Decodes, EndsLine, IsBalancedReading}

@@ -10,7 +10,7 @@ use Rattle.std.proofs.lemmas.Str.{encode_ascii}
 use Rattle.py_lines.specs.Piece.{begins, line_end, Piece, ends, spelled}
 use Rattle.py_lines.specs.PieceGrammar.{IsLineEnd}
 use Rattle.py_lines.specs.Balance.{depth_through}
-use Rattle.py_lines.specs.Fields.{InClass, fielded, AreReadBefore, Fields}
+use Rattle.py_lines.specs.Fields.{InClass, fielded, AreReadBefore}
 use Rattle.py_lines.specs.Reading.{EndsLine, IsBalancedReading}
 use Rattle.py_lines.specs.Settled.{EndsForGood, IsSettledPrefix, IsSettled}
 use Rattle.py_lines.specs.Given.{AreFirstLines}
