@@ -63,6 +63,10 @@ impl Scan {
         let mut passing = Passing::new(bytes);
         let mut at = passing.marks.next(bytes);
         'specials: while at < bytes.len() {
+            // After a join it is not known that no piece is open.
+            if bytes[at] == b'\\' {
+                break;
+            }
             match passing.pass(&mut self.brackets, bytes, at, self.stop + at) {
                 Special::Passed => at = passing.marks.next(bytes),
                 Special::LineEnd(len) => {

@@ -3,7 +3,7 @@ use Rattle.py_lines.specs.declared.passing.Passing.{Passing}
 use Rattle.py_lines.proofs.LineScan.AsciiRuns.{free_is}
 use Rattle.py_lines.proofs.LineScan.WholePieces.{StandsAt, begins_passing, operator_left, stands_ended, stands_left, stands_next}
 use Rattle.py_lines.proofs.SimpleLines.Passing.{passed_further}
-use Rattle.py_lines.proofs.scan.Scan.take_pieces.Goals.{After-last_operator_end-plain, else-specials-test, then-specials-test+in-Unpassed, then-plain-gt0, else-plain-gt0}
+use Rattle.py_lines.proofs.scan.Scan.take_pieces.Goals.{After-last_operator_end-plain, else-specials-test, then-specials-test+then-bytes-at-eq92, then-specials-test+else-bytes-at-eq92+in-Unpassed, then-plain-gt0, else-plain-gt0}
 use Rattle.py_lines.proofs.scan.Scan.take_pieces.Goals as goal
 
 pub specials-init : goal.specials-init
@@ -39,7 +39,8 @@ stands : (c : After-last_operator_end-plain)
     → StandsAt c.args.self.now c.args.bytes.now c.specials.at c.specials-test.self c.specials-test.passing
 stands c = elim c.specials-test.branch [
   | else-specials-test w ↦ rw (w.self-is, w.passing-is) c.specials.invariant
-  | then-specials-test+in-Unpassed w ↦ rw (w.self-is, w.passing-is, w.in-Unpassed.ensures.1, w.in-Unpassed.ensures.0) c.specials.invariant
+  | then-specials-test+then-bytes-at-eq92 w ↦ rw (w.self-is, w.passing-is) c.specials.invariant
+  | then-specials-test+else-bytes-at-eq92+in-Unpassed w ↦ rw (w.self-is, w.passing-is, w.in-Unpassed.ensures.1, w.in-Unpassed.ensures.0) c.specials.invariant
 ]
 
 pub returns-clause-reached : goal.returns-clause-reached
