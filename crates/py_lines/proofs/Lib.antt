@@ -41,7 +41,7 @@
 --
 -- The scan (proofs/LineScan): the code follows the machine through one logical line, and knows where it ends and what is
 -- open in it. Where no piece is open it passes over whole pieces as over simple lines (SimpleLines/Passing), in whatever mode the line
--- began, and stands again where all of them are closed: after an operator, a line end, a string or a join (WholePieces). In other
+-- began, and stands again where all of them are closed: after an operator, a line end or a string (WholePieces). In other
 -- pieces the characters that leave the open piece as it is are held in one step. After a line end the machine goes on as it does
 -- alone, so the next line is scanned from its own start.
 --
