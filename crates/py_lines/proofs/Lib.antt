@@ -41,9 +41,9 @@
 --
 -- The scan (proofs/LineScan): the code follows the machine through one logical line, and knows where it ends and what is
 -- open in it. Where no piece is open it passes over whole pieces as over simple lines (SimpleLines/Passing), in whatever mode the line
--- began, and stands again where all of them are closed: after an operator, a line end or a string (WholePieces). In other
--- pieces the characters that leave the open piece as it is are held in one step. After a line end the machine goes on as it does
--- alone, so the next line is scanned from its own start.
+-- began, and stands again where all of them are closed: after an operator, a string, or a line end or a join with LF (WholePieces).
+-- In other pieces the characters that leave the open piece as it is are held in one step. After a line end the machine goes on as
+-- it does alone, so the next line is scanned from its own start.
 --
 -- The tokens of a whole line (proofs/LineTokens): they are read from its text alone, piece by piece, and so for all pieces
 -- that the text spells. Each class of pieces begins with other bytes. A word, a space or a comment is the run of bytes that

@@ -3,8 +3,7 @@
 ghost use Rattle.std.specs.Prelude.{◌≡◌, ◌<◌, true, length, slice_index};
 ghost use Rattle.py_lines.specs.Character.{is_quote};
 ghost use Rattle.py_lines.specs.Private.Marks.{is_of_class};
-ghost use Rattle.py_lines.specs.Private.Outline.{BeginWithLines, HasOuterEnd, PassesPiece};
-ghost use Rattle.py_lines.specs.declared.class.Class.TheVariants.{Quote};
+ghost use Rattle.py_lines.specs.Private.Outline.{BeginWithLines, HasOuterEnd, PassesPiece, PassesStringAt};
 
 use crate::brackets::Brackets;
 use crate::class::Class;
@@ -13,6 +12,15 @@ use crate::plain_strings::{Passed, line_end_len, plain_string};
 use crate::prefix::Prefix;
 use crate::run::whole_comment;
 use crate::whole_strings::quoted_text_len;
+
+/// A piece that was passed.
+#[derive(Clone, Copy)]
+pub struct PassedPiece {
+    /// Its bytes.
+    pub passed: Passed,
+    /// Whether it is known that no piece is open after them.
+    pub closes: bool,
+}
 
 /// How many bytes the line end has that the bytes begin with (Python Language Reference, 2.1.2). CR at their end is none: LF may follow.
 pub fn outer_end_len(bytes: &[u8]) -> Option<usize>
@@ -29,7 +37,7 @@ pub fn outer_end_len(bytes: &[u8]) -> Option<usize>
 fn string(bytes: &[u8], at: usize) -> Option<Passed>
     requires within { at < length bytes.now }
     requires quote { is_quote (slice_index bytes.now at) ≡ true }
-    ensures { PassesPiece Quote bytes.now at result }
+    ensures { PassesStringAt bytes.now at result }
 {
     let rest = &bytes[at..];
     match Prefix::before(bytes, at) {
@@ -45,29 +53,40 @@ fn string(bytes: &[u8], at: usize) -> Option<Passed>
 /// Passes the comment, the join or the string that begins at this byte. Most are passed by the marks alone: it is apart from the loop over
 /// them, so that this one stays small.
 #[inline(never)]
-pub fn piece(bytes: &[u8], class: Class, at: usize) -> Option<Passed>
+pub fn piece(bytes: &[u8], class: Class, at: usize) -> Option<PassedPiece>
     requires within { at < length bytes.now }
     requires class { is_of_class class (slice_index bytes.now at) ≡ true }
-    ensures { PassesPiece class bytes.now at result }
+    ensures { PassesPiece bytes.now at result }
 {
     let rest = &bytes[at..];
     match class {
         Class::Hash => {
             let text = whole_comment(&rest[1..])?;
-            Some(Passed {
+            let passed = Passed {
                 len: 1 + text,
                 line_ends: 0,
+            };
+            Some(PassedPiece {
+                passed,
+                closes: false,
             })
         }
         // A join of two lines (Python Language Reference, 2.1.5).
         Class::Backslash => {
             let line_end = outer_end_len(&rest[1..])?;
-            Some(Passed {
+            let passed = Passed {
                 len: 1 + line_end,
                 line_ends: 1,
-            })
+            };
+            let closes = rest[line_end] == b'\n';
+            Some(PassedPiece { passed, closes })
         }
-        Class::Quote => string(bytes, at),
+        // A third quote may follow two.
+        Class::Quote => {
+            let passed = string(bytes, at)?;
+            let closes = passed.len > 2;
+            Some(PassedPiece { passed, closes })
+        }
         _ => None,
     }
 }

@@ -3,7 +3,6 @@
 ghost use Rattle.std.specs.Prelude.{◌≡◌, ℕ, ◌+◌, ◌<◌, ◌≤◌, ◌^◌, Bool, false, true, IsTrue, List, length, slice_index};
 ghost use Rattle.py_lines.specs.Character.{is_hash, is_quote};
 ghost use Rattle.py_lines.specs.Private.Marks.{HasMarks, is_of_class};
-ghost use Rattle.py_lines.specs.Private.Outline.{closes_itself};
 ghost use Rattle.py_lines.specs.Private.Passing.{IsLineEndAt, IsMet, PassesMarked, PassesSpecial};
 ghost use Rattle.py_lines.specs.Private.Passing.{nothing_passed, passed_to};
 ghost use Rattle.py_lines.specs.declared.marks.Marks.{Marks};
@@ -37,18 +36,6 @@ pub struct Passing {
     pub closed: Passed,
     /// The bytes after them that are not plain.
     pub marks: Marks,
-}
-
-/// Whether no piece is open after one that begins with a byte of this class and has so many bytes: a string, unless it has two. A third
-/// quote may follow those.
-#[inline(always)]
-fn closes_itself(class: Class, len: usize) -> bool
-    ensures { result ≡ closes_itself class len }
-{
-    match class {
-        Class::Quote => len > 2,
-        _ => false,
-    }
 }
 
 impl Passing {
@@ -226,10 +213,9 @@ impl Passing {
         let Some(piece) = piece(bytes, class, at) else {
             return Special::Unpassed;
         };
-        let to = at + piece.len;
+        let to = at + piece.passed.len;
         self.marks.pass(bytes, to);
-        let closes = closes_itself(class, piece.len);
-        self.pass_to(to, piece.line_ends, closes);
+        self.pass_to(to, piece.passed.line_ends, piece.closes);
         Special::Passed
     }
 

@@ -1,8 +1,8 @@
 //! Pieces that bytes hold whole. After closed ones they are passed at once, from one byte that isn't plain to the next.
 
-ghost use Rattle.std.specs.Prelude.{◌≡◌, ◌+◌, ◌<◌, ◌^◌, length};
+ghost use Rattle.std.specs.Prelude.{◌≡◌, ◌+◌, ◌<◌, ◌≤◌, ◌^◌, length};
 ghost use Rattle.py_lines.specs.Private.Run.{WhereverReached};
-ghost use Rattle.py_lines.specs.Private.WholePieces.{IsNoLonger, IsOperatorEnd, LeavesOff, closed_after};
+ghost use Rattle.py_lines.specs.Private.WholePieces.{IsNoLonger, IsOperatorEnd, LeavesOff, PassesOperators, closed_after};
 
 use crate::class::Class;
 use crate::mode::Mode;
@@ -31,6 +31,19 @@ pub fn last_operator_end(plain: &[u8]) -> usize
     len
 }
 
+/// Passes the plain bytes before this one up to the last operator, if one stands among them. No piece is open after it.
+#[inline(never)]
+fn pass_operators(passing: &mut Passing, bytes: &[u8], at: usize)
+    requires after { passing.old.all.len ≤ at }
+    requires within { at ≤ length bytes.now }
+    requires few { passing.old.all.line_ends ≤ at }
+    ensures { PassesOperators bytes.now at passing.old passing.new }
+{
+    let len = last_operator_end(&bytes[passing.all.len..at]);
+    let to = passing.all.len + len;
+    passing.pass_to(to, 0, len > 0);
+}
+
 impl Scan {
     /// The bytes were passed, and no piece is open after them. CR may stand last.
     #[inline(always)]
@@ -48,7 +61,9 @@ impl Scan {
         };
     }
 
-    /// Takes pieces, as long as they follow one another, up to the line's end. It stops where all are closed.
+    /// Takes pieces, as long as they follow one another, up to the line's end. It stops at the last place where all are closed. A piece
+    /// that has not closed itself, as an empty string, is closed by the next operator: so no such place is missed, and no byte is passed
+    /// twice.
     #[inline(always)]
     pub fn take_pieces<'s>(&mut self, bytes: &'s [u8]) -> Left<'s>
         requires bytes { self.old.stop + length bytes.now < 2 ^ 64 }
@@ -63,9 +78,8 @@ impl Scan {
         let mut passing = Passing::new(bytes);
         let mut at = passing.marks.next(bytes);
         'specials: while at < bytes.len() {
-            // After a join it is not known that no piece is open.
-            if bytes[at] == b'\\' {
-                break;
+            if passing.closed.len < passing.all.len {
+                pass_operators(&mut passing, bytes, at);
             }
             match passing.pass(&mut self.brackets, bytes, at, self.stop + at) {
                 Special::Passed => at = passing.marks.next(bytes),
@@ -76,11 +90,7 @@ impl Scan {
                 Special::Unpassed => break,
             }
         }
-        let plain = last_operator_end(&bytes[passing.all.len..at]);
-        if plain > 0 {
-            let to = passing.all.len + plain;
-            passing.pass_to(to, 0, true);
-        }
+        pass_operators(&mut passing, bytes, at);
         self.close_after(passing.closed, false);
         Left::Bytes(&bytes[passing.closed.len..])
     }

@@ -1,7 +1,7 @@
 -- Whole pieces are passed over: the scan comes to where all of them are closed.
-use Rattle.std.proofs.Common.{◌≡◌, ℕ, ◌+◌, ◌-◌, ◌<◌, ◌≤◌, inl, inr, Bool, true, false, not, ◌||◌, ◌==◌, if◌then◌else◌, List, [], ◌++◌, length, take, drop, slice_index, refl, sym, ap, ◌∙◌, subst, add-zero, append_assoc, append-nil, arith, length-drop}
+use Rattle.std.proofs.Common.{◌≡◌, ℕ, ◌+◌, ◌-◌, ◌<◌, ◌≤◌, inl, inr, Bool, true, false, not, ◌||◌, ◌==◌, if◌then◌else◌, List, [], ◌++◌, length, take, drop, slice_index, refl, sym, ap, ◌∙◌, subst, add-zero, append_assoc, append-nil, arith, length-drop, suc, zero}
 use Rattle.std.specs.Prelude.{encode_utf8_all}
-use Rattle.std.proofs.lemmas.Bool.{and_parts, not-true, or_parts}
+use Rattle.std.proofs.lemmas.Bool.{and_parts, lt-ltb, not-true, or_parts}
 use Rattle.std.proofs.lemmas.List.{get_or-drop, get_or-take, length-take-le, take-append-drop, take_rest}
 use Rattle.std.proofs.lemmas.Str.{encodes-append}
 use Rattle.py_lines.specs.Character.{is_operator}
@@ -24,7 +24,7 @@ use Rattle.py_lines.specs.Private.Passing.{EndsLineSo, PassesOver, PassesSo, not
 use Rattle.py_lines.specs.Private.Run.{Reached, WhereverReached}
 use Rattle.py_lines.specs.Private.Scan.{IsLineBefore, ScansIn, line_start, none_open, stack_of, with_brackets}
 use Rattle.py_lines.specs.Private.ScanMachine.{IsScanSound}
-use Rattle.py_lines.specs.Private.WholePieces.{IsOperatorEnd, closed_after}
+use Rattle.py_lines.specs.Private.WholePieces.{IsOperatorEnd, PassesOperators, closed_after}
 use Rattle.py_lines.proofs.LineScan.BracketStack.{keeps_at}
 use Rattle.py_lines.proofs.LineScan.LineSteps.{way_stop, way_here}
 use Rattle.py_lines.proofs.LogicalLines.Cuts.{byte_len-append}
@@ -246,18 +246,28 @@ module _ (first : Scan) (bytes : List ℕ) (at : ℕ) (scan : Scan) (p : Passing
       subst (λ (s : Scan). ScansIn m line whole s (stops.LineEnd len)) (sym same)
       (ended first bytes m line whole start r at len p.all.line_ends scan.brackets within (here.come m line whole start r).come so.ends so.none)
 
+  -- after the last operator before there
+  pub operators_passed : (q : Passing) → PassesOperators bytes at p q → StandsAt first bytes at scan q
+  operators_passed q (zero, ends, is) = rw (is, add-zero, add-zero) on
+  operators_passed q (suc k, ends, is) =
+      let from = p.all.len in
+      let room : at - from ≤ length (drop from bytes) = omega (arith, on.next.within, length-drop from bytes) in
+      let more : from + suc k ≤ at = omega (arith, ends.0, on.next.after, length-take-le (at - from) (drop from bytes) room) in
+      rw (is, lt-ltb 0 (suc k) (omega arith)) (record {
+        same = on.same;
+        passed = operator_closes first bytes from at (suc k) scan.brackets p.all p.closed p.marks on.passed on.next ends (omega arith);
+        next = record {
+          after = more;
+          within = on.next.within;
+          plain = λ i later less. on.next.plain i (omega (arith, later)) less;
+          special = on.next.special;
+          rest = on.next.rest;
+          held = on.next.held;
+        };
+      })
+
   -- where the scan leaves off
-  left_so : (k : ℕ) (x q : Passing) (new : Scan) → HasPassed first bytes k scan.brackets x.all x.closed → q ≡ x
-      → new ≡ closed_after scan q.closed false → Leaves first bytes new q.closed
-  left_so k x q new passed is set m line whole start r =
-      rw (set ∙ ap (λ (s : Scan). closed_after s q.closed false) on.same, is, take_rest bytes x.closed.len)
-      (closed_reached first bytes m line whole start r x.closed scan.brackets (passed.come m line whole start r).free)
-
-  pub stands_left : (q : Passing) (new : Scan) → q ≡ p → new ≡ closed_after scan q.closed false → Leaves first bytes new q.closed
-  stands_left q new is set = left_so p.all.len p q new on.passed is set
-
-  pub operator_left : (len : ℕ) (q : Passing) (new : Scan) → IsOperatorEnd (take (at - p.all.len) (drop p.all.len bytes)) len → 0 < len
-      → q ≡ passed_to p (p.all.len + len) 0 true → new ≡ closed_after scan q.closed false → Leaves first bytes new q.closed
-  operator_left len q new ends some is set =
-      left_so (p.all.len + len) (passed_to p (p.all.len + len) 0 true) q new
-      (operator_closes first bytes p.all.len at len scan.brackets p.all p.closed p.marks on.passed on.next ends some) is set
+  pub stands_left : (new : Scan) → new ≡ closed_after scan p.closed false → Leaves first bytes new p.closed
+  stands_left new set m line whole start r =
+      rw (set ∙ ap (λ (s : Scan). closed_after s p.closed false) on.same, take_rest bytes p.closed.len)
+      (closed_reached first bytes m line whole start r p.closed scan.brackets (on.passed.come m line whole start r).free)

@@ -1,5 +1,5 @@
 -- A comment is passed over: the machine goes through it, up to a line end.
-use Rattle.std.proofs.Common.{◌≡◌, ℕ, ◌+◌, ◌-◌, ◌<◌, inr, true, Some, List, [], ◌∷◌, ◌++◌, length, take, drop, slice_index, refl, ap, ◌∙◌, subst, append_assoc, arith, drop-cons, lit<, add-zero}
+use Rattle.std.proofs.Common.{◌≡◌, ℕ, ◌+◌, ◌-◌, ◌<◌, inr, false, true, Some, List, [], ◌∷◌, ◌++◌, length, take, drop, slice_index, refl, ap, ◌∙◌, subst, append_assoc, arith, drop-cons, lit<, add-zero}
 use Rattle.std.specs.Prelude.{encode_utf8_all}
 use Rattle.std.specs.List.{list_all}
 use Rattle.std.proofs.lemmas.Bool.{both_ways, not-false, or_parts}
@@ -41,10 +41,10 @@ comment_ends initial read n st c is on = record {
 
 -- so it is passed
 pub comment_passed : (bytes : List ℕ) (k : ℕ) → 0 < length bytes → is_hash (slice_index bytes 0) ≡ true → IsWholeComment (take (length bytes - 1) (drop 1 bytes)) (Some k)
-    → PassesFirst bytes (Some (record { len = 1 + k; line_ends = 0 }))
+    → PassesFirst bytes (record { len = 1 + k; line_ends = 0 }) false
 unfolding is_ascii_word is_quote is_space
 comment_passed bytes k some hash found =
-    passed_from bytes 35 k 0 some (hash_is (slice_index bytes 0) hash)
+    passed_from bytes 35 k 0 false some (hash_is (slice_index bytes 0) hash)
     (record {
       some = omega arith;
       few = omega arith;

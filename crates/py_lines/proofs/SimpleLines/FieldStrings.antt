@@ -7,7 +7,6 @@ use Rattle.py_lines.specs.Balance.{depth_through}
 use Rattle.py_lines.specs.Character.{is_break, is_quote}
 use Rattle.py_lines.specs.FieldStrings.{is_field_prefix, literal}
 use Rattle.py_lines.specs.Piece.{string, Piece}
-use Rattle.py_lines.specs.declared.class.Class.TheVariants as class
 use Rattle.py_lines.specs.declared.host.StringWithFields.{StringWithFields}
 use Rattle.py_lines.specs.declared.mode.Mode.{Mode}
 use Rattle.py_lines.specs.declared.mode.Mode.TheVariants as modes
@@ -15,7 +14,7 @@ use Rattle.py_lines.specs.declared.mode.Spelling.{Spelling}
 use Rattle.py_lines.specs.Private.Machine.{Bracket, IsFull, Scanned, first_spelling, spelling_on}
 use Rattle.py_lines.specs.Private.FieldText.{InText, IsQuotedText, Leads}
 use Rattle.py_lines.specs.Private.ScanMachine.{host_in, is_field_spelling, is_raw_spelling, scan_steps}
-use Rattle.py_lines.specs.Private.Outline.{BeforePiece, HasClosedString, IsInPieceAfter, PassesPiece, PassesString, StandsBefore, tail_of}
+use Rattle.py_lines.specs.Private.Outline.{BeforePiece, HasClosedString, IsInPieceAfter, PassesString, PassesStringAt, StandsBefore, tail_of}
 use Rattle.py_lines.proofs.Pieces.OpenBrackets as brackets
 use Rattle.py_lines.proofs.Pieces.PieceLists.{piece}
 use Rattle.py_lines.proofs.Machine.LiveTexts.{keeps}
@@ -93,7 +92,7 @@ fields_passed bytes len s field is =
 
 -- at a byte of a line
 pub fields_at : (bytes : List ℕ) (at len : ℕ) (s : Spelling) → at < length bytes → is_quote (slice_index bytes at) ≡ true → tail_of (take at bytes) ≡ Some s → is_field_spelling s ≡ true
-    → IsQuotedText (rest_of bytes at) len → PassesPiece class.Quote bytes at (Some (record { len = len; line_ends = 0 }))
+    → IsQuotedText (rest_of bytes at) len → PassesStringAt bytes at (Some (record { len = len; line_ends = 0 }))
 fields_at bytes at len s within quote tail field found =
     string_at bytes at (record { len = len; line_ends = 0 }) within (fields_passed (drop at bytes) len s field (subst (λ (t : List ℕ). IsQuotedText t len) (rest_is bytes at) found))
     (λ m read n st on.

@@ -60,10 +60,10 @@ return_found (b ∷ c ∷ cs) within first other = record {
 }
 
 -- a piece that begins with this byte
-pub passed_from : (bytes : List ℕ) (c len feeds : ℕ) → 0 < length bytes → slice_index bytes 0 ≡ c → PassesFirst (c ∷ drop 1 bytes) (Some (record { len = suc len; line_ends = feeds }))
-    → PassesFirst bytes (Some (record { len = 1 + len; line_ends = feeds }))
-passed_from [] c len feeds some is passes = absurd (omega (arith, some))
-passed_from (b ∷ cs) c len feeds some is passes =
+pub passed_from : (bytes : List ℕ) (c len feeds : ℕ) (closes : Bool) → 0 < length bytes → slice_index bytes 0 ≡ c → PassesFirst (c ∷ drop 1 bytes) (record { len = suc len; line_ends = feeds }) closes
+    → PassesFirst bytes (record { len = 1 + len; line_ends = feeds }) closes
+passed_from [] c len feeds closes some is passes = absurd (omega (arith, some))
+passed_from (b ∷ cs) c len feeds closes some is passes =
     let size : suc len ≡ 1 + len = omega arith in
-    subst (λ (k : ℕ). PassesFirst (b ∷ cs) (Some (record { len = k; line_ends = feeds }))) size
-    (subst (λ (d : ℕ). PassesFirst (d ∷ cs) (Some (record { len = suc len; line_ends = feeds }))) (sym is) passes)
+    subst (λ (k : ℕ). PassesFirst (b ∷ cs) (record { len = k; line_ends = feeds }) closes) size
+    (subst (λ (d : ℕ). PassesFirst (d ∷ cs) (record { len = suc len; line_ends = feeds }) closes) (sym is) passes)

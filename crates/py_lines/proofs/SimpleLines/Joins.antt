@@ -1,5 +1,7 @@
 -- A join of two lines is passed over: the machine goes through the backslash and the line end.
-use Rattle.std.proofs.Common.{◌≡◌, ℕ, ◌+◌, ◌-◌, ◌<◌, inl, inr, Bool, true, false, Some, List, [], ◌∷◌, ◌++◌, length, take, drop, slice_index, refl, subst, append_assoc, arith, lit<}
+use Rattle.std.proofs.Common.{◌≡◌, ℕ, ◌+◌, ◌-◌, ◌<◌, inl, inr, Bool, true, false, Some, List, [], ◌∷◌, ◌++◌, length, take, drop, slice_index, ◌==◌, ◌∙◌, ap, sym, refl, subst, append_assoc, arith, lit<}
+use Rattle.std.proofs.lemmas.Bool.{both_ways}
+use Rattle.std.proofs.lemmas.List.{get_or-take, length-take-le}
 use Rattle.py_lines.specs.Character.{is_backslash, is_break, is_line_feed, is_quote, is_return, is_space}
 use Rattle.py_lines.specs.Piece.{Piece, join}
 use Rattle.py_lines.proofs.Pieces.PieceLists.{piece}
@@ -10,16 +12,16 @@ use Rattle.py_lines.specs.Private.Machine.{Bracket, fresh, move_of}
 use Rattle.py_lines.specs.Private.ScanMachine.{meet_of, scan_steps}
 use Rattle.py_lines.specs.Private.Scan.{line_start}
 use Rattle.py_lines.specs.Private.Run.{is_ascii_word}
-use Rattle.py_lines.specs.Private.Outline.{BeginsOuterEnd, EndsBefore, HasCome, HasOuterEnd, HoldsLineEnds, IsFreeAfter, IsOuterEnd, PassesFirst, StandsBefore, line_end_of}
+use Rattle.py_lines.specs.Private.Outline.{BeginsOuterEnd, EndsBefore, HasCome, HasOuterEnd, HoldsLineEnds, IsFreeAfter, IsOuterEnd, PassesFirst, StandsClosed, line_end_of}
 use Rattle.py_lines.proofs.Machine.LiveTexts.{keeps}
 use Rattle.py_lines.proofs.Machine.PieceSteps.{scanned}
 use Rattle.py_lines.proofs.Machine.Starts.{start-slash}
 use Rattle.py_lines.proofs.LineScan.AsciiRuns.{is_low, low_encodes, low_is}
 use Rattle.py_lines.proofs.SimpleLines.Code.{return_waits, begins_as, closes_with, code_ends, grown, holds_line_end, holds_one, holds_return, no_tail_return, one_unreturned, opens, pieces}
 use Rattle.py_lines.proofs.LineTokens.FirstCharacters.{slash_is}
-use Rattle.py_lines.proofs.SimpleLines.Tails.{free_stands}
+use Rattle.py_lines.proofs.SimpleLines.Tails.{free_closed}
 use Rattle.py_lines.proofs.SimpleLines.FirstBytes.{outer_end_low, passed_from}
-use Rattle.py_lines.proofs.FieldScans.TextLengths.{rest_is}
+use Rattle.py_lines.proofs.FieldScans.TextLengths.{later, rest_is}
 
 pub slash-not-break : is_break 92 ≡ false
 unfolding is_break
@@ -60,18 +62,19 @@ module _ (initial : Mode) (read : List ℕ) (n : ℕ) (st : List Bracket) (on : 
     tail = λ begins. no_tail_return (read ++ 92 ∷ []);
   }
 
-  -- after either
-  joined : (text after : List ℕ) → IsOuterEnd text after → StandsBefore after initial (read ++ 92 ∷ text) (n + 1) st
-  joined text after (inl (returned, is)) = rw is (free_stands after initial (read ++ 92 ∷ line_end_of returned) (n + 1) st (join_leads returned))
-  joined text [] (inr (is, other)) = absurd other
-  joined text (c ∷ cs) (inr (is, other)) =
+  -- after either: no piece is open, unless CR alone ends it
+  joined : (closes : Bool) (text after : List ℕ) → IsOuterEnd text after → (closes ≡ true → text ≡ 13 ∷ [] → ⊥) → StandsClosed closes after initial (read ++ 92 ∷ text) (n + 1) st
+  joined closes text after (inl (returned, is)) fed = rw is (free_closed closes after initial (read ++ 92 ∷ line_end_of returned) (n + 1) st (join_leads returned))
+  joined true text after (inr (is, other)) fed = absurd (fed refl is)
+  joined false text [] (inr (is, other)) fed = absurd other
+  joined false text (c ∷ cs) (inr (is, other)) fed =
       rw is (inr (subst (λ (t : List ℕ). EndsBefore c initial t (n + 1) st) (append_assoc read (92 ∷ []) (13 ∷ [])) (return_leads c other)))
 
 pub join_passed : (bytes : List ℕ) (len : ℕ) → 0 < length bytes → is_backslash (slice_index bytes 0) ≡ true → HasOuterEnd (take (length bytes - 1) (drop 1 bytes)) (Some len)
-    → PassesFirst bytes (Some (record { len = 1 + len; line_ends = 1 }))
+    → PassesFirst bytes (record { len = 1 + len; line_ends = 1 }) (slice_index bytes len == 10)
 unfolding is_ascii_word is_quote is_space
 join_passed bytes len some slash found =
-    passed_from bytes 92 len 1 some (slash_is (slice_index bytes 0) slash) (record {
+    passed_from bytes 92 len 1 (slice_index bytes len == 10) some (slash_is (slice_index bytes 0) slash) (record {
       some = omega arith;
       few = omega arith;
       part = record {
@@ -79,7 +82,7 @@ join_passed bytes len some slash found =
         run = 92 ∷ text;
         spell = (low_encodes is_low (92 ∷ text) low_is (outer_end_low text (drop len cs) ends.is)).0;
         leads = λ initial read n st on.
-            joined initial read n st (code_ends cs initial read n st 92 (lit< tt) refl on) text (drop len cs) ends.is;
+            joined initial read n st (code_ends cs initial read n st 92 (lit< tt) refl on) (slice_index bytes len == 10) text (drop len cs) ends.is fed;
       };
     })
   where
@@ -91,3 +94,10 @@ join_passed bytes len some slash found =
 
     ends : BeginsOuterEnd cs len
     ends = subst (λ (l : List ℕ). BeginsOuterEnd l len) (rest_is bytes 1) found
+
+    fed : slice_index bytes len == 10 ≡ true → text ≡ 13 ∷ [] → ⊥
+    fed feeds returns =
+        let one : len ≡ 1 = sym (length-take-le len cs ends.within) ∙ ap length returns in
+        let last : slice_index bytes len ≡ 13 =
+        ap (slice_index bytes) one ∙ sym (later bytes 1 0) ∙ sym (get_or-take len cs 0 0 (omega (arith, one))) ∙ ap (λ t. slice_index t 0) returns in
+        both_ways _ (ap (λ (c : ℕ). c == 10) last) feeds

@@ -1,15 +1,13 @@
 -- Pieces of ASCII whose end the marks show: the bytes up to there are those of the piece.
 use Rattle.std.proofs.Common.{◌≡◌, ℕ, ◌+◌, ◌-◌, ◌<◌, Bool, true, false, not, ◌==◌, Option, None, Some, List, length, take, drop, slice_index, refl, sym, ap, ◌∙◌, subst, arith, eqb-true, inl, inr, length-drop}
 use Rattle.std.specs.Prelude.{codes}
-use Rattle.std.proofs.lemmas.Bool.{and_from, both_ways, cases_order, eq-eqb, false_from_ne_true}
+use Rattle.std.proofs.lemmas.Bool.{and_from, both_ways, cases_order, eq-eqb, false_from_ne_true, lt-ltb}
 use Rattle.py_lines.specs.Character.{is_break, is_hash, is_one_of, is_operator, is_quote, is_space}
 use Rattle.py_lines.specs.Balance.{is_closing, is_opening}
-use Rattle.py_lines.specs.declared.class.Class.{Class}
-use Rattle.py_lines.specs.declared.class.Class.TheVariants as class
 use Rattle.py_lines.specs.declared.marks.Marks.{Marks}
 use Rattle.py_lines.specs.declared.plain_strings.Passed.{Passed}
 use Rattle.py_lines.specs.Private.Marks.{FindsNext, is_plain}
-use Rattle.py_lines.specs.Private.Outline.{HasString, PassesFirst, PassesPiece, closes_itself, is_plain_prefix, tail_of}
+use Rattle.py_lines.specs.Private.Outline.{HasString, PassesAt, PassesFirst, is_plain_prefix, tail_of}
 use Rattle.py_lines.specs.Private.Run.{IsRunOf, IsWholeComment, is_ascii_word, is_body_byte, is_remark_byte, is_text_byte}
 use Rattle.py_lines.proofs.LineScan.AsciiRuns.{is_low_from}
 use Rattle.py_lines.proofs.LineScan.Spans.{ascii_comment, text_spans}
@@ -18,7 +16,7 @@ use Rattle.py_lines.proofs.SimpleLines.Code.{code_low}
 use Rattle.py_lines.proofs.SimpleLines.Comments.{comment_passed}
 use Rattle.py_lines.proofs.SimpleLines.Lines.{plain_code}
 use Rattle.py_lines.proofs.FieldScans.TextLengths.{later, rest_is, rest_of}
-use Rattle.py_lines.proofs.SimpleLines.Strings.{after, short_ended, short_first, short_run, plain_at}
+use Rattle.py_lines.proofs.SimpleLines.Strings.{after, piece_at, short_ended, short_first, short_run, plain_at}
 use Rattle.py_lines.proofs.SimpleLines.FirstBytes.{first_later}
 use Rattle.py_lines.proofs.LineScan.Runs.{break_low}
 
@@ -51,17 +49,9 @@ abbrev pub Between : (ℕ → Bool) → List ℕ → ℕ → ℕ → Type 0
 Between passes bytes at end = (i : ℕ) → at < i → i < end → passes (slice_index bytes i) ≡ true
 
 -- a piece with which the bytes from there on begin
-pub first_piece : (class own : Class) (bytes : List ℕ) (at : ℕ) (piece : Option Passed) → class ≡ own → at < length bytes → ((len : ℕ) → closes_itself own len ≡ false) → PassesFirst (rest_of bytes at) piece → PassesPiece class bytes at piece
-first_piece class own bytes at None is here open_yet first = tt
-first_piece class own bytes at (Some p) is here open_yet found =
-    let first : PassesFirst (drop at bytes) (Some p) = subst (λ (t : List ℕ). PassesFirst t (Some p)) (rest_is bytes at) found in (
-      omega (arith, here, first.part.within, length-drop at bytes),
-      record {
-        some = first.some;
-        few = first.few;
-        part = record { within = first.part.within; run = first.part.run; spell = first.part.spell; leads = λ m read n st on. rw (is, open_yet p.len) (first.part.leads m read n st on.2) };
-      },
-    )
+pub first_piece : (bytes : List ℕ) (at : ℕ) (p : Passed) (closes : Bool) → at < length bytes → PassesFirst (rest_of bytes at) p closes → PassesAt bytes at p closes
+first_piece bytes at p closes here found =
+    piece_at bytes at p closes here (subst (λ (t : List ℕ). PassesFirst t p closes) (rest_is bytes at) found) (λ m read n st on. (m, on.2, λ later k come. come))
 
 module _ (bytes : List ℕ) (at end : ℕ) (further : at < end) (within : end < length bytes) where
   abbrev rest : List ℕ
@@ -94,7 +84,7 @@ module _ (bytes : List ℕ) (at end : ℕ) (further : at < end) (within : end < 
         closing : is_text_byte (slice_index rest 0) (slice_index bytes end) ≡ false
         closing = rw (eq-eqb (slice_index bytes end) (slice_index rest 0) (closes ∙ sym first_is)) refl
 
-    pub marked_string : at + 1 < end → is_plain_prefix (tail_of (take at bytes)) ≡ true → PassesPiece class.Quote bytes at (Some (record { len = end + 1 - at; line_ends = 0 }))
+    pub marked_string : at + 1 < end → is_plain_prefix (tail_of (take at bytes)) ≡ true → PassesAt bytes at (record { len = end + 1 - at; line_ends = 0 }) true
     marked_string some prefix =
         let k = end - at - 1 in
         let room : 1 < length rest = omega (arith, some, within, length-drop at bytes) in
@@ -108,12 +98,13 @@ module _ (bytes : List ℕ) (at end : ℕ) (further : at < end) (within : end < 
         let last : slice_index rest (1 + k) ≡ slice_index rest 0 = later bytes at (1 + k) ∙ ap (λ (i : ℕ). slice_index bytes i) there ∙ closes ∙ sym first_is in
         let ended = short_ended rest quote_first (1 + k) 0 (omega arith) holds read (omega arith) (omega (arith, further, within, length-drop at bytes)) last in
         let size : 1 + k + 1 ≡ end + 1 - at = omega (arith, further) in
-        plain_at bytes at (Some (record { len = end + 1 - at; line_ends = 0 })) (omega (arith, further, within)) quote prefix
+        subst (PassesAt bytes at (record { len = end + 1 - at; line_ends = 0 })) (lt-ltb 2 (end + 1 - at) (omega (arith, some)))
+        (plain_at bytes at (Some (record { len = end + 1 - at; line_ends = 0 })) (omega (arith, further, within)) quote prefix
         (subst (λ (t : List ℕ). HasString t (Some (record { len = end + 1 - at; line_ends = 0 }))) (sym (rest_is bytes at))
-        (subst (λ (n : ℕ). HasString rest (Some (record { len = n; line_ends = 0 }))) size ended))
+        (subst (λ (n : ℕ). HasString rest (Some (record { len = n; line_ends = 0 }))) size ended)))
 
   -- a comment
-  pub marked_comment : is_hash (slice_index bytes at) ≡ true → Between is_remark_byte bytes at end → is_break (slice_index bytes end) ≡ true → PassesPiece class.Hash bytes at (Some (record { len = end - at; line_ends = 0 }))
+  pub marked_comment : is_hash (slice_index bytes at) ≡ true → Between is_remark_byte bytes at end → is_break (slice_index bytes end) ≡ true → PassesAt bytes at (record { len = end - at; line_ends = 0 }) false
   marked_comment hash remark breaks =
       let k = end - at - 1 in
       let stops : is_remark_byte (slice_index bytes end) ≡ false = rw breaks refl in
@@ -124,9 +115,9 @@ module _ (bytes : List ℕ) (at end : ℕ) (further : at < end) (within : end < 
       let whole = ascii_comment (drop 1 rest) k run (omega (arith, further, within, length-drop at bytes, length-drop 1 rest)) low in
       let first = comment_passed rest k (omega (arith, further, within, length-drop at bytes)) (ap is_hash first_is ∙ hash) (subst (λ (t : List ℕ). IsWholeComment t (Some k)) (sym (rest_is rest 1)) whole) in
       let size : 1 + k ≡ end - at = omega (arith, further) in
-      first_piece class.Hash class.Hash bytes at (Some (record { len = end - at; line_ends = 0 })) refl (omega (arith, further, within)) (λ _. refl)
-      (subst (λ (t : List ℕ). PassesFirst t (Some (record { len = end - at; line_ends = 0 }))) (sym (rest_is bytes at))
-      (subst (λ (n : ℕ). PassesFirst rest (Some (record { len = n; line_ends = 0 }))) size first))
+      first_piece bytes at (record { len = end - at; line_ends = 0 }) false (omega (arith, further, within))
+      (subst (λ (t : List ℕ). PassesFirst t (record { len = end - at; line_ends = 0 }) false) (sym (rest_is bytes at))
+      (subst (λ (n : ℕ). PassesFirst rest (record { len = n; line_ends = 0 }) false) size first))
 
 -- a comment of ASCII goes on up to the next byte that isn't plain
 pub record ReadsComment (bytes : List ℕ) (at end : ℕ) (marks : Marks) : Type 0 where

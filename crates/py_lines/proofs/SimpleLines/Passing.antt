@@ -6,7 +6,6 @@ use Rattle.std.proofs.lemmas.List.{drop-drop, drop_more, get_or-drop, get_or-tak
 use Rattle.py_lines.specs.Character.{is_operator}
 use Rattle.py_lines.specs.Piece.{operator}
 use Rattle.py_lines.specs.declared.brackets.Brackets.{Brackets}
-use Rattle.py_lines.specs.declared.class.Class.{Class}
 use Rattle.py_lines.specs.declared.marks.Marks.{Marks}
 use Rattle.py_lines.specs.declared.passing.Passing.{Passing}
 use Rattle.py_lines.specs.declared.passing.Special.{Special}
@@ -14,7 +13,7 @@ use Rattle.py_lines.specs.declared.passing.Special.TheVariants as special
 use Rattle.py_lines.specs.declared.plain_strings.Passed.{Passed}
 use Rattle.py_lines.specs.Private.Machine.{Bracket, brackets_after}
 use Rattle.py_lines.specs.Private.Marks.{HasMarks}
-use Rattle.py_lines.specs.Private.Outline.{BeginsOuterEnd, IsOuterEnd, PassesPiece, StandsBefore, closes_itself}
+use Rattle.py_lines.specs.Private.Outline.{BeginsOuterEnd, IsOuterEnd, PassesAt, StandsBefore}
 use Rattle.py_lines.specs.Private.Passing.{IsMet, PassesOver, PassesSo, PassesSpecial, passed_to}
 use Rattle.py_lines.specs.Private.Scan.{Meets, depth_of, none_open, stack_of}
 use Rattle.py_lines.proofs.Pieces.PieceLists.{piece}
@@ -44,9 +43,9 @@ module _ (bytes : List ℕ) (at : ℕ) (within : at < length bytes) where
       }
 
   -- over a piece
-  pub piece_over : (class : Class) (place : ℕ) (b : Brackets) (p : Passed) → depth_of b ≤ 100 → PassesPiece class bytes at (Some p)
-      → PassesOver bytes at place p.len p.line_ends (closes_itself class p.len) (stack_of b) (stack_of b)
-  piece_over class place b p few (room, passes) = record {
+  pub piece_over : (place : ℕ) (b : Brackets) (p : Passed) (closes : Bool) → depth_of b ≤ 100 → PassesAt bytes at p closes
+      → PassesOver bytes at place p.len p.line_ends closes (stack_of b) (stack_of b)
+  piece_over place b p closes few (room, passes) = record {
     some = passes.some;
     within = room;
     few = passes.few;
@@ -141,15 +140,15 @@ module _ (bytes : List ℕ) (at : ℕ) (old : Passing) (within : at < length byt
       rw unpassed (same, meets.1)
 
   -- a piece
-  pub piece_passed : (class : Class) (place : ℕ) (b : Brackets) (p : Passed) (closes : Bool) (to : ℕ) (marks : Marks) (new : Passing) → depth_of b ≤ 100
-      → PassesPiece class bytes at (Some p) → closes ≡ closes_itself class p.len → at + p.len ≡ to → HasMarks bytes to marks
+  pub piece_passed : (place : ℕ) (b : Brackets) (p : Passed) (closes : Bool) (to : ℕ) (marks : Marks) (new : Passing) → depth_of b ≤ 100
+      → PassesAt bytes at p closes → at + p.len ≡ to → HasMarks bytes to marks
       → new ≡ passed_to (record old { marks = marks }) to p.line_ends closes → PassesSpecial bytes at place old b special.Passed new b
-  piece_passed class place b p closes to marks new few passes shut there has is =
-      rw (is, ← there, shut) (record {
+  piece_passed place b p closes to marks new few passes there has is =
+      rw (is, ← there) (record {
         len = p.len;
         more = p.line_ends;
-        closes = closes_itself class p.len;
-        over = piece_over bytes at within class place b p few passes;
+        closes = closes;
+        over = piece_over bytes at within place b p closes few passes;
         kept = λ _. refl;
         is = refl;
         marked = rw there has;

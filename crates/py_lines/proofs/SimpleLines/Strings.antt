@@ -10,7 +10,6 @@ use Rattle.std.proofs.Math.Seq.{take-add}
 use Rattle.py_lines.specs.Character.{is_one_of, is_quote, is_backslash, is_break, is_return, is_line_feed}
 use Rattle.py_lines.specs.LogicalLine.{byte_len}
 use Rattle.py_lines.specs.Piece.{Piece, ends, string}
-use Rattle.py_lines.specs.declared.class.Class.TheVariants as class
 use Rattle.py_lines.specs.declared.mode.Mode.{Mode}
 use Rattle.py_lines.specs.declared.mode.Mode.TheVariants as modes
 use Rattle.py_lines.specs.declared.mode.Move.{Move}
@@ -20,7 +19,7 @@ use Rattle.py_lines.specs.declared.plain_strings.Passed.{Passed}
 use Rattle.py_lines.specs.Private.Machine.{fresh, moved, Bracket, long_move, move_of, short_move}
 use Rattle.py_lines.specs.Private.ScanMachine.{begins_string, is_field_spelling, is_raw_spelling, meet_of, quote_move, scan_step}
 use Rattle.py_lines.specs.Private.Run.{HasLongText, Spans, is_body_byte, is_long_byte, stays}
-use Rattle.py_lines.specs.Private.Outline.{BeginsLineEnd, BeginsLong, EndsBefore, HasEscape, HasLineEnd, BeforePiece, HasClosedString, HasString, HoldsLineEnds, IsEscaped, IsInLong, IsInPieceAfter, IsInShort, Passes, PassesPart, PassesPiece, PassesOrNot, PassesString, StandsAt, StandsBefore, StandsClosed, StringBegins, StringEnds, is_plain_prefix, line_end_of, short_mode, tail_of}
+use Rattle.py_lines.specs.Private.Outline.{BeginsLineEnd, BeginsLong, EndsBefore, HasEscape, HasLineEnd, BeforePiece, HasClosedString, HasString, HoldsLineEnds, IsEscaped, IsInLong, IsInPieceAfter, IsInShort, Passes, PassesPart, PassesAt, PassesOrNot, PassesString, PassesStringAt, StandsAt, StandsBefore, StandsClosed, StringBegins, StringEnds, is_plain_prefix, line_end_of, short_mode, tail_of}
 use Rattle.py_lines.proofs.Pieces.PieceLists.{piece}
 use Rattle.py_lines.proofs.Machine.Starts.{start-quote}
 use Rattle.py_lines.proofs.Machine.PieceSteps.{scanned}
@@ -421,10 +420,14 @@ ends_closed : (b : Bool) (rest : List ℕ) (before : BeforePiece) (read : List �
 ends_closed true rest before read n st ends = record { done = _; come = ends.come }
 ends_closed false rest before read n st ends = ends
 
--- a string at a byte of a line, where it begins so
-pub string_at : {begins : BeforePiece → List ℕ → ℕ → List Bracket → Type 0} (bytes : List ℕ) (at : ℕ) (p : Passed) → at < length bytes → PassesString begins (drop at bytes) p
-    → ((m : Mode) (read : List ℕ) (n : ℕ) (st : List Bracket) → StandsAt bytes at m read n st → (done : List Piece) × begins (record { mode = m; done = done }) read n st) → PassesPiece class.Quote bytes at (Some p)
-string_at bytes at p within is begins = (
+-- a piece at a byte of a line, which the bytes from there on begin with
+pub piece_at : {Before : Type 0} {begins comes : Before → List ℕ → ℕ → List Bracket → Type 0} (bytes : List ℕ) (at : ℕ) (p : Passed) (closes : Bool)
+    → at < length bytes → Passes (drop at bytes) p begins comes
+    → ((m : Mode) (read : List ℕ) (n : ℕ) (st : List Bracket) → StandsAt bytes at m read n st
+        → (b : Before) × begins b read n st
+        × ((later : List ℕ) (k : ℕ) → comes b later k st → StandsClosed closes (drop p.len (drop at bytes)) m later k st))
+    → PassesAt bytes at p closes
+piece_at bytes at p closes within is begins = (
   omega (arith, is.part.within, within, length-drop at bytes),
   record {
     some = is.some;
@@ -434,14 +437,23 @@ string_at bytes at p within is begins = (
       run = is.part.run;
       spell = is.part.spell;
       leads = λ m read n st on.
-          let (done, begun) = begins m read n st on in
-          ends_closed (nat_lt 2 p.len) (drop p.len (drop at bytes)) _ (read ++ is.part.run) (n + p.line_ends) st (is.part.leads (record { mode = m; done = done }) read n st begun);
+          let (b, begun, closed) = begins m read n st on in
+          closed (read ++ is.part.run) (n + p.line_ends) (is.part.leads b read n st begun);
     };
   },
 )
 
+-- a string
+pub string_at : {begins : BeforePiece → List ℕ → ℕ → List Bracket → Type 0} (bytes : List ℕ) (at : ℕ) (p : Passed) → at < length bytes → PassesString begins (drop at bytes) p
+    → ((m : Mode) (read : List ℕ) (n : ℕ) (st : List Bracket) → StandsAt bytes at m read n st → (done : List Piece) × begins (record { mode = m; done = done }) read n st) → PassesAt bytes at p (nat_lt 2 p.len)
+string_at bytes at p within is begins =
+    piece_at bytes at p (nat_lt 2 p.len) within is (λ m read n st on.
+    let (done, begun) = begins m read n st on in
+    let before : BeforePiece = record { mode = m; done = done } in
+    (before, begun, λ later k. ends_closed (nat_lt 2 p.len) (drop p.len (drop at bytes)) before later k st))
+
 -- one without fields
-pub plain_at : (bytes : List ℕ) (at : ℕ) (found : Option Passed) → at < length bytes → is_quote (slice_index bytes at) ≡ true → is_plain_prefix (tail_of (take at bytes)) ≡ true → HasString (rest_of bytes at) found → PassesPiece class.Quote bytes at found
+pub plain_at : (bytes : List ℕ) (at : ℕ) (found : Option Passed) → at < length bytes → is_quote (slice_index bytes at) ≡ true → is_plain_prefix (tail_of (take at bytes)) ≡ true → HasString (rest_of bytes at) found → PassesStringAt bytes at found
 plain_at bytes at None within quote plain has = tt
 plain_at bytes at (Some p) within quote plain has =
     string_at bytes at p within (subst (λ (t : List ℕ). HasString t (Some p)) (rest_is bytes at) has) (λ m read n st on.

@@ -9,12 +9,11 @@ use Rattle.py_lines.specs.Private.ScanMachine.{IsScanSound, begins_string, is_fi
 use Rattle.py_lines.specs.Private.Scan.{AreLine, EndsNoLine, EndsWhole, line_start, none_open}
 use Rattle.py_lines.specs.Private.Run.{is_ascii_word}
 use Rattle.py_lines.specs.Private.FieldText.{is_apart_mode}
-use Rattle.py_lines.specs.declared.class.Class.{Class}
-use Rattle.py_lines.specs.declared.class.Class.TheVariants as class
 use Rattle.py_lines.specs.declared.mode.Mode.{Mode}
 use Rattle.py_lines.specs.declared.mode.Mode.TheVariants as modes
 use Rattle.py_lines.specs.declared.mode.Move.TheVariants as moves
 use Rattle.py_lines.specs.declared.mode.Spelling.{Spelling}
+use Rattle.py_lines.specs.declared.outline.PassedPiece.{PassedPiece}
 use Rattle.py_lines.specs.declared.plain_strings.Passed.{Passed}
 use Rattle.py_lines.specs.declared.prefix.Prefix.{Prefix}
 use Rattle.py_lines.specs.declared.prefix.Prefix.TheVariants as prefixes
@@ -212,21 +211,23 @@ abbrev pub StandsAt : List ℕ → ℕ → Mode → List ℕ → ℕ → List Br
 StandsAt bytes at m read n st =
     (tail_of read ≡ tail_of (take at bytes)) × (length st ≤ 100) × StandsBefore (drop at bytes) m read n st
 
--- whether a piece that begins with a byte of this class has closed itself, with so many bytes: a string that isn't empty
-abbrev pub closes_itself : Class → ℕ → Bool
-closes_itself class.Quote len = nat_lt 2 len
-closes_itself _ len = false
+-- it was passed, and may be known to have closed itself
+abbrev pub PassesAt : List ℕ → ℕ → Passed → Bool → Type 0
+PassesAt bytes at p closes =
+    (at + p.len ≤ length bytes) × Passes (drop at bytes) p (StandsAt bytes at) (StandsClosed closes (drop p.len (drop at bytes)))
 
-abbrev pub PassesPiece : Class → List ℕ → ℕ → Option Passed → Type 0
-PassesPiece class bytes at None = Unit {0}
-PassesPiece class bytes at (Some p) =
-    (at + p.len ≤ length bytes)
-    × Passes (drop at bytes) p (StandsAt bytes at) (StandsClosed (closes_itself class p.len) (drop p.len (drop at bytes)))
+abbrev pub PassesPiece : List ℕ → ℕ → Option PassedPiece → Type 0
+PassesPiece bytes at None = Unit {0}
+PassesPiece bytes at (Some p) = PassesAt bytes at p.passed p.closes
 
--- the comment or the join that the bytes begin with was passed, or nothing
-abbrev pub PassesFirst : List ℕ → Option Passed → Type 0
-PassesFirst bytes None = Unit {0}
-PassesFirst bytes (Some p) = Passes bytes p (StandsBefore bytes) (StandsBefore (drop p.len bytes))
+-- so a string, which closes itself unless it is empty
+abbrev pub PassesStringAt : List ℕ → ℕ → Option Passed → Type 0
+PassesStringAt bytes at None = Unit {0}
+PassesStringAt bytes at (Some p) = PassesAt bytes at p (nat_lt 2 p.len)
+
+-- so the comment or the join that the bytes begin with
+abbrev pub PassesFirst : List ℕ → Passed → Bool → Type 0
+PassesFirst bytes p closes = Passes bytes p (StandsBefore bytes) (StandsClosed closes (drop p.len bytes))
 
 -- so a string, from where it begins so
 abbrev pub PassesString : (BeforePiece → List ℕ → ℕ → List Bracket → Type 0) → List ℕ → Passed → Type 0

@@ -1,8 +1,7 @@
-use Rattle.std.proofs.Common.{◌≡◌, ℕ, ◌+◌, true, Some, List, slice_index, refl, rules, subst, sym}
+use Rattle.std.proofs.Common.{◌≡◌, ℕ, ◌+◌, true, false, List, slice_index, rules}
 use Rattle.py_lines.specs.declared.class.Class.{Class}
 use Rattle.py_lines.specs.declared.class.Class.TheVariants as class
 use Rattle.py_lines.specs.Private.Marks.{is_of_class}
-use Rattle.py_lines.specs.Private.Outline.{PassesPiece}
 use Rattle.py_lines.proofs.FieldScans.TextLengths.{rest_is, rest_of}
 use Rattle.py_lines.proofs.SimpleLines.Comments.{comment_passed}
 use Rattle.py_lines.proofs.SimpleLines.Joins.{join_passed}
@@ -17,14 +16,11 @@ first_met class own bytes at is passes = rw (← is, rest_is bytes at, first_lat
 pub returns-in_ok-text-in-Hash : goal.returns-in_ok-text-in-Hash
 returns-in_ok-text-in-Hash c =
     let met = first_met c.args.class class.Hash c.args.bytes.now c.args.at c.in-Hash.is c.requires.class in
-    first_piece c.args.class class.Hash c.args.bytes.now c.args.at (Some (record { len = 1 + c.in_ok-text-in-Hash.text; line_ends = 0 })) c.in-Hash.is c.requires.within (λ _. refl)
+    first_piece c.args.bytes.now c.args.at (record { len = 1 + c.in_ok-text-in-Hash.text; line_ends = 0 }) false c.requires.within
     (comment_passed (rest_of c.args.bytes.now c.args.at) c.in_ok-text-in-Hash.text (search rules) met c.in_ok-text-in-Hash.ensures)
 
 pub returns-in_ok-line_end-in-Backslash : goal.returns-in_ok-line_end-in-Backslash
 returns-in_ok-line_end-in-Backslash c =
     let met = first_met c.args.class class.Backslash c.args.bytes.now c.args.at c.in-Backslash.is c.requires.class in
-    first_piece c.args.class class.Backslash c.args.bytes.now c.args.at (Some (record { len = 1 + c.in_ok-line_end-in-Backslash.line_end; line_ends = 1 })) c.in-Backslash.is c.requires.within (λ _. refl)
+    first_piece c.args.bytes.now c.args.at (record { len = 1 + c.in_ok-line_end-in-Backslash.line_end; line_ends = 1 }) _ c.requires.within
     (join_passed (rest_of c.args.bytes.now c.args.at) c.in_ok-line_end-in-Backslash.line_end (search rules) met c.in_ok-line_end-in-Backslash.ensures)
-
-pub returns-in-Quote : goal.returns-in-Quote
-returns-in-Quote c = subst (λ (k : Class). PassesPiece k c.args.bytes.now c.args.at c.string.result) (sym c.in-Quote.is) c.string.ensures

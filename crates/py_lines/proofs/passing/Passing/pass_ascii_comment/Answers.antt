@@ -1,7 +1,6 @@
-use Rattle.std.proofs.Common.{◌≡◌, ◌+◌, ◌-◌, ◌<◌, ◌∙◌, ap, arith, false, refl, length, not, slice_index, sym, true}
+use Rattle.std.proofs.Common.{◌≡◌, ◌+◌, ◌-◌, ◌<◌, ◌∙◌, ap, arith, false, length, not, slice_index, sym, true}
 use Rattle.std.proofs.lemmas.Bool.{and_from}
 use Rattle.py_lines.specs.Character.{is_break}
-use Rattle.py_lines.specs.declared.class.Class.TheVariants as class
 use Rattle.py_lines.specs.Private.Run.{is_remark_byte}
 use Rattle.py_lines.proofs.LineScan.AsciiRuns.{is_low_from}
 use Rattle.py_lines.proofs.SimpleLines.MarkedPieces.{comment_begun, comment_further, marked_comment}
@@ -40,5 +39,5 @@ returns-clause-passed c = λ _ place brackets shallow.
     ] in
     let passes = marked_comment bytes at end read.further within c.requires.hash read.each breaks in
     let there = c.keep.ensures bytes (within, read.next.special within) (read.next.rest within) in
-    piece_passed bytes at c.args.self.now c.requires.within c.requires.marked class.Hash place brackets (record { len = end - at; line_ends = 0 }) false end c.keep.new.self c.pass_to.new.self shallow passes
-    refl (omega (arith, read.further)) there c.pass_to.ensures
+    piece_passed bytes at c.args.self.now c.requires.within c.requires.marked place brackets (record { len = end - at; line_ends = 0 }) false end c.keep.new.self c.pass_to.new.self shallow passes
+    (omega (arith, read.further)) there c.pass_to.ensures

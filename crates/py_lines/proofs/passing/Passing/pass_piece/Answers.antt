@@ -32,6 +32,6 @@ returns c = λ place.
     let marked = subst (λ (p : Passing). HasMarks bytes (at + 1) p.marks) (sym same) c.requires.marked in
     let shallow : depth_of c.args.brackets.now ≤ 100 = omega (arith, c.if-len-gt-MAX_DEPTH_AROUND_STRING.false, c.len.ensures) in
     subst (λ (p : Passing). PassesSpecial bytes at place p c.args.brackets.now special.Passed c.pass_to.new.self c.args.brackets.now) same
-    (piece_passed bytes at c.pass_marked.new.self c.requires.within marked c.args.class place c.args.brackets.now c.in-Some.piece
-    c.closes_itself-closes.result (at + c.in-Some.piece.len) c.pass.new.self c.pass_to.new.self shallow c.in-Some.ensures c.closes_itself-closes.ensures refl
+    (piece_passed bytes at c.pass_marked.new.self c.requires.within marked place c.args.brackets.now c.in-Some.piece.passed c.in-Some.piece.closes
+    (at + c.in-Some.piece.passed.len) c.pass.new.self c.pass_to.new.self shallow c.in-Some.ensures refl
     (c.pass.ensures (at + 1) marked (omega (arith, c.in-Some.ensures.1.some))) c.pass_to.ensures)

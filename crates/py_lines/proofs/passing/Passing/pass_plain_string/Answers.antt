@@ -1,6 +1,4 @@
-use Rattle.std.proofs.Common.{◌+◌, ◌-◌, ◌<◌, true, arith, length, subst, sym, take}
-use Rattle.std.proofs.lemmas.Bool.{lt-ltb}
-use Rattle.py_lines.specs.declared.class.Class.TheVariants as class
+use Rattle.std.proofs.Common.{◌+◌, ◌-◌, ◌<◌, true, arith, length, subst, take}
 use Rattle.py_lines.specs.declared.prefix.Prefix.{Prefix}
 use Rattle.py_lines.specs.Private.Outline.{IsPrefix, tail_of}
 use Rattle.py_lines.proofs.SimpleLines.MarkedPieces.{marked_string}
@@ -19,5 +17,5 @@ returns-clause-passed c = λ _ place brackets shallow.
     let some : at + 1 < end = omega (arith, after, c.if-end-at.false) in
     let prefix = subst (λ (p : Prefix). IsPrefix p (tail_of (take at bytes))) c.in-Plain.is c.before-2.ensures in
     let passes = marked_string bytes at end further within c.requires.quote (λ i more less. next.plain i (omega (arith, more)) less) c.if-bytes-end.false some prefix in
-    piece_passed bytes at c.args.self.now c.requires.within c.requires.marked class.Quote place brackets (record { len = end + 1 - at; line_ends = 0 }) true (end + 1) c.next-end.new.self c.pass_to.new.self shallow passes
-    (sym (lt-ltb 2 (end + 1 - at) (omega (arith, some)))) (omega (arith, further)) (next.rest within) c.pass_to.ensures
+    piece_passed bytes at c.args.self.now c.requires.within c.requires.marked place brackets (record { len = end + 1 - at; line_ends = 0 }) true (end + 1) c.next-end.new.self c.pass_to.new.self shallow passes
+    (omega (arith, further)) (next.rest within) c.pass_to.ensures
