@@ -20,7 +20,7 @@ use Rattle.py_lines.specs.declared.scan.Stop.TheVariants as stops
 use Rattle.py_lines.specs.Private.Machine.{Bracket}
 use Rattle.py_lines.specs.Private.Marks.{FindsNext, is_of_class}
 use Rattle.py_lines.specs.Private.Outline.{BeginsOuterEnd, IsFreeAfter, StandsBefore, StandsClosed}
-use Rattle.py_lines.specs.Private.Passing.{EndsLineSo, PassesOver, PassesSo, nothing_passed, passed_to, up_to}
+use Rattle.py_lines.specs.Private.Passing.{EndsLineSo, PassesOver, PassesSo, nothing_passed, up_to}
 use Rattle.py_lines.specs.Private.Run.{Reached, WhereverReached}
 use Rattle.py_lines.specs.Private.Scan.{IsLineBefore, ScansIn, line_start, none_open, stack_of, with_brackets}
 use Rattle.py_lines.specs.Private.ScanMachine.{IsScanSound}

@@ -424,8 +424,8 @@ ends_closed false rest before read n st ends = ends
 pub piece_at : {Before : Type 0} {begins comes : Before → List ℕ → ℕ → List Bracket → Type 0} (bytes : List ℕ) (at : ℕ) (p : Passed) (closes : Bool)
     → at < length bytes → Passes (drop at bytes) p begins comes
     → ((m : Mode) (read : List ℕ) (n : ℕ) (st : List Bracket) → StandsAt bytes at m read n st
-        → (b : Before) × begins b read n st
-        × ((later : List ℕ) (k : ℕ) → comes b later k st → StandsClosed closes (drop p.len (drop at bytes)) m later k st))
+    → (b : Before) × begins b read n st
+    × ((later : List ℕ) (k : ℕ) → comes b later k st → StandsClosed closes (drop p.len (drop at bytes)) m later k st))
     → PassesAt bytes at p closes
 piece_at bytes at p closes within is begins = (
   omega (arith, is.part.within, within, length-drop at bytes),
