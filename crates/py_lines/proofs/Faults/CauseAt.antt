@@ -11,7 +11,7 @@ use Rattle.py_lines.specs.LogicalLine.{byte_len}
 use Rattle.py_lines.specs.FieldStrings.{Host, literal, specification}
 use Rattle.py_lines.specs.declared.mode.Mode.TheVariants as modes
 use Rattle.py_lines.specs.Private.Machine.{start_of}
-use Rattle.py_lines.specs.Private.FieldMachine.{text_place, before, between, after_brace, FieldMode, plain, body, FieldMove, grows, closes, breaks, begins_code, opens_field, ends_field, refused, Level, FieldScanned, field_state, field_text_start, field_pieces, field_move, field_moved, field_started, field_step, opened_level, field_steps_from, levels_open, frames, has_room_at, have_room, body_move, in_open_short, after_open_backslash, InSpecificationOf}
+use Rattle.py_lines.specs.Private.FieldMachine.{text_place, before, between, after_brace, FieldMode, plain, body, FieldMove, grows, closes, breaks, begins_code, opens_field, ends_field, refused, Level, FieldScanned, field_state, field_text_start, field_pieces, field_move, field_moved, field_started, field_step, opened_level, field_steps_from, levels_open, frames, has_room_at, have_room, body_move, is_after_brace, in_open_short, after_open_backslash, InSpecificationOf}
 use Rattle.py_lines.specs.Private.FieldFaults.{is_waiting, quotes_specification, cause_in, cause_place, here, piece_start}
 use Rattle.py_lines.proofs.Text.CharacterTests.{each_of, opening-not-quote, break-not-others}
 use Rattle.py_lines.proofs.Machine.Starts.{start-feed, start-return}
@@ -26,7 +26,7 @@ use Rattle.py_lines.proofs.FieldSoundness.OpenEnds.{specification_is_open}
 use Rattle.py_lines.proofs.Faults.EndFaults.{EndsSo, due_at, brace_is_due, no_brace_at, few_frames}
 use Rattle.py_lines.proofs.Faults.EndPlaces.{brace_more, short_unfinished, join_unfinished}
 use Rattle.py_lines.proofs.Faults.Ends.{deep_state, sound_to, open_now, named, opened_in_specification, specification_named}
-use Rattle.py_lines.proofs.Faults.CharacterFaults.{IsStuck, grows_free, bracket_at, started, short_specification, specification_mode, stuck_dies}
+use Rattle.py_lines.proofs.Faults.CharacterFaults.{IsStuck, goes_free, bracket_at, started, short_specification, specification_mode, stuck_dies}
 use Rattle.py_lines.proofs.Faults.Refusals.{IsShortHere, Refuses, Reason, reason}
 
 -- a line end begins a piece
@@ -103,11 +103,12 @@ module _ (s : FieldScanned) (read : List ℕ) (c : ℕ) (after : List ℕ) (step
 
   -- a character that goes on is not stuck
   no_grows : (n : FieldMode) → field_move s.mode s.held c ≡ grows n → ⊥
-  no_grows n is = grows_free s c n is stuck
+  unfolding has_room_at
+  no_grows n is = goes_free s _ c (grows n) is refl refl stuck
 
   no_closes : field_move s.mode s.held c ≡ closes → ⊥
   unfolding has_room_at
-  no_closes is = ⊎_elim (λ none. none_some (sym none ∙ ap (field_moved s c) is)) (λ full. both_ways _ full (ap (has_room_at (frames s) c) is)) stuck
+  no_closes is = goes_free s _ c closes is refl refl stuck
 
   reason_is : (v : FieldMove) → field_move s.mode s.held c ≡ v → Reason s.mode c v
   reason_is v is = subst (Reason s.mode c) is (reason two_hundred s.outer (frames s) s.mode s.held c sound.mode)
@@ -203,7 +204,7 @@ module _ (s : FieldScanned) (read : List ℕ) (c : ℕ) (after : List ℕ) (step
   opens_due : (m : FieldMode) (h : Host) → text_place m ≡ specification → field_move m s.held c ≡ opens_field h → IsFieldSound two_hundred (field_state s.outer s.done s.openers m s.held) read → frames s ≡ 200 → IsFieldDue specification 200 read []
   unfolding field_move
   opens_due (body host specification named at) h place is own full =
-      let moved = subst (Moved two_hundred s.outer (frames s) host specification s.held c) is (body_moves two_hundred s.outer (frames s) host specification named at s.held c own.mode) in
+      let moved = subst (Moved two_hundred s.outer (frames s) host specification (is_after_brace at) s.held c) is (body_moves two_hundred s.outer (frames s) host specification named at s.held c own.mode) in
       let due = due_at two_hundred s.outer s.done s.openers (body host specification named at) s.held read own host specification s.held [] (123 ∷ []) refl refl (λ same. refl) moved.3 in
       subst (λ n. IsFieldDue specification n read []) full (subst (λ t. IsFieldDue specification (frames s) t []) own.spell due)
   opens_due m h place is own full = not_specification place

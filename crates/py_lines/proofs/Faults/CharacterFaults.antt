@@ -9,19 +9,19 @@ use Rattle.py_lines.specs.Faults.{IsLive, DiesAt, IsAtDepth, InShortSpecificatio
 use Rattle.py_lines.specs.OpenFields.{BeginsList, InSpecification}
 use Rattle.py_lines.specs.FieldStrings.{Host, literal, specification}
 use Rattle.py_lines.specs.Private.Machine.{start_of}
-use Rattle.py_lines.specs.Private.FieldMachine.{before, FieldMode, body, grows, Level, FieldScanned, field_state, field_fresh, field_text_start, field_move, field_moved, field_started, field_step, field_steps_from, levels_open, frames, has_room, has_room_at, have_room, InSpecificationOf}
+use Rattle.py_lines.specs.Private.FieldMachine.{before, FieldMode, body, FieldMove, Level, FieldScanned, field_state, field_fresh, field_text_start, field_move, field_moved, field_started, field_step, field_steps_from, levels_open, frames, has_room, has_room_at, have_room, InSpecificationOf}
 use Rattle.py_lines.proofs.Pieces.PieceLists.{piece, spelled-push, AreReadIn-first}
 use Rattle.py_lines.proofs.FieldSoundness.Holds.{IsFieldSound}
 use Rattle.py_lines.proofs.FieldSoundness.HostSteps.{sound_at}
 use Rattle.py_lines.proofs.FieldSoundness.WholeTexts.{no_limit, any_rooms, two_hundred}
 use Rattle.py_lines.proofs.FieldSoundness.OpenTexts.{are_begun, list_begins}
 use Rattle.py_lines.proofs.FieldSoundness.OpenEnds.{specification_is_open}
-use Rattle.py_lines.proofs.FieldSoundness.LiveTexts.{live_goes, goes_live, steps-append}
+use Rattle.py_lines.proofs.FieldSoundness.LiveTexts.{live_goes, goes_live, steps-append, room_parts}
 use Rattle.py_lines.proofs.Text.CharacterTests.{none_of}
 use Rattle.py_lines.proofs.Machine.Starts.{start-operator}
 use Rattle.py_lines.proofs.Pieces.OpenBrackets.{depth_through-append, depth-opener}
 use Rattle.py_lines.proofs.FieldSoundness.OpenLists.{Opens, opens-depth}
-use Rattle.py_lines.proofs.FieldMachine.ListBrackets.{opening_pushes}
+use Rattle.py_lines.proofs.FieldMachine.ListBrackets.{opening_pushes, none_some}
 use Rattle.py_lines.proofs.FieldMachine.PieceRuns.{IsNoColon, opening_operator, operator_stays}
 use Rattle.py_lines.proofs.Faults.EndFaults.{no_brace_at}
 use Rattle.py_lines.proofs.FieldMachine.WhatIsOpen.{comes_to, specification_comes}
@@ -75,12 +75,9 @@ pushed_depth ps os c opens at =
 abbrev pub IsStuck : FieldScanned → ℕ → Type 0
 IsStuck s c = (field_step s c ≡ None) ⊎ (has_room s c ≡ false)
 
-pub grows_free : (s : FieldScanned) (c : ℕ) (m : FieldMode) → field_move s.mode s.held c ≡ grows m → IsStuck s c → ⊥
-unfolding has_room_at
-grows_free s c m is (inl none) =
-    let wrong : None ≡ Some (field_state s.outer s.done s.openers m (s.held ++ c ∷ [])) = sym none ∙ ap (field_moved s c) is in
-    absurd (cc)
-grows_free s c m is (inr none) = both_ways _ none (ap (has_room_at (frames s) c) is)
+pub goes_free : (s next : FieldScanned) (c : ℕ) (v : FieldMove) → field_move s.mode s.held c ≡ v → field_moved s c v ≡ Some next → has_room_at (frames s) c v ≡ true → IsStuck s c → ⊥
+goes_free s next c v is moved room (inl none) = none_some (sym none ∙ ap (field_moved s c) is ∙ moved)
+goes_free s next c v is moved room (inr full) = both_ways _ full (ap (has_room_at (frames s) c) is ∙ room)
 
 module _ (s : FieldScanned) (read : List ℕ) (c : ℕ) (sound : IsFieldSound two_hundred s read) (steps : field_steps_from (Some field_text_start) read ≡ Some s) where
   -- the place before a bracket that opens
@@ -106,14 +103,6 @@ module _ (s : FieldScanned) (read : List ℕ) (c : ℕ) (sound : IsFieldSound tw
   pub specification_mode : (host : Host) (start : List ℕ) → InSpecification host read start → InSpecificationOf host s.mode
   specification_mode host start is = (comes_to read _ s (specification_comes host read start is) steps).0.mode_is
 
--- the room of later characters
-room_after : (o : Option FieldScanned) (a b : List ℕ) (s : FieldScanned) → field_steps_from o a ≡ Some s → have_room o (a ++ b) ≡ true → have_room (Some s) b ≡ true
-room_after None a b s steps room = absurd (cc)
-room_after (Some t) [] b s steps room =
-    let same : t ≡ s = cc in
-    subst (λ (x : FieldScanned). have_room (Some x) b ≡ true) same room
-room_after (Some t) (c ∷ a) b s steps room = room_after (field_step t c) a b s steps (and_parts (has_room t c) (have_room (field_step t c) (a ++ b)) room).1
-
 -- where the machine stops, the text has a fault: at the first character that it refuses, or that has no room
 pub stuck_dies : (read : List ℕ) (c : ℕ) (after : List ℕ) (s : FieldScanned) → field_steps_from (Some field_text_start) read ≡ Some s → have_room (Some field_text_start) read ≡ true → IsStuck s c → DiesAt (read ++ c ∷ after) read c
 stuck_dies read c after s steps room stuck = record { after = after; spell = refl; live = goes_live read s steps room; dead = dead stuck }
@@ -126,4 +115,5 @@ stuck_dies read c after s steps room stuck = record { after = after; spell = ref
         absurd (cc)
     dead (inr none) live =
         let at = live_goes (read ++ c ∷ []) live in
-        both_ways _ none (and_parts (has_room s c) (have_room (field_step s c) []) (room_after (Some field_text_start) read (c ∷ []) s steps at.2)).0
+        let later = subst (λ o. have_room o (c ∷ []) ≡ true) steps (room_parts (Some field_text_start) read (c ∷ []) at.2).1 in
+        both_ways _ none (and_parts (has_room s c) (have_room (field_step s c) []) later).0

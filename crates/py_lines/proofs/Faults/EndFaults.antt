@@ -3,7 +3,7 @@ use Rattle.std.proofs.Common.{◌≡◌, ℕ, ◌+◌, ◌-◌, ◌<◌, ◌≤�
 use Rattle.std.specs.Prelude.{if◌then◌else◌}
 use Rattle.std.proofs.lemmas.Bool.{both_ways, cond_both, ltb-true, ltb-false}
 use Rattle.py_lines.specs.Piece.{operator, Piece, spelled}
-use Rattle.py_lines.specs.Balance.{is_opener, depth_after, depth_through}
+use Rattle.py_lines.specs.Balance.{is_opener, is_closer, depth_after, depth_through}
 use Rattle.py_lines.specs.Fields.{IsShallow}
 use Rattle.py_lines.specs.Faults.{IsFieldDue, OpensBraceTooDeep, InOpenBracket, Unfinished, open_brace, open_short, open_long, open_inside, IsOpenAtEnd}
 use Rattle.py_lines.specs.OpenFields.{AreBegun, BeginsList, StandsOpen, IsPlainShortPrefix, IsPlainLongPrefix, IsOpenLiteral}
@@ -21,21 +21,16 @@ use Rattle.py_lines.proofs.FieldSoundness.Lists.{not_specification}
 use Rattle.py_lines.proofs.FieldSoundness.ListEnds.{EndsList, code_at_end, list_ends}
 use Rattle.py_lines.proofs.FieldSoundness.WholeTexts.{two_hundred}
 use Rattle.py_lines.proofs.FieldSoundness.OpenTexts.{begun_before, parts_at, stands_open, list_begins}
-use Rattle.py_lines.proofs.FieldSoundness.OpenEnds.{stands_map, literal_is_open, opened_is_open, specification_is_open, short_is_open, long_is_open, slash_is_open, code_is_open, brace_is_open}
+use Rattle.py_lines.proofs.FieldSoundness.OpenEnds.{literal_is_open, opened_is_open, specification_is_open, short_is_open, long_is_open, slash_is_open, code_is_open, brace_is_open}
 
 -- within the limit at most 200 brackets and fields are open
 shallow_through : (depth : ℕ) (ps : List Piece) → depth ≤ 200 → IsShallow depth ps → depth_through depth ps ≤ 200
 shallow_through depth [] room passes = room
-shallow_through depth (p ∷ ps) room passes = shallow_through (depth_after depth p) ps (after (is_opener p) refl) passes.2
-  where
-    after : (b : Bool) → is_opener p ≡ b → depth_after depth p ≤ 200
-    after true opens =
-        let less : depth < 200 = passes.0 opens in
-        let is : depth_after depth p ≡ depth + 1 = rw opens in
-        omega (arith, less, is)
-    after false opens =
-        let fewer : depth_after depth p ≤ depth = rw opens (cond_both _ (depth - 1) depth (λ (n : ℕ). n ≤ depth) (λ h. omega arith) (λ h. omega arith)) in
-        omega (arith, fewer)
+shallow_through depth (p ∷ ps) room passes =
+    let opened : is_opener p ≡ true → depth + 1 ≤ 200 = λ opens. let less : depth < 200 = passes.0 opens in omega (arith, less) in
+    let few : depth_after depth p ≤ 200 =
+    cond_both (is_opener p) (depth + 1) _ (λ (n : ℕ). n ≤ 200) opened (λ h. cond_both (is_closer p) (depth - 1) depth (λ (n : ℕ). n ≤ 200) (λ k. omega arith) (λ k. omega arith)) in
+    shallow_through (depth_after depth p) ps few passes.2
 
 levels_few : (place : Place) (outer : List Level) (text : List ℕ) → HoldsLevels two_hundred place outer text → levels_open outer ≤ 200
 levels_few literal [] text h = omega arith
@@ -176,14 +171,14 @@ plain_open outer done openers m held read sound none =
     (λ slash. code_open outer done openers (plain m) held read sound (final_by m ∙ rw (short, long, slash) refl) none)))
 
 literal_open : (outer : List Level) (done : List Piece) (openers : List ℕ) (host : Host) (named : Bool) (at : At) (held read : List ℕ) → IsFieldSound two_hundred (field_state outer done openers (body host literal named at) held) read → (at ≡ after_brace → ⊥) → (offset : ℕ) × IsOpenAtEnd (if host.is_long then open_long else open_short) read offset
-literal_open outer done openers host named at held read sound other = go host.is_long (literal_is_open two_hundred outer done openers host named at held read sound other)
+literal_open outer done openers host named at held read sound other = go host.is_long refl
   where
     start : List ℕ
     start = before literal outer ++ spelled done
 
-    go : (b : Bool) → StandsOpen (IsOpenLiteral b) read start → (offset : ℕ) × IsOpenAtEnd (if b then open_long else open_short) read offset
-    go true own = (byte_len start, (start, stands_map (IsOpenLiteral true) (λ front. IsPlainLongPrefix front ⊎ IsOpenLiteral true front) read start (λ front is. inr is) own, refl))
-    go false own = (byte_len start, (start, stands_map (IsOpenLiteral false) (λ front. IsPlainShortPrefix front ⊎ IsOpenLiteral false front) read start (λ front is. inr is) own, refl))
+    go : (b : Bool) → host.is_long ≡ b → (offset : ℕ) × IsOpenAtEnd (if b then open_long else open_short) read offset
+    go true long = (byte_len start, (start, literal_is_open two_hundred outer done openers host named at held read sound other IsPlainLongPrefix true long, refl))
+    go false short = (byte_len start, (start, literal_is_open two_hundred outer done openers host named at held read sound other IsPlainShortPrefix false short, refl))
 
 pub brace_open : (outer : List Level) (done : List Piece) (openers : List ℕ) (host : Host) (named : Bool) (held read : List ℕ) → IsFieldSound two_hundred (field_state outer done openers (body host literal named after_brace) held) read → ((place : ℕ) → OpensBraceTooDeep read [] place → IsDeepBrace outer openers (body host literal named after_brace)) → (offset : ℕ) × IsOpenAtEnd (unfinished_literal host after_brace (length openers + levels_open outer)) read offset
 brace_open outer done openers host named held read sound deep =
@@ -208,7 +203,7 @@ pub open_in : (outer : List Level) (done : List Piece) (openers : List ℕ) (m :
 open_in outer done openers (plain m) held read sound deep = plain_open outer done openers m held read sound (λ place due. both_ways _ refl (deep place due).0)
 open_in outer done openers (opened host) held read sound deep =
     let start = before literal outer ++ spelled done in
-    (byte_len start, (start, stands_map (IsOpenLiteral false) (λ front. IsPlainShortPrefix front ⊎ IsOpenLiteral false front) read start (λ front is. inr is) (opened_is_open two_hundred outer done openers host held read sound), refl))
+    (byte_len start, (start, opened_is_open two_hundred outer done openers host held read sound, refl))
 open_in outer done openers (empty host) held read sound deep = code_open outer done openers (empty host) held read sound refl (λ place due. both_ways _ refl (deep place due).0)
 open_in outer done openers (body host specification named at) held read sound deep = specification_at outer done openers host named at held read sound deep
 open_in outer done openers (body host literal named after_brace) held read sound deep = brace_open outer done openers host named held read sound deep

@@ -1,6 +1,6 @@
 -- A live text with fields that has no reading has a fault at its end, and one alone: the state of the machine with fields tells what is
 -- open, and where its fault stands.
-use Rattle.std.proofs.Common.{◌≡◌, ℕ, ◌+◌, ◌<◌, true, false, Option, None, Some, List, [], ◌∷◌, ◌++◌, ◌⊎◌, inl, inr, length, nat_lt, refl, sym, ap, ◌∙◌, subst, append_assoc, append-nil, arith}
+use Rattle.std.proofs.Common.{◌≡◌, ℕ, ◌+◌, ◌<◌, Bool, true, false, Option, None, Some, List, [], ◌∷◌, ◌++◌, ◌⊎◌, inl, inr, length, nat_lt, refl, sym, ap, ◌∙◌, subst, append_assoc, append-nil, arith}
 use Rattle.std.proofs.lemmas.Bool.{both_ways, cond_both}
 use Rattle.py_lines.specs.Piece.{Piece, spelled, string}
 use Rattle.py_lines.specs.LogicalLine.{byte_len}
@@ -8,7 +8,7 @@ use Rattle.py_lines.specs.FieldStrings.{Host, literal, specification}
 use Rattle.py_lines.specs.Reading.{IsBalancedReading}
 use Rattle.py_lines.specs.Faults.{OpensBraceTooDeep, Unfinished, open_brace, open_short, open_long, open_join, open_bracket, open_inside, kind_of_unfinished, IsOpenAtEnd, IsEndFault}
 use Rattle.py_lines.specs.declared.fault.FaultKind.{FaultKind}
-use Rattle.py_lines.specs.Private.FieldMachine.{text_place, before, after_brace, FieldMode, body, Level, FieldScanned, field_state, field_text_start, field_steps_from, field_pieces, have_room, IsFieldFinal, InSpecificationOf, levels_open, may_end, frames, plain, field_closed}
+use Rattle.py_lines.specs.Private.FieldMachine.{text_place, before, after_brace, FieldMode, body, Level, FieldScanned, field_state, field_text_start, field_steps_from, field_pieces, have_room, IsFieldFinal, in_open_short, in_open_long, after_open_backslash, InSpecificationOf, levels_open, may_end, frames, plain, field_closed}
 use Rattle.py_lines.proofs.FieldMachine.Completeness.{reading_reached}
 use Rattle.py_lines.proofs.FieldMachine.ListBrackets.{none_some}
 use Rattle.py_lines.proofs.FieldMachine.WhatIsOpen.{Comes, comes_to, short_open_comes, long_open_comes, backslash_comes, SpecificationAt, specification_comes}
@@ -52,10 +52,6 @@ read_or_open characters s steps room = go (unfinished_at s) (open_now characters
     go : (o : Option Unfinished) → EndsSo s characters o → IsBalancedReading (field_pieces s) characters ⊎ ((kind : FaultKind) × (offset : ℕ) × IsEndFault kind characters [] offset)
     go None final = inl (final_is_reading characters s steps room final)
     go (Some what) at = inr (kind_of_unfinished what, at.0, record { unfinished = what; is = refl; whole = refl; live = goes_live characters s steps room; ends_in = at.1 })
-
--- what is open starts where the open piece does
-starts_there : (s : FieldScanned) (what : Unfinished) (start : List ℕ) (offset : ℕ) → (unfinished_at s ≡ Some what) × (text_place s.mode ≡ literal) → before literal s.outer ++ spelled s.done ≡ start → offset ≡ byte_len start → (unfinished_at s ≡ Some what) × (offset ≡ piece_start s)
-starts_there s what start offset (is, at) same place = (is, place ∙ ap byte_len (sym same) ∙ ap (λ p. byte_len (before p s.outer ++ spelled s.done)) (sym at))
 
 -- the text up to the `{` of the field
 opened_at_end : (m : FieldMode) (outer : List Level) (characters : List ℕ) → may_end m ≡ true → opened_text m outer characters ≡ before literal outer
@@ -108,6 +104,13 @@ module _ (characters : List ℕ) (s : FieldScanned) (steps : field_steps_from (S
           ∙ ap (λ t. t ++ l.front) (sym string_is ∙ ap (λ (p : List Piece). (before l.place ls ++ spelled l.done) ++ spelled p) none ∙ append-nil (before l.place ls ++ spelled l.done))
           ∙ append_assoc (before l.place ls) (spelled l.done) l.front
 
+  -- what is open starts where the open piece does
+  starts_there : (what : Unfinished) (test : FieldMode → Bool) (start : List ℕ) (offset : ℕ) → (test s.mode ≡ true → (unfinished_at s ≡ Some what) × (text_place s.mode ≡ literal)) → Comes characters (λ t. (test t.mode ≡ true) × (before literal t.outer ++ spelled t.done ≡ start)) → offset ≡ byte_len start → (unfinished_at s ≡ Some what) × (offset ≡ piece_start s)
+  starts_there what test start offset tells comes place =
+      let own = comes_to characters _ s comes steps in
+      let found = tells own.0 in
+      (found.0, place ∙ ap byte_len (sym own.1) ∙ ap (λ p. byte_len (before p s.outer ++ spelled s.done)) (sym found.1))
+
   pub named : (what : Unfinished) (offset : ℕ) → IsOpenAtEnd what characters offset → IsNamed what offset
   named open_brace offset deep =
       (brace_named s.outer s.openers s.mode (deep_state characters s [] offset steps deep), ap (λ n. n + 1) deep.place ∙ brace_more deep.start characters deep.spell)
@@ -115,15 +118,9 @@ module _ (characters : List ℕ) (s : FieldScanned) (steps : field_steps_from (S
       brace_named : (outer : List Level) (openers : List ℕ) (m : FieldMode) → IsDeepBrace outer openers m → unfinished_in outer openers m ≡ Some open_brace
       brace_named outer openers (body host literal named after_brace) (waits, full) = ap (λ n. Some (unfinished_literal host after_brace n)) full
       brace_named outer openers m (waits, full) = absurd (both_ways _ refl waits)
-  named open_short offset (start, is, place) =
-      let own = comes_to characters _ s (short_open_comes characters start is) steps in
-      starts_there s open_short start offset (short_unfinished s.outer s.openers s.mode own.0) own.1 place
-  named open_long offset (start, is, place) =
-      let own = comes_to characters _ s (long_open_comes characters start is) steps in
-      starts_there s open_long start offset (long_unfinished s.outer s.openers s.mode own.0) own.1 place
-  named open_join offset (start, is, place) =
-      let own = comes_to characters _ s (backslash_comes characters start is) steps in
-      starts_there s open_join start offset (join_unfinished s.outer s.openers s.mode own.0) own.1 place
+  named open_short offset (start, is, place) = starts_there open_short in_open_short start offset (short_unfinished s.outer s.openers s.mode) (short_open_comes characters start is) place
+  named open_long offset (start, is, place) = starts_there open_long in_open_long start offset (long_unfinished s.outer s.openers s.mode) (long_open_comes characters start is) place
+  named open_join offset (start, is, place) = starts_there open_join after_open_backslash start offset (join_unfinished s.outer s.openers s.mode) (backslash_comes characters start is) place
   named open_bracket offset (start, is, place) =
       subst (λ (n : ℕ). (unfinished_at s ≡ Some open_bracket) × IsPlaced open_bracket s characters n) (sym place) (bracket_back characters start s is steps)
   named open_inside offset (start, inl is, place, other) = code_named start offset (comes_to characters (CodeAt start) s (code_comes characters start is) steps) place other

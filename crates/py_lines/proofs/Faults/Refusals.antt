@@ -1,6 +1,6 @@
 -- What a character must be, and where the machine with fields stands, if the character is refused, ends a field or opens one.
 use Rattle.std.proofs.Common.{◌≡◌, ℕ, Bool, true, false, not, ◌&&◌, ◌||◌, ◌==◌, List, [], ◌⊎◌, inl, inr, refl, sym, ap, ◌∙◌, subst}
-use Rattle.std.proofs.lemmas.Bool.{both_ways, cond_both, and_parts, and_from, or_parts, or_from, eqb-true, not-true, not_from_false}
+use Rattle.std.proofs.lemmas.Bool.{both_ways, cond_both, and_from, or_parts, or_from, not_from_false, eq-eqb}
 use Rattle.py_lines.specs.Character.{is_mark, is_space, is_word_character, is_quote, is_line_feed, is_return, is_break, is_backslash, is_brace}
 use Rattle.py_lines.specs.FieldStrings.{Host, Place, literal, specification, names}
 use Rattle.py_lines.specs.declared.mode.Mode.{Mode}
@@ -11,6 +11,10 @@ use Rattle.py_lines.specs.Private.Machine.{Holds, move_of, short_move, long_move
 use Rattle.py_lines.specs.Private.FieldMachine.{text_place, At, between, after_one, after_two, after_slash, after_return, after_name, after_brace, FieldMode, plain, opened, empty, body, FieldMove, breaks, begins_code, opens_field, ends_field, refused, Level, is_after_two, is_after_brace, closing_move, opening_move, ending_move, is_barred_escape, between_move, escape_move, body_move, field_move, plain_move, begins_host, in_open_short, after_open_backslash, InSpecificationOf}
 use Rattle.py_lines.specs.Private.FieldFaults.{is_waiting, quotes_specification}
 use Rattle.py_lines.proofs.FieldSoundness.Holds.{Limit, HoldsAt, HoldsMode}
+use Rattle.py_lines.proofs.FieldSoundness.Bodies.{Moved}
+use Rattle.py_lines.proofs.FieldSoundness.BodyMoves.{body_moves}
+use Rattle.py_lines.proofs.FieldSoundness.Lists.{not_specification}
+use Rattle.py_lines.proofs.FieldSoundness.HostSteps.{opened_moves}
 use Rattle.py_lines.proofs.FieldSoundness.LiveTexts.{quotes_at}
 
 -- a short string is open here, or a specification of one
@@ -75,79 +79,38 @@ plain_reason modes.Backslash held c holds =
 plain_reason modes.JoinReturn held c holds = cond_both (is_line_feed c) moves.Closes moves.Breaks (PlainReason modes.JoinReturn c) (λ k. tt) (λ k. refl)
 plain_reason modes.Return held c holds = cond_both (is_line_feed c) moves.Closes moves.Breaks (PlainReason modes.Return c) (λ k. tt) (λ k. refl)
 
--- in a string with fields, of which this is the mode
-module _ (m : FieldMode) (host : Host) (place : Place) (c : ℕ) (at_place : text_place m ≡ place) (short : host.is_long ≡ false → IsShortHere m) (closing : c == host.quote ≡ true → Reason m c (closing_move place)) where
-  opening_reason : (p : Place) → text_place m ≡ p → c == 123 ≡ true → Reason m c (opening_move host p)
-  opening_reason literal at braces = tt
-  opening_reason specification at braces = (eqb-true c 123 braces, at)
+-- in a string with fields where no `{` waits, by what the character does there
+moved_reason : (limit : Limit) (outer : List Level) (depth : ℕ) (host : Host) (place : Place) (m : FieldMode) (held : List ℕ) (c : ℕ) (v : FieldMove) → text_place m ≡ place → (host.is_long ≡ false → IsShortHere m) → (place ≡ specification → c ≡ host.quote → quotes_specification m c ≡ true) → is_quote host.quote ≡ true → Moved limit outer depth host place false held c v → Reason m c v
+moved_reason limit outer depth host place m held c (begins_code h) at short quoted quotes moved = absurd (both_ways _ refl moved.1)
+moved_reason limit outer depth host place m held c (opens_field h) at short quoted quotes moved = (moved.2, at ∙ moved.1)
+moved_reason limit outer depth host place m held c ends_field at short quoted quotes moved = (moved.1, at ∙ moved.0)
+moved_reason limit outer depth host place m held c refused at short quoted quotes (inl (break, is_short)) = inl (break, short is_short)
+moved_reason limit outer depth host place m held c refused at short quoted quotes (inr (there, same)) = inr (inr (quoted there same, ap is_quote same ∙ quotes))
+moved_reason limit outer depth host place m held c breaks at short quoted quotes moved = absurd moved
+moved_reason limit outer depth host place m held c v at short quoted quotes moved = tt
 
-  ending_reason : (p : Place) (named : Bool) → text_place m ≡ p → c == 125 ≡ true → Reason m c (ending_move host p named)
-  ending_reason specification false at braces = (eqb-true c 125 braces, at)
-  ending_reason specification true at braces = tt
-  ending_reason literal named at braces = tt
-
-  between_reason : (named : Bool) (at : At) → Reason m c (between_move host place named at c)
-  unfolding between_move
-  between_reason named at =
-      cond_both (c == host.quote) _ _ (Reason m c)
-      (λ same. cond_both (host.is_long && not (is_after_two at)) _ _ (Reason m c) (λ k. tt) (λ k. closing same))
-      (λ other. cond_both (is_backslash c) _ _ (Reason m c) (λ k. tt)
-      (λ k. cond_both (is_break c && not host.is_long) refused _ (Reason m c)
-      (λ l.
-      let parts = and_parts (is_break c) (not host.is_long) l in
-      inl (parts.0, short (not-true host.is_long parts.1)))
-      (λ l. cond_both ((c == 123) && not named) _ _ (Reason m c) (λ n. opening_reason place at_place (and_parts (c == 123) (not named) n).0)
-      (λ n. cond_both (c == 125) _ _ (Reason m c) (λ o. ending_reason place named at_place o) (λ o. tt)))))
-
--- where no `{` waits, in its body
+-- so in its body
 short_body : (host : Host) (place : Place) (named : Bool) (at : At) → is_after_brace at ≡ false → host.is_long ≡ false → IsShortHere (body host place named at)
 short_body host literal named at apart short = inl (and_from _ _ (not_from_false (is_after_brace at) apart) (not_from_false host.is_long short))
 short_body host specification named at apart short = inr (host, (refl, apart), short)
 
-closing_reason : (host : Host) (place : Place) (named : Bool) (at : At) (c : ℕ) → is_quote host.quote ≡ true → c == host.quote ≡ true → Reason (body host place named at) c (closing_move place)
-closing_reason host literal named at c quotes same = tt
-closing_reason host specification named at c quotes same = inr (inr (same, ap is_quote (eqb-true c host.quote same) ∙ quotes))
+quoted_body : (host : Host) (place : Place) (named : Bool) (at : At) (c : ℕ) → place ≡ specification → c ≡ host.quote → quotes_specification (body host place named at) c ≡ true
+quoted_body host literal named at c there same = not_specification there
+quoted_body host specification named at c there same = eq-eqb c host.quote same
 
-in_body : (host : Host) (place : Place) (named : Bool) (at after : At) (c : ℕ) → is_quote host.quote ≡ true → is_after_brace at ≡ false → Reason (body host place named at) c (between_move host place named after c)
-in_body host place named at after c quotes apart =
-    between_reason (body host place named at) host place c refl (short_body host place named at apart) (closing_reason host place named at c quotes) named after
-
-escape_reason : (host : Host) (place : Place) (named : Bool) (c : ℕ) → is_quote host.quote ≡ true → Reason (body host place named after_slash) c (escape_move host place named c)
-unfolding escape_move
-escape_reason host place named c quotes =
-    let P : FieldMove → Type 0 = Reason (body host place named after_slash) c in
-    cond_both (is_brace c) _ _ P (λ k. in_body host place named after_slash between c quotes refl)
-    (λ k. cond_both (is_barred_escape host place c) refused _ P (λ l. barred place l)
-    (λ l. cond_both (is_return c) _ _ P (λ n. tt) (λ n. cond_both (names host c) _ _ P (λ o. tt) (λ o. tt))))
-  where
-    barred : (p : Place) → is_barred_escape host p c ≡ true → Refuses (body host p named after_slash) c
-    barred literal is = absurd (both_ways _ refl is)
-    barred specification is =
-        let parts = and_parts (is_break c) (not host.is_long) is in
-        inl (parts.0, inr (host, (refl, refl), not-true host.is_long parts.1))
-
-waits : (host : Host) (place : Place) (named : Bool) → place ≡ literal → is_waiting (body host place named after_brace) ≡ true
-waits host place named at = subst (λ p. is_waiting (body host p named after_brace) ≡ true) (sym at) refl
-
-body_reason : (limit : Limit) (outer : List Level) (depth : ℕ) (host : Host) (place : Place) (named : Bool) (at : At) (held : List ℕ) (c : ℕ) → is_quote host.quote ≡ true → HoldsAt limit outer depth host place named at held → Reason (body host place named at) c (body_move host place named at c)
-unfolding body_move
-body_reason limit outer depth host place named between held c quotes holds = in_body host place named between between c quotes refl
-body_reason limit outer depth host place named after_one held c quotes holds = in_body host place named after_one after_one c quotes refl
-body_reason limit outer depth host place named after_two held c quotes holds = in_body host place named after_two after_two c quotes refl
-body_reason limit outer depth host place named after_slash held c quotes holds = escape_reason host place named c quotes
-body_reason limit outer depth host place named after_return held c quotes holds =
-    cond_both (is_line_feed c) _ _ (Reason (body host place named after_return) c) (λ k. tt) (λ k. in_body host place named after_return between c quotes refl)
-body_reason limit outer depth host place named after_name held c quotes holds =
-    cond_both (c == 123) _ _ (Reason (body host place named after_name) c) (λ k. tt) (λ k. in_body host place named after_name between c quotes refl)
-body_reason limit outer depth host place named after_brace held c quotes holds =
-    cond_both (c == 123) _ _ (Reason (body host place named after_brace) c) (λ k. tt) (λ k. waits host place named holds.2)
+body_reason : (limit : Limit) (outer : List Level) (depth : ℕ) (host : Host) (place : Place) (named : Bool) (at : At) (held : List ℕ) (c : ℕ) → is_after_brace at ≡ false → HoldsAt limit outer depth host place named at held → Reason (body host place named at) c (body_move host place named at c)
+body_reason limit outer depth host place named at held c apart holds =
+    moved_reason limit outer depth host place (body host place named at) held c (body_move host place named at c) refl (short_body host place named at apart) (quoted_body host place named at c) (quotes_at limit outer depth host place named at held holds)
+    (subst (λ w. Moved limit outer depth host place w held c (body_move host place named at c)) apart (body_moves limit outer depth host place named at held c holds))
 
 -- in each mode
 pub reason : (limit : Limit) (outer : List Level) (depth : ℕ) (m : FieldMode) (held : List ℕ) (c : ℕ) → HoldsMode limit outer depth m held → Reason m c (field_move m held c)
 unfolding field_move body_move
-reason limit outer depth (plain m) held c holds =
-    cond_both (begins_host m held c) _ _ (Reason (plain m) c) (λ h. tt) (λ h. plain_reason m held c holds.0)
+reason limit outer depth (plain m) held c holds = cond_both (begins_host m held c) _ _ (Reason (plain m) c) (λ h. tt) (λ h. plain_reason m held c holds.0)
 reason limit outer depth (opened host) held c holds =
-    cond_both (c == host.quote) _ _ (Reason (opened host) c) (λ h. tt) (λ h. between_reason (opened host) host literal c refl (λ short. inl refl) (λ same. tt) false between)
+    cond_both (c == host.quote) _ _ (Reason (opened host) c) (λ h. tt)
+    (λ other. moved_reason limit outer depth host literal (opened host) held c (body_move host literal false between c) refl (λ short. inl refl) (λ there. not_specification there) holds.1 (opened_moves limit outer depth host held c holds other))
 reason limit outer depth (empty host) held c holds = cond_both (c == host.quote) _ breaks (Reason (empty host) c) (λ h. tt) (λ h. refl)
-reason limit outer depth (body host place named at) held c holds = body_reason limit outer depth host place named at held c (quotes_at limit outer depth host place named at held holds) holds
+reason limit outer depth (body host place named after_brace) held c holds =
+    cond_both (c == 123) _ _ (Reason (body host place named after_brace) c) (λ k. tt) (λ k. ap (λ p. is_waiting (body host p named after_brace)) holds.2)
+reason limit outer depth (body host place named at) held c holds = body_reason limit outer depth host place named at held c refl holds

@@ -1,5 +1,5 @@
 -- How a string with fields grows, in its literal part and in specifications, and how it ends.
-use Rattle.std.proofs.Common.{◌≡◌, ◌==◌, ℕ, Bool, true, false, not, ◌||◌, ◌&&◌, List, [], ◌∷◌, ◌++◌, refl, sym, ap, ◌∙◌, subst, inl, inr, ⊎_elim, append_assoc}
+use Rattle.std.proofs.Common.{◌≡◌, ◌==◌, ℕ, Bool, true, false, not, ◌||◌, ◌&&◌, List, [], ◌∷◌, ◌++◌, refl, sym, ap, ◌∙◌, subst, inl, inr, ◌⊎◌, ⊎_elim, append_assoc}
 use Rattle.std.specs.Prelude.{if◌then◌else◌}
 use Rattle.std.specs.Str.{byte}
 use Rattle.std.specs.List.{list_any}
@@ -16,7 +16,7 @@ use Rattle.py_lines.proofs.Text.CharacterTests.{none_of, barred}
 use Rattle.py_lines.proofs.Machine.OpenPieces.{full-append, joined-push, not_one, quote-not-slash}
 use Rattle.py_lines.proofs.Fields.Parts.{quote-not-open}
 use Rattle.py_lines.proofs.Fields.Prefixes.{plain_quotes, field_letters, first_quote}
-use Rattle.py_lines.proofs.FieldSoundness.Holds.{Limit, WholeParts, refit, HoldsParts, HoldsBetween, HoldsAt, HoldsMode}
+use Rattle.py_lines.proofs.FieldSoundness.Holds.{Limit, WholeParts, HoldsParts, HoldsBetween, HoldsAt, HoldsMode}
 use Rattle.py_lines.proofs.FieldMachine.StringParts.{quote_no_end}
 
 -- parts, one more after others
@@ -40,11 +40,11 @@ ended_named : (a b : Bool) → b ≡ true → a && not b ≡ false
 ended_named true b h = rw h
 ended_named false b h = refl
 
-open_brace : (a b : Bool) → a && not b ≡ true → (a ≡ true) × (b ≡ false)
-open_brace true false h = (refl, refl)
-open_brace a b h = absurd (cc)
+pub and_not : (a b : Bool) → a && not b ≡ true → (a ≡ true) × (b ≡ false)
+and_not true false h = (refl, refl)
+and_not a b h = absurd (cc)
 
-plain_one : (b : Bool) → b && true ≡ false → b ≡ false
+pub plain_one : (b : Bool) → b && true ≡ false → b ≡ false
 plain_one true e = e
 plain_one false e = refl
 
@@ -93,15 +93,14 @@ short_quotes host h = rw h
 long_quotes : (host : Host) → host.is_long ≡ true → quotes_of host ≡ host.quote ∷ host.quote ∷ host.quote ∷ []
 long_quotes host h = rw h
 
--- one more part, with which they fit so
-pub push_part : (limit : Limit) (outer : List Level) (host : Host) (place : Place) (named after : Bool) (held part : List ℕ) (A B : List (List ℕ) → Type 0) (h : WholeParts limit outer host place named held A) → B (h.parts ++ part ∷ []) → has_triple host.quote (h.parts ++ part ∷ []) ≡ false → named_after named part ≡ after → WholeParts limit outer host place after (held ++ part) B
-push_part limit outer host place named after held part A B h fit open_yet is = record {
+-- one more part
+abbrev pub push_part : (limit : Limit) (outer : List Level) (host : Host) (place : Place) (named after : Bool) (held part : List ℕ) (h : WholeParts limit outer host place named held) → has_triple host.quote (h.parts ++ part ∷ []) ≡ false → named_after named part ≡ after → WholeParts limit outer host place after (held ++ part)
+push_part limit outer host place named after held part h open_yet is = record {
   begin = h.begin;
   parts = h.parts ++ part ∷ [];
   spell = ap (λ t. t ++ part) h.spell ∙ append_assoc h.begin (joined h.parts) part ∙ ap (λ t. h.begin ++ t) (sym (joined-push h.parts part));
   opens_with = h.opens_with;
   quotes = h.quotes;
-  fit = fit;
   named_is = named-push false h.parts part ∙ ap (λ n. named_after n part) h.named_is ∙ is;
   open_yet = open_yet;
 }
@@ -110,7 +109,7 @@ module _ (limit : Limit) (outer : List Level) (depth : ℕ) (host : Host) where
   -- before texts that begin with more
   pub longer_next : (place : Place) (named : Bool) (held next more : List ℕ) → HoldsParts limit outer depth host place named held next → HoldsParts limit outer depth host place named held (next ++ more)
   longer_next place named held next more h =
-      refit limit outer host place named held _ _ (λ parts fit rest. subst (AreParts (limit.FieldsAt depth) host place false parts) (sym (append_assoc next more rest)) (fit (more ++ rest))) h
+      record { whole = h.whole; fit = λ rest. subst (AreParts (limit.FieldsAt depth) host place false h.parts) (sym (append_assoc next more rest)) (h.fit (more ++ rest)) }
 
   pub between_next : (place : Place) (named : Bool) (held next more : List ℕ) → HoldsBetween limit outer depth host place named held next → HoldsBetween limit outer depth host place named held (next ++ more)
   unfolding longer_next
@@ -118,10 +117,10 @@ module _ (limit : Limit) (outer : List Level) (depth : ℕ) (host : Host) where
 
   -- one more part
   push : (place : Place) (named after : Bool) (held part next : List ℕ) (h : HoldsParts limit outer depth host place named held part) → ((more : List ℕ) → IsPart (limit.FieldsAt depth) host place named part (next ++ more)) → has_triple host.quote (h.parts ++ part ∷ []) ≡ false → named_after named part ≡ after → HoldsParts limit outer depth host place after (held ++ part) next
-  unfolding push_part
-  push place named after held part next h each open_yet is =
-      push_part limit outer host place named after held part _ _ h
-      (λ more. parts-push (limit.FieldsAt depth) host place false h.parts part (next ++ more) (h.fit (next ++ more)) (subst (λ n. IsPart (limit.FieldsAt depth) host place n part (next ++ more)) (sym h.named_is) (each more))) open_yet is
+  push place named after held part next h each open_yet is = record {
+    whole = push_part limit outer host place named after held part h.whole open_yet is;
+    fit = λ more. parts-push (limit.FieldsAt depth) host place false h.parts part (next ++ more) (h.fit (next ++ more)) (subst (λ n. IsPart (limit.FieldsAt depth) host place n part (next ++ more)) (sym h.named_is) (each more));
+  }
 
   -- one that is no quote
   pub push_between : (place : Place) (named after : Bool) (held part next : List ℕ) → HoldsParts limit outer depth host place named held part → ((more : List ℕ) → IsPart (limit.FieldsAt depth) host place named part (next ++ more)) → is_bare (λ d. d == host.quote) part ≡ false → IsFull part → named_after named part ≡ after → HoldsBetween limit outer depth host place after (held ++ part) next
@@ -132,54 +131,54 @@ module _ (limit : Limit) (outer : List Level) (depth : ℕ) (host : Host) where
     full = λ at short. subst IsFull (sym (joined-push h.parts part)) (full-append (joined h.parts) part full);
   }
 
-  -- what a character does in a string with fields
+  -- what a character does in a string with fields, where a `{` may wait
   abbrev pub IsIn : Place → FieldMode → Type 0
   IsIn place (body h p named at) = p ≡ place
   IsIn place other = ⊥
 
-  abbrev pub Moved : Place → List ℕ → ℕ → FieldMove → Type 0
-  Moved place held c (grows m) = IsIn place m × HoldsMode limit outer depth m (held ++ c ∷ [])
-  Moved place held c closes = (place ≡ literal) × InClassIn (with_fields (limit.FieldsAt depth)) string (held ++ c ∷ []) × ((more : List ℕ) → MayPrecedeIn fielded string (held ++ c ∷ []) more)
-  Moved place held c (begins_code h) = (h ≡ host) × (place ≡ literal) × (c == byte "{" ≡ false) × (text : List ℕ) × (held ≡ text ++ byte "{" ∷ []) × HoldsParts limit outer depth host place false text (byte "{" ∷ [])
-  Moved place held c (opens_field h) = (h ≡ host) × (place ≡ specification) × (c ≡ byte "{") × HoldsParts limit outer depth host place false held (byte "{" ∷ [])
-  Moved place held c ends_field = (place ≡ specification) × (c ≡ byte "}") × HoldsParts limit outer depth host place false held (byte "}" ∷ [])
-  Moved place held c refused = Unit {0}
-  Moved place held c breaks = ⊥
+  abbrev pub Moved : Place → Bool → List ℕ → ℕ → FieldMove → Type 0
+  Moved place waits held c (grows m) = IsIn place m × HoldsMode limit outer depth m (held ++ c ∷ [])
+  Moved place waits held c closes = (place ≡ literal) × InClassIn (with_fields (limit.FieldsAt depth)) string (held ++ c ∷ []) × ((more : List ℕ) → MayPrecedeIn fielded string (held ++ c ∷ []) more)
+  Moved place waits held c (begins_code h) = (h ≡ host) × (waits ≡ true) × (place ≡ literal) × (c == byte "{" ≡ false) × (text : List ℕ) × (held ≡ text ++ byte "{" ∷ []) × HoldsParts limit outer depth host place false text (byte "{" ∷ [])
+  Moved place waits held c (opens_field h) = (h ≡ host) × (place ≡ specification) × (c ≡ byte "{") × HoldsParts limit outer depth host place false held (byte "{" ∷ [])
+  Moved place waits held c ends_field = (place ≡ specification) × (c ≡ byte "}") × HoldsParts limit outer depth host place false held (byte "}" ∷ [])
+  Moved place waits held c refused = ((is_break c ≡ true) × (host.is_long ≡ false)) ⊎ ((place ≡ specification) × (c ≡ host.quote))
+  Moved place waits held c breaks = ⊥
 
   -- a character that stands for itself
   pub bare_one : (place : Place) (named after : Bool) (held : List ℕ) (c : ℕ) → HoldsParts limit outer depth host place named held (c ∷ []) → c == host.quote ≡ false → is_backslash c ≡ false → is_break c && not host.is_long ≡ false → is_ordinary place named c ≡ true → named && not (c == 125) ≡ after → HoldsBetween limit outer depth host place after (held ++ c ∷ []) []
   bare_one place named after held c h other no_slash stays itself is =
       push_between place named after held (c ∷ []) [] h (λ more. bare c refl no_slash (stands host.is_long host.quote c stays other) itself) other tt is
 
-  opening : (place : Place) (held : List ℕ) (c : ℕ) → HoldsParts limit outer depth host place false held (c ∷ []) → c ≡ 123 → Moved place held c (opening_move host place)
-  opening literal held c h is = (refl, (held, ap (λ (d : ℕ). held ++ d ∷ []) is, refl, refl, subst (λ (d : ℕ). HoldsParts limit outer depth host literal false held (d ∷ [])) is h))
-  opening specification held c h is = (refl, refl, is, subst (λ (d : ℕ). HoldsParts limit outer depth host specification false held (d ∷ [])) is h)
+  opening : (waits : Bool) (place : Place) (held : List ℕ) (c : ℕ) → HoldsParts limit outer depth host place false held (c ∷ []) → c ≡ 123 → Moved place waits held c (opening_move host place)
+  opening waits literal held c h is = (refl, (held, ap (λ (d : ℕ). held ++ d ∷ []) is, refl, refl, subst (λ (d : ℕ). HoldsParts limit outer depth host literal false held (d ∷ [])) is h))
+  opening waits specification held c h is = (refl, refl, is, subst (λ (d : ℕ). HoldsParts limit outer depth host specification false held (d ∷ [])) is h)
 
-  ending : (place : Place) (named : Bool) (held : List ℕ) (c : ℕ) → HoldsParts limit outer depth host place named held (c ∷ []) → c == 125 ≡ true → c == host.quote ≡ false → is_backslash c ≡ false → is_break c && not host.is_long ≡ false → Moved place held c (ending_move host place named)
-  ending literal named held c h is other no_slash stays =
+  ending : (waits : Bool) (place : Place) (named : Bool) (held : List ℕ) (c : ℕ) → HoldsParts limit outer depth host place named held (c ∷ []) → c == 125 ≡ true → c == host.quote ≡ false → is_backslash c ≡ false → is_break c && not host.is_long ≡ false → Moved place waits held c (ending_move host place named)
+  ending waits literal named held c h is other no_slash stays =
       let itself : is_ordinary literal named c ≡ true = subst (λ (d : ℕ). named || not (d == 123) ≡ true) (sym (eqb-true c 125 is)) (or_right named true refl) in
       (refl, bare_one literal named false held c h other no_slash stays itself (ended_named named (c == 125) is))
-  ending specification true held c h is other no_slash stays = (refl, bare_one specification true false held c h other no_slash stays refl (ended_named true (c == 125) is))
-  ending specification false held c h is other no_slash stays = (refl, eqb-true c 125 is, subst (λ (d : ℕ). HoldsParts limit outer depth host specification false held (d ∷ [])) (eqb-true c 125 is) h)
+  ending waits specification true held c h is other no_slash stays = (refl, bare_one specification true false held c h other no_slash stays refl (ended_named true (c == 125) is))
+  ending waits specification false held c h is other no_slash stays = (refl, eqb-true c 125 is, subst (λ (d : ℕ). HoldsParts limit outer depth host specification false held (d ∷ [])) (eqb-true c 125 is) h)
 
   -- what a quote of the string does
   abbrev pub quote_move : Place → Bool → At → FieldMove
   quote_move place named at = if host.is_long && not (is_after_two at) then grows (body host place named (with_quote at)) else closing_move place
 
   -- a character between two parts, or after a quote of the string
-  pub between_moves : (place : Place) (named : Bool) (at : At) (held : List ℕ) (c : ℕ) → HoldsParts limit outer depth host place named held (c ∷ []) → (c == host.quote ≡ true → Moved place held c (quote_move place named at)) → Moved place held c (between_move host place named at c)
+  pub between_moves : (waits : Bool) (place : Place) (named : Bool) (at : At) (held : List ℕ) (c : ℕ) → HoldsParts limit outer depth host place named held (c ∷ []) → (c ≡ host.quote → Moved place waits held c (quote_move place named at)) → Moved place waits held c (between_move host place named at c)
   unfolding between_move
-  between_moves place named at held c h quoted =
-      let P : FieldMove → Type 0 = λ v. Moved place held c v in
-      cond_both (c == host.quote) _ _ P quoted
+  between_moves waits place named at held c h quoted =
+      let P : FieldMove → Type 0 = Moved place waits held c in
+      cond_both (c == host.quote) _ _ P (λ same. quoted (eqb-true c host.quote same))
       (λ other. cond_both (is_backslash c) _ _ P (λ slashes. (refl, (held, c, refl, slashes, h)))
-      (λ no_slash. cond_both (is_break c && not host.is_long) _ _ P (λ ended. tt)
+      (λ no_slash. cond_both (is_break c && not host.is_long) _ _ P (λ ended. inl (and_not (is_break c) host.is_long ended))
       (λ stays. cond_both ((c == 123) && not named) _ _ P
       (λ opens.
-      let parts = open_brace (c == 123) named opens in
-      opening place held c (subst (λ n. HoldsParts limit outer depth host place n held (c ∷ [])) parts.1 h) (eqb-true c 123 parts.0))
+      let parts = and_not (c == 123) named opens in
+      opening waits place held c (subst (λ n. HoldsParts limit outer depth host place n held (c ∷ [])) parts.1 h) (eqb-true c 123 parts.0))
       (λ no_open. cond_both (c == 125) _ _ P
-      (λ is. ending place named held c h is other no_slash stays)
+      (λ is. ending waits place named held c h is other no_slash stays)
       (λ no_close. (refl, bare_one place named named held c h other no_slash stays (ordinary_character place named c no_open no_close) (kept_named named (c == 125) no_close)))))))
 
   -- a character after a quote that is a part of its own, of a long string
@@ -223,53 +222,39 @@ module _ (limit : Limit) (outer : List Level) (depth : ℕ) (host : Host) where
         first = h.apart;
       }
 
-  -- with them the string ends, which is no empty one
-  string_closes : (named : Bool) (held text more : List ℕ) (c : ℕ) → held ++ c ∷ [] ≡ text ++ host.quote ∷ more → quotes_of host ≡ host.quote ∷ more → (h : HoldsBetween limit outer depth host literal named text (host.quote ∷ [])) → ((r : ℕ) → more ++ (joined h.all.parts ++ host.quote ∷ more) ≡ r ∷ [] → ⊥) → Moved literal held c closes
+  -- with them a literal part ends the string, which is no empty one; in a specification they may not stand
+  closes_at : (waits : Bool) (place : Place) (named : Bool) (held text more : List ℕ) (c : ℕ) → held ++ c ∷ [] ≡ text ++ host.quote ∷ more → quotes_of host ≡ host.quote ∷ more → c ≡ host.quote → (h : HoldsBetween limit outer depth host place named text (host.quote ∷ [])) → (place ≡ literal → (r : ℕ) → more ++ (joined h.all.parts ++ host.quote ∷ more) ≡ r ∷ [] → ⊥) → Moved place waits held c (closing_move place)
   unfolding whole_string
-  string_closes named held text more c is quotes h other =
+  closes_at waits literal named held text more c is quotes same h other =
       let own = whole_string named text more quotes h in (
         refl,
         subst (InClassIn (with_fields (limit.FieldsAt depth)) string) (sym is) (inr own),
-        λ after. full_string own.prefix (more ++ (joined own.parts ++ host.quote ∷ more)) (held ++ c ∷ []) after host.quote (is ∙ own.spell ∙ ap (λ t. own.prefix ++ (t ++ (joined own.parts ++ t))) quotes) own.begun h.all.quotes other,
+        λ after. full_string own.prefix (more ++ (joined own.parts ++ host.quote ∷ more)) (held ++ c ∷ []) after host.quote (is ∙ own.spell ∙ ap (λ t. own.prefix ++ (t ++ (joined own.parts ++ t))) quotes) own.begun h.all.quotes (other refl),
       )
-
-  pub short_closes : (named : Bool) (held : List ℕ) (c : ℕ) → c == host.quote ≡ true → host.is_long ≡ false → HoldsBetween limit outer depth host literal named held (host.quote ∷ []) → Moved literal held c closes
-  short_closes named held c same short h =
-      string_closes named held held [] c (ap (λ (d : ℕ). held ++ d ∷ []) (eqb-true c host.quote same)) (short_quotes host short) h (λ r one. more_than_one (joined h.all.parts) host.quote r (h.full refl short) one)
-
-  pub long_closes : (named : Bool) (held text : List ℕ) (c : ℕ) → held ≡ text ++ host.quote ∷ host.quote ∷ [] → c == host.quote ≡ true → host.is_long ≡ true → HoldsBetween limit outer depth host literal named text (host.quote ∷ []) → Moved literal held c closes
-  long_closes named held text c is_held same long h =
-      string_closes named held text (host.quote ∷ host.quote ∷ []) c
-      (ap (λ t. t ++ c ∷ []) is_held ∙ append_assoc text (host.quote ∷ host.quote ∷ []) (c ∷ []) ∙ ap (λ (d : ℕ). text ++ host.quote ∷ host.quote ∷ d ∷ []) (eqb-true c host.quote same)) (long_quotes host long) h
-      (λ r one. absurd (cc))
+  closes_at waits specification named held text more c is quotes same h other = inr (refl, same)
 
   -- a quote of the string: the first one, the second one of a long string, and the third
-  pub first_quotes : (place : Place) (named : Bool) (held : List ℕ) (c : ℕ) → HoldsBetween limit outer depth host place named held (c ∷ []) → c == host.quote ≡ true → Moved place held c (quote_move place named between)
-  first_quotes place named held c h same =
-      let is : c ≡ host.quote = eqb-true c host.quote same in
+  pub first_quotes : (waits : Bool) (place : Place) (named : Bool) (held : List ℕ) (c : ℕ) → HoldsBetween limit outer depth host place named held (c ∷ []) → c ≡ host.quote → Moved place waits held c (quote_move place named between)
+  first_quotes waits place named held c h is =
       let own : HoldsBetween limit outer depth host place named held (host.quote ∷ []) = subst (λ (d : ℕ). HoldsBetween limit outer depth host place named held (d ∷ [])) is h in
-      cond_both (host.is_long && true) _ _ (λ (v : FieldMove). Moved place held c v)
-      (λ long. (refl, (held, ap (λ (d : ℕ). held ++ d ∷ []) is, (and_parts _ _ long).0, own)))
-      (λ short. close place own (plain_one host.is_long short))
-    where
-      close : (p : Place) → HoldsBetween limit outer depth host p named held (host.quote ∷ []) → host.is_long ≡ false → Moved p held c (closing_move p)
-      close literal own short = short_closes named held c same short own
-      close specification own short = tt
+      let spell : held ++ c ∷ [] ≡ held ++ host.quote ∷ [] = ap (λ (d : ℕ). held ++ d ∷ []) is in
+      cond_both (host.is_long && true) _ _ (Moved place waits held c)
+      (λ long. (refl, (held, spell, (and_parts _ _ long).0, own)))
+      (λ one.
+      let short = plain_one host.is_long one in
+      closes_at waits place named held held [] c spell (short_quotes host short) is own (λ at r single. more_than_one (joined own.all.parts) host.quote r (own.full at short) single))
 
-  pub second_quote : (place : Place) (named : Bool) (held : List ℕ) (c : ℕ) → HoldsAt limit outer depth host place named after_one held → c == host.quote ≡ true → Moved place held c (quote_move place named after_one)
-  second_quote place named held c h same =
-      let is : c ≡ host.quote = eqb-true c host.quote same in
-      let text = h.0 in
-      cond_both (host.is_long && true) _ _ (λ (v : FieldMove). Moved place held c v)
-      (λ long. (refl, (text, ap (λ t. t ++ c ∷ []) h.1 ∙ append_assoc text (host.quote ∷ []) (c ∷ []) ∙ ap (λ (d : ℕ). text ++ host.quote ∷ d ∷ []) is, h.2, h.3)))
-      (λ short. absurd (both_ways _ short (and_from _ _ h.2 refl)))
+  pub second_quote : (waits : Bool) (place : Place) (named : Bool) (held : List ℕ) (c : ℕ) → HoldsAt limit outer depth host place named after_one held → c ≡ host.quote → Moved place waits held c (quote_move place named after_one)
+  second_quote waits place named held c (text, spell, long, h) is =
+      cond_both (host.is_long && true) _ _ (Moved place waits held c)
+      (λ two. (refl, (text, ap (λ t. t ++ c ∷ []) spell ∙ append_assoc text (host.quote ∷ []) (c ∷ []) ∙ ap (λ (d : ℕ). text ++ host.quote ∷ d ∷ []) is, long, h)))
+      (λ short. absurd (both_ways _ short (and_from _ _ long refl)))
 
-  pub third_quote : (place : Place) (named : Bool) (held : List ℕ) (c : ℕ) → HoldsAt limit outer depth host place named after_two held → c == host.quote ≡ true → Moved place held c (quote_move place named after_two)
-  third_quote place named held c h same =
-      cond_both (host.is_long && false) _ _ (λ (v : FieldMove). Moved place held c v)
-      (λ long. absurd (both_ways _ (and_right host.is_long false refl) long))
-      (λ short. close place h.3)
-    where
-      close : (p : Place) → HoldsBetween limit outer depth host p named h.0 (host.quote ∷ []) → Moved p held c (closing_move p)
-      close literal own = long_closes named held h.0 c h.1 same h.2 own
-      close specification own = tt
+  pub third_quote : (waits : Bool) (place : Place) (named : Bool) (held : List ℕ) (c : ℕ) → HoldsAt limit outer depth host place named after_two held → c ≡ host.quote → Moved place waits held c (quote_move place named after_two)
+  third_quote waits place named held c (text, spell, long, h) is =
+      cond_both (host.is_long && false) _ _ (Moved place waits held c)
+      (λ two. absurd (both_ways _ (and_right host.is_long false refl) two))
+      (λ three.
+      closes_at waits place named held text (host.quote ∷ host.quote ∷ []) c
+      (ap (λ t. t ++ c ∷ []) spell ∙ append_assoc text (host.quote ∷ host.quote ∷ []) (c ∷ []) ∙ ap (λ (d : ℕ). text ++ host.quote ∷ host.quote ∷ d ∷ []) is) (long_quotes host long) is h
+      (λ at r one. absurd (cc)))

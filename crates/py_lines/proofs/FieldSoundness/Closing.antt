@@ -9,7 +9,7 @@ use Rattle.py_lines.specs.Balance.{is_opening, is_closing, closing_of}
 use Rattle.py_lines.specs.FieldStrings.{Host, Place, literal, specification}
 use Rattle.py_lines.specs.declared.mode.Mode.TheVariants as modes
 use Rattle.py_lines.specs.Private.Machine.{move_of}
-use Rattle.py_lines.specs.Private.FieldMachine.{At, between, after_one, after_two, after_slash, after_brace, FieldMode, plain, body, grows, closes, breaks, Level, FieldScanned, field_state, field_fresh, between_move, escape_move, body_move, field_move, openers_with, field_operator, field_ended, field_started, field_moved, field_closed, may_end, frames, IsFieldFinal}
+use Rattle.py_lines.specs.Private.FieldMachine.{At, between, after_one, after_two, after_slash, after_brace, FieldMode, plain, body, grows, closes, breaks, Level, FieldScanned, field_state, field_fresh, between_move, escape_move, body_move, field_move, after_operator, field_operator, field_ended, field_started, field_moved, field_closed, may_end, frames, IsFieldFinal}
 use Rattle.py_lines.proofs.Text.CharacterTests.{not_quote}
 use Rattle.py_lines.proofs.Text.Utf8Prefixes.{all_scalars-append}
 use Rattle.py_lines.proofs.Pieces.PieceLists.{piece}
@@ -18,6 +18,7 @@ use Rattle.py_lines.proofs.Machine.Starts.{start-operator}
 use Rattle.py_lines.proofs.Machine.LiveTexts.{closing-operator, closing_of-closing, closing-scalar, quote-scalar}
 use Rattle.py_lines.proofs.FieldMachine.Runs.{HasRoomFor, Goes, goes-append, goes-grows, goes-closes, goes-begins}
 use Rattle.py_lines.proofs.FieldMachine.StringParts.{goes_on, body_moves, second_brace}
+use Rattle.py_lines.proofs.FieldMachine.ListBrackets.{closing_pops}
 use Rattle.py_lines.proofs.FieldMachine.FieldRuns.{end_moves, brace_ends}
 use Rattle.py_lines.proofs.FieldSoundness.Holds.{Limit, HoldsLevels}
 
@@ -60,8 +61,11 @@ pub at_once : (Room : ℕ → Type 0) (s : FieldScanned) → IsReadyField s.mode
 at_once Room s ready later = later s.done s.mode s.held ready
 
 -- one character more, by which the open piece grows, or with which it ends
+grows_on : (Room : ℕ → Type 0) (s : FieldScanned) (m : FieldMode) (c : ℕ) → all_scalars (c ∷ []) ≡ true → field_move s.mode s.held c ≡ grows m → Finishes Room (field_state s.outer s.done s.openers m (s.held ++ c ∷ [])) → Finishes Room s
+grows_on Room s m c scalar move later = finishes_after Room s _ (c ∷ []) scalar (goes-grows Room s _ m c [] move refl) later
+
 pub grows_first : (Room : ℕ → Type 0) (s : FieldScanned) (m : FieldMode) (c : ℕ) → all_scalars (c ∷ []) ≡ true → field_move s.mode s.held c ≡ grows m → Readies Room (field_state s.outer s.done s.openers m (s.held ++ c ∷ [])) → Readies Room s
-grows_first Room s m c scalar move next later = finishes_after Room s _ (c ∷ []) scalar (goes-grows Room s _ m c [] move refl) (next later)
+grows_first Room s m c scalar move next later = grows_on Room s m c scalar move (next later)
 
 pub closes_last : (Room : ℕ → Type 0) (s : FieldScanned) (c : ℕ) → all_scalars (c ∷ []) ≡ true → field_move s.mode s.held c ≡ closes → Readies Room s
 closes_last Room s c scalar move later = finishes_after Room s _ (c ∷ []) scalar (goes-closes Room s c move) (later _ (plain modes.Free) [] ready-fresh)
@@ -71,9 +75,8 @@ no_opening c is opens = absurd (both_ways _ (closing-not-opening c is) opens)
 
 -- the innermost open bracket can be closed
 popped : (outer : List Level) (done : List Piece) (o : ℕ) (os : List ℕ) (c : ℕ) → is_closing c ≡ true → c == closing_of o ≡ true → field_operator outer done (o ∷ os) c ≡ Some (field_fresh outer (done ++ piece operator (c ∷ []) ∷ []) os)
-unfolding openers_with
-popped [] done o os c is kind = rw (closing-not-opening c is, is, kind)
-popped (l ∷ ls) done o os c is kind = rw (closing-not-opening c is, is, kind)
+popped [] done o os c is kind = ap (after_operator [] done c) (closing_pops o os c is kind)
+popped (l ∷ ls) done o os c is kind = ap (after_operator (l ∷ ls) done c) (closing_pops o os c is kind)
 
 -- so all of them, one after another
 closes_list : (Room : ℕ → Type 0) (outer : List Level) (openers : List ℕ) → ReadyFinishes Room outer [] → ReadyFinishes Room outer openers
@@ -148,51 +151,37 @@ unfolding field_move body_move between_move is_backslash is_break is_quote
 name_ends host literal held quotes = rw (not_quote 125 host.quote quotes refl)
 name_ends host specification held quotes = rw (not_quote 125 host.quote quotes refl)
 
--- the strings round fields that are open have quotes, and a specification is open in a field
-abbrev pub ClosesLevels : Place → List Level → Type 0
-ClosesLevels literal [] = Unit {0}
-ClosesLevels specification [] = ⊥
-ClosesLevels place (l ∷ ls) = (is_quote l.host.quote ≡ true) × ClosesLevels l.place ls
-
-pub levels_close : (limit : Limit) (place : Place) (outer : List Level) (text : List ℕ) → HoldsLevels limit place outer text → ClosesLevels place outer
-levels_close limit literal [] text h = tt
-levels_close limit specification [] text h = h
-levels_close limit place (l ∷ ls) text h = (h.1.parts.quotes, levels_close limit l.place ls (spelled l.done ++ l.front) h.2)
-
 -- a string can be finished, and then what stands round it
-string_finishes : (Room : ℕ → Type 0) (place : Place) (outer : List Level) (done : List Piece) (openers : List ℕ) (host : Host) (held : List ℕ) → is_quote host.quote ≡ true → ClosesLevels place outer → Finishes Room (field_state outer done openers (body host place false between) held)
-string_finishes Room literal [] done openers host held quotes levels = literal_readies Room [] done openers host false held quotes (outside_finishes Room openers)
-string_finishes Room literal (l ∷ ls) done openers host held quotes levels =
-    literal_readies Room (l ∷ ls) done openers host false held quotes
-    (code_finishes Room l ls openers (λ text. string_finishes Room l.place ls l.done l.openers l.host text levels.0 levels.1))
-string_finishes Room specification [] done openers host held quotes levels = absurd levels
-string_finishes Room specification (l ∷ ls) done openers host held quotes levels =
-    let s = field_state (l ∷ ls) done openers (body host specification false between) held in
-    let next = field_ended l ls (held ++ 125 ∷ []) in
-    let move = body_moves host specification false between held 125 [] (goes_on host specification false (125 ∷ [])) ∙ end_moves host between quotes in
-    finishes_after Room s next (125 ∷ []) refl (next, ap (field_moved s 125) move, subst (HasRoomFor Room (frames s) 125) (sym move) tt, refl)
-    (string_finishes Room l.place ls l.done l.openers l.host (held ++ 125 ∷ []) levels.0 levels.1)
+module _ (limit : Limit) (Room : ℕ → Type 0) where
+  string_finishes : (place : Place) (outer : List Level) (done : List Piece) (openers : List ℕ) (host : Host) (held text : List ℕ) → is_quote host.quote ≡ true → HoldsLevels limit place outer text → Finishes Room (field_state outer done openers (body host place false between) held)
+  string_finishes literal [] done openers host held text quotes levels = literal_readies Room [] done openers host false held quotes (outside_finishes Room openers)
+  string_finishes literal (l ∷ ls) done openers host held text quotes levels =
+      literal_readies Room (l ∷ ls) done openers host false held quotes
+      (code_finishes Room l ls openers (λ more. string_finishes l.place ls l.done l.openers l.host more _ levels.1.parts.quotes levels.2))
+  string_finishes specification [] done openers host held text quotes levels = absurd levels
+  string_finishes specification (l ∷ ls) done openers host held text quotes levels =
+      let s = field_state (l ∷ ls) done openers (body host specification false between) held in
+      let next = field_ended l ls (held ++ 125 ∷ []) in
+      let move = body_moves host specification false between held 125 [] (goes_on host specification false (125 ∷ [])) ∙ end_moves host between quotes in
+      finishes_after Room s next (125 ∷ []) refl (next, ap (field_moved s 125) move, subst (HasRoomFor Room (frames s) 125) (sym move) tt, refl)
+      (string_finishes l.place ls l.done l.openers l.host (held ++ 125 ∷ []) _ levels.1.parts.quotes levels.2)
 
--- code in any list
-pub list_finishes : (Room : ℕ → Type 0) (outer : List Level) (openers : List ℕ) → ClosesLevels literal outer → ReadyFinishes Room outer openers
-list_finishes Room [] openers levels = outside_finishes Room openers
-list_finishes Room (l ∷ ls) openers levels = code_finishes Room l ls openers (λ text. string_finishes Room l.place ls l.done l.openers l.host text levels.0 levels.1)
+  -- code in any list
+  pub list_finishes : (outer : List Level) (openers text : List ℕ) → HoldsLevels limit literal outer text → ReadyFinishes Room outer openers
+  list_finishes [] openers text levels = outside_finishes Room openers
+  list_finishes (l ∷ ls) openers text levels = code_finishes Room l ls openers (λ more. string_finishes l.place ls l.done l.openers l.host more _ levels.1.parts.quotes levels.2)
 
--- one more character in a string
-string_on : (Room : ℕ → Type 0) (outer : List Level) (done : List Piece) (openers : List ℕ) (m n : FieldMode) (held : List ℕ) (c : ℕ) → all_scalars (c ∷ []) ≡ true → field_move m held c ≡ grows n → Finishes Room (field_state outer done openers n (held ++ c ∷ [])) → Finishes Room (field_state outer done openers m held)
-string_on Room outer done openers m n held c scalar move later = finishes_after Room _ _ (c ∷ []) scalar (goes-grows Room (field_state outer done openers m held) _ n c [] move refl) later
+  -- a string in which braces may stand for themselves, and at any place in it
+  between_finishes : (place : Place) (outer : List Level) (done : List Piece) (openers : List ℕ) (host : Host) (named : Bool) (held text : List ℕ) → is_quote host.quote ≡ true → HoldsLevels limit place outer text → Finishes Room (field_state outer done openers (body host place named between) held)
+  between_finishes place outer done openers host false held text quotes levels = string_finishes place outer done openers host held text quotes levels
+  between_finishes place outer done openers host true held text quotes levels =
+      grows_on Room (field_state outer done openers (body host place true between) held) (body host place false between) 125 refl (name_ends host place held quotes)
+      (string_finishes place outer done openers host (held ++ 125 ∷ []) text quotes levels)
 
-between_finishes : (Room : ℕ → Type 0) (place : Place) (outer : List Level) (done : List Piece) (openers : List ℕ) (host : Host) (named : Bool) (held : List ℕ) → is_quote host.quote ≡ true → ClosesLevels place outer → Finishes Room (field_state outer done openers (body host place named between) held)
-between_finishes Room place outer done openers host false held quotes levels = string_finishes Room place outer done openers host held quotes levels
-between_finishes Room place outer done openers host true held quotes levels =
-    string_on Room outer done openers (body host place true between) (body host place false between) held 125 refl (name_ends host place held quotes)
-    (string_finishes Room place outer done openers host (held ++ 125 ∷ []) quotes levels)
-
--- at any place in it
-pub body_finishes : (Room : ℕ → Type 0) (place : Place) (outer : List Level) (done : List Piece) (openers : List ℕ) (host : Host) (named : Bool) (at : At) (held : List ℕ) → is_quote host.quote ≡ true → ClosesLevels place outer → Finishes Room (field_state outer done openers (body host place named at) held)
-body_finishes Room place outer done openers host named after_brace held quotes levels =
-    string_on Room outer done openers (body host place named after_brace) (body host place named between) held 123 refl (second_brace host place named held)
-    (between_finishes Room place outer done openers host named (held ++ 123 ∷ []) quotes levels)
-body_finishes Room place outer done openers host named at held quotes levels =
-    string_on Room outer done openers (body host place named at) (body host place named between) held 97 refl (letter_moves host place named at held quotes (λ same. absurd (cc)))
-    (between_finishes Room place outer done openers host named (held ++ 97 ∷ []) quotes levels)
+  pub body_finishes : (place : Place) (outer : List Level) (done : List Piece) (openers : List ℕ) (host : Host) (named : Bool) (at : At) (held text : List ℕ) → is_quote host.quote ≡ true → HoldsLevels limit place outer text → Finishes Room (field_state outer done openers (body host place named at) held)
+  body_finishes place outer done openers host named after_brace held text quotes levels =
+      grows_on Room (field_state outer done openers (body host place named after_brace) held) (body host place named between) 123 refl (second_brace host place named held)
+      (between_finishes place outer done openers host named (held ++ 123 ∷ []) text quotes levels)
+  body_finishes place outer done openers host named at held text quotes levels =
+      grows_on Room (field_state outer done openers (body host place named at) held) (body host place named between) 97 refl (letter_moves host place named at held quotes (λ same. absurd (cc)))
+      (between_finishes place outer done openers host named (held ++ 97 ∷ []) text quotes levels)

@@ -97,7 +97,10 @@ code_specifies limit level outer done read c ready is =
     record {
       spell = (simp append_assoc) ∙ ready.spell;
       mode = record {
-        all = record { begin = held; parts = []; spell = sym (append-nil held); opens_with = opens; quotes = own.parts.quotes; fit = λ more. tt; named_is = refl; open_yet = refl };
+        all = record {
+          whole = record { begin = held; parts = []; spell = sym (append-nil held); opens_with = opens; quotes = own.parts.quotes; named_is = refl; open_yet = refl };
+          fit = λ more. tt;
+        };
         apart = refl;
         full = λ at short. not_specification (sym at);
       };

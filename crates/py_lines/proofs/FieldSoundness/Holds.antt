@@ -54,38 +54,27 @@ OpensPlace limit outer host literal text = OpensHost host (quotes_of host) text
 OpensPlace limit [] host specification text = ⊥
 OpensPlace limit (l ∷ ls) host specification text = OpensSpecification limit l (levels_open (l ∷ ls)) host text
 
--- whole parts of a literal part or a specification, after what it begins with, which fit so
-pub record WholeParts (limit : Limit) (outer : List Level) (host : Host) (place : Place) (named : Bool) (text : List ℕ) (Fit : List (List ℕ) → Type 0) : Type 0 where
+-- whole parts of a literal part or a specification, after what it begins with
+pub record WholeParts (limit : Limit) (outer : List Level) (host : Host) (place : Place) (named : Bool) (text : List ℕ) : Type 0 where
   pub begin : List ℕ
   pub parts : List (List ℕ)
   pub spell : text ≡ begin ++ joined parts
   pub opens_with : OpensPlace limit outer host place begin
   pub quotes : is_quote host.quote ≡ true
-  pub fit : Fit parts
   pub named_is : named_through false parts ≡ named
   pub open_yet : has_triple host.quote parts ≡ false
 
--- the same parts, which fit otherwise too
-abbrev pub refit : (limit : Limit) (outer : List Level) (host : Host) (place : Place) (named : Bool) (text : List ℕ) (A B : List (List ℕ) → Type 0) → ((parts : List (List ℕ)) → A parts → B parts) → WholeParts limit outer host place named text A → WholeParts limit outer host place named text B
-refit limit outer host place named text A B f h = record {
-  begin = h.begin;
-  parts = h.parts;
-  spell = h.spell;
-  opens_with = h.opens_with;
-  quotes = h.quotes;
-  fit = f h.parts h.fit;
-  named_is = h.named_is;
-  open_yet = h.open_yet;
-}
-
 -- at this depth they are parts before this rest
-abbrev pub PartsAt : Limit → List Level → ℕ → Host → Place → Bool → List ℕ → List ℕ → Type 0
-PartsAt limit outer depth host place named text rest = WholeParts limit outer host place named text (λ parts. AreParts (limit.FieldsAt depth) host place false parts rest)
+pub record PartsAt (limit : Limit) (outer : List Level) (depth : ℕ) (host : Host) (place : Place) (named : Bool) (text rest : List ℕ) : Type 0 where
+  pub whole : WholeParts limit outer host place named text
+  pub open whole use *
+  pub fit : AreParts (limit.FieldsAt depth) host place false whole.parts rest
 
 -- whatever follows `next`, they are parts before that
-abbrev pub HoldsParts : Limit → List Level → ℕ → Host → Place → Bool → List ℕ → List ℕ → Type 0
-HoldsParts limit outer depth host place named held next =
-    WholeParts limit outer host place named held (λ parts. (more : List ℕ) → AreParts (limit.FieldsAt depth) host place false parts (next ++ more))
+pub record HoldsParts (limit : Limit) (outer : List Level) (depth : ℕ) (host : Host) (place : Place) (named : Bool) (held next : List ℕ) : Type 0 where
+  pub whole : WholeParts limit outer host place named held
+  pub open whole use *
+  pub fit : (more : List ℕ) → AreParts (limit.FieldsAt depth) host place false whole.parts (next ++ more)
 
 -- The same, not after a quote of its own: two more quotes don't close the string. A short string is not empty.
 pub record HoldsBetween (limit : Limit) (outer : List Level) (depth : ℕ) (host : Host) (place : Place) (named : Bool) (held next : List ℕ) : Type 0 where

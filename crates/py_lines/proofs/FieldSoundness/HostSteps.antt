@@ -1,16 +1,16 @@
 -- What each character does in strings with fields, and so what any text does.
-use Rattle.std.proofs.Common.{◌≡◌, ◌==◌, ℕ, ◌+◌, true, false, Option, None, Some, List, [], ◌∷◌, ◌++◌, length, refl, sym, ap, ◌∙◌, subst, inl, inr, append_assoc, append-nil, arith}
+use Rattle.std.proofs.Common.{◌≡◌, ◌==◌, ℕ, ◌+◌, Bool, true, false, Option, None, Some, List, [], ◌∷◌, ◌++◌, length, refl, sym, ap, ◌∙◌, subst, inl, inr, append_assoc, append-nil, arith}
 use Rattle.std.specs.Str.{byte}
-use Rattle.std.proofs.lemmas.Bool.{cond_both, both_ways, eqb-true}
+use Rattle.std.proofs.lemmas.Bool.{cond_both, both_ways, eqb-true, eq-eqb}
 use Rattle.py_lines.specs.Character.{is_quote}
 use Rattle.py_lines.specs.Piece.{Class, string, spelled, Piece}
 use Rattle.py_lines.specs.PieceGrammar.{MayPrecedeIn}
 use Rattle.py_lines.specs.Fields.{fielded}
 use Rattle.py_lines.specs.FieldStrings.{Host, Place, literal, specification, quotes_of, IsFieldString}
-use Rattle.py_lines.specs.Private.FieldMachine.{text_place, before, between, FieldMode, plain, opened, empty, body, FieldMove, grows, closes, breaks, begins_code, opens_field, ends_field, refused, Level, FieldScanned, field_state, field_fresh, field_text_start, begins_host, long_host, field_move, body_move, field_moved, field_step, field_steps_from, field_class_of, levels_open, frames}
+use Rattle.py_lines.specs.Private.FieldMachine.{text_place, before, between, FieldMode, plain, opened, empty, body, FieldMove, grows, closes, breaks, begins_code, opens_field, ends_field, refused, Level, FieldScanned, field_state, field_fresh, field_text_start, begins_host, long_host, is_after_brace, field_move, body_move, field_moved, field_step, field_steps_from, field_class_of, levels_open, frames}
 use Rattle.py_lines.proofs.Pieces.PieceLists.{piece}
 use Rattle.py_lines.proofs.Fields.Prefixes.{field_letters, first_quote}
-use Rattle.py_lines.proofs.FieldSoundness.Holds.{Limit, OpensHost, HoldsParts, HoldsBetween, HoldsLevel, HoldsLevels, AtStart, IsFieldSound}
+use Rattle.py_lines.proofs.FieldSoundness.Holds.{Limit, OpensHost, HoldsParts, HoldsBetween, HoldsMode, HoldsLevel, HoldsLevels, AtStart, IsFieldSound}
 use Rattle.py_lines.proofs.FieldSoundness.Bodies.{quoted_prefix, short_quotes, IsIn, Moved, between_moves}
 use Rattle.py_lines.proofs.FieldSoundness.BodyMoves.{body_moves}
 use Rattle.py_lines.proofs.FieldSoundness.Lists.{FieldSoundIf, no_pieces, stands_at, stands_more}
@@ -29,14 +29,8 @@ more_quotes host quotes held c same h = record {
 -- after the opening of a string, no part of it
 pub no_parts : (limit : Limit) (outer : List Level) (depth : ℕ) (host : Host) (held next : List ℕ) → OpensHost host (quotes_of host) held → is_quote host.quote ≡ true → HoldsParts limit outer depth host literal false held next
 no_parts limit outer depth host held next opens quotes = record {
-  begin = held;
-  parts = [];
-  spell = sym (append-nil held);
-  opens_with = opens;
-  quotes = quotes;
+  whole = record { begin = held; parts = []; spell = sym (append-nil held); opens_with = opens; quotes = quotes; named_is = refl; open_yet = refl };
   fit = λ more. tt;
-  named_is = refl;
-  open_yet = refl;
 }
 
 long_begins : (limit : Limit) (outer : List Level) (depth : ℕ) (host : Host) (held : List ℕ) → OpensHost host (quotes_of host) held → is_quote host.quote ≡ true → host.is_long ≡ true → HoldsBetween limit outer depth host literal false held []
@@ -45,6 +39,12 @@ long_begins limit outer depth host held opens quotes long = record { all = no_pa
 
 pub short_opens : (host : Host) (held : List ℕ) → host.is_long ≡ false → OpensHost host (host.quote ∷ []) held → OpensHost host (quotes_of host) held
 short_opens host held short h = subst (λ t. OpensHost host t held) (sym (short_quotes host short)) h
+
+-- so after one quote a character other than this quote begins the literal part of a short string
+pub opened_moves : (limit : Limit) (outer : List Level) (depth : ℕ) (host : Host) (held : List ℕ) (c : ℕ) → HoldsMode limit outer depth (opened host) held → c == host.quote ≡ false → Moved limit outer depth host literal false held c (body_move host literal false between c)
+unfolding body_move
+opened_moves limit outer depth host held c (opens, quotes, short) other =
+    between_moves limit outer depth host false literal false between held c (no_parts limit outer depth host held (c ∷ []) (short_opens host held short opens) quotes) (λ same. absurd (both_ways _ other (eq-eqb c host.quote same)))
 
 -- two quotes are an empty string, unless a third one follows
 pub empty_string : (F : Host → List ℕ → Type 0) (host : Host) (held : List ℕ) → OpensHost host (host.quote ∷ host.quote ∷ []) held → is_quote host.quote ≡ true → host.is_long ≡ false → IsFieldString F held
@@ -111,22 +111,22 @@ module _ (limit : Limit) (outer : List Level) (done : List Piece) (openers : Lis
   body_in place (body h p named q) host is at = (is ∙ sym at, tt)
   body_in place n host is at = absurd is
 
-  moved_sound : (host : Host) (place : Place) (v : FieldMove) → text_place m ≡ place → field_class_of m ≡ string → Moved limit outer depth host place held c v → HasRoom limit depth c v → FieldSoundIf limit (field_moved State c v) (read ++ c ∷ [])
-  moved_sound host place (grows n) at class holds room =
+  moved_sound : (host : Host) (place : Place) (waits : Bool) (v : FieldMove) → text_place m ≡ place → field_class_of m ≡ string → Moved limit outer depth host place waits held c v → HasRoom limit depth c v → FieldSoundIf limit (field_moved State c v) (read ++ c ∷ [])
+  moved_sound host place waits (grows n) at class holds room =
       let own = body_in place n host holds.0 at in
       grew limit outer done openers m n held read c sound own.0 holds.1 own.1
-  moved_sound host place closes at class holds room =
+  moved_sound host place waits closes at class holds room =
       subst (λ (x : Class). IsFieldSound limit (field_fresh outer (done ++ piece x (held ++ c ∷ []) ∷ []) openers) (read ++ c ∷ [])) (sym class)
       (closes_with limit outer done openers m held read c string sound (at ∙ holds.0) (λ h. absurd (cc)) holds.1 holds.2 (inl refl))
-  moved_sound host place breaks at class holds room = absurd holds
-  moved_sound host place (begins_code h) at class holds room =
+  moved_sound host place waits breaks at class holds room = absurd holds
+  moved_sound host place waits (begins_code h) at class holds room =
       subst (λ (x : Host). FieldSoundIf limit (field_moved State c (begins_code x)) (read ++ c ∷ [])) (sym holds.0)
-      (code_begins host holds.3 (at ∙ holds.1) holds.2 holds.4 (subst (λ p. HoldsParts limit outer depth host p false holds.3 (123 ∷ [])) holds.1 holds.5) room)
-  moved_sound host place (opens_field h) at class holds room =
+      (code_begins host holds.4 (at ∙ holds.2) holds.3 holds.5 (subst (λ p. HoldsParts limit outer depth host p false holds.4 (123 ∷ [])) holds.2 holds.6) room)
+  moved_sound host place waits (opens_field h) at class holds room =
       subst (λ (x : Host). FieldSoundIf limit (field_moved State c (opens_field x)) (read ++ c ∷ [])) (sym holds.0)
       (field_opens host (at ∙ holds.1) holds.2 (subst (λ p. HoldsParts limit outer depth host p false held (123 ∷ [])) holds.1 holds.3) room)
-  moved_sound host place ends_field at class holds room = field_ends host (at ∙ holds.0) holds.1 (subst (λ p. HoldsParts limit outer depth host p false held (125 ∷ [])) holds.0 holds.2)
-  moved_sound host place refused at class holds room = tt
+  moved_sound host place waits ends_field at class holds room = field_ends host (at ∙ holds.0) holds.1 (subst (λ p. HoldsParts limit outer depth host p false held (125 ∷ [])) holds.0 holds.2)
+  moved_sound host place waits refused at class holds room = tt
 
 -- what a move comes to is sound
 abbrev IsSoundBy : Limit → FieldScanned → List ℕ → ℕ → FieldMove → Type 0
@@ -142,9 +142,7 @@ step_sound limit outer done openers (opened host) held read c sound room =
     let (opens, quotes, short) = sound.mode in
     cond_both (c == host.quote) _ _ (IsSoundBy limit (field_state outer done openers (opened host) held) read c)
     (λ same room. grew limit outer done openers (opened host) (empty host) held read c sound refl (more_quotes host (host.quote ∷ []) held c same opens, quotes, short) tt)
-    (λ other room.
-    moved_sound limit outer done openers (opened host) held read c sound host literal (body_move host literal false between c) refl refl
-    (between_moves limit outer depth host literal false between held c (no_parts limit outer depth host held (c ∷ []) (short_opens host held short opens) quotes) (λ same. absurd (both_ways _ other same))) room) room
+    (λ other room. moved_sound limit outer done openers (opened host) held read c sound host literal false (body_move host literal false between c) refl refl (opened_moves limit outer depth host held c sound.mode other) room) room
 step_sound limit outer done openers (empty host) held read c sound room =
     let depth = length openers + levels_open outer in
     let (opens, quotes, short) = sound.mode in
@@ -159,7 +157,7 @@ step_sound limit outer done openers (empty host) held read c sound room =
     (ends_before limit outer done openers (empty host) held read c string sound refl (λ h. absurd (cc)) (inr (empty_string (limit.FieldsAt depth) host held opens quotes short)) (λ more. empty_before host held c more opens quotes other) refl) room) room
 step_sound limit outer done openers (body host place named at) held read c sound room =
     let depth = length openers + levels_open outer in
-    moved_sound limit outer done openers (body host place named at) held read c sound host place (body_move host place named at c) refl refl (body_moves limit outer depth host place named at held c sound.mode) room
+    moved_sound limit outer done openers (body host place named at) held read c sound host place (is_after_brace at) (body_move host place named at c) refl refl (body_moves limit outer depth host place named at held c sound.mode) room
 
 -- characters, one after another
 abbrev pub HaveRoom : Limit → Option FieldScanned → List ℕ → Type 0

@@ -1,6 +1,7 @@
 -- Some text that begins with these characters is read with fields exactly where the machine with fields goes through them, and
 -- each of them has room: what is open can be closed.
-use Rattle.std.proofs.Common.{◌≡◌, ℕ, Bool, true, false, Option, None, Some, List, [], ◌∷◌, ◌++◌, refl, sym, ap, ◌∙◌}
+use Rattle.std.proofs.Common.{◌≡◌, ℕ, Bool, true, false, ◌&&◌, Option, None, Some, List, [], ◌∷◌, ◌++◌, refl, sym, ap, ◌∙◌}
+use Rattle.std.proofs.Math.Bool.{and_assoc}
 use Rattle.std.proofs.lemmas.Bool.{and_parts, and_from, and_right, both_ways}
 use Rattle.py_lines.specs.Character.{is_quote}
 use Rattle.py_lines.specs.Piece.{comment, line_end, Piece}
@@ -18,7 +19,7 @@ use Rattle.py_lines.proofs.FieldMachine.Runs.{BelowLimit, steps_of, room_of, goe
 use Rattle.py_lines.proofs.FieldMachine.PlainSteps.{plain_moves}
 use Rattle.py_lines.proofs.FieldMachine.Completeness.{reading_reached}
 use Rattle.py_lines.proofs.FieldSoundness.Holds.{Limit, HoldsAt, IsFieldSound}
-use Rattle.py_lines.proofs.FieldSoundness.Closing.{IsReadyField, ready-fresh, Finishes, Readies, at_once, grows_first, closes_last, finishes_after, levels_close, list_finishes, body_finishes}
+use Rattle.py_lines.proofs.FieldSoundness.Closing.{IsReadyField, ready-fresh, Finishes, Readies, at_once, grows_first, closes_last, finishes_after, list_finishes, body_finishes}
 use Rattle.py_lines.proofs.FieldSoundness.HostSteps.{sound_at}
 use Rattle.py_lines.proofs.FieldSoundness.OpenEnds.{at_open}
 use Rattle.py_lines.proofs.FieldSoundness.WholeTexts.{two_hundred, rooms_at, final_is_reading}
@@ -68,14 +69,14 @@ quotes_at limit outer depth host place named at held h = (at_open limit outer de
 
 -- so from every state
 pub state_finishes : (limit : Limit) (Room : ℕ → Type 0) (outer : List Level) (done : List Piece) (openers : List ℕ) (m : FieldMode) (held read : List ℕ) → IsFieldSound limit (field_state outer done openers m held) read → Finishes Room (field_state outer done openers m held)
-state_finishes limit Room outer done openers (plain m) held read sound = plain_readies Room outer done openers m held sound.mode.0 (list_finishes Room outer openers (levels_close limit literal outer _ sound.levels))
+state_finishes limit Room outer done openers (plain m) held read sound = plain_readies Room outer done openers m held sound.mode.0 (list_finishes limit Room outer openers _ sound.levels)
 state_finishes limit Room outer done openers (opened host) held read sound =
     let quotes = sound.mode.1 in
     grows_first Room (field_state outer done openers (opened host) held) (empty host) host.quote (and_from _ _ (quote-scalar host.quote quotes) refl) (second_quote host held)
-    (at_once Room (field_state outer done openers (empty host) (held ++ host.quote ∷ [])) (ready_empty host (held ++ host.quote ∷ []) quotes)) (list_finishes Room outer openers (levels_close limit literal outer _ sound.levels))
-state_finishes limit Room outer done openers (empty host) held read sound = list_finishes Room outer openers (levels_close limit literal outer _ sound.levels) done (empty host) held (ready_empty host held sound.mode.1)
+    (at_once Room (field_state outer done openers (empty host) (held ++ host.quote ∷ [])) (ready_empty host (held ++ host.quote ∷ []) quotes)) (list_finishes limit Room outer openers _ sound.levels)
+state_finishes limit Room outer done openers (empty host) held read sound = list_finishes limit Room outer openers _ sound.levels done (empty host) held (ready_empty host held sound.mode.1)
 state_finishes limit Room outer done openers (body host place named at) held read sound =
-    body_finishes Room place outer done openers host named at held (quotes_at limit outer _ host place named at held sound.mode) (levels_close limit place outer _ sound.levels)
+    body_finishes limit Room place outer done openers host named at held _ (quotes_at limit outer _ host place named at held sound.mode) sound.levels
 
 -- runs over two texts, one after the other
 pub steps-append : (o : Option FieldScanned) (a b : List ℕ) → field_steps_from o (a ++ b) ≡ field_steps_from (field_steps_from o a) b
@@ -83,12 +84,16 @@ steps-append None a b = refl
 steps-append (Some s) [] b = refl
 steps-append (Some s) (c ∷ a) b = steps-append (field_step s c) a b
 
+room-through : (o : Option FieldScanned) (a b : List ℕ) → have_room o (a ++ b) ≡ have_room o a && have_room (field_steps_from o a) b
+room-through None a b = refl
+room-through (Some s) [] b = refl
+room-through (Some s) (c ∷ a) b = ap (λ r. has_room s c && r) (room-through (field_step s c) a b) ∙ sym (and_assoc (has_room s c) (have_room (field_step s c) a) _)
+
 pub room-append : (o : Option FieldScanned) (a b : List ℕ) (s : FieldScanned) → field_steps_from o a ≡ Some s → have_room o a ≡ true → have_room (Some s) b ≡ true → have_room o (a ++ b) ≡ true
-room-append None a b s steps first second = refl
-room-append (Some t) [] b s steps first second = ap (λ o. have_room o b) steps ∙ second
-room-append (Some t) (c ∷ a) b s steps first second =
-    let parts = and_parts (has_room t c) (have_room (field_step t c) a) first in
-    and_from _ _ parts.0 (room-append (field_step t c) a b s steps parts.1 second)
+room-append o a b s steps first second = room-through o a b ∙ and_from _ _ first (ap (λ x. have_room x b) steps ∙ second)
+
+pub room_parts : (o : Option FieldScanned) (a b : List ℕ) → have_room o (a ++ b) ≡ true → (have_room o a ≡ true) × (have_room (field_steps_from o a) b ≡ true)
+room_parts o a b h = and_parts (have_room o a) (have_room (field_steps_from o a) b) (sym (room-through o a b) ∙ h)
 
 pub steps_before : (o : Option FieldScanned) (b : List ℕ) (s : FieldScanned) → field_steps_from o b ≡ Some s → (t : FieldScanned) × (o ≡ Some t)
 steps_before None b s steps =
@@ -96,19 +101,12 @@ steps_before None b s steps =
     absurd (cc)
 steps_before (Some t) b s steps = (t, refl)
 
-room_before : (o : Option FieldScanned) (a b : List ℕ) → have_room o (a ++ b) ≡ true → have_room o a ≡ true
-room_before None a b h = refl
-room_before (Some s) [] b h = refl
-room_before (Some s) (c ∷ a) b h =
-    let parts = and_parts (has_room s c) (have_room (field_step s c) (a ++ b)) h in
-    and_from _ _ parts.0 (room_before (field_step s c) a b parts.1)
-
 -- the machine goes through a live text, and each character has room
 pub live_goes : (characters : List ℕ) → IsLive characters → (s : FieldScanned) × (field_steps_from (Some field_text_start) characters ≡ Some s) × (have_room (Some field_text_start) characters ≡ true)
 live_goes characters live =
     let whole = reading_reached live.pieces (characters ++ live.more) live.reading in
     let first = steps_before (field_steps_from (Some field_text_start) characters) live.more whole.to (sym (steps-append (Some field_text_start) characters live.more) ∙ whole.steps) in
-    (first.0, first.1, room_before (Some field_text_start) characters live.more whole.room)
+    (first.0, first.1, (room_parts (Some field_text_start) characters live.more whole.room).0)
 
 -- and a text that it goes through so is live
 pub goes_live : (characters : List ℕ) (s : FieldScanned) → field_steps_from (Some field_text_start) characters ≡ Some s → have_room (Some field_text_start) characters ≡ true → IsLive characters
@@ -128,4 +126,4 @@ pub live_before : (xs ys : List ℕ) → IsLive (xs ++ ys) → IsLive xs
 live_before xs ys live =
     let whole = live_goes (xs ++ ys) live in
     let first = steps_before (field_steps_from (Some field_text_start) xs) ys whole.0 (sym (steps-append (Some field_text_start) xs ys) ∙ whole.1) in
-    goes_live xs first.0 first.1 (room_before (Some field_text_start) xs ys whole.2)
+    goes_live xs first.0 first.1 (room_parts (Some field_text_start) xs ys whole.2).0

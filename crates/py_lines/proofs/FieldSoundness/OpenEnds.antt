@@ -25,76 +25,50 @@ use Rattle.py_lines.proofs.FieldSoundness.HostSteps.{no_parts, short_opens}
 use Rattle.py_lines.proofs.FieldSoundness.ListEnds.{code_at_end, list_ends}
 use Rattle.py_lines.proofs.FieldSoundness.OpenTexts.{begun_before, are_begun, begins_in, parts_at, stands_open, list_begins}
 
-pub stands_map : (A B : List ℕ → Type 0) (characters start : List ℕ) → ((front : List ℕ) → A front → B front) → StandsOpen A characters start → StandsOpen B characters start
-stands_map A B characters start f at = record {
-  outside = at.outside;
-  depth = at.depth;
-  pieces = at.pieces;
-  front = at.front;
-  list = at.list;
-  begun = at.begun;
-  before = at.before;
-  spell = at.spell;
-  open_yet = f at.front at.open_yet;
-}
+module _ (limit : Limit) (outer : List Level) (depth : ℕ) (host : Host) (place : Place) (named : Bool) where
+  -- parts of a string up to a text's end, where the last backslash may have nothing to escape yet
+  pub record OpenUpTo (held : List ℕ) : Type 0 where
+    pub text : List ℕ
+    pub last : List ℕ
+    pub spell : held ≡ text ++ last
+    pub escapes : IsUnescaped last
+    pub parts : PartsAt limit outer depth host place named text last
 
--- parts of a string up to a text's end, where the last backslash may have nothing to escape yet
-pub record OpenUpTo (limit : Limit) (outer : List Level) (depth : ℕ) (host : Host) (place : Place) (named : Bool) (held : List ℕ) : Type 0 where
-  pub text : List ℕ
-  pub last : List ℕ
-  pub spell : held ≡ text ++ last
-  pub escapes : IsUnescaped last
-  pub parts : PartsAt limit outer depth host place named text last
+  whole_open : (held text : List ℕ) → held ≡ text → HoldsParts limit outer depth host place named text [] → OpenUpTo held
+  whole_open held text is h = record { text = text; last = []; spell = is ∙ sym (append-nil text); escapes = inl refl; parts = parts_at limit outer depth host place named text [] [] h }
 
-whole_open : (limit : Limit) (outer : List Level) (depth : ℕ) (host : Host) (place : Place) (named : Bool) (held : List ℕ) → HoldsParts limit outer depth host place named held [] → OpenUpTo limit outer depth host place named held
-whole_open limit outer depth host place named held h = record { text = held; last = []; spell = sym (append-nil held); escapes = inl refl; parts = parts_at limit outer depth host place named held [] [] h }
+  -- a backslash and a character, to which no more belongs at the end
+  escape_open : (held text : List ℕ) (s c : ℕ) → held ≡ text ++ s ∷ c ∷ [] → is_backslash s ≡ true → is_brace c ≡ false → may_be_escaped host place c ≡ true → HoldsParts limit outer depth host place named text (s ∷ []) → OpenUpTo held
+  escape_open held text s c is slashes brace may h = record {
+    text = text ++ s ∷ c ∷ [];
+    last = [];
+    spell = is ∙ sym (append-nil (text ++ s ∷ c ∷ []));
+    escapes = inl refl;
+    parts = record {
+      whole = push_part limit outer host place named named text (s ∷ c ∷ []) h.whole (triple-other host.quote h.parts (s ∷ c ∷ []) [] refl h.open_yet refl) refl;
+      fit = parts-push (limit.FieldsAt depth) host place false h.parts (s ∷ c ∷ []) [] (h.fit (c ∷ [])) (escape s c refl slashes brace may (and_right _ _ refl) (and_right _ _ refl));
+    };
+  }
 
--- a backslash and a character, to which no more belongs at the end
-escape_open : (limit : Limit) (outer : List Level) (depth : ℕ) (host : Host) (place : Place) (named : Bool) (text : List ℕ) (s c : ℕ) → is_backslash s ≡ true → is_brace c ≡ false → may_be_escaped host place c ≡ true → HoldsParts limit outer depth host place named text (s ∷ []) → OpenUpTo limit outer depth host place named (text ++ s ∷ c ∷ [])
-escape_open limit outer depth host place named text s c slashes brace may h = record {
-  text = text ++ s ∷ c ∷ [];
-  last = [];
-  spell = sym (append-nil (text ++ s ∷ c ∷ []));
-  escapes = inl refl;
-  parts = push_part limit outer host place named named text (s ∷ c ∷ []) _ _ h
-      (parts-push (limit.FieldsAt depth) host place false h.parts (s ∷ c ∷ []) [] (h.fit (c ∷ [])) (escape s c refl slashes brace may (and_right _ _ refl) (and_right _ _ refl)))
-      (triple-other host.quote h.parts (s ∷ c ∷ []) [] refl h.open_yet refl) refl;
-}
-
-pub at_open : (limit : Limit) (outer : List Level) (depth : ℕ) (host : Host) (place : Place) (named : Bool) (at : At) (held : List ℕ) → (at ≡ after_brace → ⊥) → HoldsAt limit outer depth host place named at held → OpenUpTo limit outer depth host place named held
-at_open limit outer depth host place named between held other h = whole_open limit outer depth host place named held h.all
-at_open limit outer depth host place named after_one held other h =
-    subst (OpenUpTo limit outer depth host place named) (sym h.1) (whole_open limit outer depth host place named _ (one_quote limit outer depth host place named h.0 [] h.2 h.3))
-at_open limit outer depth host place named after_two held other h =
-    subst (OpenUpTo limit outer depth host place named) (sym h.1) (whole_open limit outer depth host place named _ (two_quotes limit outer depth host place named h.0 [] h.2 h.3))
-at_open limit outer depth host place named after_slash held other (text, s, is, slashes, h) = record {
-  text = text;
-  last = s ∷ [];
-  spell = is;
-  escapes = inr (s, refl, slashes);
-  parts = parts_at limit outer depth host place named text (s ∷ []) [] h;
-}
-at_open limit outer depth host place named after_return held other (text, s, r, is, slashes, returns, may, h) =
-    subst (OpenUpTo limit outer depth host place named) (sym is) (escape_open limit outer depth host place named text s r slashes (return-not-brace r returns) may h)
-at_open limit outer depth host place named after_name held other (text, s, n, is, slashes, is_name, may, h) =
-    subst (OpenUpTo limit outer depth host place named) (sym is) (escape_open limit outer depth host place named text s n slashes (name-not-brace host n is_name) may h)
-at_open limit outer depth host place named after_brace held other h = absurd (other refl)
-
--- a string with fields that is open up to a spot
-pub record BodyOpen (host : Host) (place : Place) (named : Bool) (characters start : List ℕ) : Type 0 where
-  pub spot : Spot
-  pub stands : StandsOpen (IsOpenUpTo host spot) characters start
-  pub place_is : spot.place ≡ place
-  pub named_is : spot.named ≡ named
+  pub at_open : (at : At) (held : List ℕ) → (at ≡ after_brace → ⊥) → HoldsAt limit outer depth host place named at held → OpenUpTo held
+  at_open between held other h = whole_open held held refl h.all
+  at_open after_one held other h = whole_open held _ h.1 (one_quote limit outer depth host place named h.0 [] h.2 h.3)
+  at_open after_two held other h = whole_open held _ h.1 (two_quotes limit outer depth host place named h.0 [] h.2 h.3)
+  at_open after_slash held other (text, s, is, slashes, h) =
+      record { text = text; last = s ∷ []; spell = is; escapes = inr (s, refl, slashes); parts = parts_at limit outer depth host place named text (s ∷ []) [] h }
+  at_open after_return held other (text, s, r, is, slashes, returns, may, h) = escape_open held text s r is slashes (return-not-brace r returns) may h
+  at_open after_name held other (text, s, n, is, slashes, is_name, may, h) = escape_open held text s n is slashes (name-not-brace host n is_name) may h
+  at_open after_brace held other h = absurd (other refl)
 
 module _ (limit : Limit) (outer : List Level) (done : List Piece) (openers : List ℕ) (m : FieldMode) (held read : List ℕ) (sound : IsFieldSound limit (field_state outer done openers m held) read) where
-  body_open : (host : Host) (place : Place) (named : Bool) → text_place m ≡ place → OpenUpTo limit outer (length openers + levels_open outer) host place named held → BodyOpen host place named read (before place outer ++ spelled done)
-  body_open host place named at up =
+  -- a string with fields that is open up to a spot, of which more is said
+  body_open : (host : Host) (place : Place) (named : Bool) (IsOpen : Spot → List ℕ → Type 0) → ((spot : Spot) → spot.place ≡ place → IsOpenUpTo host spot held → IsOpen spot held) → text_place m ≡ place → OpenUpTo limit outer (length openers + levels_open outer) host place named held → (spot : Spot) × (spot.place ≡ place) × StandsOpen (IsOpen spot) read (before place outer ++ spelled done)
+  body_open host place named IsOpen is at up =
       let here = stands_at limit outer done openers m held read place sound at in
-      let so = stands_open limit place outer done openers host named up.text up.last held [] (sym up.spell ∙ sym (append-nil held)) here.list up.parts here.levels in
-      record {
-        spot = so.spot;
-        stands = record {
+      let so = stands_open limit place outer done openers host named up.text up.last held [] (sym up.spell ∙ sym (append-nil held)) here.list up.parts here.levels in (
+        so.spot,
+        so.place_is,
+        record {
           outside = so.outside;
           depth = so.base;
           pieces = so.pieces;
@@ -103,11 +77,9 @@ module _ (limit : Limit) (outer : List Level) (done : List Piece) (openers : Lis
           begun = subst (AreBegun so.base so.pieces) (sym up.spell) so.begun;
           before = sym so.before_is;
           spell = append_assoc (before place outer) (spelled done) held ∙ here.spell;
-          open_yet = record { body = up.text; last = up.last; spell = up.spell; escapes = up.escapes; string = so.string };
-        };
-        place_is = so.place_is;
-        named_is = so.named_is;
-      }
+          open_yet = is so.spot so.place_is (record { body = up.text; last = up.last; spell = up.spell; escapes = up.escapes; string = so.string });
+        },
+      )
 
   -- a piece of the innermost list that is open
   piece_open : (IsOpen : List ℕ → Type 0) → text_place m ≡ literal → IsOpen held → StandsOpen IsOpen read (before literal outer ++ spelled done)
@@ -126,27 +98,24 @@ module _ (limit : Limit) (outer : List Level) (done : List Piece) (openers : Lis
       }
 
 -- the literal part of a string, a short or a long one
-open_literal : (host : Host) (named : Bool) (characters start : List ℕ) (is_long : Bool) → host.is_long ≡ is_long → BodyOpen host literal named characters start → StandsOpen (IsOpenLiteral is_long) characters start
-open_literal host named characters start is_long long own = stands_map (IsOpenUpTo host own.spot) (IsOpenLiteral is_long) characters start (λ front up. (host, own.spot, up, own.place_is, long)) own.stands
+pub literal_is_open : (limit : Limit) (outer : List Level) (done : List Piece) (openers : List ℕ) (host : Host) (named : Bool) (at : At) (held read : List ℕ) → IsFieldSound limit (field_state outer done openers (body host literal named at) held) read → (at ≡ after_brace → ⊥) → (Other : List ℕ → Type 0) (is_long : Bool) → host.is_long ≡ is_long → StandsOpen (λ front. Other front ⊎ IsOpenLiteral is_long front) read (before literal outer ++ spelled done)
+literal_is_open limit outer done openers host named at held read sound other Other is_long long =
+    (body_open limit outer done openers (body host literal named at) held read sound host literal named (λ spot front. Other front ⊎ IsOpenLiteral is_long front) (λ spot place up. inr (host, spot, up, place, long)) refl
+    (at_open limit outer (length openers + levels_open outer) host literal named at held other sound.mode)).2
 
-pub body_is_open : (limit : Limit) (outer : List Level) (done : List Piece) (openers : List ℕ) (host : Host) (place : Place) (named : Bool) (at : At) (held read : List ℕ) → IsFieldSound limit (field_state outer done openers (body host place named at) held) read → (at ≡ after_brace → ⊥) → BodyOpen host place named read (before place outer ++ spelled done)
-body_is_open limit outer done openers host place named at held read sound other =
-    body_open limit outer done openers (body host place named at) held read sound host place named refl (at_open limit outer (length openers + levels_open outer) host place named at held other sound.mode)
-
-pub literal_is_open : (limit : Limit) (outer : List Level) (done : List Piece) (openers : List ℕ) (host : Host) (named : Bool) (at : At) (held read : List ℕ) → IsFieldSound limit (field_state outer done openers (body host literal named at) held) read → (at ≡ after_brace → ⊥) → StandsOpen (IsOpenLiteral host.is_long) read (before literal outer ++ spelled done)
-literal_is_open limit outer done openers host named at held read sound other = open_literal host named read (before literal outer ++ spelled done) host.is_long refl (body_is_open limit outer done openers host literal named at held read sound other)
-
-pub opened_is_open : (limit : Limit) (outer : List Level) (done : List Piece) (openers : List ℕ) (host : Host) (held read : List ℕ) → IsFieldSound limit (field_state outer done openers (opened host) held) read → StandsOpen (IsOpenLiteral false) read (before literal outer ++ spelled done)
+pub opened_is_open : (limit : Limit) (outer : List Level) (done : List Piece) (openers : List ℕ) (host : Host) (held read : List ℕ) → IsFieldSound limit (field_state outer done openers (opened host) held) read → InOpenShort read (before literal outer ++ spelled done)
 opened_is_open limit outer done openers host held read sound =
     let depth = length openers + levels_open outer in
     let parts = no_parts limit outer depth host held [] (short_opens host held sound.mode.2 sound.mode.0) sound.mode.1 in
-    open_literal host false read (before literal outer ++ spelled done) false sound.mode.2 (body_open limit outer done openers (opened host) held read sound host literal false refl (whole_open limit outer depth host literal false held parts))
+    (body_open limit outer done openers (opened host) held read sound host literal false (λ spot front. IsPlainShortPrefix front ⊎ IsOpenLiteral false front) (λ spot place up. inr (host, spot, up, place, sound.mode.2)) refl
+    (whole_open limit outer depth host literal false held held refl parts)).2
 
 -- a specification
 pub specification_is_open : (limit : Limit) (outer : List Level) (done : List Piece) (openers : List ℕ) (host : Host) (named : Bool) (at : At) (held read : List ℕ) → IsFieldSound limit (field_state outer done openers (body host specification named at) held) read → (at ≡ after_brace → ⊥) → (start : List ℕ) × InSpecification host read start
 specification_is_open limit outer done openers host named at held read sound other =
-    let own = body_is_open limit outer done openers host specification named at held read sound other in
-    ((before specification outer ++ spelled done) ++ own.spot.field, record { string = before specification outer ++ spelled done; spot = own.spot; stands = own.stands; place = own.place_is; before = refl })
+    let own = body_open limit outer done openers (body host specification named at) held read sound host specification named (λ spot front. IsOpenUpTo host spot front) (λ spot place up. up) refl
+    (at_open limit outer (length openers + levels_open outer) host specification named at held other sound.mode) in
+    ((before specification outer ++ spelled done) ++ own.0.field, record { string = before specification outer ++ spelled done; spot = own.0; stands = own.2; place = own.1; before = refl })
 
 -- a string without fields, or a backslash
 pub short_class : (m : Mode) → in_short m ≡ true → class_of m ≡ string

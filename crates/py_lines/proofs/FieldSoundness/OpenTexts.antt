@@ -13,7 +13,7 @@ use Rattle.py_lines.proofs.Pieces.PieceLists.{piece}
 use Rattle.py_lines.proofs.Machine.LiveTexts.{closing_of-closing}
 use Rattle.py_lines.proofs.Fields.Nesting.{parts_map}
 use Rattle.py_lines.proofs.FieldSoundness.OpenLists.{Opens, opens-closes, opens-depth, balanced_at}
-use Rattle.py_lines.proofs.FieldSoundness.Holds.{Limit, refit, PartsAt, HoldsParts, HoldsList, HoldsLevel, HoldsLevels}
+use Rattle.py_lines.proofs.FieldSoundness.Holds.{Limit, PartsAt, HoldsParts, HoldsList, HoldsLevel, HoldsLevels}
 use Rattle.py_lines.proofs.FieldSoundness.Code.{single_at}
 
 -- brackets that are open can be closed
@@ -64,7 +64,7 @@ begins_in l ls text rest front single inner =
 
 -- whole parts of a string before this rest
 pub parts_at : (limit : Limit) (outer : List Level) (depth : ℕ) (host : Host) (place : Place) (named : Bool) (text next more : List ℕ) → HoldsParts limit outer depth host place named text next → PartsAt limit outer depth host place named text (next ++ more)
-parts_at limit outer depth host place named text next more h = refit limit outer host place named text _ _ (λ parts fit. fit more) h
+parts_at limit outer depth host place named text next more h = record { whole = h.whole; fit = h.fit more }
 
 -- the same, as fields without a limit are in them
 any_parts : (limit : Limit) (depth : ℕ) (host : Host) (place : Place) (parts : List (List ℕ)) (rest : List ℕ) → AreParts (limit.FieldsAt depth) host place false parts rest → AreParts Fields host place false parts rest

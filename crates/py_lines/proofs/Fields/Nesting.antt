@@ -60,6 +60,15 @@ module _ (F : Host → List ℕ → Type 0) (W : ℕ → Host → List ℕ → T
       let each = parts_within host _ _ parts _ is.each in
       (each.0, λ m le. record { each = each.1 m le; ended = is.ended; open_yet = is.open_yet })
 
+  -- a field, by its pieces, what they meet, and its specification
+  field_within : (D : Host → List ℕ → Type 0) (V : ℕ → Host → List ℕ → Type 0) (P : List Piece → Type 0) (Q : ℕ → List Piece → Type 0) → ((host : Host) (parts : List (List ℕ)) → IsSpecification D host parts → Later (λ n. IsSpecification (V n) host parts)) → ((ps : List Piece) → P ps → Later (λ n. Q n ps)) → (host : Host) (text : List ℕ) → IsField (with_fields F) P D host text → Later (λ n. IsField (with_fields (W n)) (Q n) (V n) host text)
+  field_within D V P Q specify meet host text (simple inside spell is passes) =
+      let own = both_later _ _ (inside_within inside _ is) (meet inside passes) in
+      (own.0, λ m le. simple inside spell (own.1 m le).0 (own.1 m le).1)
+  field_within D V P Q specify meet host text (specified inside parts spell is passes specification) =
+      let own = both_later _ _ (inside_within inside _ is) (both_later _ _ (meet inside passes) (specify host parts specification)) in
+      (own.0, λ m le. let all = own.1 m le in specified inside parts spell all.0 all.1.0 all.1.1)
+
 -- what is made of some fields is made of more
 always : {P : Type 0} → Later (λ n. P) → P
 always (n, holds) = holds n (omega arith)
@@ -77,11 +86,10 @@ module _ (F G : Host → List ℕ → Type 0) (f : Within F G) where
   pub class_map : (class : Class) (text : List ℕ) → InClassIn (with_fields F) class text → InClassIn (with_fields G) class text
   class_map class text is = always (class_within F (λ n. G) into_all class text is)
 
--- a field, by its pieces, what they meet, and its specification
+-- so a field
 pub field_map : (F G D E : Host → List ℕ → Type 0) (P Q : List Piece → Type 0) → Within F G → Within D E → ((ps : List Piece) → P ps → Q ps) → (host : Host) (text : List ℕ) → IsField (with_fields F) P D host text → IsField (with_fields G) Q E host text
-field_map F G D E P Q f g h host text (simple inside spell is passes) = simple inside spell (always (inside_within F (λ n. G) (into_all F G f) inside _ is)) (h inside passes)
-field_map F G D E P Q f g h host text (specified inside parts spell is passes own) =
-    specified inside parts spell (always (inside_within F (λ n. G) (into_all F G f) inside _ is)) (h inside passes) (always (specification_within D (λ n. E) (into_all D E g) host parts own))
+field_map F G D E P Q f g h host text is =
+    always (field_within F (λ n. G) (into_all F G f) D (λ n. E) P (λ n. Q) (specification_within D (λ n. E) (into_all D E g)) (λ ps passes. (zero, λ m le. h ps passes)) host text is)
 
 within_more : (n m : ℕ) → n ≤ m → Within (FieldsWithin n) (FieldsWithin m)
 within_more zero m le host text is = absurd is
@@ -96,13 +104,9 @@ later_fields host text (n, is) = (n, λ m le. within_more n m le host text is)
 
 -- so a field of strings whose fields are fields is one
 pub field_is : (host : Host) (text : List ℕ) → IsField fielded AnyPieces Fields host text → Fields host text
-field_is host text (simple inside spell is passes) =
-    let own = inside_within Fields FieldsWithin later_fields inside _ is in
-    (suc own.0, simple inside spell (own.1 own.0 (omega arith)) passes)
-field_is host text (specified inside parts spell is passes specification) =
-    let own = both_later _ _ (inside_within Fields FieldsWithin later_fields inside _ is) (specification_within Fields FieldsWithin later_fields host parts specification) in
-    let both = own.1 own.0 (omega arith) in
-    (suc own.0, specified inside parts spell both.0 passes both.1)
+field_is host text is =
+    let own = field_within Fields FieldsWithin later_fields Fields FieldsWithin AnyPieces (λ n. AnyPieces) (specification_within Fields FieldsWithin later_fields) (λ ps passes. (zero, λ m le. passes)) host text is in
+    (suc own.0, own.1 own.0 (omega arith))
 
 -- and each field is such a one
 pub field_of : (host : Host) (text : List ℕ) → Fields host text → IsField fielded AnyPieces Fields host text
@@ -139,13 +143,10 @@ shallow_within depth (p ∷ ps) shallow =
     at class h = (zero, λ m le is. absurd (cc))
 
 pub shallow_is : (depth : ℕ) (host : Host) (text : List ℕ) → depth < 200 → IsField fielded (IsShallow (depth + 1)) (ShallowFields (depth + 1)) host text → ShallowFields depth host text
-shallow_is depth host text room (simple inside spell is passes) =
-    let own = shallow_within (depth + 1) inside passes in
-    (suc own.0, (room, simple inside spell is (own.1 own.0 (omega arith))))
-shallow_is depth host text room (specified inside parts spell is passes specification) =
-    let own = both_later _ _ (shallow_within (depth + 1) inside passes) (specification_within (ShallowFields (depth + 1)) (λ n. ShallowWithin n (depth + 1)) (later_shallow (depth + 1)) host parts specification) in
-    let both = own.1 own.0 (omega arith) in
-    (suc own.0, (room, specified inside parts spell is both.0 both.1))
+shallow_is depth host text room is =
+    let W : ℕ → Host → List ℕ → Type 0 = λ n. ShallowWithin n (depth + 1) in
+    let own = field_within Fields (λ n. Fields) (λ h t one. (zero, λ m le. one)) (ShallowFields (depth + 1)) W (IsShallow (depth + 1)) (λ n. IsShallowWith (ShallowWithin n) (depth + 1)) (specification_within (ShallowFields (depth + 1)) W (later_shallow (depth + 1))) (shallow_within (depth + 1)) host text is in
+    (suc own.0, (room, own.1 own.0 (omega arith)))
 
 pub shallow_of : (depth : ℕ) (host : Host) (text : List ℕ) → ShallowFields depth host text → (depth < 200) × IsField fielded (IsShallow (depth + 1)) (ShallowFields (depth + 1)) host text
 shallow_of depth host text (zero, is) = absurd is

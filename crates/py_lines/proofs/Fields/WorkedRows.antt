@@ -11,6 +11,7 @@ use Rattle.py_lines.specs.FieldStrings.{is_field_prefix, Host, IsFieldString}
 use Rattle.py_lines.specs.Private.FieldMachine.{Level, FieldScanned, field_state, field_fresh, field_text_start, field_pieces, field_steps_from, have_room}
 use Rattle.py_lines.proofs.Fields.Prefixes.{plain_quotes, before_quote, before_first}
 use Rattle.py_lines.proofs.FieldMachine.Runs.{NoLimit, steps_of}
+use Rattle.py_lines.proofs.FieldMachine.ListBrackets.{none_some}
 use Rattle.py_lines.proofs.FieldMachine.Completeness.{fields_reached}
 unfoldable pub use Rattle.py_lines.proofs.FieldMachine.WorkedRows.{tested}
 use Rattle.py_lines.proofs.FieldSoundness.WholeTexts.{final_is_reading}
@@ -121,20 +122,14 @@ no_string_over_two is =
 -- f"{" : no string, since a quote opens a string in a field
 no_string_with_open_field : ¬ (InClassIn fielded string (codes "f\"{\""))
 unfolding tested ended pieces_outside
-no_string_with_open_field is =
-    let wrong : ◌≡◌ {A = Option (List Piece)} None (Some (piece string (codes "f\"{\"") ∷ [])) = string_ends (codes "f\"{\"") is in
-    cc
+no_string_with_open_field is = none_some (string_ends (codes "f\"{\"") is)
 
 -- f"{a # }" : no string, since a comment in a field goes to the line's end
 no_string_with_comment : ¬ (InClassIn fielded string (codes "f\"{a # }\""))
 unfolding tested ended pieces_outside
-no_string_with_comment is =
-    let wrong : ◌≡◌ {A = Option (List Piece)} None (Some (piece string (codes "f\"{a # }\"") ∷ [])) = string_ends (codes "f\"{a # }\"") is in
-    cc
+no_string_with_comment is = none_some (string_ends (codes "f\"{a # }\"") is)
 
 -- 'f"{x:\n}"' : nor is a line end in the specification of a short string in one
 no_string_over_line_end : ¬ (IsFieldString Fields (codes "f\"{x:\n}\""))
 unfolding tested ended pieces_outside
-no_string_over_line_end is =
-    let wrong : ◌≡◌ {A = Option (List Piece)} None (Some (piece string (codes "f\"{x:\n}\"") ∷ [])) = string_ends (codes "f\"{x:\n}\"") (inr is) in
-    cc
+no_string_over_line_end is = none_some (string_ends (codes "f\"{x:\n}\"") (inr is))
