@@ -19,9 +19,6 @@ module _ (old new : Dialect) (same : Carries old new) where
   no_brace : (before after : List ℕ) (offset : ℕ) → may_have_fields before ≡ false → ¬ (OpensBraceTooDeepIn old before after offset)
   no_brace before after offset h is = no_field _ _ is.start after (earlier is.start (byte "{" ∷ []) (ap may_have_fields is.spell ∙ h)) is.due
 
-  no_short_specification : (before start : List ℕ) → may_have_fields before ≡ false → ¬ (InShortSpecificationIn old before start)
-  no_short_specification before start h is = no_specification old new same is.host before is.field h is.inside
-
   depth_carried : (before : List ℕ) (c depth : ℕ) → may_have_fields (before ++ c ∷ []) ≡ false → IsAtDepthIn old before c depth → IsAtDepthIn new before c depth
   depth_carried before c depth h is =
       let whole : may_have_fields (is.outside ++ (spelled is.pieces ++ c ∷ [])) ≡ false =
@@ -40,7 +37,7 @@ module _ (old new : Dialect) (same : Carries old new) where
   string_carried before c offset h is = record {
     start = is.start;
     breaks = is.breaks;
-    inside = ⊎_elim (λ short. inl (in_short_carried old new same before is.start h short)) (λ other. absurd (no_short_specification before is.start h other)) is.inside;
+    inside = ⊎_elim (λ short. inl (in_short_carried old new same before is.start h short)) (λ other. absurd (no_specification old new same other.host before other.field h other.inside)) is.inside;
     place = is.place;
   }
 

@@ -91,24 +91,15 @@ module _ (old new : Dialect) (same : Carries old new) where
         open_yet = carry is.front (later (spelled is.pieces) is.front own) is.open_yet;
       }
 
-  short_carried : (front : List ℕ) → may_have_fields front ≡ false → IsPlainShortPrefixIn old front → IsPlainShortPrefixIn new front
-  short_carried front h (short, plain) = (short, same.prefix short.prefix short.quote _ short.opens (ap may_have_fields (sym short.spell) ∙ h))
-
-  long_carried : (front : List ℕ) → may_have_fields front ≡ false → IsPlainLongPrefixIn old front → IsPlainLongPrefixIn new front
-  long_carried front h (long, plain) = (long, same.prefix long.prefix long.quote _ long.opens (ap may_have_fields (sym long.spell) ∙ h))
-
-  -- which is no string with fields
+  -- it is no string with fields
   pub no_string : (host : Host) (spot : Spot) (front : List ℕ) → may_have_fields front ≡ false → ¬ (IsOpenUpToIn old host spot front)
   no_string host spot front h is = same.none host spot is.body is.last (earlier is.body is.last (ap may_have_fields (sym is.spell) ∙ h)) is.string
 
-  no_literal : (is_long : Bool) (front : List ℕ) → may_have_fields front ≡ false → ¬ (IsOpenLiteralIn old is_long front)
-  no_literal is_long front h (host, spot, is, place, long) = no_string host spot front h is
-
   pub in_short_carried : (characters start : List ℕ) → may_have_fields characters ≡ false → InOpenShortIn old characters start → InOpenShortIn new characters start
-  in_short_carried characters start h is = stands_carried _ _ (λ front k. ⊎_elim (λ short. inl (short_carried front k short)) (λ literal. absurd (no_literal false front k literal))) characters start h is
+  in_short_carried characters start h is = stands_carried _ _ (λ front k. ⊎_elim (λ (short, plain). inl (short, same.prefix short.prefix short.quote _ short.opens (ap may_have_fields (sym short.spell) ∙ k))) (λ (host, spot, up, place, length). absurd (no_string host spot front k up))) characters start h is
 
   pub in_long_carried : (characters start : List ℕ) → may_have_fields characters ≡ false → InOpenLongIn old characters start → InOpenLongIn new characters start
-  in_long_carried characters start h is = stands_carried _ _ (λ front k. ⊎_elim (λ long. inl (long_carried front k long)) (λ literal. absurd (no_literal true front k literal))) characters start h is
+  in_long_carried characters start h is = stands_carried _ _ (λ front k. ⊎_elim (λ (long, plain). inl (long, same.prefix long.prefix long.quote _ long.opens (ap may_have_fields (sym long.spell) ∙ k))) (λ (host, spot, up, place, length). absurd (no_string host spot front k up))) characters start h is
 
   pub backslash_carried : (characters start : List ℕ) → may_have_fields characters ≡ false → AfterOpenBackslashIn old characters start → AfterOpenBackslashIn new characters start
   backslash_carried characters start h is = stands_carried _ _ (λ front k slash. slash) characters start h is

@@ -25,7 +25,7 @@ use Rattle.py_lines.proofs.FieldSoundness.WholeTexts.{two_hundred}
 use Rattle.py_lines.proofs.FieldSoundness.OpenEnds.{specification_is_open}
 use Rattle.py_lines.proofs.Faults.EndFaults.{EndsSo, due_at, brace_is_due, no_brace_at, few_frames}
 use Rattle.py_lines.proofs.Faults.EndPlaces.{brace_more, short_unfinished, join_unfinished}
-use Rattle.py_lines.proofs.Faults.Ends.{deep_state, sound_to, open_now, named, opened_in_specification, specification_named}
+use Rattle.py_lines.proofs.Faults.Ends.{deep_state, sound_to, text_is, open_now, named, opened_in_specification, specification_named}
 use Rattle.py_lines.proofs.Faults.CharacterFaults.{IsStuck, goes_free, bracket_at, started, short_specification, specification_mode, stuck_dies}
 use Rattle.py_lines.proofs.Faults.Refusals.{IsShortHere, Refuses, Reason, reason}
 
@@ -55,12 +55,9 @@ short_alone (body host specification named at) short = absurd (both_ways _ refl 
 short_alone m short = record { waits = refl; slash = refl; quotes = λ c. refl }
 
 module _ (read : List ℕ) (s : FieldScanned) (steps : field_steps_from (Some field_text_start) read ≡ Some s) (room : have_room (Some field_text_start) read ≡ true) where
-  pub text_is : here s ≡ byte_len read
-  text_is = ap byte_len (sound_to read s steps room).spell
-
   -- where a cause fits, its byte is that of the state
   pub place_is : (cause : Cause) (c offset : ℕ) → Explains cause read c offset → offset ≡ cause_place s cause
-  place_is brace_too_deep c offset fits = omega (arith, fits.place, brace_more fits.start read fits.spell, text_is)
+  place_is brace_too_deep c offset fits = omega (arith, fits.place, brace_more fits.start read fits.spell, text_is read s steps room)
   place_is breaks_string c offset fits = go fits.inside
     where
       go : InOpenShort read fits.start ⊎ InShortSpecification read fits.start → offset ≡ piece_start s
@@ -69,13 +66,13 @@ module _ (read : List ℕ) (s : FieldScanned) (steps : field_steps_from (Some fi
           let own = comes_to read _ s (specification_comes is.host read is.field is.inside) steps in
           fits.place ∙ ap byte_len (sym (own.0.string_is ∙ own.1 ∙ is.before)) ∙ ap (λ p. byte_len (before p s.outer ++ spelled s.done)) (sym (opened_in_specification is.host s.mode s.outer read own.0.mode_is).1)
   place_is breaks_join c offset fits = (named read s steps room open_join offset (fits.start, fits.after, fits.place)).1
-  place_is closes_wrong c offset fits = fits.place ∙ sym text_is
-  place_is opens_too_deep c offset fits = fits.place ∙ sym text_is
+  place_is closes_wrong c offset fits = fits.place ∙ sym (text_is read s steps room)
+  place_is opens_too_deep c offset fits = fits.place ∙ sym (text_is read s steps room)
   place_is ends_specification c offset fits =
       let own = comes_to read _ s (specification_comes fits.host read fits.start fits.inside) steps in
       let found = specification_named read s steps room fits.host fits.start offset own.0 fits.place in
       omega (arith, found.1, ap byte_len (opened_in_specification fits.host s.mode s.outer read own.0.mode_is).0)
-  place_is begins_nothing c offset fits = fits ∙ sym text_is
+  place_is begins_nothing c offset fits = fits ∙ sym (text_is read s steps room)
 
 -- a character that has no room opens a bracket, at depth 200 with the field whose code it begins
 begun_room : (opens : Bool) (depth : ℕ) → not opens || nat_lt depth 200 ≡ false → depth ≤ 200 → (opens ≡ true) × (depth ≡ 200)
@@ -106,21 +103,12 @@ module _ (s : FieldScanned) (read : List ℕ) (c : ℕ) (after : List ℕ) (step
   unfolding has_room_at
   no_grows n is = goes_free s _ c (grows n) is refl refl stuck
 
-  no_closes : field_move s.mode s.held c ≡ closes → ⊥
-  unfolding has_room_at
-  no_closes is = goes_free s _ c closes is refl refl stuck
-
   reason_is : (v : FieldMove) → field_move s.mode s.held c ≡ v → Reason s.mode c v
   reason_is v is = subst (Reason s.mode c) is (reason two_hundred s.outer (frames s) s.mode s.held c sound.mode)
 
   -- a `{` that waits at depth 200
   abbrev is_deep : Bool
   is_deep = is_waiting s.mode && (frames s == 200)
-
-  deep_back : (offset : ℕ) → OpensBraceTooDeep read (c ∷ []) offset → is_deep ≡ true
-  deep_back offset fits =
-      let at = deep_state read s (c ∷ []) offset steps fits in
-      and_from _ _ at.0 (eq-eqb (frames s) 200 at.1)
 
   brace_fits : is_deep ≡ true → (offset : ℕ) × OpensBraceTooDeep read (c ∷ []) offset
   brace_fits is = go s.mode (and_parts (is_waiting s.mode) (frames s == 200) is).0 no_grows sound
@@ -141,7 +129,7 @@ module _ (s : FieldScanned) (read : List ℕ) (c : ℕ) (after : List ℕ) (step
     where
       go : (v : FieldMove) → field_move s.mode s.held c ≡ v → IsStuck s c → Why s c
       go (grows n) is at = absurd (no_grows n is)
-      go closes is at = absurd (no_closes is)
+      go closes is at = absurd (goes_free s _ c closes is refl refl stuck)
       go breaks is (inl none) = Why.begins s.outer (field_pieces s) s.openers (ap (field_moved s c) is) (inl none) (both_ways _ (reason_is breaks is))
       go breaks is (inr full) = Why.begins s.outer (field_pieces s) s.openers (ap (field_moved s c) is) (inr (begun_room (is_opening c) (frames s) (sym (ap (has_room_at (frames s) c) is) ∙ full) few)) (both_ways _ (reason_is breaks is))
       go (begins_code h) is at =
@@ -264,7 +252,9 @@ module _ (s : FieldScanned) (read : List ℕ) (c : ℕ) (after : List ℕ) (step
   cause_fits =
       cond_both is_deep brace_too_deep _ HasFault (λ deep. fault_of brace_too_deep (brace_fits deep) tt)
       (λ shallow.
-      let no_brace : Misfits brace_too_deep = λ offset fits. both_ways _ shallow (deep_back offset fits) in
+      let no_brace : Misfits brace_too_deep = λ offset fits.
+      let at = deep_state read s (c ∷ []) offset steps fits in
+      both_ways _ shallow (and_from _ _ at.0 (eq-eqb (frames s) 200 at.1)) in
       cond_both (is_break c) breaks_string _ HasFault (λ break. fault_of breaks_string (break_fits shallow break) (no_brace, tt))
       (λ no_break.
       let no_string : Misfits breaks_string = λ offset fits. both_ways _ no_break fits.breaks in

@@ -20,7 +20,7 @@ use Rattle.py_lines.proofs.FieldSoundness.LiveTexts.{live_goes, goes_live, steps
 use Rattle.py_lines.proofs.Text.CharacterTests.{none_of}
 use Rattle.py_lines.proofs.Machine.Starts.{start-operator}
 use Rattle.py_lines.proofs.Pieces.OpenBrackets.{depth_through-append, depth-opener}
-use Rattle.py_lines.proofs.FieldSoundness.OpenLists.{Opens, opens-depth}
+use Rattle.py_lines.proofs.FieldSoundness.OpenLists.{opens-depth}
 use Rattle.py_lines.proofs.FieldMachine.ListBrackets.{opening_pushes, none_some}
 use Rattle.py_lines.proofs.FieldMachine.PieceRuns.{IsNoColon, opening_operator, operator_stays}
 use Rattle.py_lines.proofs.Faults.EndFaults.{no_brace_at}
@@ -63,14 +63,6 @@ unfolding is_opening
 opening_stays [] openers c opens = tt
 opening_stays (level ∷ outer) openers c opens = ap (λ b. b && (length openers == 0)) (none_of (λ d. d == 58) (40 ∷ 91 ∷ 123 ∷ []) c refl opens)
 
--- the brackets that are open before one that has opened
-pushed_depth : (ps : List Piece) (os : List ℕ) (c : ℕ) → is_opening c ≡ true → Opens (c ∷ os) (ps ++ piece operator (c ∷ []) ∷ []) → depth_through 0 ps ≡ length os
-pushed_depth ps os c opens at =
-    let p : Piece = piece operator (c ∷ []) in
-    let whole = opens-depth (c ∷ os) (ps ++ p ∷ []) 0 at in
-    let pushed = depth_through-append 0 ps (p ∷ []) ∙ depth-opener (depth_through 0 ps) p opens in
-    omega (arith, whole, pushed)
-
 -- what keeps a character from going on
 abbrev pub IsStuck : FieldScanned → ℕ → Type 0
 IsStuck s c = (field_step s c ≡ None) ⊎ (has_room s c ≡ false)
@@ -87,8 +79,10 @@ module _ (s : FieldScanned) (read : List ℕ) (c : ℕ) (sound : IsFieldSound tw
       let later : field_steps_from (Some field_text_start) (read ++ c ∷ []) ≡ Some next =
       steps-append (Some field_text_start) read (c ∷ []) ∙ ap (λ o. field_steps_from o (c ∷ [])) steps ∙ ap (λ o. field_steps_from o []) step in
       let own = sound_at no_limit (read ++ c ∷ []) next (any_rooms (Some field_text_start) (read ++ c ∷ [])) later in
-      let many = pushed_depth ps os c opens own.list.opens in
-      subst (IsAtDepth read c) (omega (arith, many, full)) (at_depth outer ps (c ∷ os) read c own)
+      let p : Piece = piece operator (c ∷ []) in
+      let whole = opens-depth (c ∷ os) (ps ++ p ∷ []) 0 own.list.opens in
+      let pushed = depth_through-append 0 ps (p ∷ []) ∙ depth-opener (depth_through 0 ps) p opens in
+      subst (IsAtDepth read c) (omega (arith, whole, pushed, full)) (at_depth outer ps (c ∷ os) read c own)
 
   pub started : (outer : List Level) (ps : List Piece) (os : List ℕ) → is_opening c ≡ true → field_started outer ps os c (start_of c) ≡ Some (field_fresh outer (ps ++ piece operator (c ∷ []) ∷ []) (c ∷ os))
   started outer ps os opens = ap (field_started outer ps os c) (start-operator c (opening_operator c opens)) ∙ operator_stays outer ps os (c ∷ os) c (opening_pushes os c opens) (opening_stays outer os c opens)

@@ -17,8 +17,8 @@ use Rattle.py_lines.proofs.Faults.EndPlaces.{final_by}
 use Rattle.py_lines.proofs.Pieces.PieceLists.{piece}
 use Rattle.py_lines.proofs.FieldSoundness.OpenLists.{Opens, level, inside, opens-depth}
 use Rattle.py_lines.proofs.FieldSoundness.Holds.{Limit, HoldsAt, HoldsParts, HoldsList, HoldsLevels, IsFieldSound}
-use Rattle.py_lines.proofs.FieldSoundness.Lists.{not_specification}
-use Rattle.py_lines.proofs.FieldSoundness.ListEnds.{EndsList, code_at_end, list_ends}
+use Rattle.py_lines.proofs.FieldSoundness.Lists.{not_specification, stands_at}
+use Rattle.py_lines.proofs.FieldSoundness.ListEnds.{code_at_end, list_ends}
 use Rattle.py_lines.proofs.FieldSoundness.WholeTexts.{two_hundred}
 use Rattle.py_lines.proofs.FieldSoundness.OpenTexts.{begun_before, parts_at, stands_open, list_begins}
 use Rattle.py_lines.proofs.FieldSoundness.OpenEnds.{literal_is_open, opened_is_open, specification_is_open, short_is_open, long_is_open, slash_is_open, code_is_open, brace_is_open}
@@ -47,46 +47,34 @@ few_frames outer done openers m held read sound =
 
 -- a bracket of the innermost list is open
 bracket_is_open : (limit : Limit) (outer : List Level) (done : List Piece) (o : ℕ) (os : List ℕ) (m : FieldMode) (held read : List ℕ) → IsFieldSound limit (field_state outer done (o ∷ os) m held) read → may_end m ≡ true → (start : List ℕ) × InOpenBracket read start
-bracket_is_open limit outer done o os m held read sound may = go ends.opens
+bracket_is_open limit outer done o os m held read sound may =
+    let here = stands_at limit outer done (o ∷ os) m held read literal sound (code_at_end m may) in
+    let ends = list_ends limit outer done (o ∷ os) m held read sound may in
+    go ends.opens
+    (subst (λ t. BeginsList (before literal outer) t (levels_open outer)) (append-nil (spelled done ++ held) ∙ sym ends.spell) (list_begins limit outer (spelled done ++ held) [] here.levels))
+    (begun_before outer pieces (o ∷ os) [] ends.fit ends.opens ends.in_field) (ap (λ t. before literal outer ++ t) ends.spell ∙ here.spell)
   where
     pieces : List Piece
     pieces = field_closed m done held
 
-    at : text_place m ≡ literal
-    at = code_at_end m may
-
-    ends : EndsList limit outer (o ∷ os) pieces (spelled done ++ held)
-    ends = list_ends limit outer done (o ∷ os) m held read sound may
-
-    list : BeginsList (before literal outer) (spelled pieces) (levels_open outer)
-    list = subst (λ t. BeginsList (before literal outer) t (levels_open outer)) (append-nil (spelled done ++ held) ∙ sym ends.spell)
-        (list_begins limit outer (spelled done ++ held) [] (subst (λ p. HoldsLevels limit p outer (spelled done ++ held)) at sound.levels))
-
-    begun : AreBegun (levels_open outer) pieces []
-    begun = begun_before outer pieces (o ∷ os) [] ends.fit ends.opens ends.in_field
-
-    spell : before literal outer ++ spelled pieces ≡ read
-    spell = ap (λ t. before literal outer ++ t) ends.spell ∙ ap (λ p. before p outer ++ (spelled done ++ held)) (sym at) ∙ sound.spell
-
-    go : Opens (o ∷ os) pieces → (start : List ℕ) × InOpenBracket read start
-    go (level _ _ none within) = absurd (cc)
-    go (inside _ _ c others first inner is shape out opens within) =
-        let opener : Piece = piece operator (c ∷ []) in (
-          before literal outer ++ spelled first,
-          record {
-            outside = before literal outer;
-            depth = levels_open outer;
-            outer = first;
-            opener = opener;
-            inner = inner;
-            list = subst (λ (l : List Piece). BeginsList (before literal outer) (spelled l) (levels_open outer)) shape list;
-            begun = subst (λ (l : List Piece). AreBegun (levels_open outer) l []) shape begun;
-            opens = opens;
-            balanced = within;
-            spell = ap (λ (l : List Piece). before literal outer ++ spelled l) (sym shape) ∙ spell;
-            before = refl;
-          },
-        )
+    go : Opens (o ∷ os) pieces → BeginsList (before literal outer) (spelled pieces) (levels_open outer) → AreBegun (levels_open outer) pieces [] → before literal outer ++ spelled pieces ≡ read → (start : List ℕ) × InOpenBracket read start
+    go (level _ _ none within) list begun spell = absurd (cc)
+    go (inside _ _ c others first inner is shape out opens within) list begun spell = (
+      before literal outer ++ spelled first,
+      record {
+        outside = before literal outer;
+        depth = levels_open outer;
+        outer = first;
+        opener = piece operator (c ∷ []);
+        inner = inner;
+        list = subst (λ (l : List Piece). BeginsList (before literal outer) (spelled l) (levels_open outer)) shape list;
+        begun = subst (λ (l : List Piece). AreBegun (levels_open outer) l []) shape begun;
+        opens = opens;
+        balanced = within;
+        spell = ap (λ (l : List Piece). before literal outer ++ spelled l) (sym shape) ∙ spell;
+        before = refl;
+      },
+    )
 
 -- a field may open here, in a string that is open up to this text
 pub due_at : (limit : Limit) (outer : List Level) (done : List Piece) (openers : List ℕ) (m : FieldMode) (held read : List ℕ) → IsFieldSound limit (field_state outer done openers m held) read → (host : Host) (place : Place) (text after more : List ℕ) → text_place m ≡ place → text ++ (123 ∷ after) ≡ held ++ more → (place ≡ literal → begins_open after ≡ false) → HoldsParts limit outer (length openers + levels_open outer) host place false text (123 ∷ []) → IsFieldDue place (length openers + levels_open outer) (before place outer ++ (spelled done ++ text)) after
@@ -113,25 +101,21 @@ due_at limit outer done openers m held read sound host place text after more at 
 
 -- a field that would open at depth 200, with its `{` directly before what follows
 pub brace_is_due : (limit : Limit) (outer : List Level) (done : List Piece) (openers : List ℕ) (host : Host) (named : Bool) (held read : List ℕ) → IsFieldSound limit (field_state outer done openers (body host literal named after_brace) held) read → (after : List ℕ) → begins_open after ≡ false → length openers + levels_open outer ≡ 200 → (offset : ℕ) × OpensBraceTooDeep read after offset
-brace_is_due limit outer done openers host named held read sound after single full = go sound.mode
-  where
-    depth : ℕ
-    depth = length openers + levels_open outer
-
-    go : HoldsAt limit outer depth host literal named after_brace held → (offset : ℕ) × OpensBraceTooDeep read after offset
-    go (text, is, at, unnamed, h) =
-        let start : List ℕ = before literal outer ++ (spelled done ++ text) in
-        let parts = subst (λ n. HoldsParts limit outer depth host literal n text (123 ∷ [])) unnamed h in
-        let due = due_at limit outer done openers (body host literal named after_brace) held read sound host literal text after after refl (sym (append_assoc text (123 ∷ []) after) ∙ ap (λ t. t ++ after) (sym is)) (λ same. single) parts in (
-          byte_len start,
-          record {
-            start = start;
-            spell = append_assoc (before literal outer) (spelled done ++ text) (123 ∷ [])
-                ∙ ap (λ t. before literal outer ++ t) (append_assoc (spelled done) text (123 ∷ []) ∙ ap (λ t. spelled done ++ t) (sym is)) ∙ sound.spell;
-            due = subst (λ n. IsFieldDue literal n start after) full due;
-            place = refl;
-          },
-        )
+brace_is_due limit outer done openers host named held read sound after single full =
+    let (text, is, at, unnamed, h) = sound.mode in
+    let depth = length openers + levels_open outer in
+    let start : List ℕ = before literal outer ++ (spelled done ++ text) in
+    let parts = subst (λ n. HoldsParts limit outer depth host literal n text (123 ∷ [])) unnamed h in
+    let due = due_at limit outer done openers (body host literal named after_brace) held read sound host literal text after after refl (sym (append_assoc text (123 ∷ []) after) ∙ ap (λ t. t ++ after) (sym is)) (λ same. single) parts in (
+      byte_len start,
+      record {
+        start = start;
+        spell = append_assoc (before literal outer) (spelled done ++ text) (123 ∷ [])
+            ∙ ap (λ t. before literal outer ++ t) (append_assoc (spelled done) text (123 ∷ []) ∙ ap (λ t. spelled done ++ t) (sym is)) ∙ sound.spell;
+        due = subst (λ n. IsFieldDue literal n start after) full due;
+        place = refl;
+      },
+    )
 
 -- no `{` of a specification waits for the next character
 pub no_brace_at : (outer : List Level) (depth : ℕ) (held : List ℕ) (host : Host) (named : Bool) (at : At) → HoldsAt two_hundred outer depth host specification named at held → at ≡ after_brace → ⊥
@@ -194,17 +178,14 @@ brace_open outer done openers host named held read sound deep =
     let is : depth ≡ 200 = omega (arith, few, many) in
     brace_is_due two_hundred outer done openers host named held read sound [] refl is)
 
-specification_at : (outer : List Level) (done : List Piece) (openers : List ℕ) (host : Host) (named : Bool) (at : At) (held read : List ℕ) → IsFieldSound two_hundred (field_state outer done openers (body host specification named at) held) read → ((place : ℕ) → OpensBraceTooDeep read [] place → IsDeepBrace outer openers (body host specification named at)) → (offset : ℕ) × IsOpenAtEnd open_inside read offset
-specification_at outer done openers host named at held read sound deep =
-    let own = specification_is_open two_hundred outer done openers host named at held read sound (no_brace_at outer _ held host named at sound.mode) in
-    (byte_len own.0, (own.0, inr (host, own.1), refl, λ place due. both_ways _ refl (deep place due).0))
-
 pub open_in : (outer : List Level) (done : List Piece) (openers : List ℕ) (m : FieldMode) (held read : List ℕ) → IsFieldSound two_hundred (field_state outer done openers m held) read → ((place : ℕ) → OpensBraceTooDeep read [] place → IsDeepBrace outer openers m) → EndsSo (field_state outer done openers m held) read (unfinished_in outer openers m)
 open_in outer done openers (plain m) held read sound deep = plain_open outer done openers m held read sound (λ place due. both_ways _ refl (deep place due).0)
 open_in outer done openers (opened host) held read sound deep =
     let start = before literal outer ++ spelled done in
     (byte_len start, (start, opened_is_open two_hundred outer done openers host held read sound, refl))
 open_in outer done openers (empty host) held read sound deep = code_open outer done openers (empty host) held read sound refl (λ place due. both_ways _ refl (deep place due).0)
-open_in outer done openers (body host specification named at) held read sound deep = specification_at outer done openers host named at held read sound deep
+open_in outer done openers (body host specification named at) held read sound deep =
+    let own = specification_is_open two_hundred outer done openers host named at held read sound (no_brace_at outer _ held host named at sound.mode) in
+    (byte_len own.0, (own.0, inr (host, own.1), refl, λ place due. both_ways _ refl (deep place due).0))
 open_in outer done openers (body host literal named after_brace) held read sound deep = brace_open outer done openers host named held read sound deep
 open_in outer done openers (body host literal named at) held read sound deep = literal_open outer done openers host named at held read sound (λ is. absurd (cc))

@@ -120,11 +120,6 @@ specification_unfinished outer openers host m is = absurd is
 pub same_state : (characters : List ℕ) (s t : FieldScanned) → field_steps_from (Some field_text_start) characters ≡ Some s → field_steps_from (Some field_text_start) characters ≡ Some t → s ≡ t
 same_state characters s t one two = cc
 
--- a bracket of a list is open at its end
-bracket_code : (outer : List Level) (o : ℕ) (os : List ℕ) → unfinished_code outer (o ∷ os) ≡ Some open_bracket
-bracket_code [] o os = refl
-bracket_code (l ∷ ls) o os = refl
-
 opener_text : (p : Piece) → is_opener p ≡ true → (c : ℕ) × (cs : List ℕ) × (p.text ≡ c ∷ cs)
 opener_text p h = go p.class p.text h
   where
@@ -150,7 +145,7 @@ bracket_back characters start s is steps =
     let same : t ≡ s = same_state characters t s (steps_of NoLimit field_text_start t characters goes) steps in
     let some = some_after is.outer is.inner is.opener run.after is.opens is.balanced run.opens in
     let here : (unfinished_at t ≡ Some open_bracket) × IsPlaced open_bracket t characters (byte_len start) = (
-      code_unfinished list.outer run.after run.mode run.stops ∙ ap (unfinished_code list.outer) some.2 ∙ bracket_code list.outer some.0 some.1,
+      code_unfinished list.outer run.after run.mode run.stops ∙ ap (unfinished_code list.outer) some.2,
       (is.outer, is.opener, is.inner, run.pieces_are, is.opens, is.balanced, ap byte_len (sym is.before ∙ ap (λ x. x ++ spelled is.outer) (sym list.start_is))),
     ) in
     subst (λ (x : FieldScanned). (unfinished_at x ≡ Some open_bracket) × IsPlaced open_bracket x characters (byte_len start)) same here

@@ -176,16 +176,16 @@ innermost done more outer inner opener b bs after shape opens within stack = go 
         ∙ ap (λ l. byte_len (spelled l)) (one_bracket first outer (second ++ more) inner a opener whole begun opens (balance.both (second ++ more) second more refl all after) within)
 
 module _ (read : List ℕ) (s : FieldScanned) (steps : field_steps_from (Some field_text_start) read ≡ Some s) (room : have_room (Some field_text_start) read ≡ true) where
-  here_is : here s ≡ byte_len read
-  here_is = ap byte_len (sound_to read s steps room).spell
+  pub text_is : here s ≡ byte_len read
+  text_is = ap byte_len (sound_to read s steps room).spell
 
   opened_bytes : (m : FieldMode) → byte_len (opened_text m s.outer read) ≡ (if is_waiting m then here s else byte_len (before literal s.outer))
-  opened_bytes (body host literal named after_brace) = sym here_is
+  opened_bytes (body host literal named after_brace) = sym text_is
   opened_bytes m = refl
 
   -- the byte that the definitions name is that of the state
   there : (what : Unfinished) (offset : ℕ) → IsPlaced what s read offset → StandsThere s what offset
-  there open_brace offset at = at ∙ sym here_is
+  there open_brace offset at = at ∙ sym text_is
   there open_inside offset at = at ∙ opened_bytes s.mode
   there open_bracket offset (outer, opener, inner, shape, opens, within, at) =
       λ b bs stack.

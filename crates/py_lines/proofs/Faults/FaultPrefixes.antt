@@ -4,7 +4,7 @@ use Rattle.std.specs.Str.{byte}
 use Rattle.py_lines.specs.Piece.{spelled}
 use Rattle.py_lines.specs.PieceGrammar.{joined}
 use Rattle.py_lines.specs.Faults.{InShortSpecification, InOpenBracket, Cause, brace_too_deep, breaks_string, breaks_join, closes_wrong, opens_too_deep, ends_specification, begins_nothing, kind_of_cause, Explains, kind_of_unfinished, IsUndecodable, Unfinished, open_brace, open_short, open_long, open_join, open_bracket, open_inside, IsOpenAtEnd, IsFaultAt, at_character, at_bytes, at_end}
-use Rattle.py_lines.specs.OpenFields.{Spot, IsOpenString, in_literal, in_specification, StandsOpen, InOpenShort, InSpecification, InOpenField}
+use Rattle.py_lines.specs.OpenFields.{Spot, IsOpenString, in_literal, in_specification, InOpenShort, InSpecification}
 use Rattle.py_lines.specs.LogicalLine.{byte_len}
 use Rattle.py_lines.specs.FieldStrings.{Host, literal, specification}
 use Rattle.py_lines.specs.declared.fault.FaultKind.{FaultKind}
@@ -21,9 +21,6 @@ pub record PrefixTo (characters : List ℕ) (offset : ℕ) : Type 0 where
 -- what begins some characters
 abbrev Begins : List ℕ → List ℕ → Type 0
 Begins start characters = (rest : List ℕ) × (start ++ rest ≡ characters)
-
-stands_begins : (IsOpen : List ℕ → Type 0) (characters start : List ℕ) → StandsOpen IsOpen characters start → Begins start characters
-stands_begins IsOpen characters start at = (at.front, at.spell)
 
 -- the text of a string up to the field whose specification is open
 field_begins : (host : Host) (spot : Spot) (front rest : List ℕ) → IsOpenString host spot front rest → spot.place ≡ specification → Begins spot.field front
@@ -46,17 +43,13 @@ specification_begins host characters start is =
     )
 
 string_begins : (characters start : List ℕ) → InOpenShort characters start ⊎ InShortSpecification characters start → Begins start characters
-string_begins characters start (inl is) = stands_begins _ characters start is
+string_begins characters start (inl is) = (is.front, is.spell)
 string_begins characters start (inr is) = (is.inside.stands.front, ap (λ t. t ++ is.inside.stands.front) (sym is.before) ∙ is.inside.stands.spell)
 
 bracket_begins : (characters start : List ℕ) → InOpenBracket characters start → Begins start characters
 bracket_begins characters start is =
     let later = spelled (is.opener ∷ is.inner) in
     (later, ap (λ t. t ++ later) (sym is.before) ∙ append_assoc is.outside (spelled is.outer) later ∙ ap (λ t. is.outside ++ t) (sym (spelled-append is.outer (is.opener ∷ is.inner))) ∙ is.spell)
-
-field_open_begins : (characters start : List ℕ) → InOpenField characters start → Begins start characters
-field_open_begins characters start (inl is) = (byte "{" ∷ spelled is.pieces, is.spell)
-field_open_begins characters start (inr (host, is)) = specification_begins host characters start is
 
 -- so each place ends a prefix of the text
 prefix_to : (before rest characters start : List ℕ) (offset : ℕ) → before ++ rest ≡ characters → Begins start before → offset ≡ byte_len start → PrefixTo characters offset
@@ -73,7 +66,7 @@ itself before = ([], append-nil before)
 pub explained : (cause : Cause) (before rest characters : List ℕ) (c offset : ℕ) → before ++ rest ≡ characters → Explains cause before c offset → PrefixTo characters offset
 explained brace_too_deep before rest characters c offset whole fits = prefix_to before rest characters fits.start offset whole (byte "{" ∷ [], fits.spell) fits.place
 explained breaks_string before rest characters c offset whole fits = prefix_to before rest characters fits.start offset whole (string_begins before fits.start fits.inside) fits.place
-explained breaks_join before rest characters c offset whole fits = prefix_to before rest characters fits.start offset whole (stands_begins _ before fits.start fits.after) fits.place
+explained breaks_join before rest characters c offset whole fits = prefix_to before rest characters fits.start offset whole (fits.after.front, fits.after.spell) fits.place
 explained closes_wrong before rest characters c offset whole fits = prefix_to before rest characters before offset whole (itself before) fits.place
 explained opens_too_deep before rest characters c offset whole fits = prefix_to before rest characters before offset whole (itself before) fits.place
 explained ends_specification before rest characters c offset whole fits = prefix_to before rest characters fits.start offset whole (specification_begins fits.host before fits.start fits.inside) fits.place
@@ -81,11 +74,12 @@ explained begins_nothing before rest characters c offset whole fits = prefix_to 
 
 ended : (what : Unfinished) (characters : List ℕ) (offset : ℕ) → IsOpenAtEnd what characters offset → PrefixTo characters offset
 ended open_brace characters offset is = prefix_to characters [] characters is.start offset (append-nil characters) (byte "{" ∷ [], is.spell) is.place
-ended open_short characters offset (start, is, place) = prefix_to characters [] characters start offset (append-nil characters) (stands_begins _ characters start is) place
-ended open_long characters offset (start, is, place) = prefix_to characters [] characters start offset (append-nil characters) (stands_begins _ characters start is) place
-ended open_join characters offset (start, is, place) = prefix_to characters [] characters start offset (append-nil characters) (stands_begins _ characters start is) place
+ended open_short characters offset (start, is, place) = prefix_to characters [] characters start offset (append-nil characters) (is.front, is.spell) place
+ended open_long characters offset (start, is, place) = prefix_to characters [] characters start offset (append-nil characters) (is.front, is.spell) place
+ended open_join characters offset (start, is, place) = prefix_to characters [] characters start offset (append-nil characters) (is.front, is.spell) place
 ended open_bracket characters offset (start, is, place) = prefix_to characters [] characters start offset (append-nil characters) (bracket_begins characters start is) place
-ended open_inside characters offset (start, is, place, other) = prefix_to characters [] characters start offset (append-nil characters) (field_open_begins characters start is) place
+ended open_inside characters offset (start, inl is, place, other) = prefix_to characters [] characters start offset (append-nil characters) (byte "{" ∷ spelled is.pieces, is.spell) place
+ended open_inside characters offset (start, inr (host, is), place, other) = prefix_to characters [] characters start offset (append-nil characters) (specification_begins host characters start is) place
 
 pub field_fault_prefix : (kind : FaultKind) (characters tail : List ℕ) (offset : ℕ) → IsFaultAt kind characters tail offset → PrefixTo characters offset
 field_fault_prefix kind characters tail offset (at_character fault) = explained fault.cause fault.before (fault.c ∷ fault.dies.after) characters fault.c offset fault.dies.spell fault.fits

@@ -1,5 +1,6 @@
 -- What a character must be, and where the machine with fields stands, if the character is refused, ends a field or opens one.
 use Rattle.std.proofs.Common.{◌≡◌, ℕ, Bool, true, false, not, ◌&&◌, ◌||◌, ◌==◌, List, [], ◌⊎◌, inl, inr, refl, sym, ap, ◌∙◌, subst}
+use Rattle.std.specs.Prelude.{if◌then◌else◌}
 use Rattle.std.proofs.lemmas.Bool.{both_ways, cond_both, and_from, or_parts, or_from, not_from_false, eq-eqb}
 use Rattle.py_lines.specs.Character.{is_mark, is_space, is_word_character, is_quote, is_line_feed, is_return, is_break, is_backslash, is_brace}
 use Rattle.py_lines.specs.FieldStrings.{Host, Place, literal, specification, names}
@@ -43,6 +44,10 @@ not_break c feed return = or_from (c == 10) ((c == 13) || false) (or_parts (c ==
 abbrev PlainReason : Mode → ℕ → Move → Type 0
 PlainReason m c v = Reason (plain m) c (plain_move v)
 
+either : (m : Mode) (c : ℕ) (b : Bool) (v w : Move) → (b ≡ true → PlainReason m c v) → (b ≡ false → PlainReason m c w) → PlainReason m c (if b then v else w)
+either m c true v w one two = one refl
+either m c false v w one two = two refl
+
 short_reason : (m : Mode) (q c : ℕ) → in_short m ≡ true → PlainReason m c (short_move q c)
 unfolding short_move
 short_reason m q c short = cond_both (is_backslash c) _ _ (PlainReason m c) (λ h. tt) (λ h. cond_both (is_break c) moves.Refused _ (PlainReason m c) (λ k. inl (k, inl short)) (λ k. tt))
@@ -53,31 +58,12 @@ long_reason m q c = cond_both (is_backslash c) _ _ (PlainReason m c) (λ h. tt) 
 
 plain_reason : (m : Mode) (held : List ℕ) (c : ℕ) → Holds m [] held → PlainReason m c (move_of m c)
 unfolding move_of
-plain_reason modes.Start held c holds = cond_both (is_mark c) moves.Closes moves.Breaks (PlainReason modes.Start c) (λ k. tt) (λ k. refl)
-plain_reason modes.Free held c holds = refl
-plain_reason modes.Space held c holds = cond_both (is_space c) _ moves.Breaks (PlainReason modes.Space c) (λ k. tt) (λ k. refl)
-plain_reason (modes.Word s) held c holds =
-    cond_both (is_word_character c) _ _ (PlainReason (modes.Word s) c) (λ k. tt) (λ k. cond_both (is_prefix_spelling s && is_quote c) _ moves.Breaks (PlainReason (modes.Word s) c) (λ l. tt) (λ l. refl))
-plain_reason modes.Comment held c holds = cond_both (is_break c) moves.Breaks _ (PlainReason modes.Comment c) (λ k. refl) (λ k. tt)
-plain_reason (modes.Opened q) held c holds = cond_both (c == q) _ _ (PlainReason (modes.Opened q) c) (λ k. tt) (λ k. short_reason (modes.Opened q) q c refl)
-plain_reason (modes.Inside q) held c holds = cond_both (c == q) moves.Closes _ (PlainReason (modes.Inside q) c) (λ k. tt) (λ k. short_reason (modes.Inside q) q c refl)
-plain_reason (modes.Escape q) held c holds = cond_both (is_return c) _ _ (PlainReason (modes.Escape q) c) (λ k. tt) (λ k. tt)
-plain_reason (modes.EscapeReturn q) held c holds =
-    cond_both (is_line_feed c) _ _ (PlainReason (modes.EscapeReturn q) c) (λ k. tt)
-    (λ k. cond_both (c == q) moves.Closes _ (PlainReason (modes.EscapeReturn q) c) (λ l. tt) (λ l. short_reason (modes.EscapeReturn q) q c refl))
-plain_reason (modes.Empty q) held c holds = cond_both (c == q) _ moves.Breaks (PlainReason (modes.Empty q) c) (λ k. tt) (λ k. refl)
-plain_reason (modes.Long q) held c holds = cond_both (c == q) _ _ (PlainReason (modes.Long q) c) (λ k. tt) (λ k. long_reason (modes.Long q) q c)
-plain_reason (modes.LongOne q) held c holds = cond_both (c == q) _ _ (PlainReason (modes.LongOne q) c) (λ k. tt) (λ k. long_reason (modes.LongOne q) q c)
-plain_reason (modes.LongTwo q) held c holds = cond_both (c == q) moves.Closes _ (PlainReason (modes.LongTwo q) c) (λ k. tt) (λ k. long_reason (modes.LongTwo q) q c)
-plain_reason (modes.LongEscape q) held c holds = tt
 plain_reason (modes.FieldOpened h) held c holds = absurd holds
 plain_reason (modes.FieldEmpty h) held c holds = absurd holds
 plain_reason modes.Fielded held c holds = absurd holds
 plain_reason modes.Backslash held c holds =
-    cond_both (is_line_feed c) moves.Closes _ (PlainReason modes.Backslash c) (λ k. tt)
-    (λ k. cond_both (is_return c) _ moves.Refused (PlainReason modes.Backslash c) (λ l. tt) (λ l. inr (inl (refl, not_break c k l))))
-plain_reason modes.JoinReturn held c holds = cond_both (is_line_feed c) moves.Closes moves.Breaks (PlainReason modes.JoinReturn c) (λ k. tt) (λ k. refl)
-plain_reason modes.Return held c holds = cond_both (is_line_feed c) moves.Closes moves.Breaks (PlainReason modes.Return c) (λ k. tt) (λ k. refl)
+    either modes.Backslash c (is_line_feed c) moves.Closes _ (λ k. tt) (λ k. either modes.Backslash c (is_return c) _ moves.Refused (λ l. tt) (λ l. inr (inl (refl, not_break c k l))))
+plain_reason m held c holds = search (either, short_reason, long_reason)
 
 -- in a string with fields where no `{` waits, by what the character does there
 moved_reason : (limit : Limit) (outer : List Level) (depth : ℕ) (host : Host) (place : Place) (m : FieldMode) (held : List ℕ) (c : ℕ) (v : FieldMove) → text_place m ≡ place → (host.is_long ≡ false → IsShortHere m) → (place ≡ specification → c ≡ host.quote → quotes_specification m c ≡ true) → is_quote host.quote ≡ true → Moved limit outer depth host place false held c v → Reason m c v
@@ -98,11 +84,6 @@ quoted_body : (host : Host) (place : Place) (named : Bool) (at : At) (c : ℕ) �
 quoted_body host literal named at c there same = not_specification there
 quoted_body host specification named at c there same = eq-eqb c host.quote same
 
-body_reason : (limit : Limit) (outer : List Level) (depth : ℕ) (host : Host) (place : Place) (named : Bool) (at : At) (held : List ℕ) (c : ℕ) → is_after_brace at ≡ false → HoldsAt limit outer depth host place named at held → Reason (body host place named at) c (body_move host place named at c)
-body_reason limit outer depth host place named at held c apart holds =
-    moved_reason limit outer depth host place (body host place named at) held c (body_move host place named at c) refl (short_body host place named at apart) (quoted_body host place named at c) (quotes_at limit outer depth host place named at held holds)
-    (subst (λ w. Moved limit outer depth host place w held c (body_move host place named at c)) apart (body_moves limit outer depth host place named at held c holds))
-
 -- in each mode
 pub reason : (limit : Limit) (outer : List Level) (depth : ℕ) (m : FieldMode) (held : List ℕ) (c : ℕ) → HoldsMode limit outer depth m held → Reason m c (field_move m held c)
 unfolding field_move body_move
@@ -113,4 +94,6 @@ reason limit outer depth (opened host) held c holds =
 reason limit outer depth (empty host) held c holds = cond_both (c == host.quote) _ breaks (Reason (empty host) c) (λ h. tt) (λ h. refl)
 reason limit outer depth (body host place named after_brace) held c holds =
     cond_both (c == 123) _ _ (Reason (body host place named after_brace) c) (λ k. tt) (λ k. ap (λ p. is_waiting (body host p named after_brace)) holds.2)
-reason limit outer depth (body host place named at) held c holds = body_reason limit outer depth host place named at held c refl holds
+reason limit outer depth (body host place named at) held c holds =
+    moved_reason limit outer depth host place (body host place named at) held c (body_move host place named at c) refl (short_body host place named at refl) (quoted_body host place named at c)
+    (quotes_at limit outer depth host place named at held holds) (body_moves limit outer depth host place named at held c holds)

@@ -9,12 +9,6 @@ use Rattle.py_lines.specs.Private.FieldMachine.{before}
 use Rattle.py_lines.proofs.Text.Splits.{same_dying}
 use Rattle.py_lines.proofs.Faults.CauseAt.{place_is}
 
--- each cause has one byte, that of the state
-one_offset : (cause : Cause) (before : List ℕ) (c offset place : ℕ) → IsLive before → Explains cause before c offset → Explains cause before c place → offset ≡ place
-one_offset cause before c offset place live one two =
-    let at = live_goes before live in
-    place_is before at.0 at.1 at.2 cause c offset one ∙ sym (place_is before at.0 at.1 at.2 cause c place two)
-
 -- the first of these causes that fits the character
 abbrev IsFirst : List Cause → List ℕ → ℕ → Cause → Type 0
 IsFirst [] before c cause = ⊥
@@ -47,7 +41,9 @@ one_character_fault characters kind other offset place one two =
     let fits = subst (λ x. Explains two.cause one.before x place) (sym same.1) (subst (λ b. Explains two.cause b two.c place) (sym same.0) two.fits) in
     let first = subst (λ x. NoneExplains (causes_before two.cause) one.before x) (sym same.1) (subst (λ b. NoneExplains (causes_before two.cause) b two.c) (sym same.0) two.first) in
     let is = one_first all_causes one.before one.c one.cause two.cause offset place (is_first one.cause one.before one.c one.first) (is_first two.cause one.before one.c first) one.fits fits in
-    (one.is ∙ ap kind_of_cause is ∙ sym two.is, one_offset two.cause one.before one.c offset place one.dies.live (subst (λ x. Explains x one.before one.c offset) is one.fits) fits)
+    let at = live_goes one.before one.dies.live in
+    let place_of = place_is one.before at.0 at.1 at.2 two.cause one.c in
+    (one.is ∙ ap kind_of_cause is ∙ sym two.is, place_of offset (subst (λ x. Explains x one.before one.c offset) is one.fits) ∙ sym (place_of place fits))
 
 -- a text that dies at a character isn't live
 pub not_live : (characters : List ℕ) (kind : FaultKind) (offset : ℕ) → IsCharacterFault kind characters offset → IsLive characters → ⊥

@@ -90,9 +90,6 @@ more_than_one (x ∷ xs) q r full same = not_one x xs q r same
 pub short_quotes : (host : Host) → host.is_long ≡ false → quotes_of host ≡ host.quote ∷ []
 short_quotes host h = rw h
 
-long_quotes : (host : Host) → host.is_long ≡ true → quotes_of host ≡ host.quote ∷ host.quote ∷ host.quote ∷ []
-long_quotes host h = rw h
-
 -- one more part
 abbrev pub push_part : (limit : Limit) (outer : List Level) (host : Host) (place : Place) (named after : Bool) (held part : List ℕ) (h : WholeParts limit outer host place named held) → has_triple host.quote (h.parts ++ part ∷ []) ≡ false → named_after named part ≡ after → WholeParts limit outer host place after (held ++ part)
 push_part limit outer host place named after held part h open_yet is = record {
@@ -107,13 +104,9 @@ push_part limit outer host place named after held part h open_yet is = record {
 
 module _ (limit : Limit) (outer : List Level) (depth : ℕ) (host : Host) where
   -- before texts that begin with more
-  pub longer_next : (place : Place) (named : Bool) (held next more : List ℕ) → HoldsParts limit outer depth host place named held next → HoldsParts limit outer depth host place named held (next ++ more)
+  abbrev pub longer_next : (place : Place) (named : Bool) (held next more : List ℕ) → HoldsParts limit outer depth host place named held next → HoldsParts limit outer depth host place named held (next ++ more)
   longer_next place named held next more h =
       record { whole = h.whole; fit = λ rest. subst (AreParts (limit.FieldsAt depth) host place false h.parts) (sym (append_assoc next more rest)) (h.fit (more ++ rest)) }
-
-  pub between_next : (place : Place) (named : Bool) (held next more : List ℕ) → HoldsBetween limit outer depth host place named held next → HoldsBetween limit outer depth host place named held (next ++ more)
-  unfolding longer_next
-  between_next place named held next more h = record { all = longer_next place named held next more h.all; apart = h.apart; full = h.full }
 
   -- one more part
   push : (place : Place) (named after : Bool) (held part next : List ℕ) (h : HoldsParts limit outer depth host place named held part) → ((more : List ℕ) → IsPart (limit.FieldsAt depth) host place named part (next ++ more)) → has_triple host.quote (h.parts ++ part ∷ []) ≡ false → named_after named part ≡ after → HoldsParts limit outer depth host place after (held ++ part) next
@@ -181,16 +174,13 @@ module _ (limit : Limit) (outer : List Level) (depth : ℕ) (host : Host) where
       (λ is. ending waits place named held c h is other no_slash stays)
       (λ no_close. (refl, bare_one place named named held c h other no_slash stays (ordinary_character place named c no_open no_close) (kept_named named (c == 125) no_close)))))))
 
-  -- a character after a quote that is a part of its own, of a long string
-  quote_part : (place : Place) (named : Bool) (rest : List ℕ) → is_quote host.quote ≡ true → host.is_long ≡ true → IsPart (limit.FieldsAt depth) host place named (host.quote ∷ []) rest
-  quote_part place named rest quotes long =
-      bare host.quote refl (quote-not-slash host.quote quotes) (ap (λ b. b || not (is_barred host.quote host.quote)) long)
-      (ordinary_character place named host.quote (and_left _ _ (quote-not-open host.quote quotes)) (quote_no_end host.quote quotes))
-
+  -- after a quote that is a part of its own, of a long string
   quote_on : (place : Place) (named : Bool) (text next : List ℕ) → host.is_long ≡ true → (h : HoldsParts limit outer depth host place named text (host.quote ∷ [])) → has_triple host.quote (h.parts ++ (host.quote ∷ []) ∷ []) ≡ false → HoldsParts limit outer depth host place named (text ++ host.quote ∷ []) next
   unfolding push
   quote_on place named text next long h open_yet =
-      push place named named text (host.quote ∷ []) next h (λ more. quote_part place named (next ++ more) h.quotes long) open_yet (kept_named named (host.quote == 125) (quote_no_end host.quote h.quotes))
+      let itself = ordinary_character place named host.quote (and_left _ _ (quote-not-open host.quote h.quotes)) (quote_no_end host.quote h.quotes) in
+      let whole : (rest : List ℕ) → IsPart (limit.FieldsAt depth) host place named (host.quote ∷ []) rest = λ rest. bare host.quote refl (quote-not-slash host.quote h.quotes) (ap (λ b. b || not (is_barred host.quote host.quote)) long) itself in
+      push place named named text (host.quote ∷ []) next h (λ more. whole (next ++ more)) open_yet (kept_named named (host.quote == 125) (quote_no_end host.quote h.quotes))
 
   apart_after : (parts : List (List ℕ)) → has_triple host.quote (parts ++ (host.quote ∷ []) ∷ (host.quote ∷ []) ∷ []) ≡ false → has_triple host.quote ((parts ++ (host.quote ∷ []) ∷ []) ++ (host.quote ∷ []) ∷ []) ≡ false
   apart_after parts apart = ap (has_triple host.quote) (append_assoc parts ((host.quote ∷ []) ∷ []) ((host.quote ∷ []) ∷ [])) ∙ apart
@@ -256,5 +246,5 @@ module _ (limit : Limit) (outer : List Level) (depth : ℕ) (host : Host) where
       (λ two. absurd (both_ways _ (and_right host.is_long false refl) two))
       (λ three.
       closes_at waits place named held text (host.quote ∷ host.quote ∷ []) c
-      (ap (λ t. t ++ c ∷ []) spell ∙ append_assoc text (host.quote ∷ host.quote ∷ []) (c ∷ []) ∙ ap (λ (d : ℕ). text ++ host.quote ∷ host.quote ∷ d ∷ []) is) (long_quotes host long) is h
+      (ap (λ t. t ++ c ∷ []) spell ∙ append_assoc text (host.quote ∷ host.quote ∷ []) (c ∷ []) ∙ ap (λ (d : ℕ). text ++ host.quote ∷ host.quote ∷ d ∷ []) is) (rw long) is h
       (λ at r one. absurd (cc)))

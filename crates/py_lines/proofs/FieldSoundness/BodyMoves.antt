@@ -9,7 +9,7 @@ use Rattle.py_lines.specs.Private.Machine.{IsFull}
 use Rattle.py_lines.proofs.Text.CharacterTests.{slash-not-quote, not_quote, return-not-brace}
 use Rattle.py_lines.proofs.Fields.Parts.{names_letter, name-not-brace, name-not-return}
 use Rattle.py_lines.proofs.FieldSoundness.Holds.{Limit, HoldsParts, HoldsBetween, HoldsAt}
-use Rattle.py_lines.proofs.FieldSoundness.Bodies.{and_not, plain_one, kept_named, slash-not-closing, return-not-letter, longer_next, between_next, push_between, Moved, between_moves, one_quote, two_quotes, first_quotes, second_quote, third_quote}
+use Rattle.py_lines.proofs.FieldSoundness.Bodies.{and_not, plain_one, kept_named, slash-not-closing, return-not-letter, longer_next, push_between, Moved, between_moves, one_quote, two_quotes, first_quotes, second_quote, third_quote}
 use Rattle.py_lines.proofs.FieldMachine.StringParts.{kept_or}
 
 may_stand_escaped : (host : Host) (place : Place) (c : ℕ) → is_barred_escape host place c ≡ false → may_be_escaped host place c ≡ true
@@ -38,7 +38,7 @@ module _ (limit : Limit) (outer : List Level) (depth : ℕ) (host : Host) where
   -- what each character does
   pub body_moves : (place : Place) (named : Bool) (at : At) (held : List ℕ) (c : ℕ) → HoldsAt limit outer depth host place named at held → Moved limit outer depth host place (is_after_brace at) held c (body_move host place named at c)
   unfolding body_move escape_move
-  body_moves place named between held c h = between_two false place named held c (between_next limit outer depth host place named held [] (c ∷ []) h)
+  body_moves place named between held c h = between_two false place named held c (record { all = longer_next limit outer depth host place named held [] (c ∷ []) h.all; apart = h.apart; full = h.full })
   body_moves place named after_one held c h =
       between_moves limit outer depth host false place named after_one held c
       (subst (λ t. HoldsParts limit outer depth host place named t (c ∷ [])) (sym h.1) (one_quote limit outer depth host place named h.0 (c ∷ []) h.2 h.3)) (λ same. second_quote limit outer depth host false place named held c h same)
@@ -61,18 +61,22 @@ module _ (limit : Limit) (outer : List Level) (depth : ℕ) (host : Host) where
       (refl, pushed place named named (held ++ c ∷ []) text (s ∷ []) (c ∷ []) [] spell h (λ more. escape s c refl slashes no_brace (may_stand_escaped host place c free) (and_left _ _ no_name) (and_left _ _ no_return)) refl tt refl)))))
   body_moves place named after_return held c (text, s, r, is, slashes, returns, may, h) =
       cond_both (is_line_feed c) _ _ (Moved limit outer depth host place false held c)
-      (λ feeds.
-      (refl, pushed place named named (held ++ c ∷ []) text (s ∷ []) (r ∷ c ∷ []) [] (ap (λ t. t ++ c ∷ []) is ∙ append_assoc text (s ∷ r ∷ []) (c ∷ [])) h
-      (λ more. escaped_end s r c refl slashes returns feeds may) refl tt (kept_or named (is_backslash s && (r == 78)) (and_right _ _ (return-not-letter r returns)))))
+      (λ feeds. (
+        refl,
+        pushed place named named (held ++ c ∷ []) text (s ∷ []) (r ∷ c ∷ []) [] (ap (λ t. t ++ c ∷ []) is ∙ append_assoc text (s ∷ r ∷ []) (c ∷ [])) h
+            (λ more. escaped_end s r c refl slashes returns feeds may) refl tt (kept_or named (is_backslash s && (r == 78)) (and_right _ _ (return-not-letter r returns))),
+      ))
       (λ no_feed.
       between_two false place named held c
       (pushed place named named held text (s ∷ []) (r ∷ []) (c ∷ []) is h
       (λ more. escape s r refl slashes (return-not-brace r returns) may (and_left _ _ (and_left _ _ (return-not-letter r returns))) (and_right _ _ no_feed)) refl tt refl))
   body_moves place named after_name held c (text, s, n, is, slashes, is_name, may, h) =
       cond_both (c == 123) _ _ (Moved limit outer depth host place false held c)
-      (λ braces.
-      (refl, pushed place named true (held ++ c ∷ []) text (s ∷ []) (n ∷ c ∷ []) [] (ap (λ t. t ++ c ∷ []) is ∙ append_assoc text (s ∷ n ∷ []) (c ∷ [])) h
-      (λ more. name s n c refl slashes is_name (eqb-true c 123 braces)) refl tt (or_right named (is_backslash s && (n == 78)) (and_from _ _ slashes (names_letter host n is_name)))))
+      (λ braces. (
+        refl,
+        pushed place named true (held ++ c ∷ []) text (s ∷ []) (n ∷ c ∷ []) [] (ap (λ t. t ++ c ∷ []) is ∙ append_assoc text (s ∷ n ∷ []) (c ∷ [])) h
+            (λ more. name s n c refl slashes is_name (eqb-true c 123 braces)) refl tt (or_right named (is_backslash s && (n == 78)) (and_from _ _ slashes (names_letter host n is_name))),
+      ))
       (λ no_brace.
       between_two false place named held c
       (pushed place named named held text (s ∷ []) (n ∷ []) (c ∷ []) is h

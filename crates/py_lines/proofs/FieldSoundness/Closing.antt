@@ -131,20 +131,12 @@ literal_readies Room outer done openers host named held quotes = go host.is_long
         (closes_last Room _ q (quote_one q quotes) (rw (eq-eqb q q refl, long))))
 
 -- a letter, and `}`, in a string
-letter_between : (host : Host) (place : Place) (named : Bool) (at : At) → is_quote host.quote ≡ true → between_move host place named at 97 ≡ grows (body host place named between)
-unfolding between_move is_backslash is_break is_quote
-letter_between host place named at quotes = rw (not_quote 97 host.quote quotes refl)
-
-letter_escaped : (host : Host) (place : Place) (named : Bool) → escape_move host place named 97 ≡ grows (body host place named between)
-unfolding escape_move is_brace is_return is_break
-letter_escaped host literal named = refl
-letter_escaped host specification named = refl
-
 letter_moves : (host : Host) (place : Place) (named : Bool) (at : At) (held : List ℕ) → is_quote host.quote ≡ true → (at ≡ after_brace → ⊥) → field_move (body host place named at) held 97 ≡ grows (body host place named between)
-unfolding field_move body_move is_line_feed
-letter_moves host place named after_slash held quotes other = letter_escaped host place named
+unfolding field_move body_move between_move escape_move is_line_feed is_backslash is_break is_quote is_brace is_return
+letter_moves host literal named after_slash held quotes other = refl
+letter_moves host specification named after_slash held quotes other = refl
 letter_moves host place named after_brace held quotes other = absurd (other refl)
-letter_moves host place named at held quotes other = letter_between host place named _ quotes
+letter_moves host place named at held quotes other = rw (not_quote 97 host.quote quotes refl)
 
 name_ends : (host : Host) (place : Place) (held : List ℕ) → is_quote host.quote ≡ true → field_move (body host place true between) held 125 ≡ grows (body host place false between)
 unfolding field_move body_move between_move is_backslash is_break is_quote

@@ -27,15 +27,11 @@ more_quotes host quotes held c same h = record {
 }
 
 -- after the opening of a string, no part of it
-pub no_parts : (limit : Limit) (outer : List Level) (depth : ℕ) (host : Host) (held next : List ℕ) → OpensHost host (quotes_of host) held → is_quote host.quote ≡ true → HoldsParts limit outer depth host literal false held next
+abbrev pub no_parts : (limit : Limit) (outer : List Level) (depth : ℕ) (host : Host) (held next : List ℕ) → OpensHost host (quotes_of host) held → is_quote host.quote ≡ true → HoldsParts limit outer depth host literal false held next
 no_parts limit outer depth host held next opens quotes = record {
   whole = record { begin = held; parts = []; spell = sym (append-nil held); opens_with = opens; quotes = quotes; named_is = refl; open_yet = refl };
   fit = λ more. tt;
 }
-
-long_begins : (limit : Limit) (outer : List Level) (depth : ℕ) (host : Host) (held : List ℕ) → OpensHost host (quotes_of host) held → is_quote host.quote ≡ true → host.is_long ≡ true → HoldsBetween limit outer depth host literal false held []
-unfolding no_parts
-long_begins limit outer depth host held opens quotes long = record { all = no_parts limit outer depth host held [] opens quotes; apart = refl; full = λ at short. absurd (both_ways _ short long) }
 
 pub short_opens : (host : Host) (held : List ℕ) → host.is_long ≡ false → OpensHost host (host.quote ∷ []) held → OpensHost host (quotes_of host) held
 short_opens host held short h = subst (λ t. OpensHost host t held) (sym (short_quotes host short)) h
@@ -151,7 +147,7 @@ step_sound limit outer done openers (empty host) held read c sound room =
     let three = more_quotes host (host.quote ∷ host.quote ∷ []) held c same opens in
     let long : OpensHost (long_host host) (quotes_of (long_host host)) (held ++ c ∷ []) = record { prefix = three.prefix; spell = three.spell; begun = three.begun; raw = three.raw } in
     grew limit outer done openers (empty host) (body (long_host host) literal false between) held read c sound refl
-    (long_begins limit outer depth (long_host host) (held ++ c ∷ []) long quotes refl) tt)
+    (record { all = no_parts limit outer depth (long_host host) (held ++ c ∷ []) [] long quotes; apart = refl; full = λ at short. absurd (both_ways _ short refl) }) tt)
     (λ other room.
     start_sound limit outer (done ++ piece string held ∷ []) openers read c
     (ends_before limit outer done openers (empty host) held read c string sound refl (λ h. absurd (cc)) (inr (empty_string (limit.FieldsAt depth) host held opens quotes short)) (λ more. empty_before host held c more opens quotes other) refl) room) room

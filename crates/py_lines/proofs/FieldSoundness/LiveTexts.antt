@@ -35,9 +35,6 @@ no_host_closing : (m : Mode) (held : List ℕ) (c : ℕ) → is_closing c ≡ tr
 no_host_closing (modes.Word s) held c h = and_right _ _ (closing-not-quote c h)
 no_host_closing m held c h = refl
 
-ready_plain : (m : Mode) (held : List ℕ) → IsReady m → IsReadyField (plain m) held
-ready_plain m held ready = record { ends = ready.ends; closing = λ c h. plain_moves m held c (no_host_closing m held c h) ∙ ap plain_move (ready.breaks c h) }
-
 ready_empty : (host : Host) (held : List ℕ) → is_quote host.quote ≡ true → IsReadyField (empty host) held
 unfolding field_move
 ready_empty host held quotes = record { ends = refl; closing = λ c h. rw (not_quote c host.quote quotes (closing-not-quote c h)) }
@@ -58,7 +55,7 @@ module _ (Room : ℕ → Type 0) (outer : List Level) (done : List Piece) (opene
   -- the open piece can be finished
   plain_readies : (m : Mode) (held : List ℕ) → Holds m [] held → Readies Room (State m held)
   plain_readies m held holds =
-      completes (λ n text. Readies Room (State n text)) (λ n text ready. at_once Room (State n text) (ready_plain n text ready))
+      completes (λ n text. Readies Room (State n text)) (λ n text ready. at_once Room (State n text) (record { ends = ready.ends; closing = λ c h. plain_moves n text c (no_host_closing n text c h) ∙ ap plain_move (ready.breaks c h) }))
       (λ n next text c open_yet scalar move later. grows_first Room (State n text) (plain next) c (and_from _ _ scalar refl) (plain_moves n text c (no_host n text c open_yet) ∙ ap plain_move move) later)
       (λ n text c open_yet scalar move. closes_last Room (State n text) c (and_from _ _ scalar refl) (plain_moves n text c (no_host n text c open_yet) ∙ ap plain_move move)) comment_ends m [] held holds
 

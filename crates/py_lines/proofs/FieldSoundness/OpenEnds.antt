@@ -126,19 +126,17 @@ pub long_mode : (m : Mode) → in_long m ≡ true → (class_of m ≡ string) ×
 long_mode modes.Free is = absurd (cc)
 long_mode m is = ((cc), (cc))
 
-plain_short : (held : List ℕ) → BeginsPlain held → IsShortPrefix held → IsPlainShortPrefix held
-plain_short held is short = (short, other_prefix held short.prefix _ short.quote is short.spell (plain_quotes short.prefix short.begun) short.opens)
-
-plain_long : (held : List ℕ) → BeginsPlain held → IsLongPrefix held → IsPlainLongPrefix held
-plain_long held is long = (long, other_prefix held long.prefix _ long.quote is long.spell (plain_quotes long.prefix long.begun) long.opens)
-
 pub short_is_open : (limit : Limit) (outer : List Level) (done : List Piece) (openers : List ℕ) (m : Mode) (held read : List ℕ) → IsFieldSound limit (field_state outer done openers (plain m) held) read → in_short m ≡ true → InOpenShort read (before literal outer ++ spelled done)
 short_is_open limit outer done openers m held read sound is =
-    piece_open limit outer done openers (plain m) held read sound (λ front. IsPlainShortPrefix front ⊎ IsOpenLiteral false front) refl (inl (plain_short held (sound.mode.1 (short_class m is)) (short_held m [] held sound.mode.0 is)))
+    let short = short_held m [] held sound.mode.0 is in
+    piece_open limit outer done openers (plain m) held read sound (λ front. IsPlainShortPrefix front ⊎ IsOpenLiteral false front) refl
+    (inl (short, other_prefix held short.prefix _ short.quote (sound.mode.1 (short_class m is)) short.spell (plain_quotes short.prefix short.begun) short.opens))
 
 pub long_is_open : (limit : Limit) (outer : List Level) (done : List Piece) (openers : List ℕ) (m : Mode) (held read : List ℕ) → IsFieldSound limit (field_state outer done openers (plain m) held) read → in_long m ≡ true → InOpenLong read (before literal outer ++ spelled done)
 long_is_open limit outer done openers m held read sound is =
-    piece_open limit outer done openers (plain m) held read sound (λ front. IsPlainLongPrefix front ⊎ IsOpenLiteral true front) refl (inl (plain_long held (sound.mode.1 (long_mode m is).0) (long_held m [] held sound.mode.0 is)))
+    let long = long_held m [] held sound.mode.0 is in
+    piece_open limit outer done openers (plain m) held read sound (λ front. IsPlainLongPrefix front ⊎ IsOpenLiteral true front) refl
+    (inl (long, other_prefix held long.prefix _ long.quote (sound.mode.1 (long_mode m is).0) long.spell (plain_quotes long.prefix long.begun) long.opens))
 
 pub slash_is_open : (limit : Limit) (outer : List Level) (done : List Piece) (openers : List ℕ) (m : Mode) (held read : List ℕ) → IsFieldSound limit (field_state outer done openers (plain m) held) read → is_after_backslash m ≡ true → AfterOpenBackslash read (before literal outer ++ spelled done)
 slash_is_open limit outer done openers m held read sound is = piece_open limit outer done openers (plain m) held read sound IsSlash refl (slash_held m [] held sound.mode.0 is)
@@ -167,24 +165,22 @@ code_is_open limit l ls done m held read sound may =
 
 -- and directly after its `{`
 pub brace_is_open : (limit : Limit) (outer : List Level) (done : List Piece) (openers : List ℕ) (host : Host) (named : Bool) (held read : List ℕ) → IsFieldSound limit (field_state outer done openers (body host literal named after_brace) held) read → (start : List ℕ) × InFieldCode read start
-brace_is_open limit outer done openers host named held read sound = go sound.mode
-  where
-    go : HoldsAt limit outer (length openers + levels_open outer) host literal named after_brace held → (start : List ℕ) × InFieldCode read start
-    go (text, is, at, unnamed, h) =
-        let depth = length openers + levels_open outer in
-        let level : Level = record { done = done; openers = openers; host = host; place = literal; front = held } in
-        let parts = subst (λ n. PartsAt limit outer depth host literal n text (123 ∷ [])) unnamed (parts_at limit outer depth host literal named text (123 ∷ []) [] h) in
-        let so = stands_open limit literal outer done openers host false text (123 ∷ []) held [] (sym is ∙ sym (append-nil held)) sound.list parts sound.levels in
-        let start = before literal outer ++ (spelled done ++ text) in
-        let brace : before literal outer ++ (spelled done ++ held) ≡ start ++ 123 ∷ [] = ap (λ t. before literal outer ++ (spelled done ++ t)) is ∙ simp append_assoc in (
-          start,
-          record {
-            depth = levels_open (level ∷ outer);
-            pieces = [];
-            list = subst (λ t. BeginsList t [] (levels_open (level ∷ outer))) brace (begins_in level outer text [] is (λ same. refl) so);
-            begun = record { fit = tt; others = []; balanced = balance.none [] refl; inside = λ deep. (refl, tt) };
-            deep = omega arith;
-            balanced = balance.none [] refl;
-            spell = sym brace ∙ sound.spell;
-          },
-        )
+brace_is_open limit outer done openers host named held read sound =
+    let (text, is, at, unnamed, h) = sound.mode in
+    let depth = length openers + levels_open outer in
+    let level : Level = record { done = done; openers = openers; host = host; place = literal; front = held } in
+    let parts = subst (λ n. PartsAt limit outer depth host literal n text (123 ∷ [])) unnamed (parts_at limit outer depth host literal named text (123 ∷ []) [] h) in
+    let so = stands_open limit literal outer done openers host false text (123 ∷ []) held [] (sym is ∙ sym (append-nil held)) sound.list parts sound.levels in
+    let start = before literal outer ++ (spelled done ++ text) in
+    let brace : before literal outer ++ (spelled done ++ held) ≡ start ++ 123 ∷ [] = ap (λ t. before literal outer ++ (spelled done ++ t)) is ∙ simp append_assoc in (
+      start,
+      record {
+        depth = levels_open (level ∷ outer);
+        pieces = [];
+        list = subst (λ t. BeginsList t [] (levels_open (level ∷ outer))) brace (begins_in level outer text [] is (λ same. refl) so);
+        begun = record { fit = tt; others = []; balanced = balance.none [] refl; inside = λ deep. (refl, tt) };
+        deep = omega arith;
+        balanced = balance.none [] refl;
+        spell = sym brace ∙ sound.spell;
+      },
+    )

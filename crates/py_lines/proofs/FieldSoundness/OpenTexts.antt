@@ -66,10 +66,6 @@ begins_in l ls text rest front single inner =
 pub parts_at : (limit : Limit) (outer : List Level) (depth : ℕ) (host : Host) (place : Place) (named : Bool) (text next more : List ℕ) → HoldsParts limit outer depth host place named text next → PartsAt limit outer depth host place named text (next ++ more)
 parts_at limit outer depth host place named text next more h = record { whole = h.whole; fit = h.fit more }
 
--- the same, as fields without a limit are in them
-any_parts : (limit : Limit) (depth : ℕ) (host : Host) (place : Place) (parts : List (List ℕ)) (rest : List ℕ) → AreParts (limit.FieldsAt depth) host place false parts rest → AreParts Fields host place false parts rest
-any_parts limit depth host place parts rest each = parts_map (limit.FieldsAt depth) Fields (limit.are_fields depth) host place false parts rest each
-
 -- a literal part is open in a list
 literal_open : (limit : Limit) (outer : List Level) (done : List Piece) (openers : List ℕ) (host : Host) (named : Bool) (text rest held more : List ℕ) → text ++ rest ≡ held ++ more → HoldsList limit outer literal done openers held → PartsAt limit outer (length openers + levels_open outer) host literal named text rest → BeginsList (before literal outer) (spelled done ++ (text ++ rest)) (levels_open outer) → IsOpenBefore literal outer done openers host named text rest
 literal_open limit outer done openers host named text rest held more same list h begins = record {
@@ -82,7 +78,7 @@ literal_open limit outer done openers host named text rest held more same list h
   begun = subst (AreBegun (levels_open outer) done) (sym same) (are_begun limit outer literal done openers held more list);
   string = in_literal (literal_after h.parts) text rest h.opens_with.prefix h.parts refl
       (h.spell ∙ ap (λ t. t ++ joined h.parts) h.opens_with.spell ∙ append_assoc h.opens_with.prefix _ (joined h.parts)) h.opens_with.begun h.opens_with.raw h.quotes
-      (any_parts limit (length openers + levels_open outer) host literal h.parts rest h.fit) h.open_yet;
+      (parts_map _ Fields (limit.are_fields (length openers + levels_open outer)) host literal false h.parts rest h.fit) h.open_yet;
   place_is = refl;
   named_is = h.named_is;
   depth_is =
@@ -112,7 +108,7 @@ specification_open limit l ls done openers host named text rest own no_done no_o
       string = in_specification spot inner.spot text rest own.text opens.inside h.parts refl front
           (subst (λ (x : Host). IsOpenString x inner.spot own.text (123 ∷ (code ++ (58 ∷ (joined h.parts ++ rest))))) opens.same_host string)
           (record { unnamed = inner.named_is; single = λ at. opens.single (sym inner.place_is ∙ at) [] }) opens.are_inside
-          (any_parts limit (length openers + levels_open (l ∷ ls)) host specification h.parts rest h.fit) h.open_yet;
+          (parts_map _ Fields (limit.are_fields (length openers + levels_open (l ∷ ls))) host specification false h.parts rest h.fit) h.open_yet;
       place_is = refl;
       named_is = h.named_is;
       depth_is =

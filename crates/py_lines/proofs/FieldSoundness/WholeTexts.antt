@@ -9,7 +9,7 @@ use Rattle.py_lines.specs.Fields.{IsShallow, AnyPieces, Fields, ShallowFields}
 use Rattle.py_lines.specs.Reading.{IsBalancedReading}
 use Rattle.py_lines.specs.FieldStrings.{with_fields}
 use Rattle.py_lines.specs.Private.FieldMachine.{before, FieldMove, breaks, begins_code, opens_field, Level, FieldScanned, field_state, field_text_start, field_move, field_step, field_steps_from, field_pieces, frames, has_room, has_room_at, have_room, IsFieldFinal}
-use Rattle.py_lines.proofs.Fields.Nesting.{field_is, shallow_is, any_shallow}
+use Rattle.py_lines.proofs.Fields.Nesting.{field_is, shallow_is, shallow_fields}
 use Rattle.py_lines.proofs.FieldSoundness.OpenLists.{balanced_at}
 use Rattle.py_lines.proofs.FieldSoundness.Holds.{Limit, IsFieldSound}
 use Rattle.py_lines.proofs.FieldSoundness.PlainSteps.{HasRoom}
@@ -38,7 +38,7 @@ two_hundred = record {
   FieldsAt = ShallowFields;
   PiecesAt = IsShallow;
   Room = λ depth. depth < 200;
-  are_fields = any_shallow;
+  are_fields = λ depth host text is. shallow_fields is.0 depth host text is.1;
   makes_field = shallow_is;
   none_at = λ depth. tt;
   one_more = shallow-push;

@@ -155,9 +155,6 @@ shallow_of depth host text (suc n, is) =
     (is.0, field_map Fields Fields (ShallowWithin n (depth + 1)) (ShallowFields (depth + 1)) _ _ (λ h t one. one) (f (depth + 1)) (shallow_map (ShallowWithin n) ShallowFields f (depth + 1)) host text is.1)
 
 -- shallow fields are fields
-shallow_fields : (n depth : ℕ) (host : Host) (text : List ℕ) → ShallowWithin n depth host text → Fields host text
+pub shallow_fields : (n depth : ℕ) (host : Host) (text : List ℕ) → ShallowWithin n depth host text → Fields host text
 shallow_fields zero depth host text is = absurd is
 shallow_fields (suc n) depth host text is = field_is host text (field_map Fields Fields (ShallowWithin n (depth + 1)) Fields _ AnyPieces (λ h t one. one) (shallow_fields n (depth + 1)) (λ ps passes. tt) host text is.1)
-
-pub any_shallow : (depth : ℕ) (host : Host) (text : List ℕ) → ShallowFields depth host text → Fields host text
-any_shallow depth host text (n, is) = shallow_fields n depth host text is

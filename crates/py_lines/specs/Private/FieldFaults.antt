@@ -55,9 +55,9 @@ cause_place s begins_nothing = here s
 
 -- what is open at the end of code: a bracket of the innermost list, or the field whose code it is
 abbrev pub unfinished_code : List Level → List ℕ → Option Unfinished
+unfinished_code outer (o ∷ os) = Some open_bracket
 unfinished_code [] [] = None
 unfinished_code (l ∷ ls) [] = Some open_inside
-unfinished_code outer (o ∷ os) = Some open_bracket
 
 -- in a literal part: the string, unless a `{` stands at the end, which would open a field
 abbrev pub unfinished_literal : Host → At → ℕ → Unfinished
