@@ -40,26 +40,20 @@ pub record Carries (old new : Dialect) : Type 0 where
   pub prefix : (prefix : List ℕ) (q : ℕ) (after : List ℕ) → is_quote q ≡ true → may_have_fields (prefix ++ q ∷ after) ≡ false → new.is_field_prefix prefix ≡ false
   pub none : (host : Host) (spot : Spot) (front rest : List ℕ) → may_have_fields front ≡ false → ¬ (IsOpenStringIn old host spot front rest)
 
--- with fields, a string with fields begins with such a prefix
-none_fielded : (host : Host) (spot : Spot) (front rest : List ℕ) → may_have_fields front ≡ false → ¬ (IsOpenStringIn fielded_dialect host spot front rest)
-none_fielded host spot front rest h (in_literal s f r prefix parts at is fielded raw quotes each open_yet) =
+-- where no such prefix stands before a quote, none is open
+none_open : (dialect : Dialect) → ((prefix : List ℕ) (q : ℕ) (after : List ℕ) → is_quote q ≡ true → may_have_fields (prefix ++ q ∷ after) ≡ false → dialect.is_field_prefix prefix ≡ false) → (host : Host) (spot : Spot) (front rest : List ℕ) → may_have_fields front ≡ false → ¬ (IsOpenStringIn dialect host spot front rest)
+none_open dialect none host spot front rest h (in_literal s f r prefix parts at is fielded raw quotes each open_yet) =
     let begin = quotes_begin host in
     let spell : front ≡ prefix ++ host.quote ∷ (begin.0 ++ joined parts) = is ∙ ap (λ t. prefix ++ (t ++ joined parts)) begin.1 in
-    both_ways _ (no_field_prefix prefix host.quote (begin.0 ++ joined parts) quotes (ap may_have_fields (sym spell) ∙ h)) fielded
-none_fielded host spot front rest h (in_specification s round f r before inside parts at is string may inner each open_yet) =
-    none_fielded host round before _ (earlier before _ (ap may_have_fields (sym is) ∙ h)) string
-
--- without, there is none
-none_plain : (host : Host) (spot : Spot) (front rest : List ℕ) → may_have_fields front ≡ false → ¬ (IsOpenStringIn plain_dialect host spot front rest)
-none_plain host spot front rest h (in_literal s f r prefix parts at is fielded raw quotes each open_yet) = both_ways _ refl fielded
-none_plain host spot front rest h (in_specification s round f r before inside parts at is string may inner each open_yet) =
-    none_plain host round before _ (earlier before _ (ap may_have_fields (sym is) ∙ h)) string
+    both_ways _ (none prefix host.quote (begin.0 ++ joined parts) quotes (ap may_have_fields (sym spell) ∙ h)) fielded
+none_open dialect none host spot front rest h (in_specification s round f r before inside parts at is string may inner each open_yet) =
+    none_open dialect none host round before _ (earlier before _ (ap may_have_fields (sym is) ∙ h)) string
 
 pub to_fielded : Carries plain_dialect fielded_dialect
-to_fielded = record { fit = read_with Fields; reading = balanced_with; live = live_with; prefix = no_field_prefix; none = none_plain }
+to_fielded = record { fit = read_with Fields; reading = balanced_with; live = live_with; prefix = no_field_prefix; none = none_open plain_dialect (λ prefix q after quotes h. refl) }
 
 pub to_plain : Carries fielded_dialect plain_dialect
-to_plain = record { fit = read_without Fields; reading = balanced_without; live = live_without; prefix = λ prefix q after quotes h. refl; none = none_fielded }
+to_plain = record { fit = read_without Fields; reading = balanced_without; live = live_without; prefix = λ prefix q after quotes h. refl; none = none_open fielded_dialect no_field_prefix }
 
 module _ (old new : Dialect) (same : Carries old new) where
   -- where a list begins, and its first pieces

@@ -141,29 +141,6 @@ code_open outer done (o ∷ os) m held read sound may none =
     let at = bracket_is_open two_hundred outer done o os m held read sound may in
     (byte_len at.0, (at.0, at.1, refl))
 
--- in each mode
-plain_open : (outer : List Level) (done : List Piece) (openers : List ℕ) (m : Mode) (held read : List ℕ) → IsFieldSound two_hundred (field_state outer done openers (plain m) held) read → ((place : ℕ) → ¬ (OpensBraceTooDeep read [] place)) → EndsSo (field_state outer done openers (plain m) held) read (unfinished_in outer openers (plain m))
-plain_open outer done openers m held read sound none =
-    let P : Option Unfinished → Type 0 = EndsSo (field_state outer done openers (plain m) held) read in
-    let start = before literal outer ++ spelled done in
-    cond_both (in_short m) _ _ P
-    (λ is. (byte_len start, (start, short_is_open two_hundred outer done openers m held read sound is, refl)))
-    (λ short. cond_both (in_long m) _ _ P
-    (λ is. (byte_len start, (start, long_is_open two_hundred outer done openers m held read sound is, refl)))
-    (λ long. cond_both (is_after_backslash m) _ _ P
-    (λ is. (byte_len start, (start, slash_is_open two_hundred outer done openers m held read sound is, refl)))
-    (λ slash. code_open outer done openers (plain m) held read sound (final_by m ∙ rw (short, long, slash) refl) none)))
-
-literal_open : (outer : List Level) (done : List Piece) (openers : List ℕ) (host : Host) (named : Bool) (at : At) (held read : List ℕ) → IsFieldSound two_hundred (field_state outer done openers (body host literal named at) held) read → (at ≡ after_brace → ⊥) → (offset : ℕ) × IsOpenAtEnd (if host.is_long then open_long else open_short) read offset
-literal_open outer done openers host named at held read sound other = go host.is_long refl
-  where
-    start : List ℕ
-    start = before literal outer ++ spelled done
-
-    go : (b : Bool) → host.is_long ≡ b → (offset : ℕ) × IsOpenAtEnd (if b then open_long else open_short) read offset
-    go true long = (byte_len start, (start, literal_is_open two_hundred outer done openers host named at held read sound other IsPlainLongPrefix true long, refl))
-    go false short = (byte_len start, (start, literal_is_open two_hundred outer done openers host named at held read sound other IsPlainShortPrefix false short, refl))
-
 pub brace_open : (outer : List Level) (done : List Piece) (openers : List ℕ) (host : Host) (named : Bool) (held read : List ℕ) → IsFieldSound two_hundred (field_state outer done openers (body host literal named after_brace) held) read → ((place : ℕ) → OpensBraceTooDeep read [] place → IsDeepBrace outer openers (body host literal named after_brace)) → (offset : ℕ) × IsOpenAtEnd (unfinished_literal host after_brace (length openers + levels_open outer)) read offset
 brace_open outer done openers host named held read sound deep =
     let depth = length openers + levels_open outer in
@@ -178,8 +155,18 @@ brace_open outer done openers host named held read sound deep =
     let is : depth ≡ 200 = omega (arith, few, many) in
     brace_is_due two_hundred outer done openers host named held read sound [] refl is)
 
+-- in each mode
 pub open_in : (outer : List Level) (done : List Piece) (openers : List ℕ) (m : FieldMode) (held read : List ℕ) → IsFieldSound two_hundred (field_state outer done openers m held) read → ((place : ℕ) → OpensBraceTooDeep read [] place → IsDeepBrace outer openers m) → EndsSo (field_state outer done openers m held) read (unfinished_in outer openers m)
-open_in outer done openers (plain m) held read sound deep = plain_open outer done openers m held read sound (λ place due. both_ways _ refl (deep place due).0)
+open_in outer done openers (plain m) held read sound deep =
+    let P : Option Unfinished → Type 0 = EndsSo (field_state outer done openers (plain m) held) read in
+    let start = before literal outer ++ spelled done in
+    cond_both (in_short m) _ _ P
+    (λ is. (byte_len start, (start, short_is_open two_hundred outer done openers m held read sound is, refl)))
+    (λ short. cond_both (in_long m) _ _ P
+    (λ is. (byte_len start, (start, long_is_open two_hundred outer done openers m held read sound is, refl)))
+    (λ long. cond_both (is_after_backslash m) _ _ P
+    (λ is. (byte_len start, (start, slash_is_open two_hundred outer done openers m held read sound is, refl)))
+    (λ slash. code_open outer done openers (plain m) held read sound (final_by m ∙ rw (short, long, slash) refl) (λ place due. both_ways _ refl (deep place due).0))))
 open_in outer done openers (opened host) held read sound deep =
     let start = before literal outer ++ spelled done in
     (byte_len start, (start, opened_is_open two_hundred outer done openers host held read sound, refl))
@@ -188,4 +175,8 @@ open_in outer done openers (body host specification named at) held read sound de
     let own = specification_is_open two_hundred outer done openers host named at held read sound (no_brace_at outer _ held host named at sound.mode) in
     (byte_len own.0, (own.0, inr (host, own.1), refl, λ place due. both_ways _ refl (deep place due).0))
 open_in outer done openers (body host literal named after_brace) held read sound deep = brace_open outer done openers host named held read sound deep
-open_in outer done openers (body host literal named at) held read sound deep = literal_open outer done openers host named at held read sound (λ is. absurd (cc))
+open_in outer done openers (body host literal named at) held read sound deep =
+    let start = before literal outer ++ spelled done in
+    cond_both host.is_long open_long open_short (λ (w : Unfinished). (offset : ℕ) × IsOpenAtEnd w read offset)
+    (λ long. (byte_len start, (start, literal_is_open two_hundred outer done openers host named at held read sound (λ is. absurd (cc)) IsPlainLongPrefix true long, refl)))
+    (λ short. (byte_len start, (start, literal_is_open two_hundred outer done openers host named at held read sound (λ is. absurd (cc)) IsPlainShortPrefix false short, refl)))

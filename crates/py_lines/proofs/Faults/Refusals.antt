@@ -48,22 +48,10 @@ either : (m : Mode) (c : ℕ) (b : Bool) (v w : Move) → (b ≡ true → PlainR
 either m c true v w one two = one refl
 either m c false v w one two = two refl
 
-short_reason : (m : Mode) (q c : ℕ) → in_short m ≡ true → PlainReason m c (short_move q c)
-unfolding short_move
-short_reason m q c short = cond_both (is_backslash c) _ _ (PlainReason m c) (λ h. tt) (λ h. cond_both (is_break c) moves.Refused _ (PlainReason m c) (λ k. inl (k, inl short)) (λ k. tt))
-
-long_reason : (m : Mode) (q c : ℕ) → PlainReason m c (long_move q c)
-unfolding long_move
-long_reason m q c = cond_both (is_backslash c) _ _ (PlainReason m c) (λ h. tt) (λ h. tt)
-
 plain_reason : (m : Mode) (held : List ℕ) (c : ℕ) → Holds m [] held → PlainReason m c (move_of m c)
-unfolding move_of
-plain_reason (modes.FieldOpened h) held c holds = absurd holds
-plain_reason (modes.FieldEmpty h) held c holds = absurd holds
-plain_reason modes.Fielded held c holds = absurd holds
-plain_reason modes.Backslash held c holds =
-    either modes.Backslash c (is_line_feed c) moves.Closes _ (λ k. tt) (λ k. either modes.Backslash c (is_return c) _ moves.Refused (λ l. tt) (λ l. inr (inl (refl, not_break c k l))))
-plain_reason m held c holds = search (either, short_reason, long_reason)
+unfolding move_of short_move long_move
+plain_reason modes.Backslash held c holds = search (either, not_break, inl, inr) depth 8
+plain_reason m held c holds = search (either, inl, inr) depth 8
 
 -- in a string with fields where no `{` waits, by what the character does there
 moved_reason : (limit : Limit) (outer : List Level) (depth : ℕ) (host : Host) (place : Place) (m : FieldMode) (held : List ℕ) (c : ℕ) (v : FieldMove) → text_place m ≡ place → (host.is_long ≡ false → IsShortHere m) → (place ≡ specification → c ≡ host.quote → quotes_specification m c ≡ true) → is_quote host.quote ≡ true → Moved limit outer depth host place false held c v → Reason m c v

@@ -196,27 +196,25 @@ module _ (limit : Limit) (outer : List Level) (depth : ℕ) (host : Host) where
       (quote_on place named (text ++ host.quote ∷ []) next long (one_quote place named text (host.quote ∷ []) long h) (apart_after h.all.parts h.apart))
 
   -- the quotes that close the string
-  whole_string : (named : Bool) (text more : List ℕ) → quotes_of host ≡ host.quote ∷ more → HoldsBetween limit outer depth host literal named text (host.quote ∷ []) → IsFieldString (limit.FieldsAt depth) (text ++ host.quote ∷ more)
-  whole_string named text more quotes h =
-      let own = h.all in
-      record {
-        prefix = own.opens_with.prefix;
-        host = host;
-        parts = own.parts;
-        spell = ap (λ t. t ++ host.quote ∷ more) (own.spell ∙ ap (λ t. t ++ joined own.parts) own.opens_with.spell) ∙ (simp append_assoc)
-            ∙ ap (λ t. own.opens_with.prefix ++ (quotes_of host ++ (joined own.parts ++ t))) (sym quotes);
-        begun = own.opens_with.begun;
-        raw = own.opens_with.raw;
-        opens = own.quotes;
-        each = subst (AreParts (limit.FieldsAt depth) host literal false own.parts) (sym quotes) (own.fit more);
-        first = h.apart;
-      }
+  pub whole_string : (named : Bool) (text more : List ℕ) → quotes_of host ≡ host.quote ∷ more → (own : HoldsParts limit outer depth host literal named text (host.quote ∷ [])) → has_triple host.quote (own.parts ++ (host.quote ∷ []) ∷ (host.quote ∷ []) ∷ []) ≡ false → IsFieldString (limit.FieldsAt depth) (text ++ host.quote ∷ more)
+  whole_string named text more quotes own apart = record {
+    prefix = own.opens_with.prefix;
+    host = host;
+    parts = own.parts;
+    spell = ap (λ t. t ++ host.quote ∷ more) (own.spell ∙ ap (λ t. t ++ joined own.parts) own.opens_with.spell) ∙ (simp append_assoc)
+        ∙ ap (λ t. own.opens_with.prefix ++ (quotes_of host ++ (joined own.parts ++ t))) (sym quotes);
+    begun = own.opens_with.begun;
+    raw = own.opens_with.raw;
+    opens = own.quotes;
+    each = subst (AreParts (limit.FieldsAt depth) host literal false own.parts) (sym quotes) (own.fit more);
+    first = apart;
+  }
 
   -- with them a literal part ends the string, which is no empty one; in a specification they may not stand
   closes_at : (waits : Bool) (place : Place) (named : Bool) (held text more : List ℕ) (c : ℕ) → held ++ c ∷ [] ≡ text ++ host.quote ∷ more → quotes_of host ≡ host.quote ∷ more → c ≡ host.quote → (h : HoldsBetween limit outer depth host place named text (host.quote ∷ [])) → (place ≡ literal → (r : ℕ) → more ++ (joined h.all.parts ++ host.quote ∷ more) ≡ r ∷ [] → ⊥) → Moved place waits held c (closing_move place)
   unfolding whole_string
   closes_at waits literal named held text more c is quotes same h other =
-      let own = whole_string named text more quotes h in (
+      let own = whole_string named text more quotes h.all h.apart in (
         refl,
         subst (InClassIn (with_fields (limit.FieldsAt depth)) string) (sym is) (inr own),
         λ after. full_string own.prefix (more ++ (joined own.parts ++ host.quote ∷ more)) (held ++ c ∷ []) after host.quote (is ∙ own.spell ∙ ap (λ t. own.prefix ++ (t ++ (joined own.parts ++ t))) quotes) own.begun h.all.quotes (other refl),

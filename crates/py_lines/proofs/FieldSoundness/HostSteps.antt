@@ -11,7 +11,7 @@ use Rattle.py_lines.specs.Private.FieldMachine.{text_place, before, between, Fie
 use Rattle.py_lines.proofs.Pieces.PieceLists.{piece}
 use Rattle.py_lines.proofs.Fields.Prefixes.{field_letters, first_quote}
 use Rattle.py_lines.proofs.FieldSoundness.Holds.{Limit, OpensHost, HoldsParts, HoldsBetween, HoldsMode, HoldsLevel, HoldsLevels, AtStart, IsFieldSound}
-use Rattle.py_lines.proofs.FieldSoundness.Bodies.{quoted_prefix, short_quotes, IsIn, Moved, between_moves}
+use Rattle.py_lines.proofs.FieldSoundness.Bodies.{quoted_prefix, short_quotes, whole_string, IsIn, Moved, between_moves}
 use Rattle.py_lines.proofs.FieldSoundness.BodyMoves.{body_moves}
 use Rattle.py_lines.proofs.FieldSoundness.Lists.{FieldSoundIf, no_pieces, stands_at, stands_more}
 use Rattle.py_lines.proofs.FieldSoundness.Code.{start_sound, specification_ends}
@@ -43,18 +43,12 @@ opened_moves limit outer depth host held c (opens, quotes, short) other =
     between_moves limit outer depth host false literal false between held c (no_parts limit outer depth host held (c ∷ []) (short_opens host held short opens) quotes) (λ same. absurd (both_ways _ other (eq-eqb c host.quote same)))
 
 -- two quotes are an empty string, unless a third one follows
-pub empty_string : (F : Host → List ℕ → Type 0) (host : Host) (held : List ℕ) → OpensHost host (host.quote ∷ host.quote ∷ []) held → is_quote host.quote ≡ true → host.is_long ≡ false → IsFieldString F held
-empty_string F host held h quotes short = record {
-  prefix = h.prefix;
-  host = host;
-  parts = [];
-  spell = h.spell ∙ ap (λ t. h.prefix ++ (t ++ t)) (sym (short_quotes host short));
-  begun = h.begun;
-  raw = h.raw;
-  opens = quotes;
-  each = tt;
-  first = refl;
-}
+pub empty_string : (limit : Limit) (outer : List Level) (depth : ℕ) (host : Host) (held : List ℕ) → OpensHost host (host.quote ∷ host.quote ∷ []) held → is_quote host.quote ≡ true → host.is_long ≡ false → IsFieldString (limit.FieldsAt depth) held
+empty_string limit outer depth host held h quotes short =
+    let text = h.prefix ++ host.quote ∷ [] in
+    let opens = short_opens host text short (record { prefix = h.prefix; spell = refl; begun = h.begun; raw = h.raw }) in
+    subst (IsFieldString (limit.FieldsAt depth)) (append_assoc h.prefix (host.quote ∷ []) (host.quote ∷ []) ∙ sym h.spell)
+    (whole_string limit outer depth host false text [] (short_quotes host short) (no_parts limit outer depth host text (host.quote ∷ []) opens quotes) refl)
 
 pub empty_before : (host : Host) (held : List ℕ) (c : ℕ) (more : List ℕ) → OpensHost host (host.quote ∷ host.quote ∷ []) held → is_quote host.quote ≡ true → c == host.quote ≡ false → MayPrecedeIn fielded string held (c ∷ more)
 empty_before host held c more h quotes other prefix r spell begun also =
@@ -150,7 +144,7 @@ step_sound limit outer done openers (empty host) held read c sound room =
     (record { all = no_parts limit outer depth (long_host host) (held ++ c ∷ []) [] long quotes; apart = refl; full = λ at short. absurd (both_ways _ short refl) }) tt)
     (λ other room.
     start_sound limit outer (done ++ piece string held ∷ []) openers read c
-    (ends_before limit outer done openers (empty host) held read c string sound refl (λ h. absurd (cc)) (inr (empty_string (limit.FieldsAt depth) host held opens quotes short)) (λ more. empty_before host held c more opens quotes other) refl) room) room
+    (ends_before limit outer done openers (empty host) held read c string sound refl (λ h. absurd (cc)) (inr (empty_string limit outer depth host held opens quotes short)) (λ more. empty_before host held c more opens quotes other) refl) room) room
 step_sound limit outer done openers (body host place named at) held read c sound room =
     let depth = length openers + levels_open outer in
     moved_sound limit outer done openers (body host place named at) held read c sound host place (is_after_brace at) (body_move host place named at c) refl refl (body_moves limit outer depth host place named at held c sound.mode) room

@@ -73,5 +73,5 @@ list_ends limit outer done openers (plain m) held read sound may = ends_plain li
 list_ends limit outer done openers (opened host) held read sound may = absurd (both_ways _ refl may)
 list_ends limit outer done openers (empty host) held read sound may =
     let own = sound.mode in
-    ends_piece limit outer done openers (empty host) held read sound string (λ at. absurd (cc)) refl (inr (empty_string _ host held own.0 own.1 own.2)) (λ prefix r spell begun also. refl)
+    ends_piece limit outer done openers (empty host) held read sound string (λ at. absurd (cc)) refl (inr (empty_string limit outer _ host held own.0 own.1 own.2)) (λ prefix r spell begun also. refl)
 list_ends limit outer done openers (body host place named at) held read sound may = absurd (both_ways _ refl may)

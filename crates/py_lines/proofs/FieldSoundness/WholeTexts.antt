@@ -1,7 +1,7 @@
 -- Where the machine with fields may end, its pieces read the text. They are shallow if each character had room.
 use Rattle.std.proofs.Common.{◌≡◌, ℕ, ◌+◌, ◌<◌, Bool, true, false, not, ◌||◌, Option, None, Some, List, [], ◌∷◌, ◌++◌, nat_lt, refl, sym, ap, ◌∙◌, arith}
 use Rattle.std.specs.Prelude.{if◌then◌else◌}
-use Rattle.std.proofs.lemmas.Bool.{and_parts, both_ways, ltb-true}
+use Rattle.std.proofs.lemmas.Bool.{and_parts, cond_both, ltb-true}
 use Rattle.py_lines.specs.Piece.{string, Piece, spelled}
 use Rattle.py_lines.specs.PieceGrammar.{InClassIn}
 use Rattle.py_lines.specs.Balance.{is_opening, is_opener, depth_after, depth_through}
@@ -56,20 +56,13 @@ any_rooms (Some s) [] = tt
 any_rooms (Some s) (c ∷ cs) = (any_room (frames s) c (field_move s.mode s.held c), any_rooms (field_step s c) cs)
 
 -- and where the machine says so
-code_room : (opens : Bool) (depth : ℕ) → nat_lt (if opens then depth + 1 else depth) 200 ≡ true → (depth < 200) × (opens ≡ true → depth + 1 < 200)
-code_room true depth h =
-    let less : depth + 1 < 200 = ltb-true (depth + 1) 200 h in
-    (omega arith, λ is. less)
-code_room false depth h = (ltb-true depth 200 h, λ is. absurd (both_ways _ refl is))
-
 pub room_at : (depth c : ℕ) (v : FieldMove) → has_room_at depth c v ≡ true → HasRoom two_hundred depth c v
 unfolding has_room_at
-room_at depth c breaks h = λ opens. ltb-true depth 200 (second (is_opening c) (nat_lt depth 200) h opens)
-  where
-    second : (a b : Bool) → not a || b ≡ true → a ≡ true → b ≡ true
-    second true b h is = h
-    second false b h is = absurd (both_ways _ refl is)
-room_at depth c (begins_code host) h = code_room (is_opening c) depth h
+room_at depth c breaks h = λ opens. ltb-true depth 200 (rw opens at h)
+room_at depth c (begins_code host) h = (
+  cond_both (is_opening c) (depth + 1) depth (λ (n : ℕ). nat_lt n 200 ≡ true → depth < 200) (λ opens k. let less = ltb-true (depth + 1) 200 k in omega (arith, less)) (λ other k. ltb-true depth 200 k) h,
+  λ opens. ltb-true (depth + 1) 200 (rw opens at h),
+)
 room_at depth c (opens_field host) h = ltb-true depth 200 h
 room_at depth c v h = tt
 

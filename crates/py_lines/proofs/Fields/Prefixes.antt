@@ -3,7 +3,7 @@ use Rattle.std.proofs.Common.{◌≡◌, ℕ, Bool, true, false, ◌||◌, ◌&&
 use Rattle.std.specs.Prelude.{codes, if◌then◌else◌}
 use Rattle.std.proofs.lemmas.List.{append_cancel_left}
 use Rattle.std.specs.List.{list_all, list_any}
-use Rattle.std.proofs.lemmas.Bool.{and_parts, and_from, or_parts, or_from, or_cases, both_ways}
+use Rattle.std.proofs.lemmas.Bool.{and_parts, and_from, or_parts, or_from, or_left, or_cases, both_ways}
 use Rattle.py_lines.specs.Character.{is_quote, is_r, is_f, is_t, is_word_start, is_word_character, is_digit}
 use Rattle.py_lines.specs.PieceGrammar.{IsPrefix}
 use Rattle.py_lines.specs.FieldStrings.{is_field_prefix}
@@ -36,18 +36,14 @@ third_of : (a b c : Bool) → b || c ≡ true → a || b || c ≡ true
 third_of true b c h = refl
 third_of false b c h = h
 
-first_of : (a b c : Bool) → a ≡ true → a || b || c ≡ true
-first_of true b c h = refl
-first_of false b c h = absurd (both_ways _ refl h)
-
 abbrev IsLetter : ℕ → Type 0
 IsLetter c = is_r c || is_f c || is_t c ≡ true
 
 letters : (a b : ℕ) → is_field_prefix (a ∷ b ∷ []) ≡ true → IsLetter a × IsLetter b
 letters a b h =
     ⊎_elim
-    (λ one. let parts = and_parts _ _ one in (first_of (is_r a) (is_f a) (is_t a) parts.0, third_of (is_r b) (is_f b) (is_t b) parts.1))
-    (λ two. let parts = and_parts _ _ two in (third_of (is_r a) (is_f a) (is_t a) parts.0, first_of (is_r b) (is_f b) (is_t b) parts.1))
+    (λ one. let parts = and_parts _ _ one in (or_left _ _ (or_left _ _ parts.0), third_of (is_r b) (is_f b) (is_t b) parts.1))
+    (λ two. let parts = and_parts _ _ two in (third_of (is_r a) (is_f a) (is_t a) parts.0, or_left _ _ (or_left _ _ parts.1)))
     (or_cases (is_r a && (is_f b || is_t b)) ((is_f a || is_t a) && is_r b) h)
 
 -- a prefix: its first letter begins a word, the others continue it, and none is a quote
