@@ -1,7 +1,5 @@
 -- Texts without a prefix of strings with fields before a quote: they are the same with fields and without.
-pub mod PlainRuns
 pub mod SameRuns
-pub mod SamePlaces
 pub mod SameFaults
 pub mod SameLexings
 pub mod WorkedRows

@@ -5,4 +5,3 @@ pub mod Prefixes
 pub mod Parts
 pub mod OneReading
 pub mod Nesting
-pub mod DepthRows

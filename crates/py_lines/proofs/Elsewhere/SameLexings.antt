@@ -9,8 +9,7 @@ use Rattle.py_lines.specs.Lexed.{IsLexedIn, IsLexed}
 use Rattle.py_lines.specs.WithoutFields.{IsPlainLexed, HasNoFields}
 use Rattle.py_lines.specs.declared.fault.Fault.{Fault}
 use Rattle.py_lines.proofs.Text.Decoding.{decoded}
-use Rattle.py_lines.proofs.Elsewhere.SamePlaces.{Carries, earlier, to_fielded, to_plain}
-use Rattle.py_lines.proofs.Elsewhere.SameFaults.{lexical_carried}
+use Rattle.py_lines.proofs.Elsewhere.SameFaults.{Carries, earlier, to_fielded, to_plain, lexical_carried}
 
 -- the characters of the text, however it was decoded
 none_in : (text characters tail : List ℕ) → HasNoFields text → Decodes text characters tail → may_have_fields characters ≡ false

@@ -1,5 +1,5 @@
 -- What is open where a text with fields ends, by the state in which the machine stands.
-use Rattle.std.proofs.Common.{◌≡◌, ℕ, ◌+◌, ◌-◌, ◌<◌, ◌≤◌, Bool, true, false, Option, None, Some, List, [], ◌∷◌, ◌++◌, length, nat_lt, refl, sym, ap, ◌∙◌, subst, inl, inr, ◌⊎◌, append_assoc, append-nil, arith}
+use Rattle.std.proofs.Common.{◌≡◌, ℕ, ◌+◌, ◌-◌, ◌<◌, ◌≤◌, Bool, true, false, not, ◌||◌, Option, None, Some, List, [], ◌∷◌, ◌++◌, length, nat_lt, refl, sym, ap, ◌∙◌, subst, inl, inr, ◌⊎◌, append_assoc, append-nil, arith}
 use Rattle.std.specs.Prelude.{if◌then◌else◌}
 use Rattle.std.proofs.lemmas.Bool.{both_ways, cond_both, ltb-true, ltb-false}
 use Rattle.py_lines.specs.Piece.{operator, Piece, spelled}
@@ -10,18 +10,16 @@ use Rattle.py_lines.specs.OpenFields.{AreBegun, BeginsList, StandsOpen, IsPlainS
 use Rattle.py_lines.specs.LogicalLine.{byte_len}
 use Rattle.py_lines.specs.FieldStrings.{Host, Place, literal, specification, begins_open}
 use Rattle.py_lines.specs.declared.mode.Mode.{Mode}
-use Rattle.py_lines.specs.Private.Machine.{in_short, in_long, is_after_backslash}
+use Rattle.py_lines.specs.declared.mode.Mode.TheVariants as modes
+use Rattle.py_lines.specs.Private.Machine.{is_final, in_short, in_long, is_after_backslash}
 use Rattle.py_lines.specs.Private.FieldMachine.{text_place, before, At, after_brace, FieldMode, plain, opened, empty, body, Level, FieldScanned, field_state, field_closed, levels_open, may_end, IsFieldFinal}
 use Rattle.py_lines.specs.Private.FieldFaults.{is_waiting, unfinished_code, unfinished_literal, unfinished_in}
-use Rattle.py_lines.proofs.Faults.EndPlaces.{final_by}
 use Rattle.py_lines.proofs.Pieces.PieceLists.{piece}
 use Rattle.py_lines.proofs.FieldSoundness.OpenLists.{Opens, level, inside, opens-depth}
 use Rattle.py_lines.proofs.FieldSoundness.Holds.{Limit, HoldsAt, HoldsParts, HoldsList, HoldsLevels, IsFieldSound}
 use Rattle.py_lines.proofs.FieldSoundness.Lists.{not_specification, stands_at}
-use Rattle.py_lines.proofs.FieldSoundness.ListEnds.{code_at_end, list_ends}
-use Rattle.py_lines.proofs.FieldSoundness.WholeTexts.{two_hundred}
-use Rattle.py_lines.proofs.FieldSoundness.OpenTexts.{begun_before, parts_at, stands_open, list_begins}
-use Rattle.py_lines.proofs.FieldSoundness.OpenEnds.{literal_is_open, opened_is_open, specification_is_open, short_is_open, long_is_open, slash_is_open, code_is_open, brace_is_open}
+use Rattle.py_lines.proofs.FieldSoundness.WholeTexts.{code_at_end, list_ends, two_hundred}
+use Rattle.py_lines.proofs.FieldSoundness.OpenEnds.{begun_before, parts_at, stands_open, list_begins, literal_is_open, opened_is_open, specification_is_open, short_is_open, long_is_open, slash_is_open, code_is_open, brace_is_open}
 
 -- within the limit at most 200 brackets and fields are open
 shallow_through : (depth : ℕ) (ps : List Piece) → depth ≤ 200 → IsShallow depth ps → depth_through depth ps ≤ 200
@@ -130,6 +128,11 @@ IsDeepBrace outer openers m = (is_waiting m ≡ true) × (length openers + level
 abbrev pub EndsSo : FieldScanned → List ℕ → Option Unfinished → Type 0
 EndsSo s read None = IsFieldFinal s
 EndsSo s read (Some what) = (offset : ℕ) × IsOpenAtEnd what read offset
+
+-- the text may end in a mode in which nothing of the kind is open
+pub final_by : (m : Mode) → is_final m ≡ not (in_short m || (in_long m || is_after_backslash m))
+final_by modes.Fielded = refl
+final_by m = refl
 
 -- where the text may end, brackets and fields aside
 code_open : (outer : List Level) (done : List Piece) (openers : List ℕ) (m : FieldMode) (held read : List ℕ) → IsFieldSound two_hundred (field_state outer done openers m held) read → may_end m ≡ true → ((place : ℕ) → ¬ (OpensBraceTooDeep read [] place)) → EndsSo (field_state outer done openers m held) read (unfinished_code outer openers)

@@ -1,16 +1,31 @@
--- A live text with fields that has no reading has a fault at its end, and one alone: the state of the machine with fields tells what is
--- open, and where its fault stands.
-use Rattle.std.proofs.Common.{◌≡◌, ℕ, ◌+◌, ◌<◌, Bool, true, false, Option, None, Some, List, [], ◌∷◌, ◌++◌, ◌⊎◌, inl, inr, length, nat_lt, refl, sym, ap, ◌∙◌, subst, append_assoc, append-nil, arith}
-use Rattle.std.proofs.lemmas.Bool.{both_ways, cond_both}
-use Rattle.py_lines.specs.Piece.{Piece, spelled, string}
-use Rattle.py_lines.specs.LogicalLine.{byte_len}
+-- What is open where a text with fields ends, and where it starts, are told by the state of the machine there. So a live text that
+-- has no reading has a fault at its end, and one alone.
+use Rattle.std.specs.Prelude.{if◌then◌else◌}
+use Rattle.std.proofs.Math.Utf8.{encode}
+use Rattle.std.proofs.Common.{◌≡◌, ℕ, ◌+◌, Bool, true, false, not, ◌||◌, arith, Option, None, Some, List, [], ◌∷◌, ◌++◌, refl, sym, ap, ◌∙◌, subst, ◌<◌, ◌⊎◌, inl, inr, length, nat_lt, append_assoc, append-nil}
+use Rattle.std.proofs.lemmas.Bool.{both_ways, not-true, cond_both}
+use Rattle.py_lines.specs.Piece.{Class, operator, Piece, spelled, string}
+use Rattle.py_lines.specs.LogicalLine.{byte_len, first_or_zero}
+use Rattle.py_lines.specs.Balance.{is_opening, is_operator_that, is_opener, IsBalanced}
+use Rattle.py_lines.specs.Faults.{Unfinished, open_brace, open_short, open_long, open_join, open_bracket, open_inside, InOpenBracket, OpensBraceTooDeep, kind_of_unfinished, IsOpenAtEnd, IsEndFault}
 use Rattle.py_lines.specs.FieldStrings.{Host, literal, specification}
+use Rattle.py_lines.specs.declared.mode.Mode.{Mode}
+use Rattle.py_lines.specs.declared.mode.Mode.TheVariants as modes
+use Rattle.py_lines.specs.Private.Machine.{is_final, in_short, in_long, is_after_backslash, Bracket, brackets_of, class_of}
+use Rattle.py_lines.specs.Private.FieldMachine.{text_place, before, after_brace, in_open_short, in_open_long, after_open_backslash, InSpecificationOf, FieldMode, plain, opened, empty, body, Level, FieldScanned, field_state, field_text_start, field_steps_from, field_pieces, may_end, openers_through, have_room, IsFieldFinal, levels_open, frames, field_closed}
+use Rattle.py_lines.proofs.Pieces.PieceLists.{spelled-append, piece}
+use Rattle.py_lines.proofs.Faults.EndFaults.{final_by, IsDeepBrace, EndsSo, brace_open, open_in}
+use Rattle.py_lines.proofs.FieldMachine.Runs.{NoLimit, Goes, steps_of}
+use Rattle.py_lines.proofs.FieldMachine.OpenLists.{pieces_run, list_runs}
+use Rattle.py_lines.proofs.Machine.ReadingSteps.{MayBegin}
+use Rattle.py_lines.proofs.LogicalLines.Cuts.{byte_len-append}
+use Rattle.py_lines.proofs.FieldSoundness.OpenEnds.{long_mode}
+use Rattle.py_lines.proofs.Fields.Parts.{some_head}
+use Rattle.py_lines.proofs.FieldMachine.ListBrackets.{openers_through-append, opener_pushes, balanced_openers, none_some}
+use Rattle.py_lines.specs.Private.FieldFaults.{unfinished_code, unfinished_in, unfinished_at, is_waiting, unfinished_literal, here, piece_start}
 use Rattle.py_lines.specs.Reading.{IsBalancedReading}
-use Rattle.py_lines.specs.Faults.{OpensBraceTooDeep, Unfinished, open_brace, open_short, open_long, open_join, open_bracket, open_inside, kind_of_unfinished, IsOpenAtEnd, IsEndFault}
 use Rattle.py_lines.specs.declared.fault.FaultKind.{FaultKind}
-use Rattle.py_lines.specs.Private.FieldMachine.{text_place, before, after_brace, FieldMode, body, Level, FieldScanned, field_state, field_text_start, field_steps_from, field_pieces, have_room, IsFieldFinal, in_open_short, in_open_long, after_open_backslash, InSpecificationOf, levels_open, may_end, frames, plain, field_closed}
 use Rattle.py_lines.proofs.FieldMachine.Completeness.{reading_reached}
-use Rattle.py_lines.proofs.FieldMachine.ListBrackets.{none_some}
 use Rattle.py_lines.proofs.FieldMachine.WhatIsOpen.{Comes, comes_to, short_open_comes, long_open_comes, backslash_comes, SpecificationAt, specification_comes}
 use Rattle.py_lines.proofs.FieldMachine.OpenCode.{CodeAt, in_code, at_brace, code_comes, brace_comes}
 use Rattle.py_lines.proofs.FieldMachine.OpenStrings.{HasOpened}
@@ -19,17 +34,133 @@ use Rattle.py_lines.proofs.FieldSoundness.HostSteps.{sound_at}
 use Rattle.py_lines.proofs.FieldSoundness.WholeTexts.{two_hundred, rooms_at, final_is_reading}
 use Rattle.py_lines.proofs.ScanMachine.Follows.{some_is}
 use Rattle.py_lines.proofs.FieldSoundness.LiveTexts.{live_goes, goes_live}
-use Rattle.py_lines.proofs.Faults.EndFaults.{IsDeepBrace, EndsSo, brace_open, open_in}
-use Rattle.py_lines.specs.Private.FieldFaults.{is_waiting, unfinished_code, unfinished_literal, unfinished_in, unfinished_at, here, piece_start}
-use Rattle.py_lines.proofs.Faults.EndPlaces.{same_state, opened_text, IsPlaced, brace_more, one_place, short_unfinished, long_unfinished, join_unfinished, code_unfinished, specification_unfinished, bracket_back, one_bracket}
-use Rattle.std.specs.Prelude.{if◌then◌else◌}
 use Rattle.py_lines.specs.Balance as balance
-use Rattle.py_lines.specs.Balance.{is_opener, IsBalanced}
-use Rattle.py_lines.specs.declared.mode.Mode.TheVariants as modes
-use Rattle.py_lines.specs.Private.Machine.{Bracket, brackets_of, class_of}
-use Rattle.py_lines.proofs.LogicalLines.Cuts.{byte_len-append}
-use Rattle.py_lines.proofs.Pieces.PieceLists.{piece}
 use Rattle.py_lines.proofs.Pieces.OpenBrackets.{StandsAt, level, inside, stands}
+
+-- The fault of what is open stands at this byte, that of a field directly before the text up to its `{` ends. Where that is a bracket,
+-- it is the innermost of those that the finished pieces of the innermost list leave open.
+abbrev pub StandsThere : FieldScanned → Unfinished → ℕ → Type 0
+StandsThere s open_bracket offset = (b : Bracket) (bs : List Bracket) → brackets_of s.done ≡ Some (b ∷ bs) → offset ≡ byte_len (before literal s.outer) + b.place
+StandsThere s open_brace offset = offset + 1 ≡ here s
+StandsThere s open_inside offset = offset + 1 ≡ (if is_waiting s.mode then here s else byte_len (before literal s.outer))
+StandsThere s what offset = offset ≡ piece_start s
+
+-- that bracket is one of the pieces
+abbrev pub IsPlaced : Unfinished → FieldScanned → ℕ → Type 0
+IsPlaced open_bracket s offset =
+    (outer : List Piece) × (opener : Piece) × (inner : List Piece) × (field_pieces s ≡ outer ++ opener ∷ inner) × (is_opener opener ≡ true)
+    × IsBalanced inner × (offset ≡ byte_len (before literal s.outer ++ spelled outer))
+IsPlaced what s offset = StandsThere s what offset
+
+-- a bracket is open after one that no bracket closes
+some_after : (outer inner : List Piece) (a : Piece) (after : List ℕ) → is_opener a ≡ true → IsBalanced inner → openers_through (Some []) (outer ++ a ∷ inner) ≡ Some after → (o : ℕ) × (os : List ℕ) × (after ≡ o ∷ os)
+some_after outer inner a after opens within is = go (openers_through (Some []) outer) (sym (openers_through-append (Some []) outer (a ∷ inner)) ∙ is)
+  where
+    go : (o : Option (List ℕ)) → openers_through o (a ∷ inner) ≡ Some after → (c : ℕ) × (os : List ℕ) × (after ≡ c ∷ os)
+    go None is = absurd (none_some is)
+    go (Some os) is =
+        let c = first_or_zero a.text in
+        let same : Some (c ∷ os) ≡ Some after = sym (balanced_openers inner within (c ∷ os)) ∙ sym (ap (λ o. openers_through o inner) (opener_pushes os a.class a.text opens)) ∙ is in
+        (c, os, cc)
+
+-- so the innermost open bracket is one
+unclosed : (outer inner : List Piece) (a : Piece) → IsBalanced (outer ++ a ∷ inner) → is_opener a ≡ true → IsBalanced inner → ⊥
+unclosed outer inner a all opens within =
+    let (o, os, some) = some_after outer inner a [] opens within (balanced_openers (outer ++ a ∷ inner) all []) in
+    cc
+
+pub one_bracket : (outer others inner more : List Piece) (a b : Piece) → outer ++ a ∷ inner ≡ others ++ b ∷ more → is_opener a ≡ true → is_opener b ≡ true → IsBalanced inner → IsBalanced more → outer ≡ others
+one_bracket [] [] inner more a b same one two first second = refl
+one_bracket [] (z ∷ zs) inner more a b same one two first second =
+    let is : inner ≡ zs ++ b ∷ more = cc in
+    absurd (unclosed zs more b (subst IsBalanced is first) two second)
+one_bracket (x ∷ xs) [] inner more a b same one two first second =
+    let is : xs ++ a ∷ inner ≡ more = cc in
+    absurd (unclosed xs inner a (subst IsBalanced (sym is) second) one first)
+one_bracket (x ∷ xs) (z ∷ zs) inner more a b same one two first second =
+    let here : x ≡ z = cc in
+    let later : xs ++ a ∷ inner ≡ zs ++ b ∷ more = cc in
+    ap (λ p. p ∷ xs) here ∙ ap (λ l. z ∷ l) (one_bracket xs zs inner more a b later one two first second)
+
+-- a `{` is one byte more
+pub brace_more : (start read : List ℕ) → start ++ 123 ∷ [] ≡ read → byte_len start + 1 ≡ byte_len read
+unfolding encode
+brace_more start read is = sym (byte_len-append start (123 ∷ [])) ∙ ap byte_len is
+
+-- so the place is one
+pub one_place : (what : Unfinished) (s : FieldScanned) (offset place : ℕ) → IsPlaced what s offset → IsPlaced what s place → offset ≡ place
+one_place open_bracket s offset place (outer, a, inner, is, opens, within, at) (others, b, more, also, two, second, there) =
+    at ∙ ap (λ l. byte_len (before literal s.outer ++ spelled l)) (one_bracket outer others inner more a b (sym is ∙ also) opens two within second) ∙ sym there
+one_place open_brace s offset place one two = omega (arith, one, two)
+one_place open_inside s offset place one two = omega (arith, one, two)
+one_place what s offset place one two = one ∙ sym two
+
+-- the kinds, by the mode: a string or a backslash stands in no specification
+pub short_unfinished : (outer : List Level) (openers : List ℕ) (m : FieldMode) → in_open_short m ≡ true → (unfinished_in outer openers m ≡ Some open_short) × (text_place m ≡ literal)
+short_unfinished outer openers (plain m) is = (rw is, refl)
+short_unfinished outer openers (opened host) is = (refl, refl)
+short_unfinished outer openers (body host literal named after_brace) is = absurd (both_ways _ refl is)
+short_unfinished outer openers (body host literal named at) is = (rw (not-true host.is_long is), refl)
+short_unfinished outer openers m is = absurd (both_ways _ refl is)
+
+pub long_unfinished : (outer : List Level) (openers : List ℕ) (m : FieldMode) → in_open_long m ≡ true → (unfinished_in outer openers m ≡ Some open_long) × (text_place m ≡ literal)
+long_unfinished outer openers (plain m) is = (rw ((long_mode m is).1, is), refl)
+long_unfinished outer openers (body host literal named after_brace) is = absurd (both_ways _ refl is)
+long_unfinished outer openers (body host literal named at) is = (rw is, refl)
+long_unfinished outer openers m is = absurd (both_ways _ refl is)
+
+pub join_unfinished : (outer : List Level) (openers : List ℕ) (m : FieldMode) → after_open_backslash m ≡ true → (unfinished_in outer openers m ≡ Some open_join) × (text_place m ≡ literal)
+join_unfinished outer openers (plain modes.Backslash) is = (refl, refl)
+join_unfinished outer openers m is = absurd (both_ways _ refl is)
+
+-- where it may end, nothing of the kind is open
+none_open : (short long slash : Bool) (o : Option Unfinished) → not (short || (long || slash)) ≡ true → (if short then Some open_short else (if long then Some open_long else (if slash then Some open_join else o))) ≡ o
+none_open false false false o ends = refl
+none_open short long slash o ends = absurd (both_ways _ refl ends)
+
+-- where it may end, brackets and fields aside, code is open
+pub code_unfinished : (outer : List Level) (openers : List ℕ) (m : FieldMode) → may_end m ≡ true → unfinished_in outer openers m ≡ unfinished_code outer openers
+code_unfinished outer openers (plain m) may = none_open (in_short m) (in_long m) (is_after_backslash m) _ (sym (final_by m) ∙ may)
+code_unfinished outer openers (empty host) may = refl
+code_unfinished outer openers m may = absurd (both_ways _ refl may)
+
+-- a specification
+pub specification_unfinished : (outer : List Level) (openers : List ℕ) (host : Host) (m : FieldMode) → InSpecificationOf host m → unfinished_in outer openers m ≡ Some open_inside
+specification_unfinished outer openers host (body own specification named at) is = refl
+specification_unfinished outer openers host m is = absurd is
+
+pub same_state : (characters : List ℕ) (s t : FieldScanned) → field_steps_from (Some field_text_start) characters ≡ Some s → field_steps_from (Some field_text_start) characters ≡ Some t → s ≡ t
+same_state characters s t one two = cc
+
+opener_text : (p : Piece) → is_opener p ≡ true → (c : ℕ) × (cs : List ℕ) × (p.text ≡ c ∷ cs)
+opener_text p h = go p.class p.text h
+  where
+    go : (class : Class) (text : List ℕ) → is_operator_that is_opening class text ≡ true → (c : ℕ) × (cs : List ℕ) × (text ≡ c ∷ cs)
+    go operator [] is = absurd (both_ways _ refl is)
+    go operator (c ∷ cs) is = (c, cs, refl)
+    go other text is = absurd (both_ways _ refl is)
+
+may_begin_none : (ps : List Piece) → MayBegin ps []
+may_begin_none [] = refl
+may_begin_none (p ∷ ps) = tt
+
+pub bracket_back : (characters start : List ℕ) (s : FieldScanned) → InOpenBracket characters start → field_steps_from (Some field_text_start) characters ≡ Some s → (unfinished_at s ≡ Some open_bracket) × IsPlaced open_bracket s (byte_len start)
+bracket_back characters start s is steps =
+    let pieces = is.outer ++ is.opener ∷ is.inner in
+    let list = list_runs is.outside (spelled pieces) is.depth is.list in
+    let run = pieces_run list.outer is.depth pieces [] list.deep is.begun (may_begin_none pieces) in
+    let t : FieldScanned = field_state list.outer run.done run.after run.mode run.held in
+    let text = opener_text is.opener is.opens in
+    let head = some_head (spelled is.outer) text.0 (text.1 ++ spelled is.inner) in
+    let full : spelled pieces ≡ head.0 ∷ head.1 = spelled-append is.outer (is.opener ∷ is.inner) ∙ ap (λ x. spelled is.outer ++ (x ++ spelled is.inner)) text.2 ∙ head.2 in
+    let goes : Goes NoLimit field_text_start characters t = subst (λ x. Goes NoLimit field_text_start x t) is.spell (list.goes t (spelled pieces) (record { first = head.0; others = head.1; more = head.1; one_is = full; two_is = full }) run.goes) in
+    let same : t ≡ s = same_state characters t s (steps_of NoLimit field_text_start t characters goes) steps in
+    let some = some_after is.outer is.inner is.opener run.after is.opens is.balanced run.opens in
+    let here : (unfinished_at t ≡ Some open_bracket) × IsPlaced open_bracket t (byte_len start) = (
+      code_unfinished list.outer run.after run.mode run.stops ∙ ap (unfinished_code list.outer) some.2,
+      (is.outer, is.opener, is.inner, run.pieces_are, is.opens, is.balanced, ap byte_len (sym is.before ∙ ap (λ x. x ++ spelled is.outer) (sym list.start_is))),
+    ) in
+    subst (λ (x : FieldScanned). (unfinished_at x ≡ Some open_bracket) × IsPlaced open_bracket x (byte_len start)) same here
 
 -- directly after a `{` at depth 200 the machine stands there
 pub deep_state : (characters : List ℕ) (s : FieldScanned) (after : List ℕ) (place : ℕ) → field_steps_from (Some field_text_start) characters ≡ Some s → OpensBraceTooDeep characters after place → IsDeepBrace s.outer s.openers s.mode
@@ -53,14 +184,14 @@ read_or_open characters s steps room = go (unfinished_at s) (open_now characters
     go None final = inl (final_is_reading characters s steps room final)
     go (Some what) at = inr (kind_of_unfinished what, at.0, record { unfinished = what; is = refl; whole = refl; live = goes_live characters s steps room; ends_in = at.1 })
 
--- the text up to the `{` of the field
-opened_at_end : (m : FieldMode) (outer : List Level) (characters : List ℕ) → may_end m ≡ true → opened_text m outer characters ≡ before literal outer
-opened_at_end (body host place named at) outer characters may = absurd (both_ways _ refl may)
-opened_at_end m outer characters may = refl
+-- no `{` of a literal part waits where the text may end, nor in a specification
+none_waits : (m : FieldMode) → may_end m ≡ true → is_waiting m ≡ false
+none_waits (body host place named at) may = absurd (both_ways _ refl may)
+none_waits m may = refl
 
-pub opened_in_specification : (host : Host) (m : FieldMode) (outer : List Level) (characters : List ℕ) → InSpecificationOf host m → (opened_text m outer characters ≡ before literal outer) × (text_place m ≡ specification)
-opened_in_specification host (body own specification named at) outer characters is = (refl, refl)
-opened_in_specification host m outer characters is = absurd is
+pub in_specification : (host : Host) (m : FieldMode) → InSpecificationOf host m → (is_waiting m ≡ false) × (text_place m ≡ specification)
+in_specification host (body own specification named at) is = (refl, refl)
+in_specification host m is = absurd is
 
 code_inside : (outer : List Level) (openers : List ℕ) → 0 < levels_open outer → openers ≡ [] → unfinished_code outer openers ≡ Some open_inside
 code_inside [] openers deep none = absurd (omega arith)
@@ -70,30 +201,33 @@ module _ (characters : List ℕ) (s : FieldScanned) (steps : field_steps_from (S
   sound : IsFieldSound two_hundred s characters
   sound = sound_to characters s steps room
 
+  pub text_is : here s ≡ byte_len characters
+  text_is = ap byte_len sound.spell
+
   abbrev pub IsNamed : Unfinished → ℕ → Type 0
-  IsNamed what offset = (unfinished_at s ≡ Some what) × IsPlaced what s characters offset
+  IsNamed what offset = (unfinished_at s ≡ Some what) × IsPlaced what s offset
 
   code_named : (start : List ℕ) (offset : ℕ) → CodeAt start s → offset ≡ byte_len start → ((place : ℕ) → ¬ (OpensBraceTooDeep characters [] place)) → IsNamed open_inside offset
   code_named start offset (in_code deep none may is) place other = (
     code_unfinished s.outer s.openers s.mode may ∙ code_inside s.outer s.openers deep none,
-    ap (λ n. n + 1) place ∙ brace_more start _ (sym is ∙ sym (opened_at_end s.mode s.outer characters may)),
+    rw (none_waits s.mode may) (ap (λ n. n + 1) place ∙ brace_more start _ (sym is)),
   )
   code_named start offset (at_brace host mode_is is) place other = go s.mode mode_is sound
     where
-      go : (m : FieldMode) → m ≡ body host literal false after_brace → IsFieldSound two_hundred (field_state s.outer s.done s.openers m s.held) characters → (unfinished_in s.outer s.openers m ≡ Some open_inside) × (offset + 1 ≡ byte_len (opened_text m s.outer characters))
+      go : (m : FieldMode) → m ≡ body host literal false after_brace → IsFieldSound two_hundred (field_state s.outer s.done s.openers m s.held) characters → (unfinished_in s.outer s.openers m ≡ Some open_inside) × (offset + 1 ≡ (if is_waiting m then here s else byte_len (before literal s.outer)))
       go (body own literal named after_brace) same here =
           let depth = length s.openers + levels_open s.outer in (
             cond_both (nat_lt depth 200) open_inside open_brace (λ (w : Unfinished). (at : ℕ) × IsOpenAtEnd w characters at → Some w ≡ Some open_inside) (λ less due. refl) (λ full due. absurd (other due.0 due.1))
                 (brace_open s.outer s.done s.openers own named s.held characters here (λ at due. absurd (other at due))),
-            ap (λ n. n + 1) place ∙ brace_more start _ (sym is ∙ append_assoc (before literal s.outer) (spelled s.done) s.held ∙ here.spell),
+            ap (λ n. n + 1) place ∙ brace_more start _ (sym is ∙ append_assoc (before literal s.outer) (spelled s.done) s.held ∙ here.spell) ∙ sym text_is,
           )
       go m same here = absurd (cc)
 
   pub specification_named : (host : Host) (start : List ℕ) (offset : ℕ) → SpecificationAt host start s → offset ≡ byte_len start → IsNamed open_inside offset
   specification_named host start offset at place =
-      let open_text = opened_in_specification host s.mode s.outer characters at.mode_is in
-      let none = sound.list.no_list open_text.1 in
-      (specification_unfinished s.outer s.openers host s.mode at.mode_is, ap (λ n. n + 1) place ∙ brace_more start _ (whole s.outer at.string_is at.field_is none.0 ∙ sym open_text.0))
+      let inside = in_specification host s.mode at.mode_is in
+      let none = sound.list.no_list inside.1 in
+      (specification_unfinished s.outer s.openers host s.mode at.mode_is, rw (inside.0) (ap (λ n. n + 1) place ∙ brace_more start _ (whole s.outer at.string_is at.field_is none.0)))
     where
       whole : (outer : List Level) → before specification outer ++ spelled s.done ≡ at.string → HasOpened specification outer at.field → s.done ≡ [] → start ++ 123 ∷ [] ≡ before literal outer
       whole [] string_is field_is none = absurd field_is
@@ -113,7 +247,7 @@ module _ (characters : List ℕ) (s : FieldScanned) (steps : field_steps_from (S
 
   pub named : (what : Unfinished) (offset : ℕ) → IsOpenAtEnd what characters offset → IsNamed what offset
   named open_brace offset deep =
-      (brace_named s.outer s.openers s.mode (deep_state characters s [] offset steps deep), ap (λ n. n + 1) deep.place ∙ brace_more deep.start characters deep.spell)
+      (brace_named s.outer s.openers s.mode (deep_state characters s [] offset steps deep), ap (λ n. n + 1) deep.place ∙ brace_more deep.start characters deep.spell ∙ sym text_is)
     where
       brace_named : (outer : List Level) (openers : List ℕ) (m : FieldMode) → IsDeepBrace outer openers m → unfinished_in outer openers m ≡ Some open_brace
       brace_named outer openers (body host literal named after_brace) (waits, full) = ap (λ n. Some (unfinished_literal host after_brace n)) full
@@ -122,7 +256,7 @@ module _ (characters : List ℕ) (s : FieldScanned) (steps : field_steps_from (S
   named open_long offset (start, is, place) = starts_there open_long in_open_long start offset (long_unfinished s.outer s.openers s.mode) (long_open_comes characters start is) place
   named open_join offset (start, is, place) = starts_there open_join after_open_backslash start offset (join_unfinished s.outer s.openers s.mode) (backslash_comes characters start is) place
   named open_bracket offset (start, is, place) =
-      subst (λ (n : ℕ). (unfinished_at s ≡ Some open_bracket) × IsPlaced open_bracket s characters n) (sym place) (bracket_back characters start s is steps)
+      subst (λ (n : ℕ). (unfinished_at s ≡ Some open_bracket) × IsPlaced open_bracket s n) (sym place) (bracket_back characters start s is steps)
   named open_inside offset (start, inl is, place, other) = code_named start offset (comes_to characters (CodeAt start) s (code_comes characters start is) steps) place other
   named open_inside offset (start, inr (host, is), place, other) = specification_named host start offset (comes_to characters _ s (specification_comes host characters start is) steps).0 place
 
@@ -134,7 +268,7 @@ one_end characters tail kind other offset place first second =
     let two = named characters run.0 run.1 run.2 second.unfinished place second.ends_in in
     let same : first.unfinished ≡ second.unfinished = some_is first.unfinished second.unfinished (sym one.0 ∙ two.0) in (
       first.is ∙ ap kind_of_unfinished same ∙ sym second.is,
-      one_place second.unfinished run.0 characters offset place (subst (λ (w : Unfinished). IsPlaced w run.0 characters offset) same one.1) two.1,
+      one_place second.unfinished run.0 offset place (subst (λ (w : Unfinished). IsPlaced w run.0 offset) same one.1) two.1,
     )
 
 -- and then the text has no reading
@@ -147,14 +281,6 @@ end_unread characters tail kind offset fault pieces reading =
     let open_yet = named characters run.0 run.1 run.2 fault.unfinished offset fault.ends_in in
     let none : unfinished_at run.0 ≡ None = code_unfinished run.0.outer run.0.openers run.0.mode final.ends ∙ rw (final.outside, final.closed_all) refl in
     none_some (sym none ∙ open_yet.0)
-
--- The fault of what is open stands at this byte, that of a field directly before the text up to its `{` ends. Where that is a bracket,
--- it is the innermost of those that the finished pieces of the innermost list leave open.
-abbrev pub StandsThere : FieldScanned → Unfinished → ℕ → Type 0
-StandsThere s open_bracket offset = (b : Bracket) (bs : List Bracket) → brackets_of s.done ≡ Some (b ∷ bs) → offset ≡ byte_len (before literal s.outer) + b.place
-StandsThere s open_brace offset = offset + 1 ≡ here s
-StandsThere s open_inside offset = offset + 1 ≡ (if is_waiting s.mode then here s else byte_len (before literal s.outer))
-StandsThere s what offset = offset ≡ piece_start s
 
 -- a piece that is open is no bracket
 open_other : (m : FieldMode) (done : List Piece) (held : List ℕ) → (more : List Piece) × (field_closed m done held ≡ done ++ more) × IsBalanced more
@@ -176,17 +302,8 @@ innermost done more outer inner opener b bs after shape opens within stack = go 
         ∙ ap (λ l. byte_len (spelled l)) (one_bracket first outer (second ++ more) inner a opener whole begun opens (balance.both (second ++ more) second more refl all after) within)
 
 module _ (read : List ℕ) (s : FieldScanned) (steps : field_steps_from (Some field_text_start) read ≡ Some s) (room : have_room (Some field_text_start) read ≡ true) where
-  pub text_is : here s ≡ byte_len read
-  text_is = ap byte_len (sound_to read s steps room).spell
-
-  opened_bytes : (m : FieldMode) → byte_len (opened_text m s.outer read) ≡ (if is_waiting m then here s else byte_len (before literal s.outer))
-  opened_bytes (body host literal named after_brace) = sym text_is
-  opened_bytes m = refl
-
   -- the byte that the definitions name is that of the state
-  there : (what : Unfinished) (offset : ℕ) → IsPlaced what s read offset → StandsThere s what offset
-  there open_brace offset at = at ∙ sym text_is
-  there open_inside offset at = at ∙ opened_bytes s.mode
+  there : (what : Unfinished) (offset : ℕ) → IsPlaced what s offset → StandsThere s what offset
   there open_bracket offset (outer, opener, inner, shape, opens, within, at) =
       λ b bs stack.
       let other = open_other s.mode s.done s.held in

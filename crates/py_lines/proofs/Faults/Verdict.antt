@@ -7,7 +7,7 @@ use Rattle.py_lines.proofs.FieldSoundness.LiveTexts.{live_before, live_goes}
 use Rattle.py_lines.proofs.Faults.Ends.{one_end}
 use Rattle.py_lines.specs.Private.FieldMachine.{before}
 use Rattle.py_lines.proofs.Text.Splits.{same_dying}
-use Rattle.py_lines.proofs.Faults.CauseAt.{place_is}
+use Rattle.py_lines.proofs.Faults.CharacterFaults.{place_is}
 
 -- the first of these causes that fits the character
 abbrev IsFirst : List Cause → List ℕ → ℕ → Cause → Type 0

@@ -1,16 +1,252 @@
--- What each character does in a string with fields, at each place in it.
-use Rattle.std.proofs.Common.{◌≡◌, ◌==◌, ℕ, Bool, true, false, not, ◌||◌, ◌&&◌, List, [], ◌∷◌, ◌++◌, refl, sym, ap, ◌∙◌, subst, inl, append_assoc}
-use Rattle.std.proofs.lemmas.Bool.{cond_both, and_left, and_right, eqb-true, and_from, or_right, both_ways, not_from_false}
-use Rattle.py_lines.specs.Character.{is_line_feed, is_return, is_break, is_backslash, is_brace}
-use Rattle.py_lines.specs.PieceGrammar.{is_bare}
-use Rattle.py_lines.specs.FieldStrings.{Host, Place, literal, specification, may_be_escaped, names, IsPart, slash, escape, escaped_end, name, double, named_after}
-use Rattle.py_lines.specs.Private.FieldMachine.{At, between, after_one, after_two, after_slash, after_return, after_name, after_brace, FieldMove, Level, is_after_brace, between_move, is_barred_escape, escape_move, body_move}
+-- What each character does in a string with fields, at each place in it: how the string grows, in its literal part and in
+-- specifications, and how it ends.
+use Rattle.std.proofs.Common.{◌≡◌, ◌==◌, ℕ, Bool, true, false, not, ◌||◌, ◌&&◌, List, [], ◌∷◌, ◌++◌, refl, sym, ap, ◌∙◌, subst, inl, inr, ◌⊎◌, ⊎_elim, append_assoc}
+use Rattle.std.specs.Prelude.{if◌then◌else◌}
+use Rattle.std.specs.Str.{byte}
+use Rattle.std.specs.List.{list_any}
+use Rattle.std.proofs.lemmas.Bool.{cond_both, and_parts, and_from, or_cases, eqb-true, both_ways, not_from_false, and_left, and_right, or_right}
+use Rattle.py_lines.specs.Character.{is_quote, is_return, is_break, is_backslash, is_brace, is_barred, is_line_feed}
+use Rattle.py_lines.specs.Piece.{string}
+use Rattle.py_lines.specs.PieceGrammar.{is_prefix, IsNoneOr, is_bare, joined, has_triple, InClassIn, MayPrecedeIn}
+use Rattle.py_lines.specs.Fields.{fielded}
+use Rattle.py_lines.specs.FieldStrings.{is_field_prefix, Host, Place, literal, specification, quotes_of, is_ordinary, IsPart, bare, named_after, named_through, AreParts, IsFieldString, with_fields, may_be_escaped, names, slash, escape, escaped_end, name, double}
 use Rattle.py_lines.specs.Private.Machine.{IsFull}
-use Rattle.py_lines.proofs.Text.CharacterTests.{slash-not-quote, not_quote, return-not-brace}
-use Rattle.py_lines.proofs.Fields.Parts.{names_letter, name-not-brace, name-not-return}
-use Rattle.py_lines.proofs.FieldSoundness.Holds.{Limit, HoldsParts, HoldsBetween, HoldsAt}
-use Rattle.py_lines.proofs.FieldSoundness.Bodies.{and_not, plain_one, kept_named, slash-not-closing, return-not-letter, longer_next, push_between, Moved, between_moves, one_quote, two_quotes, first_quotes, second_quote, third_quote}
-use Rattle.py_lines.proofs.FieldMachine.StringParts.{kept_or}
+use Rattle.py_lines.specs.Private.FieldMachine.{At, between, after_one, after_two, FieldMode, body, FieldMove, grows, closes, breaks, begins_code, opens_field, ends_field, refused, Level, is_after_two, with_quote, closing_move, opening_move, ending_move, between_move, after_slash, after_return, after_name, after_brace, is_after_brace, is_barred_escape, escape_move, body_move}
+use Rattle.py_lines.proofs.Pieces.TripleQuotes.{triple-left, triple-other}
+use Rattle.py_lines.proofs.Text.CharacterTests.{none_of, barred, slash-not-quote, not_quote, return-not-brace}
+use Rattle.py_lines.proofs.Machine.OpenPieces.{full-append, joined-push, not_one, quote-not-slash}
+use Rattle.py_lines.proofs.Fields.Parts.{quote-not-open, names_letter, name-not-brace, name-not-return}
+use Rattle.py_lines.proofs.Fields.Prefixes.{plain_quotes, field_letters, first_quote}
+use Rattle.py_lines.proofs.FieldSoundness.Holds.{Limit, WholeParts, HoldsParts, HoldsBetween, HoldsAt, HoldsMode}
+use Rattle.py_lines.proofs.FieldMachine.StringParts.{quote_no_end, kept_or}
+
+-- parts, one more after others
+pub parts-push : (F : Host → List ℕ → Type 0) (host : Host) (place : Place) (named : Bool) (parts : List (List ℕ)) (part rest : List ℕ) → AreParts F host place named parts (part ++ rest) → IsPart F host place (named_through named parts) part rest → AreParts F host place named (parts ++ part ∷ []) rest
+parts-push F host place named [] part rest each one = (one, tt)
+parts-push F host place named (p ∷ ps) part rest each one = (
+  subst (IsPart F host place named p) (sym (ap (λ t. t ++ rest) (joined-push ps part) ∙ append_assoc (joined ps) part rest)) each.0,
+  parts-push F host place (named_after named p) ps part rest each.1 one,
+)
+
+pub named-push : (named : Bool) (parts : List (List ℕ)) (part : List ℕ) → named_through named (parts ++ part ∷ []) ≡ named_after (named_through named parts) part
+named-push named [] part = refl
+named-push named (p ∷ ps) part = named-push (named_after named p) ps part
+
+-- Booleans
+pub kept_named : (a b : Bool) → b ≡ false → a && not b ≡ a
+kept_named true b h = rw h
+kept_named false b h = refl
+
+ended_named : (a b : Bool) → b ≡ true → a && not b ≡ false
+ended_named true b h = rw h
+ended_named false b h = refl
+
+pub and_not : (a b : Bool) → a && not b ≡ true → (a ≡ true) × (b ≡ false)
+and_not true false h = (refl, refl)
+and_not a b h = absurd (cc)
+
+pub plain_one : (b : Bool) → b && true ≡ false → b ≡ false
+plain_one true e = e
+plain_one false e = refl
+
+-- characters
+pub slash-not-closing : (c : ℕ) → is_backslash c ≡ true → c == 125 ≡ false
+unfolding is_backslash
+slash-not-closing c h = none_of (λ d. d == 125) (92 ∷ []) c refl h
+
+pub return-not-letter : (c : ℕ) → is_return c ≡ true → c == 78 ≡ false
+unfolding is_return
+return-not-letter c h = none_of (λ d. d == 78) (13 ∷ []) c refl h
+
+no_brace : (c : ℕ) → c == 123 ≡ false → c == 125 ≡ false → is_brace c ≡ false
+unfolding is_brace
+no_brace c one two = rw (one, two)
+
+ordinary_character : (place : Place) (named : Bool) (c : ℕ) → (c == 123) && not named ≡ false → c == 125 ≡ false → is_ordinary place named c ≡ true
+ordinary_character literal true c h k = refl
+ordinary_character specification true c h k = refl
+ordinary_character literal false c h k = not_from_false _ (plain_one (c == 123) h)
+ordinary_character specification false c h k = not_from_false _ (no_brace c (plain_one (c == 123) h) k)
+
+stands : (long : Bool) (q c : ℕ) → is_break c && not long ≡ false → c == q ≡ false → long || not (is_barred q c) ≡ true
+stands true q c h other = refl
+stands false q c h other = not_from_false _ (barred q c other (plain_one (is_break c) h))
+
+-- a string that holds something is no empty one
+pub quoted_prefix : (prefix : List ℕ) → IsNoneOr (λ p. is_prefix p || is_field_prefix p) prefix → list_any is_quote prefix ≡ false
+quoted_prefix prefix (inl none) = ap (list_any is_quote) none
+quoted_prefix prefix (inr some) = ⊎_elim (λ is. plain_quotes prefix (inr is)) (λ is. (field_letters prefix is).quotes) (or_cases (is_prefix prefix) (is_field_prefix prefix) some)
+
+full_string : (prefix inner text rest : List ℕ) (q : ℕ) → text ≡ prefix ++ (q ∷ inner) → is_field_prefix prefix ≡ true → is_quote q ≡ true → ((r : ℕ) → inner ≡ r ∷ [] → ⊥) → MayPrecedeIn fielded string text rest
+full_string prefix inner text rest q is begun quotes more other r spell also same =
+    let cut = first_quote prefix other inner (r ∷ []) q r (field_letters prefix begun).quotes (quoted_prefix other also) quotes same (sym is ∙ spell) in
+    let all : q ∷ inner ≡ r ∷ r ∷ [] = cut.1 in
+    let own : inner ≡ r ∷ [] = cc in
+    absurd (more r own)
+
+more_than_one : (xs : List ℕ) (q r : ℕ) → IsFull xs → xs ++ q ∷ [] ≡ r ∷ [] → ⊥
+more_than_one [] q r full same = full
+more_than_one (x ∷ xs) q r full same = not_one x xs q r same
+
+pub short_quotes : (host : Host) → host.is_long ≡ false → quotes_of host ≡ host.quote ∷ []
+short_quotes host h = rw h
+
+-- one more part
+abbrev pub push_part : (limit : Limit) (outer : List Level) (host : Host) (place : Place) (named after : Bool) (held part : List ℕ) (h : WholeParts limit outer host place named held) → has_triple host.quote (h.parts ++ part ∷ []) ≡ false → named_after named part ≡ after → WholeParts limit outer host place after (held ++ part)
+push_part limit outer host place named after held part h open_yet is = record {
+  begin = h.begin;
+  parts = h.parts ++ part ∷ [];
+  spell = ap (λ t. t ++ part) h.spell ∙ append_assoc h.begin (joined h.parts) part ∙ ap (λ t. h.begin ++ t) (sym (joined-push h.parts part));
+  opens_with = h.opens_with;
+  quotes = h.quotes;
+  named_is = named-push false h.parts part ∙ ap (λ n. named_after n part) h.named_is ∙ is;
+  open_yet = open_yet;
+}
+
+module _ (limit : Limit) (outer : List Level) (depth : ℕ) (host : Host) where
+  -- before texts that begin with more
+  abbrev pub longer_next : (place : Place) (named : Bool) (held next more : List ℕ) → HoldsParts limit outer depth host place named held next → HoldsParts limit outer depth host place named held (next ++ more)
+  longer_next place named held next more h =
+      record { whole = h.whole; fit = λ rest. subst (AreParts (limit.FieldsAt depth) host place false h.parts) (sym (append_assoc next more rest)) (h.fit (more ++ rest)) }
+
+  -- one more part
+  push : (place : Place) (named after : Bool) (held part next : List ℕ) (h : HoldsParts limit outer depth host place named held part) → ((more : List ℕ) → IsPart (limit.FieldsAt depth) host place named part (next ++ more)) → has_triple host.quote (h.parts ++ part ∷ []) ≡ false → named_after named part ≡ after → HoldsParts limit outer depth host place after (held ++ part) next
+  push place named after held part next h each open_yet is = record {
+    whole = push_part limit outer host place named after held part h.whole open_yet is;
+    fit = λ more. parts-push (limit.FieldsAt depth) host place false h.parts part (next ++ more) (h.fit (next ++ more)) (subst (λ n. IsPart (limit.FieldsAt depth) host place n part (next ++ more)) (sym h.named_is) (each more));
+  }
+
+  -- one that is no quote
+  pub push_between : (place : Place) (named after : Bool) (held part next : List ℕ) → HoldsParts limit outer depth host place named held part → ((more : List ℕ) → IsPart (limit.FieldsAt depth) host place named part (next ++ more)) → is_bare (λ d. d == host.quote) part ≡ false → IsFull part → named_after named part ≡ after → HoldsBetween limit outer depth host place after (held ++ part) next
+  unfolding push
+  push_between place named after held part next h each other full is = record {
+    all = push place named after held part next h each (triple-other host.quote h.parts part [] other h.open_yet refl) is;
+    apart = ap (has_triple host.quote) (append_assoc h.parts (part ∷ []) ((host.quote ∷ []) ∷ (host.quote ∷ []) ∷ [])) ∙ triple-other host.quote h.parts part ((host.quote ∷ []) ∷ (host.quote ∷ []) ∷ []) other h.open_yet refl;
+    full = λ at short. subst IsFull (sym (joined-push h.parts part)) (full-append (joined h.parts) part full);
+  }
+
+  -- what a character does in a string with fields, where a `{` may wait
+  abbrev pub IsIn : Place → FieldMode → Type 0
+  IsIn place (body h p named at) = p ≡ place
+  IsIn place other = ⊥
+
+  abbrev pub Moved : Place → Bool → List ℕ → ℕ → FieldMove → Type 0
+  Moved place waits held c (grows m) = IsIn place m × HoldsMode limit outer depth m (held ++ c ∷ [])
+  Moved place waits held c closes = (place ≡ literal) × InClassIn (with_fields (limit.FieldsAt depth)) string (held ++ c ∷ []) × ((more : List ℕ) → MayPrecedeIn fielded string (held ++ c ∷ []) more)
+  Moved place waits held c (begins_code h) = (h ≡ host) × (waits ≡ true) × (place ≡ literal) × (c == byte "{" ≡ false) × (text : List ℕ) × (held ≡ text ++ byte "{" ∷ []) × HoldsParts limit outer depth host place false text (byte "{" ∷ [])
+  Moved place waits held c (opens_field h) = (h ≡ host) × (place ≡ specification) × (c ≡ byte "{") × HoldsParts limit outer depth host place false held (byte "{" ∷ [])
+  Moved place waits held c ends_field = (place ≡ specification) × (c ≡ byte "}") × HoldsParts limit outer depth host place false held (byte "}" ∷ [])
+  Moved place waits held c refused = ((is_break c ≡ true) × (host.is_long ≡ false)) ⊎ ((place ≡ specification) × (c ≡ host.quote))
+  Moved place waits held c breaks = ⊥
+
+  -- a character that stands for itself
+  pub bare_one : (place : Place) (named after : Bool) (held : List ℕ) (c : ℕ) → HoldsParts limit outer depth host place named held (c ∷ []) → c == host.quote ≡ false → is_backslash c ≡ false → is_break c && not host.is_long ≡ false → is_ordinary place named c ≡ true → named && not (c == 125) ≡ after → HoldsBetween limit outer depth host place after (held ++ c ∷ []) []
+  bare_one place named after held c h other no_slash stays itself is =
+      push_between place named after held (c ∷ []) [] h (λ more. bare c refl no_slash (stands host.is_long host.quote c stays other) itself) other tt is
+
+  opening : (waits : Bool) (place : Place) (held : List ℕ) (c : ℕ) → HoldsParts limit outer depth host place false held (c ∷ []) → c ≡ 123 → Moved place waits held c (opening_move host place)
+  opening waits literal held c h is = (refl, (held, ap (λ (d : ℕ). held ++ d ∷ []) is, refl, refl, subst (λ (d : ℕ). HoldsParts limit outer depth host literal false held (d ∷ [])) is h))
+  opening waits specification held c h is = (refl, refl, is, subst (λ (d : ℕ). HoldsParts limit outer depth host specification false held (d ∷ [])) is h)
+
+  ending : (waits : Bool) (place : Place) (named : Bool) (held : List ℕ) (c : ℕ) → HoldsParts limit outer depth host place named held (c ∷ []) → c == 125 ≡ true → c == host.quote ≡ false → is_backslash c ≡ false → is_break c && not host.is_long ≡ false → Moved place waits held c (ending_move host place named)
+  ending waits literal named held c h is other no_slash stays =
+      let itself : is_ordinary literal named c ≡ true = subst (λ (d : ℕ). named || not (d == 123) ≡ true) (sym (eqb-true c 125 is)) (or_right named true refl) in
+      (refl, bare_one literal named false held c h other no_slash stays itself (ended_named named (c == 125) is))
+  ending waits specification true held c h is other no_slash stays = (refl, bare_one specification true false held c h other no_slash stays refl (ended_named true (c == 125) is))
+  ending waits specification false held c h is other no_slash stays = (refl, eqb-true c 125 is, subst (λ (d : ℕ). HoldsParts limit outer depth host specification false held (d ∷ [])) (eqb-true c 125 is) h)
+
+  -- what a quote of the string does
+  abbrev pub quote_move : Place → Bool → At → FieldMove
+  quote_move place named at = if host.is_long && not (is_after_two at) then grows (body host place named (with_quote at)) else closing_move place
+
+  -- a character between two parts, or after a quote of the string
+  pub between_moves : (waits : Bool) (place : Place) (named : Bool) (at : At) (held : List ℕ) (c : ℕ) → HoldsParts limit outer depth host place named held (c ∷ []) → (c ≡ host.quote → Moved place waits held c (quote_move place named at)) → Moved place waits held c (between_move host place named at c)
+  unfolding between_move
+  between_moves waits place named at held c h quoted =
+      let P : FieldMove → Type 0 = Moved place waits held c in
+      cond_both (c == host.quote) _ _ P (λ same. quoted (eqb-true c host.quote same))
+      (λ other. cond_both (is_backslash c) _ _ P (λ slashes. (refl, (held, c, refl, slashes, h)))
+      (λ no_slash. cond_both (is_break c && not host.is_long) _ _ P (λ ended. inl (and_not (is_break c) host.is_long ended))
+      (λ stays. cond_both ((c == 123) && not named) _ _ P
+      (λ opens.
+      let parts = and_not (c == 123) named opens in
+      opening waits place held c (subst (λ n. HoldsParts limit outer depth host place n held (c ∷ [])) parts.1 h) (eqb-true c 123 parts.0))
+      (λ no_open. cond_both (c == 125) _ _ P
+      (λ is. ending waits place named held c h is other no_slash stays)
+      (λ no_close. (refl, bare_one place named named held c h other no_slash stays (ordinary_character place named c no_open no_close) (kept_named named (c == 125) no_close)))))))
+
+  -- after a quote that is a part of its own, of a long string
+  quote_on : (place : Place) (named : Bool) (text next : List ℕ) → host.is_long ≡ true → (h : HoldsParts limit outer depth host place named text (host.quote ∷ [])) → has_triple host.quote (h.parts ++ (host.quote ∷ []) ∷ []) ≡ false → HoldsParts limit outer depth host place named (text ++ host.quote ∷ []) next
+  unfolding push
+  quote_on place named text next long h open_yet =
+      let itself = ordinary_character place named host.quote (and_left _ _ (quote-not-open host.quote h.quotes)) (quote_no_end host.quote h.quotes) in
+      let whole : (rest : List ℕ) → IsPart (limit.FieldsAt depth) host place named (host.quote ∷ []) rest = λ rest. bare host.quote refl (quote-not-slash host.quote h.quotes) (ap (λ b. b || not (is_barred host.quote host.quote)) long) itself in
+      push place named named text (host.quote ∷ []) next h (λ more. whole (next ++ more)) open_yet (kept_named named (host.quote == 125) (quote_no_end host.quote h.quotes))
+
+  apart_after : (parts : List (List ℕ)) → has_triple host.quote (parts ++ (host.quote ∷ []) ∷ (host.quote ∷ []) ∷ []) ≡ false → has_triple host.quote ((parts ++ (host.quote ∷ []) ∷ []) ++ (host.quote ∷ []) ∷ []) ≡ false
+  apart_after parts apart = ap (has_triple host.quote) (append_assoc parts ((host.quote ∷ []) ∷ []) ((host.quote ∷ []) ∷ [])) ∙ apart
+
+  -- after one quote of a long string, and after two
+  pub one_quote : (place : Place) (named : Bool) (text next : List ℕ) → host.is_long ≡ true → HoldsBetween limit outer depth host place named text (host.quote ∷ []) → HoldsParts limit outer depth host place named (text ++ host.quote ∷ []) next
+  one_quote place named text next long h = quote_on place named text next long h.all (triple-left host.quote (h.all.parts ++ (host.quote ∷ []) ∷ []) ((host.quote ∷ []) ∷ []) (apart_after h.all.parts h.apart))
+
+  pub two_quotes : (place : Place) (named : Bool) (text next : List ℕ) → host.is_long ≡ true → HoldsBetween limit outer depth host place named text (host.quote ∷ []) → HoldsParts limit outer depth host place named (text ++ host.quote ∷ host.quote ∷ []) next
+  unfolding one_quote quote_on
+  two_quotes place named text next long h =
+      subst (λ t. HoldsParts limit outer depth host place named t next) (append_assoc text (host.quote ∷ []) (host.quote ∷ []))
+      (quote_on place named (text ++ host.quote ∷ []) next long (one_quote place named text (host.quote ∷ []) long h) (apart_after h.all.parts h.apart))
+
+  -- the quotes that close the string
+  pub whole_string : (named : Bool) (text more : List ℕ) → quotes_of host ≡ host.quote ∷ more → (own : HoldsParts limit outer depth host literal named text (host.quote ∷ [])) → has_triple host.quote (own.parts ++ (host.quote ∷ []) ∷ (host.quote ∷ []) ∷ []) ≡ false → IsFieldString (limit.FieldsAt depth) (text ++ host.quote ∷ more)
+  whole_string named text more quotes own apart = record {
+    prefix = own.opens_with.prefix;
+    host = host;
+    parts = own.parts;
+    spell = ap (λ t. t ++ host.quote ∷ more) (own.spell ∙ ap (λ t. t ++ joined own.parts) own.opens_with.spell) ∙ (simp append_assoc)
+        ∙ ap (λ t. own.opens_with.prefix ++ (quotes_of host ++ (joined own.parts ++ t))) (sym quotes);
+    begun = own.opens_with.begun;
+    raw = own.opens_with.raw;
+    opens = own.quotes;
+    each = subst (AreParts (limit.FieldsAt depth) host literal false own.parts) (sym quotes) (own.fit more);
+    first = apart;
+  }
+
+  -- with them a literal part ends the string, which is no empty one; in a specification they may not stand
+  closes_at : (waits : Bool) (place : Place) (named : Bool) (held text more : List ℕ) (c : ℕ) → held ++ c ∷ [] ≡ text ++ host.quote ∷ more → quotes_of host ≡ host.quote ∷ more → c ≡ host.quote → (h : HoldsBetween limit outer depth host place named text (host.quote ∷ [])) → (place ≡ literal → (r : ℕ) → more ++ (joined h.all.parts ++ host.quote ∷ more) ≡ r ∷ [] → ⊥) → Moved place waits held c (closing_move place)
+  unfolding whole_string
+  closes_at waits literal named held text more c is quotes same h other =
+      let own = whole_string named text more quotes h.all h.apart in (
+        refl,
+        subst (InClassIn (with_fields (limit.FieldsAt depth)) string) (sym is) (inr own),
+        λ after. full_string own.prefix (more ++ (joined own.parts ++ host.quote ∷ more)) (held ++ c ∷ []) after host.quote (is ∙ own.spell ∙ ap (λ t. own.prefix ++ (t ++ (joined own.parts ++ t))) quotes) own.begun h.all.quotes (other refl),
+      )
+  closes_at waits specification named held text more c is quotes same h other = inr (refl, same)
+
+  -- a quote of the string: the first one, the second one of a long string, and the third
+  pub first_quotes : (waits : Bool) (place : Place) (named : Bool) (held : List ℕ) (c : ℕ) → HoldsBetween limit outer depth host place named held (c ∷ []) → c ≡ host.quote → Moved place waits held c (quote_move place named between)
+  first_quotes waits place named held c h is =
+      let own : HoldsBetween limit outer depth host place named held (host.quote ∷ []) = subst (λ (d : ℕ). HoldsBetween limit outer depth host place named held (d ∷ [])) is h in
+      let spell : held ++ c ∷ [] ≡ held ++ host.quote ∷ [] = ap (λ (d : ℕ). held ++ d ∷ []) is in
+      cond_both (host.is_long && true) _ _ (Moved place waits held c)
+      (λ long. (refl, (held, spell, (and_parts _ _ long).0, own)))
+      (λ one.
+      let short = plain_one host.is_long one in
+      closes_at waits place named held held [] c spell (short_quotes host short) is own (λ at r single. more_than_one (joined own.all.parts) host.quote r (own.full at short) single))
+
+  pub second_quote : (waits : Bool) (place : Place) (named : Bool) (held : List ℕ) (c : ℕ) → HoldsAt limit outer depth host place named after_one held → c ≡ host.quote → Moved place waits held c (quote_move place named after_one)
+  second_quote waits place named held c (text, spell, long, h) is =
+      cond_both (host.is_long && true) _ _ (Moved place waits held c)
+      (λ two. (refl, (text, ap (λ t. t ++ c ∷ []) spell ∙ append_assoc text (host.quote ∷ []) (c ∷ []) ∙ ap (λ (d : ℕ). text ++ host.quote ∷ d ∷ []) is, long, h)))
+      (λ short. absurd (both_ways _ short (and_from _ _ long refl)))
+
+  pub third_quote : (waits : Bool) (place : Place) (named : Bool) (held : List ℕ) (c : ℕ) → HoldsAt limit outer depth host place named after_two held → c ≡ host.quote → Moved place waits held c (quote_move place named after_two)
+  third_quote waits place named held c (text, spell, long, h) is =
+      cond_both (host.is_long && false) _ _ (Moved place waits held c)
+      (λ two. absurd (both_ways _ (and_right host.is_long false refl) two))
+      (λ three.
+      closes_at waits place named held text (host.quote ∷ host.quote ∷ []) c
+      (ap (λ t. t ++ c ∷ []) spell ∙ append_assoc text (host.quote ∷ host.quote ∷ []) (c ∷ []) ∙ ap (λ (d : ℕ). text ++ host.quote ∷ host.quote ∷ d ∷ []) is) (rw long) is h
+      (λ at r one. absurd (cc)))
 
 may_stand_escaped : (host : Host) (place : Place) (c : ℕ) → is_barred_escape host place c ≡ false → may_be_escaped host place c ≡ true
 may_stand_escaped host literal c h = refl

@@ -11,11 +11,9 @@ use Rattle.py_lines.specs.Private.FieldMachine.{text_place, before, between, Fie
 use Rattle.py_lines.proofs.Pieces.PieceLists.{piece}
 use Rattle.py_lines.proofs.Fields.Prefixes.{field_letters, first_quote}
 use Rattle.py_lines.proofs.FieldSoundness.Holds.{Limit, OpensHost, HoldsParts, HoldsBetween, HoldsMode, HoldsLevel, HoldsLevels, AtStart, IsFieldSound}
-use Rattle.py_lines.proofs.FieldSoundness.Bodies.{quoted_prefix, short_quotes, whole_string, IsIn, Moved, between_moves}
-use Rattle.py_lines.proofs.FieldSoundness.BodyMoves.{body_moves}
+use Rattle.py_lines.proofs.FieldSoundness.BodyMoves.{quoted_prefix, short_quotes, whole_string, IsIn, Moved, between_moves, body_moves}
 use Rattle.py_lines.proofs.FieldSoundness.Lists.{FieldSoundIf, no_pieces, stands_at, stands_more}
-use Rattle.py_lines.proofs.FieldSoundness.Code.{start_sound, specification_ends}
-use Rattle.py_lines.proofs.FieldSoundness.PlainSteps.{HasRoom, grew, closes_with, ends_before, plain_sound, begins_sound}
+use Rattle.py_lines.proofs.FieldSoundness.CodeSteps.{start_sound, specification_ends, HasRoom, grew, closes_with, ends_before, plain_sound, begins_sound}
 
 -- one more quote of an opening
 more_quotes : (host : Host) (quotes held : List ℕ) (c : ℕ) → c == host.quote ≡ true → OpensHost host quotes held → OpensHost host (quotes ++ host.quote ∷ []) (held ++ c ∷ [])

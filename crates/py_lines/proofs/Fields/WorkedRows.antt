@@ -1,20 +1,22 @@
--- Strings with fields: rows worked out by hand, of which the machine with fields says what they are.
-use Rattle.std.proofs.Common.{◌≡◌, ℕ, Bool, true, false, ◌&&◌, Option, None, Some, List, [], ◌∷◌, ◌++◌, map, refl, sym, ap, ◌∙◌, inl, inr, append-nil}
+-- Strings with fields: rows worked out by hand, of which the machine with fields says what they are. Two hundred fields may be open
+-- one in another, and no more.
+use Rattle.std.proofs.Common.{◌≡◌, ℕ, Bool, true, false, ◌&&◌, Option, None, Some, List, [], ◌∷◌, ◌++◌, map, refl, sym, ap, ◌∙◌, inl, inr, append-nil, zero, suc}
 use Rattle.std.specs.Prelude.{codes}
 use Rattle.std.specs.List.{list_all}
 use Rattle.std.proofs.lemmas.Bool.{and_parts, both_ways}
 use Rattle.py_lines.specs.Piece.{Class, space, string, Piece}
 use Rattle.py_lines.specs.PieceGrammar.{InClassIn, ReadsIn}
-use Rattle.py_lines.specs.Fields.{Fields, fielded}
+use Rattle.py_lines.specs.Fields.{Fields, fielded, ShallowFields}
 use Rattle.py_lines.specs.Reading.{IsBalancedReading}
-use Rattle.py_lines.specs.FieldStrings.{is_field_prefix, Host, IsFieldString}
+use Rattle.py_lines.specs.FieldStrings.{is_field_prefix, Host, IsFieldString, with_fields}
 use Rattle.py_lines.specs.Private.FieldMachine.{Level, FieldScanned, field_state, field_fresh, field_text_start, field_pieces, field_steps_from, have_room}
 use Rattle.py_lines.proofs.Fields.Prefixes.{plain_quotes, before_quote, before_first}
-use Rattle.py_lines.proofs.FieldMachine.Runs.{NoLimit, steps_of}
+use Rattle.py_lines.proofs.FieldMachine.Runs.{NoLimit, steps_of, BelowLimit, room_of}
 use Rattle.py_lines.proofs.FieldMachine.ListBrackets.{none_some}
-use Rattle.py_lines.proofs.FieldMachine.Completeness.{fields_reached}
+use Rattle.py_lines.proofs.FieldMachine.Completeness.{fields_reached, reached}
 unfoldable pub use Rattle.py_lines.proofs.FieldMachine.WorkedRows.{tested}
 use Rattle.py_lines.proofs.FieldSoundness.WholeTexts.{final_is_reading}
+use Rattle.py_lines.proofs.FieldMachine.Nesting.{begin_shallow, shallow_run}
 
 abbrev pub piece : Class → List ℕ → Piece
 piece class text = record { class = class; text = text }
@@ -133,3 +135,23 @@ no_string_with_comment is = none_some (string_ends (codes "f\"{a # }\"") is)
 no_string_over_line_end : ¬ (IsFieldString Fields (codes "f\"{x:\n}\""))
 unfolding tested ended pieces_outside
 no_string_over_line_end is = none_some (string_ends (codes "f\"{x:\n}\"") (inr is))
+
+-- strings with so many fields one in another: f"", f"{f""}", f"{f"{f""}"}" and so on
+nested : ℕ → List ℕ
+nested zero = codes "f\"\""
+nested (suc n) = codes "f\"{" ++ (nested n ++ codes "}\"")
+
+-- in such a string each bracket and field has room
+has_its_room : (text : List ℕ) → InClassIn (with_fields (ShallowFields 0)) string text → have_room (Some field_text_start) text ≡ true
+has_its_room text is =
+    let found = reached BelowLimit ShallowFields begin_shallow shallow_run (ShallowFields 0) (piece string text ∷ []) [] [] (is, λ prefix q spell begun quotes. refl, refl, tt) ((λ h. absurd (both_ways _ refl h)), (λ h. is), tt) refl tt in
+    ap (have_room (Some field_text_start)) (sym (append-nil text)) ∙ room_of field_text_start (field_state [] found.done [] found.mode found.held) (text ++ []) found.goes
+
+-- 200 and 201, from the text's start
+two_hundred : InClassIn (with_fields (ShallowFields 0)) string (nested 200)
+unfolding tested nested
+two_hundred = (read_whole (piece string (nested 200) ∷ []) (nested 200) refl refl).shallow.1 refl
+
+one_more : ¬ (InClassIn (with_fields (ShallowFields 0)) string (nested 201))
+unfolding tested nested
+one_more is = both_ways _ refl (has_its_room (nested 201) is)

@@ -15,8 +15,7 @@ use Rattle.py_lines.proofs.Text.Decoding.{decoding}
 use Rattle.py_lines.proofs.LogicalLines.Cuts.{same_place}
 use Rattle.py_lines.proofs.FieldSoundness.LiveTexts.{steps-append, room-append, live_goes, goes_live}
 use Rattle.py_lines.proofs.Faults.Ends.{read_or_open, end_unread}
-use Rattle.py_lines.proofs.Faults.CharacterFaults.{IsStuck}
-use Rattle.py_lines.proofs.Faults.CauseAt.{cause_fits}
+use Rattle.py_lines.proofs.Faults.CharacterFaults.{IsStuck, cause_fits}
 use Rattle.py_lines.proofs.Faults.FaultPrefixes.{field_fault_prefix}
 use Rattle.py_lines.proofs.Faults.Verdict.{not_live}
 

@@ -23,10 +23,8 @@ use Rattle.py_lines.proofs.LogicalLines.Cuts.{byte_len-append}
 use Rattle.py_lines.proofs.FieldSoundness.Holds.{Limit, HoldsLevel, HoldsLevels, IsFieldSound}
 use Rattle.py_lines.proofs.FieldSoundness.HostSteps.{sound_at}
 use Rattle.py_lines.proofs.FieldSoundness.WholeTexts.{no_limit, any_rooms}
-use Rattle.py_lines.proofs.Faults.CharacterFaults.{IsStuck}
-use Rattle.py_lines.proofs.Faults.CauseAt.{cause_fits, short_here, only_breaks}
-use Rattle.py_lines.proofs.Faults.EndPlaces.{final_by}
-use Rattle.py_lines.proofs.Faults.Refusals.{IsShortHere}
+use Rattle.py_lines.proofs.Faults.CharacterFaults.{IsStuck, IsShortHere, cause_fits, short_here, only_breaks}
+use Rattle.py_lines.proofs.Faults.EndFaults.{final_by}
 use Rattle.py_lines.proofs.Faults.Ends.{StandsThere, text_is, unfinished_fits}
 use Rattle.py_lines.proofs.ScanMachine.Advance.{RunsTo, advance}
 use Rattle.py_lines.proofs.ScanMachine.BodyMoves.{IsBodyMode}

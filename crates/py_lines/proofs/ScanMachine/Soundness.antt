@@ -22,8 +22,7 @@ use Rattle.py_lines.proofs.Machine.PieceSteps.{scanned, pieces_at}
 use Rattle.py_lines.proofs.FieldSoundness.Holds.{HoldsMode, AtStart, IsFieldSound}
 use Rattle.py_lines.proofs.FieldSoundness.Lists.{FieldSoundIf}
 use Rattle.py_lines.proofs.FieldSoundness.HostSteps as field_soundness
-use Rattle.py_lines.proofs.FieldSoundness.ListEnds.{EndsList, list_ends}
-use Rattle.py_lines.proofs.FieldSoundness.WholeTexts.{two_hundred, room_at}
+use Rattle.py_lines.proofs.FieldSoundness.WholeTexts.{EndsList, list_ends, two_hundred, room_at}
 use Rattle.py_lines.proofs.FieldSoundness.LiveTexts.{steps-append, room-append}
 use Rattle.py_lines.proofs.ScanMachine.Advance.{kept, kept_if, GoesTo, RunsTo, first_state}
 use Rattle.py_lines.proofs.ScanMachine.Rebased.{based, rebased_in}
