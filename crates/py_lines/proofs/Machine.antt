@@ -6,7 +6,6 @@ pub mod StringSteps
 pub mod ReadingSteps
 pub mod OpenPieces
 pub mod Soundness
-pub mod FinishedPieces
 pub mod LiveTexts
 pub mod OpenStrings
 pub mod EarlierPieces

@@ -3,7 +3,6 @@
 pub mod Spellings
 pub mod Steps
 pub mod Advance
-pub mod EarlierPieces
 pub mod Rebased
 pub mod BodyMoves
 pub mod Rooms

@@ -20,7 +20,7 @@ use Rattle.py_lines.proofs.Machine.Starts.{start-operator}
 use Rattle.py_lines.proofs.Machine.PieceSteps.{scanned, pieces_at, steps_by-append, run_before}
 use Rattle.py_lines.proofs.Machine.ReadingSteps.{reach}
 use Rattle.py_lines.proofs.Machine.Soundness.{SoundIf, step_sound, end_sound}
-use Rattle.py_lines.proofs.Machine.FinishedPieces.{GoesBy, stack_at, closed_grows}
+use Rattle.py_lines.proofs.Machine.EarlierPieces.{GoesBy, stack_at, closed_grows}
 use Rattle.py_lines.proofs.ScanMachine.Follows.{closing_neutral}
 use Rattle.py_lines.proofs.Machine.LiveTexts.{keeps, stack_closed, IsReady, ready-free, closing-operator, comment-breaks, feed-starts, closing_of-closing, closing-scalar, completes}
 use Rattle.py_lines.specs.Character.{is_quote}

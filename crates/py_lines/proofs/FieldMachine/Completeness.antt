@@ -7,8 +7,7 @@ use Rattle.py_lines.specs.PieceGrammar.{AreReadIn}
 use Rattle.py_lines.specs.Fields.{Fields, fielded, ShallowFields}
 use Rattle.py_lines.specs.Reading.{IsBalancedReading}
 use Rattle.py_lines.specs.FieldStrings.{Host, with_fields}
-use Rattle.py_lines.specs.declared.mode.Mode.TheVariants as modes
-use Rattle.py_lines.specs.Private.Machine.{move_of}
+use Rattle.py_lines.specs.Private.Machine.{Mode, move_of}
 use Rattle.py_lines.specs.Private.FieldMachine.{plain, closes, breaks, FieldScanned, field_state, field_fresh, field_text_start, field_pieces, field_move, field_moved, field_started, field_step, field_steps_from, openers_through, have_room, IsFieldFinal}
 use Rattle.py_lines.proofs.Pieces.PieceLists.{piece}
 use Rattle.py_lines.proofs.Machine.Starts.{start-mark}
@@ -20,11 +19,11 @@ use Rattle.py_lines.proofs.FieldMachine.PieceRuns.{FieldFinds}
 use Rattle.py_lines.proofs.FieldMachine.CodeRuns.{ArePassed, FieldsRun, all_found}
 use Rattle.py_lines.proofs.FieldMachine.Nesting.{fields_run, passed_any, begin_shallow, shallow_run, passed_shallow}
 
-pub start_breaks : (c : ℕ) → is_mark c ≡ false → field_move (plain modes.Start) [] c ≡ breaks
+pub start_breaks : (c : ℕ) → is_mark c ≡ false → field_move (plain Mode.Start) [] c ≡ breaks
 unfolding field_move move_of
 start_breaks c h = rw h
 
-stops_start : (rest : List ℕ) → begins is_mark rest ≡ false → StopsAt (plain modes.Start) [] rest
+stops_start : (rest : List ℕ) → begins is_mark rest ≡ false → StopsAt (plain Mode.Start) [] rest
 stops_start [] h = refl
 stops_start (c ∷ cs) h = start_breaks c h
 
@@ -64,7 +63,7 @@ module _ (Room : ℕ → Type 0) (F : ℕ → Host → List ℕ → Type 0) (beg
   unfolding field_move move_of
   marked_reached text ps after rest fit passed opens =
       let c = fit.0.0 in
-      let move : field_move (plain modes.Start) [] c ≡ closes = rw fit.0.2 in
+      let move : field_move (plain Mode.Start) [] c ≡ closes = rw fit.0.2 in
       let P : List ℕ → Type 0 = λ t. FieldFinds Room field_text_start (t ++ spelled ps) (piece mark t ∷ ps) after rest in
       let marked : FieldScanned = field_fresh [] (piece mark (c ∷ []) ∷ []) [] in
       let found = all_found Room F begin run G marked ps after rest fit.3 fit.2 passed.2 opens tt (stops-fresh _) in
@@ -82,7 +81,7 @@ module _ (Room : ℕ → Type 0) (F : ℕ → Host → List ℕ → Type 0) (beg
   pub reached : (ps : List Piece) (after rest : List ℕ) → AreReadIn (with_fields G) ps rest → ArePassed Room F 0 ps → openers_through (Some []) ps ≡ Some after → MayBegin ps rest → FieldFinds Room field_text_start (spelled ps) ps after rest
   reached [] after rest fit passed opens may =
       let same : [] ≡ after = cc in
-      record { done = []; mode = plain modes.Start; held = []; goes = ap (λ os. field_state [] [] os (plain modes.Start) []) same; pieces_are = refl; stops = stops_start rest may }
+      record { done = []; mode = plain Mode.Start; held = []; goes = ap (λ os. field_state [] [] os (plain Mode.Start) []) same; pieces_are = refl; stops = stops_start rest may }
   reached (p ∷ ps) after rest fit passed opens may = go p.class p.text fit passed opens
     where
       go : (class : Class) (text : List ℕ) → AreReadIn (with_fields G) (piece class text ∷ ps) rest → ArePassed Room F 0 (piece class text ∷ ps) → openers_through (Some []) (piece class text ∷ ps) ≡ Some after → FieldFinds Room field_text_start (spelled (piece class text ∷ ps)) (piece class text ∷ ps) after rest

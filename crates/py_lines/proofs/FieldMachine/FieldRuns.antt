@@ -7,8 +7,7 @@ use Rattle.py_lines.specs.PieceGrammar.{joined, has_triple, AreReadIn}
 use Rattle.py_lines.specs.Balance.{is_opening}
 use Rattle.py_lines.specs.Fields.{AreInside, IsSpecification, IsField, simple, specified}
 use Rattle.py_lines.specs.FieldStrings.{Host, Place, literal, specification, begins_double, named_through, AreParts, with_fields}
-use Rattle.py_lines.specs.declared.mode.Start.TheVariants as starts
-use Rattle.py_lines.specs.Private.Machine.{start_of}
+use Rattle.py_lines.specs.Private.Machine.{Start, start_of}
 use Rattle.py_lines.specs.Private.FieldMachine.{At, between, after_brace, FieldMode, body, begins_code, ends_field, Level, FieldScanned, field_state, field_fresh, field_ended, field_pieces, opening_move, between_move, body_move, field_move, field_moved, field_started, code_operator, levels_open, frames}
 use Rattle.py_lines.proofs.Text.CharacterTests.{not_quote}
 use Rattle.py_lines.proofs.Machine.Starts.{start-operator}
@@ -42,11 +41,11 @@ unfolding code_operator
 colon_opens level outer done = refl
 
 -- they are operators that open nothing
-pub brace_is : (start_of 125 ≡ starts.Operator) × (is_opening 125 ≡ false)
+pub brace_is : (start_of 125 ≡ Start.Operator) × (is_opening 125 ≡ false)
 unfolding is_operator is_opening
 brace_is = (start-operator 125 refl, refl)
 
-pub colon_is : (start_of 58 ≡ starts.Operator) × (is_opening 58 ≡ false)
+pub colon_is : (start_of 58 ≡ Start.Operator) × (is_opening 58 ≡ false)
 unfolding is_operator is_opening
 colon_is = (start-operator 58 refl, refl)
 
@@ -102,7 +101,7 @@ module _ (Room : ℕ → Type 0) (outer : List Level) (done : List Piece) (opene
         (balanced_openers inside is.balanced []) is.colon (stops-fresh (spelled inside ++ e ∷ []))
 
     -- and that character
-    code_goes : (place : Place) (held : List ℕ) (inside : List Piece) (e : ℕ) (t : List Piece → FieldScanned) → AreInside (with_fields G) inside (e ∷ []) → ArePassed Room F (depth + 1) inside → start_of e ≡ starts.Operator → is_opening e ≡ false → ((ps : List Piece) → code_operator (level_at place held) outer ps e ≡ Some (t ps)) → Goes Room (in_field place held) (spelled inside ++ e ∷ []) (t inside)
+    code_goes : (place : Place) (held : List ℕ) (inside : List Piece) (e : ℕ) (t : List Piece → FieldScanned) → AreInside (with_fields G) inside (e ∷ []) → ArePassed Room F (depth + 1) inside → start_of e ≡ Start.Operator → is_opening e ≡ false → ((ps : List Piece) → code_operator (level_at place held) outer ps e ≡ Some (t ps)) → Goes Room (in_field place held) (spelled inside ++ e ∷ []) (t inside)
     code_goes place held inside e t is passed starts_as no_bracket ends =
         let found = code_found place held inside e is passed in
         let level : Level = level_at place held in

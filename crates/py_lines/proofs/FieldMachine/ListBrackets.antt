@@ -66,32 +66,16 @@ balanced_openers ps (balance.both _ first second is left right) os =
     ∙ ap (λ o. openers_through o second) (balanced_openers first left os)
     ∙ balanced_openers second right os
 
-some_list : (a b : List ℕ) → Some a ≡ Some b → length a ≡ length b
-some_list a b h =
-    let same : a ≡ b = cc in
-    ap length same
-
 pub none_some : {A : Type 0} {a : A} → None ≡ Some a → ⊥
 none_some h = absurd (cc)
 
 -- as many are open as the depth says, with others round the list
 operator_depth : (os after : List ℕ) (c k : ℕ) → openers_with os c ≡ Some after → (if is_opening c then length os + k + 1 else (if is_closing c then length os + k - 1 else length os + k)) ≡ length after + k
 unfolding openers_with
-operator_depth [] after c k h = go (is_opening c) (is_closing c) h
-  where
-    go : (opens closing : Bool) → (if opens then Some (c ∷ []) else (if closing then None else Some [])) ≡ Some after → (if opens then 0 + k + 1 else (if closing then 0 + k - 1 else 0 + k)) ≡ length after + k
-    go true closing is = omega (arith, some_list (c ∷ []) after is)
-    go false true is = absurd (none_some is)
-    go false false is = omega (arith, some_list [] after is)
-operator_depth (o ∷ os) after c k h = go (is_opening c) (is_closing c) (c == closing_of o) h
-  where
-    go : (opens closing same : Bool) → (if opens then Some (c ∷ o ∷ os) else (if closing then (if same then Some os else None) else Some (o ∷ os))) ≡ Some after → (if opens then length (o ∷ os) + k + 1 else (if closing then length (o ∷ os) + k - 1 else length (o ∷ os) + k)) ≡ length after + k
-    go true closing same is = omega (arith, some_list (c ∷ o ∷ os) after is)
-    go false true true is = omega (arith, some_list os after is)
-    go false true false is = absurd (none_some is)
-    go false false same is = omega (arith, some_list (o ∷ os) after is)
+operator_depth [] after c k h = grind arith
+operator_depth (o ∷ os) after c k h = grind arith
 
 pub depth_is : (os after : List ℕ) (class : Class) (text : List ℕ) (k : ℕ) → openers_by os class text ≡ Some after → depth_after (length os + k) (piece class text) ≡ length after + k
-depth_is os after operator [] k h = ap (λ n. n + k) (some_list os after (sym (no_character os) ∙ h))
+depth_is os after operator [] k h = grind (arith, no_character os)
 depth_is os after operator (c ∷ cs) k h = operator_depth os after c k h
-depth_is os after other text k h = ap (λ n. n + k) (some_list os after h)
+depth_is os after other text k h = grind arith

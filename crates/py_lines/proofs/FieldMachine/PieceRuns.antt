@@ -1,17 +1,14 @@
 -- The machine with fields goes through the text of a piece that has no fields.
-use Rattle.std.proofs.Common.{◌≡◌, ℕ, true, false, ◌&&◌, ◌==◌, Option, Some, List, [], ◌∷◌, ◌++◌, length, refl, sym, ap, ◌∙◌, subst, inl, inr, append_assoc}
+use Rattle.std.proofs.Common.{◌≡◌, ℕ, true, false, ◌&&◌, ◌==◌, Option, Some, List, [], ◌∷◌, ◌++◌, length, refl, sym, ap, ◌∙◌, subst, inl, inr, append_assoc, arith}
 use Rattle.std.specs.List.{list_all}
 use Rattle.std.proofs.lemmas.Bool.{both_ways, cond_both, eqb-true}
+use Rattle.std.proofs.lemmas.Bool.Decides.{nat_tests}
 use Rattle.py_lines.specs.Character.{is_word_character, is_word_start, is_quote, is_operator}
 use Rattle.py_lines.specs.Piece.{Class, word, string, operator, line_end, Piece, begins}
 use Rattle.py_lines.specs.PieceGrammar.{is_prefix, IsPrefix, InPlainClass, MayPrecedeIn}
 use Rattle.py_lines.specs.Balance.{is_opening, is_closing}
 use Rattle.py_lines.specs.FieldStrings.{is_field_prefix, Host, with_fields}
-use Rattle.py_lines.specs.declared.mode.Spelling.{Spelling}
-use Rattle.py_lines.specs.declared.mode.Mode.{Mode}
-use Rattle.py_lines.specs.declared.mode.Mode.TheVariants as modes
-use Rattle.py_lines.specs.declared.mode.Start.TheVariants as starts
-use Rattle.py_lines.specs.Private.Machine.{class_of, start_of, first_spelling, spelling_on}
+use Rattle.py_lines.specs.Private.Machine.{Spelling, Mode, Start, class_of, start_of, first_spelling, spelling_on}
 use Rattle.py_lines.specs.Private.FieldMachine.{FieldMode, plain, grows, Level, FieldScanned, field_state, field_fresh, plain_move, begins_host, field_pieces, field_closed, field_move, openers_with, after_operator, code_operator, field_operator, field_started, frames}
 use Rattle.py_lines.proofs.Pieces.PieceLists.{piece}
 use Rattle.py_lines.proofs.Text.CharacterTests.{each_of, prefix_word}
@@ -52,7 +49,7 @@ stops_after m class text [] is none stops = stops
 stops_after m class text (c ∷ cs) is none stops = plain_moves m text c (no_host_after m is) ∙ ap plain_move stops
   where
     no_host_after : (n : Mode) → class_of n ≡ class → begins_host n text c ≡ false
-    no_host_after (modes.Word s) so = none (sym so)
+    no_host_after (Mode.Word s) so = none (sym so)
     no_host_after n so = refl
 
 ends_no_prefix : (F : Host → List ℕ → Type 0) (class : Class) (text rest : List ℕ) → MayPrecedeIn (with_fields F) class text rest → EndsNoPrefix class text rest
@@ -72,13 +69,7 @@ pub operator_stays : (outer : List Level) (done : List Piece) (openers after : L
 unfolding code_operator
 operator_stays [] done openers after c h none = ap (after_operator [] done c) h
 operator_stays (level ∷ outer) done (o ∷ os) after c h none = ap (after_operator (level ∷ outer) done c) h
-operator_stays (level ∷ outer) done [] after c h none =
-    let P : Option FieldScanned → Type 0 = λ r. r ≡ Some (field_fresh (level ∷ outer) (done ++ piece operator (c ∷ []) ∷ []) after) in
-    cond_both (c == 125) _ _ P
-    (λ same. absurd (brace_closes after (subst (λ x. openers_with [] x ≡ Some after) (eqb-true c 125 same) h)))
-    (λ other. cond_both (c == 58) _ _ P
-    (λ same. absurd (both_ways _ none (ap (λ b. b && true) same)))
-    (λ no_colon. ap (after_operator (level ∷ outer) done c) h))
+operator_stays (level ∷ outer) done [] after c h none = grind (arith, nat_tests, brace_closes after)
 
 -- the state in which a piece is open after those of another state
 abbrev open_at : FieldScanned → Mode → List ℕ → FieldScanned
@@ -86,18 +77,18 @@ open_at from m held = field_state from.outer (field_pieces from) from.openers (p
 
 module _ (Room : ℕ → Type 0) where
   -- a character that opens a piece
-  goes-opens : (from : FieldScanned) (c : ℕ) (after : List ℕ) (m : Mode) → StopsAt from.mode from.held (c ∷ after) → start_of c ≡ starts.Open m → Goes Room from (c ∷ []) (open_at from m (c ∷ []))
+  goes-opens : (from : FieldScanned) (c : ℕ) (after : List ℕ) (m : Mode) → StopsAt from.mode from.held (c ∷ after) → start_of c ≡ Start.Open m → Goes Room from (c ∷ []) (open_at from m (c ∷ []))
   goes-opens from c after m stops starts_as =
       goes-begins Room from (open_at from m (c ∷ [])) _ c [] stops (ap (field_started from.outer (field_pieces from) from.openers c) starts_as) (λ opens. absurd (no_bracket opens)) refl
     where
       no_bracket : is_opening c ≡ true → ⊥
       no_bracket opens =
-          let both : starts.Operator ≡ starts.Open m = sym (start-operator c (opening_operator c opens)) ∙ starts_as in
+          let both : Start.Operator ≡ Start.Open m = sym (start-operator c (opening_operator c opens)) ∙ starts_as in
           cc
 
   -- a piece is found that a character ends, with none open after it
   pub fresh_found : (from : FieldScanned) (class : Class) (text after rest : List ℕ) → Goes Room from text (field_fresh from.outer (field_pieces from ++ piece class text ∷ []) after) → FieldFinds Room from text (piece class text ∷ []) after rest
-  fresh_found from class text after rest goes = record { done = field_pieces from ++ piece class text ∷ []; mode = plain modes.Free; held = []; goes = goes; pieces_are = refl; stops = stops-fresh rest }
+  fresh_found from class text after rest goes = record { done = field_pieces from ++ piece class text ∷ []; mode = plain Mode.Free; held = []; goes = goes; pieces_are = refl; stops = stops-fresh rest }
 
   -- the open piece goes on and ends as in the other machine
   ends_found : (from : FieldScanned) (class : Class) (text first others rest : List ℕ) (m : Mode) → text ≡ first ++ others → Goes Room from first (open_at from m first) → IsQuiet m others → EndsWith class m others rest → EndsNoPrefix class text rest → FieldFinds Room from text (piece class text ∷ []) from.openers rest
@@ -136,27 +127,27 @@ module _ (Room : ℕ → Type 0) where
           ends_found from class text (c ∷ []) cs rest m spell (goes-opens from c (cs ++ rest) m (subst (λ t. StopsAt from.mode from.held (t ++ rest)) spell stops) starts_as) quiet ends (ends_no_prefix F class text rest before)
 
   -- the characters of a word
-  pub word_goes : (from : FieldScanned) (a : ℕ) (bs after : List ℕ) → is_word_start a ≡ true → list_all is_word_character bs ≡ true → StopsAt from.mode from.held (a ∷ bs ++ after) → Goes Room from (a ∷ bs) (open_at from (modes.Word (spelling_on (first_spelling a) bs)) (a ∷ bs))
+  pub word_goes : (from : FieldScanned) (a : ℕ) (bs after : List ℕ) → is_word_start a ≡ true → list_all is_word_character bs ≡ true → StopsAt from.mode from.held (a ∷ bs ++ after) → Goes Room from (a ∷ bs) (open_at from (Mode.Word (spelling_on (first_spelling a) bs)) (a ∷ bs))
   word_goes from a bs after starts_so run stops =
-      goes-append Room from (open_at from (modes.Word (first_spelling a)) (a ∷ [])) _ (a ∷ []) bs (goes-opens from a (bs ++ after) _ stops (start-word a starts_so))
-      (goes-grown Room from.outer (field_pieces from) from.openers (plain (modes.Word (first_spelling a))) (plain _) (a ∷ []) bs (grown-alike (modes.Word (first_spelling a)) _ bs (inr (word_quotes bs run)) (grown-word (first_spelling a) bs run)))
+      goes-append Room from (open_at from (Mode.Word (first_spelling a)) (a ∷ [])) _ (a ∷ []) bs (goes-opens from a (bs ++ after) _ stops (start-word a starts_so))
+      (goes-grown Room from.outer (field_pieces from) from.openers (plain (Mode.Word (first_spelling a))) (plain _) (a ∷ []) bs (grown-alike (Mode.Word (first_spelling a)) _ bs (inr (word_quotes bs run)) (grown-word (first_spelling a) bs run)))
 
   -- a prefix without `f` and `t`, and the quote after it
-  pub plain_opens : (from : FieldScanned) (prefix : List ℕ) (q : ℕ) (after : List ℕ) → IsPrefix prefix → is_field_prefix prefix ≡ false → is_quote q ≡ true → StopsAt from.mode from.held (prefix ++ q ∷ after) → Goes Room from (prefix ++ q ∷ []) (open_at from (modes.Opened q) (prefix ++ q ∷ []))
-  plain_opens from [] q after is no_field quotes stops = goes-opens from q after (modes.Opened q) stops (start-quote q quotes)
+  pub plain_opens : (from : FieldScanned) (prefix : List ℕ) (q : ℕ) (after : List ℕ) → IsPrefix prefix → is_field_prefix prefix ≡ false → is_quote q ≡ true → StopsAt from.mode from.held (prefix ++ q ∷ after) → Goes Room from (prefix ++ q ∷ []) (open_at from (Mode.Opened q) (prefix ++ q ∷ []))
+  plain_opens from [] q after is no_field quotes stops = goes-opens from q after (Mode.Opened q) stops (start-quote q quotes)
   plain_opens from (a ∷ bs) q after (inl none) no_field quotes stops = absurd (cc)
   plain_opens from (a ∷ bs) q after (inr is) no_field quotes stops =
       let letters = prefix_word a bs is in
       let s : Spelling = spelling_on (first_spelling a) bs in
-      let named_at : FieldScanned = open_at from (modes.Word s) (a ∷ bs) in
-      let quote_moves : field_move (plain (modes.Word s)) (a ∷ bs) q ≡ grows (plain (modes.Opened q)) =
-      plain_moves (modes.Word s) (a ∷ bs) q (ap (λ b. b && is_quote q) no_field) ∙ ap plain_move (opens_at s q (sym (prefix_spelling a bs) ∙ is) quotes) in
-      goes-append Room from named_at _ (a ∷ bs) (q ∷ []) (word_goes from a bs (q ∷ after) letters.0 letters.1 stops) (goes-grows Room named_at _ (plain (modes.Opened q)) q [] quote_moves refl)
+      let named_at : FieldScanned = open_at from (Mode.Word s) (a ∷ bs) in
+      let quote_moves : field_move (plain (Mode.Word s)) (a ∷ bs) q ≡ grows (plain (Mode.Opened q)) =
+      plain_moves (Mode.Word s) (a ∷ bs) q (ap (λ b. b && is_quote q) no_field) ∙ ap plain_move (opens_at s q (sym (prefix_spelling a bs) ∙ is) quotes) in
+      goes-append Room from named_at _ (a ∷ bs) (q ∷ []) (word_goes from a bs (q ∷ after) letters.0 letters.1 stops) (goes-grows Room named_at _ (plain (Mode.Opened q)) q [] quote_moves refl)
 
   -- a string without fields
-  pub string_found : (from : FieldScanned) (text prefix : List ℕ) (q : ℕ) (body rest : List ℕ) → text ≡ prefix ++ q ∷ body → IsPrefix prefix → is_field_prefix prefix ≡ false → is_quote q ≡ true → EndsWith string (modes.Opened q) body rest → StopsAt from.mode from.held (text ++ rest) → FieldFinds Room from text (piece string text ∷ []) from.openers rest
+  pub string_found : (from : FieldScanned) (text prefix : List ℕ) (q : ℕ) (body rest : List ℕ) → text ≡ prefix ++ q ∷ body → IsPrefix prefix → is_field_prefix prefix ≡ false → is_quote q ≡ true → EndsWith string (Mode.Opened q) body rest → StopsAt from.mode from.held (text ++ rest) → FieldFinds Room from text (piece string text ∷ []) from.openers rest
   string_found from text prefix q body rest is begins_so no_field quotes ends stops =
-      ends_found from string text (prefix ++ q ∷ []) body rest (modes.Opened q) (is ∙ sym (append_assoc prefix (q ∷ []) body))
+      ends_found from string text (prefix ++ q ∷ []) body rest (Mode.Opened q) (is ∙ sym (append_assoc prefix (q ∷ []) body))
       (plain_opens from prefix q (body ++ rest) begins_so no_field quotes (subst (StopsAt from.mode from.held) (ap (λ t. t ++ rest) is ∙ append_assoc prefix (q ∷ body) rest) stops))
       (inl refl) ends (λ so. absurd (cc))
 

@@ -1,16 +1,12 @@
 -- The machine with fields goes through the text of a piece without fields as the other machine does.
-use Rattle.std.proofs.Common.{◌≡◌, ℕ, Bool, true, false, ◌&&◌, List, [], ◌∷◌, ◌++◌, ◌==◌, refl, sym, ap, ◌∙◌, subst, inl, inr}
+use Rattle.std.proofs.Common.{◌≡◌, ℕ, Bool, true, false, ◌&&◌, List, [], ◌∷◌, ◌++◌, ◌==◌, refl, sym, ap, ◌∙◌, subst, inl, inr, arith}
 use Rattle.std.specs.List.{list_any}
 use Rattle.std.proofs.lemmas.List.Folds.{list_any-append}
 use Rattle.std.proofs.lemmas.Bool.{or_parts, both_ways, cond_both}
 use Rattle.py_lines.specs.Character.{is_space, is_word_character, is_quote, is_line_feed, is_return, is_break, is_mark, is_backslash}
 use Rattle.py_lines.specs.FieldStrings.{is_field_prefix}
-use Rattle.py_lines.specs.declared.mode.Mode.{Mode}
-use Rattle.py_lines.specs.declared.mode.Mode.TheVariants as modes
-use Rattle.py_lines.specs.declared.mode.Move.{Move}
-use Rattle.py_lines.specs.declared.mode.Move.TheVariants as moves
 use Rattle.py_lines.specs.Piece.{Class, space, string, comment, join, line_end}
-use Rattle.py_lines.specs.Private.Machine.{class_of, move_of, short_move, long_move, is_prefix_spelling}
+use Rattle.py_lines.specs.Private.Machine.{Mode, Move, class_of, move_of, short_move, long_move, is_prefix_spelling}
 use Rattle.py_lines.specs.Private.FieldMachine.{plain, plain_move, begins_host, field_move}
 use Rattle.py_lines.proofs.Machine.PieceSteps.{Grown, is_word_mode, IsQuiet}
 use Rattle.py_lines.proofs.Fields.Elsewhere.{none_false}
@@ -18,70 +14,41 @@ use Rattle.py_lines.proofs.FieldMachine.Runs.{GrowsTo}
 
 -- whether a string with fields is open
 abbrev pub is_fielded_mode : Mode → Bool
-is_fielded_mode (modes.FieldOpened h) = true
-is_fielded_mode (modes.FieldEmpty h) = true
-is_fielded_mode modes.Fielded = true
+is_fielded_mode (Mode.FieldOpened h) = true
+is_fielded_mode (Mode.FieldEmpty h) = true
+is_fielded_mode Mode.Fielded = true
 is_fielded_mode other = false
 
 -- where a piece grows that is no word, a piece of its class is open after it, and no string with fields
 abbrev pub NoWord : Class → Move → Type 0
-NoWord class (moves.Grows n) = (is_word_mode n ≡ false) × (is_fielded_mode n ≡ false) × (class_of n ≡ class)
+NoWord class (Move.Grows n) = (is_word_mode n ≡ false) × (is_fielded_mode n ≡ false) × (class_of n ≡ class)
 NoWord class other = Unit {0}
 
-no_word-short : (q c : ℕ) → NoWord string (short_move q c)
-unfolding short_move
-no_word-short q c = cond_both (is_backslash c) _ _ (NoWord string) (λ h. (refl, refl, refl)) (λ h. cond_both (is_break c) moves.Refused _ (NoWord string) (λ k. tt) (λ k. (refl, refl, refl)))
-
-no_word-long : (q c : ℕ) → NoWord string (long_move q c)
-unfolding long_move
-no_word-long q c = cond_both (is_backslash c) _ _ (NoWord string) (λ h. (refl, refl, refl)) (λ h. (refl, refl, refl))
-
 pub no_word : (m : Mode) (c : ℕ) → is_word_mode m ≡ false → NoWord (class_of m) (move_of m c)
-unfolding move_of
-no_word modes.Start c h = cond_both (is_mark c) moves.Closes moves.Breaks (NoWord (class_of modes.Start)) (λ k. tt) (λ k. tt)
-no_word modes.Space c h = cond_both (is_space c) _ moves.Breaks (NoWord space) (λ k. (refl, refl, refl)) (λ k. tt)
-no_word (modes.Word s) c h = absurd (both_ways _ h refl)
-no_word modes.Comment c h = cond_both (is_break c) moves.Breaks _ (NoWord comment) (λ k. tt) (λ k. (refl, refl, refl))
-no_word (modes.Opened q) c h = cond_both (c == q) _ _ (NoWord string) (λ k. (refl, refl, refl)) (λ k. no_word-short q c)
-no_word (modes.Inside q) c h = cond_both (c == q) moves.Closes _ (NoWord string) (λ k. tt) (λ k. no_word-short q c)
-no_word (modes.Escape q) c h = cond_both (is_return c) _ _ (NoWord string) (λ k. (refl, refl, refl)) (λ k. (refl, refl, refl))
-no_word (modes.EscapeReturn q) c h =
-    cond_both (is_line_feed c) _ _ (NoWord string) (λ k. (refl, refl, refl)) (λ k. cond_both (c == q) moves.Closes _ (NoWord string) (λ l. tt) (λ l. no_word-short q c))
-no_word (modes.Empty q) c h = cond_both (c == q) _ moves.Breaks (NoWord string) (λ k. (refl, refl, refl)) (λ k. tt)
-no_word (modes.Long q) c h = cond_both (c == q) _ _ (NoWord string) (λ k. (refl, refl, refl)) (λ k. no_word-long q c)
-no_word (modes.LongOne q) c h = cond_both (c == q) _ _ (NoWord string) (λ k. (refl, refl, refl)) (λ k. no_word-long q c)
-no_word (modes.LongTwo q) c h = cond_both (c == q) moves.Closes _ (NoWord string) (λ k. tt) (λ k. no_word-long q c)
-no_word (modes.LongEscape q) c h = (refl, refl, refl)
-no_word modes.Backslash c h = cond_both (is_line_feed c) moves.Closes _ (NoWord join) (λ k. tt) (λ k. cond_both (is_return c) _ moves.Refused (NoWord join) (λ l. (refl, refl, refl)) (λ l. tt))
-no_word modes.JoinReturn c h = cond_both (is_line_feed c) moves.Closes moves.Breaks (NoWord join) (λ k. tt) (λ k. tt)
-no_word modes.Return c h = cond_both (is_line_feed c) moves.Closes moves.Breaks (NoWord line_end) (λ k. tt) (λ k. tt)
-no_word m c h = tt
+unfolding move_of short_move long_move
+no_word (Mode.Word s) c h = absurd (both_ways _ h refl)
+no_word m c h = grind arith
 
 -- where any piece grows, no string with fields is open after it
 abbrev pub IsOpenAfter : Move → Type 0
-IsOpenAfter (moves.Grows n) = is_fielded_mode n ≡ false
+IsOpenAfter (Move.Grows n) = is_fielded_mode n ≡ false
 IsOpenAfter other = Unit {0}
 
-is_open : (class : Class) (v : Move) → NoWord class v → IsOpenAfter v
-is_open class (moves.Grows n) h = h.1
-is_open class v h = tt
-
 pub open_after : (m : Mode) (c : ℕ) → IsOpenAfter (move_of m c)
-unfolding move_of
-open_after (modes.Word s) c =
-    cond_both (is_word_character c) _ _ IsOpenAfter (λ h. refl) (λ h. cond_both (is_prefix_spelling s && is_quote c) _ moves.Breaks IsOpenAfter (λ k. refl) (λ k. tt))
-open_after m c = is_open (class_of m) (move_of m c) (no_word m c refl)
+unfolding move_of short_move long_move
+open_after (Mode.Word s) c = grind arith
+open_after m c = grind arith
 
 pub no_host : (m : Mode) (held : List ℕ) (c : ℕ) (cs : List ℕ) → IsQuiet m (c ∷ cs) → begins_host m held c ≡ false
-no_host (modes.Word s) held c cs (inl other) = absurd (both_ways _ other refl)
-no_host (modes.Word s) held c cs (inr none) = ap (λ b. is_field_prefix held && b) (or_parts (is_quote c) (list_any is_quote cs) none).0 ∙ none_false (is_field_prefix held)
+no_host (Mode.Word s) held c cs (inl other) = absurd (both_ways _ other refl)
+no_host (Mode.Word s) held c cs (inr none) = ap (λ b. is_field_prefix held && b) (or_parts (is_quote c) (list_any is_quote cs) none).0 ∙ none_false (is_field_prefix held)
 no_host m held c cs quiet = refl
 
 pub plain_moves : (m : Mode) (held : List ℕ) (c : ℕ) → begins_host m held c ≡ false → field_move (plain m) held c ≡ plain_move (move_of m c)
 unfolding field_move
 plain_moves m held c h = rw h
 
-still_quiet : (m n : Mode) (c : ℕ) (cs : List ℕ) → move_of m c ≡ moves.Grows n → IsQuiet m (c ∷ cs) → IsQuiet n cs
+still_quiet : (m n : Mode) (c : ℕ) (cs : List ℕ) → move_of m c ≡ Move.Grows n → IsQuiet m (c ∷ cs) → IsQuiet n cs
 still_quiet m n c cs is (inl other) = inl (subst (NoWord (class_of m)) is (no_word m c other)).0
 still_quiet m n c cs is (inr none) = inr (or_parts (is_quote c) (list_any is_quote cs) none).1
 

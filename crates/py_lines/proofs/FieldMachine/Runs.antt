@@ -1,11 +1,11 @@
 -- The machine with fields goes through a text: from one state to another, with room for what each character opens.
-use Rattle.std.proofs.Common.{◌≡◌, ℕ, ◌+◌, ◌<◌, Bool, true, false, not, ◌||◌, Some, List, [], ◌∷◌, ◌++◌, nat_lt, refl, sym, ap, ◌∙◌, subst, append_assoc, append-nil}
+use Rattle.std.proofs.Common.{◌≡◌, ℕ, ◌+◌, ◌<◌, Bool, true, false, not, ◌||◌, Some, List, [], ◌∷◌, ◌++◌, nat_lt, refl, sym, ap, ◌∙◌, subst, append_assoc, append-nil, arith}
 use Rattle.std.specs.Prelude.{if◌then◌else◌}
 use Rattle.std.proofs.lemmas.Bool.{and_from, lt-ltb}
+use Rattle.std.proofs.lemmas.Bool.Decides.{nat_tests}
 use Rattle.py_lines.specs.Piece.{Piece}
 use Rattle.py_lines.specs.Balance.{is_opening}
-use Rattle.py_lines.specs.declared.mode.Mode.TheVariants as modes
-use Rattle.py_lines.specs.Private.Machine.{move_of, start_of}
+use Rattle.py_lines.specs.Private.Machine.{Mode, move_of, start_of}
 use Rattle.py_lines.specs.Private.FieldMachine.{FieldMode, plain, FieldMove, grows, closes, breaks, begins_code, opens_field, Level, FieldScanned, field_state, field_fresh, field_class_of, field_pieces, field_move, field_moved, field_started, field_step, field_steps_from, frames, has_room_at, has_room, have_room, may_end}
 use Rattle.py_lines.proofs.Pieces.PieceLists.{piece}
 
@@ -52,17 +52,9 @@ steps_of Room s t (c ∷ cs) (next, step, room, others) = ap (λ o. field_steps_
 -- and the room within 200
 pub room_at : (depth c : ℕ) (move : FieldMove) → HasRoomFor BelowLimit depth c move → has_room_at depth c move ≡ true
 unfolding has_room_at
-room_at depth c breaks room = go (is_opening c) room
-  where
-    go : (b : Bool) → (b ≡ true → depth < 200) → not b || nat_lt depth 200 ≡ true
-    go true h = lt-ltb depth 200 (h refl)
-    go false h = refl
-room_at depth c (begins_code host) room = go (is_opening c) room.0 room.1
-  where
-    go : (b : Bool) → depth < 200 → (b ≡ true → depth + 1 < 200) → nat_lt (if b then depth + 1 else depth) 200 ≡ true
-    go true h k = lt-ltb (depth + 1) 200 (k refl)
-    go false h k = lt-ltb depth 200 h
-room_at depth c (opens_field host) room = lt-ltb depth 200 room
+room_at depth c breaks room = grind (arith, nat_tests)
+room_at depth c (begins_code host) room = grind (arith, nat_tests)
+room_at depth c (opens_field host) room = grind (arith, nat_tests)
 room_at depth c move room = refl
 
 pub room_of : (s t : FieldScanned) (text : List ℕ) → Goes BelowLimit s text t → have_room (Some s) text ≡ true
@@ -103,7 +95,7 @@ pub goes-begins : (Room : ℕ → Type 0) (s next t : FieldScanned) (c : ℕ) (c
 goes-begins Room s next t c cs move starts room others = (next, ap (field_moved s c) move ∙ starts, subst (HasRoomFor Room (frames s) c) (sym move) room, others)
 
 -- no piece is open: any character may follow
-pub stops-fresh : (rest : List ℕ) → StopsAt (plain modes.Free) [] rest
+pub stops-fresh : (rest : List ℕ) → StopsAt (plain Mode.Free) [] rest
 unfolding field_move move_of
 stops-fresh [] = refl
 stops-fresh (c ∷ cs) = refl

@@ -1,5 +1,5 @@
 -- The machine with fields goes through the parts of a string, where it goes through the fields among them.
-use Rattle.std.proofs.Common.{◌≡◌, ℕ, Bool, true, false, not, ◌&&◌, ◌||◌, ◌==◌, eqb, List, [], ◌∷◌, ◌++◌, refl, sym, ap, ◌∙◌, subst, append_assoc, append-nil}
+use Rattle.std.proofs.Common.{◌≡◌, ℕ, Bool, true, false, not, ◌&&◌, ◌||◌, ◌==◌, eqb, List, [], ◌∷◌, ◌++◌, refl, sym, ap, ◌∙◌, subst, append_assoc, append-nil, arith}
 use Rattle.std.specs.Prelude.{if◌then◌else◌}
 use Rattle.std.proofs.Math.Bool.{and-true}
 use Rattle.std.proofs.lemmas.Bool.{or_parts, both_ways, eq-eqb, eqb-true, or_left, or_right, and_right, and_from}
@@ -76,21 +76,11 @@ pub slash_grows : (host : Host) (place : Place) (named : Bool) (at : At) (s : �
 unfolding between_move
 slash_grows host place named at s quotes slashes = rw (not_quote s host.quote quotes (slash-not-quote s slashes), slashes)
 
--- a `}` that stands for itself
-brace_stays : (host : Host) (place : Place) (named : Bool) (c : ℕ) → eqb c 125 ≡ true → is_ordinary place named c ≡ true → ending_move host place named ≡ grows (body host place (named && false) between)
-unfolding is_brace
-brace_stays host literal named c is itself = ap (λ n. grows (body host literal n between)) (sym (none_false named))
-brace_stays host specification true c is itself = refl
-brace_stays host specification false c is itself = absurd (both_ways _ (ap not (or_right (eqb c 123) _ (or_left (eqb c 125) false is))) itself)
-
 -- a character that stands for itself
 itself_grows : (host : Host) (place : Place) (named : Bool) (at : At) (c : ℕ) → eqb c host.quote ≡ false → is_backslash c ≡ false → is_break c && not host.is_long ≡ false → is_ordinary place named c ≡ true → between_move host place named at c ≡ grows (body host place (named_after named (c ∷ [])) between)
-unfolding between_move
-itself_grows host place named at c other no_slash no_break itself = rw (other, no_slash, no_break, ordinary place named c itself) (go (c == 125) refl)
-  where
-    go : (b : Bool) → b ≡ (c == 125) → (if b then ending_move host place named else grows (body host place named between)) ≡ grows (body host place (named && not b) between)
-    go true is = brace_stays host place named c (sym is) itself
-    go false is = ap (λ n. grows (body host place n between)) (sym (and-true named))
+unfolding between_move is_brace
+itself_grows host literal named at c other no_slash no_break itself = grind (arith, ordinary literal named c itself)
+itself_grows host specification named at c other no_slash no_break itself = grind (arith, ordinary specification named c itself)
 
 pub three_quotes : (q : ℕ) (tail : List (List ℕ)) → begins_triple q ((q ∷ []) ∷ (q ∷ []) ∷ (q ∷ []) ∷ tail) ≡ true
 three_quotes q tail = rw (eq-eqb q q refl)
@@ -102,26 +92,17 @@ quote_seen q after_two tail h =
 quote_seen q at tail h = (refl, h)
 
 -- what stands without a backslash in a short string, or after one in its specifications
-long_or : (long broken : Bool) → long || not broken ≡ true → broken && not long ≡ false
-long_or true broken h = none_false broken
-long_or false true h = absurd (both_ways _ refl h)
-long_or false false h = refl
-
 no_break_in_short : (host : Host) (c : ℕ) → eqb c host.quote ≡ false → may_stand host c ≡ true → is_break c && not host.is_long ≡ false
 unfolding is_barred is_break
-no_break_in_short host c other stands = long_or host.is_long (is_one_of (10 ∷ 13 ∷ []) c) (subst (λ b. host.is_long || not (b || is_one_of (10 ∷ 13 ∷ []) c) ≡ true) other stands)
+no_break_in_short host c other stands = grind arith
 
 may_escape : (host : Host) (place : Place) (c : ℕ) → may_be_escaped host place c ≡ true → is_barred_escape host place c ≡ false
 may_escape host literal c may = refl
-may_escape host specification c may = long_or host.is_long (is_break c) may
+may_escape host specification c may = grind arith
 
 quote_in_long : (host : Host) → may_stand host host.quote ≡ true → host.is_long ≡ true
 unfolding is_barred
-quote_in_long host stands = go host.is_long (subst (λ b. host.is_long || not (b || is_one_of (10 ∷ 13 ∷ []) host.quote) ≡ true) (eq-eqb host.quote host.quote refl) stands)
-  where
-    go : (long : Bool) → long || false ≡ true → long ≡ true
-    go true h = refl
-    go false h = h
+quote_in_long host stands = grind (arith, eq-eqb host.quote host.quote refl)
 
 -- after a backslash
 escaped : (host : Host) (place : Place) (named : Bool) (held : List ℕ) (c : ℕ) → is_brace c ≡ false → may_be_escaped host place c ≡ true → field_move (body host place named after_slash) held c ≡ (if is_return c then grows (body host place named after_return) else (if names host c then grows (body host place named after_name) else grows (body host place named between)))

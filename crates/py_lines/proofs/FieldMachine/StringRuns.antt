@@ -6,8 +6,7 @@ use Rattle.py_lines.specs.Character.{is_word_character, is_word_start, is_quote,
 use Rattle.py_lines.specs.Piece.{Piece, string, begins}
 use Rattle.py_lines.specs.PieceGrammar.{begins_triple, has_triple, joined, is_prefix, MayPrecedeIn}
 use Rattle.py_lines.specs.FieldStrings.{is_field_prefix, Host, Place, literal, quotes_of, IsPart, bare, slash, escape, escaped_end, name, double, field, named_through, AreParts, IsFieldString, with_fields}
-use Rattle.py_lines.specs.declared.mode.Mode.TheVariants as modes
-use Rattle.py_lines.specs.Private.Machine.{first_spelling, spelling_on}
+use Rattle.py_lines.specs.Private.Machine.{Mode, first_spelling, spelling_on}
 use Rattle.py_lines.specs.Private.FieldMachine.{Level, At, between, after_one, after_two, FieldMode, plain, opened, empty, body, FieldMove, grows, closes, FieldScanned, field_state, field_fresh, host_of, is_after_two, between_move, field_move, field_pieces, field_moved, frames}
 use Rattle.py_lines.proofs.Pieces.PieceLists.{piece}
 use Rattle.py_lines.proofs.Fields.Prefixes.{field_letters}
@@ -83,7 +82,7 @@ module _ (Room : ℕ → Type 0) (from : FieldScanned) where
   prefix_goes (a ∷ bs) q after is quotes stops =
       let letters = field_letters (a ∷ bs) is in
       let same : letters.first ≡ a = head letters.is in
-      let word_at : FieldScanned = inside (plain (modes.Word (spelling_on (first_spelling a) bs))) (a ∷ bs) in
+      let word_at : FieldScanned = inside (plain (Mode.Word (spelling_on (first_spelling a) bs))) (a ∷ bs) in
       let string_at : FieldScanned = inside (opened (host_of (a ∷ bs) q)) ((a ∷ bs) ++ q ∷ []) in
       goes-append Room from word_at string_at (a ∷ bs) (q ∷ [])
       (word_goes Room from a bs (q ∷ after) (subst (λ x. is_word_start x ≡ true) same letters.starts) (and_parts (is_word_character a) (list_all is_word_character bs) letters.all).1 stops)

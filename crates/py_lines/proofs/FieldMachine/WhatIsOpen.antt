@@ -6,8 +6,7 @@ use Rattle.py_lines.specs.Piece.{begins, spelled}
 use Rattle.py_lines.specs.PieceGrammar.{IsPrefix}
 use Rattle.py_lines.specs.OpenFields.{IsSlash, Spot, StandsOpen, IsOpenUpTo, IsOpenLiteral, IsPlainShortPrefix, IsPlainLongPrefix, InOpenShort, InOpenLong, AfterOpenBackslash, InSpecification}
 use Rattle.py_lines.specs.FieldStrings.{is_field_prefix, Host, Place, literal, specification}
-use Rattle.py_lines.specs.declared.mode.Mode.{Mode}
-use Rattle.py_lines.specs.declared.mode.Mode.TheVariants as modes
+use Rattle.py_lines.specs.Private.Machine.{Mode}
 use Rattle.py_lines.specs.Private.FieldMachine.{before, FieldMode, plain, FieldScanned, field_state, field_text_start, field_pieces, field_started, field_steps_from, in_open_short, in_open_long, after_open_backslash, InSpecificationOf}
 use Rattle.py_lines.proofs.Fields.Parts.{some_head}
 use Rattle.py_lines.proofs.Machine.Starts.{start-slash}
@@ -61,15 +60,15 @@ InLiteral false mode = in_open_short mode ≡ true
 InLiteral true mode = in_open_long mode ≡ true
 
 -- a string without fields, whose text grows so after its first quote
-plain_comes : (IsOpen : List ℕ → Type 0) (characters start : List ℕ) (at : StandsOpen IsOpen characters start) (is_long : Bool) (prefix : List ℕ) (q : ℕ) (inner : List ℕ) → at.front ≡ prefix ++ q ∷ inner → IsPrefix prefix → is_field_prefix prefix ≡ false → is_quote q ≡ true → GrownTo (λ m. InLiteral is_long (plain m)) (modes.Opened q) inner → Comes characters (λ s. InLiteral is_long s.mode × StartsAfter literal start s)
+plain_comes : (IsOpen : List ℕ → Type 0) (characters start : List ℕ) (at : StandsOpen IsOpen characters start) (is_long : Bool) (prefix : List ℕ) (q : ℕ) (inner : List ℕ) → at.front ≡ prefix ++ q ∷ inner → IsPrefix prefix → is_field_prefix prefix ≡ false → is_quote q ≡ true → GrownTo (λ m. InLiteral is_long (plain m)) (Mode.Opened q) inner → Comes characters (λ s. InLiteral is_long s.mode × StartsAfter literal start s)
 plain_comes IsOpen characters start at is_long prefix q inner spell is no_field quotes (m, such, grown) =
     let front = front_at IsOpen characters start at (subst (λ t. begins is_mark t ≡ false) (sym spell) (prefix-unmarked prefix q inner is quotes)) in
     let from = front.from in
     let state : Mode → List ℕ → FieldScanned = λ n held. field_state from.outer (field_pieces from) from.openers (plain n) held in
     let to : FieldScanned = state m ((prefix ++ q ∷ []) ++ inner) in
-    let run = goes-append NoLimit from (state (modes.Opened q) (prefix ++ q ∷ [])) to (prefix ++ q ∷ []) inner
+    let run = goes-append NoLimit from (state (Mode.Opened q) (prefix ++ q ∷ [])) to (prefix ++ q ∷ []) inner
     (plain_opens NoLimit from prefix q inner is no_field quotes (subst (StopsAt from.mode from.held) spell front.stops))
-    (goes-grown NoLimit from.outer (field_pieces from) from.openers (plain (modes.Opened q)) (plain m) (prefix ++ q ∷ []) inner (grown-alike (modes.Opened q) m inner (inl refl) grown)) in
+    (goes-grown NoLimit from.outer (field_pieces from) from.openers (plain (Mode.Opened q)) (plain m) (prefix ++ q ∷ []) inner (grown-alike (Mode.Opened q) m inner (inl refl) grown)) in
     let full = some_head prefix q inner in
     record {
       to = to;
@@ -126,7 +125,7 @@ backslash_comes characters start at = go at.open_yet
     go (s, is, slashes) =
         let front = front_at _ characters start at (subst (λ t. begins is_mark t ≡ false) (sym is) (slash-not-mark s slashes)) in
         let from = front.from in
-        let to : FieldScanned = field_state from.outer (field_pieces from) from.openers (plain modes.Backslash) (s ∷ []) in
+        let to : FieldScanned = field_state from.outer (field_pieces from) from.openers (plain Mode.Backslash) (s ∷ []) in
         let run : Goes NoLimit from (s ∷ []) to =
         goes-begins NoLimit from to to s [] (subst (StopsAt from.mode from.held) is front.stops) (ap (field_started from.outer (field_pieces from) from.openers s) (start-slash s slashes)) (λ opens. tt) refl in
         record { to = to; goes = front.goes to s [] is (subst (λ t. Goes NoLimit from t to) (sym is) run); such = (refl, front.start_is) }

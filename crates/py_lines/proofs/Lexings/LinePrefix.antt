@@ -19,7 +19,7 @@ use Rattle.py_lines.proofs.Text.Splits.{Either, either}
 use Rattle.py_lines.proofs.LineScan.PieceEnd.{closed_text}
 use Rattle.py_lines.proofs.Pieces.PieceLists.{piece, spelled-append, spelled-push, AreReadBefore-second}
 use Rattle.py_lines.proofs.Machine.PieceSteps.{pieces_at, run_before}
-use Rattle.py_lines.proofs.Machine.FinishedPieces.{GrowsIf, closed_grows, started_grows, run_grows}
+use Rattle.py_lines.proofs.Machine.EarlierPieces.{GrowsIf, closed_grows, started_grows, run_grows}
 use Rattle.py_lines.proofs.Pieces.OpenBrackets.{stack-from_balanced, depth_through-append}
 use Rattle.py_lines.proofs.Pieces.ShallowPieces.{brackets_shallow, strings_shallow}
 use Rattle.py_lines.proofs.FieldSoundness.LiveTexts.{live_before}

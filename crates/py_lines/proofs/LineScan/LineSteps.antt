@@ -58,12 +58,12 @@ returned m old read rest way start returns empty follows =
   where
     go : (k : Mode) → is_return_mode k ≡ true → (done : List Piece) (held : List ℕ) → scan_steps (Some (line_start m)) read ≡ Some (scanned done k held) → IsScanSound (scanned done k held) read → Tallies old (scanned done k held) → IsStacked old (scanned done k held) → EndsNoLine 0 done → IsAtLineEnd m (freed old) read rest 1
     go modes.Return is done held steps sound tallies stacked none =
-        let r = sound.holds.0 in
-        let text : held ≡ 13 ∷ [] = sound.holds.1 ∙ ap (λ d. d ∷ []) (return_is r sound.holds.2) in
+        let r = sound.holds.0.0 in
+        let text : held ≡ 13 ∷ [] = sound.holds.0.1 ∙ ap (λ d. d ∷ []) (return_is r sound.holds.0.2) in
         record {
           body = done;
           last = piece line_end held;
-          are = record { one_line = none; class = refl; level = none_level done (stack_of old.brackets) stacked empty; paired = none_stack done (stack_of old.brackets) stacked empty; size = one_return r sound.holds.2 ∙ ap byte_len (sym sound.holds.1) };
+          are = record { one_line = none; class = refl; level = none_level done (stack_of old.brackets) stacked empty; paired = none_stack done (stack_of old.brackets) stacked empty; size = one_return r sound.holds.0.2 ∙ ap byte_len (sym sound.holds.0.1) };
           to = scanned done modes.Return held;
           steps = steps;
           spell = spelled-push done line_end held ∙ sound.spell;

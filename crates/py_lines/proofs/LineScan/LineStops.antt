@@ -113,7 +113,7 @@ feed_last m scan read len at =
 -- where CR is open, it was read last
 pub return_ends : (s : Scanned) (read : List ℕ) → IsScanSound s read → is_return_mode s.mode ≡ true → ends is_return read ≡ true
 return_ends s read sound is =
-    let holds = subst (λ m. HoldsOpen m s.done s.held) (return_mode s.mode is) sound.holds in
+    let (holds, plain) = subst (λ m. HoldsOpen m s.done s.held) (return_mode s.mode is) sound.holds in
     ap (ends is_return) (sym sound.spell ∙ ap (λ t. spelled s.done ++ t) holds.1) ∙ ends-append is_return (spelled s.done) holds.0 [] ∙ holds.2
 
 -- what begins with another character begins with no byte of LF

@@ -146,7 +146,7 @@ module _ (old : Scan) (s : Scanned) (read : List ℕ) (c : ℕ) (on : KeepsUp ol
   pub takes_returned : is_return_mode s.mode ≡ true → move_at s c ≡ moves.Closes → Takes old s c (line_end_progress (none_open (stack_of old.brackets)) 2) (freed (with_character old c))
   takes_returned returns move =
       let is = return_mode s.mode returns in
-      let holds = subst (λ m. HoldsOpen m s.done s.held) is on.sound.holds in
+      let (holds, plain) = subst (λ m. HoldsOpen m s.done s.held) is on.sound.holds in
       let closed_so : Tallies (freed (with_character old c)) (fresh (s.done ++ piece line_end (s.held ++ c ∷ []) ∷ [])) = subst (λ m. Tallies (freed (with_character old c)) (fresh (s.done ++ piece (class_of m) (s.held ++ c ∷ []) ∷ []))) is (tallies_closed old.fields) in
       let feeds = return_feeds c (sym (ap (λ m. move_in m (depth_through 0 s.done) s.held c) is) ∙ move) in
       takes_end 2 s.done (s.held ++ c ∷ []) (ap (moved s c) move ∙ ap (λ m. Some (fresh (s.done ++ piece (class_of m) (s.held ++ c ∷ []) ∷ []))) is) closed_so on.stacked on.one_line (both_ends s.held holds.0 c holds.1 holds.2 feeds) (none_open (stack_of old.brackets)) refl

@@ -47,8 +47,8 @@ shut_as old s ps counts spell =
 
 -- the closed pieces spell what is read
 pub closed_text : (m : Mode) (done : List Piece) (held : List ℕ) → HoldsOpen m done held → spelled (closed m done held) ≡ spelled done ++ held
-closed_text modes.Start done held holds = sym (append-nil (spelled done)) ∙ ap (λ t. spelled done ++ t) (sym holds.1)
-closed_text modes.Free done held holds = sym (append-nil (spelled done)) ∙ ap (λ t. spelled done ++ t) (sym holds)
+closed_text modes.Start done held holds = sym (append-nil (spelled done)) ∙ ap (λ t. spelled done ++ t) (sym holds.0.1)
+closed_text modes.Free done held holds = sym (append-nil (spelled done)) ∙ ap (λ t. spelled done ++ t) (sym holds.0)
 closed_text m done held holds = spelled-push done (class_of m) held
 
 -- the scan follows the machine where the open piece is closed

@@ -150,7 +150,7 @@ unfolding is_quote
 quote_ascii q h = leb-false 128 q (none_of (λ d. leb 128 d) (codes "'\"") q refl h)
 
 pub sound_quote : (m : Mode) (done : List Piece) (held : List ℕ) → HoldsOpen m done held → HasAsciiQuote m
-sound_quote (modes.Inside q) done held holds = quote_ascii q holds.0.all.opens
+sound_quote (modes.Inside q) done held holds = quote_ascii q holds.0.0.opens
 sound_quote (modes.Long q) done held holds = quote_ascii q holds.0.opens
 sound_quote m done held holds = tt
 

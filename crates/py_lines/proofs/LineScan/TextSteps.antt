@@ -23,21 +23,19 @@ use Rattle.py_lines.proofs.ScanMachine.Steps as runs_of
 use Rattle.py_lines.proofs.Machine.ReadingSteps.{MayBegin}
 use Rattle.py_lines.proofs.ScanMachine.Reaching.{reach}
 use Rattle.py_lines.proofs.Pieces.OpenBrackets.{stack_before, stands}
-use Rattle.py_lines.proofs.Machine.FinishedPieces.{closed_grows}
 use Rattle.py_lines.proofs.ScanMachine.Advance.{kept, kept_if, advance, GoesTo, RunsTo, stops_there}
 use Rattle.py_lines.proofs.ScanMachine.LiveTexts.{live_runs}
 use Rattle.py_lines.proofs.Machine.LiveTexts.{stack_closed}
 use Rattle.py_lines.proofs.Lexings.LinePrefix.{line_first}
 use Rattle.py_lines.proofs.LogicalLines.Cuts.{byte_len-append}
-use Rattle.py_lines.proofs.Machine.EarlierPieces.{after_pieces, after_if, closed-after, shift, shift_if, stack-after}
-use Rattle.py_lines.proofs.ScanMachine.EarlierPieces.{steps-after, step-after}
+use Rattle.py_lines.proofs.Machine.EarlierPieces.{after_pieces, after_if, closed-after, closed_grows, steps-after, step-after, shift, shift_if, stack-after}
 use Rattle.py_lines.specs.Balance.{depth_through}
 use Rattle.py_lines.proofs.LineScan.StringSteps.{first_plain}
 
 -- a line begins soundly
 pub begun_sound : (n : ℕ) → IsScanSound (line_start (first_mode n)) []
-begun_sound zero = record { spell = refl; holds = (refl, refl); fit = λ more. tt; strings = tt }
-begun_sound (suc n) = record { spell = refl; holds = refl; fit = λ more. tt; strings = tt }
+begun_sound zero = record { spell = refl; holds = ((refl, refl), λ at. absurd (cc)); fit = λ more. tt; strings = tt }
+begun_sound (suc n) = record { spell = refl; holds = (refl, λ at. absurd (cc)); fit = λ more. tt; strings = tt }
 
 -- pieces that end a line, and what the next line begins in
 pub data Base (n : ℕ) (base : List Piece) : Type 0 where

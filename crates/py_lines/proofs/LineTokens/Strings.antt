@@ -14,7 +14,7 @@ use Rattle.py_lines.specs.Private.Run.{is_free}
 use Rattle.py_lines.proofs.Pieces.PieceLists.{piece, AreReadBefore-first}
 use Rattle.py_lines.proofs.Pieces.OpenBrackets.{stack_before}
 use Rattle.py_lines.proofs.Fields.Nesting.{string_map}
-use Rattle.py_lines.proofs.Machine.FinishedPieces.{GrowsIf, closed_grows, started_grows, run_grows}
+use Rattle.py_lines.proofs.Machine.EarlierPieces.{GrowsIf, closed_grows, started_grows, run_grows}
 use Rattle.py_lines.proofs.Machine.LiveTexts.{keeps}
 use Rattle.py_lines.proofs.Machine.PieceSteps.{pieces_at, steps_by-append}
 use Rattle.py_lines.proofs.ScanMachine.Advance.{steps_push}
@@ -98,8 +98,8 @@ record HoldsAll (m : Mode) (done : List Piece) (held read : List ℕ) : Type 0 w
 
 holds_all : (m : Mode) (done : List Piece) (held read : List ℕ) → HoldsOpen m done held → 0 < length read → done ≡ [] → held ≡ read
     → HoldsAll m done held read
-holds_all modes.Start done held read holds some none spell = absurd (omega (arith, some, ap length spell, ap length holds.1))
-holds_all modes.Free done held read holds some none spell = absurd (omega (arith, some, ap length spell, ap length holds))
+holds_all modes.Start done held read holds some none spell = absurd (omega (arith, some, ap length spell, ap length holds.0.1))
+holds_all modes.Free done held read holds some none spell = absurd (omega (arith, some, ap length spell, ap length holds.0))
 holds_all m done held read holds some none spell =
     record { other = refl; one = piece (class_of m) held; is = ap (λ l. l ++ piece (class_of m) held ∷ []) none; text = spell }
 
@@ -111,7 +111,7 @@ all_held s read steps some none =
 -- where one piece is found and it is open, none is closed
 open_alone : (p : Piece) (m : Mode) (done : List Piece) (held : List ℕ) → HoldsOpen m done held → is_free m ≡ false
     → closed m done held ≡ p ∷ [] → done ≡ []
-open_alone p modes.Start done held holds other is = holds.0
+open_alone p modes.Start done held holds other is = holds.0.0
 open_alone p modes.Free done held holds other is = absurd (both_ways _ other refl)
 open_alone p m done held holds other is = nil_from_length done (omega (arith, ap length is, length-append done (piece (class_of m) held ∷ [])))
 

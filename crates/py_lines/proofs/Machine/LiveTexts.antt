@@ -7,11 +7,7 @@ use Rattle.py_lines.specs.Character.{is_mark, is_space, is_word_character, is_qu
 use Rattle.py_lines.specs.Piece.{Piece, spelled}
 use Rattle.py_lines.specs.Balance.{is_closing, closing_of, is_opener, is_closer}
 use Rattle.py_lines.specs.LogicalLine.{byte_len}
-use Rattle.py_lines.specs.declared.mode.Mode.{Mode}
-use Rattle.py_lines.specs.declared.mode.Mode.TheVariants as modes
-use Rattle.py_lines.specs.declared.mode.Move.TheVariants as moves
-use Rattle.py_lines.specs.declared.mode.Start.TheVariants as starts
-use Rattle.py_lines.specs.Private.Machine.{Holds, class_of, closed, move_of, start_of, is_final, is_prefix_spelling, Bracket, brackets_of}
+use Rattle.py_lines.specs.Private.Machine.{Mode, Move, Start, Holds, class_of, closed, move_of, start_of, is_final, is_prefix_spelling, Bracket, brackets_of}
 use Rattle.py_lines.proofs.Text.CharacterTests.{each_of, none_of, not_quote, quote-not-feed}
 use Rattle.py_lines.proofs.Pieces.PieceLists.{piece}
 use Rattle.py_lines.proofs.Machine.Starts.{start-feed}
@@ -23,16 +19,16 @@ pub keeps : (done : List Piece) (p : Piece) (st : List Bracket) → is_opener p 
 keeps done p st opens closes stack = stack_push done p st stack ∙ other_keeps st (byte_len (spelled done)) p opens closes
 
 pub stack_closed : (m : Mode) (done : List Piece) (held : List ℕ) (st : List Bracket) → brackets_of done ≡ Some st → brackets_of (closed m done held) ≡ Some st
-stack_closed modes.Start done held st stack = stack
-stack_closed modes.Free done held st stack = stack
+stack_closed Mode.Start done held st stack = stack
+stack_closed Mode.Free done held st stack = stack
 stack_closed m done held st stack = keeps done (piece (class_of m) held) st refl refl stack
 
 -- a mode in which the text may end, or a closing bracket follow
 pub record IsReady (m : Mode) : Type 0 where
   pub ends : is_final m ≡ true
-  pub breaks : (c : ℕ) → is_closing c ≡ true → move_of m c ≡ moves.Breaks
+  pub breaks : (c : ℕ) → is_closing c ≡ true → move_of m c ≡ Move.Breaks
 
-pub ready-free : IsReady modes.Free
+pub ready-free : IsReady Mode.Free
 unfolding move_of
 ready-free = record { ends = refl; breaks = λ c h. refl }
 
@@ -60,15 +56,15 @@ quote-not-return : (q : ℕ) → is_quote q ≡ true → is_return q ≡ false
 unfolding is_quote is_return
 quote-not-return q h = none_of is_return (39 ∷ 34 ∷ []) q refl h
 
-slash-closes : move_of modes.Backslash 10 ≡ moves.Closes
+slash-closes : move_of Mode.Backslash 10 ≡ Move.Closes
 unfolding move_of is_line_feed
 slash-closes = refl
 
-pub comment-breaks : move_of modes.Comment 10 ≡ moves.Breaks
+pub comment-breaks : move_of Mode.Comment 10 ≡ Move.Breaks
 unfolding move_of is_break
 comment-breaks = refl
 
-pub feed-starts : start_of 10 ≡ starts.LineEnd
+pub feed-starts : start_of 10 ≡ Start.LineEnd
 unfolding is_line_feed
 feed-starts = start-feed 10 refl
 
@@ -80,51 +76,51 @@ closing_of-closing c = cond_both (c == 40) _ _ (λ x. is_closing x ≡ true) (λ
 -- it is so at once, after one character more by which the piece grows or with which it ends, and at the end of a comment.
 module _ (Comes : Mode → List ℕ → Type 0)
     (once : (m : Mode) (held : List ℕ) → IsReady m → Comes m held)
-    (on : (m n : Mode) (held : List ℕ) (c : ℕ) → is_final m ≡ false → IsScalar c → move_of m c ≡ moves.Grows n → Comes n (held ++ c ∷ []) → Comes m held)
-    (last : (m : Mode) (held : List ℕ) (c : ℕ) → is_final m ≡ false → IsScalar c → move_of m c ≡ moves.Closes → Comes m held)
-    (commented : (held : List ℕ) → Comes modes.Comment held) where
-  empty : (q : ℕ) (held : List ℕ) → is_quote q ≡ true → Comes (modes.Empty q) held
+    (on : (m n : Mode) (held : List ℕ) (c : ℕ) → is_final m ≡ false → IsScalar c → move_of m c ≡ Move.Grows n → Comes n (held ++ c ∷ []) → Comes m held)
+    (last : (m : Mode) (held : List ℕ) (c : ℕ) → is_final m ≡ false → IsScalar c → move_of m c ≡ Move.Closes → Comes m held)
+    (commented : (held : List ℕ) → Comes Mode.Comment held) where
+  empty : (q : ℕ) (held : List ℕ) → is_quote q ≡ true → Comes (Mode.Empty q) held
   unfolding move_of
-  empty q held quotes = once (modes.Empty q) held (record { ends = refl; breaks = λ c h. rw (not_quote c q quotes (closing-not-quote c h)) })
+  empty q held quotes = once (Mode.Empty q) held (record { ends = refl; breaks = λ c h. rw (not_quote c q quotes (closing-not-quote c h)) })
 
-  inside : (q : ℕ) (held : List ℕ) → is_quote q ≡ true → Comes (modes.Inside q) held
+  inside : (q : ℕ) (held : List ℕ) → is_quote q ≡ true → Comes (Mode.Inside q) held
   unfolding move_of
-  inside q held quotes = last (modes.Inside q) held q refl (quote-scalar q quotes) (rw (eq-eqb q q refl))
+  inside q held quotes = last (Mode.Inside q) held q refl (quote-scalar q quotes) (rw (eq-eqb q q refl))
 
-  long_two : (q : ℕ) (held : List ℕ) → is_quote q ≡ true → Comes (modes.LongTwo q) held
+  long_two : (q : ℕ) (held : List ℕ) → is_quote q ≡ true → Comes (Mode.LongTwo q) held
   unfolding move_of
-  long_two q held quotes = last (modes.LongTwo q) held q refl (quote-scalar q quotes) (rw (eq-eqb q q refl))
+  long_two q held quotes = last (Mode.LongTwo q) held q refl (quote-scalar q quotes) (rw (eq-eqb q q refl))
 
-  long_one : (q : ℕ) (held : List ℕ) → is_quote q ≡ true → Comes (modes.LongOne q) held
+  long_one : (q : ℕ) (held : List ℕ) → is_quote q ≡ true → Comes (Mode.LongOne q) held
   unfolding move_of
-  long_one q held quotes = on (modes.LongOne q) (modes.LongTwo q) held q refl (quote-scalar q quotes) (rw (eq-eqb q q refl)) (long_two q (held ++ q ∷ []) quotes)
+  long_one q held quotes = on (Mode.LongOne q) (Mode.LongTwo q) held q refl (quote-scalar q quotes) (rw (eq-eqb q q refl)) (long_two q (held ++ q ∷ []) quotes)
 
-  long : (q : ℕ) (held : List ℕ) → is_quote q ≡ true → Comes (modes.Long q) held
+  long : (q : ℕ) (held : List ℕ) → is_quote q ≡ true → Comes (Mode.Long q) held
   unfolding move_of
-  long q held quotes = on (modes.Long q) (modes.LongOne q) held q refl (quote-scalar q quotes) (rw (eq-eqb q q refl)) (long_one q (held ++ q ∷ []) quotes)
+  long q held quotes = on (Mode.Long q) (Mode.LongOne q) held q refl (quote-scalar q quotes) (rw (eq-eqb q q refl)) (long_one q (held ++ q ∷ []) quotes)
 
   pub completes : (m : Mode) (done : List Piece) (held : List ℕ) → Holds m done held → Comes m held
   unfolding move_of
-  completes modes.Start done held holds = once modes.Start held (record { ends = refl; breaks = λ c h. rw (closing_is c h).1 })
-  completes modes.Free done held holds = once modes.Free held ready-free
-  completes modes.Space done held holds = once modes.Space held (record { ends = refl; breaks = λ c h. rw (closing_is c h).2 })
-  completes (modes.Word s) done held holds =
-      once (modes.Word s) held (record { ends = refl; breaks = λ c h. rw ((closing_is c h).0, and_right (is_prefix_spelling s) (is_quote c) (closing-not-quote c h)) })
-  completes modes.Comment done held holds = commented held
-  completes (modes.Opened q) done held holds =
-      on (modes.Opened q) (modes.Empty q) held q refl (quote-scalar q holds.opens) (rw (eq-eqb q q refl)) (empty q (held ++ q ∷ []) holds.opens)
-  completes (modes.Inside q) done held holds = inside q held holds.all.opens
-  completes (modes.Escape q) done held holds =
-      on (modes.Escape q) (modes.Inside q) held q refl (quote-scalar q holds.3.opens) (rw (quote-not-return q holds.3.opens)) (inside q (held ++ q ∷ []) holds.3.opens)
-  completes (modes.EscapeReturn q) done held holds =
-      last (modes.EscapeReturn q) held q refl (quote-scalar q holds.4.opens) (rw (quote-not-feed q holds.4.opens, eq-eqb q q refl))
-  completes (modes.Empty q) done held holds = empty q held holds.opens
-  completes (modes.Long q) done held holds = long q held holds.opens
-  completes (modes.LongOne q) done held holds = long_one q held holds.2.opens
-  completes (modes.LongTwo q) done held holds = long_two q held holds.2.opens
-  completes (modes.LongEscape q) done held holds =
-      on (modes.LongEscape q) (modes.Long q) held q refl (quote-scalar q holds.3.opens) refl (long q (held ++ q ∷ []) holds.3.opens)
-  completes modes.Backslash done held holds = last modes.Backslash held 10 refl refl slash-closes
-  completes modes.JoinReturn done held holds = once modes.JoinReturn held (record { ends = refl; breaks = λ c h. rw (closing_is c h).3 })
-  completes modes.Return done held holds = once modes.Return held (record { ends = refl; breaks = λ c h. rw (closing_is c h).3 })
+  completes Mode.Start done held holds = once Mode.Start held (record { ends = refl; breaks = λ c h. rw (closing_is c h).1 })
+  completes Mode.Free done held holds = once Mode.Free held ready-free
+  completes Mode.Space done held holds = once Mode.Space held (record { ends = refl; breaks = λ c h. rw (closing_is c h).2 })
+  completes (Mode.Word s) done held holds =
+      once (Mode.Word s) held (record { ends = refl; breaks = λ c h. rw ((closing_is c h).0, and_right (is_prefix_spelling s) (is_quote c) (closing-not-quote c h)) })
+  completes Mode.Comment done held holds = commented held
+  completes (Mode.Opened q) done held holds =
+      on (Mode.Opened q) (Mode.Empty q) held q refl (quote-scalar q holds.opens) (rw (eq-eqb q q refl)) (empty q (held ++ q ∷ []) holds.opens)
+  completes (Mode.Inside q) done held holds = inside q held holds.0.opens
+  completes (Mode.Escape q) done held holds =
+      on (Mode.Escape q) (Mode.Inside q) held q refl (quote-scalar q holds.3.opens) (rw (quote-not-return q holds.3.opens)) (inside q (held ++ q ∷ []) holds.3.opens)
+  completes (Mode.EscapeReturn q) done held holds =
+      last (Mode.EscapeReturn q) held q refl (quote-scalar q holds.4.opens) (rw (quote-not-feed q holds.4.opens, eq-eqb q q refl))
+  completes (Mode.Empty q) done held holds = empty q held holds.opens
+  completes (Mode.Long q) done held holds = long q held holds.opens
+  completes (Mode.LongOne q) done held holds = long_one q held holds.2.opens
+  completes (Mode.LongTwo q) done held holds = long_two q held holds.2.opens
+  completes (Mode.LongEscape q) done held holds =
+      on (Mode.LongEscape q) (Mode.Long q) held q refl (quote-scalar q holds.3.opens) refl (long q (held ++ q ∷ []) holds.3.opens)
+  completes Mode.Backslash done held holds = last Mode.Backslash held 10 refl refl slash-closes
+  completes Mode.JoinReturn done held holds = once Mode.JoinReturn held (record { ends = refl; breaks = λ c h. rw (closing_is c h).3 })
+  completes Mode.Return done held holds = once Mode.Return held (record { ends = refl; breaks = λ c h. rw (closing_is c h).3 })
   completes m done held holds = absurd holds

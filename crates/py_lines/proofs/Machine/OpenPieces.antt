@@ -6,10 +6,10 @@ use Rattle.std.proofs.lemmas.Bool.{and_from, or_from, or_parts, eqb-true, both_w
 use Rattle.py_lines.specs.Character.{is_quote, is_backslash}
 use Rattle.py_lines.specs.Piece.{string}
 use Rattle.py_lines.specs.PieceGrammar.{IsPrefix, is_item, is_bare, is_short_item, joined, has_triple, IsShortString, IsLongString, MayPrecedePlain}
-use Rattle.py_lines.specs.Private.Machine.{IsFull, HoldsItems, HoldsSome, HoldsQuotes, HoldsItemsBefore, HoldsPrefix, HoldsLong}
+use Rattle.py_lines.specs.Private.Machine.{IsFull, HoldsItems, HoldsShort, HoldsSome, HoldsQuotes, HoldsPrefix, HoldsLong}
 use Rattle.py_lines.proofs.Pieces.PieceLists.{joined-append}
 use Rattle.py_lines.proofs.Text.CharacterTests.{slash-not-quote}
-use Rattle.py_lines.proofs.Fields.Prefixes.{plain_quotes}
+use Rattle.py_lines.proofs.Fields.Prefixes.{plain_quotes, first_quote}
 use Rattle.py_lines.proofs.Pieces.TripleQuotes.{triple-left, triple-other}
 
 pub full-append : (xs ys : List ℕ) → IsFull ys → IsFull (xs ++ ys)
@@ -28,22 +28,9 @@ push held c is = ap (λ t. t ++ c ∷ []) is
 pub joined-push : (items : List (List ℕ)) (i : List ℕ) → joined (items ++ i ∷ []) ≡ joined items ++ i
 joined-push items i = joined-append items (i ∷ []) ∙ ap (λ t. joined items ++ t) (append-nil i)
 
--- the quote that a string begins with, and what follows it
-from_quote : List ℕ → List ℕ
-from_quote [] = []
-from_quote (c ∷ cs) = cond (is_quote c) (c ∷ cs) (from_quote cs)
-
--- past characters that are no quotes
-past_quoteless : (letters : List ℕ) (q : ℕ) (body : List ℕ) → list_any is_quote letters ≡ false → is_quote q ≡ true → from_quote (letters ++ q ∷ body) ≡ q ∷ body
-unfolding from_quote
-past_quoteless [] q body none quotes = rw quotes
-past_quoteless (c ∷ cs) q body none quotes =
-    let parts = or_parts (is_quote c) (list_any is_quote cs) none in
-    rw parts.0 (past_quoteless cs q body parts.1 quotes)
-
 -- the quote that a string begins with, and what follows, are the same however its prefix is told
 pub same_quotes : (prefix other : List ℕ) (q r : ℕ) (body rest : List ℕ) → prefix ++ q ∷ body ≡ other ++ r ∷ rest → IsPrefix prefix → IsPrefix other → is_quote q ≡ true → is_quote r ≡ true → q ∷ body ≡ r ∷ rest
-same_quotes prefix other q r body rest same one two quotes also = sym (past_quoteless prefix q body (plain_quotes prefix one) quotes) ∙ ap from_quote same ∙ past_quoteless other r rest (plain_quotes other two) also
+same_quotes prefix other q r body rest same one two quotes also = (first_quote prefix other body rest q r (plain_quotes prefix one) (plain_quotes other two) quotes also same).1
 
 pub not_one : (b : ℕ) (bs : List ℕ) (q r : ℕ) → b ∷ (bs ++ q ∷ []) ≡ r ∷ [] → ⊥
 not_one b [] q r h = cc
@@ -63,31 +50,32 @@ long_something prefix body q text rest is begun opens other r spell also quotes 
     let same : q ∷ q ∷ q ∷ body ≡ r ∷ r ∷ [] = same_quotes prefix other q r (q ∷ q ∷ body) (r ∷ []) (sym is ∙ spell) begun also opens quotes in
     absurd (cc)
 
--- one more item of a short string
-pub items_push : (q : ℕ) (held item : List ℕ) → HoldsItems q held → is_short_item q item ≡ true → IsFull item → HoldsSome q (held ++ item)
-items_push q held item before is full = record {
-  all = record {
-    prefix = before.prefix;
-    items = before.items ++ item ∷ [];
-    spell = ap (λ t. t ++ item) before.spell ∙ append_assoc before.prefix (q ∷ joined before.items) item ∙ ap (λ t. before.prefix ++ (q ∷ t)) (sym (joined-push before.items item));
-    begun = before.begun;
-    opens = before.opens;
-    each = list_all-push (is_short_item q) before.items item before.each is;
-  };
-  full = subst IsFull (sym (joined-push before.items item)) (full-append (joined before.items) item full);
-}
-
--- one more item of a long string, which is no quote
-pub prefix_push : (q : ℕ) (held item : List ℕ) → HoldsPrefix q held → is_item item ≡ true → is_bare (λ d. d == q) item ≡ false → HoldsLong q (held ++ item)
-prefix_push q held item before is other = record {
+-- more items
+items_push : (quotes : List ℕ) (MayHold MayGoOn : List (List ℕ) → Type 0) (q : ℕ) (held : List ℕ) (more : List (List ℕ)) → ((items : List (List ℕ)) → MayHold items → MayGoOn (items ++ more)) → HoldsItems quotes MayHold q held → HoldsItems quotes MayGoOn q (held ++ joined more)
+items_push quotes MayHold MayGoOn q held more may before = record {
   prefix = before.prefix;
-  items = before.items ++ item ∷ [];
-  spell = ap (λ t. t ++ item) before.spell ∙ append_assoc before.prefix (q ∷ q ∷ q ∷ joined before.items) item ∙ ap (λ t. before.prefix ++ (q ∷ q ∷ q ∷ t)) (sym (joined-push before.items item));
+  items = before.items ++ more;
+  spell = ap (λ t. t ++ joined more) before.spell ∙ append_assoc before.prefix (quotes ++ joined before.items) (joined more)
+      ∙ ap (λ t. before.prefix ++ t) (append_assoc quotes (joined before.items) (joined more) ∙ ap (λ t. quotes ++ t) (sym (joined-append before.items more)));
   begun = before.begun;
   opens = before.opens;
-  each = list_all-push is_item before.items item before.each is;
-  open_yet = ap (has_triple q) (append_assoc before.items (item ∷ []) ((q ∷ []) ∷ (q ∷ []) ∷ [])) ∙ triple-other q before.items item ((q ∷ []) ∷ (q ∷ []) ∷ []) other (ap (has_triple q) (sym (append-nil before.items)) ∙ before.open_yet) refl;
+  holds = may before.items before.holds;
 }
+
+-- one more item of a short string
+pub short_push : (q : ℕ) (held item : List ℕ) → HoldsShort q held → is_short_item q item ≡ true → IsFull (joined (item ∷ [])) → HoldsSome q (held ++ joined (item ∷ []))
+unfolding items_push
+short_push q held item before is full = (
+  items_push (q ∷ []) _ _ q held (item ∷ []) (λ items each. list_all-push (is_short_item q) items item each is) before,
+  subst IsFull (sym (joined-append before.items (item ∷ []))) (full-append (joined before.items) (joined (item ∷ [])) full),
+)
+
+-- one more item of a long string, which is no quote
+pub prefix_push : (q : ℕ) (held item : List ℕ) → HoldsPrefix q held → is_item item ≡ true → is_bare (λ d. d == q) item ≡ false → HoldsLong q (held ++ joined (item ∷ []))
+prefix_push q held item before is other =
+    let two = (q ∷ []) ∷ (q ∷ []) ∷ [] in
+    items_push (q ∷ q ∷ q ∷ []) _ _ q held (item ∷ [])
+    (λ items holds. (list_all-push is_item items item holds.0 is, ap (has_triple q) (append_assoc items (item ∷ []) two) ∙ triple-other q items item two other holds.1 refl)) before
 
 pub quote-not-slash : (q : ℕ) → is_quote q ≡ true → is_backslash q ≡ false
 quote-not-slash q quotes = false_from_ne_true _ (λ slash. both_ways _ (slash-not-quote q slash) quotes)
@@ -100,34 +88,25 @@ pub quotes_items : (q : ℕ) → is_quote q ≡ true → list_all is_item ((q �
 quotes_items q quotes = and_from _ _ (quote_item q quotes) (and_from _ _ (quote_item q quotes) refl)
 
 -- a long string that more items and others don't close is open after the first of these
-opening_more : (q : ℕ) (held : List ℕ) (more others : List (List ℕ)) → HoldsItemsBefore (more ++ others) q held → list_all is_item more ≡ true → HoldsPrefix q (held ++ joined more)
-opening_more q held more others long each = record {
-  prefix = long.prefix;
-  items = long.items ++ more;
-  spell = ap (λ t. t ++ joined more) long.spell ∙ append_assoc long.prefix (q ∷ q ∷ q ∷ joined long.items) (joined more) ∙ ap (λ t. long.prefix ++ (q ∷ q ∷ q ∷ t)) (sym (joined-append long.items more));
-  begun = long.begun;
-  opens = long.opens;
-  each = list_all-append is_item long.items more ∙ and_from _ _ long.each each;
-  open_yet = ap (has_triple q) (append-nil (long.items ++ more)) ∙ triple-left q (long.items ++ more) others (ap (has_triple q) (append_assoc long.items more others) ∙ long.open_yet);
-}
+opening_more : (q : ℕ) (held : List ℕ) (more others : List (List ℕ)) → more ++ others ≡ (q ∷ []) ∷ (q ∷ []) ∷ [] → list_all is_item more ≡ true → HoldsLong q held → HoldsPrefix q (held ++ joined more)
+opening_more q held more others two each long =
+    items_push (q ∷ q ∷ q ∷ []) _ _ q held more
+    (λ items holds. (list_all-append is_item items more ∙ and_from _ _ holds.0 each, triple-left q (items ++ more) others (ap (has_triple q) (append_assoc items more others ∙ ap (λ l. items ++ l) two) ∙ holds.1))) long
 
 -- so it is after none, one or two quotes
 pub opening_none : (q : ℕ) (held : List ℕ) → HoldsLong q held → HoldsPrefix q held
-opening_none q held long = subst (HoldsPrefix q) (append-nil held) (opening_more q held [] ((q ∷ []) ∷ (q ∷ []) ∷ []) long refl)
+opening_none q held long = subst (HoldsPrefix q) (append-nil held) (opening_more q held [] ((q ∷ []) ∷ (q ∷ []) ∷ []) refl refl long)
 
 pub opening_one : (q : ℕ) (held : List ℕ) → HoldsLong q held → HoldsPrefix q (held ++ q ∷ [])
-opening_one q held long = opening_more q held ((q ∷ []) ∷ []) ((q ∷ []) ∷ []) long (and_from _ _ (quote_item q long.opens) refl)
+opening_one q held long = opening_more q held ((q ∷ []) ∷ []) ((q ∷ []) ∷ []) refl (and_from _ _ (quote_item q long.opens) refl) long
 
 pub opening_two : (q : ℕ) (held : List ℕ) → HoldsLong q held → HoldsPrefix q (held ++ q ∷ q ∷ [])
-opening_two q held long = opening_more q held ((q ∷ []) ∷ (q ∷ []) ∷ []) [] long (quotes_items q long.opens)
+opening_two q held long = opening_more q held ((q ∷ []) ∷ (q ∷ []) ∷ []) [] refl (quotes_items q long.opens) long
 
--- after the opening quote of a short string
-pub opened_items : (q : ℕ) (held : List ℕ) → HoldsQuotes (q ∷ []) q held → HoldsItems q held
-opened_items q held opened = record { prefix = opened.prefix; items = []; spell = opened.spell; begun = opened.begun; opens = opened.opens; each = refl }
-
--- after the three opening quotes of a long string
-pub opened_long : (q : ℕ) (held : List ℕ) → HoldsQuotes (q ∷ q ∷ q ∷ []) q held → HoldsLong q held
-opened_long q held opened = record { prefix = opened.prefix; items = []; spell = opened.spell; begun = opened.begun; opens = opened.opens; each = refl; open_yet = refl }
+-- after the opening quotes
+pub none_yet : (quotes : List ℕ) (MayHold : List (List ℕ) → Type 0) (q : ℕ) (held : List ℕ) → MayHold [] → HoldsQuotes quotes q held → HoldsItems quotes MayHold q held
+none_yet quotes MayHold q held may opened =
+    record { prefix = opened.prefix; items = []; spell = opened.spell ∙ ap (λ t. opened.prefix ++ t) (sym (append-nil quotes)); begun = opened.begun; opens = opened.opens; holds = may }
 
 pub one_more_quote : (quotes : List ℕ) (q : ℕ) (held : List ℕ) (c : ℕ) → eqb c q ≡ true → HoldsQuotes quotes q held → HoldsQuotes (quotes ++ q ∷ []) q (held ++ c ∷ [])
 one_more_quote quotes q held c same before = record {
@@ -138,7 +117,7 @@ one_more_quote quotes q held c same before = record {
 }
 
 -- the closing quote of a short string
-unfoldable pub short_string : (q : ℕ) (held : List ℕ) (c : ℕ) → eqb c q ≡ true → HoldsItems q held → IsShortString (held ++ c ∷ [])
+unfoldable pub short_string : (q : ℕ) (held : List ℕ) (c : ℕ) → eqb c q ≡ true → HoldsShort q held → IsShortString (held ++ c ∷ [])
 short_string q held c same before = record {
   prefix = before.prefix;
   quote = q;
@@ -146,7 +125,7 @@ short_string q held c same before = record {
   spell = ap (λ t. t ++ c ∷ []) before.spell ∙ append_assoc before.prefix (q ∷ joined before.items) (c ∷ []) ∙ ap (λ (d : ℕ). before.prefix ++ (q ∷ joined before.items ++ d ∷ [])) (eqb-true c q same);
   begun = before.begun;
   opens = before.opens;
-  each = before.each;
+  each = before.holds;
 }
 
 -- the last quote of a long string
@@ -158,6 +137,6 @@ long_string q before long = record {
   spell = ap (λ t. t ++ q ∷ q ∷ q ∷ []) long.spell ∙ append_assoc long.prefix (q ∷ q ∷ q ∷ joined long.items) (q ∷ q ∷ q ∷ []);
   begun = long.begun;
   opens = long.opens;
-  each = long.each;
-  first = long.open_yet;
+  each = long.holds.0;
+  first = long.holds.1;
 }

@@ -4,11 +4,7 @@ use Rattle.std.proofs.lemmas.Bool.{both_ways, cases_Bool}
 use Rattle.py_lines.specs.Character.{is_mark, is_quote}
 use Rattle.py_lines.specs.Piece.{Class, mark, string, operator, line_end, Piece, begins, is_mark_class, begins_marked, spelled}
 use Rattle.py_lines.specs.PieceGrammar.{InPlainClass, IsPrefix, MayPrecedePlain, AreReadPlain}
-use Rattle.py_lines.specs.declared.mode.Mode.{Mode}
-use Rattle.py_lines.specs.declared.mode.Mode.TheVariants as modes
-use Rattle.py_lines.specs.declared.mode.Move.{Move}
-use Rattle.py_lines.specs.declared.mode.Move.TheVariants as moves
-use Rattle.py_lines.specs.Private.Machine.{Scanned, fresh, text_start, started, moved, steps_by, move_from, steps_from, move_of, start_of, first_spelling}
+use Rattle.py_lines.specs.Private.Machine.{Mode, Move, Scanned, fresh, text_start, started, moved, steps_by, move_from, steps_from, move_of, start_of, first_spelling}
 use Rattle.py_lines.proofs.Pieces.PieceLists.{piece}
 use Rattle.py_lines.proofs.Text.CharacterTests.{prefix_word}
 use Rattle.py_lines.proofs.Machine.Starts.{start-feed, start-mark, start-operator, start-quote, start-word}
@@ -16,12 +12,12 @@ use Rattle.py_lines.proofs.Machine.PieceSteps.{pieces_at, StopsBefore, Finds, st
 use Rattle.py_lines.proofs.Machine.StringSteps.{grown-prefix, short_ends, long_ends}
 
 -- a string, from its first quote on
-found_string : (from : Scanned) (prefix : List ℕ) (q : ℕ) (text body rest : List ℕ) → text ≡ prefix ++ q ∷ body → IsPrefix prefix → is_quote q ≡ true → EndsWith string (modes.Opened q) body rest → StopsBefore from.mode (text ++ rest) → Finds from text (piece string text ∷ []) rest
-found_string from [] q text body rest is begun quotes ends stops = found_open from string text rest q body (modes.Opened q) is (start-quote q quotes) ends stops
+found_string : (from : Scanned) (prefix : List ℕ) (q : ℕ) (text body rest : List ℕ) → text ≡ prefix ++ q ∷ body → IsPrefix prefix → is_quote q ≡ true → EndsWith string (Mode.Opened q) body rest → StopsBefore from.mode (text ++ rest) → Finds from text (piece string text ∷ []) rest
+found_string from [] q text body rest is begun quotes ends stops = found_open from string text rest q body (Mode.Opened q) is (start-quote q quotes) ends stops
 found_string from (a ∷ bs) q text body rest is (inl none) quotes ends stops = absurd (cc)
 found_string from (a ∷ bs) q text body rest is (inr begun) quotes ends stops =
-    found_open from string text rest a ((bs ++ q ∷ []) ++ body) (modes.Word (first_spelling a)) (is ∙ ap (λ t. a ∷ t) (sym (append_assoc bs (q ∷ []) body))) (start-word a (prefix_word a bs begun).0)
-    (ends_after string _ (modes.Opened q) (bs ++ q ∷ []) body rest (grown-prefix a bs q begun quotes) ends) stops
+    found_open from string text rest a ((bs ++ q ∷ []) ++ body) (Mode.Word (first_spelling a)) (is ∙ ap (λ t. a ∷ t) (sym (append_assoc bs (q ∷ []) body))) (start-word a (prefix_word a bs begun).0)
+    (ends_after string _ (Mode.Opened q) (bs ++ q ∷ []) body rest (grown-prefix a bs q begun quotes) ends) stops
 
 -- one character that is a piece
 found_whole : (from : Scanned) (class : Class) (c : ℕ) (text rest : List ℕ) → text ≡ c ∷ [] → started (pieces_at from) c (start_of c) ≡ Some (fresh (pieces_at from ++ piece class (c ∷ []) ∷ [])) → StopsBefore from.mode (text ++ rest) → Finds from text (piece class text ∷ []) rest
@@ -76,7 +72,7 @@ pieces_or : Option Scanned → List Piece
 pieces_or None = []
 pieces_or (Some s) = pieces_at s
 
-start-breaks : (c : ℕ) → is_mark c ≡ false → move_of modes.Start c ≡ moves.Breaks
+start-breaks : (c : ℕ) → is_mark c ≡ false → move_of Mode.Start c ≡ Move.Breaks
 unfolding move_of
 start-breaks c h = rw h
 
@@ -108,7 +104,7 @@ reach_marked : (text : List ℕ) (ps : List Piece) (rest : List ℕ) → AreRead
 unfolding move_of
 reach_marked text ps rest fit =
     let c = fit.0.0 in
-    let move : move_of modes.Start c ≡ moves.Closes = rw fit.0.2 in
+    let move : move_of Mode.Start c ≡ Move.Closes = rw fit.0.2 in
     let P : List ℕ → Type 0 = λ t. Reaches (t ++ spelled ps) (piece mark t ∷ ps) rest in
     let found = find_all (fresh (piece mark (c ∷ []) ∷ [])) ps rest fit.3 fit.2 (stops-free _) in
     subst P (sym fit.0.1) (record {
@@ -120,7 +116,7 @@ reach_marked text ps rest fit =
 
 -- pieces that are read before the rest are found from the start
 pub reach : (pieces : List Piece) (rest : List ℕ) → AreReadPlain pieces rest → Reaches (spelled pieces) pieces rest
-reach [] rest fit = record { to = text_start; steps = refl; pieces_are = refl; stops = stops_unless modes.Start is_mark refl start-breaks rest }
+reach [] rest fit = record { to = text_start; steps = refl; pieces_are = refl; stops = stops_unless Mode.Start is_mark refl start-breaks rest }
 reach (p ∷ ps) rest fit = go p.class p.text fit
   where
     go : (class : Class) (text : List ℕ) → AreReadPlain (piece class text ∷ ps) rest → Reaches (spelled (piece class text ∷ ps)) (piece class text ∷ ps) rest

@@ -5,52 +5,45 @@ use Rattle.std.proofs.lemmas.Bool.{cond_both, and_parts, and_from, and_left, and
 use Rattle.py_lines.specs.Character.{is_mark, is_space, is_word_character, is_quote, is_line_feed, is_return, is_break, is_backslash}
 use Rattle.py_lines.specs.Piece.{Class, mark, string, operator, line_end, Piece, ends, spelled}
 use Rattle.py_lines.specs.PieceGrammar.{feed, return_feed, return, without_fields, InPlainClass, is_prefix, is_short_item, joined, MayPrecedePlain, AreReadPlain}
-use Rattle.py_lines.specs.declared.mode.Spelling.{Spelling}
-use Rattle.py_lines.specs.declared.mode.Mode.{Mode}
-use Rattle.py_lines.specs.declared.mode.Mode.TheVariants as modes
-use Rattle.py_lines.specs.declared.mode.Move.{Move}
-use Rattle.py_lines.specs.declared.mode.Move.TheVariants as moves
-use Rattle.py_lines.specs.declared.mode.Start.{Start}
-use Rattle.py_lines.specs.declared.mode.Start.TheVariants as starts
-use Rattle.py_lines.specs.Private.Machine.{IsSound, Holds, HoldsItems, HoldsSome, HoldsQuotes, HoldsPrefix, HoldsLong, Scanned, fresh, class_of, closed, started, moved, step, move_of, short_move, long_move, start_of, first_spelling, spelling_with, is_prefix_spelling, is_final}
+use Rattle.py_lines.specs.Private.Machine.{Spelling, Mode, Move, Start, IsSound, Holds, HoldsShort, HoldsSome, HoldsQuotes, HoldsPrefix, HoldsLong, Scanned, fresh, class_of, closed, started, moved, step, move_of, short_move, long_move, start_of, first_spelling, spelling_with, is_prefix_spelling, is_final}
 use Rattle.py_lines.proofs.Pieces.PieceLists.{piece, spelled-push, AreReadIn-push, MayFollow, follows_any}
 use Rattle.py_lines.proofs.Machine.Starts.{StartsSo, starts_so}
 use Rattle.py_lines.proofs.Machine.Spellings.{spelling_on-push, prefix_spelling}
 use Rattle.py_lines.proofs.Text.CharacterTests.{feed_is, return_is, barred, feed-not-return}
 use Rattle.py_lines.proofs.Fields.Parts.{not_nothing}
 use Rattle.py_lines.proofs.Machine.PieceSteps.{scanned}
-use Rattle.py_lines.proofs.Machine.OpenPieces.{list_all-push, list_any-push, push, same_quotes, something, long_something, items_push, prefix_push, opening_none, opening_one, opening_two, opened_items, opened_long, one_more_quote, short_string, long_string}
+use Rattle.py_lines.proofs.Machine.OpenPieces.{list_all-push, list_any-push, push, same_quotes, something, long_something, short_push, prefix_push, opening_none, opening_one, opening_two, none_yet, one_more_quote, short_string, long_string}
 
 -- what a character begins
 abbrev pub StartHolds : ℕ → Start → Type 0
-StartHolds c (starts.Open m) = Holds m [] (c ∷ [])
-StartHolds c starts.Operator = InPlainClass operator (c ∷ [])
-StartHolds c starts.LineEnd = InPlainClass line_end (c ∷ []) × ((more : List ℕ) → MayPrecedePlain line_end (c ∷ []) more)
-StartHolds c starts.Nothing = Unit {0}
+StartHolds c (Start.Open m) = Holds m [] (c ∷ [])
+StartHolds c Start.Operator = InPlainClass operator (c ∷ [])
+StartHolds c Start.LineEnd = InPlainClass line_end (c ∷ []) × ((more : List ℕ) → MayPrecedePlain line_end (c ∷ []) more)
+StartHolds c Start.Nothing = Unit {0}
 
 starts_hold : (c : ℕ) (s : Start) → StartsSo c s → StartHolds c s
-starts_hold c (starts.Open modes.Space) so = (c, [], refl, and_from _ _ so refl)
-starts_hold c (starts.Open (modes.Word s)) so = (c, [], refl, so.0, refl, so.1)
-starts_hold c (starts.Open modes.Comment) so = (c, [], refl, so, refl)
-starts_hold c (starts.Open (modes.Opened q)) so = record { prefix = []; spell = ap (λ d. d ∷ []) (sym so.1); begun = inl refl; opens = ap is_quote so.1 ∙ so.0 }
-starts_hold c (starts.Open modes.Return) so = (c, refl, so)
-starts_hold c (starts.Open modes.Backslash) so = (c, refl, so)
-starts_hold c (starts.Open m) so = absurd so
-starts_hold c starts.Operator so = (c, refl, so)
-starts_hold c starts.LineEnd so = (feed (ap (λ d. d ∷ []) (feed_is c so)), λ more. and_left _ _ (feed-not-return c so))
-starts_hold c starts.Nothing so = tt
+starts_hold c (Start.Open Mode.Space) so = (c, [], refl, and_from _ _ so refl)
+starts_hold c (Start.Open (Mode.Word s)) so = (c, [], refl, so.0, refl, so.1)
+starts_hold c (Start.Open Mode.Comment) so = (c, [], refl, so, refl)
+starts_hold c (Start.Open (Mode.Opened q)) so = record { prefix = []; spell = ap (λ d. d ∷ []) (sym so.1); begun = inl refl; opens = ap is_quote so.1 ∙ so.0 }
+starts_hold c (Start.Open Mode.Return) so = (c, refl, so)
+starts_hold c (Start.Open Mode.Backslash) so = (c, refl, so)
+starts_hold c (Start.Open m) so = absurd so
+starts_hold c Start.Operator so = (c, refl, so)
+starts_hold c Start.LineEnd so = (feed (ap (λ d. d ∷ []) (feed_is c so)), λ more. and_left _ _ (feed-not-return c so))
+starts_hold c Start.Nothing so = tt
 
 pub start_holds : (c : ℕ) → StartHolds c (start_of c)
 start_holds c = starts_hold c (start_of c) (starts_so c)
 
 -- what a character does to the open piece
 abbrev pub MoveHolds : Mode → List ℕ → ℕ → Move → Type 0
-MoveHolds m held c (moves.Grows n) = Holds n [] (held ++ c ∷ [])
-MoveHolds m held c moves.Closes = InPlainClass (class_of m) (held ++ c ∷ []) × ((more : List ℕ) → MayPrecedePlain (class_of m) (held ++ c ∷ []) more)
-MoveHolds m held c moves.Breaks = (more : List ℕ) → AreReadPlain (closed m [] held) (c ∷ more)
-MoveHolds m held c moves.Refused = Unit {0}
+MoveHolds m held c (Move.Grows n) = Holds n [] (held ++ c ∷ [])
+MoveHolds m held c Move.Closes = InPlainClass (class_of m) (held ++ c ∷ []) × ((more : List ℕ) → MayPrecedePlain (class_of m) (held ++ c ∷ []) more)
+MoveHolds m held c Move.Breaks = (more : List ℕ) → AreReadPlain (closed m [] held) (c ∷ more)
+MoveHolds m held c Move.Refused = Unit {0}
 
-prefix_held : (s : Spelling) (held : List ℕ) → Holds (modes.Word s) [] held → is_prefix held ≡ is_prefix_spelling s
+prefix_held : (s : Spelling) (held : List ℕ) → Holds (Mode.Word s) [] held → is_prefix held ≡ is_prefix_spelling s
 prefix_held s held (first, others, is, opens, run, so) = ap is_prefix is ∙ prefix_spelling first others ∙ ap is_prefix_spelling (sym so)
 
 -- one item of one character
@@ -58,18 +51,18 @@ bare_item : (q c : ℕ) → eqb c q ≡ false → is_backslash c ≡ false → i
 bare_item q c other no_slash no_break = and_from _ _ (not_from_false _ no_slash) (not_from_false _ (barred q c other no_break))
 
 -- a character in a short string, between two items
-short_holds : (m : Mode) (held : List ℕ) (q c : ℕ) → HoldsItems q held → eqb c q ≡ false → MoveHolds m held c (short_move q c)
+short_holds : (m : Mode) (held : List ℕ) (q c : ℕ) → HoldsShort q held → eqb c q ≡ false → MoveHolds m held c (short_move q c)
 unfolding short_move
 short_holds m held q c items other =
     cond_both (is_backslash c) _ _ (MoveHolds m held c) (λ slash. (held, c, refl, items, slash))
-    (λ no_slash. cond_both (is_break c) _ _ (MoveHolds m held c) (λ break. tt) (λ no_break. items_push q held (c ∷ []) items (bare_item q c other no_slash no_break) tt))
+    (λ no_slash. cond_both (is_break c) _ _ (MoveHolds m held c) (λ break. tt) (λ no_break. short_push q held (c ∷ []) items (bare_item q c other no_slash no_break) tt))
 
 -- the closing quote of a short string that holds something
 close_holds : (held : List ℕ) (q c : ℕ) → HoldsSome q held → eqb c q ≡ true → InPlainClass string (held ++ c ∷ []) × ((more : List ℕ) → MayPrecedePlain string (held ++ c ∷ []) more)
 unfolding short_string
 close_holds held q c holds same =
-    let short = short_string q held c same holds.all in
-    (inl short, λ more. something holds.all.prefix (joined holds.all.items) q (held ++ c ∷ []) more short.spell holds.all.begun holds.all.opens holds.full)
+    let short = short_string q held c same holds.0 in
+    (inl short, λ more. something holds.0.prefix (joined holds.0.items) q (held ++ c ∷ []) more short.spell holds.0.begun holds.0.opens holds.1)
 
 -- a character in a long string, which isn't its quote
 long_holds : (m : Mode) (held : List ℕ) (q c : ℕ) → HoldsPrefix q held → eqb c q ≡ false → MoveHolds m held c (long_move q c)
@@ -85,9 +78,9 @@ escaped_end : (q slash r c : ℕ) → is_backslash slash ≡ true → is_return 
 escaped_end q slash r c h k l = and_from _ _ (and_from _ _ (and_from _ _ h k) l) refl
 
 -- the items of a short string after an escaped CR
-pub returned_items : (q : ℕ) (done : List Piece) (held : List ℕ) → Holds (modes.EscapeReturn q) done held → HoldsSome q held
+pub returned_items : (q : ℕ) (done : List Piece) (held : List ℕ) → Holds (Mode.EscapeReturn q) done held → HoldsSome q held
 returned_items q done held (before, slash, r, is, items, slashes, returns) =
-    subst (HoldsSome q) (sym is) (items_push q before (slash ∷ r ∷ []) items (escaped_item q slash r slashes) tt)
+    subst (HoldsSome q) (sym is) (short_push q before (slash ∷ r ∷ []) items (escaped_item q slash r slashes) tt)
 
 -- an empty string is before no quote of its kind
 empty_before : (q : ℕ) (held : List ℕ) (c : ℕ) (more : List ℕ) → HoldsQuotes (q ∷ q ∷ []) q held → eqb c q ≡ false → MayPrecedePlain string held (c ∷ more)
@@ -112,104 +105,104 @@ feed_after r c h k =
 -- so in each mode
 pub move_holds : (m : Mode) (held : List ℕ) (c : ℕ) → Holds m [] held → MoveHolds m held c (move_of m c)
 unfolding move_of long_string
-move_holds modes.Start held c holds = cond_both (is_mark c) _ _ (MoveHolds modes.Start held c) (λ h. ((c, ap (λ t. t ++ c ∷ []) holds.1, h), λ more. tt)) (λ h more. tt)
-move_holds modes.Free held c holds = λ more. tt
-move_holds modes.Space held c holds =
-    cond_both (is_space c) _ _ (MoveHolds modes.Space held c)
+move_holds Mode.Start held c holds = cond_both (is_mark c) _ _ (MoveHolds Mode.Start held c) (λ h. ((c, ap (λ t. t ++ c ∷ []) holds.1, h), λ more. tt)) (λ h more. tt)
+move_holds Mode.Free held c holds = λ more. tt
+move_holds Mode.Space held c holds =
+    cond_both (is_space c) _ _ (MoveHolds Mode.Space held c)
     (λ h. (holds.0, holds.1 ++ c ∷ [], push held c holds.2, list_all-push is_space held c holds.3 h))
     (λ h more. (holds, h, refl, tt))
-move_holds (modes.Word s) held c (first, others, is, opens, run, so) =
+move_holds (Mode.Word s) held c (first, others, is, opens, run, so) =
     let prefixed = prefix_held s held (first, others, is, opens, run, so) in
-    cond_both (is_word_character c) _ _ (MoveHolds (modes.Word s) held c)
+    cond_both (is_word_character c) _ _ (MoveHolds (Mode.Word s) held c)
     (λ h. (first, others ++ c ∷ [], push held c is, opens, list_all-push is_word_character others c run h, ap (λ t. spelling_with t c) so ∙ sym (spelling_on-push (first_spelling first) others c)))
-    (λ h. cond_both (is_prefix_spelling s && is_quote c) _ _ (MoveHolds (modes.Word s) held c)
+    (λ h. cond_both (is_prefix_spelling s && is_quote c) _ _ (MoveHolds (Mode.Word s) held c)
     (λ k.
     let parts = and_parts (is_prefix_spelling s) (is_quote c) k in
     record { prefix = held; spell = refl; begun = inr (prefixed ∙ parts.0); opens = parts.1 })
     (λ k more. ((first, others, is, opens, run), (h, ap (λ (b : Bool). b && is_quote c) prefixed ∙ k), refl, tt)))
-move_holds modes.Comment held c holds =
-    cond_both (is_break c) _ _ (MoveHolds modes.Comment held c)
+move_holds Mode.Comment held c holds =
+    cond_both (is_break c) _ _ (MoveHolds Mode.Comment held c)
     (λ h more. (holds, inr h, refl, tt))
     (λ h. (holds.0, holds.1 ++ c ∷ [], push held c holds.2, holds.3, list_any-push is_break holds.1 c holds.4 h))
-move_holds (modes.Opened q) held c holds =
-    cond_both (eqb c q) _ _ (MoveHolds (modes.Opened q) held c) (λ h. one_more_quote (q ∷ []) q held c h holds) (λ h. short_holds (modes.Opened q) held q c (opened_items q held holds) h)
-move_holds (modes.Inside q) held c holds =
-    cond_both (eqb c q) _ _ (MoveHolds (modes.Inside q) held c) (λ h. close_holds held q c holds h) (λ h. short_holds (modes.Inside q) held q c holds.all h)
-move_holds (modes.Escape q) held c (before, slash, is, items, slashes) =
+move_holds (Mode.Opened q) held c holds =
+    cond_both (eqb c q) _ _ (MoveHolds (Mode.Opened q) held c) (λ h. one_more_quote (q ∷ []) q held c h holds) (λ h. short_holds (Mode.Opened q) held q c (none_yet (q ∷ []) _ q held refl holds) h)
+move_holds (Mode.Inside q) held c holds =
+    cond_both (eqb c q) _ _ (MoveHolds (Mode.Inside q) held c) (λ h. close_holds held q c holds h) (λ h. short_holds (Mode.Inside q) held q c holds.0 h)
+move_holds (Mode.Escape q) held c (before, slash, is, items, slashes) =
     let spell = one_after before held slash c is in
-    cond_both (is_return c) _ _ (MoveHolds (modes.Escape q) held c)
+    cond_both (is_return c) _ _ (MoveHolds (Mode.Escape q) held c)
     (λ h. (before, slash, c, spell, items, slashes, h))
-    (λ h. subst (HoldsSome q) (sym spell) (items_push q before (slash ∷ c ∷ []) items (escaped_item q slash c slashes) tt))
-move_holds (modes.EscapeReturn q) held c (before, slash, r, is, items, slashes, returns) =
+    (λ h. subst (HoldsSome q) (sym spell) (short_push q before (slash ∷ c ∷ []) items (escaped_item q slash c slashes) tt))
+move_holds (Mode.EscapeReturn q) held c (before, slash, r, is, items, slashes, returns) =
     let spell : held ++ c ∷ [] ≡ before ++ slash ∷ r ∷ c ∷ [] = ap (λ t. t ++ c ∷ []) is ∙ append_assoc before (slash ∷ r ∷ []) (c ∷ []) in
     let whole = returned_items q [] held (before, slash, r, is, items, slashes, returns) in
-    cond_both (is_line_feed c) _ _ (MoveHolds (modes.EscapeReturn q) held c)
-    (λ h. subst (HoldsSome q) (sym spell) (items_push q before (slash ∷ r ∷ c ∷ []) items (escaped_end q slash r c slashes returns h) tt))
-    (λ h. cond_both (eqb c q) _ _ (MoveHolds (modes.EscapeReturn q) held c) (λ k. close_holds held q c whole k) (λ k. short_holds (modes.EscapeReturn q) held q c whole.all k))
-move_holds (modes.Empty q) held c holds =
-    cond_both (eqb c q) _ _ (MoveHolds (modes.Empty q) held c)
-    (λ h. opened_long q (held ++ c ∷ []) (one_more_quote (q ∷ q ∷ []) q held c h holds))
+    cond_both (is_line_feed c) _ _ (MoveHolds (Mode.EscapeReturn q) held c)
+    (λ h. subst (HoldsSome q) (sym spell) (short_push q before (slash ∷ r ∷ c ∷ []) items (escaped_end q slash r c slashes returns h) tt))
+    (λ h. cond_both (eqb c q) _ _ (MoveHolds (Mode.EscapeReturn q) held c) (λ k. close_holds held q c whole k) (λ k. short_holds (Mode.EscapeReturn q) held q c whole.0 k))
+move_holds (Mode.Empty q) held c holds =
+    cond_both (eqb c q) _ _ (MoveHolds (Mode.Empty q) held c)
+    (λ h. none_yet (q ∷ q ∷ q ∷ []) _ q (held ++ c ∷ []) (refl, refl) (one_more_quote (q ∷ q ∷ []) q held c h holds))
     (λ h more. (empty_string q held holds, empty_before q held c more holds h, refl, tt))
-move_holds (modes.Long q) held c holds =
-    cond_both (eqb c q) _ _ (MoveHolds (modes.Long q) held c)
+move_holds (Mode.Long q) held c holds =
+    cond_both (eqb c q) _ _ (MoveHolds (Mode.Long q) held c)
     (λ h. (held, ap (λ (d : ℕ). held ++ d ∷ []) (eqb-true c q h), holds))
-    (λ h. long_holds (modes.Long q) held q c (opening_none q held holds) h)
-move_holds (modes.LongOne q) held c (before, is, long) =
-    cond_both (eqb c q) _ _ (MoveHolds (modes.LongOne q) held c)
+    (λ h. long_holds (Mode.Long q) held q c (opening_none q held holds) h)
+move_holds (Mode.LongOne q) held c (before, is, long) =
+    cond_both (eqb c q) _ _ (MoveHolds (Mode.LongOne q) held c)
     (λ h. (before, one_after before held q c is ∙ ap (λ (d : ℕ). before ++ q ∷ d ∷ []) (eqb-true c q h), long))
-    (λ h. long_holds (modes.LongOne q) held q c (subst (HoldsPrefix q) (sym is) (opening_one q before long)) h)
-move_holds (modes.LongTwo q) held c (before, is, long) =
-    cond_both (eqb c q) _ _ (MoveHolds (modes.LongTwo q) held c)
+    (λ h. long_holds (Mode.LongOne q) held q c (subst (HoldsPrefix q) (sym is) (opening_one q before long)) h)
+move_holds (Mode.LongTwo q) held c (before, is, long) =
+    cond_both (eqb c q) _ _ (MoveHolds (Mode.LongTwo q) held c)
     (λ h.
     let spell : held ++ c ∷ [] ≡ before ++ q ∷ q ∷ q ∷ [] = ap (λ t. t ++ c ∷ []) is ∙ append_assoc before (q ∷ q ∷ []) (c ∷ []) ∙ ap (λ (d : ℕ). before ++ q ∷ q ∷ d ∷ []) (eqb-true c q h) in
     let whole = long_string q before long in (
       subst (InPlainClass string) (sym spell) (inr whole),
       λ more. long_something long.prefix (joined long.items ++ q ∷ q ∷ q ∷ []) q (held ++ c ∷ []) more (spell ∙ whole.spell) long.begun long.opens,
     ))
-    (λ h. long_holds (modes.LongTwo q) held q c (subst (HoldsPrefix q) (sym is) (opening_two q before long)) h)
-move_holds (modes.LongEscape q) held c (before, slash, is, items, slashes) =
+    (λ h. long_holds (Mode.LongTwo q) held q c (subst (HoldsPrefix q) (sym is) (opening_two q before long)) h)
+move_holds (Mode.LongEscape q) held c (before, slash, is, items, slashes) =
     subst (HoldsLong q) (sym (one_after before held slash c is)) (prefix_push q before (slash ∷ c ∷ []) items slashes refl)
-move_holds modes.Backslash held c (slash, is, slashes) =
+move_holds Mode.Backslash held c (slash, is, slashes) =
     let spell : held ++ c ∷ [] ≡ slash ∷ c ∷ [] = push held c is in
-    cond_both (is_line_feed c) _ _ (MoveHolds modes.Backslash held c)
+    cond_both (is_line_feed c) _ _ (MoveHolds Mode.Backslash held c)
     (λ h. ((slash, c ∷ [], spell, slashes, feed (ap (λ d. d ∷ []) (feed_is c h))), λ more. and_left _ _ (ap (ends is_return) spell ∙ feed-not-return c h)))
-    (λ h. cond_both (is_return c) _ _ (MoveHolds modes.Backslash held c) (λ k. (slash, c, spell, slashes, k)) (λ k. tt))
-move_holds modes.JoinReturn held c (slash, r, is, slashes, returns) =
+    (λ h. cond_both (is_return c) _ _ (MoveHolds Mode.Backslash held c) (λ k. (slash, c, spell, slashes, k)) (λ k. tt))
+move_holds Mode.JoinReturn held c (slash, r, is, slashes, returns) =
     let spell : held ++ c ∷ [] ≡ slash ∷ r ∷ c ∷ [] = push held c is in
-    cond_both (is_line_feed c) _ _ (MoveHolds modes.JoinReturn held c)
+    cond_both (is_line_feed c) _ _ (MoveHolds Mode.JoinReturn held c)
     (λ h. ((slash, r ∷ c ∷ [], spell, slashes, return_feed (feed_after r c returns h)), λ more. and_left _ _ (ap (ends is_return) spell ∙ feed-not-return c h)))
     (λ h more. ((slash, r ∷ [], is, slashes, return (ap (λ d. d ∷ []) (return_is r returns))), and_right _ _ h, refl, tt))
-move_holds modes.Return held c (r, is, returns) =
+move_holds Mode.Return held c (r, is, returns) =
     let spell : held ++ c ∷ [] ≡ r ∷ c ∷ [] = push held c is in
-    cond_both (is_line_feed c) _ _ (MoveHolds modes.Return held c)
+    cond_both (is_line_feed c) _ _ (MoveHolds Mode.Return held c)
     (λ h. (return_feed (spell ∙ feed_after r c returns h), λ more. and_left _ _ (ap (ends is_return) spell ∙ feed-not-return c h)))
     (λ h more. (return (is ∙ ap (λ d. d ∷ []) (return_is r returns)), and_right _ _ h, refl, tt))
 move_holds m held c holds = absurd holds
 
 -- and at the text's end
 pub end_holds : (m : Mode) (held : List ℕ) → Holds m [] held → is_final m ≡ true → AreReadPlain (closed m [] held) []
-end_holds modes.Start held holds may = tt
-end_holds modes.Free held holds may = tt
-end_holds modes.Space held holds may = (holds, refl, refl, tt)
-end_holds (modes.Word s) held (first, others, is, opens, run, so) may = ((first, others, is, opens, run), (refl, and_right _ _ refl), refl, tt)
-end_holds modes.Comment held holds may = (holds, inl refl, refl, tt)
-end_holds (modes.Empty q) held holds may = (empty_string q held holds, λ prefix r spell begun quotes. refl, refl, tt)
-end_holds (modes.FieldEmpty h) held holds may = absurd holds
-end_holds modes.JoinReturn held (slash, r, is, slashes, returns) may = ((slash, r ∷ [], is, slashes, return (ap (λ d. d ∷ []) (return_is r returns))), and_right _ _ refl, refl, tt)
-end_holds modes.Return held (r, is, returns) may = (return (is ∙ ap (λ d. d ∷ []) (return_is r returns)), and_right _ _ refl, refl, tt)
+end_holds Mode.Start held holds may = tt
+end_holds Mode.Free held holds may = tt
+end_holds Mode.Space held holds may = (holds, refl, refl, tt)
+end_holds (Mode.Word s) held (first, others, is, opens, run, so) may = ((first, others, is, opens, run), (refl, and_right _ _ refl), refl, tt)
+end_holds Mode.Comment held holds may = (holds, inl refl, refl, tt)
+end_holds (Mode.Empty q) held holds may = (empty_string q held holds, λ prefix r spell begun quotes. refl, refl, tt)
+end_holds (Mode.FieldEmpty h) held holds may = absurd holds
+end_holds Mode.JoinReturn held (slash, r, is, slashes, returns) may = ((slash, r ∷ [], is, slashes, return (ap (λ d. d ∷ []) (return_is r returns))), and_right _ _ refl, refl, tt)
+end_holds Mode.Return held (r, is, returns) may = (return (is ∙ ap (λ d. d ∷ []) (return_is r returns)), and_right _ _ refl, refl, tt)
 end_holds m held holds may = absurd (both_ways _ refl may)
 
 -- what the open piece holds alone it holds after finished pieces, but at the text's start
 holds_alone : (m : Mode) (done : List Piece) (held : List ℕ) → Holds m done held → Holds m [] held
-holds_alone modes.Start done held holds = (refl, holds.1)
+holds_alone Mode.Start done held holds = (refl, holds.1)
 holds_alone m done held holds = holds
 
 holds_after : (m : Mode) (done : List Piece) (held : List ℕ) (c : ℕ) → Holds m [] (held ++ c ∷ []) → Holds m done (held ++ c ∷ [])
-holds_after modes.Start done held c holds = absurd (not_nothing held c [] holds.1)
+holds_after Mode.Start done held c holds = absurd (not_nothing held c [] holds.1)
 holds_after m done held c holds = holds
 
 may_follow : (m : Mode) (done : List Piece) (held text : List ℕ) → Holds m done held → MayFollow done (piece (class_of m) text ∷ [])
-may_follow modes.Start done held text holds = subst (λ l. MayFollow l (piece mark text ∷ [])) (sym holds.0) tt
+may_follow Mode.Start done held text holds = subst (λ l. MayFollow l (piece mark text ∷ [])) (sym holds.0) tt
 may_follow m done held text holds = follows_any done (class_of m) text refl
 
 -- the pieces, the open one with them
@@ -217,8 +210,8 @@ nothing_open : (done : List Piece) (held rest : List ℕ) → held ≡ [] → Ar
 nothing_open done held rest none fit = (sym (append-nil (spelled done)) ∙ ap (λ t. spelled done ++ t) (sym none), subst (λ t. AreReadPlain done (t ++ rest)) none fit)
 
 closed_sound : (m : Mode) (done : List Piece) (held rest : List ℕ) → Holds m done held → AreReadPlain done (held ++ rest) → AreReadPlain (closed m [] held) rest → (spelled (closed m done held) ≡ spelled done ++ held) × AreReadPlain (closed m done held) rest
-closed_sound modes.Start done held rest holds fit own = nothing_open done held rest holds.1 fit
-closed_sound modes.Free done held rest holds fit own = nothing_open done held rest holds fit
+closed_sound Mode.Start done held rest holds fit own = nothing_open done held rest holds.1 fit
+closed_sound Mode.Free done held rest holds fit own = nothing_open done held rest holds fit
 closed_sound m done held rest holds fit own = (spelled-push done (class_of m) held, AreReadIn-push without_fields done (class_of m) held rest fit own.0 own.1 (follows_any done (class_of m) held refl))
 
 abbrev pub SoundIf : Option Scanned → List ℕ → Type 0
@@ -235,10 +228,10 @@ finished done class text read spell fit is before follows = record {
 
 -- a character begins a piece after finished ones
 start_sound : (done : List Piece) (read : List ℕ) (c : ℕ) (s : Start) → StartHolds c s → spelled done ≡ read → ((more : List ℕ) → AreReadPlain done (c ∷ more)) → SoundIf (started done c s) (read ++ c ∷ [])
-start_sound done read c (starts.Open m) own spell fit = record { spell = ap (λ t. t ++ c ∷ []) spell; holds = holds_after m done [] c own; fit = fit }
-start_sound done read c starts.Operator own spell fit = finished done operator (c ∷ []) (read ++ c ∷ []) (ap (λ t. t ++ c ∷ []) spell) fit own (λ more. tt) (follows_any done operator (c ∷ []) refl)
-start_sound done read c starts.LineEnd own spell fit = finished done line_end (c ∷ []) (read ++ c ∷ []) (ap (λ t. t ++ c ∷ []) spell) fit own.0 own.1 (follows_any done line_end (c ∷ []) refl)
-start_sound done read c starts.Nothing own spell fit = tt
+start_sound done read c (Start.Open m) own spell fit = record { spell = ap (λ t. t ++ c ∷ []) spell; holds = holds_after m done [] c own; fit = fit }
+start_sound done read c Start.Operator own spell fit = finished done operator (c ∷ []) (read ++ c ∷ []) (ap (λ t. t ++ c ∷ []) spell) fit own (λ more. tt) (follows_any done operator (c ∷ []) refl)
+start_sound done read c Start.LineEnd own spell fit = finished done line_end (c ∷ []) (read ++ c ∷ []) (ap (λ t. t ++ c ∷ []) spell) fit own.0 own.1 (follows_any done line_end (c ∷ []) refl)
+start_sound done read c Start.Nothing own spell fit = tt
 
 -- what the machine reads keeps it sound
 pub step_sound : (done : List Piece) (m : Mode) (held read : List ℕ) (c : ℕ) → IsSound (scanned done m held) read → SoundIf (step (scanned done m held) c) (read ++ c ∷ [])
@@ -251,12 +244,12 @@ step_sound done m held read c sound = go (move_of m c) (move_holds m held c (hol
     fit more = subst (AreReadPlain done) (sym (append_assoc held (c ∷ []) more)) (sound.fit (c ∷ more))
 
     go : (v : Move) → MoveHolds m held c v → SoundIf (moved (scanned done m held) c v) (read ++ c ∷ [])
-    go (moves.Grows n) own = record { spell = spell; holds = holds_after n done held c own; fit = fit }
-    go moves.Closes own = finished done (class_of m) (held ++ c ∷ []) (read ++ c ∷ []) spell fit own.0 own.1 (may_follow m done held (held ++ c ∷ []) sound.holds)
-    go moves.Breaks own =
+    go (Move.Grows n) own = record { spell = spell; holds = holds_after n done held c own; fit = fit }
+    go Move.Closes own = finished done (class_of m) (held ++ c ∷ []) (read ++ c ∷ []) spell fit own.0 own.1 (may_follow m done held (held ++ c ∷ []) sound.holds)
+    go Move.Breaks own =
         let pieces = λ (more : List ℕ). closed_sound m done held (c ∷ more) sound.holds (sound.fit (c ∷ more)) (own more) in
         start_sound (closed m done held) read c (start_of c) (start_holds c) ((pieces []).0 ∙ sound.spell) (λ more. (pieces more).1)
-    go moves.Refused own = tt
+    go Move.Refused own = tt
 
 -- and where the text may end, the pieces are read to its end
 pub end_sound : (done : List Piece) (m : Mode) (held read : List ℕ) → IsSound (scanned done m held) read → is_final m ≡ true → (spelled (closed m done held) ≡ read) × AreReadPlain (closed m done held) []

@@ -1,16 +1,12 @@
 -- The machine goes through the text of a string, item by item: the open piece grows by each, and ends with the last quote.
-use Rattle.std.proofs.Common.{◌≡◌, ℕ, Bool, true, false, not, cond, ◌&&◌, ◌==◌, eqb, List, [], ◌∷◌, ◌++◌, refl, sym, ap, ◌∙◌, subst, inl, inr, append_assoc, ◌⊎◌}
+use Rattle.std.proofs.Common.{◌≡◌, ℕ, Bool, true, false, not, cond, ◌&&◌, ◌==◌, eqb, List, [], ◌∷◌, ◌++◌, refl, sym, ap, ◌∙◌, subst, inl, inr, append_assoc, ◌⊎◌, arith}
 use Rattle.std.specs.List.{list_all}
 use Rattle.std.proofs.lemmas.List.Folds.{list_all-append}
 use Rattle.std.proofs.lemmas.Bool.{and_parts, and_from, or_parts, eq-eqb, eqb-true, both_ways, not-true}
 use Rattle.py_lines.specs.Character.{is_quote, is_line_feed, is_return, is_backslash, is_barred}
 use Rattle.py_lines.specs.Piece.{string}
 use Rattle.py_lines.specs.PieceGrammar.{is_prefix, IsPrefix, is_item, is_bare, is_short_item, joined, begins_triple, has_triple, MayPrecedePlain}
-use Rattle.py_lines.specs.declared.mode.Spelling.{Spelling}
-use Rattle.py_lines.specs.declared.mode.Mode.{Mode}
-use Rattle.py_lines.specs.declared.mode.Mode.TheVariants as modes
-use Rattle.py_lines.specs.declared.mode.Move.TheVariants as moves
-use Rattle.py_lines.specs.Private.Machine.{class_of, move_of, short_move, long_move, first_spelling, spelling_on, is_prefix_spelling}
+use Rattle.py_lines.specs.Private.Machine.{Spelling, Mode, Move, class_of, move_of, short_move, long_move, first_spelling, spelling_on, is_prefix_spelling}
 use Rattle.py_lines.proofs.Pieces.PieceLists.{joined-append}
 use Rattle.py_lines.proofs.Text.CharacterTests.{prefix_word, quote-not-word, quote-not-feed, not_quote, slash-not-quote, slash-not-feed, feed-not-quote, feed-not-slash, unbarred}
 use Rattle.py_lines.proofs.Machine.Spellings.{prefix_spelling}
@@ -18,31 +14,29 @@ use Rattle.py_lines.proofs.Machine.PieceSteps.{stops_unless, Grown, grown-append
 use Rattle.py_lines.proofs.Machine.OpenPieces.{quotes_items}
 
 -- a prefix, and the quote after it
-pub opens_at : (s : Spelling) (q : ℕ) → is_prefix_spelling s ≡ true → is_quote q ≡ true → move_of (modes.Word s) q ≡ moves.Grows (modes.Opened q)
+pub opens_at : (s : Spelling) (q : ℕ) → is_prefix_spelling s ≡ true → is_quote q ≡ true → move_of (Mode.Word s) q ≡ Move.Grows (Mode.Opened q)
 unfolding move_of
 opens_at s q prefix quotes = rw (quote-not-word q quotes, prefix, quotes)
 
-pub grown-prefix : (a : ℕ) (bs : List ℕ) (q : ℕ) → is_prefix (a ∷ bs) ≡ true → is_quote q ≡ true → Grown (modes.Word (first_spelling a)) (bs ++ q ∷ []) (modes.Opened q)
+pub grown-prefix : (a : ℕ) (bs : List ℕ) (q : ℕ) → is_prefix (a ∷ bs) ≡ true → is_quote q ≡ true → Grown (Mode.Word (first_spelling a)) (bs ++ q ∷ []) (Mode.Opened q)
 grown-prefix a bs q is quotes =
-    grown-append _ (modes.Word (spelling_on (first_spelling a) bs)) _ bs (q ∷ []) (grown-word (first_spelling a) bs (prefix_word a bs is).1)
-    (modes.Opened q, opens_at _ q (sym (prefix_spelling a bs) ∙ is) quotes, refl)
+    grown-append _ (Mode.Word (spelling_on (first_spelling a) bs)) _ bs (q ∷ []) (grown-word (first_spelling a) bs (prefix_word a bs is).1)
+    (Mode.Opened q, opens_at _ q (sym (prefix_spelling a bs) ∙ is) quotes, refl)
 
 -- in a short string that holds something
 abbrev HoldsShort : ℕ → Mode → Type 0
-HoldsShort q m = (m ≡ modes.Inside q) ⊎ (m ≡ modes.EscapeReturn q)
+HoldsShort q m = (m ≡ Mode.Inside q) ⊎ (m ≡ Mode.EscapeReturn q)
 
 -- in a short string, between two items
 abbrev pub IsShortMode : ℕ → Mode → Type 0
-IsShortMode q m = (m ≡ modes.Opened q) ⊎ HoldsShort q m
+IsShortMode q m = (m ≡ Mode.Opened q) ⊎ HoldsShort q m
 
 short_moves : (q c : ℕ) (m : Mode) → IsShortMode q m → eqb c q ≡ false → is_line_feed c ≡ false → move_of m c ≡ short_move q c
 unfolding move_of
-short_moves q c m (inl is) other no_feed = ap (λ (n : Mode). move_of n c) is ∙ rw other
-short_moves q c m (inr (inl is)) other no_feed = ap (λ (n : Mode). move_of n c) is ∙ rw other
-short_moves q c m (inr (inr is)) other no_feed = ap (λ (n : Mode). move_of n c) is ∙ rw (no_feed, other)
+short_moves q c m short other no_feed = grind arith
 
 -- a backslash in a short string
-pub short_escapes : (q c : ℕ) (m : Mode) → IsShortMode q m → is_quote q ≡ true → is_backslash c ≡ true → move_of m c ≡ moves.Grows (modes.Escape q)
+pub short_escapes : (q c : ℕ) (m : Mode) → IsShortMode q m → is_quote q ≡ true → is_backslash c ≡ true → move_of m c ≡ Move.Grows (Mode.Escape q)
 unfolding short_move
 short_escapes q c m short quotes slash = short_moves q c m short (not_quote c q quotes (slash-not-quote c slash)) (slash-not-feed c slash) ∙ rw slash
 
@@ -56,19 +50,19 @@ grown-item q m [] short quotes is = absurd (both_ways _ refl is)
 grown-item q m (c ∷ []) short quotes is =
     let parts = and_parts (not (is_backslash c)) (not (is_barred q c)) is in
     let bare = unbarred q c (not-true _ parts.1) in
-    (modes.Inside q, inl refl, (modes.Inside q, short_moves q c m short bare.0 bare.1 ∙ rw (not-true _ parts.0, bare.2), refl))
+    (Mode.Inside q, inl refl, (Mode.Inside q, short_moves q c m short bare.0 bare.1 ∙ rw (not-true _ parts.0, bare.2), refl))
 grown-item q m (c ∷ d ∷ []) short quotes is = go (is_return d) refl
   where
-    escapes : move_of m c ≡ moves.Grows (modes.Escape q)
+    escapes : move_of m c ≡ Move.Grows (Mode.Escape q)
     escapes = short_escapes q c m short quotes (and_parts (is_backslash c) true is).0
 
     go : (b : Bool) → is_return d ≡ b → GrownTo (HoldsShort q) m (c ∷ d ∷ [])
-    go true h = (modes.EscapeReturn q, inr refl, (modes.Escape q, escapes, (modes.EscapeReturn q, rw h, refl)))
-    go false h = (modes.Inside q, inl refl, (modes.Escape q, escapes, (modes.Inside q, rw h, refl)))
+    go true h = (Mode.EscapeReturn q, inr refl, (Mode.Escape q, escapes, (Mode.EscapeReturn q, rw h, refl)))
+    go false h = (Mode.Inside q, inl refl, (Mode.Escape q, escapes, (Mode.Inside q, rw h, refl)))
 grown-item q m (c ∷ d ∷ e ∷ []) short quotes is =
     let first = and_parts (is_backslash c && is_return d) (is_line_feed e) (and_parts _ true is).0 in
     let second = and_parts (is_backslash c) (is_return d) first.0 in
-    (modes.Inside q, inl refl, (modes.Escape q, short_escapes q c m short quotes second.0, (modes.EscapeReturn q, rw second.1, (modes.Inside q, rw first.1, refl))))
+    (Mode.Inside q, inl refl, (Mode.Escape q, short_escapes q c m short quotes second.0, (Mode.EscapeReturn q, rw second.1, (Mode.Inside q, rw first.1, refl))))
 grown-item q m (c ∷ d ∷ e ∷ f ∷ cs) short quotes is = absurd (both_ways _ refl is)
 
 grown-items : (q : ℕ) (m : Mode) (items : List (List ℕ)) → HoldsShort q m → is_quote q ≡ true → list_all (is_short_item q) items ≡ true → GrownTo (HoldsShort q) m (joined items)
@@ -80,24 +74,23 @@ grown-items q m (i ∷ is) holds quotes each =
     (others.0, others.1, grown-append m first.0 others.0 i (joined is) first.2 others.2)
 
 -- the items of a short string, if there are some
-pub short_body : (q : ℕ) (item : List ℕ) (items : List (List ℕ)) → is_quote q ≡ true → list_all (is_short_item q) (item ∷ items) ≡ true → GrownTo (HoldsShort q) (modes.Opened q) (joined (item ∷ items))
+pub short_body : (q : ℕ) (item : List ℕ) (items : List (List ℕ)) → is_quote q ≡ true → list_all (is_short_item q) (item ∷ items) ≡ true → GrownTo (HoldsShort q) (Mode.Opened q) (joined (item ∷ items))
 short_body q item items quotes each =
     let parts = and_parts (is_short_item q item) (list_all (is_short_item q) items) each in
-    let first = grown-item q (modes.Opened q) item (inl refl) quotes parts.0 in
+    let first = grown-item q (Mode.Opened q) item (inl refl) quotes parts.0 in
     let others = grown-items q first.0 items first.1 quotes parts.1 in
     (others.0, others.1, grown-append _ first.0 others.0 item (joined items) first.2 others.2)
 
 -- a quote closes it
-short_closes : (q : ℕ) (m : Mode) → HoldsShort q m → is_quote q ≡ true → (class_of m ≡ string) × (move_of m q ≡ moves.Closes)
+short_closes : (q : ℕ) (m : Mode) → HoldsShort q m → is_quote q ≡ true → (class_of m ≡ string) × (move_of m q ≡ Move.Closes)
 unfolding move_of
-short_closes q m (inl is) quotes = (ap class_of is, ap (λ (n : Mode). move_of n q) is ∙ rw (eq-eqb q q refl))
-short_closes q m (inr is) quotes = (ap class_of is, ap (λ (n : Mode). move_of n q) is ∙ rw (quote-not-feed q quotes, eq-eqb q q refl))
+short_closes q m short quotes = grind (arith, quote-not-feed q quotes, eq-eqb q q refl)
 
-pub short_ends : (text prefix : List ℕ) (q : ℕ) (items : List (List ℕ)) (rest : List ℕ) → text ≡ prefix ++ (q ∷ joined items ++ q ∷ []) → IsPrefix prefix → is_quote q ≡ true → list_all (is_short_item q) items ≡ true → MayPrecedePlain string text rest → EndsWith string (modes.Opened q) (joined items ++ q ∷ []) rest
+pub short_ends : (text prefix : List ℕ) (q : ℕ) (items : List (List ℕ)) (rest : List ℕ) → text ≡ prefix ++ (q ∷ joined items ++ q ∷ []) → IsPrefix prefix → is_quote q ≡ true → list_all (is_short_item q) items ≡ true → MayPrecedePlain string text rest → EndsWith string (Mode.Opened q) (joined items ++ q ∷ []) rest
 unfolding move_of
 short_ends text prefix q [] rest spell is quotes each before =
-    ends_before (modes.Empty q) (modes.Empty q, rw (eq-eqb q q refl), refl) (refl, λ done held. refl)
-    (stops_unless (modes.Empty q) (λ c. c == q) refl (λ c h. rw h) rest (before prefix q spell is quotes))
+    ends_before (Mode.Empty q) (Mode.Empty q, rw (eq-eqb q q refl), refl) (refl, λ done held. refl)
+    (stops_unless (Mode.Empty q) (λ c. c == q) refl (λ c h. rw h) rest (before prefix q spell is quotes))
 short_ends text prefix q (i ∷ items) rest spell is quotes each before =
     let body = short_body q i items quotes each in
     let last = short_closes q body.0 body.1 quotes in
@@ -110,9 +103,9 @@ pub data QuotesBefore : Type 0 where
   two : QuotesBefore
 
 abbrev pub mode_at : ℕ → QuotesBefore → Mode
-mode_at q none = modes.Long q
-mode_at q one = modes.LongOne q
-mode_at q two = modes.LongTwo q
+mode_at q none = Mode.Long q
+mode_at q one = Mode.LongOne q
+mode_at q two = Mode.LongTwo q
 
 abbrev pub quotes_before : ℕ → QuotesBefore → List (List ℕ)
 quotes_before q none = []
@@ -134,26 +127,24 @@ seen_after q seen (item ∷ items) = seen_after q (seen_with q seen item) items
 
 long_moves : (q c : ℕ) (seen : QuotesBefore) → eqb c q ≡ false → move_of (mode_at q seen) c ≡ long_move q c
 unfolding move_of
-long_moves q c none other = rw other
-long_moves q c one other = rw other
-long_moves q c two other = rw other
+long_moves q c seen other = grind arith
 
 -- a backslash in a long string
-pub long_escapes : (q c : ℕ) (seen : QuotesBefore) → is_quote q ≡ true → is_backslash c ≡ true → move_of (mode_at q seen) c ≡ moves.Grows (modes.LongEscape q)
+pub long_escapes : (q c : ℕ) (seen : QuotesBefore) → is_quote q ≡ true → is_backslash c ≡ true → move_of (mode_at q seen) c ≡ Move.Grows (Mode.LongEscape q)
 unfolding long_move
 long_escapes q c seen quotes slash = long_moves q c seen (not_quote c q quotes (slash-not-quote c slash)) ∙ rw slash
 
 -- an item that is no quote of the string
-grown-other : (q : ℕ) (seen : QuotesBefore) (item : List ℕ) → is_quote q ≡ true → is_item item ≡ true → is_bare (λ c. c == q) item ≡ false → Grown (mode_at q seen) item (modes.Long q)
+grown-other : (q : ℕ) (seen : QuotesBefore) (item : List ℕ) → is_quote q ≡ true → is_item item ≡ true → is_bare (λ c. c == q) item ≡ false → Grown (mode_at q seen) item (Mode.Long q)
 unfolding move_of long_move
 grown-other q seen [] quotes is other = absurd (both_ways _ refl is)
-grown-other q seen (c ∷ []) quotes is other = (modes.Long q, long_moves q c seen other ∙ rw (not-true _ is), refl)
-grown-other q seen (c ∷ d ∷ []) quotes is other = (modes.LongEscape q, long_escapes q c seen quotes is, (modes.Long q, refl, refl))
+grown-other q seen (c ∷ []) quotes is other = (Mode.Long q, long_moves q c seen other ∙ rw (not-true _ is), refl)
+grown-other q seen (c ∷ d ∷ []) quotes is other = (Mode.LongEscape q, long_escapes q c seen quotes is, (Mode.Long q, refl, refl))
 grown-other q seen (c ∷ d ∷ e ∷ []) quotes is other =
     let first = and_parts (is_backslash c && is_return d) (is_line_feed e) is in
     let slash = (and_parts (is_backslash c) (is_return d) first.0).0 in
-    let feed : move_of (modes.Long q) e ≡ moves.Grows (modes.Long q) = long_moves q e none (not_quote e q quotes (feed-not-quote e first.1)) ∙ rw (feed-not-slash e first.1) in
-    (modes.LongEscape q, long_escapes q c seen quotes slash, (modes.Long q, refl, (modes.Long q, feed, refl)))
+    let feed : move_of (Mode.Long q) e ≡ Move.Grows (Mode.Long q) = long_moves q e none (not_quote e q quotes (feed-not-quote e first.1)) ∙ rw (feed-not-slash e first.1) in
+    (Mode.LongEscape q, long_escapes q c seen quotes slash, (Mode.Long q, refl, (Mode.Long q, feed, refl)))
 grown-other q seen (c ∷ d ∷ e ∷ f ∷ cs) quotes is other = absurd (both_ways _ refl is)
 
 bare_quote : (q : ℕ) (item : List ℕ) → is_bare (λ c. c == q) item ≡ true → item ≡ q ∷ []
@@ -162,7 +153,7 @@ bare_quote q (c ∷ []) h = ap (λ d. d ∷ []) (eqb-true c q h)
 bare_quote q (c ∷ d ∷ cs) h = absurd (both_ways _ refl h)
 
 -- one more quote, where the string goes on
-quote_grows : (q : ℕ) (seen : QuotesBefore) (items : List (List ℕ)) → has_triple q (quotes_before q seen ++ (q ∷ []) ∷ items) ≡ false → (move_of (mode_at q seen) q ≡ moves.Grows (mode_at q (next seen))) × (has_triple q (quotes_before q (next seen) ++ items) ≡ false)
+quote_grows : (q : ℕ) (seen : QuotesBefore) (items : List (List ℕ)) → has_triple q (quotes_before q seen ++ (q ∷ []) ∷ items) ≡ false → (move_of (mode_at q seen) q ≡ Move.Grows (mode_at q (next seen))) × (has_triple q (quotes_before q (next seen) ++ items) ≡ false)
 unfolding move_of
 quote_grows q none items h = (rw (eq-eqb q q refl), h)
 quote_grows q one items h = (rw (eq-eqb q q refl), h)
@@ -193,16 +184,14 @@ seen_after-append q seen [] ys = refl
 seen_after-append q seen (x ∷ xs) ys = seen_after-append q (seen_with q seen x) xs ys
 
 two_quotes : (q : ℕ) (seen : QuotesBefore) → seen_after q seen ((q ∷ []) ∷ (q ∷ []) ∷ []) ≡ two
-two_quotes q none = rw (eq-eqb q q refl)
-two_quotes q one = rw (eq-eqb q q refl)
-two_quotes q two = rw (eq-eqb q q refl)
+two_quotes q seen = grind (arith, eq-eqb q q refl)
 
 -- three quotes, and what a long string grows by
-pub grown-opening : (q : ℕ) (body : List ℕ) (m : Mode) → Grown (modes.Long q) body m → Grown (modes.Opened q) (q ∷ q ∷ body) m
+pub grown-opening : (q : ℕ) (body : List ℕ) (m : Mode) → Grown (Mode.Long q) body m → Grown (Mode.Opened q) (q ∷ q ∷ body) m
 unfolding move_of
-grown-opening q body m grown = (modes.Empty q, rw (eq-eqb q q refl), (modes.Long q, rw (eq-eqb q q refl), grown))
+grown-opening q body m grown = (Mode.Empty q, rw (eq-eqb q q refl), (Mode.Long q, rw (eq-eqb q q refl), grown))
 
-pub long_ends : (q : ℕ) (items : List (List ℕ)) (rest : List ℕ) → is_quote q ≡ true → list_all is_item items ≡ true → has_triple q (items ++ (q ∷ []) ∷ (q ∷ []) ∷ []) ≡ false → EndsWith string (modes.Opened q) (q ∷ q ∷ (joined items ++ q ∷ q ∷ q ∷ [])) rest
+pub long_ends : (q : ℕ) (items : List (List ℕ)) (rest : List ℕ) → is_quote q ≡ true → list_all is_item items ≡ true → has_triple q (items ++ (q ∷ []) ∷ (q ∷ []) ∷ []) ≡ false → EndsWith string (Mode.Opened q) (q ∷ q ∷ (joined items ++ q ∷ q ∷ q ∷ [])) rest
 unfolding move_of
 long_ends q items rest quotes each triple =
     let all = items ++ (q ∷ []) ∷ (q ∷ []) ∷ [] in
@@ -210,4 +199,4 @@ long_ends q items rest quotes each triple =
     sym (ap (λ t. t ++ q ∷ []) (joined-append items ((q ∷ []) ∷ (q ∷ []) ∷ [])) ∙ append_assoc (joined items) (q ∷ q ∷ []) (q ∷ [])) in
     let seen : seen_after q none all ≡ two = seen_after-append q none items ((q ∷ []) ∷ (q ∷ []) ∷ []) ∙ two_quotes q (seen_after q none items) in
     let run = grown-long q none all quotes (list_all-append is_item items ((q ∷ []) ∷ (q ∷ []) ∷ []) ∙ and_from _ _ each (quotes_items q quotes)) triple in
-    ends_at (modes.LongTwo q) (q ∷ q ∷ joined all) q (ap (λ t. q ∷ q ∷ t) cut) (grown-opening q (joined all) (modes.LongTwo q) (subst (λ s. Grown (modes.Long q) (joined all) (mode_at q s)) seen run)) refl (rw (eq-eqb q q refl))
+    ends_at (Mode.LongTwo q) (q ∷ q ∷ joined all) q (ap (λ t. q ∷ q ∷ t) cut) (grown-opening q (joined all) (Mode.LongTwo q) (subst (λ s. Grown (Mode.Long q) (joined all) (mode_at q s)) seen run)) refl (rw (eq-eqb q q refl))

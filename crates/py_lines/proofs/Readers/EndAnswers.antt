@@ -138,7 +138,7 @@ line_at_text_end m scan read way sound final open_yet empty some =
 
 -- CR closes it
 return_pieces : (mode : Mode) (done : List Piece) (held read : List ℕ) → IsScanSound (scanned done mode held) read → is_return_mode mode ≡ true → EndsNoLine 0 done → depth_through 0 done ≡ 0 → (cut 0 (closed mode done held) ≡ closed mode done held ∷ []) × (1 ≡ end_len_of (closed mode done held))
-return_pieces modes.Return done held read sound is none deep = (one_line 0 done (piece line_end held) none refl deep, one_return sound.holds.0 sound.holds.2 ∙ ap byte_len (sym sound.holds.1) ∙ sym (end_len-push done (piece line_end held) refl))
+return_pieces modes.Return done held read sound is none deep = (one_line 0 done (piece line_end held) none refl deep, one_return sound.holds.0.0 sound.holds.0.2 ∙ ap byte_len (sym sound.holds.0.1) ∙ sym (end_len-push done (piece line_end held) refl))
 return_pieces mode done held read sound is none deep = absurd (both_ways _ refl is)
 
 pub returned_final : (m : Mode) → is_return_mode m ≡ true → is_final m ≡ true

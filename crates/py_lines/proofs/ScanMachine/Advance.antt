@@ -2,7 +2,7 @@
 use Rattle.std.proofs.Common.{◌≡◌, ℕ, Option, None, Some, List, [], ◌∷◌, ◌++◌, refl, sym, ap, ◌∙◌}
 use Rattle.py_lines.specs.Private.Machine.{Scanned, text_start, Bracket, brackets_of}
 use Rattle.py_lines.specs.Private.ScanMachine.{move_at, scan_step, scan_steps}
-use Rattle.py_lines.proofs.Machine.FinishedPieces.{GoesBy}
+use Rattle.py_lines.proofs.Machine.EarlierPieces.{GoesBy}
 use Rattle.py_lines.proofs.Machine.PieceSteps.{steps_by-append}
 
 -- a state whose brackets pair, as far as they go

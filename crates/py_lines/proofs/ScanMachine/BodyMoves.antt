@@ -4,9 +4,7 @@ use Rattle.std.specs.Str.{byte}
 use Rattle.std.proofs.lemmas.Bool.{cond_both}
 use Rattle.py_lines.specs.Piece.{Piece, spelled}
 use Rattle.py_lines.specs.FieldStrings.{Host, Place, literal, specification}
-use Rattle.py_lines.specs.declared.mode.Start.{Start}
-use Rattle.py_lines.specs.declared.mode.Start.TheVariants as starts
-use Rattle.py_lines.specs.Private.Machine.{start_of}
+use Rattle.py_lines.specs.Private.Machine.{Start, start_of}
 use Rattle.py_lines.specs.Private.FieldMachine.{At, between, FieldMode, body, FieldMove, grows, closes, breaks, begins_code, opens_field, ends_field, refused, Level, FieldScanned, field_state, field_moved, field_started, field_operator, field_closed, code_operator, after_operator, openers_with, opened_level, field_ended}
 use Rattle.py_lines.specs.Private.ScanMachine.{IsInString}
 
@@ -41,10 +39,10 @@ operator_inside l ls ps [] c =
 operator_inside l ls ps (b ∷ bs) c = after_inside l ls ps c (openers_with (b ∷ bs) c)
 
 started_inside : (l : Level) (ls : List Level) (ps : List Piece) (bs : List ℕ) (c : ℕ) (st : Start) → InStringIf (field_started (l ∷ ls) ps bs c st)
-started_inside l ls ps bs c (starts.Open m) = λ is. absurd (cc)
-started_inside l ls ps bs c starts.Operator = operator_inside l ls ps bs c
-started_inside l ls ps bs c starts.LineEnd = λ is. absurd (cc)
-started_inside l ls ps bs c starts.Nothing = tt
+started_inside l ls ps bs c (Start.Open m) = λ is. absurd (cc)
+started_inside l ls ps bs c Start.Operator = operator_inside l ls ps bs c
+started_inside l ls ps bs c Start.LineEnd = λ is. absurd (cc)
+started_inside l ls ps bs c Start.Nothing = tt
 
 -- what does not end the string leaves it open
 abbrev pub KeepsString : List Level → FieldMove → Type 0

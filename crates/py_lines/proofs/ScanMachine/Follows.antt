@@ -10,14 +10,7 @@ use Rattle.py_lines.specs.Piece.{operator, line_end, Piece, spelled}
 use Rattle.py_lines.specs.Balance.{is_opening, is_closing, closing_of, is_opener, is_closer, depth_through}
 use Rattle.py_lines.specs.FieldStrings.{is_field_prefix, Host, literal}
 use Rattle.py_lines.specs.declared.host.StringWithFields.{StringWithFields}
-use Rattle.py_lines.specs.declared.mode.Spelling.{Spelling}
-use Rattle.py_lines.specs.declared.mode.Mode.{Mode}
-use Rattle.py_lines.specs.declared.mode.Mode.TheVariants as modes
-use Rattle.py_lines.specs.declared.mode.Move.{Move}
-use Rattle.py_lines.specs.declared.mode.Move.TheVariants as moves
-use Rattle.py_lines.specs.declared.mode.Start.{Start}
-use Rattle.py_lines.specs.declared.mode.Start.TheVariants as starts
-use Rattle.py_lines.specs.Private.Machine.{Scanned, fresh, class_of, closed, started, moved, move_of, start_of, Holds, is_prefix_spelling, first_spelling, spelling_with, Bracket, brackets_after, brackets_of}
+use Rattle.py_lines.specs.Private.Machine.{Spelling, Mode, Move, Start, Scanned, fresh, class_of, closed, started, moved, move_of, start_of, Holds, is_prefix_spelling, first_spelling, spelling_with, Bracket, brackets_after, brackets_of}
 use Rattle.py_lines.specs.Private.FieldMachine.{between, after_slash, after_brace, FieldMode, plain, opened, empty, body, FieldMove, grows, closes, breaks, refused, FieldScanned, field_state, field_fresh, field_text_start, begins_host, host_of, long_host, plain_move, field_move, field_moved, field_step, field_started, field_pieces, openers_with, after_operator, frames, has_room, has_room_at, between_move, body_move}
 use Rattle.py_lines.specs.Private.ScanMachine.{is_field_spelling, is_raw_spelling, begins_string, host_in, quote_move, opened_move, meet_of, string_state, have_room_in, move_at, scan_step, IsInString}
 use Rattle.py_lines.specs.Private.FieldScan.{code_mode, code_moved}
@@ -51,9 +44,9 @@ openers-length (b ∷ bs) = omega (arith, openers-length bs)
 
 -- the state of the machine with fields, where the other has these pieces, brackets and this open piece
 abbrev pub flat : Mode → List Piece → List ℕ → List ℕ → Option FieldScanned
-flat (modes.FieldOpened h) done os held = Some (field_state [] done os (opened (host_in h)) held)
-flat (modes.FieldEmpty h) done os held = Some (field_state [] done os (empty (host_in h)) held)
-flat modes.Fielded done os held = rebased_if done os (string_state held)
+flat (Mode.FieldOpened h) done os held = Some (field_state [] done os (opened (host_in h)) held)
+flat (Mode.FieldEmpty h) done os held = Some (field_state [] done os (empty (host_in h)) held)
+flat Mode.Fielded done os held = rebased_if done os (string_state held)
 flat m done os held = Some (field_state [] done os (plain m) held)
 
 -- a string with fields, open and by itself
@@ -65,10 +58,10 @@ pub record IsAlone (depth : ℕ) (held : List ℕ) : Type 0 where
 
 -- what the text of the open piece says by itself, at this depth of brackets
 abbrev pub Own : Mode → ℕ → List ℕ → Type 0
-Own (modes.Word s) depth held = Holds (modes.Word s) [] held
-Own (modes.FieldOpened h) depth held = GoesAlone depth held (field_state [] [] [] (opened (host_in h)) held) × (h.is_long ≡ false)
-Own (modes.FieldEmpty h) depth held = GoesAlone depth held (field_state [] [] [] (empty (host_in h)) held)
-Own modes.Fielded depth held = IsAlone depth held
+Own (Mode.Word s) depth held = Holds (Mode.Word s) [] held
+Own (Mode.FieldOpened h) depth held = GoesAlone depth held (field_state [] [] [] (opened (host_in h)) held) × (h.is_long ≡ false)
+Own (Mode.FieldEmpty h) depth held = GoesAlone depth held (field_state [] [] [] (empty (host_in h)) held)
+Own Mode.Fielded depth held = IsAlone depth held
 Own other depth held = Unit {0}
 
 -- the states of the two machines belong together
@@ -97,10 +90,10 @@ some_is a b h = cc
 
 -- modes without fields
 plain_mode : (m : Mode) (done : List Piece) (os : List ℕ) (depth : ℕ) (held : List ℕ) → is_fielded_mode m ≡ false → (flat m done os held ≡ Some (field_state [] done os (plain m) held)) × (is_word_mode m ≡ false → Own m depth held)
-plain_mode (modes.FieldOpened h) done os depth held other = absurd (both_ways _ other refl)
-plain_mode (modes.FieldEmpty h) done os depth held other = absurd (both_ways _ other refl)
-plain_mode modes.Fielded done os depth held other = absurd (both_ways _ other refl)
-plain_mode (modes.Word s) done os depth held other = (refl, λ word. absurd (both_ways _ word refl))
+plain_mode (Mode.FieldOpened h) done os depth held other = absurd (both_ways _ other refl)
+plain_mode (Mode.FieldEmpty h) done os depth held other = absurd (both_ways _ other refl)
+plain_mode Mode.Fielded done os depth held other = absurd (both_ways _ other refl)
+plain_mode (Mode.Word s) done os depth held other = (refl, λ word. absurd (both_ways _ word refl))
 plain_mode m done os depth held other = (refl, λ word. tt)
 
 tied_plain : (n : Mode) (done : List Piece) (st : List Bracket) (held : List ℕ) → is_fielded_mode n ≡ false → Own n (depth_through 0 done) held → brackets_of done ≡ Some st → IsTied (field_state [] done (openers_of st) (plain n) held) (scanned done n held) st
@@ -111,7 +104,7 @@ pub tied_fresh : (done : List Piece) (p : Piece) (st : List Bracket) → is_open
 tied_fresh done p st no_opener no_closer stack = record { stack = keeps done p st no_opener no_closer stack; flat_is = refl; own = tt }
 
 -- what is no operator opens no bracket
-pub opens_no : (c : ℕ) (x : Start) → start_of c ≡ x → (x ≡ starts.Operator → ⊥) → is_opening c ≡ false
+pub opens_no : (c : ℕ) (x : Start) → start_of c ≡ x → (x ≡ Start.Operator → ⊥) → is_opening c ≡ false
 opens_no c x is other = go (is_opening c) refl
   where
     go : (b : Bool) → is_opening c ≡ b → is_opening c ≡ false
@@ -131,56 +124,39 @@ module _ (done : List Piece) (c : ℕ) where
   abbrev met : List Piece
   met = done ++ piece operator (c ∷ []) ∷ []
 
-  abbrev top : Bracket
-  top = record { opener = c; place = byte_len (spelled done) }
+  -- the state of the machine with fields, where the other has these brackets open after it
+  abbrev met_with : Option (List Bracket) → Option FieldScanned
+  met_with None = None
+  met_with (Some st) = Some (field_fresh [] met (openers_of st))
 
-  abbrev Meets : Option (List Bracket) → Option FieldScanned → Type 0
-  Meets next o = brackets_of met ≡ next → Alike (kept (fresh met) next) o
-
-  meets_some : (st : List Bracket) → Meets (Some st) (Some (field_fresh [] met (openers_of st)))
-  meets_some st is = (st, record { stack = is; flat_is = refl; own = tt })
-
-  meets_roomy : (b : Bool) (st : List Bracket) → Meets (if b then Some st else None) (roomy b (Some (field_fresh [] met (openers_of st))))
-  meets_roomy true st = meets_some st
-  meets_roomy false st = λ is. tt
-
-  meets_closed : (b : Bool) (st : List Bracket) → Meets (if b then Some st else None) (after_operator [] done c (if b then Some (openers_of st) else None))
-  meets_closed true st = meets_some st
-  meets_closed false st = λ is. tt
-
-  operator_meets : (st : List Bracket) → Meets (brackets_after st (byte_len (spelled done)) (piece operator (c ∷ []))) (roomy (not (is_opening c) || nat_lt (length (openers_of st)) 200) (after_operator [] done c (openers_with (openers_of st) c)))
+  operator_meets : (st : List Bracket) → met_with (brackets_after st (byte_len (spelled done)) (piece operator (c ∷ []))) ≡ roomy (not (is_opening c) || nat_lt (length (openers_of st)) 200) (after_operator [] done c (openers_with (openers_of st) c))
   unfolding brackets_after openers_with
-  operator_meets [] =
-      ⊎_elim (λ (h : is_opening c ≡ true). rw h (meets_some (top ∷ [])))
-      (λ (h : is_opening c ≡ false). ⊎_elim (λ (k : is_closing c ≡ true). rw (h, k) (λ is. tt)) (λ (k : is_closing c ≡ false). rw (h, k) (meets_some [])) (cases_Bool (is_closing c)))
-      (cases_Bool (is_opening c))
-  operator_meets (b ∷ bs) =
-      ⊎_elim (λ (h : is_opening c ≡ true). rw (h, openers-length (b ∷ bs)) (meets_roomy (nat_lt (length (b ∷ bs)) 200) (top ∷ b ∷ bs)))
-      (λ (h : is_opening c ≡ false). ⊎_elim (λ (k : is_closing c ≡ true). rw (h, k) (meets_closed (c == closing_of b.opener) bs))
-      (λ (k : is_closing c ≡ false). rw (h, k) (meets_some (b ∷ bs))) (cases_Bool (is_closing c)))
-      (cases_Bool (is_opening c))
+  operator_meets [] = grind arith
+  operator_meets (b ∷ bs) = grind (arith, openers-length bs)
+
+  met_alike : (next : Option (List Bracket)) → brackets_of met ≡ next → Alike (kept (fresh met) next) (met_with next)
+  met_alike None is = tt
+  met_alike (Some st) is = (st, record { stack = is; flat_is = refl; own = tt })
 
   operator_alike : (st : List Bracket) → brackets_of done ≡ Some st → Alike (kept_if (Some (fresh met))) (roomy (not (is_opening c) || nat_lt (length (openers_of st)) 200) (after_operator [] done c (openers_with (openers_of st) c)))
-  operator_alike st stack =
-      let at = stack_push done (piece operator (c ∷ [])) st stack in
-      subst (λ next. Alike (kept (fresh met) next) (roomy (not (is_opening c) || nat_lt (length (openers_of st)) 200) (after_operator [] done c (openers_with (openers_of st) c)))) (sym at) (operator_meets st at)
+  operator_alike st stack = subst (Alike (kept_if (Some (fresh met)))) (ap met_with (stack_push done (piece operator (c ∷ [])) st stack) ∙ operator_meets st) (met_alike (brackets_of met) refl)
 
 -- a character that begins a piece, after pieces with these brackets open
 started_with : (done : List Piece) (st : List Bracket) (c : ℕ) (x : Start) → start_of c ≡ x → brackets_of done ≡ Some st → StartsSo c x → Alike (kept_if (started done c x)) (roomy (not (is_opening c) || nat_lt (length (openers_of st)) 200) (field_started [] done (openers_of st) c x))
-started_with done st c starts.Operator is stack so = operator_alike done c st stack
-started_with done st c starts.LineEnd is stack so =
-    alike_if _ _ _ st (ap (λ b. not b || nat_lt (length (openers_of st)) 200) (opens_no c starts.LineEnd is (λ e. cc))) (tied_fresh done (piece line_end (c ∷ [])) st refl refl stack)
-started_with done st c starts.Nothing is stack so = none_alike (not (is_opening c) || nat_lt (length (openers_of st)) 200)
-started_with done st c (starts.Open n) is stack so =
-    alike_if _ _ _ st (ap (λ b. not b || nat_lt (length (openers_of st)) 200) (opens_no c (starts.Open n) is (λ e. cc))) (tied_plain n done st (c ∷ []) (begun_plain n so).0 (begun_plain n so).1 stack)
+started_with done st c Start.Operator is stack so = operator_alike done c st stack
+started_with done st c Start.LineEnd is stack so =
+    alike_if _ _ _ st (ap (λ b. not b || nat_lt (length (openers_of st)) 200) (opens_no c Start.LineEnd is (λ e. cc))) (tied_fresh done (piece line_end (c ∷ [])) st refl refl stack)
+started_with done st c Start.Nothing is stack so = none_alike (not (is_opening c) || nat_lt (length (openers_of st)) 200)
+started_with done st c (Start.Open n) is stack so =
+    alike_if _ _ _ st (ap (λ b. not b || nat_lt (length (openers_of st)) 200) (opens_no c (Start.Open n) is (λ e. cc))) (tied_plain n done st (c ∷ []) (begun_plain n so).0 (begun_plain n so).1 stack)
   where
-    begun_plain : (m : Mode) → StartsSo c (starts.Open m) → (is_fielded_mode m ≡ false) × Own m (depth_through 0 done) (c ∷ [])
-    begun_plain modes.Space s = (refl, tt)
-    begun_plain (modes.Word w) s = (refl, (c, [], refl, s.0, refl, s.1))
-    begun_plain modes.Comment s = (refl, tt)
-    begun_plain (modes.Opened q) s = (refl, tt)
-    begun_plain modes.Return s = (refl, tt)
-    begun_plain modes.Backslash s = (refl, tt)
+    begun_plain : (m : Mode) → StartsSo c (Start.Open m) → (is_fielded_mode m ≡ false) × Own m (depth_through 0 done) (c ∷ [])
+    begun_plain Mode.Space s = (refl, tt)
+    begun_plain (Mode.Word w) s = (refl, (c, [], refl, s.0, refl, s.1))
+    begun_plain Mode.Comment s = (refl, tt)
+    begun_plain (Mode.Opened q) s = (refl, tt)
+    begun_plain Mode.Return s = (refl, tt)
+    begun_plain Mode.Backslash s = (refl, tt)
     begun_plain m s = absurd s
 
 -- a character begins a piece in both machines, after what was open
@@ -190,12 +166,12 @@ broken done st c stack =
     let deep : length (openers_of st) ≡ length (openers_of st) + 0 = omega arith in
     subst (λ (n : ℕ). Alike (kept_if (started done c (start_of c))) (roomy (not (is_opening c) || nat_lt n 200) (field_started [] done (openers_of st) c (start_of c)))) deep (started_with done st c (start_of c) refl stack (starts_so c))
 
-free_never : (c : ℕ) → move_of modes.Free c ≡ moves.Closes → ⊥
+free_never : (c : ℕ) → move_of Mode.Free c ≡ Move.Closes → ⊥
 unfolding move_of
 free_never c h = cc
 
-pub closing_neutral : (m : Mode) (text : List ℕ) (c : ℕ) → move_of m c ≡ moves.Closes → (is_opener (piece (class_of m) text) ≡ false) × (is_closer (piece (class_of m) text) ≡ false)
-closing_neutral modes.Free text c h = absurd (free_never c h)
+pub closing_neutral : (m : Mode) (text : List ℕ) (c : ℕ) → move_of m c ≡ Move.Closes → (is_opener (piece (class_of m) text) ≡ false) × (is_closer (piece (class_of m) text) ≡ false)
+closing_neutral Mode.Free text c h = absurd (free_never c h)
 closing_neutral m text c h = (refl, refl)
 
 pub room_grows : (depth c : ℕ) (n : FieldMode) → has_room_at depth c (grows n) ≡ true
@@ -207,17 +183,17 @@ unfolding has_room_at
 room_closes depth c = refl
 
 -- both machines take the same move of the machine without fields, in a list of the outermost text
-plain_moved : (m : Mode) (done : List Piece) (held : List ℕ) (st : List Bracket) (c : ℕ) (v : Move) → move_of m c ≡ v → brackets_of done ≡ Some st → ((n : Mode) → v ≡ moves.Grows n → Own n (depth_through 0 done) (held ++ c ∷ [])) → Alike (kept_if (moved (scanned done m held) c v)) (roomy (has_room_at (frames (field_state [] done (openers_of st) (plain m) held)) c (plain_move v)) (field_moved (field_state [] done (openers_of st) (plain m) held) c (plain_move v)))
-plain_moved m done held st c (moves.Grows n) is stack own = alike_if _ _ _ st (room_grows _ c (plain n)) (tied_plain n done st (held ++ c ∷ []) (subst IsOpenAfter is (open_after m c)) (own n refl) stack)
-plain_moved m done held st c moves.Closes is stack own =
+plain_moved : (m : Mode) (done : List Piece) (held : List ℕ) (st : List Bracket) (c : ℕ) (v : Move) → move_of m c ≡ v → brackets_of done ≡ Some st → ((n : Mode) → v ≡ Move.Grows n → Own n (depth_through 0 done) (held ++ c ∷ [])) → Alike (kept_if (moved (scanned done m held) c v)) (roomy (has_room_at (frames (field_state [] done (openers_of st) (plain m) held)) c (plain_move v)) (field_moved (field_state [] done (openers_of st) (plain m) held) c (plain_move v)))
+plain_moved m done held st c (Move.Grows n) is stack own = alike_if _ _ _ st (room_grows _ c (plain n)) (tied_plain n done st (held ++ c ∷ []) (subst IsOpenAfter is (open_after m c)) (own n refl) stack)
+plain_moved m done held st c Move.Closes is stack own =
     let neutral = closing_neutral m (held ++ c ∷ []) c is in
     alike_if _ _ _ st (room_closes _ c) (tied_fresh done (piece (class_of m) (held ++ c ∷ [])) st neutral.0 neutral.1 stack)
-plain_moved m done held st c moves.Breaks is stack own = broken (closed m done held) st c (stack_closed m done held st stack)
-plain_moved m done held st c moves.Refused is stack own = none_alike (has_room_at (frames (field_state [] done (openers_of st) (plain m) held)) c refused)
+plain_moved m done held st c Move.Breaks is stack own = broken (closed m done held) st c (stack_closed m done held st stack)
+plain_moved m done held st c Move.Refused is stack own = none_alike (has_room_at (frames (field_state [] done (openers_of st) (plain m) held)) c refused)
 
 -- where the machine with fields ends a piece before a character, in no field, so does the other
 abbrev pub EndsAlike : Scanned → FieldScanned → ℕ → FieldMove → Type 0
-EndsAlike s t c w = w ≡ breaks → (meet_of s.mode c ≡ moves.Breaks) × (field_pieces t ≡ pieces_at s)
+EndsAlike s t c w = w ≡ breaks → (meet_of s.mode c ≡ Move.Breaks) × (field_pieces t ≡ pieces_at s)
 
 -- one character
 pub record StepsAlike (s : Scanned) (t : FieldScanned) (c : ℕ) : Type 0 where
@@ -232,14 +208,14 @@ by_moves s t c v w one two ends alike = record {
   ends = λ outside h. ends (sym two ∙ h);
 }
 
-grows_to : (s : Scanned) (t : FieldScanned) (st : List Bracket) (c : ℕ) (m : Mode) (n : FieldMode) → move_at s c ≡ moves.Grows m → field_move t.mode t.held c ≡ grows n → IsTied (field_state t.outer t.done t.openers n (t.held ++ c ∷ [])) (scanned s.done m (s.held ++ c ∷ [])) st → StepsAlike s t c
-grows_to s t st c m n one two tied = by_moves s t c (moves.Grows m) (grows n) one two (λ k. absurd (cc)) (alike_if _ _ _ st (room_grows (frames t) c n) tied)
+grows_to : (s : Scanned) (t : FieldScanned) (st : List Bracket) (c : ℕ) (m : Mode) (n : FieldMode) → move_at s c ≡ Move.Grows m → field_move t.mode t.held c ≡ grows n → IsTied (field_state t.outer t.done t.openers n (t.held ++ c ∷ [])) (scanned s.done m (s.held ++ c ∷ [])) st → StepsAlike s t c
+grows_to s t st c m n one two tied = by_moves s t c (Move.Grows m) (grows n) one two (λ k. absurd (cc)) (alike_if _ _ _ st (room_grows (frames t) c n) tied)
 
-breaks_as : (v : Move) → plain_move v ≡ breaks → v ≡ moves.Breaks
-breaks_as moves.Breaks h = refl
-breaks_as (moves.Grows m) h = absurd (cc)
-breaks_as moves.Closes h = absurd (cc)
-breaks_as moves.Refused h = absurd (cc)
+breaks_as : (v : Move) → plain_move v ≡ breaks → v ≡ Move.Breaks
+breaks_as Move.Breaks h = refl
+breaks_as (Move.Grows m) h = absurd (cc)
+breaks_as Move.Closes h = absurd (cc)
+breaks_as Move.Refused h = absurd (cc)
 
 -- where no word and no string with fields is open
 pub plain_steps : (m : Mode) (done : List Piece) (held : List ℕ) (st : List Bracket) (c : ℕ) → is_word_mode m ≡ false → move_at (scanned done m held) c ≡ meet_of m c → meet_of m c ≡ move_of m c → begins_host m held c ≡ false → brackets_of done ≡ Some st → StepsAlike (scanned done m held) (field_state [] done (openers_of st) (plain m) held) c
@@ -248,7 +224,7 @@ plain_steps m done held st c word at meets other stack =
     (plain_moved m done held st c (move_of m c) refl stack (λ n is. (plain_mode n done (openers_of st) (depth_through 0 done) (held ++ c ∷ []) (subst IsOpenAfter is (open_after m c))).1 (subst (NoWord (class_of m)) is (no_word m c word)).0))
 
 -- a word that goes on
-pub word_on : (s : Spelling) (held : List ℕ) (c : ℕ) → Holds (modes.Word s) [] held → is_word_character c ≡ true → Holds (modes.Word (spelling_with s c)) [] (held ++ c ∷ [])
+pub word_on : (s : Spelling) (held : List ℕ) (c : ℕ) → Holds (Mode.Word s) [] held → is_word_character c ≡ true → Holds (Mode.Word (spelling_with s c)) [] (held ++ c ∷ [])
 word_on s held c (first, others, is, opens, run, spells) passes =
     (first, others ++ c ∷ [], ap (λ t. t ++ c ∷ []) is, opens, all-push others run, ap (λ x. spelling_with x c) spells ∙ sym (spelling_on-push (first_spelling first) others c))
   where
@@ -258,25 +234,25 @@ word_on s held c (first, others, is, opens, run, spells) passes =
         let parts = and_parts (is_word_character w) (list_all is_word_character ws) h in
         and_from _ _ parts.0 (all-push ws parts.1)
 
-start_stops : (a : ℕ) → is_mark a ≡ false → field_move (plain modes.Start) [] a ≡ breaks
+start_stops : (a : ℕ) → is_mark a ≡ false → field_move (plain Mode.Start) [] a ≡ breaks
 unfolding field_move move_of
 start_stops a h = rw h
 
 -- its text, by itself
-pub word_alone : (s : Spelling) (depth : ℕ) (held : List ℕ) → Holds (modes.Word s) [] held → GoesAlone depth held (field_state [] [] [] (plain (modes.Word s)) held)
+pub word_alone : (s : Spelling) (depth : ℕ) (held : List ℕ) → Holds (Mode.Word s) [] held → GoesAlone depth held (field_state [] [] [] (plain (Mode.Word s)) held)
 word_alone s depth held (first, others, is, opens, run, spells) =
     let at = word_goes (RoomFrom depth) field_text_start first others [] opens run (start_stops first (start-not-mark first opens)) in
     record {
-      steps = ap string_state is ∙ steps_of (RoomFrom depth) field_text_start _ (first ∷ others) at ∙ ap (λ x. Some (field_state [] [] [] (plain (modes.Word x)) (first ∷ others))) (sym spells) ∙ ap (λ t. Some (field_state [] [] [] (plain (modes.Word s)) t)) (sym is);
+      steps = ap string_state is ∙ steps_of (RoomFrom depth) field_text_start _ (first ∷ others) at ∙ ap (λ x. Some (field_state [] [] [] (plain (Mode.Word x)) (first ∷ others))) (sym spells) ∙ ap (λ t. Some (field_state [] [] [] (plain (Mode.Word s)) t)) (sym is);
       room = ap (have_room_in depth (Some field_text_start)) is ∙ goes_room depth field_text_start _ (first ∷ others) at;
     }
 
-pub host_moves : (s : Spelling) (held : List ℕ) (c : ℕ) → is_field_prefix held ≡ true → is_quote c ≡ true → field_move (plain (modes.Word s)) held c ≡ grows (opened (host_of held c))
+pub host_moves : (s : Spelling) (held : List ℕ) (c : ℕ) → is_field_prefix held ≡ true → is_quote c ≡ true → field_move (plain (Mode.Word s)) held c ≡ grows (opened (host_of held c))
 unfolding field_move
 host_moves s held c field quotes = rw (field, quotes)
 
 -- a word meets a character alike in both machines
-module _ (s : Spelling) (held : List ℕ) (c : ℕ) (own : Holds (modes.Word s) [] held) where
+module _ (s : Spelling) (held : List ℕ) (c : ℕ) (own : Holds (Mode.Word s) [] held) where
   tells : (is_field_prefix held ≡ is_field_spelling s) × (is_field_spelling s ≡ true → list_any is_r held ≡ is_raw_spelling s)
   tells =
       let word = word_tells own.0 own.1 in (
@@ -284,36 +260,25 @@ module _ (s : Spelling) (held : List ℕ) (c : ℕ) (own : Holds (modes.Word s) 
         λ h. ap (list_any is_r) own.2 ∙ word.1 (ap is_field_spelling (sym own.5) ∙ h) ∙ ap is_raw_spelling (sym own.5),
       )
 
-  pub word_meets : field_move (plain (modes.Word s)) held c ≡ code_moved (meet_of (modes.Word s) c)
+  pub word_meets : field_move (plain (Mode.Word s)) held c ≡ code_moved (meet_of (Mode.Word s) c)
   unfolding meet_of quote_move field_move move_of
-  word_meets =
-      ⊎_elim (λ (passes : is_word_character c ≡ true). rw (and_right (is_field_prefix held) _ (excluded is_word_character is_quote c (quote-not-word c) passes), passes))
-      (λ (other : is_word_character c ≡ false). ⊎_elim
-      (λ (quotes : is_quote c ≡ true). ⊎_elim
-      (λ (field : is_field_spelling s ≡ true). rw (tells.0 ∙ field, quotes, other, field) (ap (λ (b : Bool). grows (opened (record { quote = c; is_long = false; is_raw = b }))) (tells.1 field)))
-      (λ (none : is_field_spelling s ≡ false).
-      rw (tells.0 ∙ none, quotes, other, none, other_begins s none)
-      (⊎_elim (λ (b : is_prefix_spelling s ≡ true). rw b) (λ (b : is_prefix_spelling s ≡ false). rw b) (cases_Bool (is_prefix_spelling s))))
-      (cases_Bool (is_field_spelling s)))
-      (λ (none : is_quote c ≡ false). rw (and_right (is_field_prefix held) _ none, and_right (is_prefix_spelling s) _ none, other, none))
-      (cases_Bool (is_quote c)))
-      (cases_Bool (is_word_character c))
+  word_meets = grind (arith, tells, other_begins s, quote-not-word c)
 
 -- so both go on alike after it
-module _ (s : Spelling) (done : List Piece) (held : List ℕ) (st : List Bracket) (c : ℕ) (own : Holds (modes.Word s) [] held) (stack : brackets_of done ≡ Some st) where
+module _ (s : Spelling) (done : List Piece) (held : List ℕ) (st : List Bracket) (c : ℕ) (own : Holds (Mode.Word s) [] held) (stack : brackets_of done ≡ Some st) where
   abbrev T : FieldScanned
-  T = field_state [] done (openers_of st) (plain (modes.Word s)) held
+  T = field_state [] done (openers_of st) (plain (Mode.Word s)) held
 
   abbrev S : Scanned
-  S = scanned done (modes.Word s) held
+  S = scanned done (Mode.Word s) held
 
   abbrev WordSteps : Move → Type 0
-  WordSteps v = meet_of (modes.Word s) c ≡ v → StepsAlike S T c
+  WordSteps v = meet_of (Mode.Word s) c ≡ v → StepsAlike S T c
 
-  word_breaks : WordSteps moves.Breaks
-  word_breaks is = by_moves S T c moves.Breaks breaks is (word_meets s held c own ∙ ap code_moved is) (λ h. (is, refl)) (broken (closed (modes.Word s) done held) st c (stack_closed (modes.Word s) done held st stack))
+  word_breaks : WordSteps Move.Breaks
+  word_breaks is = by_moves S T c Move.Breaks breaks is (word_meets s held c own ∙ ap code_moved is) (λ h. (is, refl)) (broken (closed (Mode.Word s) done held) st c (stack_closed (Mode.Word s) done held st stack))
 
-  word_grows : (n : Mode) → is_fielded_mode n ≡ false → code_mode n ≡ plain n → Own n (depth_through 0 done) (held ++ c ∷ []) → WordSteps (moves.Grows n)
+  word_grows : (n : Mode) → is_fielded_mode n ≡ false → code_mode n ≡ plain n → Own n (depth_through 0 done) (held ++ c ∷ []) → WordSteps (Move.Grows n)
   word_grows n other same grown is = grows_to S T st c n (plain n) is (word_meets s held c own ∙ ap code_moved is ∙ ap grows same) (tied_plain n done st (held ++ c ∷ []) other grown stack)
 
   pub word_steps : StepsAlike S T c
@@ -321,13 +286,13 @@ module _ (s : Spelling) (done : List Piece) (held : List ℕ) (st : List Bracket
   word_steps =
       let h : StringWithFields = record { quote = c; is_long = false; is_raw = is_raw_spelling s } in
       let depth = depth_through 0 done in
-      cond_both (is_word_character c) (moves.Grows (modes.Word (spelling_with s c))) _ WordSteps (λ passes. word_grows (modes.Word (spelling_with s c)) refl refl (word_on s held c own passes))
-      (λ other. cond_both (is_quote c) _ moves.Breaks WordSteps
-      (λ quotes. cond_both (is_field_spelling s) (moves.Grows (modes.FieldOpened h)) _ WordSteps
+      cond_both (is_word_character c) (Move.Grows (Mode.Word (spelling_with s c))) _ WordSteps (λ passes. word_grows (Mode.Word (spelling_with s c)) refl refl (word_on s held c own passes))
+      (λ other. cond_both (is_quote c) _ Move.Breaks WordSteps
+      (λ quotes. cond_both (is_field_spelling s) (Move.Grows (Mode.FieldOpened h)) _ WordSteps
       (λ field is.
       let move = word_meets s held c own ∙ ap code_moved is in
-      grows_to S T st c (modes.FieldOpened h) (opened (host_in h)) is move (record { stack = stack; flat_is = refl; own = (alone_grows depth held c _ (opened (host_in h)) (word_alone s depth held own) move, refl) }))
-      (λ none. cond_both (begins_string s) (moves.Grows (modes.Opened c)) moves.Breaks WordSteps (λ b. word_grows (modes.Opened c) refl refl tt) (λ b. word_breaks)))
+      grows_to S T st c (Mode.FieldOpened h) (opened (host_in h)) is move (record { stack = stack; flat_is = refl; own = (alone_grows depth held c _ (opened (host_in h)) (word_alone s depth held own) move, refl) }))
+      (λ none. cond_both (begins_string s) (Move.Grows (Mode.Opened c)) Move.Breaks WordSteps (λ b. word_grows (Mode.Opened c) refl refl tt) (λ b. word_breaks)))
       (λ none. word_breaks)) refl
 
 -- one quote of a string with fields
@@ -347,20 +312,19 @@ first_grows host c other unbroken = go (is_backslash c) (c == byte "{") (c == by
     go : (slash brace shuts : Bool) → is_backslash c ≡ slash → c == byte "{" ≡ brace → c == byte "}" ≡ shuts → GrowsBody host c
     go true brace shuts h k l = record { mode = body host literal false after_slash; is = rw (other, h); stays = (host, literal, false, after_slash, refl) }
     go false true shuts h k l = record { mode = body host literal false after_brace; is = rw (other, h, unbroken, k); stays = (host, literal, false, after_brace, refl) }
-    go false false true h k l = record { mode = body host literal false between; is = rw (other, h, unbroken, k, l); stays = (host, literal, false, between, refl) }
-    go false false false h k l = record { mode = body host literal false between; is = rw (other, h, unbroken, k, l); stays = (host, literal, false, between, refl) }
+    go false false shuts h k l = record { mode = body host literal false between; is = grind arith; stays = (host, literal, false, between, refl) }
 
 -- a string that has just got some text
-tied_begun : (done : List Piece) (held : List ℕ) (st : List Bracket) (m : FieldMode) → brackets_of done ≡ Some st → GoesAlone (depth_through 0 done) held (field_state [] [] [] m held) → IsBodyMode m → IsTied (field_state [] done (openers_of st) m held) (scanned done modes.Fielded held) st
+tied_begun : (done : List Piece) (held : List ℕ) (st : List Bracket) (m : FieldMode) → brackets_of done ≡ Some st → GoesAlone (depth_through 0 done) held (field_state [] [] [] m held) → IsBodyMode m → IsTied (field_state [] done (openers_of st) m held) (scanned done Mode.Fielded held) st
 tied_begun done held st m stack goes stays = record {
   stack = stack;
   flat_is = ap (rebased_if done (openers_of st)) goes.steps;
   own = record { state = field_state [] [] [] m held; goes = goes; inside = λ is. stays; bare = refl };
 }
 
-module _ (h : StringWithFields) (done : List Piece) (held : List ℕ) (st : List Bracket) (c : ℕ) (own : Own (modes.FieldOpened h) (depth_through 0 done) held) (stack : brackets_of done ≡ Some st) where
+module _ (h : StringWithFields) (done : List Piece) (held : List ℕ) (st : List Bracket) (c : ℕ) (own : Own (Mode.FieldOpened h) (depth_through 0 done) held) (stack : brackets_of done ≡ Some st) where
   abbrev SO : Scanned
-  SO = scanned done (modes.FieldOpened h) held
+  SO = scanned done (Mode.FieldOpened h) held
 
   abbrev TO : FieldScanned
   TO = field_state [] done (openers_of st) (opened (host_in h)) held
@@ -369,22 +333,22 @@ module _ (h : StringWithFields) (done : List Piece) (held : List ℕ) (st : List
   unfolding meet_of opened_move field_move body_move
   opened_steps_go true ends_line is break =
       let move : field_move (opened (host_in h)) held c ≡ grows (empty (host_in h)) = rw is in
-      grows_to SO TO st c (modes.FieldEmpty h) (empty (host_in h)) (rw is) move (record { stack = stack; flat_is = refl; own = alone_grows (depth_through 0 done) held c _ (empty (host_in h)) own.0 move })
+      grows_to SO TO st c (Mode.FieldEmpty h) (empty (host_in h)) (rw is) move (record { stack = stack; flat_is = refl; own = alone_grows (depth_through 0 done) held c _ (empty (host_in h)) own.0 move })
   opened_steps_go false true is break =
       let move : field_move (opened (host_in h)) held c ≡ refused = rw is (break_refused (host_in h) c own.1 is break) in
-      by_moves SO TO c moves.Refused refused (rw (is, break)) move (λ k. absurd (cc)) (none_alike (has_room_at (frames TO) c refused))
+      by_moves SO TO c Move.Refused refused (rw (is, break)) move (λ k. absurd (cc)) (none_alike (has_room_at (frames TO) c refused))
   opened_steps_go false false is break =
       let first = first_grows (host_in h) c is break in
       let move : field_move (opened (host_in h)) held c ≡ grows first.mode = rw is first.is in
-      grows_to SO TO st c modes.Fielded first.mode (rw (is, break)) move (tied_begun done (held ++ c ∷ []) st first.mode stack (alone_grows (depth_through 0 done) held c _ first.mode own.0 move) first.stays)
+      grows_to SO TO st c Mode.Fielded first.mode (rw (is, break)) move (tied_begun done (held ++ c ∷ []) st first.mode stack (alone_grows (depth_through 0 done) held c _ first.mode own.0 move) first.stays)
 
   pub opened_steps : StepsAlike SO TO c
   opened_steps = opened_steps_go (c == h.quote) (is_break c) refl refl
 
 -- two quotes
-module _ (h : StringWithFields) (done : List Piece) (held : List ℕ) (st : List Bracket) (c : ℕ) (own : Own (modes.FieldEmpty h) (depth_through 0 done) held) (stack : brackets_of done ≡ Some st) where
+module _ (h : StringWithFields) (done : List Piece) (held : List ℕ) (st : List Bracket) (c : ℕ) (own : Own (Mode.FieldEmpty h) (depth_through 0 done) held) (stack : brackets_of done ≡ Some st) where
   abbrev SE : Scanned
-  SE = scanned done (modes.FieldEmpty h) held
+  SE = scanned done (Mode.FieldEmpty h) held
 
   abbrev TE : FieldScanned
   TE = field_state [] done (openers_of st) (empty (host_in h)) held
@@ -394,8 +358,8 @@ module _ (h : StringWithFields) (done : List Piece) (held : List ℕ) (st : List
   empty_steps_go true is =
       let m : FieldMode = body (long_host (host_in h)) literal false between in
       let move : field_move (empty (host_in h)) held c ≡ grows m = rw is in
-      grows_to SE TE st c modes.Fielded m (rw is) move (tied_begun done (held ++ c ∷ []) st m stack (alone_grows (depth_through 0 done) held c _ m own move) (long_host (host_in h), literal, false, between, refl))
-  empty_steps_go false is = by_moves SE TE c moves.Breaks breaks (rw is) (rw is) (λ k. (rw is, refl)) (broken (closed (modes.FieldEmpty h) done held) st c (stack_closed (modes.FieldEmpty h) done held st stack))
+      grows_to SE TE st c Mode.Fielded m (rw is) move (tied_begun done (held ++ c ∷ []) st m stack (alone_grows (depth_through 0 done) held c _ m own move) (long_host (host_in h), literal, false, between, refl))
+  empty_steps_go false is = by_moves SE TE c Move.Breaks breaks (rw is) (rw is) (λ k. (rw is, refl)) (broken (closed (Mode.FieldEmpty h) done held) st c (stack_closed (Mode.FieldEmpty h) done held st stack))
 
   pub empty_steps : StepsAlike SE TE c
   empty_steps = empty_steps_go (c == h.quote) refl

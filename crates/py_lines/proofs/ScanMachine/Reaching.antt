@@ -7,9 +7,7 @@ use Rattle.py_lines.specs.Piece.{Piece, begins, spelled}
 use Rattle.py_lines.specs.Balance.{depth_through}
 use Rattle.py_lines.specs.Fields.{AreReadBefore, Fields, ShallowFields}
 use Rattle.py_lines.specs.LogicalLine.{first_or_zero}
-use Rattle.py_lines.specs.declared.mode.Mode.{Mode}
-use Rattle.py_lines.specs.declared.mode.Mode.TheVariants as modes
-use Rattle.py_lines.specs.Private.Machine.{Scanned, text_start, closed, move_of, is_final, Bracket, brackets_of}
+use Rattle.py_lines.specs.Private.Machine.{Mode, Scanned, text_start, closed, move_of, is_final, Bracket, brackets_of}
 use Rattle.py_lines.specs.Private.FieldMachine.{FieldScanned, field_state, field_text_start, field_pieces, openers_through, may_end}
 use Rattle.py_lines.specs.Private.ScanMachine.{meet_of, move_at, StringsFit}
 use Rattle.py_lines.proofs.Pieces.OpenBrackets.{StandsAt, level, inside, stands}
@@ -42,9 +40,9 @@ stack_openers ps st (inside _ _ b others outer inner a is spell out opens kind p
 
 -- where the machine with fields may end, in no field, the other may, and has found the same
 final_alike : (m : Mode) (done : List Piece) (held os : List ℕ) (t : FieldScanned) → flat m done os held ≡ Some t → Own m (depth_through 0 done) held → t.outer ≡ [] → may_end t.mode ≡ true → (is_final m ≡ true) × (field_pieces t ≡ closed m done held)
-final_alike (modes.FieldOpened h) done held os t is own none ends = absurd (both_ways _ refl (ap (λ (x : FieldScanned). may_end x.mode) (some_is _ t is) ∙ ends))
-final_alike (modes.FieldEmpty h) done held os t is own none ends = (refl, ap field_pieces (sym (some_is _ t is)))
-final_alike modes.Fielded done held os t is own none ends =
+final_alike (Mode.FieldOpened h) done held os t is own none ends = absurd (both_ways _ refl (ap (λ (x : FieldScanned). may_end x.mode) (some_is _ t is) ∙ ends))
+final_alike (Mode.FieldEmpty h) done held os t is own none ends = (refl, ap field_pieces (sym (some_is _ t is)))
+final_alike Mode.Fielded done held os t is own none ends =
     let x : FieldScanned = own.state in
     let whole : rebased done os x ≡ t = some_is _ t (sym (ap (rebased_if done os) own.goes.steps) ∙ is) in
     let (host, place, named, at, body_mode) = own.inside (none_based done os x.outer x.done x.openers x.mode x.held (ap (λ (u : FieldScanned). u.outer) whole ∙ none)) in
@@ -61,7 +59,7 @@ stops_alike (c ∷ cs) t s st tied none stops = (tied_step t s st c tied).ends n
 abbrev pub Reaches : List ℕ → List Piece → List ℕ → Type 0
 Reaches text pieces rest = ReachesBy move_at StopsBefore text pieces rest
 
-stops_start : (rest : List ℕ) → begins is_mark rest ≡ false → StopsBefore modes.Start rest
+stops_start : (rest : List ℕ) → begins is_mark rest ≡ false → StopsBefore Mode.Start rest
 unfolding meet_of move_of
 stops_start [] h = refl
 stops_start (c ∷ cs) h = rw h

@@ -5,9 +5,7 @@ use Rattle.std.specs.Prelude.{if◌then◌else◌}
 use Rattle.std.specs.Str.{byte}
 use Rattle.py_lines.specs.Piece.{Piece, spelled}
 use Rattle.py_lines.specs.FieldStrings.{literal, specification}
-use Rattle.py_lines.specs.declared.mode.Start.{Start}
-use Rattle.py_lines.specs.declared.mode.Start.TheVariants as starts
-use Rattle.py_lines.specs.Private.Machine.{start_of}
+use Rattle.py_lines.specs.Private.Machine.{Start, start_of}
 use Rattle.py_lines.specs.Private.FieldMachine.{between, FieldMode, body, FieldMove, closes, breaks, begins_code, ends_field, Level, FieldScanned, field_state, field_move, field_moved, field_step, field_started, field_operator, field_closed, code_operator, after_operator, openers_with, opened_level, field_ended, levels_open, frames}
 use Rattle.py_lines.proofs.ScanMachine.BodyMoves.{KeepsString}
 
@@ -43,28 +41,15 @@ module _ (done : List Piece) (os : List ℕ) where
   none_based (l ∷ []) ps bs m held none = absurd (cc)
   none_based (l ∷ k ∷ ks) ps bs m held none = absurd (cc)
 
-  if_alike : (b : Bool) (x y u v : Option FieldScanned) → x ≡ rebased_if u → y ≡ rebased_if v → (if b then x else y) ≡ rebased_if (if b then u else v)
-  if_alike true x y u v first second = first
-  if_alike false x y u v first second = second
-
   -- an operator in a field
-  after_alike : (l : Level) (ls : List Level) (ps : List Piece) (c : ℕ) (o : Option (List ℕ)) → after_operator (based l ls) ps c o ≡ rebased_if (after_operator (l ∷ ls) ps c o)
-  after_alike l ls ps c None = refl
-  after_alike l ls ps c (Some bs) = refl
-
   operator_alike : (l : Level) (ls : List Level) (ps : List Piece) (bs : List ℕ) (c : ℕ) → field_operator (based l ls) ps bs c ≡ rebased_if (field_operator (l ∷ ls) ps bs c)
   unfolding code_operator
-  operator_alike l [] ps [] c =
-      if_alike (c == byte "}") _ _ (Some (field_ended l [] (l.front ++ (spelled ps ++ c ∷ [])))) _ refl
-      (if_alike (c == byte ":") _ _ (Some (field_state (l ∷ []) [] [] (body l.host specification false between) (l.front ++ (spelled ps ++ c ∷ [])))) (after_operator (l ∷ []) ps c (openers_with [] c)) refl (after_alike l [] ps c (openers_with [] c)))
-  operator_alike l (k ∷ ks) ps [] c =
-      if_alike (c == byte "}") _ _ (Some (field_ended l (k ∷ ks) (l.front ++ (spelled ps ++ c ∷ [])))) _ refl
-      (if_alike (c == byte ":") _ _ (Some (field_state (l ∷ k ∷ ks) [] [] (body l.host specification false between) (l.front ++ (spelled ps ++ c ∷ [])))) (after_operator (l ∷ k ∷ ks) ps c (openers_with [] c)) refl (after_alike l (k ∷ ks) ps c (openers_with [] c)))
-  operator_alike l [] ps (b ∷ bs) c = after_alike l [] ps c (openers_with (b ∷ bs) c)
-  operator_alike l (k ∷ ks) ps (b ∷ bs) c = after_alike l (k ∷ ks) ps c (openers_with (b ∷ bs) c)
+  operator_alike l [] ps [] c = grind arith
+  operator_alike l (k ∷ ks) ps [] c = grind arith
+  operator_alike l ls ps (b ∷ bs) c = grind arith
 
   started_alike : (l : Level) (ls : List Level) (ps : List Piece) (bs : List ℕ) (c : ℕ) (st : Start) → field_started (based l ls) ps bs c st ≡ rebased_if (field_started (l ∷ ls) ps bs c st)
-  started_alike l ls ps bs c starts.Operator = operator_alike l ls ps bs c
+  started_alike l ls ps bs c Start.Operator = operator_alike l ls ps bs c
   started_alike l ls ps bs c st = refl
 
   -- moves other than those that end the outermost string

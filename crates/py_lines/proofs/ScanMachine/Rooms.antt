@@ -15,12 +15,7 @@ use Rattle.py_lines.proofs.FieldSoundness.LiveTexts.{steps-append}
 
 -- what is shallow at some depth is so at any smaller one
 after_less : (d e : ℕ) (p : Piece) → d ≤ e → depth_after d p ≤ depth_after e p
-after_less d e p less = go (is_opener p) (is_closer p)
-  where
-    go : (x y : Bool) → (if x then d + 1 else (if y then d - 1 else d)) ≤ (if x then e + 1 else (if y then e - 1 else e))
-    go true y = omega (arith, less)
-    go false true = omega (arith, less)
-    go false false = less
+after_less d e p less = grind arith
 
 pieces_less : (S : ℕ → Host → List ℕ → Type 0) → ((d e : ℕ) → d ≤ e → Within (S e) (S d)) → (d e : ℕ) (ps : List Piece) → d ≤ e → IsShallowWith S e ps → IsShallowWith S d ps
 pieces_less S less d e [] small passes = tt

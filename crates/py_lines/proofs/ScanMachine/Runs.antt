@@ -4,11 +4,7 @@ use Rattle.std.specs.Prelude.{if◌then◌else◌}
 use Rattle.py_lines.specs.Piece.{string, Piece, spelled}
 use Rattle.py_lines.specs.Balance.{depth_through}
 use Rattle.py_lines.specs.FieldStrings.{Host, Place}
-use Rattle.py_lines.specs.declared.mode.Mode.{Mode}
-use Rattle.py_lines.specs.declared.mode.Mode.TheVariants as modes
-use Rattle.py_lines.specs.declared.mode.Move.{Move}
-use Rattle.py_lines.specs.declared.mode.Move.TheVariants as moves
-use Rattle.py_lines.specs.Private.Machine.{Scanned, fresh, moved, Bracket, brackets_of}
+use Rattle.py_lines.specs.Private.Machine.{Mode, Move, Scanned, fresh, moved, Bracket, brackets_of}
 use Rattle.py_lines.specs.Private.FieldMachine.{At, FieldMode, FieldMove, grows, closes, breaks, Level, FieldScanned, field_state, field_fresh, field_text_start, field_class_of, field_move, field_moved, field_step, frames, has_room, has_room_at, text_place, before}
 use Rattle.py_lines.specs.Private.ScanMachine.{meet_of, string_move, has_room_in, fielded_move, move_at, IsInString}
 use Rattle.py_lines.proofs.Pieces.PieceLists.{piece}
@@ -25,8 +21,8 @@ use Rattle.py_lines.proofs.ScanMachine.Follows.{openers_of, openers-length, flat
 
 -- what comes of a move that does not end the string
 abbrev goes_or_not : Option FieldScanned → Move
-goes_or_not None = moves.Refused
-goes_or_not (Some n) = moves.Grows modes.Fielded
+goes_or_not None = Move.Refused
+goes_or_not (Some n) = Move.Grows Mode.Fielded
 
 string_stays : (outer : List Level) (v : FieldMove) (o : Option FieldScanned) → KeepsString outer v → string_move outer v o ≡ goes_or_not o
 string_stays [] closes o keeps = absurd keeps
@@ -50,7 +46,7 @@ ends_or_stays [] v stays = inr tt
 
 module _ (done : List Piece) (held : List ℕ) (st : List Bracket) (c : ℕ) (stack : brackets_of done ≡ Some st) (t : FieldScanned) (alone : GoesAlone (depth_through 0 done) held t) (inside : IsInString t) (bare : t ≡ rebased [] [] t) where
   abbrev S : Scanned
-  S = scanned done modes.Fielded held
+  S = scanned done Mode.Fielded held
 
   abbrev os : List ℕ
   os = openers_of st
@@ -70,8 +66,8 @@ module _ (done : List Piece) (held : List ℕ) (st : List Bracket) (c : ℕ) (st
   room_same : has_room T c ≡ has_room_in (depth_through 0 done) t c
   room_same = ap (λ (n : ℕ). has_room_at n c v) (frames_more done os t ∙ ap (λ (x : FieldScanned). length os + frames x) (sym bare) ∙ ap (λ (n : ℕ). n + frames t) (sym deep))
 
-  scan_move : (b : Bool) → has_room_in (depth_through 0 done) t c ≡ b → move_at S c ≡ (if b then string_move t.outer v (field_step t c) else moves.Refused)
-  scan_move b room = ap (λ (o : Option FieldScanned). fielded_move (depth_through 0 done) o c) alone.steps ∙ ap (λ (x : Bool). if x then string_move t.outer v (field_step t c) else moves.Refused) room
+  scan_move : (b : Bool) → has_room_in (depth_through 0 done) t c ≡ b → move_at S c ≡ (if b then string_move t.outer v (field_step t c) else Move.Refused)
+  scan_move b room = ap (λ (o : Option FieldScanned). fielded_move (depth_through 0 done) o c) alone.steps ∙ ap (λ (x : Bool). if x then string_move t.outer v (field_step t c) else Move.Refused) room
 
   -- both moves are known
   both : (w : Move) (b : Bool) (o : Option FieldScanned) → move_at S c ≡ w → has_room T c ≡ b → field_step T c ≡ o → Alike (kept_if (moved S c w)) (roomy b o) → StepsAlike S T c
@@ -83,7 +79,7 @@ module _ (done : List Piece) (held : List ℕ) (st : List Bracket) (c : ℕ) (st
   }
 
   no_room : has_room_in (depth_through 0 done) t c ≡ false → StepsAlike S T c
-  no_room room = both moves.Refused false (field_step T c) (scan_move false room) (room_same ∙ room) refl tt
+  no_room room = both Move.Refused false (field_step T c) (scan_move false room) (room_same ∙ room) refl tt
 
   -- the string goes on, or refuses the character
   goes_on : has_room_in (depth_through 0 done) t c ≡ true → KeepsString t.outer v → StepsAlike S T c
@@ -100,12 +96,12 @@ module _ (done : List Piece) (held : List ℕ) (st : List Bracket) (c : ℕ) (st
 
       by : (o : Option FieldScanned) → field_step t c ≡ o → StepsAlike S T c
       by None is =
-          both moves.Refused true None (scan_move true room ∙ ap (string_move t.outer v) is ∙ string_stays t.outer v None keeps) (room_same ∙ room) (field ∙ ap (rebased_if done os) is) tt
+          both Move.Refused true None (scan_move true room ∙ ap (string_move t.outer v) is ∙ string_stays t.outer v None keeps) (room_same ∙ room) (field ∙ ap (rebased_if done os) is) tt
       by (Some n) is =
           let more = alone_more (depth_through 0 done) held c t n alone room is in
           let own : IsAlone (depth_through 0 done) (held ++ c ∷ []) = record { state = n; goes = more; inside = subst InStringIf is still; bare = some_is n (rebased [] [] n) (sym is ∙ bare_step ∙ ap (rebased_if [] []) is) } in
-          both (moves.Grows modes.Fielded) true (Some (rebased done os n)) (scan_move true room ∙ ap (string_move t.outer v) is ∙ string_stays t.outer v (Some n) keeps) (room_same ∙ room) (field ∙ ap (rebased_if done os) is)
-          (alike_kept (scanned done modes.Fielded (held ++ c ∷ [])) (rebased done os n) st (record { stack = stack; flat_is = ap (rebased_if done os) more.steps; own = own }))
+          both (Move.Grows Mode.Fielded) true (Some (rebased done os n)) (scan_move true room ∙ ap (string_move t.outer v) is ∙ string_stays t.outer v (Some n) keeps) (room_same ∙ room) (field ∙ ap (rebased_if done os) is)
+          (alike_kept (scanned done Mode.Fielded (held ++ c ∷ [])) (rebased done os n) st (record { stack = stack; flat_is = ap (rebased_if done os) more.steps; own = own }))
 
   -- a state with no field open
   outside_is : t.outer ≡ [] → t.held ≡ held
@@ -123,7 +119,7 @@ module _ (done : List Piece) (held : List ℕ) (st : List Bracket) (c : ℕ) (st
       let field : field_step T c ≡ Some (field_fresh [] (done ++ p ∷ []) os)
       = ap (λ (x : FieldScanned). field_step x c) whole ∙ ap (field_moved (field_state [] done os t.mode t.held) c) is
       ∙ ap (λ k. Some (field_fresh [] (done ++ piece k (t.held ++ c ∷ []) ∷ []) os)) class ∙ ap (λ x. Some (field_fresh [] (done ++ piece string (x ++ c ∷ []) ∷ []) os)) (outside_is none) in
-      both moves.Closes true (Some (field_fresh [] (done ++ p ∷ []) os)) (scan_move true room ∙ ap (λ (l : List Level). string_move l v (field_step t c)) none ∙ ap (λ (w : FieldMove). string_move [] w (field_step t c)) is) (room_same ∙ room) field
+      both Move.Closes true (Some (field_fresh [] (done ++ p ∷ []) os)) (scan_move true room ∙ ap (λ (l : List Level). string_move l v (field_step t c)) none ∙ ap (λ (w : FieldMove). string_move [] w (field_step t c)) is) (room_same ∙ room) field
       (alike_kept (fresh (done ++ p ∷ [])) (field_fresh [] (done ++ p ∷ []) os) st (tied_fresh done p st refl refl stack))
 
   fielded_steps : StepsAlike S T c
@@ -136,11 +132,11 @@ module _ (done : List Piece) (held : List ℕ) (st : List Bracket) (c : ℕ) (st
 -- one character, wherever the two machines stand together
 tied_mode : (m : Mode) (done : List Piece) (held : List ℕ) (st : List Bracket) (t : FieldScanned) (c : ℕ) → brackets_of done ≡ Some st → flat m done (openers_of st) held ≡ Some t → Own m (depth_through 0 done) held → StepsAlike (scanned done m held) t c
 unfolding meet_of
-tied_mode (modes.Word s) done held st t c stack is own = subst (λ x. StepsAlike (scanned done (modes.Word s) held) x c) (some_is _ t is) (word_steps s done held st c own stack)
-tied_mode (modes.FieldOpened h) done held st t c stack is own = subst (λ x. StepsAlike (scanned done (modes.FieldOpened h) held) x c) (some_is _ t is) (opened_steps h done held st c own stack)
-tied_mode (modes.FieldEmpty h) done held st t c stack is own = subst (λ x. StepsAlike (scanned done (modes.FieldEmpty h) held) x c) (some_is _ t is) (empty_steps h done held st c own stack)
-tied_mode modes.Fielded done held st t c stack is own =
-    subst (λ x. StepsAlike (scanned done modes.Fielded held) x c) (some_is (rebased done (openers_of st) own.state) t (sym (ap (rebased_if done (openers_of st)) own.goes.steps) ∙ is))
+tied_mode (Mode.Word s) done held st t c stack is own = subst (λ x. StepsAlike (scanned done (Mode.Word s) held) x c) (some_is _ t is) (word_steps s done held st c own stack)
+tied_mode (Mode.FieldOpened h) done held st t c stack is own = subst (λ x. StepsAlike (scanned done (Mode.FieldOpened h) held) x c) (some_is _ t is) (opened_steps h done held st c own stack)
+tied_mode (Mode.FieldEmpty h) done held st t c stack is own = subst (λ x. StepsAlike (scanned done (Mode.FieldEmpty h) held) x c) (some_is _ t is) (empty_steps h done held st c own stack)
+tied_mode Mode.Fielded done held st t c stack is own =
+    subst (λ x. StepsAlike (scanned done Mode.Fielded held) x c) (some_is (rebased done (openers_of st) own.state) t (sym (ap (rebased_if done (openers_of st)) own.goes.steps) ∙ is))
     (fielded_steps done held st c stack own.state own.goes own.inside own.bare)
 tied_mode m done held st t c stack is own = subst (λ x. StepsAlike (scanned done m held) x c) (some_is _ t is) (plain_steps m done held st c refl refl refl refl stack)
 

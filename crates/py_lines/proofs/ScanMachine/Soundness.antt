@@ -5,19 +5,13 @@ use Rattle.std.proofs.lemmas.Bool.{and_from, both_ways}
 use Rattle.py_lines.specs.Piece.{Piece, spelled}
 use Rattle.py_lines.specs.Balance.{depth_through}
 use Rattle.py_lines.specs.Fields.{AreReadBefore}
-use Rattle.py_lines.specs.declared.mode.Mode.{Mode}
-use Rattle.py_lines.specs.declared.mode.Mode.TheVariants as modes
-use Rattle.py_lines.specs.declared.mode.Move.{Move}
-use Rattle.py_lines.specs.declared.mode.Move.TheVariants as moves
-use Rattle.py_lines.specs.declared.mode.Start.{Start}
-use Rattle.py_lines.specs.declared.mode.Start.TheVariants as starts
-use Rattle.py_lines.specs.Private.Machine.{Scanned, text_start, closed, started, moved, start_of, is_final, Bracket, brackets_of}
+use Rattle.py_lines.specs.Private.Machine.{Mode, Move, Start, Scanned, text_start, closed, started, moved, start_of, is_final, Bracket, brackets_of}
 use Rattle.py_lines.specs.Private.FieldMachine.{FieldMode, plain, opened, empty, Level, FieldScanned, field_state, field_text_start, field_step, field_steps_from, frames, has_room, have_room}
 use Rattle.py_lines.specs.Private.ScanMachine.{host_in, move_at, scan_step, scan_steps, IsBare, HoldsOpen, StringsFit, IsScanSound}
 use Rattle.py_lines.specs.Private.Scan.{line_start}
 use Rattle.py_lines.proofs.Pieces.ShallowPieces.{strings_shallow}
 use Rattle.py_lines.proofs.Machine.Starts.{StartsSo, starts_so}
-use Rattle.py_lines.proofs.Machine.FinishedPieces.{stack_at}
+use Rattle.py_lines.proofs.Machine.EarlierPieces.{stack_at}
 use Rattle.py_lines.proofs.Machine.PieceSteps.{scanned, pieces_at}
 use Rattle.py_lines.proofs.FieldSoundness.Holds.{HoldsMode, AtStart, IsFieldSound}
 use Rattle.py_lines.proofs.FieldSoundness.Lists.{FieldSoundIf}
@@ -45,20 +39,20 @@ pub record StandsSound (m : Mode) (read : List ℕ) (s : Scanned) (st : List Bra
 -- what stands before a string that goes on stays
 abbrev Stays : Scanned → ℕ → Option Scanned → Type 0
 Stays s c None = Unit {0}
-Stays s c (Some n) = n.mode ≡ modes.Fielded → (n.done ≡ s.done) × (n.held ≡ s.held ++ c ∷ [])
+Stays s c (Some n) = n.mode ≡ Mode.Fielded → (n.done ≡ s.done) × (n.held ≡ s.held ++ c ∷ [])
 
 started_stays : (s : Scanned) (all : List Piece) (c : ℕ) (x : Start) → StartsSo c x → Stays s c (started all c x)
-started_stays s all c (starts.Open modes.Fielded) so = absurd so
-started_stays s all c (starts.Open m) so = λ is. absurd (cc)
-started_stays s all c starts.Operator so = λ is. absurd (cc)
-started_stays s all c starts.LineEnd so = λ is. absurd (cc)
-started_stays s all c starts.Nothing so = tt
+started_stays s all c (Start.Open Mode.Fielded) so = absurd so
+started_stays s all c (Start.Open m) so = λ is. absurd (cc)
+started_stays s all c Start.Operator so = λ is. absurd (cc)
+started_stays s all c Start.LineEnd so = λ is. absurd (cc)
+started_stays s all c Start.Nothing so = tt
 
 moved_stays : (s : Scanned) (c : ℕ) (v : Move) → Stays s c (moved s c v)
-moved_stays s c (moves.Grows m) = λ is. (refl, refl)
-moved_stays s c moves.Closes = λ is. absurd (cc)
-moved_stays s c moves.Breaks = started_stays s (closed s.mode s.done s.held) c (start_of c) (starts_so c)
-moved_stays s c moves.Refused = tt
+moved_stays s c (Move.Grows m) = λ is. (refl, refl)
+moved_stays s c Move.Closes = λ is. absurd (cc)
+moved_stays s c Move.Breaks = started_stays s (closed s.mode s.done s.held) c (start_of c) (starts_so c)
+moved_stays s c Move.Refused = tt
 
 -- a string alone has nothing before it
 level_bare : (l : Level) (ls : List Level) (ps : List Piece) (os : List ℕ) → IsBare (based [] [] l ls) ps os
@@ -74,18 +68,11 @@ is_bare (l ∷ ls) ps os m held = level_bare l ls ps os
 
 -- what a piece without fields holds
 open_of : (m : Mode) (done : List Piece) (held : List ℕ) → HoldsMode two_hundred [] 0 (plain m) held → AtStart (plain m) [] done → HoldsOpen m done held
-open_of modes.Start done held mode start = (start.1, mode.0.1)
-open_of modes.Free done held mode start = mode.0
-open_of modes.Space done held mode start = mode.0
-open_of (modes.Word s) done held mode start = mode.0
-open_of modes.Comment done held mode start = mode.0
-open_of modes.Backslash done held mode start = mode.0
-open_of modes.JoinReturn done held mode start = mode.0
-open_of modes.Return done held mode start = mode.0
-open_of (modes.FieldOpened h) done held mode start = absurd mode.0
-open_of (modes.FieldEmpty h) done held mode start = absurd mode.0
-open_of modes.Fielded done held mode start = absurd mode.0
-open_of string_mode done held mode start = (mode.0, mode.1 refl)
+open_of Mode.Start done held mode start = ((start.1, mode.0.1), mode.1)
+open_of (Mode.FieldOpened h) done held mode start = absurd mode.0
+open_of (Mode.FieldEmpty h) done held mode start = absurd mode.0
+open_of Mode.Fielded done held mode start = absurd mode.0
+open_of m done held mode start = mode
 
 field_as : (t u : FieldScanned) (read : List ℕ) → Some u ≡ Some t → IsFieldSound two_hundred t read → IsFieldSound two_hundred u read
 field_as t u read is field = subst (λ x. IsFieldSound two_hundred x read) (sym (some_is u t is)) field
@@ -105,9 +92,9 @@ module _ (s : Scanned) (read : List ℕ) (c : ℕ) (sound : IsScanSound s read) 
 
   -- the state that follows
   next_sound : (m : Mode) (done : List Piece) (held : List ℕ) (os : List ℕ) (t : FieldScanned) → Stays s c (Some (scanned done m held)) → flat m done os held ≡ Some t → Own m (depth_through 0 done) held → IsFieldSound two_hundred t all → IsScanSound (scanned done m held) all
-  next_sound (modes.FieldOpened h) done held os t stays is own field = sound_as (modes.FieldOpened h) (opened (host_in h)) done os held all (field_as t _ all is field) own.0.steps
-  next_sound (modes.FieldEmpty h) done held os t stays is own field = sound_as (modes.FieldEmpty h) (empty (host_in h)) done os held all (field_as t _ all is field) own.steps
-  next_sound modes.Fielded done held os t stays is own field =
+  next_sound (Mode.FieldOpened h) done held os t stays is own field = sound_as (Mode.FieldOpened h) (opened (host_in h)) done os held all (field_as t _ all is field) own.0.steps
+  next_sound (Mode.FieldEmpty h) done held os t stays is own field = sound_as (Mode.FieldEmpty h) (empty (host_in h)) done os held all (field_as t _ all is field) own.steps
+  next_sound Mode.Fielded done held os t stays is own field =
       let (before, grown) = stays refl in
       let longer : (more : List ℕ) → held ++ more ≡ s.held ++ c ∷ more = λ more. ap (λ x. x ++ more) grown ∙ append_assoc s.held (c ∷ []) more in
       record {
@@ -165,25 +152,25 @@ pub start_tied : IsTied field_text_start text_start []
 start_tied = record { stack = refl; flat_is = refl; own = tt }
 
 start_sound : (m : Mode) → HoldsOpen m [] [] → IsScanSound (line_start m) [] → StandsSound m [] (line_start m) []
-start_sound modes.Start holds start = record { state = field_text_start; steps = refl; room = refl; tied = start_tied; field = field_soundness.start_is_sound two_hundred; scan = start }
-start_sound modes.Free holds start = record {
-  state = field_start modes.Free;
+start_sound Mode.Start holds start = record { state = field_text_start; steps = refl; room = refl; tied = start_tied; field = field_soundness.start_is_sound two_hundred; scan = start }
+start_sound Mode.Free holds start = record {
+  state = field_start Mode.Free;
   steps = refl;
   room = refl;
   tied = record { stack = refl; flat_is = refl; own = tt };
   field = record { spell = refl; mode = (refl, λ at. absurd (cc)); list = (field_soundness.start_is_sound two_hundred).list; levels = tt; start = tt };
   scan = start;
 }
-start_sound modes.Space holds start = let stuck = holds.2 in absurd (cc)
-start_sound (modes.Word s) holds start = let stuck = holds.2 in absurd (cc)
-start_sound modes.Comment holds start = let stuck = holds.2 in absurd (cc)
-start_sound modes.Backslash holds start = let stuck = holds.1 in absurd (cc)
-start_sound modes.JoinReturn holds start = let stuck = holds.2 in absurd (cc)
-start_sound modes.Return holds start = let stuck = holds.1 in absurd (cc)
-start_sound (modes.FieldOpened h) holds start = let stuck = ap (λ (t : FieldScanned). t.mode) (some_is _ _ holds) in absurd (cc)
-start_sound (modes.FieldEmpty h) holds start = let stuck = ap (λ (t : FieldScanned). t.mode) (some_is _ _ holds) in absurd (cc)
-start_sound modes.Fielded holds start = let is = some_is field_text_start holds.state holds.steps in let stuck = (holds.inside (ap (λ (t : FieldScanned). t.outer) (sym is))).4 in absurd (cc)
-start_sound string_mode holds start = absurd (not_empty holds.1.prefix holds.1.quote holds.1.body holds.1.spell)
+start_sound Mode.Space holds start = let stuck = holds.0.2 in absurd (cc)
+start_sound (Mode.Word s) holds start = let stuck = holds.0.2 in absurd (cc)
+start_sound Mode.Comment holds start = let stuck = holds.0.2 in absurd (cc)
+start_sound Mode.Backslash holds start = let stuck = holds.0.1 in absurd (cc)
+start_sound Mode.JoinReturn holds start = let stuck = holds.0.2 in absurd (cc)
+start_sound Mode.Return holds start = let stuck = holds.0.1 in absurd (cc)
+start_sound (Mode.FieldOpened h) holds start = let stuck = ap (λ (t : FieldScanned). t.mode) (some_is _ _ holds) in absurd (cc)
+start_sound (Mode.FieldEmpty h) holds start = let stuck = ap (λ (t : FieldScanned). t.mode) (some_is _ _ holds) in absurd (cc)
+start_sound Mode.Fielded holds start = let is = some_is field_text_start holds.state holds.steps in let stuck = (holds.inside (ap (λ (t : FieldScanned). t.outer) (sym is))).4 in absurd (cc)
+start_sound string_mode holds start = let plain = holds.1 refl in absurd (not_empty plain.prefix plain.quote plain.body plain.spell)
 
 -- where the machine goes to from a line's start is sound
 pub stands_sound : (m : Mode) (cs : List ℕ) (s : Scanned) (st : List Bracket) → IsScanSound (line_start m) [] → GoesTo (line_start m) cs s st → StandsSound m cs s st
@@ -191,10 +178,10 @@ stands_sound m cs s st start to = run_sound m cs (line_start m) [] [] (start_sou
 
 -- and from the text's
 pub start_is_sound : IsScanSound text_start []
-start_is_sound = record { spell = refl; holds = (refl, refl); fit = λ more. tt; strings = tt }
+start_is_sound = record { spell = refl; holds = ((refl, refl), λ at. absurd (cc)); fit = λ more. tt; strings = tt }
 
-pub comes_along : (cs : List ℕ) (s : Scanned) (st : List Bracket) → RunsTo cs s st → StandsSound modes.Start cs s st
-comes_along cs s st to = stands_sound modes.Start cs s st start_is_sound to
+pub comes_along : (cs : List ℕ) (s : Scanned) (st : List Bracket) → RunsTo cs s st → StandsSound Mode.Start cs s st
+comes_along cs s st to = stands_sound Mode.Start cs s st start_is_sound to
 
 pub sound_at : (cs : List ℕ) (s : Scanned) (st : List Bracket) → RunsTo cs s st → IsScanSound s cs
 sound_at cs s st to = (comes_along cs s st to).scan
@@ -209,11 +196,11 @@ ends_as : (m : Mode) (done : List Piece) (os held read : List ℕ) → EndsList 
 ends_as m done os held read ends spell = record { spell = ends.spell ∙ spell; fit = ends.fit; strings = strings_shallow 0 (closed m done held) ends.passes }
 
 ends_in : (m : Mode) (done : List Piece) (os held read : List ℕ) (t : FieldScanned) → flat m done os held ≡ Some t → IsFieldSound two_hundred t read → is_final m ≡ true → EndsSound (scanned done m held) read
-ends_in (modes.FieldOpened h) done os held read t is field may = absurd (both_ways _ refl may)
-ends_in (modes.FieldEmpty h) done os held read t is field may =
+ends_in (Mode.FieldOpened h) done os held read t is field may = absurd (both_ways _ refl may)
+ends_in (Mode.FieldEmpty h) done os held read t is field may =
     let own = field_as t (field_state [] done os (empty (host_in h)) held) read is field in
-    ends_as (modes.FieldEmpty h) done os held read (list_ends two_hundred [] done os (empty (host_in h)) held read own refl) own.spell
-ends_in modes.Fielded done os held read t is field may = absurd (both_ways _ refl may)
+    ends_as (Mode.FieldEmpty h) done os held read (list_ends two_hundred [] done os (empty (host_in h)) held read own refl) own.spell
+ends_in Mode.Fielded done os held read t is field may = absurd (both_ways _ refl may)
 ends_in m done os held read t is field may =
     let own = field_as t (field_state [] done os (plain m) held) read is field in
     ends_as m done os held read (list_ends two_hundred [] done os (plain m) held read own may) own.spell
@@ -222,4 +209,4 @@ pub end_sound : (m : Mode) (read : List ℕ) (s : Scanned) (st : List Bracket) �
 end_sound m read s st here may = ends_in s.mode s.done (openers_of st) s.held read here.state here.tied.flat_is here.field may
 
 pub ends_sound : (cs : List ℕ) (s : Scanned) (st : List Bracket) → RunsTo cs s st → is_final s.mode ≡ true → EndsSound s cs
-ends_sound cs s st to may = end_sound modes.Start cs s st (comes_along cs s st to) may
+ends_sound cs s st to may = end_sound Mode.Start cs s st (comes_along cs s st to) may

@@ -2,12 +2,7 @@
 use Rattle.std.proofs.Common.{◌≡◌, ℕ, true, Some, List, [], ◌∷◌, refl}
 use Rattle.py_lines.specs.Character.{is_word_character}
 use Rattle.py_lines.specs.Balance.{depth_through}
-use Rattle.py_lines.specs.declared.mode.Spelling.{Spelling}
-use Rattle.py_lines.specs.declared.mode.Mode.{Mode}
-use Rattle.py_lines.specs.declared.mode.Mode.TheVariants as modes
-use Rattle.py_lines.specs.declared.mode.Move.TheVariants as moves
-use Rattle.py_lines.specs.declared.mode.Start.{Start}
-use Rattle.py_lines.specs.Private.Machine.{Scanned, started, move_of, start_of, spelling_with}
+use Rattle.py_lines.specs.Private.Machine.{Spelling, Mode, Move, Start, Scanned, started, move_of, start_of, spelling_with}
 use Rattle.py_lines.specs.Private.ScanMachine.{meet_of, move_in, move_at, scan_steps}
 use Rattle.py_lines.proofs.Machine.PieceSteps.{pieces_at, StopsBy, begun_by}
 
@@ -16,26 +11,26 @@ abbrev pub StopsBefore : Mode → List ℕ → Type 0
 StopsBefore m rest = StopsBy meet_of m rest
 
 -- a piece that ends before a character is no string with fields that holds something
-pub breaks_in : (m : Mode) (depth : ℕ) (held : List ℕ) (c : ℕ) → meet_of m c ≡ moves.Breaks → move_in m depth held c ≡ moves.Breaks
+pub breaks_in : (m : Mode) (depth : ℕ) (held : List ℕ) (c : ℕ) → meet_of m c ≡ Move.Breaks → move_in m depth held c ≡ Move.Breaks
 unfolding meet_of move_of
-breaks_in modes.Fielded depth held c h = absurd (cc)
+breaks_in Mode.Fielded depth held c h = absurd (cc)
 breaks_in m depth held c h = h
 
 -- what holds of a mode other than that
-pub meets : (m : Mode) (depth : ℕ) (held : List ℕ) (c : ℕ) → (m ≡ modes.Fielded → ⊥) → move_in m depth held c ≡ meet_of m c
-meets modes.Fielded depth held c other = absurd (other refl)
+pub meets : (m : Mode) (depth : ℕ) (held : List ℕ) (c : ℕ) → (m ≡ Mode.Fielded → ⊥) → move_in m depth held c ≡ meet_of m c
+meets Mode.Fielded depth held c other = absurd (other refl)
 meets m depth held c other = refl
 
 -- a new piece begins where the machine may stop
 pub begun : (from : Scanned) (c : ℕ) (cs after : List ℕ) (s : Start) → StopsBefore from.mode (c ∷ after) → start_of c ≡ s → scan_steps (Some from) (c ∷ cs) ≡ scan_steps (started (pieces_at from) c s) cs
 begun from c cs after s stops starts_as = begun_by move_at from c cs s (breaks_in from.mode (depth_through 0 from.done) from.held c stops) starts_as
 
-pub stops-free : (rest : List ℕ) → StopsBefore modes.Free rest
+pub stops-free : (rest : List ℕ) → StopsBefore Mode.Free rest
 unfolding meet_of move_of
 stops-free [] = refl
 stops-free (c ∷ cs) = refl
 
 -- a word goes on
-pub grow-word : (s : Spelling) (c : ℕ) → is_word_character c ≡ true → meet_of (modes.Word s) c ≡ moves.Grows (modes.Word (spelling_with s c))
+pub grow-word : (s : Spelling) (c : ℕ) → is_word_character c ≡ true → meet_of (Mode.Word s) c ≡ Move.Grows (Mode.Word (spelling_with s c))
 unfolding meet_of
 grow-word s c h = rw h

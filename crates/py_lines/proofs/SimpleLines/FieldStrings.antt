@@ -52,7 +52,7 @@ over_text : (s : Spelling) (q : ℕ) (text : List ℕ) → is_field_spelling s �
 over_text s q [] field quote full leads before read n st on = absurd full
 over_text s q (d ∷ ds) field quote full leads before read n st (few, on) =
     let done : List Piece = before.done in
-    let (c, cs, is, starts, letters, spells) = (come_sound before.mode read n st (scanned done (modes.Word s) on.held) on.come).holds in
+    let (c, cs, is, starts, letters, spells) = (come_sound before.mode read n st (scanned done (modes.Word s) on.held) on.come).holds.0 in
     let w : Spelling = spelling_on (first_spelling c) cs in
     let begun : is_field_prefix (c ∷ cs) ≡ true = (word_tells c cs).0 ∙ ap is_field_spelling (sym spells) ∙ field in
     let shallow : depth_through 0 done ≤ 100 = omega (arith, few, (brackets.stands done st on.come.stacked).depth) in

@@ -23,7 +23,7 @@ use Rattle.py_lines.proofs.SimpleLines.Tails.{come_sound, ended_stack, free_tail
 
 -- a machine that stands in no piece holds nothing
 free_at : (m : Mode) (done : List Piece) (held : List ℕ) → m ≡ modes.Free → HoldsOpen m done held → scanned done m held ≡ fresh done
-free_at modes.Free done held is holds = ap (scanned done modes.Free) holds
+free_at modes.Free done held is holds = ap (scanned done modes.Free) holds.0
 free_at m done held is holds = absurd (cc)
 
 -- a scan under way in no piece

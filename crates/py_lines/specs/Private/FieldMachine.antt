@@ -8,13 +8,7 @@ use Rattle.py_lines.specs.Piece.{Class, string, operator, line_end, Piece, spell
 use Rattle.py_lines.specs.Balance.{is_opening, is_closing, closing_of}
 use Rattle.py_lines.specs.LogicalLine.{first_or_zero}
 use Rattle.py_lines.specs.FieldStrings.{is_field_prefix, Host, Place, literal, specification, names}
-use Rattle.py_lines.specs.declared.mode.Mode.{Mode}
-use Rattle.py_lines.specs.declared.mode.Mode.TheVariants as modes
-use Rattle.py_lines.specs.declared.mode.Move.{Move}
-use Rattle.py_lines.specs.declared.mode.Move.TheVariants as moves
-use Rattle.py_lines.specs.declared.mode.Start.{Start}
-use Rattle.py_lines.specs.declared.mode.Start.TheVariants as starts
-use Rattle.py_lines.specs.Private.Machine.{class_of, closed, move_of, start_of, is_final, in_short, in_long, is_after_backslash}
+use Rattle.py_lines.specs.Private.Machine.{Mode, Move, Start, class_of, closed, move_of, start_of, is_final, in_short, in_long, is_after_backslash}
 
 -- How far a string with fields has come: between two parts; after one quote of its own in a long string, or after two; after
 -- a backslash; after a backslash and CR, to which LF may belong; after `\N`, to which `{` belongs; or after a `{` of the literal
@@ -73,15 +67,15 @@ field_state outer done openers mode held = record { outer = outer; done = done; 
 
 -- finished pieces, with none open after them
 abbrev pub field_fresh : List Level → List Piece → List ℕ → FieldScanned
-field_fresh outer done openers = field_state outer done openers (plain modes.Free) []
+field_fresh outer done openers = field_state outer done openers (plain Mode.Free) []
 
 -- at the text's start
 abbrev pub field_text_start : FieldScanned
-field_text_start = field_state [] [] [] (plain modes.Start) []
+field_text_start = field_state [] [] [] (plain Mode.Start) []
 
 -- whether a string with fields begins with this quote, after this text of the open piece
 abbrev pub begins_host : Mode → List ℕ → ℕ → Bool
-begins_host (modes.Word s) held c = is_field_prefix held && is_quote c
+begins_host (Mode.Word s) held c = is_field_prefix held && is_quote c
 begins_host other held c = false
 
 -- the string with fields that has this prefix and this quote, a short one as far as it is known
@@ -93,10 +87,10 @@ long_host host = record host { is_long = true }
 
 -- a move of the machine without fields
 abbrev pub plain_move : Move → FieldMove
-plain_move (moves.Grows m) = grows (plain m)
-plain_move moves.Closes = closes
-plain_move moves.Breaks = breaks
-plain_move moves.Refused = refused
+plain_move (Move.Grows m) = grows (plain m)
+plain_move Move.Closes = closes
+plain_move Move.Breaks = breaks
+plain_move Move.Refused = refused
 
 -- whether two quotes of a long string stand directly before
 abbrev pub is_after_two : At → Bool
@@ -219,11 +213,11 @@ field_operator (level ∷ outer) done (o ∷ os) c = after_operator (level ∷ o
 
 -- a new piece after finished ones
 abbrev pub field_started : List Level → List Piece → List ℕ → ℕ → Start → Option FieldScanned
-field_started outer done openers c (starts.Open m) = Some (field_state outer done openers (plain m) (c ∷ []))
-field_started outer done openers c starts.Operator = field_operator outer done openers c
-field_started outer done openers c starts.LineEnd =
+field_started outer done openers c (Start.Open m) = Some (field_state outer done openers (plain m) (c ∷ []))
+field_started outer done openers c Start.Operator = field_operator outer done openers c
+field_started outer done openers c Start.LineEnd =
     Some (field_fresh outer (done ++ record { class = line_end; text = c ∷ [] } ∷ []) openers)
-field_started outer done openers c starts.Nothing = None
+field_started outer done openers c Start.Nothing = None
 
 -- the field that opens in a string in this state, where the string's text goes so far
 abbrev pub opened_level : FieldScanned → Host → Place → List ℕ → Level

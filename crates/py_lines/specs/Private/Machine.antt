@@ -10,50 +10,46 @@ use Rattle.py_lines.specs.Balance.{is_opening, is_closing, is_opener, is_closer,
 use Rattle.py_lines.specs.LogicalLine.{first_or_zero, byte_len}
 use Rattle.py_lines.specs.declared.fault.FaultKind.{FaultKind}
 use Rattle.py_lines.specs.declared.fault.FaultKind.TheVariants as faults
-use Rattle.py_lines.specs.declared.mode.Spelling.{Spelling}
-use Rattle.py_lines.specs.declared.mode.Spelling.TheVariants as spellings
-use Rattle.py_lines.specs.declared.mode.Mode.{Mode}
-use Rattle.py_lines.specs.declared.mode.Mode.TheVariants as modes
-use Rattle.py_lines.specs.declared.mode.Move.{Move}
-use Rattle.py_lines.specs.declared.mode.Move.TheVariants as moves
-use Rattle.py_lines.specs.declared.mode.Start.{Start}
-use Rattle.py_lines.specs.declared.mode.Start.TheVariants as starts
+pub use Rattle.py_lines.specs.declared.mode.Spelling.{Spelling}
+pub use Rattle.py_lines.specs.declared.mode.Mode.{Mode}
+pub use Rattle.py_lines.specs.declared.mode.Move.{Move}
+pub use Rattle.py_lines.specs.declared.mode.Start.{Start}
 
 -- the spelling of a word of one character
 unfoldable pub first_spelling : ℕ → Spelling
 first_spelling c =
-    if is_digit c then spellings.Number
-    else (if is_r c then spellings.R
-    else (if is_b c then spellings.B
-    else (if is_f c then spellings.F
-    else (if is_t c then spellings.T
-    else (if is_u c then spellings.Prefix
-    else spellings.Name)))))
+    if is_digit c then Spelling.Number
+    else (if is_r c then Spelling.R
+    else (if is_b c then Spelling.B
+    else (if is_f c then Spelling.F
+    else (if is_t c then Spelling.T
+    else (if is_u c then Spelling.Prefix
+    else Spelling.Name)))))
 
 -- the spelling of a word with one more character
 unfoldable pub spelling_with : Spelling → ℕ → Spelling
-spelling_with spellings.Number c = spellings.Number
-spelling_with spellings.R c =
-    if is_b c then spellings.Prefix else (if is_f c then spellings.Fr else (if is_t c then spellings.Tr else spellings.Name))
-spelling_with spellings.B c = if is_r c then spellings.Prefix else spellings.Name
-spelling_with spellings.F c = if is_r c then spellings.Fr else spellings.Name
-spelling_with spellings.Fr c = spellings.Name
-spelling_with spellings.T c = if is_r c then spellings.Tr else spellings.Name
-spelling_with spellings.Tr c = spellings.Name
-spelling_with spellings.Prefix c = spellings.Name
-spelling_with spellings.Name c = spellings.Name
+spelling_with Spelling.Number c = Spelling.Number
+spelling_with Spelling.R c =
+    if is_b c then Spelling.Prefix else (if is_f c then Spelling.Fr else (if is_t c then Spelling.Tr else Spelling.Name))
+spelling_with Spelling.B c = if is_r c then Spelling.Prefix else Spelling.Name
+spelling_with Spelling.F c = if is_r c then Spelling.Fr else Spelling.Name
+spelling_with Spelling.Fr c = Spelling.Name
+spelling_with Spelling.T c = if is_r c then Spelling.Tr else Spelling.Name
+spelling_with Spelling.Tr c = Spelling.Name
+spelling_with Spelling.Prefix c = Spelling.Name
+spelling_with Spelling.Name c = Spelling.Name
 
 -- whether the word may be the prefix of a string without fields
 abbrev pub is_prefix_spelling : Spelling → Bool
-is_prefix_spelling spellings.Number = false
-is_prefix_spelling spellings.R = true
-is_prefix_spelling spellings.B = true
-is_prefix_spelling spellings.F = true
-is_prefix_spelling spellings.Fr = true
-is_prefix_spelling spellings.T = false
-is_prefix_spelling spellings.Tr = false
-is_prefix_spelling spellings.Prefix = true
-is_prefix_spelling spellings.Name = false
+is_prefix_spelling Spelling.Number = false
+is_prefix_spelling Spelling.R = true
+is_prefix_spelling Spelling.B = true
+is_prefix_spelling Spelling.F = true
+is_prefix_spelling Spelling.Fr = true
+is_prefix_spelling Spelling.T = false
+is_prefix_spelling Spelling.Tr = false
+is_prefix_spelling Spelling.Prefix = true
+is_prefix_spelling Spelling.Name = false
 
 -- the spelling of a word that goes on
 abbrev pub spelling_on : Spelling → List ℕ → Spelling
@@ -63,52 +59,52 @@ spelling_on s (c ∷ cs) = spelling_on (spelling_with s c) cs
 -- what a character does in a short string that it doesn't end at once
 unfoldable pub short_move : ℕ → ℕ → Move
 short_move q c =
-    if is_backslash c then moves.Grows (modes.Escape q)
-    else (if is_break c then moves.Refused else moves.Grows (modes.Inside q))
+    if is_backslash c then Move.Grows (Mode.Escape q)
+    else (if is_break c then Move.Refused else Move.Grows (Mode.Inside q))
 
 -- what a character other than the quote does in a long string
 unfoldable pub long_move : ℕ → ℕ → Move
-long_move q c = if is_backslash c then moves.Grows (modes.LongEscape q) else moves.Grows (modes.Long q)
+long_move q c = if is_backslash c then Move.Grows (Mode.LongEscape q) else Move.Grows (Mode.Long q)
 
 -- what a character does to the piece that is open
 unfoldable pub move_of : Mode → ℕ → Move
-move_of modes.Start c = if is_mark c then moves.Closes else moves.Breaks
-move_of modes.Free c = moves.Breaks
-move_of modes.Space c = if is_space c then moves.Grows modes.Space else moves.Breaks
-move_of (modes.Word s) c =
-    if is_word_character c then moves.Grows (modes.Word (spelling_with s c))
-    else (if is_prefix_spelling s && is_quote c then moves.Grows (modes.Opened c) else moves.Breaks)
-move_of modes.Comment c = if is_break c then moves.Breaks else moves.Grows modes.Comment
-move_of (modes.Opened q) c = if c == q then moves.Grows (modes.Empty q) else short_move q c
-move_of (modes.Inside q) c = if c == q then moves.Closes else short_move q c
-move_of (modes.Escape q) c = if is_return c then moves.Grows (modes.EscapeReturn q) else moves.Grows (modes.Inside q)
-move_of (modes.EscapeReturn q) c =
-    if is_line_feed c then moves.Grows (modes.Inside q)
-    else (if c == q then moves.Closes else short_move q c)
-move_of (modes.Empty q) c = if c == q then moves.Grows (modes.Long q) else moves.Breaks
-move_of (modes.Long q) c = if c == q then moves.Grows (modes.LongOne q) else long_move q c
-move_of (modes.LongOne q) c = if c == q then moves.Grows (modes.LongTwo q) else long_move q c
-move_of (modes.LongTwo q) c = if c == q then moves.Closes else long_move q c
-move_of (modes.LongEscape q) c = moves.Grows (modes.Long q)
-move_of (modes.FieldOpened h) c = moves.Refused
-move_of (modes.FieldEmpty h) c = moves.Refused
-move_of modes.Fielded c = moves.Refused
-move_of modes.Backslash c = if is_line_feed c then moves.Closes else (if is_return c then moves.Grows modes.JoinReturn else moves.Refused)
-move_of modes.JoinReturn c = if is_line_feed c then moves.Closes else moves.Breaks
-move_of modes.Return c = if is_line_feed c then moves.Closes else moves.Breaks
+move_of Mode.Start c = if is_mark c then Move.Closes else Move.Breaks
+move_of Mode.Free c = Move.Breaks
+move_of Mode.Space c = if is_space c then Move.Grows Mode.Space else Move.Breaks
+move_of (Mode.Word s) c =
+    if is_word_character c then Move.Grows (Mode.Word (spelling_with s c))
+    else (if is_prefix_spelling s && is_quote c then Move.Grows (Mode.Opened c) else Move.Breaks)
+move_of Mode.Comment c = if is_break c then Move.Breaks else Move.Grows Mode.Comment
+move_of (Mode.Opened q) c = if c == q then Move.Grows (Mode.Empty q) else short_move q c
+move_of (Mode.Inside q) c = if c == q then Move.Closes else short_move q c
+move_of (Mode.Escape q) c = if is_return c then Move.Grows (Mode.EscapeReturn q) else Move.Grows (Mode.Inside q)
+move_of (Mode.EscapeReturn q) c =
+    if is_line_feed c then Move.Grows (Mode.Inside q)
+    else (if c == q then Move.Closes else short_move q c)
+move_of (Mode.Empty q) c = if c == q then Move.Grows (Mode.Long q) else Move.Breaks
+move_of (Mode.Long q) c = if c == q then Move.Grows (Mode.LongOne q) else long_move q c
+move_of (Mode.LongOne q) c = if c == q then Move.Grows (Mode.LongTwo q) else long_move q c
+move_of (Mode.LongTwo q) c = if c == q then Move.Closes else long_move q c
+move_of (Mode.LongEscape q) c = Move.Grows (Mode.Long q)
+move_of (Mode.FieldOpened h) c = Move.Refused
+move_of (Mode.FieldEmpty h) c = Move.Refused
+move_of Mode.Fielded c = Move.Refused
+move_of Mode.Backslash c = if is_line_feed c then Move.Closes else (if is_return c then Move.Grows Mode.JoinReturn else Move.Refused)
+move_of Mode.JoinReturn c = if is_line_feed c then Move.Closes else Move.Breaks
+move_of Mode.Return c = if is_line_feed c then Move.Closes else Move.Breaks
 
 -- what a character begins
 unfoldable pub start_of : ℕ → Start
 start_of c =
-    if is_word_start c then starts.Open (modes.Word (first_spelling c))
-    else (if is_space c then starts.Open modes.Space
-    else (if is_operator c then starts.Operator
-    else (if is_line_feed c then starts.LineEnd
-    else (if is_return c then starts.Open modes.Return
-    else (if is_quote c then starts.Open (modes.Opened c)
-    else (if is_hash c then starts.Open modes.Comment
-    else (if is_backslash c then starts.Open modes.Backslash
-    else starts.Nothing)))))))
+    if is_word_start c then Start.Open (Mode.Word (first_spelling c))
+    else (if is_space c then Start.Open Mode.Space
+    else (if is_operator c then Start.Operator
+    else (if is_line_feed c then Start.LineEnd
+    else (if is_return c then Start.Open Mode.Return
+    else (if is_quote c then Start.Open (Mode.Opened c)
+    else (if is_hash c then Start.Open Mode.Comment
+    else (if is_backslash c then Start.Open Mode.Backslash
+    else Start.Nothing)))))))
 
 -- the pieces that are finished, and the one that is open
 pub record Scanned : Type 0 where
@@ -118,43 +114,43 @@ pub record Scanned : Type 0 where
 
 -- finished pieces, with none open after them
 abbrev pub fresh : List Piece → Scanned
-fresh pieces = record { done = pieces; mode = modes.Free; held = [] }
+fresh pieces = record { done = pieces; mode = Mode.Free; held = [] }
 
 -- at the text's start
 abbrev pub text_start : Scanned
-text_start = record { done = []; mode = modes.Start; held = [] }
+text_start = record { done = []; mode = Mode.Start; held = [] }
 
 -- the class of the open piece, and of what a character at the start or after no piece closes
 abbrev pub class_of : Mode → Class
-class_of modes.Start = mark
-class_of modes.Free = operator
-class_of modes.Space = space
-class_of (modes.Word s) = word
-class_of modes.Comment = comment
-class_of modes.Backslash = join
-class_of modes.JoinReturn = join
-class_of modes.Return = line_end
+class_of Mode.Start = mark
+class_of Mode.Free = operator
+class_of Mode.Space = space
+class_of (Mode.Word s) = word
+class_of Mode.Comment = comment
+class_of Mode.Backslash = join
+class_of Mode.JoinReturn = join
+class_of Mode.Return = line_end
 class_of string_mode = string
 
 -- the pieces, the open one with them
 abbrev pub closed : Mode → List Piece → List ℕ → List Piece
-closed modes.Start done held = done
-closed modes.Free done held = done
+closed Mode.Start done held = done
+closed Mode.Free done held = done
 closed m done held = done ++ record { class = class_of m; text = held } ∷ []
 
 -- a new piece after finished ones
 abbrev pub started : List Piece → ℕ → Start → Option Scanned
-started done c (starts.Open m) = Some (record { done = done; mode = m; held = c ∷ [] })
-started done c starts.Operator = Some (fresh (done ++ record { class = operator; text = c ∷ [] } ∷ []))
-started done c starts.LineEnd = Some (fresh (done ++ record { class = line_end; text = c ∷ [] } ∷ []))
-started done c starts.Nothing = None
+started done c (Start.Open m) = Some (record { done = done; mode = m; held = c ∷ [] })
+started done c Start.Operator = Some (fresh (done ++ record { class = operator; text = c ∷ [] } ∷ []))
+started done c Start.LineEnd = Some (fresh (done ++ record { class = line_end; text = c ∷ [] } ∷ []))
+started done c Start.Nothing = None
 
 -- the state after a character that does this to the open piece
 abbrev pub moved : Scanned → ℕ → Move → Option Scanned
-moved s c (moves.Grows m) = Some (record { done = s.done; mode = m; held = s.held ++ c ∷ [] })
-moved s c moves.Closes = Some (fresh (s.done ++ record { class = class_of s.mode; text = s.held ++ c ∷ [] } ∷ []))
-moved s c moves.Breaks = started (closed s.mode s.done s.held) c (start_of c)
-moved s c moves.Refused = None
+moved s c (Move.Grows m) = Some (record { done = s.done; mode = m; held = s.held ++ c ∷ [] })
+moved s c Move.Closes = Some (fresh (s.done ++ record { class = class_of s.mode; text = s.held ++ c ∷ [] } ∷ []))
+moved s c Move.Breaks = started (closed s.mode s.done s.held) c (start_of c)
+moved s c Move.Refused = None
 
 -- characters, one after another, each of which does so to the open piece
 abbrev pub steps_by : (Scanned → ℕ → Move) → Option Scanned → List ℕ → Option Scanned
@@ -174,38 +170,38 @@ steps_from s cs = steps_by move_from s cs
 
 -- whether the text may end there, brackets aside
 abbrev pub is_final : Mode → Bool
-is_final modes.Start = true
-is_final modes.Free = true
-is_final modes.Space = true
-is_final (modes.Word s) = true
-is_final modes.Comment = true
-is_final (modes.Empty q) = true
-is_final (modes.FieldEmpty h) = true
-is_final modes.JoinReturn = true
-is_final modes.Return = true
+is_final Mode.Start = true
+is_final Mode.Free = true
+is_final Mode.Space = true
+is_final (Mode.Word s) = true
+is_final Mode.Comment = true
+is_final (Mode.Empty q) = true
+is_final (Mode.FieldEmpty h) = true
+is_final Mode.JoinReturn = true
+is_final Mode.Return = true
 is_final other = false
 
 -- whether a short string is open
 abbrev pub in_short : Mode → Bool
-in_short (modes.Opened q) = true
-in_short (modes.Inside q) = true
-in_short (modes.Escape q) = true
-in_short (modes.EscapeReturn q) = true
-in_short (modes.FieldOpened h) = true
+in_short (Mode.Opened q) = true
+in_short (Mode.Inside q) = true
+in_short (Mode.Escape q) = true
+in_short (Mode.EscapeReturn q) = true
+in_short (Mode.FieldOpened h) = true
 in_short other = false
 
 -- whether a long string is open, or one with fields that holds something
 abbrev pub in_long : Mode → Bool
-in_long (modes.Long q) = true
-in_long (modes.LongOne q) = true
-in_long (modes.LongTwo q) = true
-in_long (modes.LongEscape q) = true
-in_long modes.Fielded = true
+in_long (Mode.Long q) = true
+in_long (Mode.LongOne q) = true
+in_long (Mode.LongTwo q) = true
+in_long (Mode.LongEscape q) = true
+in_long Mode.Fielded = true
 in_long other = false
 
 -- whether a backslash stands directly before, outside strings and comments
 abbrev pub is_after_backslash : Mode → Bool
-is_after_backslash modes.Backslash = true
+is_after_backslash Mode.Backslash = true
 is_after_backslash other = false
 
 -- the fault of a character that the machine refuses in this mode
@@ -265,20 +261,6 @@ abbrev pub IsFull : List ℕ → Type 0
 IsFull [] = ⊥
 IsFull (c ∷ cs) = Unit {0}
 
--- a prefix, a quote, and whole items of a short string
-pub record HoldsItems (q : ℕ) (held : List ℕ) : Type 0 where
-  pub prefix : List ℕ
-  pub items : List (List ℕ)
-  pub spell : held ≡ prefix ++ (q ∷ joined items)
-  pub begun : IsPrefix prefix
-  pub opens : is_quote q ≡ true
-  pub each : list_all (is_short_item q) items ≡ true
-
--- items that are some characters together
-pub record HoldsSome (q : ℕ) (held : List ℕ) : Type 0 where
-  pub all : HoldsItems q held
-  pub full : IsFull (joined all.items)
-
 -- a prefix, and quotes
 pub record HoldsQuotes (quotes : List ℕ) (q : ℕ) (held : List ℕ) : Type 0 where
   pub prefix : List ℕ
@@ -286,54 +268,61 @@ pub record HoldsQuotes (quotes : List ℕ) (q : ℕ) (held : List ℕ) : Type 0 
   pub begun : IsPrefix prefix
   pub opens : is_quote q ≡ true
 
--- a prefix, three quotes, and whole items of a long string, which these items after them don't close
-pub record HoldsItemsBefore (after : List (List ℕ)) (q : ℕ) (held : List ℕ) : Type 0 where
+-- a prefix, these quotes, and whole items that may be held
+pub record HoldsItems (quotes : List ℕ) (MayHold : List (List ℕ) → Type 0) (q : ℕ) (held : List ℕ) : Type 0 where
   pub prefix : List ℕ
   pub items : List (List ℕ)
-  pub spell : held ≡ prefix ++ (q ∷ q ∷ q ∷ joined items)
+  pub spell : held ≡ prefix ++ (quotes ++ joined items)
   pub begun : IsPrefix prefix
   pub opens : is_quote q ≡ true
-  pub each : list_all is_item items ≡ true
-  pub open_yet : has_triple q (items ++ after) ≡ false
+  pub holds : MayHold items
 
--- the long string isn't closed
+-- items of a short string
+abbrev pub HoldsShort : ℕ → List ℕ → Type 0
+HoldsShort q = HoldsItems (q ∷ []) (λ items. list_all (is_short_item q) items ≡ true) q
+
+-- which are some characters together
+abbrev pub HoldsSome : ℕ → List ℕ → Type 0
+HoldsSome q held = (short : HoldsShort q held) × IsFull (joined short.items)
+
+-- items of a long string, which isn't closed
 abbrev pub HoldsPrefix : ℕ → List ℕ → Type 0
-HoldsPrefix q = HoldsItemsBefore [] q
+HoldsPrefix q = HoldsItems (q ∷ q ∷ q ∷ []) (λ items. (list_all is_item items ≡ true) × (has_triple q items ≡ false)) q
 
 -- and it isn't after a quote: two more quotes don't close it
 abbrev pub HoldsLong : ℕ → List ℕ → Type 0
-HoldsLong q = HoldsItemsBefore ((q ∷ []) ∷ (q ∷ []) ∷ []) q
+HoldsLong q = HoldsItems (q ∷ q ∷ q ∷ []) (λ items. (list_all is_item items ≡ true) × (has_triple q (items ++ (q ∷ []) ∷ (q ∷ []) ∷ []) ≡ false)) q
 
 -- what the open piece spells, in each mode
 abbrev pub Holds : Mode → List Piece → List ℕ → Type 0
-Holds modes.Start done held = (done ≡ []) × (held ≡ [])
-Holds modes.Free done held = held ≡ []
-Holds modes.Space done held = IsRun is_space held
-Holds (modes.Word s) done held =
+Holds Mode.Start done held = (done ≡ []) × (held ≡ [])
+Holds Mode.Free done held = held ≡ []
+Holds Mode.Space done held = IsRun is_space held
+Holds (Mode.Word s) done held =
     (first : ℕ) × (others : List ℕ) × (held ≡ first ∷ others) × (is_word_start first ≡ true)
     × (list_all is_word_character others ≡ true) × (s ≡ spelling_on (first_spelling first) others)
-Holds modes.Comment done held = IsComment held
-Holds (modes.Opened q) done held = HoldsQuotes (q ∷ []) q held
-Holds (modes.Inside q) done held = HoldsSome q held
-Holds (modes.Escape q) done held =
-    (before : List ℕ) × (slash : ℕ) × (held ≡ before ++ slash ∷ []) × HoldsItems q before
+Holds Mode.Comment done held = IsComment held
+Holds (Mode.Opened q) done held = HoldsQuotes (q ∷ []) q held
+Holds (Mode.Inside q) done held = HoldsSome q held
+Holds (Mode.Escape q) done held =
+    (before : List ℕ) × (slash : ℕ) × (held ≡ before ++ slash ∷ []) × HoldsShort q before
     × (is_backslash slash ≡ true)
-Holds (modes.EscapeReturn q) done held =
-    (before : List ℕ) × (slash : ℕ) × (r : ℕ) × (held ≡ before ++ slash ∷ r ∷ []) × HoldsItems q before
+Holds (Mode.EscapeReturn q) done held =
+    (before : List ℕ) × (slash : ℕ) × (r : ℕ) × (held ≡ before ++ slash ∷ r ∷ []) × HoldsShort q before
     × (is_backslash slash ≡ true) × (is_return r ≡ true)
-Holds (modes.Empty q) done held = HoldsQuotes (q ∷ q ∷ []) q held
-Holds (modes.Long q) done held = HoldsLong q held
-Holds (modes.LongOne q) done held = (before : List ℕ) × (held ≡ before ++ q ∷ []) × HoldsLong q before
-Holds (modes.LongTwo q) done held = (before : List ℕ) × (held ≡ before ++ q ∷ q ∷ []) × HoldsLong q before
-Holds (modes.LongEscape q) done held =
+Holds (Mode.Empty q) done held = HoldsQuotes (q ∷ q ∷ []) q held
+Holds (Mode.Long q) done held = HoldsLong q held
+Holds (Mode.LongOne q) done held = (before : List ℕ) × (held ≡ before ++ q ∷ []) × HoldsLong q before
+Holds (Mode.LongTwo q) done held = (before : List ℕ) × (held ≡ before ++ q ∷ q ∷ []) × HoldsLong q before
+Holds (Mode.LongEscape q) done held =
     (before : List ℕ) × (slash : ℕ) × (held ≡ before ++ slash ∷ []) × HoldsPrefix q before
     × (is_backslash slash ≡ true)
-Holds (modes.FieldOpened h) done held = ⊥
-Holds (modes.FieldEmpty h) done held = ⊥
-Holds modes.Fielded done held = ⊥
-Holds modes.Backslash done held = (slash : ℕ) × (held ≡ slash ∷ []) × (is_backslash slash ≡ true)
-Holds modes.JoinReturn done held = (slash : ℕ) × (r : ℕ) × (held ≡ slash ∷ r ∷ []) × (is_backslash slash ≡ true) × (is_return r ≡ true)
-Holds modes.Return done held = (r : ℕ) × (held ≡ r ∷ []) × (is_return r ≡ true)
+Holds (Mode.FieldOpened h) done held = ⊥
+Holds (Mode.FieldEmpty h) done held = ⊥
+Holds Mode.Fielded done held = ⊥
+Holds Mode.Backslash done held = (slash : ℕ) × (held ≡ slash ∷ []) × (is_backslash slash ≡ true)
+Holds Mode.JoinReturn done held = (slash : ℕ) × (r : ℕ) × (held ≡ slash ∷ r ∷ []) × (is_backslash slash ≡ true) × (is_return r ≡ true)
+Holds Mode.Return done held = (r : ℕ) × (held ≡ r ∷ []) × (is_return r ≡ true)
 
 -- the machine has read these characters, and stands so
 pub record IsSound (s : Scanned) (read : List ℕ) : Type 0 where

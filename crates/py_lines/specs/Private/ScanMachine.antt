@@ -10,33 +10,27 @@ use Rattle.py_lines.specs.Balance.{depth_through, EachAtDepth}
 use Rattle.py_lines.specs.Fields.{fielded, ShallowFields}
 use Rattle.py_lines.specs.FieldStrings.{is_field_prefix, Host, Place, with_fields}
 use Rattle.py_lines.specs.declared.host.StringWithFields.{StringWithFields}
-use Rattle.py_lines.specs.declared.mode.Spelling.{Spelling}
-use Rattle.py_lines.specs.declared.mode.Spelling.TheVariants as spellings
-use Rattle.py_lines.specs.declared.mode.Mode.{Mode}
-use Rattle.py_lines.specs.declared.mode.Mode.TheVariants as modes
-use Rattle.py_lines.specs.declared.mode.Move.{Move}
-use Rattle.py_lines.specs.declared.mode.Move.TheVariants as moves
-use Rattle.py_lines.specs.Private.Machine.{Scanned, moved, steps_by, move_of, spelling_with, Holds}
+use Rattle.py_lines.specs.Private.Machine.{Spelling, Mode, Move, Scanned, moved, steps_by, class_of, move_of, spelling_with, Holds}
 use Rattle.py_lines.specs.Private.FieldMachine.{At, opened, empty, body, FieldMove, closes, Level, FieldScanned, field_state, field_text_start, field_move, field_step, field_steps_from, frames, has_room_at}
 
 -- whether the word is the prefix of a string with fields
 abbrev pub is_field_spelling : Spelling → Bool
-is_field_spelling spellings.F = true
-is_field_spelling spellings.Fr = true
-is_field_spelling spellings.T = true
-is_field_spelling spellings.Tr = true
+is_field_spelling Spelling.F = true
+is_field_spelling Spelling.Fr = true
+is_field_spelling Spelling.T = true
+is_field_spelling Spelling.Tr = true
 is_field_spelling other = false
 
 -- whether it has `r` besides
 abbrev pub is_raw_spelling : Spelling → Bool
-is_raw_spelling spellings.Fr = true
-is_raw_spelling spellings.Tr = true
+is_raw_spelling Spelling.Fr = true
+is_raw_spelling Spelling.Tr = true
 is_raw_spelling other = false
 
 -- whether the word is the prefix of a string, with fields or without
 abbrev pub begins_string : Spelling → Bool
-begins_string spellings.Number = false
-begins_string spellings.Name = false
+begins_string Spelling.Number = false
+begins_string Spelling.Name = false
 begins_string other = true
 
 -- the string with fields that the code has met
@@ -46,21 +40,21 @@ host_in h = record { quote = h.quote; is_long = h.is_long; is_raw = h.is_raw }
 -- what a quote does after a word
 unfoldable pub quote_move : Spelling → ℕ → Move
 quote_move s q =
-    if is_field_spelling s then moves.Grows (modes.FieldOpened (record { quote = q; is_long = false; is_raw = is_raw_spelling s }))
-    else (if begins_string s then moves.Grows (modes.Opened q) else moves.Breaks)
+    if is_field_spelling s then Move.Grows (Mode.FieldOpened (record { quote = q; is_long = false; is_raw = is_raw_spelling s }))
+    else (if begins_string s then Move.Grows (Mode.Opened q) else Move.Breaks)
 
 -- what a character does after one quote of a string with fields
 unfoldable pub opened_move : StringWithFields → ℕ → Move
 opened_move h c =
-    if c == h.quote then moves.Grows (modes.FieldEmpty h)
-    else (if is_break c then moves.Refused else moves.Grows modes.Fielded)
+    if c == h.quote then Move.Grows (Mode.FieldEmpty h)
+    else (if is_break c then Move.Refused else Move.Grows Mode.Fielded)
 
 -- what a character does to the piece that is open, where that is no string with fields that holds something
 unfoldable pub meet_of : Mode → ℕ → Move
-meet_of (modes.Word s) c =
-    if is_word_character c then moves.Grows (modes.Word (spelling_with s c)) else (if is_quote c then quote_move s c else moves.Breaks)
-meet_of (modes.FieldOpened h) c = opened_move h c
-meet_of (modes.FieldEmpty h) c = if c == h.quote then moves.Grows modes.Fielded else moves.Breaks
+meet_of (Mode.Word s) c =
+    if is_word_character c then Move.Grows (Mode.Word (spelling_with s c)) else (if is_quote c then quote_move s c else Move.Breaks)
+meet_of (Mode.FieldOpened h) c = opened_move h c
+meet_of (Mode.FieldEmpty h) c = if c == h.quote then Move.Grows Mode.Fielded else Move.Breaks
 meet_of other c = move_of other c
 
 -- how far a string with fields has come, by its text alone
@@ -69,9 +63,9 @@ string_state held = field_steps_from (Some field_text_start) held
 
 -- what a character comes to in such a string, where these fields are open: it closes the string, may not stand there, or goes on in it
 abbrev pub string_move : List Level → FieldMove → Option FieldScanned → Move
-string_move [] closes next = moves.Closes
-string_move outer move None = moves.Refused
-string_move outer move (Some next) = moves.Grows modes.Fielded
+string_move [] closes next = Move.Closes
+string_move outer move None = Move.Refused
+string_move outer move (Some next) = Move.Grows Mode.Fielded
 
 -- whether a character opens no bracket and no field at depth 200 in such a string, which stands at this depth
 abbrev pub has_room_in : ℕ → FieldScanned → ℕ → Bool
@@ -85,13 +79,13 @@ have_room_in depth (Some t) (c ∷ cs) = has_room_in depth t c && have_room_in d
 
 -- what a character does to such a string
 abbrev pub fielded_move : ℕ → Option FieldScanned → ℕ → Move
-fielded_move depth None c = moves.Refused
+fielded_move depth None c = Move.Refused
 fielded_move depth (Some t) c =
-    if has_room_in depth t c then string_move t.outer (field_move t.mode t.held c) (field_step t c) else moves.Refused
+    if has_room_in depth t c then string_move t.outer (field_move t.mode t.held c) (field_step t c) else Move.Refused
 
 -- what a character does to the piece that is open, at this depth of brackets
 abbrev pub move_in : Mode → ℕ → List ℕ → ℕ → Move
-move_in modes.Fielded depth held c = fielded_move depth (string_state held) c
+move_in Mode.Fielded depth held c = fielded_move depth (string_state held) c
 move_in m depth held c = meet_of m c
 
 abbrev pub move_at : Scanned → ℕ → Move
@@ -134,19 +128,10 @@ pub record HoldsFields (depth : ℕ) (held : List ℕ) : Type 0 where
 
 -- what the open piece spells, in each mode
 abbrev pub HoldsOpen : Mode → List Piece → List ℕ → Type 0
-HoldsOpen (modes.Opened q) done held = Holds (modes.Opened q) done held × BeginsPlain held
-HoldsOpen (modes.Inside q) done held = Holds (modes.Inside q) done held × BeginsPlain held
-HoldsOpen (modes.Escape q) done held = Holds (modes.Escape q) done held × BeginsPlain held
-HoldsOpen (modes.EscapeReturn q) done held = Holds (modes.EscapeReturn q) done held × BeginsPlain held
-HoldsOpen (modes.Empty q) done held = Holds (modes.Empty q) done held × BeginsPlain held
-HoldsOpen (modes.Long q) done held = Holds (modes.Long q) done held × BeginsPlain held
-HoldsOpen (modes.LongOne q) done held = Holds (modes.LongOne q) done held × BeginsPlain held
-HoldsOpen (modes.LongTwo q) done held = Holds (modes.LongTwo q) done held × BeginsPlain held
-HoldsOpen (modes.LongEscape q) done held = Holds (modes.LongEscape q) done held × BeginsPlain held
-HoldsOpen (modes.FieldOpened h) done held = string_state held ≡ Some (field_state [] [] [] (opened (host_in h)) held)
-HoldsOpen (modes.FieldEmpty h) done held = string_state held ≡ Some (field_state [] [] [] (empty (host_in h)) held)
-HoldsOpen modes.Fielded done held = HoldsFields (depth_through 0 done) held
-HoldsOpen other done held = Holds other done held
+HoldsOpen (Mode.FieldOpened h) done held = string_state held ≡ Some (field_state [] [] [] (opened (host_in h)) held)
+HoldsOpen (Mode.FieldEmpty h) done held = string_state held ≡ Some (field_state [] [] [] (empty (host_in h)) held)
+HoldsOpen Mode.Fielded done held = HoldsFields (depth_through 0 done) held
+HoldsOpen m done held = Holds m done held × (class_of m ≡ string → BeginsPlain held)
 
 -- a string at this depth opens no bracket and no field at depth 200
 abbrev pub StringFits : ℕ → Piece → Type 0
