@@ -8,7 +8,6 @@ pub mod PieceRuns
 pub mod StringRuns
 pub mod CodeRuns
 pub mod FieldRuns
-pub mod Nesting
 pub mod Completeness
 pub mod OpenStrings
 pub mod OpenLists

@@ -1,23 +1,63 @@
--- The machine with fields goes through every text that is read with fields, and finds its pieces.
-use Rattle.std.proofs.Common.{◌≡◌, ℕ, true, false, None, Some, List, [], ◌∷◌, ◌++◌, refl, sym, ap, ◌∙◌, subst, ⊎_elim}
-use Rattle.std.proofs.lemmas.Bool.{cases_Bool}
+-- The machine with fields goes through all fields, however many stand one in another, and so through every text that is read with
+-- fields: it finds its pieces.
+use Rattle.std.proofs.Common.{◌≡◌, ℕ, true, false, None, Some, List, [], ◌∷◌, ◌++◌, refl, sym, ap, ◌∙◌, subst, ⊎_elim, zero, suc, length}
+use Rattle.std.proofs.lemmas.Bool.{cases_Bool, false_from_ne_true}
 use Rattle.py_lines.specs.Character.{is_mark}
-use Rattle.py_lines.specs.Piece.{Class, mark, Piece, begins, spelled}
-use Rattle.py_lines.specs.PieceGrammar.{AreReadIn}
-use Rattle.py_lines.specs.Fields.{Fields, fielded, ShallowFields}
+use Rattle.py_lines.specs.Piece.{Class, mark, Piece, begins, spelled, begins_marked}
+use Rattle.py_lines.specs.PieceGrammar.{AreReadIn, InClassIn}
+use Rattle.py_lines.specs.Fields.{Fields, fielded, ShallowFields, AnyPieces, FieldsWithin, IsShallowWith, ShallowWithin}
+use Rattle.py_lines.specs.Balance.{depth_after}
 use Rattle.py_lines.specs.Reading.{IsBalancedReading}
 use Rattle.py_lines.specs.FieldStrings.{Host, with_fields}
 use Rattle.py_lines.specs.Private.Machine.{Mode, move_of}
-use Rattle.py_lines.specs.Private.FieldMachine.{plain, closes, breaks, FieldScanned, field_state, field_fresh, field_text_start, field_pieces, field_move, field_moved, field_started, field_step, field_steps_from, openers_through, have_room, IsFieldFinal}
+use Rattle.py_lines.specs.Private.FieldMachine.{plain, closes, breaks, FieldScanned, field_state, field_fresh, field_text_start, field_pieces, field_move, field_moved, field_started, field_step, field_steps_from, openers_through, have_room, IsFieldFinal, frames}
 use Rattle.py_lines.proofs.Pieces.PieceLists.{piece}
 use Rattle.py_lines.proofs.Machine.Starts.{start-mark}
 use Rattle.py_lines.proofs.Machine.ReadingSteps.{MayBegin}
-use Rattle.py_lines.proofs.Fields.Parts.{BeginOpen, fields_begin}
+use Rattle.py_lines.proofs.Fields.Parts.{BeginOpen, fields_begin, field_begins, within_begin}
 use Rattle.py_lines.proofs.FieldMachine.Runs.{NoLimit, BelowLimit, HasRoomFor, Goes, StopsAt, goes-append, goes-closes, stops-fresh, steps_of, room_of}
 use Rattle.py_lines.proofs.FieldMachine.ListBrackets.{none_some, balanced_openers}
 use Rattle.py_lines.proofs.FieldMachine.PieceRuns.{FieldFinds}
-use Rattle.py_lines.proofs.FieldMachine.CodeRuns.{ArePassed, FieldsRun, all_found}
-use Rattle.py_lines.proofs.FieldMachine.Nesting.{fields_run, passed_any, begin_shallow, shallow_run, passed_shallow}
+use Rattle.py_lines.proofs.FieldMachine.FieldRuns.{field_goes}
+use Rattle.py_lines.proofs.FieldMachine.CodeRuns.{ArePassed, FieldsRun, all_found, HasNoColonIn}
+
+-- without a limit
+pub passed_any : (H : Host → List ℕ → Type 0) (depth : ℕ) (ps : List Piece) (rest : List ℕ) → AreReadIn (with_fields H) ps rest → ArePassed NoLimit (λ d. H) depth ps
+passed_any H depth [] rest fit = tt
+passed_any H depth (p ∷ ps) rest fit = (λ is. tt, λ is. subst (λ c. InClassIn (with_fields H) c p.text) is fit.0, passed_any H (depth_after depth p) ps rest fit.3)
+
+runs_within : (n : ℕ) → FieldsRun NoLimit (λ d. FieldsWithin n)
+runs_within zero outer done openers host place at held text is quotes single here = absurd is
+runs_within (suc n) outer done openers host place at held text is quotes single here =
+    field_goes NoLimit outer done openers host (λ d. FieldsWithin n) (λ d. within_begin n) (runs_within n) (FieldsWithin n) AnyPieces (λ ps rest fit passes. passed_any (FieldsWithin n) _ ps rest fit) place at held text quotes tt is single here
+
+pub fields_run : FieldsRun NoLimit (λ d. Fields)
+fields_run outer done openers host place at held text (n, is) quotes single here = runs_within n outer done openers host place at held text is quotes single here
+
+-- pieces that are read with fields, before the rest
+pub fields_found : (from : FieldScanned) (ps : List Piece) (after rest : List ℕ) → AreReadIn fielded ps rest → begins_marked ps ≡ false → openers_through (Some from.openers) ps ≡ Some after → HasNoColonIn from.outer (length from.openers) ps → StopsAt from.mode from.held (spelled ps ++ rest) → FieldFinds NoLimit from (spelled ps) ps after rest
+fields_found from ps after rest fit unmarked opens none stops =
+    all_found NoLimit (λ d. Fields) (λ d. fields_begin) fields_run Fields from ps after rest fit unmarked (passed_any Fields (frames from) ps rest fit) opens none stops
+
+-- within the limit of 200
+pub passed_shallow : (Shallow : ℕ → Host → List ℕ → Type 0) (depth : ℕ) (ps : List Piece) → IsShallowWith Shallow depth ps → ArePassed BelowLimit Shallow depth ps
+passed_shallow Shallow depth [] shallow = tt
+passed_shallow Shallow depth (p ∷ ps) shallow = (shallow.0, shallow.1, passed_shallow Shallow (depth_after depth p) ps shallow.2)
+
+begin_shallow_within : (n depth : ℕ) → BeginOpen (ShallowWithin n depth)
+begin_shallow_within zero depth host text is = absurd is
+begin_shallow_within (suc n) depth host text is = field_begins _ _ _ host text is.1
+
+shallow_within : (n : ℕ) → FieldsRun BelowLimit (ShallowWithin n)
+shallow_within zero outer done openers host place at held text is quotes single here = absurd is
+shallow_within (suc n) outer done openers host place at held text is quotes single here =
+    field_goes BelowLimit outer done openers host (ShallowWithin n) (begin_shallow_within n) (shallow_within n) Fields _ (λ ps rest fit passes. passed_shallow (ShallowWithin n) _ ps passes) place at held text quotes is.0 is.1 single here
+
+pub begin_shallow : (depth : ℕ) → BeginOpen (ShallowFields depth)
+begin_shallow depth host text (n, is) = begin_shallow_within n depth host text is
+
+pub shallow_run : FieldsRun BelowLimit ShallowFields
+shallow_run outer done openers host place at held text (n, is) quotes single here = shallow_within n outer done openers host place at held text is quotes single here
 
 pub start_breaks : (c : ℕ) → is_mark c ≡ false → field_move (plain Mode.Start) [] c ≡ breaks
 unfolding field_move move_of
@@ -28,10 +68,7 @@ stops_start [] h = refl
 stops_start (c ∷ cs) h = start_breaks c h
 
 no_mark : (c : ℕ) (next : FieldScanned) → field_step (field_fresh [] [] []) c ≡ Some next → is_mark c ≡ false
-no_mark c next step = ⊎_elim (λ is. absurd (none_some (stuck is))) (λ h. h) (cases_Bool (is_mark c))
-  where
-    stuck : is_mark c ≡ true → None ≡ Some next
-    stuck is = sym (ap (field_started [] [] [] c) (start-mark c is)) ∙ sym (ap (field_moved (field_fresh [] [] []) c) (stops-fresh (c ∷ []))) ∙ step
+no_mark c next step = false_from_ne_true _ (λ is. none_some (sym (ap (field_started [] [] [] c) (start-mark c is)) ∙ sym (ap (field_moved (field_fresh [] [] []) c) (stops-fresh (c ∷ []))) ∙ step))
 
 -- without a mark, the start is like any other place
 start_goes : (Room : ℕ → Type 0) (text : List ℕ) (t : FieldScanned) (p : Piece) (ps : List Piece) → Goes Room (field_fresh [] [] []) text t → field_pieces t ≡ p ∷ ps → Goes Room field_text_start text t
@@ -49,44 +86,39 @@ start_goes Room (c ∷ cs) t p ps (next, step, room, others) found =
     )
 
 module _ (Room : ℕ → Type 0) (F : ℕ → Host → List ℕ → Type 0) (begin : (depth : ℕ) → BeginOpen (F depth)) (run : FieldsRun Room F) (G : Host → List ℕ → Type 0) where
-  others_reached : (p : Piece) (ps : List Piece) (after rest : List ℕ) → FieldFinds Room (field_fresh [] [] []) (spelled (p ∷ ps)) (p ∷ ps) after rest → FieldFinds Room field_text_start (spelled (p ∷ ps)) (p ∷ ps) after rest
-  others_reached p ps after rest found = record {
-    done = found.done;
-    mode = found.mode;
-    held = found.held;
-    goes = start_goes Room (spelled (p ∷ ps)) (field_state [] found.done after found.mode found.held) p ps found.goes found.pieces_are;
-    pieces_are = found.pieces_are;
-    stops = found.stops;
-  }
-
-  marked_reached : (text : List ℕ) (ps : List Piece) (after rest : List ℕ) → AreReadIn (with_fields G) (piece mark text ∷ ps) rest → ArePassed Room F 0 (piece mark text ∷ ps) → openers_through (Some []) (piece mark text ∷ ps) ≡ Some after → FieldFinds Room field_text_start (spelled (piece mark text ∷ ps)) (piece mark text ∷ ps) after rest
-  unfolding field_move move_of
-  marked_reached text ps after rest fit passed opens =
-      let c = fit.0.0 in
-      let move : field_move (plain Mode.Start) [] c ≡ closes = rw fit.0.2 in
-      let P : List ℕ → Type 0 = λ t. FieldFinds Room field_text_start (t ++ spelled ps) (piece mark t ∷ ps) after rest in
-      let marked : FieldScanned = field_fresh [] (piece mark (c ∷ []) ∷ []) [] in
-      let found = all_found Room F begin run G marked ps after rest fit.3 fit.2 passed.2 opens tt (stops-fresh _) in
-      let last : FieldScanned = field_state [] found.done after found.mode found.held in
-      subst P (sym fit.0.1) (record {
-        done = found.done;
-        mode = found.mode;
-        held = found.held;
-        goes = goes-append Room field_text_start marked last (c ∷ []) (spelled ps) (goes-closes Room field_text_start c move) found.goes;
-        pieces_are = found.pieces_are;
-        stops = found.stops;
-      })
-
   -- the machine goes through pieces from the text's start and finds them, where the rest begins with no mark if they are none
   pub reached : (ps : List Piece) (after rest : List ℕ) → AreReadIn (with_fields G) ps rest → ArePassed Room F 0 ps → openers_through (Some []) ps ≡ Some after → MayBegin ps rest → FieldFinds Room field_text_start (spelled ps) ps after rest
+  unfolding field_move move_of
   reached [] after rest fit passed opens may =
       let same : [] ≡ after = cc in
       record { done = []; mode = plain Mode.Start; held = []; goes = ap (λ os. field_state [] [] os (plain Mode.Start) []) same; pieces_are = refl; stops = stops_start rest may }
   reached (p ∷ ps) after rest fit passed opens may = go p.class p.text fit passed opens
     where
       go : (class : Class) (text : List ℕ) → AreReadIn (with_fields G) (piece class text ∷ ps) rest → ArePassed Room F 0 (piece class text ∷ ps) → openers_through (Some []) (piece class text ∷ ps) ≡ Some after → FieldFinds Room field_text_start (spelled (piece class text ∷ ps)) (piece class text ∷ ps) after rest
-      go mark text h k l = marked_reached text ps after rest h k l
-      go class text h k l = others_reached (piece class text) ps after rest (all_found Room F begin run G (field_fresh [] [] []) (piece class text ∷ ps) after rest h refl k l tt (stops-fresh _))
+      go mark text h k l =
+          let c = h.0.0 in
+          let move : field_move (plain Mode.Start) [] c ≡ closes = rw h.0.2 in
+          let marked : FieldScanned = field_fresh [] (piece mark (c ∷ []) ∷ []) [] in
+          let found = all_found Room F begin run G marked ps after rest h.3 h.2 k.2 l tt (stops-fresh _) in
+          let last : FieldScanned = field_state [] found.done after found.mode found.held in
+          rw h.0.1 (record {
+            done = found.done;
+            mode = found.mode;
+            held = found.held;
+            goes = goes-append Room field_text_start marked last (c ∷ []) (spelled ps) (goes-closes Room field_text_start c move) found.goes;
+            pieces_are = found.pieces_are;
+            stops = found.stops;
+          })
+      go class text h k l =
+          let found = all_found Room F begin run G (field_fresh [] [] []) (piece class text ∷ ps) after rest h refl k l tt (stops-fresh _) in
+          record {
+            done = found.done;
+            mode = found.mode;
+            held = found.held;
+            goes = start_goes Room (text ++ spelled ps) (field_state [] found.done after found.mode found.held) (piece class text) ps found.goes found.pieces_are;
+            pieces_are = found.pieces_are;
+            stops = found.stops;
+          }
 
 -- The machine goes through pieces that are read before the rest, however deep they are.
 pub fields_reached : (ps : List Piece) (after rest : List ℕ) → AreReadIn fielded ps rest → openers_through (Some []) ps ≡ Some after → MayBegin ps rest → FieldFinds NoLimit field_text_start (spelled ps) ps after rest

@@ -83,9 +83,7 @@ module _ (Room : ℕ → Type 0) (outer : List Level) (done : List Piece) (opene
       )
 
   pub opens_text : (place : Place) (mode : FieldMode) (held code : List ℕ) (c : ℕ) (cs : List ℕ) (t : FieldScanned) → code ≡ c ∷ cs → field_move mode held 123 ≡ opening_move host place → Room depth → (place ≡ literal → begins_double (123 ∷ code) ≡ false) → Goes Room (in_field place held) code t → Goes Room (field_state outer done openers mode held) (123 ∷ code) t
-  opens_text place mode held code c cs t is move room single goes =
-      let P : List ℕ → Type 0 = λ x. (place ≡ literal → begins_double (123 ∷ x) ≡ false) → Goes Room (in_field place held) x t → Goes Room (field_state outer done openers mode held) (123 ∷ x) t in
-      subst P (sym is) (λ s g. opens place mode held c cs t move room s g) single goes
+  opens_text place mode held code c cs t is move room single goes = rw is (opens place mode held c cs t move room (rw is at single) (rw is at goes))
 
   -- the machine goes through a field's code, its `:`, and parts of its specification
   pub record SpecificationGoes (place : Place) (held : List ℕ) (inside : List Piece) (parts : List (List ℕ)) (rest : List ℕ) : Type 0 where
@@ -168,8 +166,6 @@ module _ (Room : ℕ → Type 0) (outer : List Level) (done : List Piece) (opene
     -- a field, whose pieces meet a condition by which what opens in them may open there
     pub field_goes : (Passes : List Piece → Type 0) → ((ps : List Piece) (rest : List ℕ) → AreReadIn (with_fields G) ps rest → Passes ps → ArePassed Room F (depth + 1) ps) → (place : Place) (at : At) (held text : List ℕ) → is_quote host.quote ≡ true → Room depth → IsField (with_fields G) Passes (F (depth + 1)) host text → (place ≡ literal → begins_double text ≡ false) → MayGoOn host place false at text → Goes Room (in_string place at held) text (in_string place between (held ++ text))
     field_goes Passes passed place at held text quotes room (simple inside spell is passes) single here =
-        let P : List ℕ → Type 0 = λ t. (place ≡ literal → begins_double t ≡ false) → MayGoOn host place false at t → Goes Room (in_string place at held) t (in_string place between (held ++ t)) in
-        subst P (sym spell) (λ s h. simple_goes place at held inside quotes room is (passed inside (125 ∷ []) is.fit passes) s h) single here
+        rw spell (simple_goes place at held inside quotes room is (passed inside (125 ∷ []) is.fit passes) (rw spell at single) (rw spell at here))
     field_goes Passes passed place at held text quotes room (specified inside parts spell is passes own) single here =
-        let P : List ℕ → Type 0 = λ t. (place ≡ literal → begins_double t ≡ false) → MayGoOn host place false at t → Goes Room (in_string place at held) t (in_string place between (held ++ t)) in
-        subst P (sym spell) (λ s h. specified_goes place at held inside parts quotes room is (passed inside (58 ∷ []) is.fit passes) own s h) single here
+        rw spell (specified_goes place at held inside parts quotes room is (passed inside (58 ∷ []) is.fit passes) own (rw spell at single) (rw spell at here))

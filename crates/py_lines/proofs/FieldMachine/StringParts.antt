@@ -35,33 +35,26 @@ abbrev pub MayGoOn : Host → Place → Bool → At → List ℕ → Type 0
 MayGoOn host place named at [] = is_after_brace at ≡ false
 MayGoOn host place named at (c ∷ cs) = body_move host place named at c ≡ between_move host place named (settled at) c
 
+-- what a part may begin with after such a place, so that it does
+abbrev MayFollow : At → List ℕ → Type 0
+MayFollow after_slash rest = begins is_brace rest ≡ true
+MayFollow after_return rest = begins is_line_feed rest ≡ false
+MayFollow after_name rest = begins_open rest ≡ false
+MayFollow after_brace rest = ⊥
+MayFollow at rest = Unit {0}
+
+goes_on_so : (host : Host) (place : Place) (named : Bool) (at : At) (rest : List ℕ) → MayFollow at rest → MayGoOn host place named at rest
+unfolding body_move escape_move
+goes_on_so host place named after_brace rest may = absurd may
+goes_on_so host place named at [] may = refl
+goes_on_so host place named at (c ∷ cs) may = grind arith
+
 pub goes_on : (host : Host) (place : Place) (named : Bool) (rest : List ℕ) → MayGoOn host place named between rest
-unfolding body_move
-goes_on host place named [] = refl
-goes_on host place named (c ∷ cs) = refl
+goes_on host place named rest = goes_on_so host place named between rest tt
 
 pub goes_on-quotes : (host : Host) (place : Place) (named : Bool) (at : At) (rest : List ℕ) → MayGoOn host place named (with_quote at) rest
-unfolding body_move
-goes_on-quotes host place named after_one [] = refl
-goes_on-quotes host place named after_one (c ∷ cs) = refl
-goes_on-quotes host place named at [] = refl
-goes_on-quotes host place named at (c ∷ cs) = refl
-
--- after a backslash, before a brace
-goes_on-slash : (host : Host) (place : Place) (named : Bool) (rest : List ℕ) → begins is_brace rest ≡ true → MayGoOn host place named after_slash rest
-unfolding body_move escape_move
-goes_on-slash host place named [] h = refl
-goes_on-slash host place named (c ∷ cs) h = rw h
-
-goes_on-return : (host : Host) (place : Place) (named : Bool) (rest : List ℕ) → begins is_line_feed rest ≡ false → MayGoOn host place named after_return rest
-unfolding body_move
-goes_on-return host place named [] h = refl
-goes_on-return host place named (c ∷ cs) h = rw h
-
-goes_on-name : (host : Host) (place : Place) (named : Bool) (rest : List ℕ) → begins_open rest ≡ false → MayGoOn host place named after_name rest
-unfolding body_move
-goes_on-name host place named [] h = refl
-goes_on-name host place named (c ∷ cs) h = rw h
+goes_on-quotes host place named after_one rest = goes_on_so host place named after_two rest tt
+goes_on-quotes host place named at rest = goes_on_so host place named after_one rest tt
 
 pub body_moves : (host : Host) (place : Place) (named : Bool) (at : At) (held : List ℕ) (c : ℕ) (cs : List ℕ) → MayGoOn host place named at (c ∷ cs) → field_move (body host place named at) held c ≡ between_move host place named (settled at) c
 unfolding field_move
@@ -82,13 +75,9 @@ unfolding between_move is_brace
 itself_grows host literal named at c other no_slash no_break itself = grind (arith, ordinary literal named c itself)
 itself_grows host specification named at c other no_slash no_break itself = grind (arith, ordinary specification named c itself)
 
-pub three_quotes : (q : ℕ) (tail : List (List ℕ)) → begins_triple q ((q ∷ []) ∷ (q ∷ []) ∷ (q ∷ []) ∷ tail) ≡ true
-three_quotes q tail = rw (eq-eqb q q refl)
-
 -- after one quote more
 quote_seen : (q : ℕ) (at : At) (tail : List (List ℕ)) → has_triple q (quotes_seen q at ++ (q ∷ []) ∷ tail) ≡ false → (is_after_two (settled at) ≡ false) × (has_triple q (quotes_seen q (with_quote (settled at)) ++ tail) ≡ false)
-quote_seen q after_two tail h =
-    absurd (both_ways _ (or_parts (begins_triple q ((q ∷ []) ∷ (q ∷ []) ∷ (q ∷ []) ∷ tail)) (has_triple q ((q ∷ []) ∷ (q ∷ []) ∷ tail)) h).0 (three_quotes q tail))
+quote_seen q after_two tail h = grind (arith, eq-eqb q q refl)
 quote_seen q at tail h = (refl, h)
 
 -- what stands without a backslash in a short string, or after one in its specifications
@@ -198,38 +187,31 @@ module _ (host : Host) (place : Place) (named : Bool) (at : At) (rest : List ℕ
   slash_then text s to slashes here grown =
       (body host place named after_slash, λ held. body_moves host place named at held s (text ++ rest) here ∙ slash_grows host place named (settled at) s quotes slashes, grown)
 
-  slash_passes : (s : ℕ) → is_backslash s ≡ true → begins is_brace rest ≡ true → Passes host place named at rest tail (s ∷ [])
-  slash_passes s slashes braces here open_yet = record {
-    to = after_slash;
-    grown = slash_then [] s _ slashes here (ap (λ n. body host place n after_slash) (sym (slash_unnamed named s slashes)));
-    on = goes_on-slash host place _ rest braces;
-    open_yet = later_triple host.quote (quotes_seen host.quote at) (s ∷ []) tail open_yet;
-  }
+  -- a part with no quote of the string at its end
+  passes_to : (part : List ℕ) (to : At) → quotes_seen host.quote to ≡ [] → MayFollow to rest → (MayGoOn host place named at (part ++ rest) → GrowsTo (body host place named at) part (body host place (named_after named part) to)) → Passes host place named at rest tail part
+  passes_to part to none may grown here open_yet =
+      record { to = to; grown = grown here; on = goes_on_so host place _ to rest may; open_yet = ap (λ l. has_triple host.quote (l ++ tail)) none ∙ later_triple host.quote (quotes_seen host.quote at) part tail open_yet }
 
-  -- a part after which the string stands between two
-  passes_between : (part : List ℕ) → (MayGoOn host place named at (part ++ rest) → GrowsTo (body host place named at) part (body host place (named_after named part) between)) → Passes host place named at rest tail part
-  passes_between part grown here open_yet = record { to = between; grown = grown here; on = goes_on host place _ rest; open_yet = later_triple host.quote (quotes_seen host.quote at) part tail open_yet }
+  slash_passes : (s : ℕ) → is_backslash s ≡ true → begins is_brace rest ≡ true → Passes host place named at rest tail (s ∷ [])
+  slash_passes s slashes braces = passes_to (s ∷ []) after_slash refl braces (λ here. slash_then [] s _ slashes here (ap (λ n. body host place n after_slash) (sym (slash_unnamed named s slashes))))
 
   -- a backslash and a character that is no brace
   escape_passes : (s c : ℕ) → is_backslash s ≡ true → is_brace c ≡ false → may_be_escaped host place c ≡ true → names host c && begins_open rest ≡ false → is_return c && begins is_line_feed rest ≡ false → Passes host place named at rest tail (s ∷ c ∷ [])
-  escape_passes s c slashes brace may none ended here open_yet = go (is_return c) (names host c) refl refl
+  escape_passes s c slashes brace may none ended = go (is_return c) (names host c) refl refl
     where
-      yet : has_triple host.quote tail ≡ false
-      yet = later_triple host.quote (quotes_seen host.quote at) (s ∷ c ∷ []) tail open_yet
+      by : (to : At) → quotes_seen host.quote to ≡ [] → MayFollow to rest → ((held : List ℕ) → field_move (body host place named after_slash) held c ≡ grows (body host place named to)) → Passes host place named at rest tail (s ∷ c ∷ [])
+      by to seen follows moves = passes_to (s ∷ c ∷ []) to seen follows (λ here. slash_then (c ∷ []) s _ slashes here (body host place named to, moves, refl))
 
-      by : (to : At) → ((held : List ℕ) → field_move (body host place named after_slash) held c ≡ grows (body host place named to)) → MayGoOn host place named to rest → has_triple host.quote (quotes_seen host.quote to ++ tail) ≡ false → PartGrows host place named named at (s ∷ c ∷ []) rest tail
-      by to moves on seen = record { to = to; grown = slash_then (c ∷ []) s _ slashes here (body host place named to, moves, refl); on = on; open_yet = seen }
-
-      go : (r n : Bool) → is_return c ≡ r → names host c ≡ n → PartGrows host place named named at (s ∷ c ∷ []) rest tail
-      go true n returns is_name = by after_return (λ held. escaped host place named held c brace may ∙ rw returns) (goes_on-return host place named rest (subst (λ b. b && begins is_line_feed rest ≡ false) returns ended)) yet
-      go false true other is_name = by after_name (λ held. escaped host place named held c brace may ∙ rw (other, is_name)) (goes_on-name host place named rest (subst (λ b. b && begins_open rest ≡ false) is_name none)) yet
-      go false false other no_name = by between (λ held. other_escaped host place named held c brace may other no_name) (goes_on host place named rest) yet
+      go : (r n : Bool) → is_return c ≡ r → names host c ≡ n → Passes host place named at rest tail (s ∷ c ∷ [])
+      go true n returns is_name = by after_return refl (rw returns at ended) (λ held. escaped host place named held c brace may ∙ rw returns)
+      go false true other is_name = by after_name refl (rw is_name at none) (λ held. escaped host place named held c brace may ∙ rw (other, is_name))
+      go false false other no_name = by between refl tt (λ held. other_escaped host place named held c brace may other no_name)
 
   -- a backslash, CR and LF
   end_passes : (s r f : ℕ) → is_backslash s ≡ true → is_return r ≡ true → is_line_feed f ≡ true → may_be_escaped host place r ≡ true → Passes host place named at rest tail (s ∷ r ∷ f ∷ [])
   unfolding field_move body_move
   end_passes s r f slashes returns feeds may =
-      passes_between (s ∷ r ∷ f ∷ []) (λ here.
+      passes_to (s ∷ r ∷ f ∷ []) between refl tt (λ here.
       slash_then (r ∷ f ∷ []) s _ slashes here (
         body host place named after_return,
         λ held. escaped host place named held r (return-not-brace r returns) may ∙ rw returns,
@@ -240,7 +222,7 @@ module _ (host : Host) (place : Place) (named : Bool) (at : At) (rest : List ℕ
   name_passes : (s c : ℕ) → is_backslash s ≡ true → names host c ≡ true → Passes host place named at rest tail (s ∷ c ∷ 123 ∷ [])
   unfolding field_move body_move
   name_passes s c slashes is_name =
-      passes_between (s ∷ c ∷ 123 ∷ []) (λ here.
+      passes_to (s ∷ c ∷ 123 ∷ []) between refl tt (λ here.
       slash_then (c ∷ 123 ∷ []) s _ slashes here (
         body host place named after_name,
         λ held. escaped host place named held c (name-not-brace host c is_name) (name_may host place c is_name) ∙ rw (name-not-return host c is_name, is_name),
@@ -249,7 +231,7 @@ module _ (host : Host) (place : Place) (named : Bool) (at : At) (rest : List ℕ
 
 -- `{{`
 double_passes : (host : Host) (at : At) (rest : List ℕ) (tail : List (List ℕ)) → is_quote host.quote ≡ true → Passes host literal false at rest tail (123 ∷ 123 ∷ [])
-double_passes host at rest tail quotes = passes_between host literal false at rest tail quotes (123 ∷ 123 ∷ []) (λ here. (
+double_passes host at rest tail quotes = passes_to host literal false at rest tail quotes (123 ∷ 123 ∷ []) between refl tt (λ here. (
   body host literal false after_brace,
   λ held. body_moves host literal false at held 123 (123 ∷ rest) here ∙ open_moves host literal (settled at) quotes,
   (body host literal false between, λ held. second_brace host literal false held, refl),

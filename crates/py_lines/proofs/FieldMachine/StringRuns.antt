@@ -1,5 +1,5 @@
 -- The machine with fields goes through a string with fields, where it goes through these.
-use Rattle.std.proofs.Common.{◌≡◌, ℕ, Bool, true, false, not, ◌&&◌, ◌==◌, eqb, List, [], ◌∷◌, ◌++◌, refl, sym, ap, ◌∙◌, subst, inr, append_assoc, append-nil}
+use Rattle.std.proofs.Common.{◌≡◌, ℕ, Bool, true, false, not, ◌&&◌, ◌==◌, eqb, List, [], ◌∷◌, ◌++◌, refl, sym, ap, ◌∙◌, subst, inr, append_assoc, append-nil, arith}
 use Rattle.std.specs.List.{list_all, list_any}
 use Rattle.std.proofs.lemmas.Bool.{and_parts, or_parts, both_ways, eq-eqb, eqb-true, false_from_ne_true, or_right}
 use Rattle.py_lines.specs.Character.{is_word_character, is_word_start, is_quote, is_r}
@@ -14,7 +14,7 @@ use Rattle.py_lines.proofs.Fields.Parts.{BeginOpen, short_part}
 use Rattle.py_lines.proofs.Fields.Elsewhere.{none_false, quotes_begin}
 use Rattle.py_lines.proofs.FieldMachine.Runs.{Goes, HasRoomFor, StopsAt, goes-append, goes-grown, goes-to, goes-grows, goes-closes}
 use Rattle.py_lines.proofs.FieldMachine.PieceRuns.{FieldFinds, fresh_found, word_goes}
-use Rattle.py_lines.proofs.FieldMachine.StringParts.{settled, quotes_seen, MayGoOn, goes_on, body_moves, quote_grows, goes_on-quotes, three_quotes, FieldsGo, parts_go}
+use Rattle.py_lines.proofs.FieldMachine.StringParts.{settled, quotes_seen, MayGoOn, goes_on, body_moves, quote_grows, goes_on-quotes, FieldsGo, parts_go}
 
 -- the second quote
 pub second_quote : (host : Host) (held : List ℕ) → field_move (opened host) held host.quote ≡ grows (empty host)
@@ -33,10 +33,8 @@ quote_closes host named at h = rw (eq-eqb host.quote host.quote refl, h)
 
 -- two quotes after parts of a long string don't close it: so none stands directly before them
 none_before : (q : ℕ) (at : At) → has_triple q (quotes_seen q at ++ (q ∷ []) ∷ (q ∷ []) ∷ []) ≡ false → settled at ≡ between
-none_before q after_one h = absurd (both_ways _ (or_parts (begins_triple q ((q ∷ []) ∷ (q ∷ []) ∷ (q ∷ []) ∷ [])) (has_triple q ((q ∷ []) ∷ (q ∷ []) ∷ [])) h).0 (three_quotes q []))
-none_before q after_two h =
-    absurd (both_ways _ (or_parts (begins_triple q ((q ∷ []) ∷ (q ∷ []) ∷ (q ∷ []) ∷ (q ∷ []) ∷ [])) (has_triple q ((q ∷ []) ∷ (q ∷ []) ∷ (q ∷ []) ∷ [])) h).0 (three_quotes q ((q ∷ []) ∷ [])))
-none_before q at h = refl
+none_before q after_one h = grind (arith, eq-eqb q q refl)
+none_before q at h = grind (arith, eq-eqb q q refl)
 
 -- parts aren't empty
 part_begins : (F : Host → List ℕ → Type 0) → BeginOpen F → (host : Host) (place : Place) (named : Bool) (part rest : List ℕ) → IsPart F host place named part rest → (c : ℕ) × (cs : List ℕ) × (part ≡ c ∷ cs)
@@ -81,15 +79,12 @@ module _ (Room : ℕ → Type 0) (from : FieldScanned) where
   prefix_goes [] q after is quotes stops = absurd (both_ways _ refl is)
   prefix_goes (a ∷ bs) q after is quotes stops =
       let letters = field_letters (a ∷ bs) is in
-      let same : letters.first ≡ a = head letters.is in
+      let same : letters.first ≡ a = cc letters.is in
       let word_at : FieldScanned = inside (plain (Mode.Word (spelling_on (first_spelling a) bs))) (a ∷ bs) in
       let string_at : FieldScanned = inside (opened (host_of (a ∷ bs) q)) ((a ∷ bs) ++ q ∷ []) in
       goes-append Room from word_at string_at (a ∷ bs) (q ∷ [])
       (word_goes Room from a bs (q ∷ after) (subst (λ x. is_word_start x ≡ true) same letters.starts) (and_parts (is_word_character a) (list_all is_word_character bs) letters.all).1 stops)
       (goes-grows Room word_at string_at (opened (host_of (a ∷ bs) q)) q [] (rw (is, quotes)) refl)
-    where
-      head : {x y : ℕ} {xs ys : List ℕ} → x ∷ xs ≡ y ∷ ys → y ≡ x
-      head h = cc
 
   opened_goes : (host : Host) (held : List ℕ) (c : ℕ) (cs : List ℕ) (t : FieldScanned) → eqb c host.quote ≡ false → Goes Room (inside (body host literal false between) held) (c ∷ cs) t → Goes Room (inside (opened host) held) (c ∷ cs) t
   opened_goes host held c cs t other (next, step, room, others) = (

@@ -1,5 +1,5 @@
 -- What is open at a place is told by the state of the machine with fields there, so nothing else is.
-use Rattle.std.proofs.Common.{◌≡◌, ℕ, Bool, true, false, Some, List, [], ◌∷◌, ◌++◌, ◌⊎◌, inl, inr, refl, sym, ap, ◌∙◌, subst, append_assoc}
+use Rattle.std.proofs.Common.{◌≡◌, ℕ, Bool, true, false, Some, List, [], ◌∷◌, ◌++◌, ◌⊎◌, inl, inr, refl, sym, ap, ◌∙◌, subst, append_assoc, ⊎_elim}
 use Rattle.std.proofs.lemmas.Bool.{both_ways}
 use Rattle.py_lines.specs.Character.{is_mark, is_quote}
 use Rattle.py_lines.specs.Piece.{begins, spelled}
@@ -102,33 +102,27 @@ literal_comes IsOpen characters start at is_long (host, spot, is, at_literal, lo
 
 -- a string that is open: one without fields, or the literal part of one with fields
 pub short_open_comes : (characters start : List ℕ) → InOpenShort characters start → Comes characters (λ s. (in_open_short s.mode ≡ true) × StartsAfter literal start s)
-short_open_comes characters start at = go at.open_yet
-  where
-    go : IsPlainShortPrefix at.front ⊎ IsOpenLiteral false at.front → Comes characters (λ s. (in_open_short s.mode ≡ true) × StartsAfter literal start s)
-    go (inl (short, no_field)) =
-        plain_comes _ characters start at false short.prefix short.quote _ short.spell short.begun no_field short.opens (short_end short.quote short.items short.last short.opens short.holds short.escapes)
-    go (inr is) = literal_comes _ characters start at false is
+short_open_comes characters start at =
+    ⊎_elim
+    (λ plain. let short = plain.0 in plain_comes _ characters start at false short.prefix short.quote _ short.spell short.begun plain.1 short.opens (short_end short.quote short.items short.last short.opens short.holds short.escapes))
+    (λ is. literal_comes _ characters start at false is) at.open_yet
 
 pub long_open_comes : (characters start : List ℕ) → InOpenLong characters start → Comes characters (λ s. (in_open_long s.mode ≡ true) × StartsAfter literal start s)
-long_open_comes characters start at = go at.open_yet
-  where
-    go : IsPlainLongPrefix at.front ⊎ IsOpenLiteral true at.front → Comes characters (λ s. (in_open_long s.mode ≡ true) × StartsAfter literal start s)
-    go (inl (long, no_field)) =
-        plain_comes _ characters start at true long.prefix long.quote _ long.spell long.begun no_field long.opens (long_end long.quote long.items long.last long.opens long.holds.0 long.holds.1 long.escapes)
-    go (inr is) = literal_comes _ characters start at true is
+long_open_comes characters start at =
+    ⊎_elim
+    (λ plain. let long = plain.0 in plain_comes _ characters start at true long.prefix long.quote _ long.spell long.begun plain.1 long.opens (long_end long.quote long.items long.last long.opens long.holds.0 long.holds.1 long.escapes))
+    (λ is. literal_comes _ characters start at true is) at.open_yet
 
 -- a backslash outside strings and comments
 pub backslash_comes : (characters start : List ℕ) → AfterOpenBackslash characters start → Comes characters (λ s. (after_open_backslash s.mode ≡ true) × StartsAfter literal start s)
-backslash_comes characters start at = go at.open_yet
-  where
-    go : IsSlash at.front → Comes characters (λ s. (after_open_backslash s.mode ≡ true) × StartsAfter literal start s)
-    go (s, is, slashes) =
-        let front = front_at _ characters start at (subst (λ t. begins is_mark t ≡ false) (sym is) (slash-not-mark s slashes)) in
-        let from = front.from in
-        let to : FieldScanned = field_state from.outer (field_pieces from) from.openers (plain Mode.Backslash) (s ∷ []) in
-        let run : Goes NoLimit from (s ∷ []) to =
-        goes-begins NoLimit from to to s [] (subst (StopsAt from.mode from.held) is front.stops) (ap (field_started from.outer (field_pieces from) from.openers s) (start-slash s slashes)) (λ opens. tt) refl in
-        record { to = to; goes = front.goes to s [] is (subst (λ t. Goes NoLimit from t to) (sym is) run); such = (refl, front.start_is) }
+backslash_comes characters start at =
+    let (s, is, slashes) = at.open_yet in
+    let front = front_at _ characters start at (subst (λ t. begins is_mark t ≡ false) (sym is) (slash-not-mark s slashes)) in
+    let from = front.from in
+    let to : FieldScanned = field_state from.outer (field_pieces from) from.openers (plain Mode.Backslash) (s ∷ []) in
+    let run : Goes NoLimit from (s ∷ []) to =
+    goes-begins NoLimit from to to s [] (subst (StopsAt from.mode from.held) is front.stops) (ap (field_started from.outer (field_pieces from) from.openers s) (start-slash s slashes)) (λ opens. tt) refl in
+    record { to = to; goes = front.goes to s [] is (subst (λ t. Goes NoLimit from t to) (sym is) run); such = (refl, front.start_is) }
 
 -- a specification, whose field opened after `field` in the string after `string`
 pub record SpecificationAt (host : Host) (start : List ℕ) (s : FieldScanned) : Type 0 where

@@ -13,10 +13,9 @@ use Rattle.py_lines.specs.Private.FieldMachine.{Level, FieldScanned, field_state
 use Rattle.py_lines.proofs.Fields.Prefixes.{plain_quotes, before_quote, before_first}
 use Rattle.py_lines.proofs.FieldMachine.Runs.{NoLimit, steps_of, BelowLimit, room_of}
 use Rattle.py_lines.proofs.FieldMachine.ListBrackets.{none_some}
-use Rattle.py_lines.proofs.FieldMachine.Completeness.{fields_reached, reached}
+use Rattle.py_lines.proofs.FieldMachine.Completeness.{begin_shallow, shallow_run, fields_reached, reached}
 unfoldable pub use Rattle.py_lines.proofs.FieldMachine.WorkedRows.{tested}
 use Rattle.py_lines.proofs.FieldSoundness.WholeTexts.{final_is_reading}
-use Rattle.py_lines.proofs.FieldMachine.Nesting.{begin_shallow, shallow_run}
 
 abbrev pub piece : Class → List ℕ → Piece
 piece class text = record { class = class; text = text }

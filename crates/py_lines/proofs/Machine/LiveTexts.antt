@@ -56,10 +56,6 @@ quote-not-return : (q : ℕ) → is_quote q ≡ true → is_return q ≡ false
 unfolding is_quote is_return
 quote-not-return q h = none_of is_return (39 ∷ 34 ∷ []) q refl h
 
-slash-closes : move_of Mode.Backslash 10 ≡ Move.Closes
-unfolding move_of is_line_feed
-slash-closes = refl
-
 pub comment-breaks : move_of Mode.Comment 10 ≡ Move.Breaks
 unfolding move_of is_break
 comment-breaks = refl
@@ -79,28 +75,22 @@ module _ (Comes : Mode → List ℕ → Type 0)
     (on : (m n : Mode) (held : List ℕ) (c : ℕ) → is_final m ≡ false → IsScalar c → move_of m c ≡ Move.Grows n → Comes n (held ++ c ∷ []) → Comes m held)
     (last : (m : Mode) (held : List ℕ) (c : ℕ) → is_final m ≡ false → IsScalar c → move_of m c ≡ Move.Closes → Comes m held)
     (commented : (held : List ℕ) → Comes Mode.Comment held) where
-  empty : (q : ℕ) (held : List ℕ) → is_quote q ≡ true → Comes (Mode.Empty q) held
+  -- a string, with its quote
+  strings : (q : ℕ) → is_quote q ≡ true → (held : List ℕ) → Comes (Mode.Empty q) held × Comes (Mode.Inside q) held × Comes (Mode.Long q) held × Comes (Mode.LongOne q) held × Comes (Mode.LongTwo q) held
   unfolding move_of
-  empty q held quotes = once (Mode.Empty q) held (record { ends = refl; breaks = λ c h. rw (not_quote c q quotes (closing-not-quote c h)) })
-
-  inside : (q : ℕ) (held : List ℕ) → is_quote q ≡ true → Comes (Mode.Inside q) held
-  unfolding move_of
-  inside q held quotes = last (Mode.Inside q) held q refl (quote-scalar q quotes) (rw (eq-eqb q q refl))
-
-  long_two : (q : ℕ) (held : List ℕ) → is_quote q ≡ true → Comes (Mode.LongTwo q) held
-  unfolding move_of
-  long_two q held quotes = last (Mode.LongTwo q) held q refl (quote-scalar q quotes) (rw (eq-eqb q q refl))
-
-  long_one : (q : ℕ) (held : List ℕ) → is_quote q ≡ true → Comes (Mode.LongOne q) held
-  unfolding move_of
-  long_one q held quotes = on (Mode.LongOne q) (Mode.LongTwo q) held q refl (quote-scalar q quotes) (rw (eq-eqb q q refl)) (long_two q (held ++ q ∷ []) quotes)
-
-  long : (q : ℕ) (held : List ℕ) → is_quote q ≡ true → Comes (Mode.Long q) held
-  unfolding move_of
-  long q held quotes = on (Mode.Long q) (Mode.LongOne q) held q refl (quote-scalar q quotes) (rw (eq-eqb q q refl)) (long_one q (held ++ q ∷ []) quotes)
+  strings q quotes held =
+      let scalar = quote-scalar q quotes in
+      let two : (h : List ℕ) → Comes (Mode.LongTwo q) h = λ h. last (Mode.LongTwo q) h q refl scalar (rw (eq-eqb q q refl)) in
+      let one : (h : List ℕ) → Comes (Mode.LongOne q) h = λ h. on (Mode.LongOne q) (Mode.LongTwo q) h q refl scalar (rw (eq-eqb q q refl)) (two (h ++ q ∷ [])) in (
+        once (Mode.Empty q) held (record { ends = refl; breaks = λ c h. rw (not_quote c q quotes (closing-not-quote c h)) }),
+        last (Mode.Inside q) held q refl scalar (rw (eq-eqb q q refl)),
+        on (Mode.Long q) (Mode.LongOne q) held q refl scalar (rw (eq-eqb q q refl)) (one (held ++ q ∷ [])),
+        one held,
+        two held,
+      )
 
   pub completes : (m : Mode) (done : List Piece) (held : List ℕ) → Holds m done held → Comes m held
-  unfolding move_of
+  unfolding move_of is_line_feed
   completes Mode.Start done held holds = once Mode.Start held (record { ends = refl; breaks = λ c h. rw (closing_is c h).1 })
   completes Mode.Free done held holds = once Mode.Free held ready-free
   completes Mode.Space done held holds = once Mode.Space held (record { ends = refl; breaks = λ c h. rw (closing_is c h).2 })
@@ -108,19 +98,19 @@ module _ (Comes : Mode → List ℕ → Type 0)
       once (Mode.Word s) held (record { ends = refl; breaks = λ c h. rw ((closing_is c h).0, and_right (is_prefix_spelling s) (is_quote c) (closing-not-quote c h)) })
   completes Mode.Comment done held holds = commented held
   completes (Mode.Opened q) done held holds =
-      on (Mode.Opened q) (Mode.Empty q) held q refl (quote-scalar q holds.opens) (rw (eq-eqb q q refl)) (empty q (held ++ q ∷ []) holds.opens)
-  completes (Mode.Inside q) done held holds = inside q held holds.0.opens
+      on (Mode.Opened q) (Mode.Empty q) held q refl (quote-scalar q holds.opens) (rw (eq-eqb q q refl)) (strings q holds.opens (held ++ q ∷ [])).0
+  completes (Mode.Inside q) done held holds = (strings q holds.0.opens held).1
   completes (Mode.Escape q) done held holds =
-      on (Mode.Escape q) (Mode.Inside q) held q refl (quote-scalar q holds.3.opens) (rw (quote-not-return q holds.3.opens)) (inside q (held ++ q ∷ []) holds.3.opens)
+      on (Mode.Escape q) (Mode.Inside q) held q refl (quote-scalar q holds.3.opens) (rw (quote-not-return q holds.3.opens)) (strings q holds.3.opens (held ++ q ∷ [])).1
   completes (Mode.EscapeReturn q) done held holds =
       last (Mode.EscapeReturn q) held q refl (quote-scalar q holds.4.opens) (rw (quote-not-feed q holds.4.opens, eq-eqb q q refl))
-  completes (Mode.Empty q) done held holds = empty q held holds.opens
-  completes (Mode.Long q) done held holds = long q held holds.opens
-  completes (Mode.LongOne q) done held holds = long_one q held holds.2.opens
-  completes (Mode.LongTwo q) done held holds = long_two q held holds.2.opens
+  completes (Mode.Empty q) done held holds = (strings q holds.opens held).0
+  completes (Mode.Long q) done held holds = (strings q holds.opens held).2
+  completes (Mode.LongOne q) done held holds = (strings q holds.2.opens held).3
+  completes (Mode.LongTwo q) done held holds = (strings q holds.2.opens held).4
   completes (Mode.LongEscape q) done held holds =
-      on (Mode.LongEscape q) (Mode.Long q) held q refl (quote-scalar q holds.3.opens) refl (long q (held ++ q ∷ []) holds.3.opens)
-  completes Mode.Backslash done held holds = last Mode.Backslash held 10 refl refl slash-closes
+      on (Mode.LongEscape q) (Mode.Long q) held q refl (quote-scalar q holds.3.opens) refl (strings q holds.3.opens (held ++ q ∷ [])).2
+  completes Mode.Backslash done held holds = last Mode.Backslash held 10 refl refl refl
   completes Mode.JoinReturn done held holds = once Mode.JoinReturn held (record { ends = refl; breaks = λ c h. rw (closing_is c h).3 })
   completes Mode.Return done held holds = once Mode.Return held (record { ends = refl; breaks = λ c h. rw (closing_is c h).3 })
   completes m done held holds = absurd holds

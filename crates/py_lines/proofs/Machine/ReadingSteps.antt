@@ -1,6 +1,6 @@
 -- The machine goes through every list of pieces that is read before what follows, and finds those pieces.
 use Rattle.std.proofs.Common.{◌≡◌, ℕ, true, false, Option, None, Some, List, [], ◌∷◌, ◌++◌, refl, sym, ap, ◌∙◌, subst, ⊎_elim, inl, inr, append_assoc, append-nil}
-use Rattle.std.proofs.lemmas.Bool.{both_ways, cases_Bool}
+use Rattle.std.proofs.lemmas.Bool.{both_ways, cases_Bool, false_from_ne_true}
 use Rattle.py_lines.specs.Character.{is_mark, is_quote}
 use Rattle.py_lines.specs.Piece.{Class, mark, string, operator, line_end, Piece, begins, is_mark_class, begins_marked, spelled}
 use Rattle.py_lines.specs.PieceGrammar.{InPlainClass, IsPrefix, MayPrecedePlain, AreReadPlain}
@@ -83,42 +83,31 @@ start_as_free [] s p ps steps pieces_are =
     let same : [] ≡ p ∷ ps = ap pieces_or steps ∙ pieces_are in
     absurd (cc)
 start_as_free (c ∷ cs) s p ps steps pieces_are =
-    ⊎_elim
-    (λ (h : is_mark c ≡ true).
-    let stuck : None ≡ Some s = sym (ap (λ v. steps_from (started [] c v) cs) (start-mark c h)) ∙ steps in
-    absurd (cc))
-    (λ (h : is_mark c ≡ false). ap (λ (v : Move). steps_from (moved text_start c v) cs) (start-breaks c h) ∙ steps)
-    (cases_Bool (is_mark c))
-
-reach_others : (p : Piece) (ps : List Piece) (rest : List ℕ) → AreReadPlain (p ∷ ps) rest → is_mark_class p.class ≡ false → Reaches (spelled (p ∷ ps)) (p ∷ ps) rest
-reach_others p ps rest fit unmarked =
-    let found = find_all (fresh []) (p ∷ ps) rest fit unmarked (stops-free _) in
-    record {
-      to = found.to;
-      steps = start_as_free (spelled (p ∷ ps)) found.to p ps found.steps found.pieces_are;
-      pieces_are = found.pieces_are;
-      stops = λ h. found.stops;
-    }
-
-reach_marked : (text : List ℕ) (ps : List Piece) (rest : List ℕ) → AreReadPlain (piece mark text ∷ ps) rest → Reaches (spelled (piece mark text ∷ ps)) (piece mark text ∷ ps) rest
-unfolding move_of
-reach_marked text ps rest fit =
-    let c = fit.0.0 in
-    let move : move_of Mode.Start c ≡ Move.Closes = rw fit.0.2 in
-    let P : List ℕ → Type 0 = λ t. Reaches (t ++ spelled ps) (piece mark t ∷ ps) rest in
-    let found = find_all (fresh (piece mark (c ∷ []) ∷ [])) ps rest fit.3 fit.2 (stops-free _) in
-    subst P (sym fit.0.1) (record {
-      to = found.to;
-      steps = ap (λ (v : Move). steps_from (moved text_start c v) (spelled ps)) move ∙ found.steps;
-      pieces_are = found.pieces_are;
-      stops = λ h. found.stops;
-    })
+    let stuck : is_mark c ≡ true → None ≡ Some s = λ h. sym (ap (λ v. steps_from (started [] c v) cs) (start-mark c h)) ∙ steps in
+    ap (λ (v : Move). steps_from (moved text_start c v) cs) (start-breaks c (false_from_ne_true _ (λ h. absurd (cc (stuck h))))) ∙ steps
 
 -- pieces that are read before the rest are found from the start
 pub reach : (pieces : List Piece) (rest : List ℕ) → AreReadPlain pieces rest → Reaches (spelled pieces) pieces rest
+unfolding move_of
 reach [] rest fit = record { to = text_start; steps = refl; pieces_are = refl; stops = stops_unless Mode.Start is_mark refl start-breaks rest }
 reach (p ∷ ps) rest fit = go p.class p.text fit
   where
     go : (class : Class) (text : List ℕ) → AreReadPlain (piece class text ∷ ps) rest → Reaches (spelled (piece class text ∷ ps)) (piece class text ∷ ps) rest
-    go mark text h = reach_marked text ps rest h
-    go class text h = reach_others (piece class text) ps rest h refl
+    go mark text h =
+        let c = h.0.0 in
+        let move : move_of Mode.Start c ≡ Move.Closes = rw h.0.2 in
+        let found = find_all (fresh (piece mark (c ∷ []) ∷ [])) ps rest h.3 h.2 (stops-free _) in
+        rw h.0.1 (record {
+          to = found.to;
+          steps = ap (λ (v : Move). steps_from (moved text_start c v) (spelled ps)) move ∙ found.steps;
+          pieces_are = found.pieces_are;
+          stops = λ h. found.stops;
+        })
+    go class text h =
+        let found = find_all (fresh []) (piece class text ∷ ps) rest h refl (stops-free _) in
+        record {
+          to = found.to;
+          steps = start_as_free (text ++ spelled ps) found.to (piece class text) ps found.steps found.pieces_are;
+          pieces_are = found.pieces_are;
+          stops = λ h. found.stops;
+        }

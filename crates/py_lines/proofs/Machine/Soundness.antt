@@ -43,19 +43,20 @@ MoveHolds m held c Move.Closes = InPlainClass (class_of m) (held ++ c ∷ []) ×
 MoveHolds m held c Move.Breaks = (more : List ℕ) → AreReadPlain (closed m [] held) (c ∷ more)
 MoveHolds m held c Move.Refused = Unit {0}
 
+-- a word that goes on
+pub word_on : (s : Spelling) (held : List ℕ) (c : ℕ) → Holds (Mode.Word s) [] held → is_word_character c ≡ true → Holds (Mode.Word (spelling_with s c)) [] (held ++ c ∷ [])
+word_on s held c (first, others, is, opens, run, so) passes =
+    (first, others ++ c ∷ [], push held c is, opens, list_all-push is_word_character others c run passes, ap (λ t. spelling_with t c) so ∙ sym (spelling_on-push (first_spelling first) others c))
+
 prefix_held : (s : Spelling) (held : List ℕ) → Holds (Mode.Word s) [] held → is_prefix held ≡ is_prefix_spelling s
 prefix_held s held (first, others, is, opens, run, so) = ap is_prefix is ∙ prefix_spelling first others ∙ ap is_prefix_spelling (sym so)
-
--- one item of one character
-bare_item : (q c : ℕ) → eqb c q ≡ false → is_backslash c ≡ false → is_break c ≡ false → is_short_item q (c ∷ []) ≡ true
-bare_item q c other no_slash no_break = and_from _ _ (not_from_false _ no_slash) (not_from_false _ (barred q c other no_break))
 
 -- a character in a short string, between two items
 short_holds : (m : Mode) (held : List ℕ) (q c : ℕ) → HoldsShort q held → eqb c q ≡ false → MoveHolds m held c (short_move q c)
 unfolding short_move
 short_holds m held q c items other =
     cond_both (is_backslash c) _ _ (MoveHolds m held c) (λ slash. (held, c, refl, items, slash))
-    (λ no_slash. cond_both (is_break c) _ _ (MoveHolds m held c) (λ break. tt) (λ no_break. short_push q held (c ∷ []) items (bare_item q c other no_slash no_break) tt))
+    (λ no_slash. cond_both (is_break c) _ _ (MoveHolds m held c) (λ break. tt) (λ no_break. short_push q held (c ∷ []) items (and_from _ _ (not_from_false _ no_slash) (not_from_false _ (barred q c other no_break))) tt))
 
 -- the closing quote of a short string that holds something
 close_holds : (held : List ℕ) (q c : ℕ) → HoldsSome q held → eqb c q ≡ true → InPlainClass string (held ++ c ∷ []) × ((more : List ℕ) → MayPrecedePlain string (held ++ c ∷ []) more)
@@ -70,17 +71,10 @@ unfolding long_move
 long_holds m held q c opening other =
     cond_both (is_backslash c) _ _ (MoveHolds m held c) (λ slash. (held, c, refl, opening, slash)) (λ no_slash. prefix_push q held (c ∷ []) opening (not_from_false _ no_slash) other)
 
--- a character that a backslash escapes
-escaped_item : (q slash c : ℕ) → is_backslash slash ≡ true → is_short_item q (slash ∷ c ∷ []) ≡ true
-escaped_item q slash c h = and_from _ _ h refl
-
-escaped_end : (q slash r c : ℕ) → is_backslash slash ≡ true → is_return r ≡ true → is_line_feed c ≡ true → is_short_item q (slash ∷ r ∷ c ∷ []) ≡ true
-escaped_end q slash r c h k l = and_from _ _ (and_from _ _ (and_from _ _ h k) l) refl
-
 -- the items of a short string after an escaped CR
 pub returned_items : (q : ℕ) (done : List Piece) (held : List ℕ) → Holds (Mode.EscapeReturn q) done held → HoldsSome q held
 returned_items q done held (before, slash, r, is, items, slashes, returns) =
-    subst (HoldsSome q) (sym is) (short_push q before (slash ∷ r ∷ []) items (escaped_item q slash r slashes) tt)
+    subst (HoldsSome q) (sym is) (short_push q before (slash ∷ r ∷ []) items (and_from _ _ slashes refl) tt)
 
 -- an empty string is before no quote of its kind
 empty_before : (q : ℕ) (held : List ℕ) (c : ℕ) (more : List ℕ) → HoldsQuotes (q ∷ q ∷ []) q held → eqb c q ≡ false → MayPrecedePlain string held (c ∷ more)
@@ -114,7 +108,7 @@ move_holds Mode.Space held c holds =
 move_holds (Mode.Word s) held c (first, others, is, opens, run, so) =
     let prefixed = prefix_held s held (first, others, is, opens, run, so) in
     cond_both (is_word_character c) _ _ (MoveHolds (Mode.Word s) held c)
-    (λ h. (first, others ++ c ∷ [], push held c is, opens, list_all-push is_word_character others c run h, ap (λ t. spelling_with t c) so ∙ sym (spelling_on-push (first_spelling first) others c)))
+    (λ h. word_on s held c (first, others, is, opens, run, so) h)
     (λ h. cond_both (is_prefix_spelling s && is_quote c) _ _ (MoveHolds (Mode.Word s) held c)
     (λ k.
     let parts = and_parts (is_prefix_spelling s) (is_quote c) k in
@@ -132,12 +126,12 @@ move_holds (Mode.Escape q) held c (before, slash, is, items, slashes) =
     let spell = one_after before held slash c is in
     cond_both (is_return c) _ _ (MoveHolds (Mode.Escape q) held c)
     (λ h. (before, slash, c, spell, items, slashes, h))
-    (λ h. subst (HoldsSome q) (sym spell) (short_push q before (slash ∷ c ∷ []) items (escaped_item q slash c slashes) tt))
+    (λ h. subst (HoldsSome q) (sym spell) (short_push q before (slash ∷ c ∷ []) items (and_from _ _ slashes refl) tt))
 move_holds (Mode.EscapeReturn q) held c (before, slash, r, is, items, slashes, returns) =
     let spell : held ++ c ∷ [] ≡ before ++ slash ∷ r ∷ c ∷ [] = ap (λ t. t ++ c ∷ []) is ∙ append_assoc before (slash ∷ r ∷ []) (c ∷ []) in
     let whole = returned_items q [] held (before, slash, r, is, items, slashes, returns) in
     cond_both (is_line_feed c) _ _ (MoveHolds (Mode.EscapeReturn q) held c)
-    (λ h. subst (HoldsSome q) (sym spell) (short_push q before (slash ∷ r ∷ c ∷ []) items (escaped_end q slash r c slashes returns h) tt))
+    (λ h. subst (HoldsSome q) (sym spell) (short_push q before (slash ∷ r ∷ c ∷ []) items (and_from _ _ (and_from _ _ (and_from _ _ slashes returns) h) refl) tt))
     (λ h. cond_both (eqb c q) _ _ (MoveHolds (Mode.EscapeReturn q) held c) (λ k. close_holds held q c whole k) (λ k. short_holds (Mode.EscapeReturn q) held q c whole.0 k))
 move_holds (Mode.Empty q) held c holds =
     cond_both (eqb c q) _ _ (MoveHolds (Mode.Empty q) held c)

@@ -4,7 +4,7 @@ use Rattle.std.proofs.Common.{◌≡◌, ℕ, ◌+◌, Bool, true, false, not, �
 use Rattle.std.specs.Prelude.{if◌then◌else◌}
 use Rattle.std.specs.Str.{byte}
 use Rattle.std.specs.List.{list_all, list_any}
-use Rattle.std.proofs.lemmas.Bool.{cases_Bool, cond_both, both_ways, and_right, and_parts, and_from}
+use Rattle.std.proofs.lemmas.Bool.{cases_Bool, cond_both, both_ways, and_right, and_parts, and_from, false_from_ne_true}
 use Rattle.py_lines.specs.Character.{is_mark, is_word_character, is_quote, is_break, is_backslash, is_r}
 use Rattle.py_lines.specs.Piece.{operator, line_end, Piece, spelled}
 use Rattle.py_lines.specs.Balance.{is_opening, is_closing, closing_of, is_opener, is_closer, depth_through}
@@ -21,12 +21,13 @@ use Rattle.py_lines.proofs.Machine.PieceSteps.{scanned, pieces_at, is_word_mode}
 use Rattle.py_lines.proofs.Machine.LiveTexts.{keeps, stack_closed}
 use Rattle.py_lines.proofs.Machine.Starts.{StartsSo, starts_so, start-operator}
 use Rattle.py_lines.proofs.Text.CharacterTests.{excluded, quote-not-word, slash-not-break}
-use Rattle.py_lines.proofs.Machine.Spellings.{spelling_on-push}
+use Rattle.py_lines.proofs.Machine.Soundness.{word_on}
+use Rattle.py_lines.proofs.FieldMachine.Completeness.{start_breaks}
 use Rattle.py_lines.proofs.Machine.OpenStrings.{start-not-mark}
 use Rattle.py_lines.proofs.FieldMachine.Runs.{steps_of}
 use Rattle.py_lines.proofs.FieldMachine.PieceRuns.{opening_operator, word_goes}
 use Rattle.py_lines.proofs.FieldMachine.PlainSteps.{plain_moves, is_fielded_mode, NoWord, no_word, IsOpenAfter, open_after}
-use Rattle.py_lines.proofs.ScanMachine.Spellings.{word_tells, other_begins}
+use Rattle.py_lines.proofs.ScanMachine.Spellings.{word_told, other_begins}
 use Rattle.py_lines.proofs.ScanMachine.Steps.{meets}
 use Rattle.py_lines.proofs.ScanMachine.Advance.{kept, kept_if}
 use Rattle.py_lines.proofs.ScanMachine.Rebased.{rebased, rebased_if}
@@ -90,11 +91,8 @@ some_is a b h = cc
 
 -- modes without fields
 plain_mode : (m : Mode) (done : List Piece) (os : List ℕ) (depth : ℕ) (held : List ℕ) → is_fielded_mode m ≡ false → (flat m done os held ≡ Some (field_state [] done os (plain m) held)) × (is_word_mode m ≡ false → Own m depth held)
-plain_mode (Mode.FieldOpened h) done os depth held other = absurd (both_ways _ other refl)
-plain_mode (Mode.FieldEmpty h) done os depth held other = absurd (both_ways _ other refl)
-plain_mode Mode.Fielded done os depth held other = absurd (both_ways _ other refl)
-plain_mode (Mode.Word s) done os depth held other = (refl, λ word. absurd (both_ways _ word refl))
-plain_mode m done os depth held other = (refl, λ word. tt)
+plain_mode (Mode.Word s) done os depth held other = grind arith
+plain_mode m done os depth held other = grind arith
 
 tied_plain : (n : Mode) (done : List Piece) (st : List Bracket) (held : List ℕ) → is_fielded_mode n ≡ false → Own n (depth_through 0 done) held → brackets_of done ≡ Some st → IsTied (field_state [] done (openers_of st) (plain n) held) (scanned done n held) st
 tied_plain n done st held other own stack = record { stack = stack; flat_is = (plain_mode n done (openers_of st) 0 held other).0; own = own }
@@ -105,11 +103,7 @@ tied_fresh done p st no_opener no_closer stack = record { stack = keeps done p s
 
 -- what is no operator opens no bracket
 pub opens_no : (c : ℕ) (x : Start) → start_of c ≡ x → (x ≡ Start.Operator → ⊥) → is_opening c ≡ false
-opens_no c x is other = go (is_opening c) refl
-  where
-    go : (b : Bool) → is_opening c ≡ b → is_opening c ≡ false
-    go false h = h
-    go true h = absurd (other (sym is ∙ start-operator c (opening_operator c h)))
+opens_no c x is other = false_from_ne_true _ (λ opens. other (sym is ∙ start-operator c (opening_operator c opens)))
 
 -- what both machines come to, where there is room for it
 alike_if : (b : Bool) (u : Scanned) (x : FieldScanned) (st : List Bracket) → b ≡ true → IsTied x u st → Alike (kept_if (Some u)) (roomy b (Some x))
@@ -151,13 +145,8 @@ started_with done st c (Start.Open n) is stack so =
     alike_if _ _ _ st (ap (λ b. not b || nat_lt (length (openers_of st)) 200) (opens_no c (Start.Open n) is (λ e. cc))) (tied_plain n done st (c ∷ []) (begun_plain n so).0 (begun_plain n so).1 stack)
   where
     begun_plain : (m : Mode) → StartsSo c (Start.Open m) → (is_fielded_mode m ≡ false) × Own m (depth_through 0 done) (c ∷ [])
-    begun_plain Mode.Space s = (refl, tt)
     begun_plain (Mode.Word w) s = (refl, (c, [], refl, s.0, refl, s.1))
-    begun_plain Mode.Comment s = (refl, tt)
-    begun_plain (Mode.Opened q) s = (refl, tt)
-    begun_plain Mode.Return s = (refl, tt)
-    begun_plain Mode.Backslash s = (refl, tt)
-    begun_plain m s = absurd s
+    begun_plain m s = grind arith
 
 -- a character begins a piece in both machines, after what was open
 broken : (done : List Piece) (st : List Bracket) (c : ℕ) → brackets_of done ≡ Some st → Alike (kept_if (started done c (start_of c))) (roomy (has_room_at (length (openers_of st) + 0) c breaks) (field_started [] done (openers_of st) c (start_of c)))
@@ -166,12 +155,9 @@ broken done st c stack =
     let deep : length (openers_of st) ≡ length (openers_of st) + 0 = omega arith in
     subst (λ (n : ℕ). Alike (kept_if (started done c (start_of c))) (roomy (not (is_opening c) || nat_lt n 200) (field_started [] done (openers_of st) c (start_of c)))) deep (started_with done st c (start_of c) refl stack (starts_so c))
 
-free_never : (c : ℕ) → move_of Mode.Free c ≡ Move.Closes → ⊥
-unfolding move_of
-free_never c h = cc
-
 pub closing_neutral : (m : Mode) (text : List ℕ) (c : ℕ) → move_of m c ≡ Move.Closes → (is_opener (piece (class_of m) text) ≡ false) × (is_closer (piece (class_of m) text) ≡ false)
-closing_neutral Mode.Free text c h = absurd (free_never c h)
+unfolding move_of
+closing_neutral Mode.Free text c h = absurd (cc)
 closing_neutral m text c h = (refl, refl)
 
 pub room_grows : (depth c : ℕ) (n : FieldMode) → has_room_at depth c (grows n) ≡ true
@@ -213,9 +199,7 @@ grows_to s t st c m n one two tied = by_moves s t c (Move.Grows m) (grows n) one
 
 breaks_as : (v : Move) → plain_move v ≡ breaks → v ≡ Move.Breaks
 breaks_as Move.Breaks h = refl
-breaks_as (Move.Grows m) h = absurd (cc)
-breaks_as Move.Closes h = absurd (cc)
-breaks_as Move.Refused h = absurd (cc)
+breaks_as v h = absurd (cc)
 
 -- where no word and no string with fields is open
 pub plain_steps : (m : Mode) (done : List Piece) (held : List ℕ) (st : List Bracket) (c : ℕ) → is_word_mode m ≡ false → move_at (scanned done m held) c ≡ meet_of m c → meet_of m c ≡ move_of m c → begins_host m held c ≡ false → brackets_of done ≡ Some st → StepsAlike (scanned done m held) (field_state [] done (openers_of st) (plain m) held) c
@@ -223,25 +207,10 @@ plain_steps m done held st c word at meets other stack =
     by_moves (scanned done m held) (field_state [] done (openers_of st) (plain m) held) c (move_of m c) (plain_move (move_of m c)) (at ∙ meets) (plain_moves m held c other) (λ h. (meets ∙ breaks_as (move_of m c) h, refl))
     (plain_moved m done held st c (move_of m c) refl stack (λ n is. (plain_mode n done (openers_of st) (depth_through 0 done) (held ++ c ∷ []) (subst IsOpenAfter is (open_after m c))).1 (subst (NoWord (class_of m)) is (no_word m c word)).0))
 
--- a word that goes on
-pub word_on : (s : Spelling) (held : List ℕ) (c : ℕ) → Holds (Mode.Word s) [] held → is_word_character c ≡ true → Holds (Mode.Word (spelling_with s c)) [] (held ++ c ∷ [])
-word_on s held c (first, others, is, opens, run, spells) passes =
-    (first, others ++ c ∷ [], ap (λ t. t ++ c ∷ []) is, opens, all-push others run, ap (λ x. spelling_with x c) spells ∙ sym (spelling_on-push (first_spelling first) others c))
-  where
-    all-push : (ws : List ℕ) → list_all is_word_character ws ≡ true → list_all is_word_character (ws ++ c ∷ []) ≡ true
-    all-push [] h = and_from _ _ passes refl
-    all-push (w ∷ ws) h =
-        let parts = and_parts (is_word_character w) (list_all is_word_character ws) h in
-        and_from _ _ parts.0 (all-push ws parts.1)
-
-start_stops : (a : ℕ) → is_mark a ≡ false → field_move (plain Mode.Start) [] a ≡ breaks
-unfolding field_move move_of
-start_stops a h = rw h
-
--- its text, by itself
+-- the text of a word, by itself
 pub word_alone : (s : Spelling) (depth : ℕ) (held : List ℕ) → Holds (Mode.Word s) [] held → GoesAlone depth held (field_state [] [] [] (plain (Mode.Word s)) held)
 word_alone s depth held (first, others, is, opens, run, spells) =
-    let at = word_goes (RoomFrom depth) field_text_start first others [] opens run (start_stops first (start-not-mark first opens)) in
+    let at = word_goes (RoomFrom depth) field_text_start first others [] opens run (start_breaks first (start-not-mark first opens)) in
     record {
       steps = ap string_state is ∙ steps_of (RoomFrom depth) field_text_start _ (first ∷ others) at ∙ ap (λ x. Some (field_state [] [] [] (plain (Mode.Word x)) (first ∷ others))) (sym spells) ∙ ap (λ t. Some (field_state [] [] [] (plain (Mode.Word s)) t)) (sym is);
       room = ap (have_room_in depth (Some field_text_start)) is ∙ goes_room depth field_text_start _ (first ∷ others) at;
@@ -253,16 +222,9 @@ host_moves s held c field quotes = rw (field, quotes)
 
 -- a word meets a character alike in both machines
 module _ (s : Spelling) (held : List ℕ) (c : ℕ) (own : Holds (Mode.Word s) [] held) where
-  tells : (is_field_prefix held ≡ is_field_spelling s) × (is_field_spelling s ≡ true → list_any is_r held ≡ is_raw_spelling s)
-  tells =
-      let word = word_tells own.0 own.1 in (
-        ap is_field_prefix own.2 ∙ word.0 ∙ ap is_field_spelling (sym own.5),
-        λ h. ap (list_any is_r) own.2 ∙ word.1 (ap is_field_spelling (sym own.5) ∙ h) ∙ ap is_raw_spelling (sym own.5),
-      )
-
   pub word_meets : field_move (plain (Mode.Word s)) held c ≡ code_moved (meet_of (Mode.Word s) c)
   unfolding meet_of quote_move field_move move_of
-  word_meets = grind (arith, tells, other_begins s, quote-not-word c)
+  word_meets = grind (arith, word_told s held own, other_begins s, quote-not-word c)
 
 -- so both go on alike after it
 module _ (s : Spelling) (done : List Piece) (held : List ℕ) (st : List Bracket) (c : ℕ) (own : Holds (Mode.Word s) [] held) (stack : brackets_of done ≡ Some st) where

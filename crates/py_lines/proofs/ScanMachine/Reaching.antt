@@ -16,9 +16,8 @@ use Rattle.py_lines.proofs.Machine.PieceSteps.{pieces_at}
 use Rattle.py_lines.proofs.Machine.ReadingSteps.{ReachesBy}
 use Rattle.py_lines.proofs.FieldMachine.Runs.{BelowLimit, StopsAt, steps_of, room_of}
 use Rattle.py_lines.proofs.FieldMachine.ListBrackets.{openers_through-append, opener_pushes, balanced_openers}
-use Rattle.py_lines.proofs.FieldMachine.Nesting.{passed_shallow, begin_shallow, shallow_run}
 use Rattle.py_lines.proofs.FieldMachine.PieceRuns.{FieldFinds}
-use Rattle.py_lines.proofs.FieldMachine.Completeness.{reached}
+use Rattle.py_lines.proofs.FieldMachine.Completeness.{passed_shallow, begin_shallow, shallow_run, reached}
 use Rattle.py_lines.proofs.ScanMachine.Steps.{StopsBefore}
 use Rattle.py_lines.proofs.ScanMachine.Rebased.{rebased, rebased_if, none_based}
 use Rattle.py_lines.proofs.ScanMachine.Follows.{openers_of, flat, Own, IsTied, some_is}

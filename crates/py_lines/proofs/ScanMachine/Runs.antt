@@ -39,10 +39,8 @@ body_stays host place named at c v is = tt
 -- a move in the body ends the string or does not
 ends_or_stays : (outer : List Level) (v : FieldMove) → (outer ≡ [] → StaysBody v) → ((outer ≡ []) × (v ≡ closes)) ⊎ KeepsString outer v
 ends_or_stays (l ∷ ls) v stays = inr tt
-ends_or_stays [] (grows m) stays = inr (stays refl)
 ends_or_stays [] closes stays = inl (refl, refl)
-ends_or_stays [] breaks stays = absurd (stays refl)
-ends_or_stays [] v stays = inr tt
+ends_or_stays [] v stays = inr (stays refl)
 
 module _ (done : List Piece) (held : List ℕ) (st : List Bracket) (c : ℕ) (stack : brackets_of done ≡ Some st) (t : FieldScanned) (alone : GoesAlone (depth_through 0 done) held t) (inside : IsInString t) (bare : t ≡ rebased [] [] t) where
   abbrev S : Scanned

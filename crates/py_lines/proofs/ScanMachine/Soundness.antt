@@ -43,10 +43,8 @@ Stays s c (Some n) = n.mode ≡ Mode.Fielded → (n.done ≡ s.done) × (n.held 
 
 started_stays : (s : Scanned) (all : List Piece) (c : ℕ) (x : Start) → StartsSo c x → Stays s c (started all c x)
 started_stays s all c (Start.Open Mode.Fielded) so = absurd so
-started_stays s all c (Start.Open m) so = λ is. absurd (cc)
-started_stays s all c Start.Operator so = λ is. absurd (cc)
-started_stays s all c Start.LineEnd so = λ is. absurd (cc)
 started_stays s all c Start.Nothing so = tt
+started_stays s all c x so = λ is. absurd (cc)
 
 moved_stays : (s : Scanned) (c : ℕ) (v : Move) → Stays s c (moved s c v)
 moved_stays s c (Move.Grows m) = λ is. (refl, refl)

@@ -5,7 +5,7 @@ use Rattle.std.specs.List.{list_any}
 use Rattle.std.proofs.lemmas.Bool.{cond_both, both_ways}
 use Rattle.py_lines.specs.Character.{is_digit, is_r, is_b, is_f, is_t, is_u}
 use Rattle.py_lines.specs.FieldStrings.{is_field_prefix}
-use Rattle.py_lines.specs.Private.Machine.{Spelling, first_spelling, spelling_with, is_prefix_spelling, spelling_on}
+use Rattle.py_lines.specs.Private.Machine.{Spelling, Mode, Holds, first_spelling, spelling_with, is_prefix_spelling, spelling_on}
 use Rattle.py_lines.specs.Private.ScanMachine.{is_field_spelling, is_raw_spelling, begins_string}
 use Rattle.py_lines.proofs.Text.CharacterTests.{digit-not-letter, r-not-others, b-not-others}
 use Rattle.py_lines.proofs.Machine.Spellings.{name_stays, number_stays, third}
@@ -29,6 +29,10 @@ pub word_tells : (first : ℕ) (others : List ℕ) → Tells (first ∷ others) 
 word_tells first [] = one_letter first
 word_tells first (b ∷ []) = two_letters first b
 word_tells first (b ∷ c ∷ cs) = later_told first b c cs
+
+-- so does that of an open word
+pub word_told : (s : Spelling) (held : List ℕ) → Holds (Mode.Word s) [] held → Tells held s
+word_told s held (first, others, is, opens, run, spells) = rw (is, spells) (word_tells first others)
 
 -- other words are prefixes as the machine without fields has them
 pub other_begins : (s : Spelling) → is_field_spelling s ≡ false → begins_string s ≡ is_prefix_spelling s
