@@ -12,4 +12,3 @@ pub mod Completeness
 pub mod OpenStrings
 pub mod OpenLists
 pub mod WhatIsOpen
-pub mod OpenCode

@@ -9,5 +9,4 @@ pub mod Rooms
 pub mod Follows
 pub mod Soundness
 pub mod Runs
-pub mod LiveTexts
 pub mod Reaching

@@ -29,7 +29,7 @@ use Rattle.py_lines.specs.declared.mode.Spelling.{Spelling}
 use Rattle.py_lines.specs.declared.mode.Move.{Move}
 use Rattle.py_lines.specs.Private.ScanMachine.{is_field_spelling, quote_move, meet_of, move_in, scan_steps}
 use Rattle.py_lines.proofs.ScanMachine.Spellings.{word_tells, other_begins}
-use Rattle.py_lines.proofs.ScanMachine.LiveTexts.{live_runs, runs_live}
+use Rattle.py_lines.proofs.ScanMachine.Reaching.{live_runs, runs_live}
 use Rattle.py_lines.proofs.Fields.Elsewhere.{later, no_field_prefix, none_false}
 
 -- from one state, the machine goes over these characters to another, with these brackets open

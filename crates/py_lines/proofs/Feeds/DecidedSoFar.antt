@@ -36,7 +36,7 @@ use Rattle.py_lines.proofs.Pieces.PieceLists.{piece}
 use Rattle.py_lines.proofs.Machine.LiveTexts.{keeps}
 use Rattle.py_lines.proofs.Machine.PieceSteps.{scanned, pieces_at}
 use Rattle.py_lines.proofs.ScanMachine.Advance.{GoesTo}
-use Rattle.py_lines.proofs.ScanMachine.LiveTexts.{runs_live}
+use Rattle.py_lines.proofs.ScanMachine.Reaching.{runs_live}
 use Rattle.py_lines.proofs.Faults.Verdict.{not_live}
 use Rattle.py_lines.proofs.Lexings.Answers.{IsLineOf, HasPrefix, refused_at_character, refused_at_bytes}
 use Rattle.py_lines.proofs.Lexings.DecidedFaults.{decided_lexing}

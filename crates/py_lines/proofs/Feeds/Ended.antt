@@ -17,7 +17,7 @@ use Rattle.py_lines.specs.Private.LineState.{IsFaultAfter, first_mode}
 use Rattle.py_lines.proofs.Text.Utf8Prefixes.{nothing_bad}
 use Rattle.py_lines.proofs.Machine.PieceSteps.{pieces_at}
 use Rattle.py_lines.proofs.ScanMachine.Advance.{GoesTo, RunsTo}
-use Rattle.py_lines.proofs.ScanMachine.LiveTexts.{reading_at}
+use Rattle.py_lines.proofs.ScanMachine.Reaching.{reading_at}
 use Rattle.py_lines.proofs.LineScan.TextSteps.{way_goes}
 use Rattle.py_lines.proofs.Lexings.Answers.{refused_at_end}
 use Rattle.py_lines.proofs.Readers.LineFaults.{Within, unfinished_fault}

@@ -86,6 +86,11 @@ module _ (Room : ℕ → Type 0) (from : FieldScanned) where
       (word_goes Room from a bs (q ∷ after) (subst (λ x. is_word_start x ≡ true) same letters.starts) (and_parts (is_word_character a) (list_all is_word_character bs) letters.all).1 stops)
       (goes-grows Room word_at string_at (opened (host_of (a ∷ bs) q)) q [] (rw (is, quotes)) refl)
 
+  -- what comes after the first quote
+  begun_goes : (prefix : List ℕ) (q : ℕ) (after later : List ℕ) (mode : FieldMode) → is_field_prefix prefix ≡ true → is_quote q ≡ true → StopsAt from.mode from.held (prefix ++ q ∷ after) → Goes Room (inside (opened (host_of prefix q)) (prefix ++ q ∷ [])) later (inside mode ((prefix ++ q ∷ []) ++ later)) → Goes Room from (prefix ++ (q ∷ later)) (inside mode (prefix ++ (q ∷ later)))
+  begun_goes prefix q after later mode is quotes stops goes =
+      rw (← (append_assoc prefix (q ∷ []) later)) (goes-append Room from (inside (opened (host_of prefix q)) (prefix ++ q ∷ [])) _ (prefix ++ q ∷ []) later (prefix_goes prefix q after is quotes stops) goes)
+
   opened_goes : (host : Host) (held : List ℕ) (c : ℕ) (cs : List ℕ) (t : FieldScanned) → eqb c host.quote ≡ false → Goes Room (inside (body host literal false between) held) (c ∷ cs) t → Goes Room (inside (opened host) held) (c ∷ cs) t
   opened_goes host held c cs t other (next, step, room, others) = (
     next,
@@ -109,13 +114,10 @@ module _ (Room : ℕ → Type 0) (from : FieldScanned) where
     opened_part : (q : ℕ) (prefix held part more rest : List ℕ) (t : FieldScanned) → is_quote q ≡ true → IsPart F (host_in q false prefix) literal false part rest → Goes Room (inside (body (host_in q false prefix) literal false between) held) (part ++ more) t → Goes Room (inside (opened (host_in q false prefix)) held) (part ++ more) t
     opened_part q prefix held part more rest t quotes is_part goes =
         let host : Host = host_in q false prefix in
-        let head = part_begins F begin host literal false part rest is_part in
-        let c = head.0 in
-        let cs = head.1 in
+        let (c, cs, shape) = part_begins F begin host literal false part rest is_part in
         let other : eqb c q ≡ false =
-        false_from_ne_true _ (λ same. short_part F begin q (list_any is_r prefix) false part rest [] cs quotes is_part (append-nil part ∙ head.2 ∙ ap (λ x. x ∷ cs) (eqb-true c q same))) in
-        subst (λ x. Goes Room (inside (opened host) held) (x ++ more) t) (sym head.2)
-        (opened_goes host held c (cs ++ more) t other (subst (λ x. Goes Room (inside (body host literal false between) held) (x ++ more) t) head.2 goes))
+        false_from_ne_true _ (λ same. short_part F begin q (list_any is_r prefix) false part rest [] cs quotes is_part (append-nil part ∙ shape ∙ ap (λ x. x ∷ cs) (eqb-true c q same))) in
+        rw shape (opened_goes host held c (cs ++ more) t other (rw shape at goes))
 
     by_length : (long : Bool) (q : ℕ) (prefix : List ℕ) (parts : List (List ℕ)) (rest after : List ℕ) (tail : List (List ℕ)) → is_field_prefix prefix ≡ true → is_quote q ≡ true → AreParts F (host_in q long prefix) literal false parts rest → has_triple q (parts ++ tail) ≡ false → StopsAt from.mode from.held (prefix ++ q ∷ after) → LiteralGoes (host_in q long prefix) (named_through false parts) (prefix ++ (quotes_of (host_in q long prefix) ++ joined parts)) rest tail
     unfolding field_move
@@ -131,12 +133,10 @@ module _ (Room : ℕ → Type 0) (from : FieldScanned) where
         let quotes_go : Goes Room opened_at (q ∷ q ∷ []) body_at =
         goes-grown Room from.outer (field_pieces from) from.openers (opened (host_of prefix q)) (body host literal false between) begun (q ∷ q ∷ [])
         (empty (host_of prefix q), second_quote (host_of prefix q), (body host literal false between, λ h. rw (eq-eqb q q refl), refl)) in
-        let all = goes-append Room from opened_at last begun (q ∷ q ∷ joined parts) (prefix_goes prefix q after is quotes stops)
-        (goes-append Room opened_at body_at last (q ∷ q ∷ []) (joined parts) quotes_go run.goes) in
         record {
           mode = mode;
-          goes = goes-to Room from last _ (prefix ++ (q ∷ q ∷ q ∷ joined parts)) (subst (λ t. Goes Room from t last) (append_assoc prefix (q ∷ []) (q ∷ q ∷ joined parts)) all)
-              (ap (inside mode) (append_assoc begun (q ∷ q ∷ []) (joined parts) ∙ append_assoc prefix (q ∷ []) (q ∷ q ∷ joined parts)));
+          goes = begun_goes prefix q after (q ∷ q ∷ joined parts) mode is quotes stops
+              (goes-to Room opened_at last _ (q ∷ q ∷ joined parts) (goes-append Room opened_at body_at last (q ∷ q ∷ []) (joined parts) quotes_go run.goes) (ap (inside mode) (append_assoc begun (q ∷ q ∷ []) (joined parts))));
           stands = in_body run.to refl run.on run.open_yet;
         }
     by_length false q prefix [] rest after tail is quotes each none stops =
@@ -147,13 +147,9 @@ module _ (Room : ℕ → Type 0) (from : FieldScanned) where
         let parts : List (List ℕ) = p ∷ ps in
         let run = parts_go Room from.outer (field_pieces from) from.openers F begin go host literal false between begun parts rest tail quotes each (goes_on host literal false (joined parts ++ rest)) none in
         let mode : FieldMode = body host literal (named_through false parts) run.to in
-        let last : FieldScanned = inside mode (begun ++ joined parts) in
-        let all = goes-append Room from (inside (opened (host_of prefix q)) begun) last begun (joined parts) (prefix_goes prefix q after is quotes stops)
-        (opened_part q prefix begun p (joined ps) (joined ps ++ rest) last quotes each.0 run.goes) in
-        let same : begun ++ joined parts ≡ prefix ++ (q ∷ joined parts) = append_assoc prefix (q ∷ []) (joined parts) in
         record {
           mode = mode;
-          goes = goes-to Room from last _ (prefix ++ (q ∷ joined parts)) (subst (λ t. Goes Room from t last) same all) (ap (inside mode) same);
+          goes = begun_goes prefix q after (joined parts) mode is quotes stops (opened_part q prefix begun p (joined ps) (joined ps ++ rest) _ quotes each.0 run.goes);
           stands = in_body run.to refl run.on run.open_yet;
         }
 

@@ -10,7 +10,7 @@ use Rattle.py_lines.specs.declared.fault.Fault.{Fault}
 use Rattle.py_lines.specs.Private.Machine.{Scanned, Bracket}
 use Rattle.py_lines.proofs.Machine.PieceSteps.{pieces_at}
 use Rattle.py_lines.proofs.ScanMachine.Advance.{RunsTo}
-use Rattle.py_lines.proofs.ScanMachine.LiveTexts.{runs_live}
+use Rattle.py_lines.proofs.ScanMachine.Reaching.{runs_live}
 pub use Rattle.py_lines.proofs.Lexings.Existence.{IsLineOf, lexical}
 use Rattle.py_lines.proofs.Lexings.LinePrefix.{EndsNoLine, prefix_is}
 

@@ -24,9 +24,8 @@ use Rattle.py_lines.proofs.Pieces.OpenBrackets.{stack-from_balanced, depth_throu
 use Rattle.py_lines.proofs.Pieces.ShallowPieces.{brackets_shallow, strings_shallow}
 use Rattle.py_lines.proofs.FieldSoundness.LiveTexts.{live_before}
 use Rattle.py_lines.proofs.ScanMachine.Advance.{RunsTo}
-use Rattle.py_lines.proofs.ScanMachine.LiveTexts.{same_state}
 use Rattle.py_lines.proofs.ScanMachine.Soundness.{sound_at}
-use Rattle.py_lines.proofs.ScanMachine.Reaching.{reach}
+use Rattle.py_lines.proofs.ScanMachine.Reaching.{reach, same_state}
 pub use Rattle.py_lines.proofs.Lexings.LineEnds.{line_first, read-alone}
 use Rattle.py_lines.proofs.Lexings.Existence.{reading_live}
 use Rattle.py_lines.specs.PieceGrammar.{IsLineEnd, feed, return_feed, return}

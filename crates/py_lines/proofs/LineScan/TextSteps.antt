@@ -21,10 +21,9 @@ use Rattle.py_lines.proofs.Machine.PieceSteps.{pieces_at, steps_by-append}
 use Rattle.py_lines.proofs.ScanMachine.Steps.{StopsBefore, stops-free}
 use Rattle.py_lines.proofs.ScanMachine.Steps as runs_of
 use Rattle.py_lines.proofs.Machine.ReadingSteps.{MayBegin}
-use Rattle.py_lines.proofs.ScanMachine.Reaching.{reach}
+use Rattle.py_lines.proofs.ScanMachine.Reaching.{reach, live_runs}
 use Rattle.py_lines.proofs.Pieces.OpenBrackets.{stack_before, stands}
 use Rattle.py_lines.proofs.ScanMachine.Advance.{kept, kept_if, advance, GoesTo, RunsTo, stops_there}
-use Rattle.py_lines.proofs.ScanMachine.LiveTexts.{live_runs}
 use Rattle.py_lines.proofs.Machine.LiveTexts.{stack_closed}
 use Rattle.py_lines.proofs.Lexings.LinePrefix.{line_first}
 use Rattle.py_lines.proofs.LogicalLines.Cuts.{byte_len-append}
