@@ -1,12 +1,13 @@
 //! The tokens of a whole logical line, which are read from its text alone.
 
 ghost use Rattle.std.specs.Prelude.{◌≡◌, ℕ, ◌+◌, ◌<◌, ◌^◌, true, [], drop, length, take, OnOk};
+ghost use Rattle.std.specs.Char.{is_ascii_digit};
 ghost use Rattle.py_lines.specs.Character.{is_quote, is_space};
 ghost use Rattle.py_lines.specs.Piece.{Piece, begins};
 ghost use Rattle.py_lines.specs.Private.Run.{IsRunOf, is_wide_word};
 ghost use Rattle.py_lines.specs.Private.LineTokens.{AddsPiece, BeginWithPiece, BeginWithString, HaveRead};
 ghost use Rattle.py_lines.specs.Private.LineTokens.{HoldsTokens, IsFirstPiece, IsFirstString, IsLineText};
-ghost use Rattle.py_lines.specs.Private.LineTokens.{ends_prefix, is_plain_word, kind_with, line_end_len, mark_len, token_piece};
+ghost use Rattle.py_lines.specs.Private.LineTokens.{ends_prefix, is_plain_word, kind_with, line_end_len, mark_len, token_piece, word_kind};
 
 use crate::character::{is_line_feed, is_quote, is_return, is_space};
 use crate::class::Class;
@@ -122,6 +123,17 @@ fn prefixed_string(scan: &mut Scan, bytes: &[u8], prefix: usize) -> LinePiece
     }
 }
 
+/// The kind of a word that begins with this byte.
+fn word_kind(first: u8) -> TokKind
+    ensures { result ≡ word_kind (is_ascii_digit first) }
+{
+    if first.is_ascii_digit() {
+        TokKind::Number
+    } else {
+        TokKind::Name
+    }
+}
+
 /// The word that the bytes begin with, or the string whose prefix it is.
 fn word_or_string(scan: &mut Scan, bytes: &[u8]) -> LinePiece
     requires piece { (p : Piece) × BeginWithPiece bytes.now p }
@@ -131,10 +143,8 @@ fn word_or_string(scan: &mut Scan, bytes: &[u8]) -> LinePiece
     let len = ByteRun::WideWord.len_in(bytes);
     if ends_prefix(bytes, len) {
         prefixed_string(scan, bytes, len)
-    } else if bytes[0].is_ascii_digit() {
-        LinePiece::token(TokKind::Number, len)
     } else {
-        LinePiece::token(TokKind::Name, len)
+        LinePiece::token(word_kind(bytes[0]), len)
     }
 }
 
@@ -150,7 +160,7 @@ fn space_len(bytes: &[u8]) -> usize
 }
 
 /// The piece that the bytes begin with, which is no mark.
-#[tactic(auto, using(crate::proofs::LineTokens::Splits::some_bytes))]
+#[tactic(auto, using(crate::proofs::LineTokens::FirstCharacters::some_bytes))]
 fn first_piece(scan: &mut Scan, bytes: &[u8]) -> LinePiece
     requires { (p : Piece) × BeginWithPiece bytes.now p }
     ensures { IsFirstPiece bytes.now result }

@@ -1,29 +1,96 @@
--- The piece that bytes begin with, where it is neither a word nor a string, as its line takes it.
-use Rattle.std.proofs.Common.{◌≡◌, ℕ, ◌+◌, ◌<◌, ◌≤◌, ◌⊎◌, inl, inr, Bool, true, false, ◌&&◌, List, [], ◌∷◌, ◌++◌, length, drop, slice_index, refl, sym, ap, ◌∙◌, subst, arith}
-use Rattle.std.specs.Prelude.{encode_utf8_all, not}
+-- The piece that bytes begin with, where it is no string, as its line takes it: how long it is, and what tells a word from a prefix.
+use Rattle.std.proofs.Common.{◌≡◌, ℕ, zero, suc, ◌≤◌, Bool, true, false, List, [], ◌∷◌, ◌++◌, length, refl, ap, ◌∙◌, arith, ⊎_elim, ◌+◌, ◌<◌, ◌⊎◌, inl, inr, ◌&&◌, drop, slice_index, sym, subst, take, append_assoc}
+use Rattle.std.specs.Prelude.{encode_utf8, encode_utf8_all, not, codes, nat_le}
 use Rattle.std.specs.List.{list_all, list_any}
-use Rattle.std.proofs.lemmas.Bool.{and_from, false_from_ne_true, or_parts}
+use Rattle.std.specs.Char.{is_ascii_digit}
+use Rattle.std.proofs.lemmas.Bool.{and_from, and_parts, both_ways, cases_lt, false_from_ne_true, or_parts, or_cases}
+use Rattle.std.proofs.lemmas.List.Folds.{list_all-append}
 use Rattle.std.proofs.Math.Utf8.{encode}
-use Rattle.py_lines.specs.Character.{is_break, is_line_feed, is_return, is_space}
-use Rattle.py_lines.specs.Piece.{Class, space, operator, comment, join, line_end, Piece, begins, ends, spelled}
+use Rattle.std.proofs.lemmas.Bool.Decides.{nat_tests}
+use Rattle.std.proofs.lemmas.Str.{encodes-append}
+use Rattle.std.proofs.Math.Seq.{take-append_seam, drop-append_seam}
+use Rattle.py_lines.specs.Piece.{begins, Class, space, operator, comment, join, line_end, Piece, ends, spelled, word, string}
+use Rattle.py_lines.specs.Character.{is_break, is_line_feed, is_return, is_space, is_digit, is_quote, is_word_character, is_word_start}
 use Rattle.py_lines.specs.PieceGrammar.{IsLineEnd, feed, return_feed, return}
-use Rattle.py_lines.specs.Fields.{InClass, MayPrecede}
+use Rattle.py_lines.specs.Fields.{InClass, MayPrecede, fielded}
 use Rattle.py_lines.specs.LogicalLine.{byte_len, first_or_zero, line_ends}
 use Rattle.py_lines.specs.declared.token.TokKind.TheVariants as kind
 use Rattle.py_lines.specs.declared.mode.Mode.TheVariants as modes
 use Rattle.py_lines.specs.declared.line_tokens.Role.TheVariants as roles
 use Rattle.py_lines.specs.declared.line_tokens.LinePiece.{LinePiece}
-use Rattle.py_lines.specs.Private.Run.{IsRunOf, is_comment_byte}
-use Rattle.py_lines.specs.Private.LineTokens.{BeginWithPiece, IsTakenFor, line_end_len, role_of, token_piece}
-use Rattle.py_lines.proofs.Text.CharacterTests.{feed_is, operator_ascii}
+use Rattle.py_lines.specs.declared.class.Class.TheVariants as class
+use Rattle.py_lines.specs.declared.token.TokKind.{TokKind}
+use Rattle.py_lines.specs.Private.Run.{IsRunOf, is_comment_byte, is_ascii_word, is_wide_word, word_spelling}
+use Rattle.py_lines.specs.Private.LineTokens.{BeginWithPiece, IsTakenFor, line_end_len, role_of, token_piece, ends_prefix, word_kind}
+use Rattle.py_lines.specs.Private.ScanMachine.{begins_string}
+use Rattle.py_lines.proofs.Text.CharacterTests.{Each, feed_is, operator_ascii, none_of}
 use Rattle.py_lines.proofs.Text.Utf8Shapes.{one}
+use Rattle.py_lines.proofs.LineTokens.Spellings.{high_bytes, fielded_spelling, prefix_encoded}
 use Rattle.py_lines.proofs.Lexings.LineEnds.{line_text}
 use Rattle.py_lines.proofs.LogicalLines.NextLine.{begins-prefix}
-use Rattle.py_lines.proofs.LineScan.Runs.{all_no_break, break_low, line_ends-run, space_low}
+use Rattle.py_lines.proofs.LineScan.Runs.{all_no_break, break_low, line_ends-run, space_low, quote_ascii, word_byte_continues, word_byte_starts}
 use Rattle.py_lines.proofs.LineScan.AsciiRuns.{operator-no_break}
-use Rattle.py_lines.proofs.LineTokens.FirstCharacters.{hash_is, slash_is}
-use Rattle.py_lines.proofs.LineTokens.RunLengths.{IsEvenAbove, encoded_begins, encoded_length}
-use Rattle.py_lines.proofs.LineTokens.Splits.{spelled_bytes}
+use Rattle.py_lines.proofs.LineTokens.FirstCharacters.{hash_is, slash_is, spelled_bytes, IsQuoted, class_told, first_of, prefix_is_word, quoted, word_ends}
+
+-- what passes one test passes another, where each number does
+pub all_also : (p q : ℕ → Bool) → ((c : ℕ) → p c ≡ true → q c ≡ true) → (cs : List ℕ) → list_all p cs ≡ true → list_all q cs ≡ true
+all_also p q each [] all = refl
+all_also p q each (c ∷ cs) all =
+    let parts = and_parts (p c) (list_all p cs) all in and_from (q c) (list_all q cs) (each c parts.0) (all_also p q each cs parts.1)
+
+-- a run that ends where it may not go on
+pub run_length : (passes : ℕ → Bool) (xs ys : List ℕ) (n : ℕ) → IsRunOf passes (xs ++ ys) n → list_all passes xs ≡ true
+    → begins passes ys ≡ false → n ≡ length xs
+run_length passes [] [] n run all ends = omega (arith, run.within)
+run_length passes [] (y ∷ ys) zero run all ends = refl
+run_length passes [] (y ∷ ys) (suc n) run all ends = absurd (both_ways _ ends (run.each 0 (omega arith)))
+run_length passes (x ∷ xs) ys zero run all ends =
+    absurd (both_ways _ (run.ends (omega arith)) (and_parts (passes x) (list_all passes xs) all).0)
+run_length passes (x ∷ xs) ys (suc n) run all ends =
+    ap suc (run_length passes xs ys n (record {
+      within = omega (arith, run.within);
+      each = λ i less. run.each (suc i) (omega (arith, less));
+      ends = λ less. run.ends (omega (arith, less));
+    }) (and_parts (passes x) (list_all passes xs) all).1 ends)
+
+-- whether a test makes no difference between numbers from 128 on
+abbrev pub IsEvenAbove : (ℕ → Bool) → Type 0
+IsEvenAbove passes = (c b : ℕ) → 128 ≤ c → 128 ≤ b → passes c ≡ passes b
+
+-- then the bytes of a character pass where it does
+high_pass : (passes : ℕ → Bool) → IsEvenAbove passes → (c : ℕ) → 128 ≤ c → passes c ≡ true → (bs : List ℕ) → Each (λ b. 128 ≤ b) bs
+    → list_all passes bs ≡ true
+high_pass passes even c high h [] each = refl
+high_pass passes even c high h (b ∷ bs) each = and_from (passes b) _ (even b c each.0 high ∙ h) (high_pass passes even c high h bs each.1)
+
+character_passes : (passes : ℕ → Bool) → IsEvenAbove passes → (c : ℕ) → passes c ≡ true → list_all passes (encode_utf8 c) ≡ true
+character_passes passes even c h = ⊎_elim (λ low. ap (list_all passes) (one c low) ∙ and_from (passes c) true h refl)
+    (λ high.
+    let bytes = high_bytes c high in
+    ap (list_all passes) bytes.is ∙ high_pass passes even c high h (bytes.first ∷ bytes.others) bytes.high) (cases_lt c 128)
+
+pub encoded_passes : (passes : ℕ → Bool) → IsEvenAbove passes → (cs : List ℕ) → list_all passes cs ≡ true
+    → list_all passes (encode_utf8_all cs) ≡ true
+encoded_passes passes even [] h = refl
+encoded_passes passes even (c ∷ cs) h =
+    let parts = and_parts (passes c) (list_all passes cs) h in
+    list_all-append passes (encode_utf8 c) (encode_utf8_all cs)
+    ∙ and_from _ _ (character_passes passes even c parts.0) (encoded_passes passes even cs parts.1)
+
+pub encoded_begins : (passes : ℕ → Bool) → IsEvenAbove passes → (cs : List ℕ) → begins passes (encode_utf8_all cs) ≡ begins passes cs
+encoded_begins passes even [] = refl
+encoded_begins passes even (c ∷ cs) = ⊎_elim (λ low. ap (λ t. begins passes (t ++ encode_utf8_all cs)) (one c low))
+    (λ high.
+    let bytes = high_bytes c high in
+    ap (λ t. begins passes (t ++ encode_utf8_all cs)) bytes.is ∙ even bytes.first c bytes.high.0 high) (cases_lt c 128)
+
+-- so a run of characters is a run of their bytes
+pub encoded_length : (passes : ℕ → Bool) (cs rest : List ℕ) (n : ℕ) → IsEvenAbove passes
+    → IsRunOf passes (encode_utf8_all cs ++ encode_utf8_all rest) n → list_all passes cs ≡ true → begins passes rest ≡ false
+    → n ≡ length (encode_utf8_all cs)
+encoded_length passes cs rest n even run all ends =
+    run_length passes (encode_utf8_all cs) (encode_utf8_all rest) n run (encoded_passes passes even cs all)
+    (encoded_begins passes even rest ∙ ends)
 
 -- a test that ASCII alone passes
 pub low_even : (passes : ℕ → Bool) → ((c : ℕ) → passes c ≡ true → c < 128) → IsEvenAbove passes
@@ -77,7 +144,7 @@ one_end end rest after (return is) uncut =
 ends_later : (slash : ℕ) (end : List ℕ) → IsLineEnd end → ends is_return (slash ∷ end) ≡ ends is_return end
 ends_later slash end is = let (c, cs, shape) = line_text end is in rw shape
 
-module _ (bytes : List ℕ) (p : Piece) (b : BeginWithPiece bytes p) where
+module _ {bytes : List ℕ} {p : Piece} (b : BeginWithPiece bytes p) where
   abbrev pub rest : List ℕ
   rest = spelled b.others
 
@@ -177,3 +244,137 @@ module _ (bytes : List ℕ) (p : Piece) (b : BeginWithPiece bytes p) where
       taken join _ is refl
       (longer 92 end _ text (omega arith) (ap (λ t. line_end_len (drop 1 t)) (after_first 92 end text (omega arith)) ∙ e.len))
       (sym e.joined ∙ ap line_ends (sym text))
+
+-- the characters of a word are bytes of words, or not ASCII
+wide_even : IsEvenAbove is_wide_word
+wide_even c b one two = wide c one ∙ sym (wide b two)
+  where
+    wide : (d : ℕ) → 128 ≤ d → is_wide_word d ≡ true
+    wide d high = grind (arith, nat_tests)
+
+by_range : (c : ℕ) → (c < 128 → is_ascii_word c ≡ true) → is_wide_word c ≡ true
+by_range c low = ⊎_elim (λ less. rw (low less) refl) (λ (more : 128 ≤ c). grind (arith, nat_tests)) (cases_lt c 128)
+
+pub word_wide : (c : ℕ) (cs : List ℕ) → is_word_start c ≡ true → list_all is_word_character cs ≡ true → list_all is_wide_word (c ∷ cs) ≡ true
+word_wide c cs starts all =
+    and_from (is_wide_word c) (list_all is_wide_word cs) (by_range c (λ low. sym (word_byte_starts c low) ∙ starts))
+    (all_also is_word_character is_wide_word (λ d h. by_range d (λ low. sym (word_byte_continues d low) ∙ h)) cs all)
+
+quote_not_wide : (q : ℕ) → is_quote q ≡ true → is_wide_word q ≡ false
+unfolding is_quote is_ascii_word
+quote_not_wide q h = none_of is_wide_word (codes "'\"") q refl h
+
+break_not_wide : (c : ℕ) → is_break c ≡ true → is_wide_word c ≡ false
+unfolding is_break is_ascii_word
+break_not_wide c h = none_of is_wide_word (codes "\n\r") c refl h
+
+pub wide_unbroken : (cs : List ℕ) → list_all is_wide_word cs ≡ true → list_all (λ d. not (is_break d)) cs ≡ true
+wide_unbroken =
+    all_also is_wide_word (λ d. not (is_break d)) (λ c wide. ap not (false_from_ne_true _ (λ breaks. both_ways _ (break_not_wide c breaks) wide)))
+
+pub first_byte : (passes : ℕ → Bool) (bytes : List ℕ) → begins passes bytes ≡ true → passes (slice_index bytes 0) ≡ true
+first_byte passes [] none = absurd (both_ways _ refl none)
+first_byte passes (b ∷ bs) h = h
+
+-- where bytes are cut that begin with these
+cut_at : (bytes xs ys : List ℕ) (n : ℕ) → bytes ≡ xs ++ ys → n ≡ length xs → (take n bytes ≡ xs) × (drop n bytes ≡ ys)
+cut_at bytes xs ys n is size = rw (is, size) (take-append_seam xs ys, drop-append_seam xs ys)
+
+-- the spelling of the word
+prefix_told : (prefix : List ℕ) (c : ℕ) (cs : List ℕ) → prefix ≡ c ∷ cs
+    → begins_string (word_spelling (encode_utf8_all prefix)) ≡ fielded.is_prefix prefix
+prefix_told prefix c cs is = prefix_encoded prefix ∙ rw is (sym (fielded_spelling c cs))
+
+digit_told : (b c : ℕ) → (b < 128 → c ≡ b) → (128 ≤ b → 128 ≤ c) → is_ascii_digit b ≡ is_digit c
+unfolding is_digit
+digit_told b c low high =
+    ⊎_elim (λ less. ap (λ d. nat_le 48 d && nat_le d 57) (sym (low less))) (λ more. go (high more) more) (cases_lt b 128)
+  where
+    go : 128 ≤ c → 128 ≤ b → is_ascii_digit b ≡ (nat_le 48 c && nat_le c 57)
+    go one two = grind (arith, nat_tests)
+
+module _ {bytes : List ℕ} {p : Piece} (b : BeginWithPiece bytes p) where
+  pub word_or_string : begins is_wide_word bytes ≡ true → (p.class ≡ word) ⊎ (p.class ≡ string)
+  word_or_string wide = ⊎_elim (class_told bytes p class.Word b) (λ high. inl (class_told bytes p class.Wide b high))
+      (or_cases (is_ascii_word (slice_index bytes 0)) (nat_le 128 (slice_index bytes 0)) (first_byte is_wide_word bytes wide))
+
+  -- a word is the run of its bytes
+  text_wide : p.class ≡ word → list_all is_wide_word p.text ≡ true
+  text_wide is = let shape = in_class b word is in ap (list_all is_wide_word) shape.2 ∙ word_wide shape.0 shape.1 shape.3 shape.4
+
+  word_len : (n : ℕ) → p.class ≡ word → IsRunOf is_wide_word bytes n → n ≡ byte_len p.text
+  word_len n is run =
+      run_taken b is_wide_word n wide_even run (text_wide is)
+      (word_ends b.others b.text.after b.text.fit.3 b.text.fit.2 (precedes b word is).0)
+
+  pub word_taken : (n : ℕ) (k : TokKind) → p.class ≡ word → IsRunOf is_wide_word bytes n → k ≡ word_kind (is_ascii_digit (slice_index bytes 0))
+      → IsTakenFor p (token_piece k n)
+  word_taken n k is run told =
+      let shape = in_class b word is in
+      let f = first_of bytes p b in
+      let same : f.begun.first ∷ f.begun.others ≡ shape.0 ∷ shape.1 = sym f.begun.is ∙ shape.2 in
+      let first : f.begun.first ≡ shape.0 = cc same in
+      let digit : is_ascii_digit (slice_index bytes 0) ≡ begins is_digit p.text
+      = digit_told (slice_index bytes 0) shape.0 (λ low. sym first ∙ f.low low) (λ high. subst (λ c. 128 ≤ c) first (f.high high))
+      ∙ ap (begins is_digit) (sym shape.2) in
+      taken b word _ is (ap roles.Token (told ∙ ap word_kind digit)) (word_len n is run)
+      (unbroken p.text (wide_unbroken p.text (text_wide is)))
+
+  -- which is no prefix before a quote
+  pub word_no_prefix : (n : ℕ) → p.class ≡ word → IsRunOf is_wide_word bytes n → ends_prefix bytes n ≡ true → ⊥
+  word_no_prefix n is run told =
+      let shape = in_class b word is in
+      let rest = spelled b.others in
+      let len = word_len n is run in
+      let bytes_are = spelled_bytes bytes p b in
+      let parts = and_parts (begins is_quote (drop n bytes)) (begins_string (word_spelling (take n bytes))) told in
+      let (front, later) = cut_at bytes (encode_utf8_all p.text) (encode_utf8_all rest) n bytes_are len in
+      let quotes : begins is_quote rest ≡ true
+      = sym (encoded_begins is_quote (low_even is_quote quote_ascii) rest) ∙ ap (begins is_quote) (sym later) ∙ parts.0 in
+      let prefix : fielded.is_prefix p.text ≡ true
+      = sym (prefix_told p.text shape.0 shape.1 shape.2) ∙ ap (λ t. begins_string (word_spelling t)) (sym front) ∙ parts.1 in
+      let follows = ap (λ d. d && begins is_quote (rest ++ b.text.after)) (sym prefix) ∙ (precedes b word is).1 in
+      both_ways _ (begins-prefix is_quote rest b.text.after follows) quotes
+
+  -- and a string's prefix is one
+  pub string_prefix : (n : ℕ) → p.class ≡ string → begins is_wide_word bytes ≡ true → IsRunOf is_wide_word bytes n
+      → ends_prefix bytes n ≡ true
+  string_prefix n is wide run = ⊎_elim (λ none. absurd (no_prefix none)) some q.begun
+    where
+      q : IsQuoted p.text
+      q = quoted p.text (in_class b string is)
+
+      after : List ℕ
+      after = encode_utf8_all q.body ++ encode_utf8_all (spelled b.others)
+
+      bytes_are : bytes ≡ encode_utf8_all q.prefix ++ q.quote ∷ after
+      bytes_are =
+          spelled_bytes bytes p b ∙ ap (λ t. encode_utf8_all t ++ encode_utf8_all (spelled b.others)) q.spell
+          ∙ ap (λ t. t ++ encode_utf8_all (spelled b.others)) (encodes-append q.prefix (q.quote ∷ q.body))
+          ∙ append_assoc (encode_utf8_all q.prefix) (encode_utf8_all (q.quote ∷ q.body)) _
+          ∙ ap (λ t. encode_utf8_all q.prefix ++ ((t ++ encode_utf8_all q.body) ++ encode_utf8_all (spelled b.others)))
+          (one q.quote (quote_ascii q.quote q.opens))
+
+      no_prefix : q.prefix ≡ [] → ⊥
+      no_prefix none =
+          both_ways _ (quote_not_wide q.quote q.opens)
+          (ap (begins is_wide_word) (sym (bytes_are ∙ ap (λ t. encode_utf8_all t ++ q.quote ∷ after) none)) ∙ wide)
+
+      some : fielded.is_prefix q.prefix ≡ true → ends_prefix bytes n ≡ true
+      some begun =
+          let (first, others, shape, starts, low, word_run) = prefix_is_word q.prefix begun in
+          let all : list_all is_wide_word q.prefix ≡ true = ap (list_all is_wide_word) shape ∙ word_wide first others starts word_run in
+          let len : n ≡ byte_len q.prefix
+          = run_length is_wide_word (encode_utf8_all q.prefix) (q.quote ∷ after) n
+          (subst (λ (t : List ℕ). IsRunOf is_wide_word t n) bytes_are run) (encoded_passes is_wide_word wide_even q.prefix all)
+          (quote_not_wide q.quote q.opens) in
+          let (front, later) = cut_at bytes (encode_utf8_all q.prefix) (q.quote ∷ after) n bytes_are len in
+          and_from (begins is_quote (drop n bytes)) _ (ap (begins is_quote) later ∙ q.opens)
+          (ap (λ t. begins_string (word_spelling t)) front ∙ prefix_told q.prefix first others shape ∙ begun)
+
+  -- so what follows the run tells which it is
+  pub is_string : (n : ℕ) → begins is_wide_word bytes ≡ true → IsRunOf is_wide_word bytes n → ends_prefix bytes n ≡ true → p.class ≡ string
+  is_string n wide run told = ⊎_elim (λ is. absurd (word_no_prefix n is run told)) (λ is. is) (word_or_string wide)
+
+  pub is_word : (n : ℕ) → begins is_wide_word bytes ≡ true → IsRunOf is_wide_word bytes n → ends_prefix bytes n ≡ false → p.class ≡ word
+  is_word n wide run told = ⊎_elim (λ is. is) (λ is. absurd (both_ways _ told (string_prefix n is wide run))) (word_or_string wide)

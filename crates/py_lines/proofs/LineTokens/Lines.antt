@@ -1,92 +1,90 @@
--- The pieces of a line are read one after another.
-use Rattle.std.proofs.Common.{◌≡◌, ℕ, ◌+◌, ◌<◌, ◌≤◌, false, List, [], ◌∷◌, ◌++◌, length, drop, refl, sym, ap, ◌∙◌, subst, append_assoc, append-nil, arith}
-use Rattle.std.specs.Prelude.{encode_utf8, encode_utf8_all}
-use Rattle.std.specs.Str.{all_scalars}
-use Rattle.std.proofs.lemmas.List.{length-append}
-use Rattle.std.proofs.lemmas.Str.{encodes-append, len_utf8_bounds, length-encode}
+-- How a line begins, with its mark and its indentation, and how its pieces are read one after another.
+use Rattle.std.proofs.Common.{◌≡◌, ℕ, ◌+◌, ◌<◌, ◌≤◌, Bool, true, false, cond, ◌||◌, List, [], ◌∷◌, ◌++◌, length, drop, refl, sym, ap, ◌∙◌, subst, append_assoc, append-nil, arith, length-append, length-drop, zero, suc, ◌⊎◌, inl, inr, ⊎_elim, zero-add, add-zero}
+use Rattle.std.specs.Prelude.{encode_utf8_all, if◌then◌else◌, nat_eq}
+use Rattle.std.specs.List.{list_any, starts_with}
+use Rattle.std.proofs.Math.Bool.{or-false, or_assoc}
 use Rattle.std.proofs.Math.Seq.{drop-append_seam}
-use Rattle.py_lines.specs.Piece.{Piece, begins_marked, is_mark_class, spelled}
-use Rattle.py_lines.specs.Balance.{depth_through}
-use Rattle.py_lines.specs.LogicalLine.{byte_len, kind_of, line_ends, tokens_from}
+use Rattle.std.proofs.lemmas.List.{drop-drop}
+use Rattle.std.proofs.lemmas.Str.{encodes-append, length-le-encodes}
+use Rattle.std.proofs.lemmas.Bool.{both_ways, false_from_ne_true}
+use Rattle.std.proofs.lemmas.Bool.Decides.{Decides-eqb}
+use Rattle.std.proofs.lemmas.Slice.Eq.{starts_is}
+use Rattle.std.proofs.Math.Utf8.{encode}
+use Rattle.py_lines.specs.Character.{is_digit, is_mark, is_space, is_line_feed, is_return}
+use Rattle.py_lines.specs.Piece.{Class, mark, word, Piece, begins, spelled, space, begins_marked, is_mark_class}
+use Rattle.py_lines.specs.Balance.{depth_after}
+use Rattle.py_lines.specs.LogicalLine.{byte_len, is_code_class, is_comment_class, line_ends, tokens_of_piece, indent_of, kind_of, space_len, tokens_from}
+use Rattle.py_lines.specs.Fields.{InClass}
 use Rattle.py_lines.specs.declared.line_tokens.LinePiece.{LinePiece}
 use Rattle.py_lines.specs.declared.line_tokens.LineTokens.{LineTokens}
-use Rattle.py_lines.specs.Private.ScanMachine.{StringFits}
-use Rattle.py_lines.specs.Private.LineTokens.{AddsPiece, AreLineText, AreTextAt, AreTokensOf, BeginWithPiece, HaveRead, HaveReadOf, IsFirstPiece, IsTakenFor, kind_with, role_of}
+use Rattle.py_lines.specs.declared.line_tokens.Role.TheVariants as roles
+use Rattle.py_lines.specs.declared.unit.UnitKind.{UnitKind}
+use Rattle.py_lines.specs.declared.unit.UnitKind.TheVariants as unit_kind
+use Rattle.py_lines.specs.declared.class.Class.TheVariants as class
+use Rattle.py_lines.specs.Private.LineTokens.{AddsPiece, AreTextAt, AreTokensOf, BeginWithPiece, HaveReadOf, IsTakenFor, kind_on, kind_with, role_of, token_in, word_kind, AreLineText, HaveRead, mark_len}
+use Rattle.py_lines.specs.Private.Run.{IsRunOf}
 use Rattle.py_lines.proofs.FieldScans.TextLengths.{rest_is, rest_of}
-use Rattle.py_lines.proofs.Text.Utf8Prefixes.{all_scalars-parts}
-use Rattle.py_lines.proofs.Pieces.PieceLists.{AreReadBefore-first, AreReadBefore-second, spelled-append}
-use Rattle.py_lines.proofs.Pieces.OpenBrackets.{EachAtDepth-parts}
+use Rattle.py_lines.proofs.Text.Utf8Prefixes.{all_scalars-parts, prefix_chars}
 use Rattle.py_lines.proofs.LogicalLines.Cuts.{byte_len-append}
-use Rattle.py_lines.proofs.LogicalLines.NextLine.{line_ends-spelled}
+use Rattle.py_lines.proofs.Lexings.FirstLines.{piece_some}
 use Rattle.py_lines.proofs.LineScan.LineCount.{line_ends-bytes}
-use Rattle.py_lines.proofs.LineTokens.FirstCharacters.{begins_so}
-use Rattle.py_lines.proofs.LineTokens.Kinds.{kind_push, lines_push, tokens_push}
+use Rattle.py_lines.proofs.Text.CharacterTests.{mark_is}
+use Rattle.py_lines.proofs.LogicalLines.NextLine.{begins-prefix}
+use Rattle.py_lines.proofs.LineScan.Runs.{space_low}
+use Rattle.py_lines.proofs.LineTokens.FirstCharacters.{begins_so, class_told, unmarked_first}
+use Rattle.py_lines.proofs.LineTokens.FirstPieces.{in_class, low_even, precedes, run_taken}
 
--- the text after the first pieces
-split : (text : List ℕ) (done others : List Piece) → AreLineText text (done ++ others)
-    → text ≡ encode_utf8_all (spelled done) ++ encode_utf8_all (spelled others)
-split text done others is = sym is.spell ∙ ap encode_utf8_all (spelled-append done others) ∙ encodes-append (spelled done) (spelled others)
+-- what a line holds, with code or without, and with comments or without: with one more piece, and with more of them
+abbrev kind_by : Bool → Bool → UnitKind
+kind_by code comments = cond code unit_kind.Code (cond comments unit_kind.Comment unit_kind.Blank)
 
-pub text_after : (text : List ℕ) (done others : List Piece) → AreLineText text (done ++ others)
-    → AreTextAt (depth_through 0 done) (drop (byte_len (spelled done)) text) others
-text_after text done others is = record {
-  scalars = (all_scalars-parts (spelled done) (spelled others) (ap all_scalars (sym (spelled-append done others)) ∙ is.scalars)).1;
+words_code : (k : UnitKind) (digit : Bool) → kind_with k (roles.Token (word_kind digit)) ≡ unit_kind.Code
+words_code k true = refl
+words_code k false = refl
+
+kinds : (a b : Bool) (class : Class) (text : List ℕ)
+    → kind_by (a || is_code_class class) (b || is_comment_class class) ≡ kind_with (kind_by a b) (role_of class text)
+kinds true b word text = sym (words_code unit_kind.Code (begins is_digit text))
+kinds false b word text = sym (words_code (kind_by false b) (begins is_digit text))
+kinds true b class text = refl
+kinds false true class text = refl
+kinds false false class text = refl
+
+pub kinds_on : (a b : Bool) (ps : List Piece)
+    → kind_by (a || list_any (λ p. is_code_class p.class) ps) (b || list_any (λ p. is_comment_class p.class) ps) ≡ kind_on (kind_by a b) ps
+kinds_on a b [] = rw (or-false a, or-false b)
+kinds_on a b (p ∷ ps) =
+    let code = or_assoc a (is_code_class p.class) (list_any (λ q. is_code_class q.class) ps) in
+    let comments = or_assoc b (is_comment_class p.class) (list_any (λ q. is_comment_class q.class) ps) in
+    (λ i. kind_by (sym code i) (sym comments i)) ∙ kinds_on (a || is_code_class p.class) (b || is_comment_class p.class) ps
+    ∙ ap (λ k. kind_on k ps) (kinds a b p.class p.text)
+
+-- a piece's token is that of its part in the line
+own_token : (class : Class) (text : List ℕ) (start stop line : ℕ) → token_in (role_of class text) start stop line ≡ tokens_of_piece start stop line class text
+own_token mark text start stop line = refl
+own_token class text start stop line = refl
+
+-- the text after the first piece
+pub text_after : (depth : ℕ) (bytes : List ℕ) (p : Piece) (ps : List Piece) → AreTextAt depth bytes (p ∷ ps)
+    → AreTextAt (depth_after depth p) (drop (byte_len p.text) bytes) ps
+text_after depth bytes p ps is = record {
+  scalars = (all_scalars-parts p.text (spelled ps) is.scalars).1;
   spell =
       sym
-      (ap (drop (byte_len (spelled done))) (split text done others is)
-      ∙ drop-append_seam (encode_utf8_all (spelled done)) (encode_utf8_all (spelled others)));
+      (ap (drop (byte_len p.text)) (sym is.spell ∙ encodes-append p.text (spelled ps))
+      ∙ drop-append_seam (encode_utf8_all p.text) (encode_utf8_all (spelled ps)));
   after = is.after;
-  fit = AreReadBefore-second done others is.after is.fit;
-  strings = (EachAtDepth-parts StringFits 0 done others is.strings).1;
+  fit = is.fit.3;
+  strings = is.strings.1;
 }
-
--- one more piece
-len_push : (done : List Piece) (p : Piece) → byte_len (spelled (done ++ p ∷ [])) ≡ byte_len (spelled done) + byte_len p.text
-len_push done p =
-    ap byte_len (spelled-append done (p ∷ []) ∙ ap (λ t. spelled done ++ t) (append-nil p.text)) ∙ byte_len-append (spelled done) p.text
-
--- its line ends, and its room
-pub record IsNext (text : List ℕ) (done others : List Piece) (p : Piece) : Type 0 where
-  pub counted : line_ends (spelled (done ++ p ∷ [])) ≡ line_ends (spelled done) + line_ends p.text
-  pub within : byte_len (spelled done) + byte_len p.text ≤ length text
-  pub lines : line_ends (spelled done) + line_ends p.text ≤ length text
-  pub some : 0 < byte_len p.text
-
-pub is_next : (text : List ℕ) (done others : List Piece) (p : Piece) → AreLineText text (done ++ p ∷ others) → is_mark_class p.class ≡ false
-    → IsNext text done others p
-is_next text done others p is unmarked =
-    let longer = subst (AreLineText text) (sym (append_assoc done (p ∷ []) others)) is in
-    let first = AreReadBefore-first done (p ∷ others) is.after is.fit in
-    let second = AreReadBefore-first (done ++ p ∷ []) others longer.after longer.fit in
-    let counted : line_ends (spelled (done ++ p ∷ [])) ≡ line_ends (spelled done) + line_ends p.text
-    = omega (arith, line_ends-spelled (done ++ p ∷ []) _ second, line_ends-spelled done _ first, lines_push done p) in
-    let len : length text ≡ byte_len (spelled (done ++ p ∷ [])) + byte_len (spelled others)
-    = ap length (split text (done ++ p ∷ []) others longer) ∙ length-append _ _ in
-    let begun = begins_so p.class p.text unmarked (AreReadBefore-second done (p ∷ others) is.after is.fit).0 in
-    record {
-      counted = counted;
-      within = omega (arith, len, len_push done p);
-      lines = omega (arith, counted, len, line_ends-bytes (spelled (done ++ p ∷ [])));
-      some = some_bytes begun.first begun.others begun.is;
-    }
-  where
-    some_bytes : (c : ℕ) (cs : List ℕ) → p.text ≡ c ∷ cs → 0 < byte_len p.text
-    some_bytes c cs text_is =
-        omega (arith, ap byte_len text_is, length-append (encode_utf8 c) (encode_utf8_all cs), length-encode c, len_utf8_bounds c)
-
--- no pieces are left at the end
-pub none_left : (text : List ℕ) (others : List Piece) (done : List Piece) → AreLineText text (done ++ others) → begins_marked others ≡ false
-    → length text ≤ byte_len (spelled done) → others ≡ []
-none_left text [] done is unmarked end = refl
-none_left text (p ∷ ps) done is unmarked end =
-    let next = is_next text done ps p is unmarked in absurd (omega (arith, next.within, next.some, end))
 
 -- a piece that was taken there: there is room for it, and the line is read so far
 pub record IsTakenNext (text : List ℕ) (pieces : List Piece) (first start line : ℕ) (t : LineTokens) (piece : LinePiece) : Type 0 where
   pub some : 0 < piece.len
   pub within : start + piece.len ≤ length text
   pub lines : line + piece.line_ends ≤ first + length text
-  pub more : (u : LineTokens) → AddsPiece t piece start line u → HaveReadOf pieces first (start + piece.len) (line + piece.line_ends) u
+  pub more : (u : LineTokens) → AddsPiece t piece start line u
+      → (left : List Piece) × HaveReadOf text pieces left first (start + piece.len) (line + piece.line_ends) u
 
 -- the next piece of a line that isn't read to its end
 pub record HasNext (text : List ℕ) (pieces : List Piece) (first start line : ℕ) (t : LineTokens) : Type 0 where
@@ -94,58 +92,177 @@ pub record HasNext (text : List ℕ) (pieces : List Piece) (first start line : �
   pub begin : BeginWithPiece (rest_of text start) p
   pub taken : (piece : LinePiece) → IsTakenFor p piece → IsTakenNext text pieces first start line t piece
 
-pub has_next : (text : List ℕ) (pieces : List Piece) (first start line : ℕ) (t : LineTokens) → AreLineText text pieces
-    → HaveReadOf pieces first start line t → start < length text → HasNext text pieces first start line t
-has_next text pieces first start line t is h inside = go h.others h.are h.unmarked
-  where
-    go : (others : List Piece) → pieces ≡ h.done ++ others → begins_marked others ≡ false → HasNext text pieces first start line t
-    go [] are unmarked =
-        let whole = split text h.done [] (subst (AreLineText text) are is) in
-        absurd (omega (arith, inside, h.place, ap length whole, length-append (encode_utf8_all (spelled h.done)) []))
-    go (p ∷ qs) are unmarked =
-        let whole = subst (AreLineText text) are is in
-        let next = is_next text h.done qs p whole unmarked in
-        let fit = AreReadBefore-first h.done (p ∷ qs) whole.after whole.fit in
-        record {
-          p = p;
-          begin = subst (λ (l : List ℕ). BeginWithPiece l p) (ap (λ (n : ℕ). drop n text) (sym h.place) ∙ sym (rest_is text start)) (record {
-            unmarked = unmarked;
-            others = qs;
-            depth = depth_through 0 h.done;
-            text = text_after text h.done (p ∷ qs) whole;
-          });
-          taken = λ piece taken.
-              let stop : start + piece.len ≡ byte_len (spelled h.done) + byte_len p.text = omega (arith, h.place, taken.len) in
-              record {
-                some = omega (arith, next.some, taken.len);
-                within = omega (arith, stop, next.within);
-                lines = omega (arith, h.number, taken.line_ends, next.lines);
-                more = λ u adds. record {
-                  done = h.done ++ p ∷ [];
-                  others = qs;
-                  are = are ∙ sym (append_assoc h.done (p ∷ []) qs);
-                  unmarked = (AreReadBefore-second h.done (p ∷ qs) whole.after whole.fit).2;
-                  place = stop ∙ sym (len_push h.done p);
-                  number = omega (arith, h.number, taken.line_ends, next.counted);
-                  kind = adds.kind ∙ ap (λ r. kind_with t.kind r) taken.role ∙ ap (λ k. kind_with k (role_of p.class p.text)) h.kind
-                      ∙ sym (kind_push h.done p unmarked);
-                  indent = adds.indent ∙ h.indent;
-                  tokens = adds.tokens ∙ rw (taken.role, stop, h.place, h.number, h.tokens)
-                      (sym (tokens_push first h.done p _ fit unmarked));
-                };
-              };
-        }
-
--- the piece that was read there
-pub next_taken : (text : List ℕ) (pieces : List Piece) (first start line : ℕ) (t : LineTokens) (piece : LinePiece) → AreLineText text pieces
-    → HaveRead text first start line t → start < length text → IsFirstPiece (rest_of text start) piece → IsTakenNext text pieces first start line t piece
-next_taken text pieces first start line t piece is read inside own =
-    let n = has_next text pieces first start line t is (read pieces is) inside in n.taken piece (own n.p n.begin)
+pub has_next : {text : List ℕ} {pieces : List Piece} {first start line : ℕ} {t : LineTokens} (left : List Piece)
+    → HaveReadOf text pieces left first start line t → start < length text → HasNext text pieces first start line t
+has_next {text = text} {start = start} [] h inside = absurd (omega (arith, inside, ap length h.are.spell, length-drop start text))
+has_next {text = text} {first = first} {start = start} {line = line} {t = t} (p ∷ qs) h inside =
+    let some : 0 < byte_len p.text = omega (arith, piece_some p.class p.text h.are.fit.0, length-le-encodes p.text) in
+    let within : start + byte_len p.text ≤ length text
+    = omega (arith, inside, ap length h.are.spell, byte_len-append p.text (spelled qs), length-drop start text) in
+    record {
+      p = p;
+      begin = subst (λ (l : List ℕ). BeginWithPiece l p) (sym (rest_is text start)) (record {
+        unmarked = h.unmarked;
+        others = qs;
+        depth = h.depth;
+        text = h.are;
+      });
+      taken = λ piece taken. record {
+        some = omega (arith, some, taken.len);
+        within = omega (arith, within, taken.len);
+        lines = omega (arith, within, h.number, taken.line_ends, line_ends-bytes p.text);
+        more = λ u adds. (
+          qs,
+          record {
+            unmarked = h.are.fit.2;
+            depth = depth_after h.depth p;
+            are = subst (λ (l : List ℕ). AreTextAt (depth_after h.depth p) l qs)
+                (drop-drop (byte_len p.text) start text ∙ ap (λ (n : ℕ). drop (start + n) text) (sym taken.len))
+                (text_after h.depth (drop start text) p qs h.are);
+            number = omega (arith, h.number, taken.len, taken.line_ends, line_ends-bytes p.text);
+            kind = h.kind ∙ ap (λ k. kind_on k qs) (sym (adds.kind ∙ ap (λ r. kind_with t.kind r) taken.role));
+            indent = adds.indent ∙ h.indent;
+            tokens = h.tokens ∙ rw (adds.tokens, taken.role, taken.len, taken.line_ends, append_assoc, own_token p.class p.text);
+          },
+        );
+      };
+    }
 
 -- a line that is read to its end
-pub whole_read : (text : List ℕ) (pieces : List Piece) (first start line : ℕ) (t : LineTokens) → AreLineText text pieces
-    → HaveReadOf pieces first start line t → length text ≤ start → AreTokensOf pieces first t
-whole_read text pieces first start line t is h end =
-    let none = none_left text h.others h.done (subst (AreLineText text) h.are is) h.unmarked (omega (arith, end, h.place)) in
-    let all : h.done ≡ pieces = sym (append-nil h.done) ∙ ap (λ l. h.done ++ l) (sym none) ∙ sym h.are in
-    record { kind = h.kind ∙ ap kind_of all; indent = h.indent; tokens = h.tokens ∙ ap (tokens_from 0 first) all }
+pub whole_read : {text : List ℕ} {pieces : List Piece} {first start line : ℕ} {t : LineTokens} (left : List Piece)
+    → HaveReadOf text pieces left first start line t → length text ≤ start → AreTokensOf pieces first t
+whole_read [] h end = record { kind = sym h.kind; indent = h.indent; tokens = sym (h.tokens ∙ append-nil _) }
+whole_read {text = text} {start = start} (p ∷ qs) h end =
+    absurd (omega (arith, end, ap length h.are.spell, length-drop start text, byte_len-append p.text (spelled qs),
+    piece_some p.class p.text h.are.fit.0, length-le-encodes p.text))
+
+-- the mark in UTF-8
+abbrev mark_bytes : List ℕ
+mark_bytes = 0xEF ∷ 0xBB ∷ 0xBF ∷ []
+
+mark_encoded : encode_utf8_all (0xFEFF ∷ []) ≡ mark_bytes
+unfolding encode
+mark_encoded = refl
+
+marked : (text : List ℕ) → starts_with nat_eq text mark_bytes ≡ true → text ≡ mark_bytes ++ drop 3 text
+marked text h = (starts_is Decides-eqb text mark_bytes (starts_with nat_eq text mark_bytes) refl).0 h
+
+-- a text that begins with another piece begins with no mark
+no_mark : (text : List ℕ) (ps : List Piece) → AreLineText text ps → begins_marked ps ≡ false → mark_len text ≡ 0
+unfolding is_mark
+no_mark text [] is unmarked = ap mark_len (sym is.spell)
+no_mark text (p ∷ ps) is unmarked = ap (λ (b : Bool). if b then 3 else 0) (false_from_ne_true _ absent)
+  where
+    absent : starts_with nat_eq text mark_bytes ≡ true → ⊥
+    absent h =
+        let cut = prefix_chars (0xFEFF ∷ []) (spelled (p ∷ ps)) (drop 3 text)
+        (is.spell ∙ marked text h ∙ ap (λ t. t ++ drop 3 text) (sym mark_encoded)) in
+        let begun = begins_so p.class p.text unmarked is.fit.0 in
+        let same : begun.first ∷ (begun.others ++ spelled ps) ≡ 0xFEFF ∷ cut.0 = ap (λ t. t ++ spelled ps) (sym begun.is) ∙ cut.1 in
+        let first : begun.first ≡ 0xFEFF = cc in
+        both_ways _ (unmarked_first begun) (ap is_mark first)
+
+-- and with a mark, where it is the first piece
+record HasMark (text : List ℕ) (p : Piece) : Type 0 where
+  len : mark_len text ≡ 3
+  bytes : byte_len p.text ≡ 3
+  counted : line_ends p.text ≡ 0
+
+has_mark : (text : List ℕ) (p : Piece) (ps : List Piece) → AreLineText text (p ∷ ps) → p.class ≡ mark → HasMark text p
+unfolding is_line_feed is_return
+has_mark text p ps is class_is =
+    let shape : InClass mark p.text = subst (λ (k : Class). InClass k p.text) class_is is.fit.0 in
+    let one : p.text ≡ 0xFEFF ∷ [] = shape.1 ∙ ap (λ (c : ℕ). c ∷ []) (mark_is shape.0 shape.2) in
+    let whole : text ≡ mark_bytes ++ encode_utf8_all (spelled ps)
+    = sym is.spell ∙ encodes-append p.text (spelled ps) ∙ ap (λ t. encode_utf8_all t ++ encode_utf8_all (spelled ps)) one
+    ∙ ap (λ t. t ++ encode_utf8_all (spelled ps)) mark_encoded in
+    let present
+    = (starts_is Decides-eqb text mark_bytes (starts_with nat_eq text mark_bytes) refl).1 (encode_utf8_all (spelled ps)) whole in
+    record {
+      len = ap (λ (b : Bool). if b then 3 else 0) present;
+      bytes = ap byte_len one ∙ ap length mark_encoded;
+      counted = ap line_ends one;
+    }
+
+-- the space that pieces begin with
+abbrev first_space : List Piece → ℕ
+first_space [] = 0
+first_space (p ∷ ps) = space_len p.class p.text
+
+space_read : (bytes : List ℕ) (p : Piece) (n : ℕ) → BeginWithPiece bytes p → IsRunOf is_space bytes n → n ≡ space_len p.class p.text
+space_read bytes p n b run = go p.class refl
+  where
+    none : (k : ℕ) → IsRunOf is_space bytes k → (p.class ≡ space → ⊥) → k ≡ 0
+    none zero r other = refl
+    none (suc k) r other = absurd (other (class_told bytes p class.Space b (r.each 0 (omega arith))))
+
+    go : (kind : Class) → p.class ≡ kind → n ≡ space_len kind p.text
+    go space is =
+        run_taken b is_space n (low_even is_space space_low) run (in_class b space is).3
+        (begins-prefix is_space (spelled b.others) b.text.after (precedes b space is))
+    go mark is = none n run (λ spaces. absurd (cc))
+    go other is = none n run (λ spaces. absurd (cc))
+
+first_read : (bytes : List ℕ) (depth : ℕ) (ps : List Piece) (n : ℕ) → AreTextAt depth bytes ps → begins_marked ps ≡ false
+    → IsRunOf is_space bytes n → n ≡ first_space ps
+first_read bytes depth [] n is unmarked run = omega (arith, run.within, ap length is.spell)
+first_read bytes depth (p ∷ ps) n is unmarked run =
+    space_read bytes p n (record {
+      unmarked = unmarked;
+      others = ps;
+      depth = depth;
+      text = is;
+    }) run
+
+unmarked_indent : (ps : List Piece) → begins_marked ps ≡ false → indent_of ps ≡ first_space ps
+unmarked_indent [] unmarked = refl
+unmarked_indent (p ∷ []) unmarked = refl
+unmarked_indent (p ∷ q ∷ ps) unmarked = rw unmarked
+
+marked_indent : (p : Piece) (ps : List Piece) → p.class ≡ mark → indent_of (p ∷ ps) ≡ first_space ps
+marked_indent p [] is = ap (λ (k : Class). space_len k p.text) is
+marked_indent p (q ∷ ps) is = ap (λ (k : Class). if is_mark_class k then space_len q.class q.text else space_len k p.text) is
+
+is_mark_or : (class : Class) → (class ≡ mark) ⊎ (is_mark_class class ≡ false)
+is_mark_or mark = inl refl
+is_mark_or space = inr refl
+is_mark_or _ = inr refl
+
+-- a line has begun
+module _ (text : List ℕ) (n first : ℕ) (t : LineTokens) (run : IsRunOf is_space (drop (mark_len text) text) n)
+    (blank : t.kind ≡ unit_kind.Blank) (indent : t.indent ≡ n) (none : t.tokens.items ≡ []) where
+  begun_before : (pieces left : List Piece) (depth : ℕ) → AreTextAt depth (drop (mark_len text) text) left → begins_marked left ≡ false
+      → kind_of pieces ≡ kind_of left → tokens_from 0 first pieces ≡ tokens_from (mark_len text) first left → indent_of pieces ≡ first_space left
+      → (others : List Piece) × HaveReadOf text pieces others first (mark_len text) first t
+  begun_before pieces left depth are unmarked kind tokens indent_is = (
+    left,
+    record {
+      unmarked = unmarked;
+      depth = depth;
+      are = are;
+      number = omega arith;
+      kind = kind ∙ kinds_on false false left ∙ ap (λ k. kind_on k left) (sym blank);
+      indent = indent ∙ first_read _ depth left n are unmarked run ∙ sym indent_is;
+      tokens = tokens ∙ ap (λ l. l ++ tokens_from (mark_len text) first left) (sym none);
+    },
+  )
+
+  begun_marked : (p : Piece) (ps : List Piece) → AreLineText text (p ∷ ps) → p.class ≡ mark
+      → (left : List Piece) × HaveReadOf text (p ∷ ps) left first (mark_len text) first t
+  begun_marked p ps is class_is =
+      let m = has_mark text p ps is class_is in
+      let place = m.bytes ∙ sym m.len in
+      begun_before (p ∷ ps) ps (depth_after 0 p) (subst (λ k. AreTextAt (depth_after 0 p) (drop k text) ps) place (text_after 0 text p ps is)) is.fit.2
+      (ap (λ (k : Class). kind_of (record { class = k; text = p.text } ∷ ps)) class_is)
+      (ap (λ (k : Class). tokens_from 0 first (record { class = k; text = p.text } ∷ ps)) class_is ∙ rw (zero-add (byte_len p.text), place, m.counted, add-zero first))
+      (marked_indent p ps class_is)
+
+  begun_unmarked : (ps : List Piece) → AreLineText text ps → begins_marked ps ≡ false
+      → (left : List Piece) × HaveReadOf text ps left first (mark_len text) first t
+  begun_unmarked ps is unmarked =
+      let place = sym (no_mark text ps is unmarked) in
+      begun_before ps ps 0 (subst (λ k. AreTextAt 0 (drop k text) ps) place is) unmarked refl (ap (λ k. tokens_from k first ps) place) (unmarked_indent ps unmarked)
+
+  pub begun : HaveRead text first (mark_len text) first t
+  begun [] is = begun_unmarked [] is refl
+  begun (p ∷ ps) is = ⊎_elim (begun_marked p ps is) (begun_unmarked (p ∷ ps) is) (is_mark_or p.class)

@@ -1,31 +1,66 @@
--- Where a line begins with a string, the machine closes nothing before the string's end, and that string at its end.
-use Rattle.std.proofs.Common.{◌≡◌, ℕ, ◌<◌, true, false, Option, None, Some, List, [], ◌∷◌, ◌++◌, length, refl, sym, ap, ◌∙◌, subst, append_assoc, append-nil, arith, length-append}
-use Rattle.std.proofs.lemmas.Bool.{both_ways}
-use Rattle.std.proofs.lemmas.List.{append_cancel_left, nil_from_length}
-use Rattle.py_lines.specs.Piece.{string, Piece, spelled}
-use Rattle.py_lines.specs.Fields.{AreReadBefore, InClass, ShallowFields}
+-- The string that bytes begin with: the scan takes it and nothing after it, and where it was passed as a whole, that is the string.
+use Rattle.std.proofs.Common.{◌≡◌, ℕ, ◌+◌, ◌<◌, ◌≤◌, ◌⊎◌, inl, inr, Bool, true, false, not, ◌&&◌, Option, None, Some, List, [], ◌∷◌, ◌++◌, length, drop, refl, sym, ap, ◌∙◌, subst, append_assoc, append-nil, arith, length-append, ⊎_elim, take, slice_index}
+use Rattle.std.specs.Prelude.{encode_utf8_all, if◌then◌else◌}
+use Rattle.std.specs.Str.{all_scalars, StartsWithNoChar}
+use Rattle.std.specs.Char.{len_utf8}
+use Rattle.std.specs.List.{list_all}
+use Rattle.std.proofs.lemmas.Bool.{both_ways, and_right, cases_Bool, cond_both, and_parts, lt-ltb, cases_lt}
+use Rattle.std.proofs.lemmas.List.{append_cancel_left, length-take-le, take-append-drop, drop_all}
+use Rattle.std.proofs.lemmas.Str.{cons_from_encodes, encodes_same, length-le-encodes, encodes-append}
+use Rattle.py_lines.specs.Character.{is_line_feed, is_break, is_quote, is_word_character, is_word_start}
+use Rattle.py_lines.specs.Piece.{Class, operator, line_end, string, Piece, spelled, begins}
+use Rattle.py_lines.specs.Fields.{AreReadBefore, InClass, ShallowFields, fielded}
+use Rattle.py_lines.specs.LogicalLine.{byte_len, line_ends}
 use Rattle.py_lines.specs.declared.mode.Mode.{Mode}
 use Rattle.py_lines.specs.declared.mode.Mode.TheVariants as modes
+use Rattle.py_lines.specs.declared.mode.Move.{Move}
 use Rattle.py_lines.specs.declared.mode.Move.TheVariants as moves
-use Rattle.py_lines.specs.Private.Machine.{Scanned, fresh, text_start, class_of, closed, started, move_of, start_of, Bracket, brackets_of}
-use Rattle.py_lines.specs.Private.ScanMachine.{HoldsOpen, IsScanSound, StringsFit, meet_of, move_at, scan_step, scan_steps}
-use Rattle.py_lines.specs.Private.Scan.{line_start, stack_if}
-use Rattle.py_lines.specs.Private.Run.{is_free}
+use Rattle.py_lines.specs.declared.mode.Start.{Start}
+use Rattle.py_lines.specs.declared.mode.Start.TheVariants as starts
+use Rattle.py_lines.specs.declared.scan.Progress.{Progress}
+use Rattle.py_lines.specs.declared.scan.Progress.TheVariants as progress
+use Rattle.py_lines.specs.declared.scan.Scan.{Scan}
+use Rattle.py_lines.specs.declared.mode.Spelling.{Spelling}
+use Rattle.py_lines.specs.declared.plain_strings.Passed.{Passed}
+use Rattle.py_lines.specs.declared.token.TokKind.TheVariants as kind
+use Rattle.py_lines.specs.Private.FieldMachine.{FieldMove, closes, FieldScanned, Level, field_move, field_step}
+use Rattle.py_lines.specs.Private.Machine.{Scanned, fresh, text_start, class_of, closed, started, moved, move_of, start_of, Bracket, brackets_of, first_spelling, spelling_on}
+use Rattle.py_lines.specs.Private.ScanMachine.{HoldsOpen, IsScanSound, StringsFit, fielded_move, has_room_in, meet_of, move_at, move_in, scan_step, scan_steps, string_move, string_state, begins_string as opens_string, is_field_spelling}
+use Rattle.py_lines.specs.Private.Scan.{Tallies, IsStacked, Takes, TakesNext, is_return_mode, none_open, stack_if, stack_of, line_start}
+use Rattle.py_lines.specs.Private.Run.{BeginsWith, HoldsRun, Reached, is_free, word_spelling}
+use Rattle.py_lines.specs.Private.LineTokens.{AreTextAt, BeginWithPiece, IsFirstString, ends_prefix, is_plain_word, role_of, string_piece, token_piece}
+use Rattle.py_lines.specs.Private.FieldText.{IsQuotedText}
+use Rattle.py_lines.specs.Private.Outline.{BeforePiece, HasClosedString, HasString, IsInPieceAfter, Passes, PassesString, StringBegins, StringEnds}
+use Rattle.py_lines.proofs.Text.Incomplete.{text_none}
+use Rattle.py_lines.proofs.Text.Splits.{Either, either}
+use Rattle.py_lines.proofs.Text.Utf8Prefixes.{prefix_chars, all_scalars-parts}
 use Rattle.py_lines.proofs.Pieces.PieceLists.{piece, AreReadBefore-first}
 use Rattle.py_lines.proofs.Pieces.OpenBrackets.{stack_before}
 use Rattle.py_lines.proofs.Fields.Nesting.{string_map}
 use Rattle.py_lines.proofs.Machine.EarlierPieces.{GrowsIf, closed_grows, started_grows, run_grows}
 use Rattle.py_lines.proofs.Machine.LiveTexts.{keeps}
-use Rattle.py_lines.proofs.Machine.PieceSteps.{pieces_at, steps_by-append}
+use Rattle.py_lines.proofs.Machine.PieceSteps.{pieces_at, steps_by-append, scanned, word_by}
 use Rattle.py_lines.proofs.ScanMachine.Advance.{steps_push}
 use Rattle.py_lines.proofs.ScanMachine.Follows.{some_is}
 use Rattle.py_lines.proofs.ScanMachine.Reaching.{reach}
 use Rattle.py_lines.proofs.ScanMachine.Rooms.{fields_less}
-use Rattle.py_lines.proofs.ScanMachine.Steps.{StopsBefore, begun, stops-free}
-use Rattle.py_lines.proofs.Text.Splits.{Either, either}
-use Rattle.py_lines.proofs.LineScan.LineSteps.{sound_steps}
+use Rattle.py_lines.proofs.ScanMachine.Steps.{StopsBefore, begun, stops-free, grow-word}
+use Rattle.py_lines.proofs.Lexings.FirstLines.{piece_some}
+use Rattle.py_lines.proofs.LogicalLines.Cuts.{byte_len-append}
+use Rattle.py_lines.proofs.LineScan.PieceEnd.{closed_text, no_class_bracket}
+use Rattle.py_lines.proofs.LineScan.LineSteps.{sound_steps, way_keeps}
+use Rattle.py_lines.proofs.LineScan.LineStops.{Stands, begun_reached, stands_reached}
+use Rattle.py_lines.proofs.LineScan.Runs.{reached_character, reached_run, ends-run, line_ends-run, quote_ascii}
 use Rattle.py_lines.proofs.LineScan.TextSteps.{begun_sound}
-use Rattle.py_lines.proofs.LineTokens.FirstCharacters.{begins_so, unmarked_first}
+use Rattle.py_lines.proofs.LineTokens.FirstCharacters.{begins_so, unmarked_first, as_word}
+use Rattle.py_lines.proofs.Machine.Starts.{start-quote, start-word}
+use Rattle.py_lines.proofs.LineScan.AsciiRuns.{is_low, low_encodes, low_is, quote-no_break}
+use Rattle.py_lines.proofs.SimpleLines.Code.{holds_one, one_unreturned}
+use Rattle.py_lines.proofs.SimpleLines.FieldStrings.{fields_passed, fields_some}
+use Rattle.py_lines.proofs.SimpleLines.Strings.{after_word}
+use Rattle.py_lines.proofs.LineTokens.Spellings.{fielded_spelling, prefix_low}
+use Rattle.py_lines.proofs.LineTokens.FirstPieces.{first_byte, wide_unbroken, word_wide}
+use Rattle.py_lines.proofs.FieldScans.TextLengths.{rest_is, rest_of}
 
 -- the machine comes from a line's start to this state
 abbrev pub ComesTo : List ℕ → Scanned → Type 0
@@ -51,12 +86,6 @@ found_on done o cs t grows steps =
     let last = closed_grows t.mode t.done t.held in
     (kept.0 ++ last.0, last.1 ∙ ap (λ l. l ++ last.0) kept.1 ∙ append_assoc done kept.0 last.0)
 
-found_from : (s : Scanned) (cs : List ℕ) (t : Scanned) → scan_steps (Some s) cs ≡ Some t → (ps : List Piece) × (pieces_at t ≡ s.done ++ ps)
-found_from s cs t steps = found_on s.done (Some s) cs t ([], sym (append-nil s.done)) steps
-
-no_piece : (p : Piece) (ps : List Piece) → p ∷ ps ≡ [] → ⊥
-no_piece p ps h = cc
-
 -- no mark begins a string, so the text's start is like any other place
 from_line : (text : List ℕ) (to : Scanned) → InClass string text → scan_steps (Some text_start) text ≡ Some to → ComesTo text to
 unfolding meet_of move_of
@@ -68,202 +97,471 @@ from_line text to fit steps =
     ∙ sym (begun text_start c cs cs (start_of c) (rw (unmarked_first b)) refl) ∙ ap (scan_steps (Some text_start)) (sym b.is)
     ∙ steps
 
--- the machine passes the string that a line's text begins with, finds that piece alone, and may stop before the rest
-pub record PassesString (text rest : List ℕ) : Type 0 where
+-- the bytes begin with this string: the machine passes it, finds that piece alone, and may stop before the rest
+pub record BeginsString (bytes text : List ℕ) : Type 0 where
+  pub more : List ℕ
+  pub after : List ℕ
+  pub scalars : all_scalars (text ++ more) ≡ true
+  pub spell : encode_utf8_all (text ++ more) ≡ bytes
+  pub some : 0 < length text
   pub to : Scanned
   pub steps : ComesTo text to
   pub pieces_are : pieces_at to ≡ piece string text ∷ []
-  pub stops : StopsBefore to.mode rest
+  pub stops : StopsBefore to.mode (more ++ after)
 
--- where a string is read first, and has room at some depth
-pub passes_string : (depth : ℕ) (text : List ℕ) (others : List Piece) (after : List ℕ)
-    → AreReadBefore (piece string text ∷ others) after → StringsFit depth (piece string text ∷ others)
-    → PassesString text (spelled others ++ after)
-passes_string depth text others after fit strings =
-    let p : Piece = piece string text in
-    let alone : AreReadBefore (p ∷ []) (spelled others ++ after) = AreReadBefore-first (p ∷ []) others after fit in
-    let less = fields_less 0 depth (omega arith) in
-    let room : StringsFit 0 (p ∷ []) = ((λ at. string_map (ShallowFields depth) (ShallowFields 0) less text (strings.0 at)), tt) in
-    let reached = reach (p ∷ []) [] (spelled others ++ after) alone (keeps [] p [] refl refl refl) room in
-    let steps = ap (scan_steps (Some text_start)) (sym (append-nil text)) ∙ reached.steps in
-    let to = reached.to in
-    record { to = to; steps = from_line text to fit.0 steps; pieces_are = reached.pieces_are; stops = reached.stops tt }
+pub begins_string : (bytes : List ℕ) (p : Piece) → p.class ≡ string → BeginWithPiece bytes p → BeginsString bytes p.text
+begins_string bytes p is begin =
+    let at = subst (λ (k : Class). AreTextAt begin.depth bytes (piece k p.text ∷ begin.others)) is begin.text in
+    let one : List Piece = piece string p.text ∷ [] in
+    let less = fields_less 0 begin.depth (omega arith) in
+    let room : StringsFit 0 one = ((λ here. string_map (ShallowFields begin.depth) (ShallowFields 0) less p.text (at.strings.0 here)), tt) in
+    let fit = AreReadBefore-first one begin.others at.after at.fit in
+    let reached = reach one [] (spelled begin.others ++ at.after) fit (keeps [] (piece string p.text) [] refl refl refl) room in
+    record {
+      more = spelled begin.others;
+      after = at.after;
+      scalars = at.scalars;
+      spell = at.spell;
+      some = piece_some string p.text at.fit.0;
+      to = reached.to;
+      steps = from_line p.text reached.to at.fit.0 (ap (scan_steps (Some text_start)) (sym (append-nil p.text)) ∙ reached.steps);
+      pieces_are = reached.pieces_are;
+      stops = reached.stops tt;
+    }
 
--- where the machine has closed nothing, what it has read is the open piece
-record HoldsAll (m : Mode) (done : List Piece) (held read : List ℕ) : Type 0 where
-  other : is_free m ≡ false
-  one : Piece
-  is : closed m done held ≡ one ∷ []
-  text : one.text ≡ read
+-- the machine may stop before this text, if there is any
+abbrev pub MayStop : Mode → List ℕ → Type 0
+MayStop m [] = Unit {0}
+MayStop m (c ∷ cs) = meet_of m c ≡ moves.Breaks
 
-holds_all : (m : Mode) (done : List Piece) (held read : List ℕ) → HoldsOpen m done held → 0 < length read → done ≡ [] → held ≡ read
-    → HoldsAll m done held read
-holds_all modes.Start done held read holds some none spell = absurd (omega (arith, some, ap length spell, ap length holds.0.1))
-holds_all modes.Free done held read holds some none spell = absurd (omega (arith, some, ap length spell, ap length holds.0))
-holds_all m done held read holds some none spell =
-    record { other = refl; one = piece (class_of m) held; is = ap (λ l. l ++ piece (class_of m) held ∷ []) none; text = spell }
+-- where no piece is open, it may
+pub free_stops : (m : Mode) (rest : List ℕ) → is_free m ≡ true → MayStop m rest
+free_stops modes.Free [] free = tt
+free_stops modes.Free (c ∷ cs) free = stops-free (c ∷ cs)
+free_stops m rest free = absurd (both_ways _ refl free)
 
-all_held : (s : Scanned) (read : List ℕ) → ComesTo read s → 0 < length read → s.done ≡ [] → HoldsAll s.mode s.done s.held read
-all_held s read steps some none =
-    let sound = sound_from read s steps (ap brackets_of none) in
-    holds_all s.mode s.done s.held read sound.holds some none (ap (λ (l : List Piece). spelled l ++ s.held) (sym none) ∙ sound.spell)
+free_closed : (m : Mode) (done : List Piece) (held : List ℕ) → is_free m ≡ true → closed m done held ≡ done
+free_closed modes.Free done held free = refl
+free_closed m done held free = absurd (both_ways _ refl free)
 
--- where one piece is found and it is open, none is closed
-open_alone : (p : Piece) (m : Mode) (done : List Piece) (held : List ℕ) → HoldsOpen m done held → is_free m ≡ false
-    → closed m done held ≡ p ∷ [] → done ≡ []
-open_alone p modes.Start done held holds other is = holds.0.0
-open_alone p modes.Free done held holds other is = absurd (both_ways _ other refl)
-open_alone p m done held holds other is = nil_from_length done (omega (arith, ap length is, length-append done (piece (class_of m) held ∷ [])))
+module _ {bytes text : List ℕ} (b : BeginsString bytes text) where
+  -- The machine comes over first characters. It goes on to the string's end, or has closed the string before others.
+  abbrev HasCome : List ℕ → List ℕ → Scanned → Type 0
+  HasCome read y s =
+      ((z : List ℕ) × (text ≡ read ++ z) × (z ++ b.more ≡ y) × (scan_steps (Some s) z ≡ Some b.to))
+      ⊎ ((ps : List Piece) × (s.done ≡ piece string text ∷ ps))
 
--- a line begins with this string, which the machine passes, and with `x` after it
-module _ (text x after : List ℕ) (passes : PassesString text (x ++ after)) where
-  steps_on : (read z : List ℕ) (s : Scanned) → text ≡ read ++ z → ComesTo read s → scan_steps (Some s) z ≡ Some passes.to
-  steps_on read z s is steps = then_on read z s steps ∙ ap (scan_steps (Some (line_start modes.Free))) (sym is) ∙ passes.steps
-
-  -- up to its end the machine is sound
-  stack_there : (s : Scanned) (z : List ℕ) → scan_steps (Some s) z ≡ Some passes.to → (st : List Bracket) × (brackets_of s.done ≡ Some st)
-  stack_there s z goes =
-      let found = found_from s z passes.to goes in
-      stack_before s.done found.0 [] (ap brackets_of (sym found.1 ∙ passes.pieces_are) ∙ keeps [] (piece string text) [] refl refl refl)
-
-  sound_before : (read z : List ℕ) (s : Scanned) → text ≡ read ++ z → ComesTo read s → IsScanSound s read
-  sound_before read z s is steps = sound_from read s steps (stack_there s z (steps_on read z s is steps)).1
-
-  -- before it nothing is closed
-  open_before : (read more : List ℕ) (d : ℕ) (s : Scanned) → text ≡ read ++ d ∷ more → ComesTo read s → s.done ≡ []
-  open_before read more d s is steps =
-      let found = found_from s (d ∷ more) passes.to (steps_on read (d ∷ more) s is steps) in
-      go s.done found.0 (sym found.1 ∙ passes.pieces_are) (sound_before read (d ∷ more) s is steps).spell
+  has_come : (read y : List ℕ) (s : Scanned) → text ++ b.more ≡ read ++ y → ComesTo read s → HasCome read y s
+  has_come read y s at steps = go (either read y text b.more (sym at))
     where
-      go : (ps qs : List Piece) → ps ++ qs ≡ piece string text ∷ [] → spelled ps ++ s.held ≡ read → ps ≡ []
-      go [] qs are spell = refl
-      go (p ∷ ps) qs are spell =
-          let same : p ≡ piece string text = cc are in
-          let first = length-append p.text (spelled ps) in
-          let all = length-append (p.text ++ spelled ps) s.held in
-          let shorter = length-append read (d ∷ more) in
-          absurd (omega (arith, first, all, ap length spell, ap length is, ap (λ (q : Piece). length q.text) same, shorter))
-
-  -- after that it is closed
-  closed_after : (read w y : List ℕ) (d : ℕ) (s : Scanned) → read ≡ text ++ d ∷ w → x ≡ d ∷ y → ComesTo read s
-      → (ps : List Piece) × (s.done ≡ piece string text ∷ ps)
-  closed_after read w y d s is more steps =
-      let to = passes.to in
-      let stops : StopsBefore to.mode (d ∷ (y ++ after)) = subst (λ t. StopsBefore to.mode (t ++ after)) more passes.stops in
-      let on = sym (begun to d w (y ++ after) (start_of d) stops refl)
-      ∙ then_on text (d ∷ w) to passes.steps ∙ ap (scan_steps (Some (line_start modes.Free))) (sym is) ∙ steps in
-      let grows = started_grows (pieces_at to) (piece string text ∷ []) [] d (start_of d) passes.pieces_are in
-      kept_on (piece string text ∷ []) (started (pieces_at to) d (start_of d)) w s grows on
-
-  -- so the machine has come no further, where it has closed nothing
-  within : (read y : List ℕ) (s : Scanned) → text ++ x ≡ read ++ y → ComesTo read s → s.done ≡ []
-      → (z : List ℕ) × (text ≡ read ++ z) × (z ++ x ≡ y)
-  within read y s at steps none = go (either read y text x (sym at))
-    where
-      go : Either read text x → (z : List ℕ) × (text ≡ read ++ z) × (z ++ x ≡ y)
-      go (Either.shorter z is) = (z, is, append_cancel_left read (z ++ x) y (sym (append_assoc read z x) ∙ ap (λ t. t ++ x) (sym is) ∙ at))
+      go : Either read text b.more → HasCome read y s
+      go (Either.shorter z is) = inl (
+        z,
+        is,
+        append_cancel_left read (z ++ b.more) y (sym (append_assoc read z b.more) ∙ ap (λ t. t ++ b.more) (sym is) ∙ at),
+        then_on read z s steps ∙ ap (scan_steps (Some (line_start modes.Free))) (sym is) ∙ b.steps,
+      )
       go (Either.longer d w more is follows) =
-          let closes = closed_after read w more d s is follows steps in
-          absurd (no_piece (piece string text) closes.0 (sym closes.1 ∙ none))
+          let stops : StopsBefore b.to.mode (d ∷ (more ++ b.after)) = subst (λ t. StopsBefore b.to.mode (t ++ b.after)) follows b.stops in
+          let on = sym (begun b.to d w (more ++ b.after) (start_of d) stops refl) ∙ then_on text (d ∷ w) b.to b.steps
+          ∙ ap (scan_steps (Some (line_start modes.Free))) (sym is) ∙ steps in
+          let one : List Piece = piece string text ∷ [] in
+          inr (kept_on one (started (pieces_at b.to) d (start_of d)) w s (started_grows (pieces_at b.to) one [] d (start_of d) b.pieces_are) on)
 
-  -- and where it has closed one string, that is the string
-  pub whole_closed : (whole y : List ℕ) → text ++ x ≡ whole ++ y → ComesTo whole (fresh (piece string whole ∷ [])) → whole ≡ text
-  whole_closed whole y at steps = go (either whole y text x (sym at))
+  -- where it has found one piece, and may stop, that is the string
+  pub whole_read : (read y : List ℕ) (s : Scanned) {st : List Bracket} → text ++ b.more ≡ read ++ y → ComesTo read s → brackets_of s.done ≡ Some st
+      → length (pieces_at s) ≤ 1 → 0 < byte_len read → MayStop s.mode y → read ≡ text
+  whole_read read y s at steps stack few some stops = sym spell ∙ by (has_come read y s at steps)
     where
-      go : Either whole text x → whole ≡ text
-      go (Either.shorter [] is) = sym (append-nil whole) ∙ sym is
-      go (Either.shorter (d ∷ z) is) = absurd (no_piece (piece string whole) [] (open_before whole z d (fresh (piece string whole ∷ [])) is steps))
-      go (Either.longer d w more is follows) =
-          let first : piece string whole ≡ piece string text = cc ((closed_after whole w more d _ is follows steps).1) in
-          ap (λ (p : Piece). p.text) first
+      sound : IsScanSound s read
+      sound = sound_from read s steps stack
 
-  -- what was read is the string, where no character follows
-  pub whole_at_end : (read : List ℕ) (s : Scanned) → text ++ x ≡ read ++ [] → ComesTo read s → s.done ≡ [] → read ≡ text
-  whole_at_end read s at steps none =
-      let (z, is, more) = within read [] s at steps none in
-      sym (append-nil read) ∙ ap (λ t. read ++ t) (sym (nil_from_length z (omega (arith, ap length more, length-append z x)))) ∙ sym is
+      spell : spelled (pieces_at s) ≡ read
+      spell = closed_text s.mode s.done s.held sound.holds ∙ sound.spell
 
-  -- where the next character comes after the open piece
-  pub whole_before : (read y : List ℕ) (c : ℕ) (s : Scanned) → text ++ x ≡ read ++ c ∷ y → ComesTo read s → s.done ≡ [] → 0 < length read
-      → meet_of s.mode c ≡ moves.Breaks → read ≡ text
-  whole_before read y c s at steps none some breaks =
-      let (z, is, more) = within read (c ∷ y) s at steps none in
-      go z is more
+      only : (ps qs rs : List Piece) → ps ++ qs ≡ piece string text ∷ rs → length ps ≤ 1 → 0 < byte_len (spelled ps) → spelled ps ≡ text
+      only [] qs rs all one full = absurd (omega (arith, full))
+      only (q ∷ []) qs rs all one full =
+          let first : q ≡ piece string text = cc in
+          append-nil q.text ∙ ap (λ (p : Piece). p.text) first
+      only (q ∷ r ∷ ps) qs rs all one full = absurd (omega (arith, one))
+
+      found : (qs rs : List Piece) → pieces_at s ++ qs ≡ piece string text ∷ rs → spelled (pieces_at s) ≡ text
+      found qs rs all = only (pieces_at s) qs rs all few (omega (arith, some, ap byte_len spell))
+
+      by : HasCome read y s → spelled (pieces_at s) ≡ text
+      by (inr (ps, past)) =
+          let last = closed_grows s.mode s.done s.held in
+          found [] (ps ++ last.0) (append-nil (pieces_at s) ∙ last.1 ∙ ap (λ l. l ++ last.0) past)
+      by (inl ([], is, more, goes)) = found [] [] (append-nil (pieces_at s) ∙ ap pieces_at (some_is s b.to goes) ∙ b.pieces_are)
+      by (inl (d ∷ z, is, more, goes)) =
+          let grows = started_grows (pieces_at s) (pieces_at s) [] d (start_of d) (sym (append-nil (pieces_at s))) in
+          let may : MayStop s.mode (d ∷ (z ++ b.more)) = subst (MayStop s.mode) (sym more) stops in
+          let on = sym (begun s d z z (start_of d) may refl) ∙ goes in
+          let kept = found_on (pieces_at s) (started (pieces_at s) d (start_of d)) z b.to grows on in
+          found kept.0 [] (sym kept.1 ∙ b.pieces_are)
+
+  -- where it has closed none, no character is refused before which it may not stop
+  not_refused : (read y : List ℕ) (c : ℕ) (s : Scanned) → text ++ b.more ≡ read ++ c ∷ y → ComesTo read s → s.done ≡ []
+      → (is_free s.mode ≡ false → meet_of s.mode c ≡ moves.Breaks → ⊥) → stack_if (scan_step s c) ≡ None → ⊥
+  not_refused read y c s at steps none on refuses = by (has_come read (c ∷ y) s at steps)
     where
-      go : (z : List ℕ) → text ≡ read ++ z → z ++ x ≡ c ∷ y → read ≡ text
-      go [] is more = sym (append-nil read) ∙ sym is
-      go (d ∷ z) is more =
+      no_piece : (ps : List Piece) → piece string text ∷ ps ≡ [] → ⊥
+      no_piece ps h = cc
+
+      goes_on : (z : List ℕ) (o : Option Scanned) → scan_steps o z ≡ Some b.to → stack_if o ≡ None → ⊥
+      goes_on z None goes refused =
+          let clash : None ≡ Some b.to = goes in
+          cc
+      goes_on z (Some next) goes refused =
+          let found = found_on next.done (Some next) z b.to ([], sym (append-nil next.done)) goes in
+          let one = keeps [] (piece string text) [] refl refl refl in
+          let stack = stack_before next.done found.0 [] (ap brackets_of (sym found.1 ∙ b.pieces_are) ∙ one) in
+          let clash : None ≡ Some stack.0 = sym refused ∙ stack.1 in
+          cc
+
+      by : HasCome read (c ∷ y) s → ⊥
+      by (inr (ps, past)) = no_piece ps (sym past ∙ none)
+      by (inl ([], is, more, goes)) =
+          let same : s ≡ b.to = some_is s b.to goes in
+          let breaks : meet_of b.to.mode c ≡ moves.Breaks = subst (λ t. StopsBefore b.to.mode (t ++ b.after)) more b.stops in
+          ⊎_elim
+          (λ free. no_piece [] (sym b.pieces_are ∙ ap pieces_at (sym same) ∙ free_closed s.mode s.done s.held free ∙ none))
+          (λ other. on other (ap (λ (t : Scanned). meet_of t.mode c) same ∙ breaks)) (cases_Bool (is_free s.mode))
+      by (inl (d ∷ z, is, more, goes)) =
           let first : d ≡ c = cc more in
-          let all = all_held s read steps some none in
-          let stops : meet_of s.mode d ≡ moves.Breaks = ap (meet_of s.mode) first ∙ breaks in
-          let on = sym (begun s d z z (start_of d) stops refl) ∙ steps_on read (d ∷ z) s is steps in
-          let grows = started_grows (pieces_at s) (all.one ∷ []) [] d (start_of d) all.is in
-          let found = found_on (all.one ∷ []) (started (pieces_at s) d (start_of d)) z passes.to grows on in
-          let same : all.one ≡ piece string text = cc (sym found.1 ∙ passes.pieces_are) in
-          sym all.text ∙ ap (λ (p : Piece). p.text) same
+          goes_on z (scan_step s c) (ap (λ e. scan_steps (scan_step s e) z) (sym first) ∙ goes) refuses
 
-  -- otherwise the string goes on with that character
-  module _ (some : 0 < length text) (read y : List ℕ) (c : ℕ) (s : Scanned) (at : text ++ x ≡ read ++ c ∷ y) (steps : ComesTo read s)
-      (none : s.done ≡ []) (on : is_free s.mode ≡ false → meet_of s.mode c ≡ moves.Breaks → ⊥) where
-    goes_on : (z : List ℕ) × (text ≡ read ++ c ∷ z)
-    goes_on =
-        let (z, is, more) = within read (c ∷ y) s at steps none in
-        go z is more
-      where
-        go : (z : List ℕ) → text ≡ read ++ z → z ++ x ≡ c ∷ y → (w : List ℕ) × (text ≡ read ++ c ∷ w)
-        go [] is more =
-            let whole : text ≡ read = is ∙ append-nil read in
-            let same = some_is s passes.to (sym steps ∙ ap (scan_steps (Some (line_start modes.Free))) (sym whole) ∙ passes.steps) in
-            let breaks : meet_of passes.to.mode c ≡ moves.Breaks = subst (λ t. StopsBefore passes.to.mode (t ++ after)) more passes.stops in
-            let other = (all_held s read steps (omega (arith, some, ap length whole)) none).other in
-            absurd (on other (ap (λ (t : Scanned). meet_of t.mode c) same ∙ breaks))
-        go (d ∷ z) is more =
-            let first : d ≡ c = cc more in
-            (z, is ∙ ap (λ e. read ++ e ∷ z) first)
+-- a character before which the open piece, if there is one, doesn't end closes no piece, or one at once, and then none is open
+abbrev ClosesOne : Option Scanned → Type 0
+ClosesOne None = Unit {0}
+ClosesOne (Some t) = (t.done ≡ []) ⊎ ((q : Piece) × (t ≡ fresh (q ∷ [])))
 
-    module _ (next : Scanned) (goes : scan_step s c ≡ Some next) where
-      further : ComesTo (read ++ c ∷ []) next
-      further = steps_push (line_start modes.Free) read s c steps ∙ goes
+breaks_out : (m : Mode) (depth : ℕ) (held : List ℕ) (c : ℕ) → move_in m depth held c ≡ moves.Breaks → meet_of m c ≡ moves.Breaks
+breaks_out modes.Fielded depth held c breaks = absurd (fielded (string_state held) breaks)
+  where
+    by : (outer : List Level) (move : FieldMove) (next : Option FieldScanned) → string_move outer move next ≡ moves.Breaks → ⊥
+    by [] closes next h = cc
+    by outer move None h = cc
+    by outer move (Some t) h = cc
 
-      then_more : (z : List ℕ) × (text ≡ (read ++ c ∷ []) ++ z)
-      then_more =
-          let (z, is) = goes_on in
-          (z, is ∙ sym (append_assoc read (c ∷ []) z))
+    fielded : (o : Option FieldScanned) → fielded_move depth o c ≡ moves.Breaks → ⊥
+    fielded None h = cc
+    fielded (Some t) h =
+        cond_both (has_room_in depth t c) _ moves.Refused (λ (v : Move). v ≡ moves.Breaks → ⊥)
+        (λ room. by t.outer (field_move t.mode t.held c) (field_step t c)) (λ full same. cc) h
+breaks_out m depth held c breaks = breaks
 
-      -- and ends with it, where it closes a piece
-      pub whole_with : is_free next.mode ≡ true → read ++ c ∷ [] ≡ text
-      whole_with free = let (z, is) = then_more in go z is
+one_closed : (s : Scanned) (c : ℕ) → s.done ≡ [] → (is_free s.mode ≡ false → meet_of s.mode c ≡ moves.Breaks → ⊥) → ClosesOne (scan_step s c)
+one_closed s c none on = go (move_at s c) refl
+  where
+    starts_one : (o : Start) (done : List Piece) → done ≡ [] → ClosesOne (started done c o)
+    starts_one (starts.Open m) done nothing = inl nothing
+    starts_one starts.Operator done nothing = inr (_, ap (λ l. fresh (l ++ piece operator (c ∷ []) ∷ [])) nothing)
+    starts_one starts.LineEnd done nothing = inr (_, ap (λ l. fresh (l ++ piece line_end (c ∷ []) ∷ [])) nothing)
+    starts_one starts.Nothing done nothing = tt
+
+    go : (v : Move) → move_at s c ≡ v → ClosesOne (moved s c v)
+    go (moves.Grows m) move = inl none
+    go moves.Closes move = inr (_, ap (λ l. fresh (l ++ piece (class_of s.mode) (s.held ++ c ∷ []) ∷ [])) none)
+    go moves.Breaks move = ⊎_elim (λ free. starts_one (start_of c) (pieces_at s) (free_closed s.mode s.done s.held free ∙ none))
+        (λ other. absurd (on other (breaks_out s.mode _ s.held c move))) (cases_Bool (is_free s.mode))
+    go moves.Refused move = tt
+
+-- the scan of the bytes has come to these, and has closed nothing
+pub record InFirst (bytes : List ℕ) (scan : Scan) (rest : List ℕ) : Type 0 where
+  pub reached : Reached modes.Free 1 bytes scan rest
+  pub first : scan.piece.start ≡ 0
+
+-- it has taken this text
+abbrev pub HasPassed : List ℕ → Scan → Type 0
+HasPassed text scan = (scan.stop ≡ byte_len text) × (scan.count.line ≡ 1 + line_ends text)
+
+-- at a line's start
+pub at_start : (bytes : List ℕ) {scan : Scan} → Tallies scan (line_start modes.Free) → IsStacked scan (line_start modes.Free)
+    → scan.line ≡ 1 → InFirst bytes scan bytes
+at_start bytes tallies stacked line = record { reached = begun_reached refl tallies stacked line; first = tallies.counts.start }
+
+some_read : (read : List ℕ) (s : Scanned) → ComesTo read s → is_free s.mode ≡ false → 0 < length read
+some_read [] s steps other =
+    let same = some_is (line_start modes.Free) s steps in
+    absurd (both_ways _ other (ap (λ (t : Scanned). is_free t.mode) (sym same)))
+some_read (c ∷ cs) s steps other = omega arith
+
+none_done : (ps : List Piece) (rest : List ℕ) → AreReadBefore ps rest → byte_len (spelled ps) ≡ 0 → ps ≡ []
+none_done [] rest fit none = refl
+none_done (p ∷ ps) rest fit none =
+    absurd (omega (arith, none, byte_len-append p.text (spelled ps), piece_some p.class p.text fit.0, length-le-encodes p.text))
+
+closed_few : (m : Mode) (done : List Piece) (held : List ℕ) → done ≡ [] → length (closed m done held) ≤ 1
+closed_few modes.Start done held none = omega (arith, ap length none)
+closed_few modes.Free done held none = omega (arith, ap length none)
+closed_few m done held none = omega (arith, ap length none, length-append done (piece (class_of m) held ∷ []))
+
+-- what is counted where the machine has come, by what it has read
+counted : (new : Scan) (s : Scanned) (read text : List ℕ) → Tallies new s → IsScanSound s read → new.line ≡ 1 → read ≡ text
+    → HasPassed text new
+counted new s read text tallies sound line is =
+    let spell : spelled s.done ++ s.held ≡ text = sound.spell ∙ is in
+    (tallies.counts.stop ∙ ap byte_len spell, tallies.counts.here ∙ ap (λ (n : ℕ). n + line_ends (spelled s.done ++ s.held)) line ∙ ap (λ t. 1 + line_ends t) spell)
+
+-- after CR nothing but LF goes on
+not_returned : (m : Mode) (c : ℕ) (b : Bool) → (is_free m ≡ false → meet_of m c ≡ moves.Breaks → ⊥)
+    → (is_return_mode m && b) && not (is_line_feed c) ≡ false
+unfolding meet_of move_of
+not_returned modes.Return c b on = go (is_line_feed c) refl
+  where
+    go : (f : Bool) → is_line_feed c ≡ f → b && not (is_line_feed c) ≡ false
+    go true feeds = ap (λ f. b && not f) feeds ∙ and_right b false refl
+    go false other = absurd (on refl (ap (λ f. if f then moves.Closes else moves.Breaks) other))
+not_returned m c b on = refl
+
+module _ {bytes : List ℕ} {scan : Scan} {rest : List ℕ} (at : InFirst bytes scan rest) where
+  abbrev read : List ℕ
+  read = at.reached.read
+
+  abbrev s : Scanned
+  s = at.reached.way.state
+
+  abbrev steps : ComesTo read s
+  steps = at.reached.way.steps
+
+  abbrev tallies : Tallies scan s
+  tallies = at.reached.way.tallies
+
+  sound : IsScanSound s read
+  sound = sound_from read s steps at.reached.way.stacked
+
+  none : s.done ≡ []
+  none = none_done s.done (s.held ++ []) (sound.fit []) (sym tallies.counts.start ∙ at.first)
+
+  -- what this tells of the scan
+  pub first_stands : Stands 1 bytes scan rest
+  first_stands = stands_reached modes.Free 1 bytes scan rest (begun_sound 1) at.reached
+
+  module _ {text : List ℕ} (b : BeginsString bytes text) where
+    left : (y : List ℕ) × (text ++ b.more ≡ read ++ y) × (encode_utf8_all y ≡ rest)
+    left = prefix_chars read (text ++ b.more) rest (b.spell ∙ sym at.reached.spell)
+
+    -- where the machine may stop
+    passed_there : (y : List ℕ) → text ++ b.more ≡ read ++ y → 0 < length read → MayStop s.mode y → HasPassed text scan
+    passed_there y cut some stops =
+        counted scan s read text tallies sound at.reached.line
+        (whole_read b read y s cut steps at.reached.way.stacked (closed_few s.mode s.done s.held none)
+        (omega (arith, some, length-le-encodes read)) stops)
+
+    -- no character follows
+    pub passed_all : StartsWithNoChar rest → HasPassed text scan
+    passed_all bad =
+        let (y, cut, spells) = left in
+        let fine = all_scalars-parts read y (ap all_scalars (sym cut) ∙ b.scalars) in
+        let nothing : rest ≡ [] = text_none rest (y, (fine.1, spells)) bad in
+        let whole = cut ∙ ap (λ t. read ++ t) (encodes_same y [] (spells ∙ nothing)) in
+        passed_there [] whole (omega (arith, b.some, ap length whole, length-append text b.more, length-append read [])) tt
+
+    next_is : (c : ℕ) → BeginsWith rest c → (y : List ℕ) × (text ++ b.more ≡ read ++ c ∷ y)
+    next_is c next =
+        let (y, cut, spells) = left in
+        let (z, begins, others) = cons_from_encodes y (drop (len_utf8 c) rest) c (spells ∙ sym next.spell) in
+        (z, cut ∙ ap (λ t. read ++ t) begins)
+
+    -- the next character comes after the open piece
+    pub passed_before : {c : ℕ} → BeginsWith rest c → is_free scan.piece.mode ≡ false → meet_of scan.piece.mode c ≡ moves.Breaks
+        → HasPassed text scan
+    passed_before {c = c} next other breaks =
+        let (y, cut) = next_is c next in
+        passed_there (c ∷ y) cut (some_read read s steps (ap is_free (sym tallies.counts.mode) ∙ other))
+        (ap (λ m. meet_of m c) (sym tallies.counts.mode) ∙ breaks)
+
+  -- a character that doesn't, and what it comes to
+  module _ {c : ℕ} (p : Progress) (new : Scan) (next : BeginsWith rest c)
+      (on : is_free scan.piece.mode ≡ false → meet_of scan.piece.mode c ≡ moves.Breaks → ⊥) (to : TakesNext scan c p new) where
+    takes : Takes scan s c p new
+    takes = to s read (way_keeps modes.Free scan read at.reached.way (begun_sound 1)) (not_returned scan.piece.mode c (none_open (stack_of scan.brackets)) on)
+
+    on_there : is_free s.mode ≡ false → meet_of s.mode c ≡ moves.Breaks → ⊥
+    on_there = subst (λ (m : Mode). is_free m ≡ false → meet_of m c ≡ moves.Breaks → ⊥) tallies.counts.mode on
+
+    closes_one : (t : Scanned) → scan_step s c ≡ Some t → (t.done ≡ []) ⊎ ((q : Piece) × (t ≡ fresh (q ∷ [])))
+    closes_one t goes = subst ClosesOne goes (one_closed s c none on_there)
+
+    module _ {text : List ℕ} (b : BeginsString bytes text) where
+      never : stack_if (scan_step s c) ≡ None → ⊥
+      never refused = let (y, cut) = next_is b c next in not_refused b read y c s cut steps none on_there refused
+
+      -- it ends the string, where no piece is open after it
+      ends_with : (t : Scanned) {st : List Bracket} → brackets_of t.done ≡ Some st → scan_step s c ≡ Some t → is_free t.mode ≡ true
+          → Tallies new t → new.line ≡ scan.line → HasPassed text new
+      ends_with t stack goes free tallied line =
+          let (y, cut) = next_is b c next in
+          let further : ComesTo (read ++ c ∷ []) t = steps_push (line_start modes.Free) read s c steps ∙ goes in
+          let few : length t.done ≤ 1 = ⊎_elim (λ nothing. omega (arith, ap length nothing))
+          (λ one. omega (arith, ap (λ (x : Scanned). length x.done) one.1)) (closes_one t goes) in
+          let some : 0 < byte_len (read ++ c ∷ []) = omega (arith, length-append read (c ∷ []), length-le-encodes (read ++ c ∷ [])) in
+          counted new t (read ++ c ∷ []) text tallied (sound_from (read ++ c ∷ []) t further stack) (line ∙ at.reached.line)
+          (whole_read b (read ++ c ∷ []) y t (cut ∙ sym (append_assoc read (c ∷ []) y)) further stack
+          (subst (λ (l : List Piece). length l ≤ 1) (sym (free_closed t.mode t.done t.held free)) few) some (free_stops t.mode y free))
+
+      pub passed_with : is_free new.piece.mode ≡ true → HasPassed text new
+      passed_with free = by p takes
         where
-          go : (z : List ℕ) → text ≡ (read ++ c ∷ []) ++ z → read ++ c ∷ [] ≡ text
-          go [] is = sym (append-nil _) ∙ sym is
-          go (d ∷ z) is =
-              let none_yet = open_before (read ++ c ∷ []) z d next is further in
-              let all = all_held next (read ++ c ∷ []) further (omega (arith, length-append read (c ∷ []))) none_yet in
-              absurd (both_ways _ all.other free)
+          by : (q : Progress) → Takes scan s c q new → HasPassed text new
+          by progress.Going (taken, line) =
+              ends_with taken.next taken.stacked taken.goes (ap is_free (sym taken.tallies.counts.mode) ∙ free) taken.tallies line
+          by (progress.LineEnded len) (end, line) =
+              let stack = no_class_bracket end.body end.last end.are.class end.are.paired in
+              ends_with (fresh (end.body ++ end.last ∷ [])) stack end.goes refl end.tallies line
+          by progress.Refused (refused, same) = absurd (never refused)
 
-      -- it closes nothing, where a piece is open after it
-      pub open_with : is_free next.mode ≡ false → next.done ≡ []
-      open_with other = let (z, is) = then_more in go z is
+      -- any other goes on in it
+      pub still_first : is_free new.piece.mode ≡ false → InFirst bytes new (drop (len_utf8 c) rest)
+      still_first other = by p takes
         where
-          go : (z : List ℕ) → text ≡ (read ++ c ∷ []) ++ z → next.done ≡ []
-          go [] is =
-              let whole : read ++ c ∷ [] ≡ text = sym (append-nil _) ∙ sym is in
-              let same = some_is next passes.to (sym further ∙ ap (scan_steps (Some (line_start modes.Free))) whole ∙ passes.steps) in
-              let holds = (sound_before (read ++ c ∷ []) [] next is further).holds in
-              open_alone (piece string text) next.mode next.done next.held holds other (ap pieces_at same ∙ passes.pieces_are)
-          go (d ∷ z) is = open_before (read ++ c ∷ []) z d next is further
+          by : (q : Progress) → Takes scan s c q new → InFirst bytes new (drop (len_utf8 c) rest)
+          by progress.Going (taken, line) =
+              let more = drop (len_utf8 c) rest in
+              let counts = taken.tallies.counts in
+              let nothing : taken.next.done ≡ [] = ⊎_elim (λ none_yet. none_yet)
+              (λ one. absurd (both_ways _ other (ap is_free (counts.mode ∙ ap (λ (t : Scanned). t.mode) one.1)))) (closes_one taken.next taken.goes) in
+              record {
+                reached = reached_character modes.Free 1 bytes scan new rest more c at.reached next.scalar (sym next.spell) (taken, line);
+                first = counts.start ∙ ap (λ (l : List Piece). byte_len (spelled l)) nothing;
+              }
+          by (progress.LineEnded len) (end, line) = absurd (both_ways _ other (ap is_free end.tallies.counts.mode))
+          by progress.Refused (refused, same) = absurd (never refused)
 
-    -- it is not refused
-    pub not_refused : stack_if (scan_step s c) ≡ None → ⊥
-    not_refused refuses =
-        let (z, is) = goes_on in
-        go z (scan_step s c) (steps_on read (c ∷ z) s is steps) refuses
-      where
-        go : (z : List ℕ) (o : Option Scanned) → scan_steps o z ≡ Some passes.to → stack_if o ≡ None → ⊥
-        go z None goes refused =
-            let stuck : None ≡ Some passes.to = goes in
-            cc
-        go z (Some next) goes refused =
-            let stack = stack_there next z goes in
-            let clash : None ≡ Some stack.0 = sym refused ∙ stack.1 in
-            cc
+-- so does a run that is held
+pub first_run : {bytes : List ℕ} {old new : Scan} {mid rest : List ℕ} → InFirst bytes old mid → HoldsRun old mid rest new
+    → InFirst bytes new rest
+first_run {bytes = bytes} {old = old} {new = new} {mid = mid} {rest = rest} at holds =
+    let start_of_piece : Scan → ℕ = λ s. s.piece.start in
+    record {
+      reached = reached_run modes.Free 1 bytes old new mid rest at.reached (begun_sound 1) holds;
+      first = ⊎_elim (λ none. ap start_of_piece none.1) (λ some. ap start_of_piece some.1) holds.reads ∙ at.first;
+    }
+
+-- a line's start
+abbrev start : BeforePiece
+start = record { mode = modes.Free; done = [] }
+
+-- a prefix
+module _ (c : ℕ) (cs : List ℕ) (begins : opens_string (spelling_on (first_spelling c) cs) ≡ true) where
+  abbrev prefix : List ℕ
+  prefix = c ∷ cs
+
+  abbrev spelling : Spelling
+  spelling = spelling_on (first_spelling c) cs
+
+  is_prefix : fielded.is_prefix prefix ≡ true
+  is_prefix = fielded_spelling c cs ∙ begins
+
+  word : (is_word_start c ≡ true) × (list_all is_word_character cs ≡ true)
+  word = as_word c cs is_prefix
+
+  over_prefix : scan_steps (Some (line_start modes.Free)) prefix ≡ Some (scanned [] (modes.Word spelling) prefix)
+  over_prefix =
+      begun (line_start modes.Free) c cs cs _ (stops-free prefix) (start-word c word.0)
+      ∙ word_by move_at [] (λ t held. grow-word t) (first_spelling c) (c ∷ []) cs word.1
+
+  prefix_unbroken : list_all (λ e. not (is_break e)) prefix ≡ true
+  prefix_unbroken = wide_unbroken prefix (word_wide c cs word.0 word.1)
+
+  in_prefix : IsInPieceAfter (modes.Word spelling) start prefix 0 []
+  in_prefix = record {
+    held = prefix;
+    come = record {
+      start = begun_sound 1;
+      steps = over_prefix;
+      stacked = refl;
+      one_line = tt;
+      holds = record { scalars = (low_encodes is_low prefix low_is (prefix_low prefix begins)).1; count = line_ends-run [] prefix prefix_unbroken };
+    };
+    unreturned = ends-run [] prefix tt prefix_unbroken;
+  }
+
+-- a quote after so many bytes
+quote_within : (bs : List ℕ) (k : ℕ) → begins is_quote (drop k bs) ≡ true → k ≤ length bs
+quote_within bs k h =
+    ⊎_elim (λ (over : length bs < k). absurd (both_ways _ (ap (begins is_quote) (drop_all k bs (omega arith))) h)) (λ within. within) (cases_lt (length bs) k)
+
+pub quote_of_rest : (bytes : List ℕ) (n : ℕ) → begins is_quote (drop n bytes) ≡ true → is_quote (slice_index (rest_of bytes n) 0) ≡ true
+quote_of_rest bytes n quotes = ap (λ t. is_quote (slice_index t 0)) (rest_is bytes n) ∙ first_byte is_quote (drop n bytes) quotes
+
+pub plain_word : (word : List ℕ) → is_field_spelling (word_spelling word) ≡ false → opens_string (word_spelling word) ≡ true → is_plain_word word ≡ true
+plain_word [] field begins = refl
+plain_word (c ∷ cs) field begins = rw field begins
+
+-- a string without fields that was passed, after a prefix or none
+plain_starts : (f b : Bool) → (if f then false else b) ≡ true → b ≡ true
+plain_starts true b h = absurd (both_ways _ refl h)
+plain_starts false b h = h
+
+word_low : (word : List ℕ) → is_plain_word word ≡ true → encode_utf8_all word ≡ word
+word_low [] plain = refl
+word_low (c ∷ cs) plain = (low_encodes is_low (c ∷ cs) low_is (prefix_low (c ∷ cs) (plain_starts _ _ plain))).0
+
+begins_after : (q : ℕ) (word : List ℕ) → is_quote q ≡ true → is_plain_word word ≡ true → StringBegins q start word 0 []
+begins_after q [] quote plain = record {
+  held = q ∷ [];
+  come = record {
+    start = begun_sound 1;
+    steps = begun (line_start modes.Free) q [] [] _ (stops-free (q ∷ [])) (start-quote q quote);
+    stacked = refl;
+    one_line = tt;
+    holds = holds_one [] q 0 (record { scalars = refl; count = refl }) (quote_ascii q quote) (quote-no_break q quote);
+  };
+  unreturned = one_unreturned [] q (quote-no_break q quote);
+}
+begins_after q (c ∷ cs) quote plain =
+    let on = in_prefix c cs (plain_starts _ _ plain) in
+    after_word q quote (spelling_on (first_spelling c) cs) start (c ∷ cs) 0 [] plain on
+
+-- a string that was passed after its prefix, or with none, from where it begins so
+string_taken : {begins : BeforePiece → List ℕ → ℕ → List Bracket → Type 0} (bytes : List ℕ) (n : ℕ) (p : Passed) → n ≤ length bytes → 2 < p.len → encode_utf8_all (take n bytes) ≡ take n bytes
+    → PassesString begins (drop n bytes) p → begins start (take n bytes) 0 [] → IsFirstString bytes (string_piece (n + p.len) p.line_ends)
+string_taken {begins} bytes n p within some low has begun q string_is first =
+    let word = take n bytes in
+    let rest = drop n bytes in
+    let after = drop p.len rest in
+    let is : Passes rest p begins HasClosedString = subst (λ (b : Bool). Passes rest p begins (StringEnds b after)) (lt-ltb 2 p.len some) has in
+    let whole = word ++ is.part.run in
+    let ended = is.part.leads start word 0 [] begun in
+    let encodes : encode_utf8_all whole ≡ word ++ take p.len rest
+    = encodes-append word is.part.run ∙ ap (λ t. t ++ encode_utf8_all is.part.run) low ∙ ap (λ t. word ++ t) is.part.spell in
+    let spell : encode_utf8_all whole ++ after ≡ bytes
+    = ap (λ t. t ++ after) encodes ∙ append_assoc word (take p.len rest) after
+    ∙ ap (λ t. word ++ t) (take-append-drop p.len rest) ∙ take-append-drop n bytes in
+    let b = begins_string bytes q string_is first in
+    let (y, cut, spells) = prefix_chars whole (q.text ++ b.more) after (b.spell ∙ sym spell) in
+    let size : byte_len whole ≡ n + p.len
+    = ap length encodes ∙ omega (arith, length-append word (take p.len rest), length-take-le n bytes within, length-take-le p.len rest is.part.within) in
+    let same : whole ≡ q.text
+    = whole_read b whole y (fresh (piece string ended.text ∷ [])) cut ended.come.steps ended.come.stacked (omega arith)
+    (omega (arith, size, some)) (free_stops modes.Free y refl) in
+    record {
+      role = ap (λ k. role_of k q.text) (sym string_is);
+      len = sym size ∙ ap byte_len same;
+      line_ends = omega (arith, ap line_ends same, ended.come.holds.count);
+    }
+
+pub plain_taken : (bytes : List ℕ) (n : ℕ) (p : Passed) → begins is_quote (drop n bytes) ≡ true
+    → is_plain_word (take n bytes) ≡ true → 2 < p.len → HasString (drop n bytes) (Some p)
+    → IsFirstString bytes (string_piece (n + p.len) p.line_ends)
+plain_taken bytes n p quotes plain some has =
+    string_taken bytes n p (quote_within bytes n quotes) some (word_low (take n bytes) plain) has
+    (begins_after (slice_index (drop n bytes) 0) (take n bytes) (first_byte is_quote (drop n bytes) quotes) plain)
+
+-- one with fields
+pub fields_taken : (bytes : List ℕ) (n len : ℕ) → 0 < n → ends_prefix bytes n ≡ true
+    → is_field_spelling (word_spelling (take n bytes)) ≡ true → IsQuotedText (drop n bytes) len → IsFirstString bytes (token_piece kind.Str (n + len))
+fields_taken bytes n len some told field is =
+    let (quotes, begun) = and_parts (begins is_quote (drop n bytes)) (opens_string (word_spelling (take n bytes))) told in
+    let within = quote_within bytes n quotes in
+    let low = (low_encodes is_low (take n bytes) low_is (prefix_low (take n bytes) begun)).0 in
+    let on = by (take n bytes) (omega (arith, some, length-take-le n bytes within)) begun in
+    string_taken bytes n (record { len = len; line_ends = 0 }) within (fields_some (drop n bytes) len is) low
+    (fields_passed (drop n bytes) len (word_spelling (take n bytes)) field is) (omega arith, on)
+  where
+    by : (word : List ℕ) → 0 < length word → opens_string (word_spelling word) ≡ true → IsInPieceAfter (modes.Word (word_spelling word)) start word 0 []
+    by [] some begun = absurd (omega (arith, some))
+    by (c ∷ cs) some begun = in_prefix c cs begun

@@ -1,5 +1,5 @@
 -- The tokens of a whole logical line, which are read from its text alone.
-use Rattle.std.specs.Prelude.{◌≡◌, ℕ, ◌+◌, ◌&&◌, Bool, true, false, Some, List, [], ◌∷◌, ◌++◌, if◌then◌else◌, encode_utf8_all, take, drop, nat_eq}
+use Rattle.std.specs.Prelude.{◌≡◌, ℕ, ◌+◌, ◌≤◌, ◌&&◌, Bool, true, false, Some, List, [], ◌∷◌, ◌++◌, if◌then◌else◌, encode_utf8_all, take, drop, nat_eq}
 use Rattle.std.specs.List.{starts_with}
 use Rattle.std.specs.Str.{all_scalars}
 use Rattle.py_lines.specs.Character.{is_digit, is_line_feed, is_quote, is_return}
@@ -40,9 +40,13 @@ pub record BeginWithPiece (bytes : List ℕ) (p : Piece) : Type 0 where
   pub depth : ℕ
   pub text : AreTextAt depth bytes (p ∷ others)
 
+-- the kind of a word, by whether it begins with a digit
+abbrev pub word_kind : Bool → TokKind
+word_kind digit = if digit then kind.Number else kind.Name
+
 -- what a piece is to its line
 abbrev pub role_of : Class → List ℕ → Role
-role_of word text = roles.Token (if begins is_digit text then kind.Number else kind.Name)
+role_of word text = roles.Token (word_kind (begins is_digit text))
 role_of string text = roles.Token kind.Str
 role_of operator text = roles.Token (kind.Op (first_or_zero text))
 role_of comment text = roles.Token kind.Remark
@@ -127,21 +131,25 @@ pub record AddsPiece (old : LineTokens) (piece : LinePiece) (start line : ℕ) (
   pub indent : new.indent ≡ old.indent
   pub tokens : new.tokens.items ≡ old.tokens.items ++ token_in piece.role start (start + piece.len) line
 
--- the first of the pieces were read, up to this byte of the line, which is on this line of the text
-pub record HaveReadOf (pieces : List Piece) (first start line : ℕ) (t : LineTokens) : Type 0 where
-  pub done : List Piece
-  pub others : List Piece
-  pub are : pieces ≡ done ++ others
-  pub unmarked : begins_marked others ≡ false
-  pub place : start ≡ byte_len (spelled done)
-  pub number : line ≡ first + line_ends (spelled done)
-  pub kind : t.kind ≡ kind_of done
+-- what it holds with these pieces more
+abbrev pub kind_on : UnitKind → List Piece → UnitKind
+kind_on old [] = old
+kind_on old (p ∷ ps) = kind_on (kind_with old (role_of p.class p.text)) ps
+
+-- the first of the pieces were read, up to this byte of the line, which is on this line of the text, and these are left
+pub record HaveReadOf (text : List ℕ) (pieces left : List Piece) (first start line : ℕ) (t : LineTokens) : Type 0 where
+  pub unmarked : begins_marked left ≡ false
+  pub depth : ℕ
+  pub are : AreTextAt depth (drop start text) left
+  pub number : line ≤ first + start
+  pub kind : kind_of pieces ≡ kind_on t.kind left
   pub indent : t.indent ≡ indent_of pieces
-  pub tokens : t.tokens.items ≡ tokens_from 0 first done
+  pub tokens : tokens_from 0 first pieces ≡ t.tokens.items ++ tokens_from start line left
 
 -- so for all pieces of a line of this text
 abbrev pub HaveRead : List ℕ → ℕ → ℕ → ℕ → LineTokens → Type 0
-HaveRead text first start line t = (pieces : List Piece) → AreLineText text pieces → HaveReadOf pieces first start line t
+HaveRead text first start line t =
+    (pieces : List Piece) → AreLineText text pieces → (left : List Piece) × HaveReadOf text pieces left first start line t
 
 -- the text is that of a line
 abbrev pub IsLineText : List ℕ → Type 0

@@ -3,7 +3,7 @@ use Rattle.py_lines.specs.Private.LineTokens.{IsFirstString}
 use Rattle.py_lines.specs.Private.ScanMachine.{is_field_spelling}
 use Rattle.py_lines.specs.Private.FieldText.{IsQuotedText}
 use Rattle.py_lines.proofs.FieldScans.TextLengths.{rest_is}
-use Rattle.py_lines.proofs.LineTokens.WholeStrings.{fields_taken, quote_of_rest, plain_word}
+use Rattle.py_lines.proofs.LineTokens.Strings.{fields_taken, quote_of_rest, plain_word}
 use Rattle.py_lines.proofs.line_tokens.prefixed_string.Goals as goal
 use Rattle.std.proofs.lemmas.Bool.{and_parts}
 

@@ -1,7 +1,7 @@
 use Rattle.std.proofs.Common.{ℕ, List, Some, subst}
 use Rattle.py_lines.specs.Private.Outline.{HasString}
 use Rattle.py_lines.proofs.FieldScans.TextLengths.{rest_is}
-use Rattle.py_lines.proofs.LineTokens.WholeStrings.{plain_taken, quote_of_rest}
+use Rattle.py_lines.proofs.LineTokens.Strings.{plain_taken, quote_of_rest}
 use Rattle.py_lines.proofs.line_tokens.string.Goals as goal
 
 pub plain_string-requires-clause-quote : goal.plain_string-requires-clause-quote

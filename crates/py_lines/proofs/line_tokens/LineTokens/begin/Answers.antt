@@ -5,7 +5,7 @@ use Rattle.py_lines.specs.declared.line_tokens.LineTokens.{LineTokens}
 use Rattle.py_lines.specs.declared.unit.UnitKind.TheVariants as unit_kind
 use Rattle.py_lines.specs.Private.Run.{IsRunOf}
 use Rattle.py_lines.specs.Private.LineTokens.{HaveRead}
-use Rattle.py_lines.proofs.LineTokens.LineStarts.{begun}
+use Rattle.py_lines.proofs.LineTokens.Lines.{begun}
 use Rattle.py_lines.proofs.line_tokens.LineTokens.begin.Goals as goal
 
 pub returns : goal.returns

@@ -1,5 +1,5 @@
 use Rattle.std.proofs.Common.{length}
-use Rattle.py_lines.proofs.LineTokens.StringScans.{InFirst}
+use Rattle.py_lines.proofs.LineTokens.Strings.{InFirst}
 use Rattle.py_lines.proofs.scan.Scan.take_first.Given as goal
 
 abbrev pub invariant-characters : goal.invariant-characters
