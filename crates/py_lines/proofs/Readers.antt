@@ -1,5 +1,4 @@
 -- What the reader of logical lines answers, from one state to the next.
-pub mod StateFaults
 pub mod LineFaults
 pub mod LineAnswers
 pub mod PassedLines
