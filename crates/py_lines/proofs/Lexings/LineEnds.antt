@@ -87,26 +87,6 @@ ended_reading base rest fit balanced shallow ended = record { reads = record { s
     alone (inl none) = subst (λ l. AreReadBefore l []) (sym none) tt
     alone (inr (body, last, is, class, deep)) = subst (λ l. AreReadBefore l []) (sym is) (read-alone body last rest class (subst (λ l. AreReadBefore l rest) is fit))
 
--- two lists that are one list together
-pub data Split (xs ys zs : List Piece) (w : Piece) (ws : List Piece) : Type 0 where
-  in_second : (k : List Piece) → zs ≡ xs ++ k → ys ≡ k ++ w ∷ ws → Split xs ys zs w ws
-  in_first : (k : List Piece) → xs ≡ zs ++ w ∷ k → ws ≡ k ++ ys → Split xs ys zs w ws
-
-pub split : (xs ys zs : List Piece) (w : Piece) (ws : List Piece) → xs ++ ys ≡ zs ++ w ∷ ws → Split xs ys zs w ws
-split [] ys zs w ws same = Split.in_second zs refl same
-split (x ∷ xs) ys [] w ws same =
-    let first : x ≡ w = cc in
-    let later : xs ++ ys ≡ ws = cc in
-    Split.in_first xs (ap (λ p. p ∷ xs) first) (sym later)
-split (x ∷ xs) ys (z ∷ zs) w ws same =
-    let first : x ≡ z = cc in
-    let later : xs ++ ys ≡ zs ++ w ∷ ws = cc in
-    go first (split xs ys zs w ws later)
-  where
-    go : x ≡ z → Split xs ys zs w ws → Split (x ∷ xs) ys (z ∷ zs) w ws
-    go first (Split.in_second k one two) = Split.in_second k (ap (λ p. p ∷ zs) (sym first) ∙ ap (λ l. x ∷ l) one) two
-    go first (Split.in_first k one two) = Split.in_first k (ap (λ p. p ∷ xs) first ∙ ap (λ l. z ∷ l) one) two
-
 -- a line end at depth 0 stands in no such pieces
 pub no_end_in : (d : ℕ) (k : List Piece) (w : Piece) (ws : List Piece) → EndsNoLine d (k ++ w ∷ ws) → depth_through d k ≡ 0 → w.class ≡ line_end → ⊥
 no_end_in d [] w ws none deep is = both_ways _ none.0 (and_from _ _ (ap is_line_end_class is) (eq-eqb d 0 deep))

@@ -31,7 +31,7 @@ use Rattle.py_lines.proofs.Lexings.Existence.{reading_live}
 use Rattle.py_lines.specs.PieceGrammar.{IsLineEnd, feed, return_feed, return}
 use Rattle.py_lines.specs.Fields.{InClass, AreReadBefore}
 use Rattle.py_lines.specs.Settled.{EndsForGood, IsSettledPrefix}
-use Rattle.py_lines.proofs.Lexings.LineEnds.{Split, split, no_end_in, depth_prefix, length_line, return_returns, none_both}
+use Rattle.py_lines.proofs.Lexings.LineEnds.{no_end_in, depth_prefix, length_line, return_returns, none_both}
 use Rattle.py_lines.proofs.Lexings.SettledLines.{ends-append, ends-line}
 
 -- a line end that the machine has found stays, though CR may get LF after it
@@ -93,16 +93,26 @@ reading_stays pieces more before s body last steps spell reading is class =
     let same = same_state (spelled pieces) through.0 found.to through.1 found.steps in
     line_stays found.to.mode found.to.done found.to.held more s body last (ap (λ (t : Scanned). scan_steps (Some t) more) (sym same) ∙ through.2) (found.pieces_are ∙ is) class
 
+-- where a list begins with another, what follows that
+second_is : (xs ys zs k ws : List Piece) → xs ++ ys ≡ zs ++ ws → zs ≡ xs ++ k → ys ≡ k ++ ws
+second_is xs ys zs k ws same is = append_cancel_left xs ys (k ++ ws) (same ∙ ap (λ l. l ++ ws) is ∙ append_assoc xs k ws)
+
 -- no line end stays after a prefix after which none ends a line
 pub within : (prefix others rivals body : List Piece) (last : Piece) (all : List Piece) → all ≡ prefix ++ others → EndsLine prefix → EndsNoLine 0 others → rivals ≡ body ++ last ∷ [] → depth_through 0 body ≡ 0 → Stays body last all → length (spelled rivals) ≤ length (spelled prefix)
-within prefix others rivals body last all pieces ended none is deep stays = go (split prefix others body stays.line stays.others (sym pieces ∙ stays.is))
+within prefix others rivals body last all pieces ended none is deep stays = go (either prefix others body (stays.line ∷ stays.others) same)
   where
-    go : Split prefix others body stays.line stays.others → length (spelled rivals) ≤ length (spelled prefix)
-    go (Split.in_second k one two) =
+    same : prefix ++ others ≡ body ++ stays.line ∷ stays.others
+    same = sym pieces ∙ stays.is
+
+    go : Either prefix body (stays.line ∷ stays.others) → length (spelled rivals) ≤ length (spelled prefix)
+    go (Either.shorter k one) =
+        let two = second_is prefix others body k (stays.line ∷ stays.others) same one in
         let level : depth_through 0 k ≡ 0 = ap (λ (d : ℕ). depth_through d k) (sym (depth_prefix prefix ended)) ∙ sym (depth_through-append 0 prefix k) ∙ ap (depth_through 0) (sym one) ∙ deep in
         absurd (no_end_in 0 k stays.line stays.others (subst (EndsNoLine 0) two none) level stays.class)
-    go (Split.in_first k one two) =
-        let mine : length (spelled prefix) ≡ length (spelled body) + (length stays.line.text + length (spelled k)) = ap (λ l. length (spelled l)) one ∙ length_line body stays.line k in
+    go (Either.longer p k after one two) =
+        let line : p ≡ stays.line = cc in
+        let whole = one ∙ ap (λ q. body ++ q ∷ k) line in
+        let mine : length (spelled prefix) ≡ length (spelled body) + (length stays.line.text + length (spelled k)) = ap (λ l. length (spelled l)) whole ∙ length_line body stays.line k in
         let theirs : length (spelled rivals) ≡ length (spelled body) + (length last.text + 0) = ap (λ l. length (spelled l)) is ∙ length_line body last [] in
         omega (arith, mine, theirs, stays.longer)
 
@@ -168,11 +178,18 @@ settled_at characters tail s st base others rest steps pieces reading good yet s
     bounded : (rivals : List Piece) (after : List ℕ) (body : List Piece) (last : Piece) → spelled rivals ++ after ≡ characters → rivals ≡ body ++ last ∷ [] → IsBalancedReading rivals (spelled rivals) → last.class ≡ line_end → depth_through 0 body ≡ 0 → (after ++ tail ≡ [] → ends is_return (spelled rivals) ≡ false) → Stays body last (pieces_at s) → EndsNoneYet others tail → length (spelled rivals) ≤ length (spelled base)
     bounded rivals after body last spells is reads class deep settles stays (EndsNoneYet.none free) = within base others rivals body last (pieces_at s) pieces good.0 free is deep stays
     bounded rivals after body last spells is reads class deep settles stays (EndsNoneYet.by_return local text split_at free cr bare) =
-        go (split (base ++ local) (piece line_end text ∷ []) body stays.line stays.others (append_assoc base local (piece line_end text ∷ []) ∙ ap (λ l. base ++ l) (sym split_at) ∙ sym pieces ∙ stays.is))
+        go (either (base ++ local) (piece line_end text ∷ []) body (stays.line ∷ stays.others) same)
       where
-        go : Split (base ++ local) (piece line_end text ∷ []) body stays.line stays.others → length (spelled rivals) ≤ length (spelled base)
-        go (Split.in_first k one two) = within base local rivals body last (base ++ local) refl good.0 free is deep (record { line = stays.line; others = k; is = one; class = stays.class; longer = stays.longer })
-        go (Split.in_second k one two) =
+        same : (base ++ local) ++ piece line_end text ∷ [] ≡ body ++ stays.line ∷ stays.others
+        same = append_assoc base local (piece line_end text ∷ []) ∙ ap (λ l. base ++ l) (sym split_at) ∙ sym pieces ∙ stays.is
+
+        go : Either (base ++ local) body (stays.line ∷ stays.others) → length (spelled rivals) ≤ length (spelled base)
+        go (Either.longer p k others_after one two) =
+            let line : p ≡ stays.line = cc in
+            let found = one ∙ ap (λ q. body ++ q ∷ k) line in
+            within base local rivals body last (base ++ local) refl good.0 free is deep (record { line = stays.line; others = k; is = found; class = stays.class; longer = stays.longer })
+        go (Either.shorter k one) =
+            let two = second_is (base ++ local) (piece line_end text ∷ []) body k (stays.line ∷ stays.others) same one in
             let (line, nothing) = one_of (piece line_end text) stays.line k stays.others two in
             absurd (at_return rivals after body last stays.line spells is reads class settles (stays.is ∙ ap (λ l. body ++ stays.line ∷ l) nothing) (ap (λ (p : Piece). p.text) line ∙ cr) bare)
 

@@ -3,11 +3,11 @@ use Rattle.std.proofs.Common.{◌≡◌, ℕ, List, [], ◌∷◌, ◌++◌, ref
 use Rattle.std.proofs.lemmas.List.{append_cancel_left}
 
 -- two prefixes of one text
-pub data Either (xs zs ws : List ℕ) : Type 0 where
-  shorter : (k : List ℕ) → zs ≡ xs ++ k → Either xs zs ws
-  longer : (c : ℕ) (k : List ℕ) (after : List ℕ) → xs ≡ zs ++ c ∷ k → ws ≡ c ∷ after → Either xs zs ws
+pub data Either {A : Type 0} (xs zs ws : List A) : Type 0 where
+  shorter : (k : List A) → zs ≡ xs ++ k → Either xs zs ws
+  longer : (c : A) (k : List A) (after : List A) → xs ≡ zs ++ c ∷ k → ws ≡ c ∷ after → Either xs zs ws
 
-pub either : (xs ys zs ws : List ℕ) → xs ++ ys ≡ zs ++ ws → Either xs zs ws
+pub either : {A : Type 0} (xs ys zs ws : List A) → xs ++ ys ≡ zs ++ ws → Either xs zs ws
 either [] ys zs ws same = Either.shorter zs refl
 either (x ∷ xs) ys [] ws same = Either.longer x xs (xs ++ ys) refl (sym same)
 either (x ∷ xs) ys (z ∷ zs) ws same =
