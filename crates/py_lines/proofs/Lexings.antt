@@ -2,7 +2,6 @@
 pub mod Prefixes
 pub mod LineEnds
 pub mod LinePrefix
-pub mod Uniqueness
 pub mod Existence
 pub mod SettledLines
 pub mod FirstLines

@@ -19,7 +19,7 @@ use Rattle.py_lines.proofs.Faults.FaultPrefixes.{field_fault_prefix, undecodable
 use Rattle.py_lines.proofs.Text.Decoding.{decoded}
 use Rattle.py_lines.proofs.Lexings.Existence.{IsLineOf, lexical, reading_live}
 use Rattle.py_lines.proofs.Lexings.LineEnds.{none_both}
-use Rattle.py_lines.proofs.Lexings.Uniqueness.{same_fault}
+use Rattle.py_lines.proofs.Lexings.Prefixes.{same_fault}
 
 -- the fault of a text that dies at a character stays where it is
 goes_on_faulty : (kind : FaultKind) (characters rest : List ℕ) (offset : ℕ) → IsCharacterFault kind characters offset → IsCharacterFault kind (characters ++ rest) offset

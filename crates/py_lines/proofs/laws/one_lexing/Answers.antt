@@ -1,5 +1,4 @@
-use Rattle.py_lines.proofs.Lexings.Prefixes.{some_lexing_of}
-use Rattle.py_lines.proofs.Lexings.Uniqueness.{both_of}
+use Rattle.py_lines.proofs.Lexings.Prefixes.{both_of, some_lexing_of}
 use Rattle.py_lines.proofs.laws.one_lexing.Goals as goal
 
 pub returns-clause-some : goal.returns-clause-some

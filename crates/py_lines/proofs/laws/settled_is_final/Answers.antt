@@ -1,7 +1,6 @@
 use Rattle.py_lines.proofs.Lexings.DecidedFaults.{decided_fault, decided_lexing}
-use Rattle.py_lines.proofs.Lexings.Prefixes.{some_settled}
+use Rattle.py_lines.proofs.Lexings.Prefixes.{one_settled, some_settled}
 use Rattle.py_lines.proofs.Lexings.FirstLines.{settled_begin, settled_before_settled, settled_begin_first}
-use Rattle.py_lines.proofs.Lexings.Uniqueness.{one_settled}
 use Rattle.py_lines.proofs.laws.settled_is_final.Goals as goal
 
 pub returns-clause-some : goal.returns-clause-some
