@@ -2,7 +2,6 @@
 pub mod CharacterTests
 pub mod Utf8Prefixes
 pub mod Decoding
-pub mod Continued
 pub mod Utf8Shapes
 pub mod FirstCharacters
 pub mod Incomplete

@@ -16,8 +16,7 @@ use Rattle.py_lines.specs.Private.Machine.{Scanned, Bracket, brackets_of}
 use Rattle.py_lines.specs.Private.ScanMachine.{StringsFit}
 use Rattle.py_lines.specs.Private.Scan.{line_start}
 use Rattle.py_lines.specs.Private.LineState.{first_mode}
-use Rattle.py_lines.proofs.Text.Continued.{goes_on}
-use Rattle.py_lines.proofs.Text.Utf8Prefixes.{all_scalars-parts, all_scalars-append}
+use Rattle.py_lines.proofs.Text.Utf8Prefixes.{goes_on, all_scalars-parts, all_scalars-append}
 use Rattle.py_lines.proofs.LogicalLines.NextLine.{lines_of-push}
 use Rattle.py_lines.proofs.Pieces.OpenBrackets.{stack-from_balanced}
 use Rattle.py_lines.proofs.Pieces.ShallowPieces.{brackets_shallow, strings_shallow}

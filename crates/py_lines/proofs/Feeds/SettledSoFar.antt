@@ -21,8 +21,7 @@ use Rattle.py_lines.specs.declared.mode.Mode.{Mode}
 use Rattle.py_lines.specs.declared.mode.Mode.TheVariants as modes
 use Rattle.std.proofs.Math.Utf8.{low_scalar}
 use Rattle.py_lines.proofs.Text.CharacterTests.{return_is, feed_is}
-use Rattle.py_lines.proofs.Text.Continued.{goes_on}
-use Rattle.py_lines.proofs.Text.Utf8Prefixes.{all_scalars-append, nothing_bad}
+use Rattle.py_lines.proofs.Text.Utf8Prefixes.{goes_on, all_scalars-append, nothing_bad}
 use Rattle.py_lines.proofs.Text.Utf8Shapes.{no_char}
 use Rattle.py_lines.proofs.LogicalLines.NextLine.{texts, texts-lines}
 use Rattle.py_lines.proofs.Lexings.LinePrefix.{EndsNoneYet, settled_at, settled_line}
@@ -66,7 +65,7 @@ module _ (text : List ℕ) (place line : ℕ) (lines : List LogicalLine) (read r
 
 -- a byte of a longer character begins none alone
 wide_alone : (b : ℕ) → 128 ≤ b → StartsWithNoChar (b ∷ [])
-wide_alone b wide = no_char (b ∷ []) (λ g. let t = g.second wide in omega arith)
+wide_alone b wide = no_char (b ∷ []) (λ n within g. omega arith)
 
 no_feed : (c : ℕ) → (c ≡ 10 → ⊥) → is_line_feed c ≡ false
 no_feed c h = false_from_ne_true _ (λ feeds. h (feed_is c feeds))

@@ -11,7 +11,7 @@ use Rattle.py_lines.specs.Settled.{StaysFaulty, Decides}
 use Rattle.py_lines.specs.declared.fault.FaultKind.{FaultKind}
 use Rattle.py_lines.specs.declared.fault.FaultKind.TheVariants as faults
 use Rattle.py_lines.specs.declared.fault.Fault.{Fault}
-use Rattle.py_lines.proofs.Text.Continued.{goes_on}
+use Rattle.py_lines.proofs.Text.Utf8Prefixes.{goes_on}
 use Rattle.py_lines.proofs.Text.Decoding.{decoding}
 use Rattle.py_lines.proofs.Text.Splits.{Either, either}
 use Rattle.py_lines.proofs.FieldSoundness.LiveTexts.{live_before}

@@ -1,29 +1,23 @@
 -- Each list of bytes is the UTF-8 of some characters, and then bytes that begin no character.
 use Rattle.std.proofs.Common.{◌≡◌, ℕ, zero, suc, ◌<◌, ◌≤◌, Bool, true, false, List, ◌++◌, length, take, drop, refl, sym, ap, ◌∙◌, subst, ⊎_elim, arith, take-append-drop}
 use Rattle.std.specs.Str.{IsUtf8, is_utf8}
-use Rattle.std.proofs.lemmas.Bool.{cases_lt, both_ways}
+use Rattle.std.proofs.lemmas.Bool.{cases_lt, cases_Bool, both_ways}
 use Rattle.std.proofs.lemmas.Str.{IsUtf8-nil, IsUtf8-from_is_utf8, is_utf8-from_IsUtf8}
 use Rattle.py_lines.specs.Reading.{Decodes}
 use Rattle.py_lines.proofs.Text.Utf8Prefixes.{NoneLonger, opening_text, one_decoding}
 
--- if a prefix isn't UTF-8 and none longer is, then none longer than the next shorter one is
-none_from : (bytes : List ℕ) (most : ℕ) → is_utf8 (take (suc most) bytes) ≡ false → NoneLonger bytes (suc most) → NoneLonger bytes most
-none_from bytes most is none m above within utf8 =
+-- the longest prefix that is UTF-8: if one isn't and none longer is, then none longer than the next shorter one is
+longest : (bytes : List ℕ) (most : ℕ) → NoneLonger bytes most → (n : ℕ) × (IsUtf8 (take n bytes)) × NoneLonger bytes n
+longest bytes zero none = (0, IsUtf8-nil, none)
+longest bytes (suc most) none =
     ⊎_elim
+    (λ is. (suc most, IsUtf8-from_is_utf8 _ is, none))
+    (λ is_not. longest bytes most (λ m above within utf8. ⊎_elim
     (λ (more : suc most < m). none m more within utf8)
     (λ (no_more : m ≤ suc most).
     let same : m ≡ suc most = omega arith in
-    both_ways _ is (is_utf8-from_IsUtf8 _ (subst (λ (k : ℕ). IsUtf8 (take k bytes)) same utf8)))
-    (cases_lt (suc most) m)
-
--- the longest prefix that is UTF-8
-longest : (bytes : List ℕ) (most : ℕ) → NoneLonger bytes most → (n : ℕ) × (IsUtf8 (take n bytes)) × NoneLonger bytes n
-longest bytes zero none = (0, IsUtf8-nil, none)
-longest bytes (suc most) none = go (is_utf8 (take (suc most) bytes)) refl (λ is. longest bytes most (none_from bytes most is none))
-  where
-    go : (b : Bool) → is_utf8 (take (suc most) bytes) ≡ b → (is_utf8 (take (suc most) bytes) ≡ false → (n : ℕ) × (IsUtf8 (take n bytes)) × NoneLonger bytes n) → (n : ℕ) × (IsUtf8 (take n bytes)) × NoneLonger bytes n
-    go true is shorter = (suc most, IsUtf8-from_is_utf8 _ is, none)
-    go false is shorter = shorter is
+    both_ways _ is_not (is_utf8-from_IsUtf8 _ (subst (λ (k : ℕ). IsUtf8 (take k bytes)) same utf8))) (cases_lt (suc most) m)))
+    (cases_Bool (is_utf8 (take (suc most) bytes)))
 
 -- what a text decodes to
 pub record Decoding (text : List ℕ) : Type 0 where

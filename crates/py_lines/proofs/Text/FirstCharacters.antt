@@ -1,4 +1,5 @@
 -- The character that bytes begin with.
+use Rattle.std.proofs.lemmas.Bool.Decides.{nat_tests}
 use Rattle.std.proofs.Common.{◌≡◌, ◌==◌, false, ℕ, ◌+◌, ◌<◌, ◌≤◌, Option, None, Some, List, [], ◌∷◌, ◌++◌, length, take, drop, slice_get, slice_index, refl, sym, ap, ◌∙◌, subst, append_assoc, arith, length-append, length-take-le, take-append-drop}
 use Rattle.std.specs.Prelude.{min, encode_utf8, IsUtf8, MatchOption}
 use Rattle.std.specs.Str.{StartsWithNoChar, IsValidUpTo, all_scalars}
@@ -11,31 +12,15 @@ use Rattle.std.proofs.lemmas.Str.{cons_from_encodes, encode_ascii, length-encode
 use Rattle.std.proofs.Math.Seq.{take-append_seam, drop-append_seam}
 use Rattle.py_lines.specs.Private.Run.{BeginsWith}
 use Rattle.py_lines.proofs.Text.Utf8Prefixes.{nothing_bad}
-use Rattle.py_lines.proofs.Text.Utf8Shapes.{Utf8Shape, shape}
+use Rattle.py_lines.proofs.Text.Utf8Shapes.{by_size}
 
 -- what the first byte of a character tells of their number
-pub record Encoded (c first : ℕ) : Type 0 where
-  pub one : first < 128 → length (encode_utf8 c) ≡ 1
-  pub two : 128 ≤ first → first < 224 → length (encode_utf8 c) ≡ 2
-  pub three : 224 ≤ first → first < 240 → length (encode_utf8 c) ≡ 3
-  pub four : 240 ≤ first → length (encode_utf8 c) ≡ 4
+abbrev Tell : ℕ → ℕ → Type 0
+Tell first n = (first < 128 → n ≡ 1) × (128 ≤ first → first < 224 → n ≡ 2) × (224 ≤ first → first < 240 → n ≡ 3) × (240 ≤ first → n ≡ 4)
 
-pub encoded : (c first : ℕ) → IsScalar c → first ≡ slice_index (encode_utf8 c) 0 → Encoded c first
-encoded c first scalar is = go (shape c (scalar_cases c scalar))
-  where
-    go : Utf8Shape c → Encoded c first
-    go (Utf8Shape.of1 l e) =
-        let same : first ≡ c = is ∙ ap (λ t. slice_index t 0) e in
-        record { one = λ h. ap length e; two = λ h k. absurd (omega (arith, same, l, h)); three = λ h k. absurd (omega (arith, same, l, h)); four = λ h. absurd (omega (arith, same, l, h)) }
-    go (Utf8Shape.of2 a b l u f s least e) =
-        let same : first ≡ a = is ∙ ap (λ t. slice_index t 0) e in
-        record { one = λ h. absurd (omega (arith, same, l, h)); two = λ h k. ap length e; three = λ h k. absurd (omega (arith, same, u, h)); four = λ h. absurd (omega (arith, same, u, h)) }
-    go (Utf8Shape.of3 a b d l u f g s least e) =
-        let same : first ≡ a = is ∙ ap (λ t. slice_index t 0) e in
-        record { one = λ h. absurd (omega (arith, same, l, h)); two = λ h k. absurd (omega (arith, same, l, k)); three = λ h k. ap length e; four = λ h. absurd (omega (arith, same, u, h)) }
-    go (Utf8Shape.of4 a b d x l u f g h s least e) =
-        let same : first ≡ a = is ∙ ap (λ t. slice_index t 0) e in
-        record { one = λ h. absurd (omega (arith, same, l, h)); two = λ h k. absurd (omega (arith, same, l, k)); three = λ h k. absurd (omega (arith, same, l, k)); four = λ h. ap length e }
+pub encoded : (c : ℕ) → Tell (slice_index (encode_utf8 c) 0) (len_utf8 c)
+encoded c = subst (λ (n : ℕ). Tell (slice_index (encode_utf8 c) 0) n) (length-encode c)
+    (by_size (λ bytes. Tell (slice_index bytes 0) (length bytes)) c (λ h. omega arith) (λ l h. omega arith) (λ l h. omega arith) (λ l. omega arith))
 
 -- the bytes after the character don't matter
 pub begins_with : (bytes rest : List ℕ) (c : ℕ) → IsScalar c → bytes ≡ encode_utf8 c ++ rest → BeginsWith bytes c
@@ -53,8 +38,7 @@ ascii_begins [] some low = absurd (omega (arith, some))
 ascii_begins (b ∷ bs) some low = begins_with (b ∷ bs) bs b (low_scalar b (omega (arith, low))) (ap (λ t. t ++ bs) (sym (encode_ascii b low)))
 
 pub some_bytes : (bytes : List ℕ) → length bytes == 0 ≡ false → 0 < length bytes
-some_bytes [] none = absurd (both_ways _ none refl)
-some_bytes (b ∷ bs) none = omega arith
+some_bytes bytes none = grind (arith, nat_tests)
 
 -- the number of bytes that the first byte tells
 abbrev pub Tells : List ℕ → ℕ → Type 0

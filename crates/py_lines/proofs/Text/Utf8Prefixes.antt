@@ -73,6 +73,20 @@ joined_prefix bytes n v prefix longest =
       bad = subst StartsWithNoChar (drop-drop v n bytes) (opening_text (drop n bytes) v rest.front (λ m more within. rest.longest m more));
     }
 
+-- of a text that goes on, what its characters are after those that were known, and what is left
+pub record IsContinued (prefix x all t : List ℕ) : Type 0 where
+  pub rest : List ℕ
+  pub split : all ≡ prefix ++ rest
+  pub left : encode_utf8_all rest ++ t ≡ x
+
+pub goes_on : (prefix x all t : List ℕ) → all_scalars prefix ≡ true → all_scalars all ≡ true → StartsWithNoChar t → encode_utf8_all prefix ++ x ≡ encode_utf8_all all ++ t → IsContinued prefix x all t
+goes_on [] x all t fine are bad e = record { rest = all; split = refl; left = sym e }
+goes_on (c ∷ cs) x [] t fine are bad e = absurd (bad c (encode_utf8_all cs ++ x) (and_parts _ _ fine).0 (sym e ∙ append_assoc (encode_utf8 c) (encode_utf8_all cs) x))
+goes_on (c ∷ cs) x (d ∷ ds) t fine are bad e =
+    let heads = encode_same c d (encode_utf8_all cs ++ x) (encode_utf8_all ds ++ t) (sym (append_assoc (encode_utf8 c) (encode_utf8_all cs) x) ∙ e ∙ append_assoc (encode_utf8 d) (encode_utf8_all ds) t) in
+    let others = goes_on cs x ds t (and_parts _ _ fine).1 (and_parts _ _ are).1 bad heads.1 in
+    record { rest = others.rest; split = λ i. sym heads.0 i ∷ others.split i; left = others.left }
+
 -- a text has one split into characters and bytes that begin with none
 pub one_decoding : (a b s t : List ℕ) → all_scalars a ≡ true → all_scalars b ≡ true → StartsWithNoChar s → StartsWithNoChar t → encode_utf8_all a ++ s ≡ encode_utf8_all b ++ t → (a ≡ b) × (s ≡ t)
 one_decoding [] [] s t are ares bad worse e = (refl, e)
