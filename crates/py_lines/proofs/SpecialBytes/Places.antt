@@ -1,13 +1,15 @@
 -- The marks of a text after some of it is passed.
+use Rattle.std.proofs.lemmas.Bool.Decides.{nat_tests}
 use Rattle.std.proofs.Common.{◌≡◌, ℕ, ◌+◌, ◌-◌, ◌*◌, ◌%◌, ◌^◌, ◌<◌, ◌≤◌, true, false, not, ◌&&◌, eqb, leb, ltb, List, length, slice_index, bit_and, bit_or, refl, sym, ap, ◌∙◌, inl, inr, arith, w64, ◌++◌, drop, replicate}
 use Rattle.std.specs.Int.{bit_at, trailing_zeros}
 use Rattle.std.proofs.lemmas.Bool.{and_parts, cases_eq, cases_lt, eq-eqb, leb-true, le-leb, le-ltb, lt-leb, lt-ltb, ltb-true, ne_eqb, not-true, not-false}
-use Rattle.std.proofs.lemmas.List.{get_or_append_left, get_or-append_right, get_or-drop, get_or-replicate}
+use Rattle.std.proofs.lemmas.List.{get_or_append_left}
 use Rattle.std.proofs.lemmas.Nat.Bits.{bit_at_set_other, bit_at_set_same}
 use Rattle.py_lines.specs.declared.marks.Marks.{Marks}
 use Rattle.py_lines.specs.Character.{is_space}
 use Rattle.py_lines.specs.Private.Run.{is_ascii_word}
 use Rattle.py_lines.specs.Private.Marks.{FindsNext, HasMarks, IsSpecial, is_mark, is_plain, is_set}
+use Rattle.py_lines.proofs.Text.Lanes.{filled_past}
 use Rattle.py_lines.proofs.SpecialBytes.Bits.{HasLowest, cleared_below-is, lowest, unset}
 
 -- a byte of the text that isn't plain
@@ -17,25 +19,24 @@ pub record IsMark (text : List ℕ) (from k : ℕ) : Type 0 where
   pub special : is_plain (slice_index text k) ≡ false
 
 pub mark_is : (text : List ℕ) (from k : ℕ) → is_mark text from k ≡ true → IsMark text from k
-mark_is text from k h =
-    let a = and_parts (leb from k) _ h in
-    let b = and_parts (ltb k (length text)) _ a.1 in
-    record { unpassed = leb-true from k a.0; within = ltb-true k (length text) b.0; special = not-true _ b.1 }
-
-mark_from : (text : List ℕ) (from k : ℕ) → from ≤ k → is_mark text from k ≡ (ltb k (length text) && not (is_plain (slice_index text k)))
-mark_from text from k le = ap (λ b. b && (ltb k (length text) && not (is_plain (slice_index text k)))) (le-leb from k le)
+mark_is text from k h = grind (arith, nat_tests)
 
 no_mark_before : (text : List ℕ) (from k : ℕ) → k < from → is_mark text from k ≡ false
-no_mark_before text from k less = ap (λ b. b && (ltb k (length text) && not (is_plain (slice_index text k)))) (lt-leb from k less)
+no_mark_before text from k less = grind (arith, nat_tests)
 
 -- the marks do not depend on where those before them were passed
 later_mark : (text : List ℕ) (from to k : ℕ) → from ≤ k → to ≤ k → is_mark text from k ≡ is_mark text to k
-later_mark text from to k a b = mark_from text from k a ∙ sym (mark_from text to k b)
+later_mark text from to k a b = grind (arith, nat_tests)
 
--- a byte without a mark is plain
+-- a byte without a mark is plain, and one that isn't plain has one
 pub unmarked_plain : (text : List ℕ) (from k : ℕ) → is_mark text from k ≡ false → from ≤ k → k < length text → is_plain (slice_index text k) ≡ true
-unmarked_plain text from k none le within =
-    not-false _ (sym (ap (λ b. b && not (is_plain (slice_index text k))) (lt-ltb k (length text) within)) ∙ sym (mark_from text from k le) ∙ none)
+unmarked_plain text from k none le within = grind (arith, nat_tests)
+
+no_mark_past : (text : List ℕ) (from k : ℕ) → length text ≤ k → is_mark text from k ≡ false
+no_mark_past text from k past = grind (arith, nat_tests)
+
+marked : (text : List ℕ) (from k : ℕ) → from ≤ k → k < length text → is_mark text from k ≡ not (is_plain (slice_index text k))
+marked text from k le within = grind (arith, nat_tests)
 
 -- a place in the block of 64
 in_block : (base k : ℕ) → base ≤ k → base + (k - base) ≡ k
@@ -58,10 +59,10 @@ passes_in_block text from to m has le within near =
       within = within;
       reach = omega (arith, near);
       bits = λ k less.
-          cleared_below-is m.bits (to - m.base) k near less
-          ∙ elim (cases_lt k (to - m.base)) [
-            | inl low ↦ ap (λ b. b && is_set m.bits k) (lt-leb (to - m.base) k low) ∙ sym (no_mark_before text to (m.base + k) (omega (arith, low)))
-            | inr high ↦ ap (λ b. b && is_set m.bits k) (le-leb (to - m.base) k high) ∙ has.bits k less ∙ later_mark text from to (m.base + k) (omega (arith, high, le)) (omega (arith, high))
+          let (low, high) = cleared_below-is m.bits (to - m.base) k near less in
+          elim (cases_lt k (to - m.base)) [
+            | inl before ↦ low before ∙ sym (no_mark_before text to (m.base + k) (omega (arith, before)))
+            | inr later ↦ high later ∙ has.bits k less ∙ later_mark text from to (m.base + k) (omega (arith, later, le)) (omega (arith, later))
           ];
     }
 
@@ -79,7 +80,7 @@ kept text place m base reach (within, special) has =
             let here : m.base + k ≡ place = omega (arith, same, base) in
             ap (λ i. eqb (bit_at (bit_or m.bits (1 * 2 ^ j % 2 ^ 64)) i) 1) same
             ∙ ap (λ b. eqb b 1) (bit_at_set_same w64 m.bits j near)
-            ∙ sym (ap (is_mark text place) here ∙ marked)
+            ∙ sym (ap (is_mark text place) here ∙ marked text place place (omega arith) within ∙ ap not special)
         | inr other ↦
             ap (λ b. eqb b 1) (bit_at_set_other w64 m.bits j near k other)
             ∙ has.bits k less
@@ -95,9 +96,6 @@ kept text place m base reach (within, special) has =
 
     near : j < 64
     near = omega (arith, reach, base)
-
-    marked : is_mark text place place ≡ true
-    marked = mark_from text place place (omega arith) ∙ ap (λ b. b && not (is_plain (slice_index text place))) (lt-ltb place (length text) within) ∙ ap not special
 
 -- plain bytes were passed, up to the block of the marks
 pub record HasPassed (text : List ℕ) (from : ℕ) (m : Marks) : Type 0 where
@@ -154,7 +152,10 @@ finds_lowest text from m passed some fits =
         base = omega arith;
         within = omega (arith, mark.within);
         reach = omega (arith, first.within);
-        bits = λ k small. first.cleared k ∙ left k small;
+        bits = λ k small. elim (cases_lt t k) [
+          | inl later ↦ first.left k later ∙ passed.marks.bits k small ∙ later_mark text passed.to (m.base + t + 1) (m.base + k) (omega (arith, later, mark.unpassed)) (omega (arith, later))
+          | inr low ↦ first.cleared k low ∙ sym (no_mark_before text (m.base + t + 1) (m.base + k) (omega (arith, low)))
+        ];
       };
       held = λ less. (omega arith, omega (arith, first.within));
     }
@@ -171,22 +172,6 @@ finds_lowest text from m passed some fits =
     mark : IsMark text passed.to (m.base + t)
     mark = mark_is text passed.to (m.base + t) (sym (passed.marks.bits t first.within) ∙ first.set)
 
-    left : (k : ℕ) → k < 64 → (not (eqb k t) && is_set m.bits k) ≡ is_mark text (m.base + t + 1) (m.base + k)
-    left k small =
-        elim (cases_lt t k) [
-          | inl later ↦
-              ap (λ b. not b && is_set m.bits k) (ne_eqb k t (λ same. absurd (omega (arith, same, later))))
-              ∙ passed.marks.bits k small
-              ∙ later_mark text passed.to (m.base + t + 1) (m.base + k) (omega (arith, later, mark.unpassed)) (omega (arith, later))
-          | inr not_later ↦ cleared k not_later ∙ sym (no_mark_before text (m.base + t + 1) (m.base + k) (omega (arith, not_later)))
-        ]
-      where
-        cleared : (k : ℕ) → k ≤ t → (not (eqb k t) && is_set m.bits k) ≡ false
-        cleared k le = elim (cases_eq k t) [
-          | inl same ↦ ap (λ b. not b && is_set m.bits k) (eq-eqb k t same)
-          | inr other ↦ ap (λ b. not b && is_set m.bits k) (ne_eqb k t other) ∙ first.none k (omega (arith, le, other))
-        ]
-
 space_plain : not (is_plain 32) ≡ false
 unfolding is_plain is_ascii_word is_space
 space_plain = refl
@@ -195,20 +180,8 @@ space_plain = refl
 pub filled : (text block : List ℕ) (k : ℕ) → block ≡ text → length text < 64 → k < 64
     → not (is_plain (slice_index (block ++ drop (length text) (replicate 64 32)) k)) ≡ is_mark text 0 k
 filled text block k same few less =
-    ap (λ l. not (is_plain (slice_index (l ++ rest) k))) same
+    ap (λ l. not (is_plain (slice_index (l ++ drop (length text) (replicate 64 32)) k))) same
     ∙ elim (cases_lt k (length text)) [
-      | inl within ↦ ap (λ c. not (is_plain c)) (get_or_append_left text rest 0 k within) ∙ sym (marked ∙ ap (λ b. b && not (is_plain (slice_index text k))) (lt-ltb k (length text) within))
-      | inr past ↦ ap (λ c. not (is_plain c)) (spaces past) ∙ space_plain ∙ sym (marked ∙ ap (λ b. b && not (is_plain (slice_index text k))) (le-ltb k (length text) past))
+      | inl within ↦ ap (λ c. not (is_plain c)) (get_or_append_left text (drop (length text) (replicate 64 32)) 0 k within) ∙ sym (marked text 0 k (omega arith) within)
+      | inr past ↦ ap (λ c. not (is_plain c)) (filled_past text 64 k 32 past less) ∙ space_plain ∙ sym (no_mark_past text 0 k past)
     ]
-  where
-    rest : List ℕ
-    rest = drop (length text) (replicate 64 32)
-
-    marked : is_mark text 0 k ≡ (ltb k (length text) && not (is_plain (slice_index text k)))
-    marked = mark_from text 0 k (omega arith)
-
-    spaces : length text ≤ k → slice_index (text ++ rest) k ≡ 32
-    spaces past =
-        get_or-append_right text rest (length text) k 0 refl past
-        ∙ get_or-drop (length text) (replicate 64 32) (k - length text) 0
-        ∙ get_or-replicate 64 (length text + (k - length text)) 32 0 (omega (arith, less, past))

@@ -3,14 +3,14 @@ use Rattle.std.proofs.Common.{◌≡◌, ℕ, zero, suc, ◌*◌, ◌/◌, ◌%�
 use Rattle.std.specs.List.{count_by, prefix_len}
 use Rattle.std.specs.Simd.Lanes.{chunk, zip2, sel_l, mask_l, top}
 use Rattle.std.specs.Int.Count.{count_trailing_zeros, ones}
-use Rattle.std.proofs.lemmas.Simd.{length-chunk, get_or-chunk, map-map, tops_compared, zip2_splat, zip2_splat_left, zip2_of_maps, first_set_mask_l, bitmask_splat, mask_l-mod, ones-mask_l}
+use Rattle.std.proofs.lemmas.Simd.{length-chunk, get_or-chunk, map-map, tops_compared, zip2_splat, zip2_splat_left, zip2_of_maps, leading_from_mask_l, trailing_mask_l, run_in_chunk_le, run_in_chunk_fails, run_in_chunk_stops, bitmask_splat, mask_l-mod, ones-mask_l}
 use Rattle.std.proofs.lemmas.Nat.{and_mask, mod-pow-add}
 use Rattle.std.proofs.lemmas.Str.Ascii.{IsAscii-from_all}
 use Rattle.std.proofs.lemmas.List.Elements.{All-from_get_or}
 use Rattle.std.specs.Str.{IsAscii}
 use Rattle.std.proofs.lemmas.List.{take_rest, length-map, length-drop, length-append, length-replicate, get_or-drop, get_or_append_left, get_or-append_right, get_or-replicate, take-map}
 use Rattle.std.proofs.lemmas.List.Sums.{prefix_len-le-length, prefix_len_passes, prefix_len_stops}
-use Rattle.std.proofs.lemmas.Bool.{both_ways, ne_eqb, cases_lt}
+use Rattle.std.proofs.lemmas.Bool.{both_ways, cases_lt, leb-false, not-true, not-false}
 use Rattle.std.proofs.Math.Bool.{not-not, or-false}
 use Rattle.py_lines.specs.Character.{is_one_of}
 use Rattle.py_lines.specs.Private.Run.{CountsSet, Marks, IsRunOf}
@@ -33,16 +33,10 @@ pub marked_left : (t : ℕ → ℕ → Bool) (vs : List ℕ) (n y : ℕ) → len
 marked_left t vs n y long = sel_splats (λ x. t y x) 255 0 vs n _ long (tops_compared w8 t (replicate n y) vs ∙ zip2_splat_left t y n vs long)
 
 and_marks : (a b : Bool) → bit_and (cond a 255 0) (cond b 255 0) ≡ cond {A = ℕ} (a && b) 255 0
-and_marks true true = refl
-and_marks true false = refl
-and_marks false true = refl
-and_marks false false = refl
+and_marks a b = grind arith
 
 or_marks : (a b : Bool) → bit_or (cond a 255 0) (cond b 255 0) ≡ cond {A = ℕ} (a || b) 255 0
-or_marks true true = refl
-or_marks true false = refl
-or_marks false true = refl
-or_marks false false = refl
+or_marks a b = grind arith
 
 -- both of two tests
 pub both_marked : (p q : ℕ → Bool) (vs xs ys : List ℕ) → Marks p vs xs → Marks q vs ys → Marks (λ x. p x && q x) vs (zip2 bit_and xs ys)
@@ -53,8 +47,7 @@ pub either_marked : (p q : ℕ → Bool) (vs xs ys : List ℕ) → Marks p vs xs
 either_marked p q vs xs ys a b = zip2_of_maps bit_or (λ x. cond (p x) 255 0) (λ x. cond (q x) 255 0) vs a b ∙ (λ i. map (λ x. or_marks (p x) (q x) i) vs)
 
 unmarked : (b : Bool) → eqb (cond b 255 0) 0 ≡ not b
-unmarked true = refl
-unmarked false = refl
+unmarked b = grind arith
 
 -- one of two bytes, and one more
 pub two_marked : (d e : ℕ) (vs xs ys : List ℕ) → Marks (λ x. eqb x d) vs xs → Marks (λ x. eqb x e) vs ys → Marks (is_one_of (d ∷ e ∷ [])) vs (zip2 bit_or xs ys)
@@ -72,8 +65,7 @@ none_marked p vs ms xs e f =
     ∙ (λ i. map (λ x. cond (unmarked (p x) i) 255 0) vs)
 
 unset : (b : Bool) → ltb (cond b 255 0) 128 ≡ not b
-unset true = refl
-unset false = refl
+unset b = grind arith
 
 -- a bit for each lane that isn't marked
 abbrev pub unset_bits : List ℕ → ℕ
@@ -86,18 +78,15 @@ unset_bits_are p vs ms long e =
     ∙ ap mask_l (map-map (λ x. ltb x 128) (λ x. cond (p x) 255 0) vs)
     ∙ (λ i. mask_l (map (λ x. unset (p x) i) vs))
 
--- how many lanes are marked before the first that isn't
-pub first_unset : (p : ℕ → Bool) (vs ms : List ℕ) → length vs ≡ 16 → Marks p vs ms → cond (eqb (unset_bits ms) 0) 16 (count_trailing_zeros 64 (unset_bits ms)) ≡ prefix_len p vs
-first_unset p vs ms long e =
-    ap (λ (m : ℕ). cond (eqb m 0) 16 (count_trailing_zeros 64 m)) (unset_bits_are p vs ms long e)
-    ∙ first_set_mask_l (λ x. not (p x)) vs 16 long (omega arith)
-    ∙ (λ i. prefix_len (λ x. not-not (p x) i) vs)
-
+-- how many lanes are marked before the first that isn't: all, or as many bits are not set before the first that is
 pub all_set : (p : ℕ → Bool) (vs ms : List ℕ) → length vs ≡ 16 → Marks p vs ms → unset_bits ms ≡ 0 → 16 ≡ prefix_len p vs
-all_set p vs ms long e none = sym (ap (λ (m : ℕ). cond (eqb m 0) 16 (count_trailing_zeros 64 (unset_bits ms))) none) ∙ first_unset p vs ms long e
+all_set p vs ms long e none =
+    sym long ∙ sym (leading_from_mask_l (λ x. not (p x)) vs (sym (unset_bits_are p vs ms long e) ∙ none)) ∙ (λ i. prefix_len (λ x. not-not (p x) i) vs)
 
 pub some_unset : (p : ℕ → Bool) (vs ms : List ℕ) → length vs ≡ 16 → Marks p vs ms → (unset_bits ms ≡ 0 → ⊥) → count_trailing_zeros 64 (unset_bits ms) ≡ prefix_len p vs
-some_unset p vs ms long e some = sym (ap (λ b. cond b 16 (count_trailing_zeros 64 (unset_bits ms))) (ne_eqb _ _ some)) ∙ first_unset p vs ms long e
+some_unset p vs ms long e some =
+    let bits = unset_bits_are p vs ms long e in
+    ap (count_trailing_zeros 64) bits ∙ trailing_mask_l (λ x. not (p x)) 64 vs (omega (arith, long)) (omega (arith, bits, some)) ∙ (λ i. prefix_len (λ x. not-not (p x) i) vs)
 
 -- sixteen bytes more were looked at, of which so many go on with a run
 pub record Sixteen (p : ℕ → Bool) (xs : List ℕ) (i r : ℕ) : Type 0 where
@@ -110,24 +99,17 @@ pub sixteen : (p : ℕ → Bool) (xs : List ℕ) (i r : ℕ) (mask : List ℕ) �
     → CountsSet mask r → Marks p (chunk i 16 xs) mask → Sixteen p xs i r
 sixteen p xs i r mask within more before counts marks =
     let room : i + 16 ≤ length xs = omega (arith, within, more) in
-    let block = chunk i 16 xs in
-    let size = length-chunk i 16 xs room in
-    let counted = counts p block size marks in
-    let most : r ≤ 16 = omega (arith, counted, size, prefix_len-le-length p block) in
+    let other : ℕ → Bool = λ x. not (p x) in
+    let counted : r ≡ prefix_len (λ x. not (other x)) (chunk i 16 xs) = counts p (chunk i 16 xs) (length-chunk i 16 xs room) marks ∙ sym (λ j. prefix_len (λ x. not-not (p x) j) (chunk i 16 xs)) in
     let each : (k : ℕ) → k < i + r → p (slice_index xs k) ≡ true = λ k lt. elim (cases_lt k i) [
       | inl low ↦ before k low
-      | inr high ↦
-          let at : slice_index block (k - i) ≡ slice_index xs k = get_or-chunk i 16 xs (k - i) 0 (omega arith) ∙ ap (λ j. slice_index xs j) (omega arith) in
-          subst (λ x. p x ≡ true) at (prefix_len_passes p block (k - i) 0 (omega (arith, counted)))
+      | inr high ↦ not-false _ (run_in_chunk_fails other xs i 16 r 0 room counted k high lt)
     ] in
-    let stop : r < 16 → p (slice_index xs (i + r)) ≡ false = λ short.
-    subst (λ x. p x ≡ false) (ap (λ j. slice_index block j) (sym counted) ∙ get_or-chunk i 16 xs r 0 short)
-    (prefix_len_stops p block 0 (omega (arith, counted, size, short))) in
     record {
       room = room;
-      most = most;
+      most = run_in_chunk_le other xs i 16 r 0 room counted;
       each = each;
-      ends = λ short. record { within = omega (arith, room, short); each = each; ends = λ lt. stop short };
+      ends = λ short. record { within = omega (arith, room, short); each = each; ends = λ lt. not-true _ (run_in_chunk_stops other xs i 16 r 0 room counted short) };
     }
 
 -- a run goes on with the run that the rest begins with
@@ -155,12 +137,15 @@ high_bits_are vs long =
 
 pub low_lanes : (vs : List ℕ) → length vs ≡ 64 → high_bits vs ≡ 0 → IsAscii vs
 low_lanes vs long none =
-    let all : 64 ≡ prefix_len (λ x. not (leb 128 x)) vs =
-    sym (ap (λ (m : ℕ). cond (eqb m 0) 64 (count_trailing_zeros 64 m)) (sym (high_bits_are vs long) ∙ none)) ∙ first_set_mask_l (λ x. leb 128 x) vs 64 long (omega arith) in
-    IsAscii-from_all vs (All-from_get_or (λ b. b < 128) vs 0 (λ i less. low (slice_index vs i) (prefix_len_passes (λ x. not (leb 128 x)) vs i 0 (omega (arith, less, long, all)))))
-  where
-    low : (b : ℕ) → not (leb 128 b) ≡ true → b < 128
-    low b h = grind (arith, h)
+    let all = leading_from_mask_l (λ x. leb 128 x) vs (sym (high_bits_are vs long) ∙ none) in
+    IsAscii-from_all vs (All-from_get_or (λ b. b < 128) vs 0 (λ i less. leb-false 128 _ (not-true _ (prefix_len_passes (λ x. not (leb 128 x)) vs i 0 (omega (arith, less, all))))))
+
+-- past the bytes stands what fills the block
+pub filled_past : (bytes : List ℕ) (n k pad : ℕ) → length bytes ≤ k → k < n → slice_index (bytes ++ drop (length bytes) (replicate n pad)) k ≡ pad
+filled_past bytes n k pad past less =
+    get_or-append_right bytes (drop (length bytes) (replicate n pad)) (length bytes) k 0 refl past
+    ∙ get_or-drop (length bytes) (replicate n pad) (k - length bytes) 0
+    ∙ get_or-replicate n (length bytes + (k - length bytes)) pad 0 (omega (arith, less, past))
 
 -- the run that fewer than sixteen bytes begin with, where lanes hold them and then a byte that ends the run
 pub filled_run : (p : ℕ → Bool) (bytes block mask : List ℕ) (pad r : ℕ) → block ≡ bytes → length bytes < 16 → p pad ≡ false
@@ -187,15 +172,9 @@ filled_run p bytes block mask pad r same few stops counts marks =
     passes : (k : ℕ) → k < r → p (slice_index whole k) ≡ true
     passes k less = prefix_len_passes p whole k 0 (omega (arith, counted, less))
 
-    at_pad : slice_index whole (length bytes) ≡ pad
-    at_pad =
-        get_or-append_right bytes rest (length bytes) (length bytes) 0 refl (omega arith)
-        ∙ get_or-drop (length bytes) (replicate 16 pad) (length bytes - length bytes) 0
-        ∙ get_or-replicate 16 (length bytes + (length bytes - length bytes)) pad 0 (omega (arith, few))
-
     within : r ≤ length bytes
     within = elim (cases_lt (length bytes) r) [
-      | inl past ↦ absurd (both_ways _ (ap p at_pad ∙ stops) (passes (length bytes) past))
+      | inl past ↦ absurd (both_ways _ (ap p (filled_past bytes 16 (length bytes) pad (omega arith) few) ∙ stops) (passes (length bytes) past))
       | inr le ↦ le
     ]
 
