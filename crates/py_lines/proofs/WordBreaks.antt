@@ -8,14 +8,9 @@ use Rattle.py_lines.specs.PieceGrammar.{IsWord}
 use Rattle.py_lines.proofs.Text.CharacterTests.{none_of, excluded}
 use Rattle.py_lines.proofs.Fields.Prefixes.{none_in}
 
-break-not-word : (c : ℕ) → is_break c ≡ true → is_word_character c ≡ false
-unfolding unicode_ident is_break is_word_character
-break-not-word c h = none_of is_word_character (10 ∷ 13 ∷ []) c refl h
-
-break-not-start : (c : ℕ) → is_break c ≡ true → is_word_start c ≡ false
-unfolding unicode_ident is_break is_word_start is_digit
-break-not-start c h = none_of is_word_start (10 ∷ 13 ∷ []) c refl h
-
 pub word-unbroken : (text : List ℕ) → IsWord text → list_any is_break text ≡ false
+unfolding unicode_ident is_break is_word_character is_word_start is_digit
 word-unbroken text (c, cs, is, starts, others) =
-    ap (list_any is_break) is ∙ or_from _ _ (excluded is_word_start is_break c (break-not-start c) starts) (none_in is_word_character is_break break-not-word cs others)
+    ap (list_any is_break) is
+    ∙ or_from _ _ (excluded is_word_start is_break c (none_of is_word_start (10 ∷ 13 ∷ []) c refl) starts)
+    (none_in is_word_character is_break (λ d. none_of is_word_character (10 ∷ 13 ∷ []) d refl) cs others)

@@ -18,7 +18,7 @@ use Rattle.py_lines.specs.Private.ScanMachine.{HoldsOpen, IsScanSound, meet_of, 
 use Rattle.py_lines.specs.Private.Scan.{FieldsFollow, counts_after, line_start}
 use Rattle.py_lines.specs.Private.Run.{HoldsLongText, Reached, is_feed, is_long_byte, is_text_byte, is_body_byte, with_lines}
 use Rattle.py_lines.specs.Balance.{depth_through}
-use Rattle.py_lines.proofs.Text.CharacterTests.{feed-not-quote, feed-not-return, feed-not-slash, feed_from}
+use Rattle.py_lines.proofs.Text.CharacterTests.{feed-not-others, feed_from}
 use Rattle.py_lines.proofs.Machine.PieceSteps.{run_by, scanned}
 use Rattle.py_lines.proofs.LineScan.Increments.{line_ends-step}
 use Rattle.py_lines.proofs.LineScan.LineCount.{ends-last}
@@ -49,9 +49,9 @@ module _ (q : ℕ) (quote : is_quote q ≡ true) where
           let ten = eqb-true c 10 is in
           let feeds = feed_from c ten in
           record {
-            other = false_from_ne_true (c == q) (λ same. both_ways (is_quote c) (feed-not-quote c feeds) (ap is_quote (eqb-true c q same) ∙ quote));
-            slash = feed-not-slash c feeds;
-            unreturned = feed-not-return c feeds;
+            other = false_from_ne_true (c == q) (λ same. both_ways (is_quote c) (feed-not-others c feeds).0 (ap is_quote (eqb-true c q same) ∙ quote));
+            slash = (feed-not-others c feeds).1;
+            unreturned = (feed-not-others c feeds).2;
             low = omega (arith, ten);
           }
 

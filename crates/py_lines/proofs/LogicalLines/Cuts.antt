@@ -1,9 +1,10 @@
 -- Logical lines, one after another: where a line ends, the lines so far are done.
+use Rattle.std.specs.Prelude.{codes}
 use Rattle.std.proofs.Common.{◌≡◌, ℕ, ◌+◌, Bool, true, false, not, ◌&&◌, ◌==◌, List, [], ◌∷◌, ◌++◌, length, refl, sym, ap, ◌∙◌, ⊎_elim, inl, inr, append_assoc, append-nil, length-append, arith}
 use Rattle.std.specs.List.{list_all, list_any}
 use Rattle.std.proofs.lemmas.Str.{encodes-append, length-le-encodes}
 use Rattle.std.proofs.lemmas.List.{nil_from_length}
-use Rattle.std.proofs.lemmas.Bool.{cond_both, both_ways, and_parts, and_left, or_parts, false_from_ne_true, cases_Bool}
+use Rattle.std.proofs.lemmas.Bool.{cond_both, both_ways, and_parts, and_left, or_parts, false_from_ne_true, cases_Bool, or_from}
 use Rattle.unicode_ident.proofs.Computing.{unicode_ident}
 use Rattle.py_lines.specs.Character.{is_mark, is_space, is_word_character, is_word_start, is_digit, is_quote, is_operator, is_line_feed, is_return, is_break, is_hash}
 use Rattle.py_lines.specs.Piece.{Class, mark, space, word, string, operator, comment, join, line_end, Piece, begins, ends, spelled}
@@ -13,7 +14,9 @@ use Rattle.py_lines.specs.FieldStrings.{Host, quotes_of}
 use Rattle.py_lines.specs.Fields.{InClass, MayPrecede, AreReadBefore}
 use Rattle.py_lines.specs.Reading.{EndsLine}
 use Rattle.py_lines.specs.LogicalLine.{is_line_end_class, put_first, cut, byte_len, ends_line, line_ends}
-use Rattle.py_lines.proofs.Text.CharacterTests.{return_is}
+use Rattle.py_lines.proofs.Text.CharacterTests.{none_of, return_is}
+use Rattle.py_lines.proofs.WordBreaks.{word-unbroken}
+use Rattle.py_lines.proofs.Fields.Prefixes.{none_in}
 use Rattle.py_lines.proofs.Text.Splits.{Either, either}
 use Rattle.py_lines.specs.Private.Scan.{EndsNoLine}
 
@@ -31,21 +34,11 @@ pub break-return : (c : ℕ) → is_break c ≡ false → is_return c ≡ false
 unfolding is_break
 break-return c h = not_return (λ x. not (is_break x)) refl c (rw h)
 
-ends-all : (p : ℕ → Bool) → p 13 ≡ false → (text : List ℕ) → list_all p text ≡ true → ends is_return text ≡ false
-ends-all p other [] all = refl
-ends-all p other (c ∷ []) all = not_return p other c (and_parts (p c) true all).0
-ends-all p other (c ∷ d ∷ cs) all = ends-all p other (d ∷ cs) (and_parts (p c) (list_all p (d ∷ cs)) all).1
-
-ends-word : (first : ℕ) (others : List ℕ) → is_word_start first ≡ true → list_all is_word_character others ≡ true → ends is_return (first ∷ others) ≡ false
-unfolding unicode_ident is_word_character is_word_start is_digit
-ends-word first [] opens run = not_return is_word_start refl first opens
-ends-word first (c ∷ cs) opens run = ends-all is_word_character refl (c ∷ cs) run
-
-ends-comment : (hash : ℕ) (body : List ℕ) → is_hash hash ≡ true → list_any is_break body ≡ false → ends is_return (hash ∷ body) ≡ false
-unfolding is_hash
-ends-comment hash [] opens none = not_return is_hash refl hash opens
-ends-comment hash (c ∷ []) opens none = break-return c (or_parts (is_break c) false none).0
-ends-comment hash (c ∷ d ∷ cs) opens none = ends-comment hash (d ∷ cs) opens (or_parts (is_break c) (list_any is_break (d ∷ cs)) none).1
+-- a text without line ends ends in none
+ends-unbroken : (text : List ℕ) → list_any is_break text ≡ false → ends is_return text ≡ false
+ends-unbroken [] none = refl
+ends-unbroken (c ∷ []) none = break-return c (or_parts (is_break c) false none).0
+ends-unbroken (c ∷ d ∷ cs) none = ends-unbroken (d ∷ cs) (or_parts (is_break c) (list_any is_break (d ∷ cs)) none).1
 
 ends-quote : (prefix body : List ℕ) (q : ℕ) → is_quote q ≡ true → ends is_return (prefix ++ (body ++ q ∷ [])) ≡ false
 unfolding is_quote
@@ -60,10 +53,10 @@ ends-quotes prefix host inside quotes =
 
 -- no CR LF is cut between a piece and what follows
 pub uncut : (class : Class) (text rest : List ℕ) → InClass class text → MayPrecede class text rest → ends is_return text && begins is_line_feed rest ≡ false
-unfolding is_mark is_space is_operator
+unfolding is_mark is_space is_operator is_break is_hash
 uncut mark text rest (c, is, passes) before = and_left _ _ (ap (ends is_return) is ∙ not_return is_mark refl c passes)
-uncut space text rest (first, others, is, run) before = and_left _ _ (ends-all is_space refl text run)
-uncut word text rest (first, others, is, opens, run) before = and_left _ _ (ap (ends is_return) is ∙ ends-word first others opens run)
+uncut space text rest (first, others, is, run) before = and_left _ _ (ends-unbroken text (none_in is_space is_break (λ c. none_of is_space (10 ∷ 13 ∷ []) c refl) text run))
+uncut word text rest is before = and_left _ _ (ends-unbroken text (word-unbroken text is))
 uncut string text rest (inl (inl short)) before =
     let is = short.0 in
     and_left _ _ (ap (ends is_return) is.spell ∙ ends-quote is.prefix (is.quote ∷ joined is.items) is.quote is.opens)
@@ -73,7 +66,7 @@ uncut string text rest (inl (inr long)) before =
     and_left _ _ (ap (ends is_return) (is.spell ∙ ap (λ t. is.prefix ++ (q ∷ q ∷ q ∷ t)) (sym (append_assoc (joined is.items) (q ∷ q ∷ []) (q ∷ [])))) ∙ ends-quote is.prefix (q ∷ q ∷ q ∷ (joined is.items ++ q ∷ q ∷ [])) q is.opens)
 uncut string text rest (inr is) before = and_left _ _ (ap (ends is_return) is.spell ∙ ends-quotes is.prefix is.host (joined is.parts) is.opens)
 uncut operator text rest (c, is, passes) before = and_left _ _ (ap (ends is_return) is ∙ not_return is_operator refl c passes)
-uncut comment text rest (hash, body, is, opens, holds) before = and_left _ _ (ap (ends is_return) is ∙ ends-comment hash body opens holds)
+uncut comment text rest (hash, body, is, opens, holds) before = and_left _ _ (ends-unbroken text (ap (list_any is_break) is ∙ or_from _ _ (none_of is_break (codes "#") hash refl opens) holds))
 uncut join text rest is before = before
 uncut line_end text rest is before = before
 
@@ -160,7 +153,7 @@ cut-append ps qs (inr (body, last, is, class, deep)) =
     ap (λ l. cut 0 (l ++ qs)) is ∙ ap (cut 0) (append_assoc body (last ∷ []) qs) ∙ cut-line body last qs 0 class deep ∙ ap (λ l. cut 0 l ++ cut 0 qs) (sym is)
 
 -- pieces with no line end at depth 0 are one part
-one_part : (d : ℕ) (p : Piece) (ps : List Piece) → EndsNoLine d (p ∷ ps) → cut d (p ∷ ps) ≡ (p ∷ ps) ∷ []
+pub one_part : (d : ℕ) (p : Piece) (ps : List Piece) → EndsNoLine d (p ∷ ps) → cut d (p ∷ ps) ≡ (p ∷ ps) ∷ []
 one_part d p [] none = rw none.0
 one_part d p (q ∷ ps) none = rw (none.0, one_part (depth_after d p) q ps none.1)
 
@@ -168,6 +161,3 @@ one_part d p (q ∷ ps) none = rw (none.0, one_part (depth_after d p) q ps none.
 pub one_line : (d : ℕ) (body : List Piece) (last : Piece) → EndsNoLine d body → last.class ≡ line_end → depth_through d body ≡ 0 → cut d (body ++ last ∷ []) ≡ (body ++ last ∷ []) ∷ []
 one_line d [] last none is deep = rw (is, deep)
 one_line d (p ∷ body) last none is deep = rw (none.0, one_line (depth_after d p) body last none.1 is deep)
-
-pub last_part : (p : Piece) (ps : List Piece) → EndsNoLine 0 (p ∷ ps) → cut 0 (p ∷ ps) ≡ (p ∷ ps) ∷ []
-last_part p ps none = one_part 0 p ps none

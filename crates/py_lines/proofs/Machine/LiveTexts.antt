@@ -8,7 +8,11 @@ use Rattle.py_lines.specs.Piece.{Piece, spelled}
 use Rattle.py_lines.specs.Balance.{is_closing, closing_of, is_opener, is_closer}
 use Rattle.py_lines.specs.LogicalLine.{byte_len}
 use Rattle.py_lines.specs.Private.Machine.{Mode, Move, Start, Holds, class_of, closed, move_of, start_of, is_final, is_prefix_spelling, Bracket, brackets_of}
-use Rattle.py_lines.proofs.Text.CharacterTests.{each_of, none_of, not_quote, quote-not-feed}
+use Rattle.py_lines.proofs.Text.CharacterTests.{each_of, none_of, not_quote, excluded, feed-not-others}
+use Rattle.py_lines.specs.declared.mode.Mode.{Mode}
+use Rattle.py_lines.specs.declared.mode.Mode.TheVariants as modes
+use Rattle.py_lines.specs.declared.mode.Move.TheVariants as moves
+use Rattle.py_lines.specs.declared.mode.Start.TheVariants as starts
 use Rattle.py_lines.proofs.Pieces.PieceLists.{piece}
 use Rattle.py_lines.proofs.Machine.Starts.{start-feed}
 use Rattle.py_lines.proofs.Machine.PieceSteps.{closes}
@@ -103,7 +107,7 @@ module _ (Comes : Mode → List ℕ → Type 0)
   completes (Mode.Escape q) done held holds =
       on (Mode.Escape q) (Mode.Inside q) held q refl (quote-scalar q holds.3.opens) (rw (quote-not-return q holds.3.opens)) (strings q holds.3.opens (held ++ q ∷ [])).1
   completes (Mode.EscapeReturn q) done held holds =
-      last (Mode.EscapeReturn q) held q refl (quote-scalar q holds.4.opens) (rw (quote-not-feed q holds.4.opens, eq-eqb q q refl))
+      last (Mode.EscapeReturn q) held q refl (quote-scalar q holds.4.opens) (rw (excluded is_quote is_line_feed q (λ feeds. (feed-not-others q feeds).0) holds.4.opens, eq-eqb q q refl))
   completes (Mode.Empty q) done held holds = (strings q holds.opens held).0
   completes (Mode.Long q) done held holds = (strings q holds.opens held).2
   completes (Mode.LongOne q) done held holds = (strings q holds.2.opens held).3

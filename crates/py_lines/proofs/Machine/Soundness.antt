@@ -9,7 +9,7 @@ use Rattle.py_lines.specs.Private.Machine.{Spelling, Mode, Move, Start, IsSound,
 use Rattle.py_lines.proofs.Pieces.PieceLists.{piece, spelled-push, AreReadIn-push, MayFollow, follows_any}
 use Rattle.py_lines.proofs.Machine.Starts.{StartsSo, starts_so}
 use Rattle.py_lines.proofs.Machine.Spellings.{spelling_on-push, prefix_spelling}
-use Rattle.py_lines.proofs.Text.CharacterTests.{feed_is, return_is, barred, feed-not-return}
+use Rattle.py_lines.proofs.Text.CharacterTests.{feed_is, return_is, barred, feed-not-others}
 use Rattle.py_lines.proofs.Fields.Parts.{not_nothing}
 use Rattle.py_lines.proofs.Machine.PieceSteps.{scanned}
 use Rattle.py_lines.proofs.Machine.OpenPieces.{list_all-push, list_any-push, push, same_quotes, something, long_something, short_push, prefix_push, opening_none, opening_one, opening_two, none_yet, one_more_quote, short_string, long_string}
@@ -30,7 +30,7 @@ starts_hold c (Start.Open Mode.Return) so = (c, refl, so)
 starts_hold c (Start.Open Mode.Backslash) so = (c, refl, so)
 starts_hold c (Start.Open m) so = absurd so
 starts_hold c Start.Operator so = (c, refl, so)
-starts_hold c Start.LineEnd so = (feed (ap (λ d. d ∷ []) (feed_is c so)), λ more. and_left _ _ (feed-not-return c so))
+starts_hold c Start.LineEnd so = (feed (ap (λ d. d ∷ []) (feed_is c so)), λ more. and_left _ _ (feed-not-others c so).2)
 starts_hold c Start.Nothing so = tt
 
 pub start_holds : (c : ℕ) → StartHolds c (start_of c)
@@ -159,17 +159,17 @@ move_holds (Mode.LongEscape q) held c (before, slash, is, items, slashes) =
 move_holds Mode.Backslash held c (slash, is, slashes) =
     let spell : held ++ c ∷ [] ≡ slash ∷ c ∷ [] = push held c is in
     cond_both (is_line_feed c) _ _ (MoveHolds Mode.Backslash held c)
-    (λ h. ((slash, c ∷ [], spell, slashes, feed (ap (λ d. d ∷ []) (feed_is c h))), λ more. and_left _ _ (ap (ends is_return) spell ∙ feed-not-return c h)))
+    (λ h. ((slash, c ∷ [], spell, slashes, feed (ap (λ d. d ∷ []) (feed_is c h))), λ more. and_left _ _ (ap (ends is_return) spell ∙ (feed-not-others c h).2)))
     (λ h. cond_both (is_return c) _ _ (MoveHolds Mode.Backslash held c) (λ k. (slash, c, spell, slashes, k)) (λ k. tt))
 move_holds Mode.JoinReturn held c (slash, r, is, slashes, returns) =
     let spell : held ++ c ∷ [] ≡ slash ∷ r ∷ c ∷ [] = push held c is in
     cond_both (is_line_feed c) _ _ (MoveHolds Mode.JoinReturn held c)
-    (λ h. ((slash, r ∷ c ∷ [], spell, slashes, return_feed (feed_after r c returns h)), λ more. and_left _ _ (ap (ends is_return) spell ∙ feed-not-return c h)))
+    (λ h. ((slash, r ∷ c ∷ [], spell, slashes, return_feed (feed_after r c returns h)), λ more. and_left _ _ (ap (ends is_return) spell ∙ (feed-not-others c h).2)))
     (λ h more. ((slash, r ∷ [], is, slashes, return (ap (λ d. d ∷ []) (return_is r returns))), and_right _ _ h, refl, tt))
 move_holds Mode.Return held c (r, is, returns) =
     let spell : held ++ c ∷ [] ≡ r ∷ c ∷ [] = push held c is in
     cond_both (is_line_feed c) _ _ (MoveHolds Mode.Return held c)
-    (λ h. (return_feed (spell ∙ feed_after r c returns h), λ more. and_left _ _ (ap (ends is_return) spell ∙ feed-not-return c h)))
+    (λ h. (return_feed (spell ∙ feed_after r c returns h), λ more. and_left _ _ (ap (ends is_return) spell ∙ (feed-not-others c h).2)))
     (λ h more. (return (is ∙ ap (λ d. d ∷ []) (return_is r returns)), and_right _ _ h, refl, tt))
 move_holds m held c holds = absurd holds
 

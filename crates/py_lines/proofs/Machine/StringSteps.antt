@@ -8,7 +8,7 @@ use Rattle.py_lines.specs.Piece.{string}
 use Rattle.py_lines.specs.PieceGrammar.{is_prefix, IsPrefix, is_item, is_bare, is_short_item, joined, begins_triple, has_triple, MayPrecedePlain}
 use Rattle.py_lines.specs.Private.Machine.{Spelling, Mode, Move, class_of, move_of, short_move, long_move, first_spelling, spelling_on, is_prefix_spelling}
 use Rattle.py_lines.proofs.Pieces.PieceLists.{joined-append}
-use Rattle.py_lines.proofs.Text.CharacterTests.{prefix_word, quote-not-word, quote-not-feed, not_quote, slash-not-quote, slash-not-feed, feed-not-quote, feed-not-slash, unbarred}
+use Rattle.py_lines.proofs.Text.CharacterTests.{prefix_word, quote-not-word, excluded, not_quote, slash-not-quote, feed-not-others, unbarred}
 use Rattle.py_lines.proofs.Machine.Spellings.{prefix_spelling}
 use Rattle.py_lines.proofs.Machine.PieceSteps.{stops_unless, Grown, grown-append, grown-word, EndsWith, ends_before, ends_at}
 use Rattle.py_lines.proofs.Machine.OpenPieces.{quotes_items}
@@ -38,7 +38,7 @@ short_moves q c m short other no_feed = grind arith
 -- a backslash in a short string
 pub short_escapes : (q c : ℕ) (m : Mode) → IsShortMode q m → is_quote q ≡ true → is_backslash c ≡ true → move_of m c ≡ Move.Grows (Mode.Escape q)
 unfolding short_move
-short_escapes q c m short quotes slash = short_moves q c m short (not_quote c q quotes (slash-not-quote c slash)) (slash-not-feed c slash) ∙ rw slash
+short_escapes q c m short quotes slash = short_moves q c m short (not_quote c q quotes (slash-not-quote c slash)) (excluded is_backslash is_line_feed c (λ feeds. (feed-not-others c feeds).1) slash) ∙ rw slash
 
 -- the open piece grows by a text, and such a mode is open after it
 abbrev pub GrownTo : (Mode → Type 0) → Mode → List ℕ → Type 0
@@ -84,7 +84,7 @@ short_body q item items quotes each =
 -- a quote closes it
 short_closes : (q : ℕ) (m : Mode) → HoldsShort q m → is_quote q ≡ true → (class_of m ≡ string) × (move_of m q ≡ Move.Closes)
 unfolding move_of
-short_closes q m short quotes = grind (arith, quote-not-feed q quotes, eq-eqb q q refl)
+short_closes q m short quotes = grind (arith, excluded is_quote is_line_feed q (λ feeds. (feed-not-others q feeds).0) quotes, eq-eqb q q refl)
 
 pub short_ends : (text prefix : List ℕ) (q : ℕ) (items : List (List ℕ)) (rest : List ℕ) → text ≡ prefix ++ (q ∷ joined items ++ q ∷ []) → IsPrefix prefix → is_quote q ≡ true → list_all (is_short_item q) items ≡ true → MayPrecedePlain string text rest → EndsWith string (Mode.Opened q) (joined items ++ q ∷ []) rest
 unfolding move_of

@@ -31,7 +31,7 @@ use Rattle.py_lines.proofs.Pieces.OpenBrackets.{stands}
 use Rattle.py_lines.proofs.Machine.LiveTexts.{stack_closed}
 use Rattle.py_lines.proofs.ScanMachine.Soundness.{StandsSound, stands_sound, end_sound}
 use Rattle.py_lines.proofs.LineScan.PieceEnd.{closed_text}
-use Rattle.py_lines.proofs.LogicalLines.Cuts.{one_line, last_part, line_depth}
+use Rattle.py_lines.proofs.LogicalLines.Cuts.{one_line, one_part, line_depth}
 use Rattle.py_lines.proofs.LineScan.LineCount.{line_ends-bytes}
 use Rattle.py_lines.proofs.LineScan.NextCharacter.{closed_one_line, one_return}
 use Rattle.py_lines.proofs.LineScan.LineSteps.{way_stop}
@@ -103,7 +103,7 @@ end_len-none d (p ∷ q ∷ ps) none deep = end_len-none (depth_after d p) (q �
 
 one_or : (ps : List Piece) → EndsNoLine 0 ps → (ps ≡ [] → ⊥) → cut 0 ps ≡ ps ∷ []
 one_or [] none some = absurd (some refl)
-one_or (p ∷ ps) none some = last_part p ps none
+one_or (p ∷ ps) none some = one_part 0 p ps none
 
 -- the text's last line: its pieces, with the open one, are one line
 line_at_close : (m : Mode) (scan : Scan) (read : List ℕ) (way : IsUnderWay m scan read) → StandsSound m read way.state (stack_of scan.brackets) → is_final way.state.mode ≡ true → stack_of scan.brackets ≡ [] → 0 < byte_len read → (end_len : ℕ) → cut 0 (pieces_at way.state) ≡ pieces_at way.state ∷ [] → end_len ≡ end_len_of (pieces_at way.state) → IsScannedLine (line_start m) scan read end_len (pieces_at way.state)

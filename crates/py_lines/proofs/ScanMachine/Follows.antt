@@ -20,9 +20,10 @@ use Rattle.py_lines.specs.LogicalLine.{byte_len}
 use Rattle.py_lines.proofs.Machine.PieceSteps.{scanned, pieces_at, is_word_mode}
 use Rattle.py_lines.proofs.Machine.LiveTexts.{keeps, stack_closed}
 use Rattle.py_lines.proofs.Machine.Starts.{StartsSo, starts_so, start-operator}
-use Rattle.py_lines.proofs.Text.CharacterTests.{excluded, quote-not-word, slash-not-break}
+use Rattle.py_lines.proofs.Text.CharacterTests.{excluded, quote-not-word, slash-not-break, break-not-others}
 use Rattle.py_lines.proofs.Machine.Soundness.{word_on}
 use Rattle.py_lines.proofs.FieldMachine.Completeness.{start_breaks}
+use Rattle.py_lines.proofs.Machine.Spellings.{spelling_on-push}
 use Rattle.py_lines.proofs.Machine.OpenStrings.{start-not-mark}
 use Rattle.py_lines.proofs.FieldMachine.Runs.{steps_of}
 use Rattle.py_lines.proofs.FieldMachine.PieceRuns.{opening_operator, word_goes}
@@ -260,7 +261,7 @@ module _ (s : Spelling) (done : List Piece) (held : List ℕ) (st : List Bracket
 -- one quote of a string with fields
 break_refused : (host : Host) (c : ℕ) → host.is_long ≡ false → c == host.quote ≡ false → is_break c ≡ true → between_move host literal false between c ≡ refused
 unfolding between_move
-break_refused host c short other breaks_line = rw (other, slash-not-break c breaks_line, breaks_line, short)
+break_refused host c short other breaks_line = rw (other, (break-not-others c breaks_line).3, breaks_line, short)
 
 pub record GrowsBody (host : Host) (c : ℕ) : Type 0 where
   pub mode : FieldMode

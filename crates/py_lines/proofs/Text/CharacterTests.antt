@@ -1,8 +1,8 @@
 -- What a test of a character says where the character is one of a list.
-use Rattle.std.proofs.Common.{◌≡◌, ℕ, ◌<◌, leb, Bool, true, false, ◌||◌, ◌&&◌, eqb, List, [], ◌∷◌, refl, sym, ap, ◌∙◌, subst, ⊎_elim}
+use Rattle.std.proofs.Common.{◌≡◌, ℕ, ◌<◌, leb, Bool, true, false, ◌||◌, ◌&&◌, eqb, List, [], ◌∷◌, refl, sym, ap, ◌∙◌, subst, ⊎_elim, arith}
 use Rattle.std.specs.Prelude.{codes}
 use Rattle.std.specs.List.{list_any, list_all}
-use Rattle.std.proofs.lemmas.Bool.{leb-false, or_cases, or_parts, and_parts, and_from, eqb-true, false_from_ne_true, both_ways}
+use Rattle.std.proofs.lemmas.Bool.{leb-false, or_cases, or_parts, and_parts, and_from, eqb-true, false_from_ne_true, both_ways, cases_Bool}
 use Rattle.unicode_ident.proofs.Computing.{unicode_ident}
 use Rattle.py_lines.specs.Character.{is_one_of, is_mark, is_word_character, is_word_start, is_digit, is_quote, is_operator, is_line_feed, is_return, is_break, is_backslash, is_brace, is_barred, is_r, is_b, is_f, is_t, is_u}
 use Rattle.py_lines.specs.Balance.{is_opening, is_closing}
@@ -72,40 +72,25 @@ pub t-not-u : (c : ℕ) → is_t c ≡ true → is_u c ≡ false
 unfolding is_t is_u
 t-not-u c h = none_of is_u (codes "tT") c refl h
 
--- the letters of prefixes
+-- the letters of prefixes without fields begin words and go on with them
 abbrev BeginsWord : ℕ → Type 0
 BeginsWord c = (is_word_start c ≡ true) × (is_word_character c ≡ true)
 
-r-word : (c : ℕ) → is_r c ≡ true → BeginsWord c
-unfolding unicode_ident is_r is_word_start is_word_character is_digit
-r-word c h = each_of BeginsWord (codes "rR") c ((refl, refl), ((refl, refl), tt)) h
+letter_word : (c : ℕ) → is_one_of (codes "rRbBfFuU") c ≡ true → BeginsWord c
+unfolding unicode_ident is_word_start is_word_character is_digit
+letter_word c h = each_of BeginsWord (codes "rRbBfFuU") c ((refl, refl), ((refl, refl), ((refl, refl), ((refl, refl), ((refl, refl), ((refl, refl), ((refl, refl), ((refl, refl), tt)))))))) h
 
-b-word : (c : ℕ) → is_b c ≡ true → BeginsWord c
-unfolding unicode_ident is_b is_word_start is_word_character is_digit
-b-word c h = each_of BeginsWord (codes "bB") c ((refl, refl), ((refl, refl), tt)) h
-
-f-word : (c : ℕ) → is_f c ≡ true → BeginsWord c
-unfolding unicode_ident is_f is_word_start is_word_character is_digit
-f-word c h = each_of BeginsWord (codes "fF") c ((refl, refl), ((refl, refl), tt)) h
-
-u-word : (c : ℕ) → is_u c ≡ true → BeginsWord c
-unfolding unicode_ident is_u is_word_start is_word_character is_digit
-u-word c h = each_of BeginsWord (codes "uU") c ((refl, refl), ((refl, refl), tt)) h
-
-either-word : (p q : ℕ → Bool) (c : ℕ) → (p c ≡ true → BeginsWord c) → (q c ≡ true → BeginsWord c) → p c || q c ≡ true → BeginsWord c
-either-word p q c one other h = ⊎_elim one other (or_cases (p c) (q c) h)
+one_letter : (c : ℕ) → is_r c || is_b c || is_f c || is_u c ≡ true → BeginsWord c
+unfolding is_r is_b is_f is_u
+one_letter c h = letter_word c (grind (arith, h))
 
 -- a prefix is a word
 pub prefix_word : (a : ℕ) (bs : List ℕ) → is_prefix (a ∷ bs) ≡ true → (is_word_start a ≡ true) × (list_all is_word_character bs ≡ true)
-prefix_word a [] h =
-    let r_or_b = either-word is_r is_b a (r-word a) (b-word a) in
-    let not_u = either-word (λ c. is_r c || is_b c) is_f a r_or_b (f-word a) in
-    ((either-word (λ c. is_r c || is_b c || is_f c) is_u a not_u (u-word a) h).0, refl)
+prefix_word a [] h = ((one_letter a h).0, refl)
 prefix_word a (b ∷ []) h =
-    let b_or_f : (c : ℕ) → is_b c || is_f c ≡ true → BeginsWord c = λ c. either-word is_b is_f c (b-word c) (f-word c) in
-    ⊎_elim
-    (λ both. let parts = and_parts (is_r a) (is_b b || is_f b) both in ((r-word a parts.0).0, and_from (is_word_character b) true (b_or_f b parts.1).1 refl))
-    (λ both. let parts = and_parts (is_b a || is_f a) (is_r b) both in ((b_or_f a parts.0).0, and_from (is_word_character b) true (r-word b parts.1).1 refl)) (or_cases (is_r a && (is_b b || is_f b)) ((is_b a || is_f a) && is_r b) h)
+    let first : is_r a || is_b a || is_f a || is_u a ≡ true = grind (arith, h) in
+    let second : is_r b || is_b b || is_f b || is_u b ≡ true = grind (arith, h) in
+    ((one_letter a first).0, and_from (is_word_character b) true (one_letter b second).1 refl)
 prefix_word a (b ∷ c ∷ cs) h = absurd (both_ways _ refl h)
 
 pub quote-not-word : (q : ℕ) → is_quote q ≡ true → is_word_character q ≡ false
@@ -124,53 +109,28 @@ pub slash-not-quote : (c : ℕ) → is_backslash c ≡ true → is_quote c ≡ f
 unfolding is_backslash is_quote
 slash-not-quote c h = none_of is_quote (codes "\\") c refl h
 
-pub slash-not-feed : (c : ℕ) → is_backslash c ≡ true → is_line_feed c ≡ false
-unfolding is_backslash is_line_feed
-slash-not-feed c h = none_of is_line_feed (codes "\\") c refl h
-
-pub feed-not-quote : (c : ℕ) → is_line_feed c ≡ true → is_quote c ≡ false
-unfolding is_line_feed is_quote
-feed-not-quote c h = none_of is_quote (codes "\n") c refl h
-
-pub feed-not-slash : (c : ℕ) → is_line_feed c ≡ true → is_backslash c ≡ false
-unfolding is_line_feed is_backslash
-feed-not-slash c h = none_of is_backslash (codes "\n") c refl h
-
-pub quote-not-feed : (c : ℕ) → is_quote c ≡ true → is_line_feed c ≡ false
-unfolding is_quote is_line_feed
-quote-not-feed c h = none_of is_line_feed (codes "'\"") c refl h
+pub feed-not-others : (c : ℕ) → is_line_feed c ≡ true → (is_quote c ≡ false) × (is_backslash c ≡ false) × (is_return c ≡ false)
+unfolding is_line_feed is_quote is_backslash is_return
+feed-not-others c h = (none_of is_quote (codes "\n") c refl h, none_of is_backslash (codes "\n") c refl h, none_of is_return (codes "\n") c refl h)
 
 -- what a short string may hold bare
 pub unbarred : (q c : ℕ) → is_barred q c ≡ false → (eqb c q ≡ false) × (is_line_feed c ≡ false) × (is_break c ≡ false)
 unfolding is_barred is_break is_line_feed
-unbarred q c h =
-    let first = or_parts (eqb c q) (is_one_of (codes "\n\r") c) h in
-    let second = or_parts (eqb c 10) (is_one_of (codes "\r") c) first.1 in
-    (first.0, ap (λ (b : Bool). b || false) second.0, first.1)
+unbarred q c h = grind (arith, h)
 
 pub barred : (q c : ℕ) → eqb c q ≡ false → is_break c ≡ false → is_barred q c ≡ false
 unfolding is_barred is_break
 barred q c quote break = rw (quote, break)
 
-pub feed-not-return : (c : ℕ) → is_line_feed c ≡ true → is_return c ≡ false
-unfolding is_line_feed is_return
-feed-not-return c h = none_of is_return (codes "\n") c refl h
-
 pub operator_ascii : (c : ℕ) → is_operator c ≡ true → c < 128
 unfolding is_operator
 operator_ascii c h = leb-false 128 c (none_of (λ d. leb 128 d) (codes "+-*/%@&|^~<>=!()[]{},:.;") c refl h)
 
-pub slash-not-break : (c : ℕ) → is_break c ≡ true → is_backslash c ≡ false
-unfolding is_break is_backslash
-slash-not-break c h = none_of is_backslash (10 ∷ 13 ∷ []) c refl h
-
-pub break-not-others : (c : ℕ) → is_break c ≡ true → (is_opening c ≡ false) × (is_closing c ≡ false) × (is_quote c ≡ false)
-unfolding is_break is_opening is_closing is_quote
-break-not-others c h = (none_of is_opening (codes "\n\r") c refl h, none_of is_closing (codes "\n\r") c refl h, none_of is_quote (codes "\n\r") c refl h)
-
-pub opening-not-quote : (c : ℕ) → is_opening c ≡ true → is_quote c ≡ false
-unfolding is_opening is_quote
-opening-not-quote c h = none_of is_quote (codes "([{") c refl h
+pub break-not-others : (c : ℕ) → is_break c ≡ true → (is_opening c ≡ false) × (is_closing c ≡ false) × (is_quote c ≡ false) × (is_backslash c ≡ false)
+unfolding is_break is_opening is_closing is_quote is_backslash
+break-not-others c h =
+    let none : (p : ℕ → Bool) → list_any p (codes "\n\r") ≡ false → p c ≡ false = λ p none. none_of p (codes "\n\r") c none h in
+    (none is_opening refl, none is_closing refl, none is_quote refl, none is_backslash refl)
 
 pub return-not-brace : (c : ℕ) → is_return c ≡ true → is_brace c ≡ false
 unfolding is_return is_brace
