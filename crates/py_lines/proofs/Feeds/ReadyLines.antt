@@ -21,7 +21,7 @@ use Rattle.py_lines.specs.Private.LineTokens.{AreLineText, HoldsTokens, IsLineTe
 use Rattle.py_lines.specs.Private.Feed.{HasRoom, HoldsLine, IsReady, IsSoundFeed, StandsSo, StopsHeld, line_held}
 use Rattle.py_lines.proofs.Fields.OneReading.{one_fielded_reading}
 use Rattle.py_lines.proofs.Lexings.LineEnds.{read-alone}
-use Rattle.py_lines.proofs.LogicalLines.TokenPlaces.{tokens_lie}
+use Rattle.py_lines.proofs.LogicalLines.TokenPlaces.{each_after}
 use Rattle.py_lines.proofs.Readers.LineAnswers.{IsScannedLine, line_at_end, line_text}
 
 -- what was scanned of what is held
@@ -134,4 +134,4 @@ some_is (Some n) h = (n, refl)
 -- the tokens of the line that is ready lie in it
 pub ready_lies : (f : Feed) (end_len : ℕ) → IsReady f end_len → EachLiesIn (take f.state.scan.stop f.held.items) f.state.tokens.tokens.items
 ready_lies f end_len r = subst (λ (l : LogicalLine). EachLiesIn l.text l.tokens) (sym r.line_is)
-    (tokens_lie f.state.line r.holds.pieces (ap all_scalars r.holds.spells ∙ r.holds.scalars))
+    (each_after [] f.state.line r.holds.pieces (ap all_scalars r.holds.spells ∙ r.holds.scalars))

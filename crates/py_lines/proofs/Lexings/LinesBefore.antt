@@ -7,7 +7,7 @@ use Rattle.py_lines.specs.Fields.{fielded, AreReadBefore, IsShallow}
 use Rattle.py_lines.specs.Reading.{IsBalancedReading, EndsLine}
 use Rattle.py_lines.specs.Neighbours.{MayFollowLines}
 use Rattle.py_lines.specs.Private.Machine.{Bracket}
-use Rattle.py_lines.proofs.Pieces.PieceLists.{MayFollow, AreReadBefore-append, AreReadBefore-first, AreReadBefore-second}
+use Rattle.py_lines.proofs.Pieces.PieceLists.{MayFollow, AreReadIn-append, AreReadBefore-first, AreReadBefore-second}
 use Rattle.py_lines.proofs.Pieces.OpenBrackets.{balanced-from_stack, stack-from_balanced}
 use Rattle.py_lines.proofs.Pieces.ShallowPieces.{IsShallow-append, IsShallow-parts, brackets_shallow}
 use Rattle.py_lines.proofs.Machine.EarlierPieces.{shift_if, stack-after}
@@ -28,7 +28,7 @@ read_together lines rest (inr (body, last, is, class, level)) first second follo
     ap (λ t. ends is_return last.text && begins is_line_feed t) (append-nil (spelled rest))
     ∙ ap (λ b. b && begins is_line_feed (spelled rest)) (sym (ap (λ l. ends is_return (spelled l)) is ∙ ends-line is_return body last class holds)) ∙ follows.uncut in
     record {
-      reads = record { spell = refl; fit = AreReadBefore-append lines rest [] (subst (λ (l : List Piece). AreReadBefore l (spelled rest ++ [])) (sym is) (read_on fielded body last [] (spelled rest ++ []) class fit uncut)) second.reads.fit (follows_lines lines rest follows.unmarked) };
+      reads = record { spell = refl; fit = AreReadIn-append fielded lines rest [] (subst (λ (l : List Piece). AreReadBefore l (spelled rest ++ [])) (sym is) (read_on fielded body last [] (spelled rest ++ []) class fit uncut)) second.reads.fit (follows_lines lines rest follows.unmarked) };
       balanced = balance.both (lines ++ rest) lines rest refl first.balanced second.balanced;
       shallow = IsShallow-append 0 lines rest first.shallow (subst (λ (d : ℕ). IsShallow d rest) (sym (depth_prefix lines (inr (body, last, is, class, level)))) second.shallow);
     }

@@ -5,7 +5,7 @@ use Rattle.std.proofs.lemmas.Bool.{both_ways, and_right, false_from_ne_true}
 use Rattle.std.proofs.lemmas.Str.{encode_ascii, encodes_same}
 use Rattle.py_lines.specs.Character.{is_line_feed, is_return}
 use Rattle.py_lines.specs.Piece.{line_end, Piece, ends, begins, spelled}
-use Rattle.py_lines.specs.Fields.{AreReadBefore}
+use Rattle.py_lines.specs.Fields.{AreReadBefore, fielded}
 use Rattle.py_lines.specs.PieceGrammar.{return}
 use Rattle.py_lines.specs.LogicalLine.{byte_len, line_ends}
 use Rattle.py_lines.specs.declared.mode.Mode.{Mode}
@@ -15,7 +15,7 @@ use Rattle.py_lines.specs.declared.scan.Scan.{Scan}
 use Rattle.py_lines.specs.Private.Machine.{Scanned, fresh, Bracket, brackets_of}
 use Rattle.py_lines.specs.Private.ScanMachine.{IsScanSound, scan_steps}
 use Rattle.py_lines.specs.Private.Scan.{KeepsUp, Tallies, IsStacked, Takes, freed, line_start, stack_of, none_open, is_return_mode, EndsNoLine, EndsWhole, IsUnderWay, IsAtLineEnd}
-use Rattle.py_lines.proofs.Pieces.PieceLists.{piece, spelled-push, AreReadBefore-push, follows_any}
+use Rattle.py_lines.proofs.Pieces.PieceLists.{piece, spelled-push, AreReadIn-push, follows_any}
 use Rattle.py_lines.proofs.Text.CharacterTests.{feed_is, return_is}
 use Rattle.py_lines.proofs.Machine.PieceSteps.{scanned}
 use Rattle.py_lines.proofs.ScanMachine.Advance.{steps_push}
@@ -50,7 +50,7 @@ at_line_end m old new read rest c len way start takes =
 
 -- what may follow a line that CR ends, which the machine holds yet
 pub returned_fit : (done : List Piece) (held read more : List ℕ) → IsScanSound (scanned done modes.Return held) read → held ≡ 13 ∷ [] → begins is_line_feed more ≡ false → AreReadBefore (done ++ piece line_end held ∷ []) more
-returned_fit done held read more sound text none = AreReadBefore-push done line_end held more (sound.fit more) (return text) (and_right _ _ none) (follows_any done line_end held refl)
+returned_fit done held read more sound text none = AreReadIn-push fielded done line_end held more (sound.fit more) (return text) (and_right _ _ none) (follows_any done line_end held refl)
 
 pub returned : (m : Mode) (old : Scan) (read rest : List ℕ) (way : IsUnderWay m old read) → IsScanSound (line_start m) [] → is_return_mode old.piece.mode ≡ true → none_open (stack_of old.brackets) ≡ true → ((after : List ℕ) → encode_utf8_all after ≡ rest → begins is_line_feed after ≡ false) → IsAtLineEnd m (freed old) read rest 1
 returned m old read rest way start returns empty follows =

@@ -36,7 +36,8 @@ each_piece text start stop line space p ts lies others = others
 each_piece text start stop line line_end p ts lies others = others
 each_piece text start stop line class p ts lies others = each_cons text _ ts (lies _) others
 
-each_after : (before : List ℕ) (line : ℕ) (ps : List Piece) → all_scalars (spelled ps) ≡ true → EachLiesIn (encode_utf8_all (before ++ spelled ps)) (tokens_from (byte_len before) line ps)
+-- the tokens of pieces lie in the text, after what stands before them
+pub each_after : (before : List ℕ) (line : ℕ) (ps : List Piece) → all_scalars (spelled ps) ≡ true → EachLiesIn (encode_utf8_all (before ++ spelled ps)) (tokens_from (byte_len before) line ps)
 each_after before line [] scalars = each_nil (encode_utf8_all (before ++ []))
 each_after before line (p ∷ ps) scalars =
     let parts = all_scalars-parts p.text (spelled ps) scalars in
@@ -51,7 +52,3 @@ each_after before line (p ∷ ps) scalars =
       from = seam before (p.text ++ spelled ps) scalars;
       to = subst (IsCharBoundary text) stop (subst (λ t. IsCharBoundary (encode_utf8_all t) (byte_len (before ++ p.text))) regroup (seam (before ++ p.text) (spelled ps) parts.1));
     }) others
-
--- the tokens of a line lie in it
-pub tokens_lie : (line : ℕ) (ps : List Piece) → all_scalars (spelled ps) ≡ true → EachLiesIn (encode_utf8_all (spelled ps)) (tokens_from 0 line ps)
-tokens_lie line ps scalars = each_after [] line ps scalars

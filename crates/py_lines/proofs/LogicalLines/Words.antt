@@ -22,7 +22,7 @@ one_word b c line operator text = λ i. record { kind = kind.Op (first_or_zero t
 one_word b c line comment text = λ i. record { kind = kind.Remark; bytes = slice_seam b (encode_utf8_all text) c i } ∷ []
 one_word b c line class text = refl
 
-words_after : (b : List ℕ) (line : ℕ) (ps : List Piece) → map (word_in (b ++ encode_utf8_all (spelled ps))) (tokens_from (length b) line ps) ≡ words_of ps
+pub words_after : (b : List ℕ) (line : ℕ) (ps : List Piece) → map (word_in (b ++ encode_utf8_all (spelled ps))) (tokens_from (length b) line ps) ≡ words_of ps
 words_after b line [] = refl
 words_after b line (p ∷ ps) =
     let bytes = encode_utf8_all p.text in
@@ -36,9 +36,6 @@ words_after b line (p ∷ ps) =
     ∙ (λ i. one_word b (encode_utf8_all (spelled ps)) line p.class p.text i ++ map (word_in (regroup i)) (tokens_from (seam i) (line + line_ends p.text) ps))
     ∙ ap (λ l. words_of_piece p.class p.text ++ l) others
 
-pub words_of_line : (offset line : ℕ) (ps : List Piece) → map (word_in (line_of offset line ps).text) (line_of offset line ps).tokens ≡ words_of ps
-words_of_line offset line ps = words_after [] line ps
-
 one_extent : (start stop line row : ℕ) (class : Class) (text : List ℕ) → map extent_of (tokens_of_piece start stop line class text) ≡ map extent_of (tokens_of_piece start stop row class text)
 one_extent start stop line row word text = refl
 one_extent start stop line row other text = refl
@@ -50,6 +47,3 @@ same_extents start line row (p ∷ ps) =
     map-append extent_of (tokens_of_piece start stop line p.class p.text) (tokens_from stop (line + line_ends p.text) ps)
     ∙ (λ i. one_extent start stop line row p.class p.text i ++ same_extents stop (line + line_ends p.text) (row + line_ends p.text) ps i)
     ∙ sym (map-append extent_of (tokens_of_piece start stop row p.class p.text) (tokens_from stop (row + line_ends p.text) ps))
-
-pub extents_of_line : (offset line place row : ℕ) (ps : List Piece) → map extent_of (line_of offset line ps).tokens ≡ map extent_of (line_of place row ps).tokens
-extents_of_line offset line place row ps = same_extents 0 line row ps

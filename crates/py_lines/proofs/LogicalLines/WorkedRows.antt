@@ -3,15 +3,13 @@ use Rattle.std.proofs.Common.{◌≡◌, ℕ, List, [], ◌∷◌, map, refl}
 use Rattle.std.specs.Prelude.{codes}
 use Rattle.py_lines.specs.Character.{is_digit, is_line_feed, is_return}
 use Rattle.py_lines.specs.Piece.{Class, mark, space, word, string, operator, comment, join, line_end, Piece}
+use Rattle.py_lines.proofs.Pieces.PieceLists.{piece}
 use Rattle.py_lines.specs.Balance.{is_opening, is_closing}
 use Rattle.py_lines.specs.LogicalLine.{token, LogicalLine, lines_of}
 use Rattle.py_lines.specs.declared.token.TokKind.TheVariants.{Name, Number, Str, Op, Remark}
 use Rattle.py_lines.specs.declared.token.Token.{Token}
 use Rattle.py_lines.specs.declared.unit.UnitKind.{UnitKind}
 use Rattle.py_lines.specs.declared.unit.UnitKind.TheVariants as kinds
-
-abbrev piece : Class → List ℕ → Piece
-piece class text = record { class = class; text = text }
 
 abbrev unit : UnitKind → List ℕ → List Token → ℕ → ℕ → ℕ → ℕ → LogicalLine
 unit kind text tokens offset line indent end_len = record { kind = kind; text = text; tokens = tokens; offset = offset; line = line; indent = indent; end_len = end_len }

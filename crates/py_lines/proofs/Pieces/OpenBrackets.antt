@@ -14,18 +14,11 @@ unfolding is_closing is_opening
 closing-not-opening c h = none_of is_opening (41 ∷ 93 ∷ 125 ∷ []) c refl h
 
 pub closer-not-opener : (p : Piece) → is_closer p ≡ true → is_opener p ≡ false
-closer-not-opener p closes = go p.class p.text closes
-  where
-    go : (class : Class) (text : List ℕ) → is_operator_that is_closing class text ≡ true → is_operator_that is_opening class text ≡ false
-    go operator [] h = refl
-    go operator (c ∷ cs) h = closing-not-opening c h
-    go class text h = refl
+closer-not-opener p closes = grind (arith, closing-not-opening)
 
 -- a text that begins with an opening bracket, and one that begins with a closing one, are of one kind where their first characters are
 kinds_agree : (s t : List ℕ) → begins is_opening s ≡ true → begins is_closing t ≡ true → begins (λ c. begins (λ d. d == closing_of c) t) s ≡ (first_or_zero t == closing_of (first_or_zero s))
-kinds_agree [] t opens closes = absurd (both_ways _ refl opens)
-kinds_agree (c ∷ cs) [] opens closes = absurd (both_ways _ refl closes)
-kinds_agree (c ∷ cs) (d ∷ ds) opens closes = refl
+kinds_agree s t opens closes = grind arith
 
 operator_begins : (p : ℕ → Bool) (class : Class) (text : List ℕ) → is_operator_that p class text ≡ true → begins p text ≡ true
 operator_begins p operator text h = h
@@ -138,25 +131,20 @@ abbrev pub StandsIf : Option (List Bracket) → List Piece → Type 0
 StandsIf None ps = Unit {0}
 StandsIf (Some bs) ps = Stands bs ps
 
-depth_push : (ps : List Piece) (p : Piece) (n m : ℕ) → depth_through 0 ps ≡ n → depth_after n p ≡ m → depth_through 0 (ps ++ p ∷ []) ≡ m
-depth_push ps p n m before after = depth_through-append 0 ps (p ∷ []) ∙ ap (λ (d : ℕ). depth_after d p) before ∙ after
-
-shallow_push : (ps : List Piece) (p : Piece) → IsShallowPlain 0 ps → (is_opener p ≡ true → depth_through 0 ps < 200) → IsShallowPlain 0 (ps ++ p ∷ [])
-shallow_push ps p before room = EachAtDepth-append OpensShallow 0 ps (p ∷ []) before (room, tt)
+-- one more piece, where the brackets that stand then are known
+stands_with : (bs cs : List Bracket) (ps : List Piece) (p : Piece) → Stands bs ps → StandsAt cs (ps ++ p ∷ []) → (is_opener p ≡ true → length bs < 200) → depth_after (length bs) p ≡ length cs → Stands cs (ps ++ p ∷ [])
+stands_with bs cs ps p stands at room after = record {
+  at = at;
+  shallow = EachAtDepth-append OpensShallow 0 ps (p ∷ []) stands.shallow ((λ opens. subst (λ (n : ℕ). n < 200) (sym stands.depth) (room opens)), tt);
+  depth = depth_through-append 0 ps (p ∷ []) ∙ ap (λ (d : ℕ). depth_after d p) stands.depth ∙ after;
+}
 
 stands-opener : (bs : List Bracket) (ps : List Piece) (p : Piece) → Stands bs ps → is_opener p ≡ true → StandsIf (opened_by (first_or_zero p.text) (byte_len (spelled ps)) bs) (ps ++ p ∷ [])
 stands-opener bs ps p stands opens =
     let top : Bracket = record { opener = first_or_zero p.text; place = byte_len (spelled ps) } in
     cond_both (nat_lt (length bs) 200) (Some (top ∷ bs)) None (λ o. StandsIf o (ps ++ p ∷ []))
-    (λ room. record {
-      at = inside (top ∷ bs) (ps ++ p ∷ []) top bs ps [] p refl refl stands.at opens refl refl (balance.none [] refl);
-      shallow = shallow_push ps p stands.shallow (λ h. subst (λ (n : ℕ). n < 200) (sym stands.depth) (ltb-true (length bs) 200 room));
-      depth = depth_push ps p (length bs) (suc (length bs)) stands.depth (depth-opener (length bs) p opens);
-    })
+    (λ room. stands_with bs (top ∷ bs) ps p stands (inside (top ∷ bs) (ps ++ p ∷ []) top bs ps [] p refl refl stands.at opens refl refl (balance.none [] refl)) (λ h. ltb-true (length bs) 200 room) (depth-opener (length bs) p opens))
     (λ full. tt)
-
-not_deep : (ps : List Piece) (p : Piece) → is_opener p ≡ false → is_opener p ≡ true → depth_through 0 ps < 200
-not_deep ps p h k = absurd (both_ways _ h k)
 
 stands-pops : (b : Bracket) (bs : List Bracket) (ps : List Piece) (p : Piece) → StandsAt (b ∷ bs) ps → is_closer p ≡ true → first_or_zero p.text == closing_of b.opener ≡ true → StandsAt bs (ps ++ p ∷ [])
 stands-pops b bs ps p (level _ _ empty within) closes kind = absurd (cc)
@@ -176,11 +164,7 @@ stands-closer : (bs : List Bracket) (ps : List Piece) (p : Piece) → Stands bs 
 stands-closer [] ps p stands closes = tt
 stands-closer (b ∷ bs) ps p stands closes =
     cond_both (first_or_zero p.text == closing_of b.opener) (Some bs) None (λ o. StandsIf o (ps ++ p ∷ []))
-    (λ same. record {
-      at = stands-pops b bs ps p stands.at closes same;
-      shallow = shallow_push ps p stands.shallow (not_deep ps p (closer-not-opener p closes));
-      depth = depth_push ps p (suc (length bs)) (length bs) stands.depth (depth-closer (length bs) p closes);
-    })
+    (λ same. stands_with (b ∷ bs) bs ps p stands (stands-pops b bs ps p stands.at closes same) (λ opens. absurd (both_ways _ (closer-not-opener p closes) opens)) (depth-closer (length bs) p closes))
     (λ other. tt)
 
 -- one more piece
@@ -191,11 +175,7 @@ stands-push bs ps p stands =
     (λ opens. stands-opener bs ps p stands opens)
     (λ opens_not. cond_both (is_closer p) _ _ (λ o. StandsIf o (ps ++ p ∷ []))
     (λ closes. stands-closer bs ps p stands closes)
-    (λ closes_not. record {
-      at = stands-more bs ps (p ∷ []) stands.at (balance.one (p ∷ []) p refl (or_from _ _ opens_not closes_not));
-      shallow = shallow_push ps p stands.shallow (not_deep ps p opens_not);
-      depth = depth_push ps p (length bs) (length bs) stands.depth (depth-other (length bs) p opens_not closes_not);
-    }))
+    (λ closes_not. stands_with bs bs ps p stands (stands-more bs ps (p ∷ []) stands.at (balance.one (p ∷ []) p refl (or_from _ _ opens_not closes_not))) (λ opens. absurd (both_ways _ opens_not opens)) (depth-other (length bs) p opens_not closes_not)))
 
 -- more pieces
 pub stands-through : (ps done : List Piece) (o : Option (List Bracket)) → StandsIf o done → StandsIf (brackets_through o done ps) (done ++ ps)

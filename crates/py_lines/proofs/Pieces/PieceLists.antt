@@ -34,9 +34,6 @@ AreReadIn-append grammar (p ∷ ps) qs rest first second follows = (
     later [] h = tt
     later (o ∷ os) h = h
 
-pub AreReadBefore-append : (ps qs : List Piece) (rest : List ℕ) → AreReadBefore ps (spelled qs ++ rest) → AreReadBefore qs rest → MayFollow ps qs → AreReadBefore (ps ++ qs) rest
-AreReadBefore-append ps qs rest first second follows = AreReadIn-append fielded ps qs rest first second follows
-
 -- the second part of pieces that are read, by any grammar of strings
 pub AreReadIn-second : (grammar : Grammar) (ps qs : List Piece) (rest : List ℕ) → AreReadIn grammar (ps ++ qs) rest → AreReadIn grammar qs rest
 AreReadIn-second grammar [] qs rest fit = fit
@@ -49,9 +46,6 @@ AreReadBefore-second ps qs rest fit = AreReadIn-second fielded ps qs rest fit
 pub AreReadIn-push : (grammar : Grammar) (ps : List Piece) (class : Class) (text rest : List ℕ) → AreReadIn grammar ps (text ++ rest) → InClassIn grammar class text → MayPrecedeIn grammar class text rest → MayFollow ps (piece class text ∷ []) → AreReadIn grammar (ps ++ piece class text ∷ []) rest
 AreReadIn-push grammar ps class text rest fit is before follows =
     AreReadIn-append grammar ps (piece class text ∷ []) rest (subst (AreReadIn grammar ps) (ap (λ t. t ++ rest) (sym (append-nil text))) fit) (is, before, refl, tt) follows
-
-pub AreReadBefore-push : (ps : List Piece) (class : Class) (text rest : List ℕ) → AreReadBefore ps (text ++ rest) → InClass class text → MayPrecede class text rest → MayFollow ps (piece class text ∷ []) → AreReadBefore (ps ++ piece class text ∷ []) rest
-AreReadBefore-push ps class text rest fit is before follows = AreReadIn-push fielded ps class text rest fit is before follows
 
 pub spelled-push : (ps : List Piece) (class : Class) (text : List ℕ) → spelled (ps ++ piece class text ∷ []) ≡ spelled ps ++ text
 spelled-push ps class text = spelled-append ps (piece class text ∷ []) ∙ ap (λ t. spelled ps ++ t) (append-nil text)

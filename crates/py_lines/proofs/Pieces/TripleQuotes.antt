@@ -1,5 +1,5 @@
 -- Three quotes in a row, in items one after another.
-use Rattle.std.proofs.Common.{◌≡◌, ℕ, Bool, false, ◌==◌, List, [], ◌∷◌, ◌++◌, refl}
+use Rattle.std.proofs.Common.{◌≡◌, ℕ, Bool, false, ◌==◌, List, [], ◌∷◌, ◌++◌, refl, arith}
 use Rattle.std.proofs.lemmas.Bool.{or_parts, or_from, and_left, and_right}
 use Rattle.py_lines.specs.PieceGrammar.{is_bare, begins_triple, has_triple}
 
@@ -7,9 +7,7 @@ abbrev bare : ℕ → List ℕ → Bool
 bare q item = is_bare (λ d. d == q) item
 
 begins-left : (q : ℕ) (x : List ℕ) (xs ys : List (List ℕ)) → begins_triple q (x ∷ (xs ++ ys)) ≡ false → begins_triple q (x ∷ xs) ≡ false
-begins-left q x [] ys h = refl
-begins-left q x (y ∷ []) ys h = refl
-begins-left q x (y ∷ z ∷ zs) ys h = h
+begins-left q x xs ys h = grind arith
 
 pub triple-left : (q : ℕ) (xs ys : List (List ℕ)) → has_triple q (xs ++ ys) ≡ false → has_triple q xs ≡ false
 triple-left q [] ys h = refl
@@ -18,15 +16,10 @@ triple-left q (x ∷ xs) ys h =
     or_from _ _ (begins-left q x xs ys parts.0) (triple-left q xs ys parts.1)
 
 begins-other : (q : ℕ) (i : List ℕ) (ys : List (List ℕ)) → bare q i ≡ false → begins_triple q (i ∷ ys) ≡ false
-begins-other q i [] h = refl
-begins-other q i (y ∷ []) h = refl
-begins-other q i (y ∷ z ∷ zs) h = and_left _ _ (and_left _ _ h)
+begins-other q i ys h = grind arith
 
 begins-with_other : (q : ℕ) (x : List ℕ) (xs : List (List ℕ)) (i : List ℕ) (ys : List (List ℕ)) → bare q i ≡ false → begins_triple q (x ∷ xs) ≡ false → begins_triple q (x ∷ (xs ++ i ∷ ys)) ≡ false
-begins-with_other q x [] i [] h k = refl
-begins-with_other q x [] i (y ∷ ys) h k = and_left _ _ (and_right _ _ h)
-begins-with_other q x (y ∷ []) i ys h k = and_right _ _ h
-begins-with_other q x (y ∷ z ∷ zs) i ys h k = k
+begins-with_other q x xs i ys h k = grind arith
 
 -- an item that is no quote parts the quotes before it from those after it
 pub triple-other : (q : ℕ) (xs : List (List ℕ)) (i : List ℕ) (ys : List (List ℕ)) → bare q i ≡ false → has_triple q xs ≡ false → has_triple q ys ≡ false → has_triple q (xs ++ i ∷ ys) ≡ false

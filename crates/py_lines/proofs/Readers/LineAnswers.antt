@@ -7,7 +7,7 @@ use Rattle.std.proofs.lemmas.List.{append_cancel_left, drop-append-le, take-appe
 use Rattle.std.proofs.lemmas.Str.{length-le-encodes, encodes-append, IsUtf8-drop, IsUtf8-had, IsCharBoundary-from_rest, IsCharBoundary-at_seam}
 use Rattle.std.proofs.Math.Seq.{take-append_seam}
 use Rattle.py_lines.specs.Piece.{Class, line_end, Piece, spelled}
-use Rattle.py_lines.specs.Fields.{InClass, AreReadBefore, IsShallow}
+use Rattle.py_lines.specs.Fields.{InClass, AreReadBefore, IsShallow, fielded}
 use Rattle.py_lines.specs.Reading.{Decodes, EndsLine}
 use Rattle.py_lines.specs.LogicalLine.{LogicalLine, cut, byte_len, line_ends, line_of, end_len_of}
 use Rattle.py_lines.specs.Reader.{HasGiven, Continues, standing_at}
@@ -27,9 +27,9 @@ use Rattle.py_lines.specs.Private.Source.{line_of_source, scanned_text, GivesTok
 use Rattle.py_lines.specs.Token.{EachLiesIn}
 use Rattle.py_lines.proofs.Lexings.Existence.{first_at}
 use Rattle.py_lines.proofs.Text.Utf8Prefixes.{prefix_chars, all_scalars-parts, one_decoding}
-use Rattle.py_lines.proofs.Pieces.PieceLists.{spelled-append, AreReadBefore-append, AreReadBefore-second}
+use Rattle.py_lines.proofs.Pieces.PieceLists.{spelled-append, AreReadIn-append, AreReadBefore-second}
 use Rattle.py_lines.proofs.Lexings.LinePrefix.{line_first}
-use Rattle.py_lines.proofs.LogicalLines.TokenPlaces.{tokens_lie}
+use Rattle.py_lines.proofs.LogicalLines.TokenPlaces.{each_after}
 use Rattle.py_lines.proofs.LogicalLines.Cuts.{byte_len-append, one_line}
 use Rattle.py_lines.proofs.LineScan.LineCount.{line_ends-bytes}
 use Rattle.py_lines.proofs.LineScan.TextSteps.{follows_base}
@@ -131,7 +131,7 @@ given_line old new stop has end_len u line gives =
 
 -- its tokens lie in it
 lie_in_line : (new : Source) (offset number : ℕ) (u : List Piece) → line_of_source new ≡ line_of offset number u → all_scalars (spelled u) ≡ true → EachLiesIn (line_of_source new).text new.state.tokens.tokens.items
-lie_in_line new offset number u is scalars = subst (λ (l : LogicalLine). EachLiesIn l.text l.tokens) (sym is) (tokens_lie number u scalars)
+lie_in_line new offset number u is scalars = subst (λ (l : LogicalLine). EachLiesIn l.text l.tokens) (sym is) (each_after [] number u scalars)
 
 -- a line that its end closed, or the text's end
 pub data IsEnded (u : List Piece) (nothing : Type 0) : Type 0 where
@@ -141,7 +141,7 @@ pub data IsEnded (u : List Piece) (nothing : Type 0) : Type 0 where
 -- a line that was read after the lines given
 module _ {text : List ℕ} {place line : ℕ} {lines : List LogicalLine} {read rest : List ℕ} (k : IsKnown text place line lines read rest) {u : List Piece} (own : IsReadLine (line_start (first_mode place)) read u) (fit : AreReadBefore u k.more) where
   pub fits_after : AreReadBefore (k.base ++ u) k.more
-  fits_after = AreReadBefore-append k.base u k.more (subst (λ t. AreReadBefore k.base (t ++ k.more)) (sym own.spell) k.fit) fit (follows_base place k.base u read k.more own.to (of.stands text place line lines read rest k) own.spell fit own.steps)
+  fits_after = AreReadIn-append fielded k.base u k.more (subst (λ t. AreReadBefore k.base (t ++ k.more)) (sym own.spell) k.fit) fit (follows_base place k.base u read k.more own.to (of.stands text place line lines read rest k) own.spell fit own.steps)
 
   pub spelled_after : spelled (k.base ++ u) ≡ spelled k.base ++ read
   spelled_after = spelled-append k.base u ∙ ap (λ t. spelled k.base ++ t) own.spell
