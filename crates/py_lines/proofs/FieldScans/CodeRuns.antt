@@ -17,23 +17,16 @@ use Rattle.py_lines.specs.Private.FieldMachine.{plain, FieldScanned, field_fresh
 use Rattle.py_lines.specs.Private.FieldScan.{mode_from, GoesThrough, HoldsField, freed_at}
 use Rattle.py_lines.specs.Private.Marks.{is_of_class}
 use Rattle.py_lines.specs.Private.Run.{IsRunOf, is_ascii_word, is_code_byte, is_code_sign}
-use Rattle.py_lines.specs.Private.ScanMachine.{string_state}
 use Rattle.py_lines.specs.Private.WholePieces.{IsOperatorEnd}
 use Rattle.py_lines.proofs.LineScan.AsciiRuns.{all_pass, is_low, low_encodes, low_is}
 use Rattle.py_lines.proofs.LineScan.Runs.{space_low, word_byte_low}
-use Rattle.py_lines.proofs.LineScan.StringSteps.{here_at, string_more}
+use Rattle.py_lines.proofs.LineScan.StringSteps.{here_at, string_through}
 use Rattle.py_lines.proofs.LogicalLines.Cuts.{byte_len-append}
 use Rattle.py_lines.proofs.Text.CharacterTests.{operator_ascii}
 use Rattle.py_lines.proofs.FieldScans.Frames.{AreOpenAlike, frames_alike}
 use Rattle.py_lines.proofs.FieldScans.Runs.{holds_ascii}
 use Rattle.py_lines.proofs.FieldScans.Steps.{follows_free}
 use Rattle.py_lines.proofs.FieldScans.Texts.{codes_go, ends_in_word, goes_on-append, passes_code, operator-not-word, operator_others, sign_cases, sign_goes}
-
--- a string's text with the characters that the machine has gone through
-string_through : (depth : ℕ) (held : List ℕ) (t u : FieldScanned) (run : List ℕ) → string_state held ≡ Some t → GoesThrough depth t run u → string_state (held ++ run) ≡ Some u
-string_through depth held t u [] steps goes = ap string_state (append-nil held) ∙ steps ∙ ap Some goes
-string_through depth held t u (c ∷ cs) steps (low, none, move, next, step, others) =
-    ap string_state (sym (append_assoc held (c ∷ []) cs)) ∙ string_through depth (held ++ c ∷ []) next u cs (string_more held c t steps ∙ step) others
 
 -- such a byte is ASCII
 code_low : (c : ℕ) → is_code_byte c ≡ true → nat_lt c 128 ≡ true
@@ -58,7 +51,7 @@ holds_code first depth place bytes all len free run (within, nothing_or_sign) so
     (λ is_sign opens closes colon. sign_goes depth t.outer k.done t.openers k.mode k.held last (passes_code (ends_in_word false front) k.mode k.simple) is_sign opens closes colon) in
     let u : FieldScanned = field_fresh t.outer done t.openers in
     let through : GoesThrough depth t (take len bytes) u = subst (λ x. GoesThrough depth x (take len bytes) u) (sym is) (subst (λ cs. GoesThrough depth (at_start t.held) cs u) (sym split) (goes_on-append depth _ _ u front (last ∷ []) k.goes goes)) in
-    let stands : byte_len (before literal t.outer ++ (spelled done ++ [])) ≡ byte_len (held ++ take len bytes) = here_at (held ++ take len bytes) u (string_through depth held t u (take len bytes) steps through) in
+    let stands : byte_len (before literal t.outer ++ (spelled done ++ [])) ≡ byte_len (held ++ take len bytes) = here_at (held ++ take len bytes) u (string_through depth held (take len bytes) t u steps through) in
     let more : byte_len (take len bytes) ≡ len = ap length (low_encodes is_low (take len bytes) low_is low).0 ∙ length-take-le len bytes short in (
       u,
       through,

@@ -31,7 +31,7 @@ use Rattle.py_lines.proofs.Text.CharacterTests.{none_of, excluded}
 use Rattle.py_lines.proofs.LineScan.Increments.{line_ends-step}
 use Rattle.py_lines.proofs.LineScan.LineCount.{ends-last}
 use Rattle.py_lines.proofs.LineScan.PieceEnd.{counts_longer}
-use Rattle.py_lines.proofs.LineScan.StringSteps.{here_at, in_string, string_more}
+use Rattle.py_lines.proofs.LineScan.StringSteps.{here_at, in_string, string_more, string_through}
 use Rattle.py_lines.proofs.LineScan.LineSteps.{sound_steps}
 use Rattle.py_lines.proofs.ScanMachine.Advance.{steps_push}
 use Rattle.py_lines.specs.declared.scan.Progress.TheVariants as progress
@@ -241,13 +241,11 @@ counts_run old fields s run all full counts =
     (counts.here ∙ ap (λ (n : ℕ). old.line + n) (sym (line_ends-run (spelled s.done ++ s.held) run all))) (sym (ends-run (spelled s.done ++ s.held) run full all))
 
 -- a string with fields that goes on over a run
-pub string_run : (done : List Piece) (held run : List ℕ) (t u : FieldScanned) → string_state held ≡ Some t → GoesThrough (depth_through 0 done) t run u → (scan_steps (Some (scanned done modes.Fielded held)) run ≡ Some (scanned done modes.Fielded (held ++ run))) × (string_state (held ++ run) ≡ Some u)
-string_run done held [] t u is goes = (all_held done modes.Fielded held, ap string_state (append-nil held) ∙ is ∙ ap Some goes)
+pub string_run : (done : List Piece) (held run : List ℕ) (t u : FieldScanned) → string_state held ≡ Some t → GoesThrough (depth_through 0 done) t run u → scan_steps (Some (scanned done modes.Fielded held)) run ≡ Some (scanned done modes.Fielded (held ++ run))
+string_run done held [] t u is goes = all_held done modes.Fielded held
 string_run done held (c ∷ cs) t u is (low, none, move, next, step, others) =
-    let later = string_run done (held ++ c ∷ []) cs next u (string_more held c t is ∙ step) others in (
-      grown_by move_at done modes.Fielded modes.Fielded held c cs (ap (λ o. fielded_move (depth_through 0 done) o c) is ∙ move) ∙ later.0 ∙ longer done modes.Fielded held c cs,
-      ap string_state (sym (append_assoc held (c ∷ []) cs)) ∙ later.1,
-    )
+    grown_by move_at done modes.Fielded modes.Fielded held c cs (ap (λ o. fielded_move (depth_through 0 done) o c) is ∙ move)
+    ∙ string_run done (held ++ c ∷ []) cs next u (string_more held c t is ∙ step) others ∙ longer done modes.Fielded held c cs
 
 pub string_no_break : (depth : ℕ) (t : FieldScanned) (run : List ℕ) (u : FieldScanned) → GoesThrough depth t run u → list_all (λ d. not (is_break d)) run ≡ true
 string_no_break depth t [] u goes = refl
@@ -265,8 +263,11 @@ runs_on old fields done modes.Fielded held read run sound tallies stacked stay =
     let stop = i.stands.stop ∙ ap (λ n. old.piece.start + n) (here_at held i.state i.steps) in
     let (u, through, follows) = stay held i.state i.steps stop i.stands.follows i.stands.inside in
     let goes = subst (λ d. GoesThrough d i.state run u) (sym (stands done (stack_of old.brackets) stacked).depth) through in
-    let ran = string_run done held run i.state u i.steps goes in
-    record { steps = ran.0; none = string_no_break (depth_through 0 done) i.state run u goes; follows = (u, ran.1, follows) }
+    record {
+      steps = string_run done held run i.state u i.steps goes;
+      none = string_no_break (depth_through 0 done) i.state run u goes;
+      follows = (u, string_through (depth_through 0 done) held run i.state u i.steps goes, follows);
+    }
 runs_on old fields done m held read run sound tallies stacked stay = record { steps = held_run done m held run stay; none = all_no_break m run stay; follows = tt }
 
 -- the machine goes on in the open piece over these characters, and the scan follows it

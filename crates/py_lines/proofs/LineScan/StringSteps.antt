@@ -1,5 +1,5 @@
 -- A string with fields in the scan of a line: what is read of it is told by the machine with fields.
-use Rattle.std.proofs.Common.{◌≡◌, ℕ, zero, suc, ◌+◌, false, arith, Option, None, Some, List, [], ◌∷◌, ◌++◌, refl, sym, ap, ◌∙◌, subst}
+use Rattle.std.proofs.Common.{◌≡◌, ℕ, zero, suc, ◌+◌, false, arith, Option, None, Some, List, [], ◌∷◌, ◌++◌, refl, sym, ap, ◌∙◌, subst, append_assoc, append-nil}
 use Rattle.py_lines.specs.Piece.{Piece, spelled}
 use Rattle.py_lines.specs.LogicalLine.{byte_len}
 use Rattle.py_lines.specs.declared.mode.Mode.{Mode}
@@ -15,7 +15,7 @@ use Rattle.py_lines.specs.declared.scan.OpenPiece.{OpenPiece}
 use Rattle.py_lines.specs.declared.scan.Scan.{Scan}
 use Rattle.py_lines.specs.declared.mode.Start.TheVariants as starts
 use Rattle.py_lines.specs.Private.Machine.{Scanned, start_of}
-use Rattle.py_lines.specs.Private.FieldScan.{ComesTo, PushesField, RefusesField, EndsField}
+use Rattle.py_lines.specs.Private.FieldScan.{ComesTo, GoesThrough, PushesField, RefusesField, EndsField}
 use Rattle.py_lines.specs.Private.FieldMachine.{FieldMode, Level, FieldScanned, grows, field_state, field_move, field_moved, frames, has_room_at, field_text_start, field_step, field_steps_from}
 use Rattle.py_lines.specs.Private.FieldFaults.{here}
 use Rattle.py_lines.specs.Private.ScanMachine.{string_state, string_move, fielded_move, move_at, IsInString, IsScanSound}
@@ -55,6 +55,11 @@ one_step (Some t) = refl
 
 pub string_more : (held : List ℕ) (c : ℕ) (t : FieldScanned) → string_state held ≡ Some t → string_state (held ++ c ∷ []) ≡ field_step t c
 string_more held c t is = steps-append (Some field_text_start) held (c ∷ []) ∙ ap (λ o. field_steps_from o (c ∷ [])) is ∙ one_step (field_step t c)
+
+pub string_through : (depth : ℕ) (held run : List ℕ) (t u : FieldScanned) → string_state held ≡ Some t → GoesThrough depth t run u → string_state (held ++ run) ≡ Some u
+string_through depth held [] t u is goes = ap string_state (append-nil held) ∙ is ∙ ap Some goes
+string_through depth held (c ∷ cs) t u is (low, none, move, next, step, others) =
+    ap string_state (sym (append_assoc held (c ∷ []) cs)) ∙ string_through depth (held ++ c ∷ []) cs next u (string_more held c t is ∙ step) others
 
 -- how far it goes
 pub here_at : (held : List ℕ) (t : FieldScanned) → string_state held ≡ Some t → here t ≡ byte_len held

@@ -25,7 +25,7 @@ use Rattle.py_lines.proofs.ScanMachine.Spellings.{word_tells}
 use Rattle.py_lines.proofs.FieldScans.Steps.{comes_closed}
 use Rattle.py_lines.proofs.LineScan.Runs.{string_run}
 use Rattle.py_lines.proofs.LineScan.StringOpenings.{opened_as_body}
-use Rattle.py_lines.proofs.LineScan.StringSteps.{string_more}
+use Rattle.py_lines.proofs.LineScan.StringSteps.{string_more, string_through}
 
 -- its first quote
 pub quote_opens : (s : Spelling) (q : ℕ) → is_field_spelling s ≡ true → is_quote q ≡ true → meet_of (modes.Word s) q ≡ moves.Grows (modes.FieldOpened (record { quote = q; is_long = false; is_raw = is_raw_spelling s }))
@@ -94,10 +94,9 @@ module _ (done : List Piece) (few : depth_through 0 done ≤ 100) (c : ℕ) (cs 
     to_end : (after : List ℕ) → (scan_steps (Some (scanned done (modes.FieldOpened h) opening)) ((d ∷ ds) ++ after) ≡ scan_steps (Some (scanned done modes.Fielded held)) after) × (string_state held ≡ Some u)
     to_end after =
         let (low, none, move, next, step, others) = through in
-        let state : string_state (opening ++ d ∷ []) ≡ Some next = string_more opening d (field_state [] [] [] (spots.opened (host_in h)) opening) opened_state ∙ opened_as_body (host_in h) opening d other ∙ step in
-        let ran = string_run done (opening ++ d ∷ []) ds next u state others in (
-          grown_by move_at done (modes.FieldOpened h) modes.Fielded opening d (ds ++ after) (first_grows h d other none) ∙ steps_by-append move_at (Some (scanned done modes.Fielded (opening ++ d ∷ []))) ds after ∙ ap (λ o. scan_steps o after) ran.0,
-          ran.1,
+        let state : string_state (opening ++ d ∷ []) ≡ Some next = string_more opening d (field_state [] [] [] (spots.opened (host_in h)) opening) opened_state ∙ opened_as_body (host_in h) opening d other ∙ step in (
+          grown_by move_at done (modes.FieldOpened h) modes.Fielded opening d (ds ++ after) (first_grows h d other none) ∙ steps_by-append move_at (Some (scanned done modes.Fielded (opening ++ d ∷ []))) ds after ∙ ap (λ o. scan_steps o after) (string_run done (opening ++ d ∷ []) ds next u state others),
+          string_through depth (opening ++ d ∷ []) ds next u state others,
         )
 
     closes_string : scan_step (scanned done modes.Fielded held) q ≡ Some (fresh (done ++ piece string (held ++ q ∷ []) ∷ []))
