@@ -24,10 +24,9 @@ use Rattle.py_lines.proofs.Text.CharacterTests.{quote-not-word}
 use Rattle.py_lines.proofs.Machine.LiveTexts as live
 use Rattle.py_lines.proofs.Machine.Starts as begun
 use Rattle.py_lines.proofs.Machine.Soundness.{MoveHolds, move_holds, StartHolds, start_holds}
-use Rattle.py_lines.proofs.ScanMachine.Spellings.{Tells, word_tells, other_begins}
 use Rattle.py_lines.proofs.ScanMachine.BodyMoves.{IsBodyMode}
-use Rattle.py_lines.proofs.FieldMachine.PlainSteps.{is_fielded_mode, IsOpenAfter, open_after, plain_moves}
-use Rattle.py_lines.proofs.ScanMachine.Follows.{host_moves, closing_neutral}
+use Rattle.py_lines.proofs.FieldMachine.PlainSteps.{is_fielded_mode, IsOpenAfter, open_after}
+use Rattle.py_lines.proofs.ScanMachine.Follows.{word_meets, closing_neutral}
 
 -- a move of the machine without fields is the same in the code's words
 code_plain : (m : Mode) → is_fielded_mode m ≡ false → code_mode m ≡ plain m
@@ -39,52 +38,11 @@ as_plain : (v : Move) → IsOpenAfter v → code_moved v ≡ plain_move v
 as_plain (moves.Grows m) one = ap grows (code_plain m one)
 as_plain v other = refl
 
--- a word, before each character
-word_told : (s : Spelling) (held : List ℕ) → Holds (modes.Word s) [] held → Tells held s
-word_told s held (first, others, is, opens, run, spells) =
-    subst (λ (t : List ℕ). Tells t s) (sym is) (subst (λ (x : Spelling). Tells (first ∷ others) x) (sym spells) (word_tells first others))
-
-module _ (s : Spelling) (held : List ℕ) (c : ℕ) (own : Holds (modes.Word s) [] held) where
-  abbrev Same : Type 0
-  Same = code_move (modes.Word s) c ≡ field_move (plain (modes.Word s)) held c
-
-  told : Tells held s
-  told = word_told s held own
-
-  -- where no string with fields begins
-  plain_word : is_field_spelling s && is_quote c ≡ false → meet_of (modes.Word s) c ≡ move_of (modes.Word s) c → Same
-  unfolding code_move
-  plain_word other same =
-      ap code_moved same ∙ as_plain (move_of (modes.Word s) c) (open_after (modes.Word s) c) ∙ sym (plain_moves (modes.Word s) held c (ap (λ b. b && is_quote c) told.0 ∙ other))
-
-  no_quote : is_quote c ≡ false → Same
-  unfolding meet_of move_of
-  no_quote none = plain_word (and_right (is_field_spelling s) _ none) (rw (and_right (is_prefix_spelling s) _ none, none))
-
-  plain_quote : is_quote c ≡ true → is_field_spelling s ≡ false → Same
-  unfolding meet_of quote_move move_of
-  plain_quote quotes other = plain_word (ap (λ b. b && is_quote c) other) (go (is_prefix_spelling s) refl)
-    where
-      go : (b : Bool) → is_prefix_spelling s ≡ b → meet_of (modes.Word s) c ≡ move_of (modes.Word s) c
-      go true prefix = rw (quotes, other, other_begins s other, prefix)
-      go false prefix = rw (quotes, other, other_begins s other, prefix)
-
-  field_quote : is_quote c ≡ true → is_field_spelling s ≡ true → Same
-  unfolding code_move meet_of quote_move
-  field_quote quotes field =
-      let h : StringWithFields = record { quote = c; is_long = false; is_raw = is_raw_spelling s } in
-      let host : host_in h ≡ host_of held c = ap (λ (b : Bool). record { quote = c; is_long = false; is_raw = b }) (sym (told.1 field)) in
-      let left : code_move (modes.Word s) c ≡ grows (opened (host_in h)) = rw (quote-not-word c quotes, quotes, field) in
-      left ∙ ap (λ (x : Host). grows (opened x)) host ∙ sym (host_moves s held c (told.0 ∙ field) quotes)
-
-  word_meets : Same
-  word_meets = ⊎_elim (λ quotes. ⊎_elim (field_quote quotes) (plain_quote quotes) (cases_Bool (is_field_spelling s))) no_quote (cases_Bool (is_quote c))
-
 -- the code meets a character as the machine does
 pub meets : (m : FieldMode) (held : List ℕ) (c : ℕ) → HoldsCode (mode_from m) held → meets_field m c ≡ field_move (mode_from m) held c
 unfolding code_move meet_of field_move body_move
 meets (field_modes.Body h region named at) held c holds = refl
-meets (field_modes.Code (modes.Word s)) held c holds = word_meets s held c holds
+meets (field_modes.Code (modes.Word s)) held c holds = sym (word_meets s held c holds)
 meets (field_modes.Code (modes.FieldOpened h)) held c holds = refl
 meets (field_modes.Code (modes.FieldEmpty h)) held c holds = refl
 meets (field_modes.Code m) held c holds = as_plain (move_of m c) (open_after m c)
