@@ -4,7 +4,7 @@ ghost use Rattle.std.specs.Prelude.{◌≡◌, ◌==◌, ◌&&◌, ◌+◌, ◌<
 ghost use Rattle.std.specs.Char.{len_utf8};
 ghost use Rattle.py_lines.specs.Balance.{is_opening};
 ghost use Rattle.py_lines.specs.Private.FieldFaults.{is_waiting};
-ghost use Rattle.py_lines.specs.Private.FieldScan.{mode_from, opened_with};
+ghost use Rattle.py_lines.specs.Private.FieldScan.{mode_from};
 ghost use Rattle.py_lines.specs.Private.ScanMachine.{host_in};
 
 use crate::brackets::{MAX_DEPTH, closing_of};
@@ -41,24 +41,18 @@ pub struct FieldScan {
     pub frames: Frames,
 }
 
-/// How many brackets and fields open with the first character of a field's code.
-fn opened_with(c: char) -> usize
-    ensures { result ≡ opened_with c }
-{
-    if is_opening(c) { 2 } else { 1 }
-}
-
 impl FieldScan {
     ghost use Rattle.std.specs.Prelude.{ℕ, false, Some, []};
     ghost use Rattle.py_lines.specs.Private.Machine.{start_of};
     ghost use Rattle.py_lines.specs.Private.FieldMachine.{closes, breaks, begins_code, opens_field, ends_field};
     ghost use Rattle.py_lines.specs.Private.FieldScan.{EndsCode, EndsField, FollowsBody, HoldsField, IsInPlace};
     ghost use Rattle.py_lines.specs.Private.FieldScan.{PushesField, RefusesField, StandsInText, TakesMove};
-    ghost use Rattle.py_lines.specs.Private.FieldScan.{ended_in, freed_at, waiting_field};
-    ghost use Rattle.py_lines.specs.Private.Frames.{InField, IsInnermostFrame};
+    ghost use Rattle.py_lines.specs.Private.FieldScan.{ended_in, entered, freed_at};
+    ghost use Rattle.py_lines.specs.Private.Frames.{InField, IsInnermostFrame, StandsIn};
     ghost use Rattle.py_lines.specs.declared.mode.Mode.TheVariants.{Free};
     ghost use Rattle.py_lines.specs.declared.mode.Start.TheVariants.{Operator};
     ghost use Rattle.py_lines.specs.declared.field_mode.FieldMode.TheVariants.{Code};
+    ghost use Rattle.py_lines.specs.declared.field_scan.FieldProgress.TheVariants.{Refused};
     ghost use Rattle.py_lines.specs.declared.frames.Frame.{Frame};
 
     /// Of no string.
@@ -129,6 +123,7 @@ impl FieldScan {
         requires operator { start_of c ≡ Operator }
         requires opens { is_opening c ≡ true }
         ensures takes { TakesMove self.old c place depth breaks result self.new }
+        ensures same { result ≡ Refused → self.new ≡ self.old }
         ensures placed { IsInPlace self.old → IsInPlace self.new }
     {
         if !self.has_room(depth, 1) {
@@ -147,6 +142,7 @@ impl FieldScan {
         requires innermost { (at : ℕ)
             × IsInnermostFrame (Some (Frame.Bracket opener at)) self.old.frames }
         ensures takes { (depth : ℕ) → TakesMove self.old c place depth breaks result self.new }
+        ensures same { result ≡ Refused → self.new ≡ self.old }
         ensures placed { IsInPlace self.old → IsInPlace self.new }
     {
         if is_closing(c) {
@@ -166,6 +162,7 @@ impl FieldScan {
         requires other { is_opening c ≡ false }
         requires innermost { IsInnermostFrame (Some (Frame.Field field)) self.old.frames }
         ensures takes { (depth : ℕ) → TakesMove self.old c place depth breaks result self.new }
+        ensures same { result ≡ Refused → self.new ≡ self.old }
         ensures placed { IsInPlace self.old → IsInPlace self.new }
     {
         if c == '}' {
@@ -188,6 +185,7 @@ impl FieldScan {
         requires inside { self.old.frames ≡ [] → ⊥ }
         requires operator { start_of c ≡ Operator }
         ensures takes { TakesMove self.old c place depth breaks result self.new }
+        ensures same { result ≡ Refused → self.new ≡ self.old }
         ensures placed { IsInPlace self.old → IsInPlace self.new }
     {
         if is_opening(c) {
@@ -205,6 +203,7 @@ impl FieldScan {
         requires bytes { place + len_utf8 c < 2 ^ 64 }
         requires inside { self.old.frames ≡ [] → ⊥ }
         ensures takes { TakesMove self.old c place depth breaks result self.new }
+        ensures same { result ≡ Refused → self.new ≡ self.old }
         ensures placed { IsInPlace self.old → IsInPlace self.new }
     {
         match Start::of(c) {
@@ -222,46 +221,19 @@ impl FieldScan {
         }
     }
 
-    /// The field of this string whose `{` stands directly before this byte, in the literal part.
-    fn waiting_field(&self, host: StringWithFields, place: usize) -> OpenField
-        ensures { result ≡ waiting_field self.now host place }
+    /// Opens a field of the string whose text is open, by its `{` at one byte. Its code begins at another.
+    fn enter(&mut self, host: StringWithFields, region: Region, brace: usize, place: usize)
+        requires room { length self.old.frames < 200 }
+        requires stands { StandsIn region self.old.frames }
+        ensures { self.new ≡ entered self.old host region brace place }
     {
-        OpenField {
-            place: place.saturating_sub(1),
+        self.frames.push(Frame::Field(OpenField {
+            place: brace,
             host,
-            region: Region::Literal,
+            region,
             start: self.start,
-        }
-    }
-
-    /// Takes the operator with which the code of this field begins, whose `{` stands directly before.
-    fn begin_with_operator(&mut self, field: OpenField, c: char, place: usize) -> FieldProgress
-        requires bytes { place + len_utf8 c < 2 ^ 64 }
-        requires operator { start_of c ≡ Operator }
-        requires field { field ≡ waiting_field self.old field.host place }
-        requires room { length self.old.frames + opened_with c ≤ 200 }
-        ensures takes { (depth : ℕ)
-            → nat_lt (depth + length self.old.frames + opened_with c) 201 ≡ true
-            → TakesMove self.old c place depth (begins_code (host_in field.host)) result self.new }
-        ensures placed { IsInPlace self.old → IsInPlace self.new }
-    {
-        if c == '}' {
-            self.resume(field);
-            return FieldProgress::Going;
-        }
-        if is_closing(c) {
-            return FieldProgress::Refused;
-        }
-        self.frames.push(Frame::Field(field));
-        if c == ':' {
-            self.mode = FieldMode::Body(field.host, Region::Specification, false, At::Between);
-            return FieldProgress::Going;
-        }
-        if is_opening(c) {
-            self.frames.push(Frame::Bracket(c, place));
-        }
-        self.free(place + 1);
-        FieldProgress::Going
+        }));
+        self.free(place);
     }
 
     /// Takes the character with which the code of a field begins, whose `{` stands directly before.
@@ -277,24 +249,20 @@ impl FieldScan {
             result self.new }
         ensures placed { IsInPlace self.old → IsInPlace self.new }
     {
-        if !self.has_room(depth, opened_with(c)) {
+        if !self.has_room(depth, 1) {
             return FieldProgress::Refused;
         }
-        let field = self.waiting_field(host, place);
-        match Start::of(c) {
-            Start::Operator => self.begin_with_operator(field, c, place),
-            Start::Nothing => FieldProgress::Refused,
-            Start::LineEnd => {
-                self.frames.push(Frame::Field(field));
-                self.free(place + 1);
-                FieldProgress::Going
+        let (mode, start) = (self.mode, self.start);
+        self.enter(host, Region::Literal, place.saturating_sub(1), place);
+        match self.begin_piece(c, place, depth) {
+            FieldProgress::Refused => {
+                // The field doesn't begin so: all is as it was.
+                self.frames.pop();
+                self.mode = mode;
+                self.start = start;
+                FieldProgress::Refused
             }
-            Start::Open(mode) => {
-                self.frames.push(Frame::Field(field));
-                self.mode = FieldMode::Code(mode);
-                self.start = place;
-                FieldProgress::Going
-            }
+            taken => taken,
         }
     }
 
@@ -315,13 +283,7 @@ impl FieldScan {
         if !self.has_room(depth, 1) {
             return FieldProgress::Refused;
         }
-        self.frames.push(Frame::Field(OpenField {
-            place,
-            host,
-            region: Region::Specification,
-            start: self.start,
-        }));
-        self.free(place + 1);
+        self.enter(host, Region::Specification, place, place + 1);
         FieldProgress::Going
     }
 

@@ -39,7 +39,7 @@ fault_by scan base depth t c cause kind place f is kind_is place_is =
 pub field_in : (scan : FieldScan) (base : ℕ) (t : FieldScanned) (field : OpenField) (others : List Frame) → Follows scan base t → scan.frames ≡ frame.Field field ∷ others → (field.place ≡ base + field_start t) × (t.openers ≡ [])
 field_in scan base t field others f top =
     let i = innermost_field base t.outer t.done t.openers scan.frames others field f.frames top in
-    (i.place ∙ ap (λ (ls : List Level). base + (byte_len (before literal ls) - 1)) (sym i.outer_is), i.none)
+    (i.at.place ∙ ap (λ (ls : List Level). base + (byte_len (before literal ls) - 1)) (sym i.outer_is), i.none)
 
 -- the place of the field whose specification is open
 pub specification_place : (scan : FieldScan) (base : ℕ) (t : FieldScanned) (place : ℕ) → Follows scan base t → InField scan.frames → ((f : Frame) (others : List Frame) → scan.frames ≡ f ∷ others → place ≡ place_of f) → place ≡ base + field_start t

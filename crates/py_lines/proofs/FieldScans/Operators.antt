@@ -26,7 +26,7 @@ use Rattle.py_lines.proofs.Pieces.OpenBrackets.{closing-not-opening}
 use Rattle.py_lines.proofs.FieldMachine.ListBrackets.{opening_pushes, closing_pops, others_keep}
 use Rattle.py_lines.proofs.FieldMachine.PieceRuns.{IsNoColon, operator_stays}
 use Rattle.py_lines.proofs.FieldScans.FieldFaults.{open-length}
-use Rattle.py_lines.proofs.FieldScans.Frames.{frames_alike, InnermostField, innermost_bracket, innermost_field, bracket_opened, bracket_closed, field_opened, operator_alike}
+use Rattle.py_lines.proofs.FieldScans.Frames.{frames_alike, InnermostField, innermost_bracket, innermost_field, bracket_opened, bracket_closed, operator_alike}
 use Rattle.py_lines.proofs.FieldScans.Moves.{body_waits}
 use Rattle.py_lines.proofs.FieldScans.Steps.{follows_free, going, no_room, no_step}
 use Rattle.py_lines.proofs.FieldScans.Taking.{Broken, broken, piece_after, no_opening, one_operator}
@@ -66,13 +66,13 @@ opening_none n c opens none = ap (λ b. not b || nat_lt n 200) opens ∙ false_f
 pub resumed : (old : FieldScan) (base : ℕ) (outer : List Level) (openers : List ℕ) (field : OpenField) (others : List Frame) (i : InnermostField base outer openers field others) (text : List ℕ) → Follows (ended_in (record old { frames = others }) field) base (field_ended i.level i.outside text)
 resumed old base outer openers field others i text =
     record {
-      mode = ap (λ h. body h (region_in field.region) false between) i.host ∙ ap (λ p. body i.level.host p false between) i.region;
+      mode = ap (λ h. body h (region_in field.region) false between) i.at.host ∙ ap (λ p. body i.level.host p false between) i.at.region;
       holds = tt;
-      no_list = i.bare;
+      no_list = i.at.bare;
       waits = body_waits i.level.host i.level.place false between (λ at. refl);
       full = λ w. absurd (awaits i.level.place w);
-      start = i.start;
-      frames = i.within;
+      start = i.at.start;
+      frames = i.at.round;
     }
   where
     awaits : (p : Place) → is_waiting (body i.level.host p false between) ≡ true → ⊥
@@ -161,13 +161,13 @@ module _ (old : FieldScan) (base depth c place : ℕ) (t : FieldScanned) (follow
         (field_state (i.level ∷ i.outside) [] [] (body i.level.host specification false between) (i.level.front ++ (spelled Done ++ c ∷ []))) like
         (in_code _ (rw (other c (byte "}") ends, eq-eqb c (byte ":") specifies))) (no_opening (depth + frames t) c (ap is_opening specifies)) (λ none. absurd (cc))
         (record {
-          mode = ap (λ h. body h specification false between) i.host;
+          mode = ap (λ h. body h specification false between) i.at.host;
           holds = tt;
           no_list = (refl, refl);
           waits = refl;
           full = λ w. absurd (both_ways _ refl w);
-          start = i.start ∙ ap (λ x. base + byte_len x) (sym (append-nil (before i.level.place i.outside ++ spelled i.level.done)));
-          frames = subst (FramesFollow base (i.level ∷ i.outside) [] []) (sym top) (field_opened base i.level i.outside others field i.within i.place i.host i.region i.start i.bare);
+          start = i.at.start ∙ ap (λ x. base + byte_len x) (sym (append-nil (before i.level.place i.outside ++ spelled i.level.done)));
+          frames = ([], field, others, refl, refl, top, i.at);
         })
 
     pub field_closes_none : (c ≡ byte "}" → ⊥) → (c ≡ byte ":" → ⊥) → is_closing c ≡ true → ComesTo base depth t c old progress.Refused old

@@ -18,7 +18,7 @@ use Rattle.py_lines.specs.Private.FieldMachine as spots
 use Rattle.py_lines.specs.Private.FieldMachine.{At, Level, FieldScanned, field_text_start, text_place, between, body, empty, grows, breaks, opens_field, ends_field, FieldMove, long_host, between_move}
 use Rattle.py_lines.specs.Private.FieldFaults.{quotes_specification}
 use Rattle.py_lines.specs.Private.Frames.{InField, IsInnermostFrame, StandsIn}
-use Rattle.py_lines.specs.Private.FieldScan.{Follows, FramesFollow, in_list, HasNoList, IsInPlace, IsPlaced, code_mode, code_move, code_moved, meets_field, mode_from, region_in, at_in}
+use Rattle.py_lines.specs.Private.FieldScan.{Follows, FramesFollow, HasNoList, IsInPlace, IsPlaced, code_mode, code_move, code_moved, meets_field, mode_from, region_in, at_in}
 use Rattle.py_lines.specs.Private.ScanMachine.{IsInString, host_in, meet_of, string_state}
 use Rattle.py_lines.specs.Piece.{Piece, spelled}
 use Rattle.py_lines.proofs.FieldSoundness.Holds.{HoldsLevels}
@@ -113,8 +113,8 @@ moved_placed old c v is placed = subst (λ (x : FieldMove). Placed x old.frames)
 -- so it is wherever the scan follows the machine from the string's start
 specification_in : (base : ℕ) (outer : List Level) (text : List ℕ) (done : List Piece) (openers : List ℕ) (fs : List Frame) → HoldsLevels no_limit specification outer text → openers ≡ [] → FramesFollow base outer done openers fs → InField fs
 specification_in base [] text done openers fs levels none frames = absurd levels
-specification_in base (l ∷ ls) text done openers fs levels none (in_list _ _ _ _ _ _ [] field others stack openers_are frames_are place host region start bare within) = field_open fs others field frames_are
-specification_in base (l ∷ ls) text done openers fs levels none (in_list _ _ _ _ _ _ (b ∷ bs) field others stack openers_are frames_are place host region start bare within) = absurd (cc (none, openers_are))
+specification_in base (l ∷ ls) text done openers fs levels none ([], field, others, stack, openers_are, frames_are, at) = field_open fs others field frames_are
+specification_in base (l ∷ ls) text done openers fs levels none ((b ∷ bs), field, others, stack, openers_are, frames_are, at) = absurd (cc (none, openers_are))
 
 pub scan_placed : (scan : FieldScan) (base : ℕ) (held : List ℕ) (t : FieldScanned) → string_state held ≡ Some t → IsInString t → Follows scan base t → IsInPlace scan
 scan_placed scan base held t steps inside follows = go scan.mode refl

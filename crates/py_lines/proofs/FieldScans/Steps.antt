@@ -1,5 +1,5 @@
 -- What one more character comes to in a string with fields, by what it does in the machine.
-use Rattle.std.proofs.Common.{◌≡◌, ℕ, ◌+◌, Bool, true, false, None, Some, List, [], ◌∷◌, ◌++◌, refl, sym, ap, ◌∙◌, subst}
+use Rattle.std.proofs.Common.{◌≡◌, ℕ, ◌+◌, Bool, true, false, Option, None, Some, List, [], ◌∷◌, ◌++◌, refl, sym, ap, ◌∙◌, subst}
 use Rattle.std.proofs.lemmas.Bool.{both_ways}
 use Rattle.std.specs.Prelude.{if◌then◌else◌}
 use Rattle.py_lines.specs.Piece.{Piece, spelled}
@@ -10,7 +10,7 @@ use Rattle.py_lines.specs.declared.mode.Move.{Move}
 use Rattle.py_lines.specs.declared.mode.Move.TheVariants as moves
 use Rattle.py_lines.specs.declared.field_scan.FieldScan.{FieldScan}
 use Rattle.py_lines.specs.declared.field_scan.FieldProgress.TheVariants as progress
-use Rattle.py_lines.specs.Private.FieldMachine.{FieldMove, closes, Level, FieldScanned, field_fresh, field_move, field_moved, before, frames, has_room_at}
+use Rattle.py_lines.specs.Private.FieldMachine.{FieldMove, closes, refused, Level, FieldScanned, field_fresh, field_move, field_moved, before, frames, has_room_at}
 use Rattle.py_lines.specs.Private.ScanMachine.{string_move, fielded_move, IsInString}
 use Rattle.py_lines.specs.Private.FieldScan.{Follows, FramesFollow, freed_at, ComesTo}
 
@@ -26,28 +26,25 @@ is_closing_move _ = false
 pub keeps_open : (v : FieldMove) → is_closing_move v ≡ false → v ≡ closes → ⊥
 keeps_open v other is = both_ways _ other (ap is_closing_move is)
 
--- where a string goes on, or ends
-string_goes : (outer : List Level) (v : FieldMove) (next : FieldScanned) → (outer ≡ [] → v ≡ closes → ⊥) → string_move outer v (Some next) ≡ moves.Grows modes.Fielded
-string_goes [] closes next goes_on = absurd (goes_on refl refl)
-string_goes [] v next goes_on = refl
-string_goes (l ∷ ls) v next goes_on = refl
-
-string_stops : (t : FieldScanned) (c : ℕ) (outer : List Level) (v : FieldMove) → field_moved t c v ≡ None → string_move outer v None ≡ moves.Refused
-string_stops t c [] closes none = absurd (cc)
-string_stops t c [] v none = refl
-string_stops t c (l ∷ ls) v none = refl
+-- what doesn't close the string goes on in it, if there is a step
+pub goes_if : (outer : List Level) (v : FieldMove) (o : Option FieldScanned) → (outer ≡ [] → v ≡ closes → ⊥) → string_move outer v o ≡ string_move [] refused o
+goes_if [] closes o goes_on = absurd (goes_on refl refl)
+goes_if [] v None goes_on = refl
+goes_if [] v (Some next) goes_on = refl
+goes_if (l ∷ ls) v None goes_on = refl
+goes_if (l ∷ ls) v (Some next) goes_on = refl
 
 module _ (base depth : ℕ) (t : FieldScanned) (c : ℕ) (v : FieldMove) (is : field_move t.mode t.held c ≡ v) where
   abbrev roomy : Bool → Move → Move
   roomy b w = if b then w else moves.Refused
 
-  by_move : fielded_move depth (Some t) c ≡ roomy (has_room_at (depth + frames t) c v) (string_move t.outer v (field_moved t c v))
+  pub by_move : fielded_move depth (Some t) c ≡ roomy (has_room_at (depth + frames t) c v) (string_move t.outer v (field_moved t c v))
   by_move = ap (λ w. roomy (has_room_at (depth + frames t) c w) (string_move t.outer w (field_moved t c w))) is
 
   -- the string goes on
   pub goes_through : (next : FieldScanned) → has_room_at (depth + frames t) c v ≡ true → field_moved t c v ≡ Some next → (t.outer ≡ [] → v ≡ closes → ⊥) → fielded_move depth (Some t) c ≡ moves.Grows modes.Fielded
   goes_through next room comes goes_on =
-      by_move ∙ ap (λ b. roomy b (string_move t.outer v (field_moved t c v))) room ∙ ap (string_move t.outer v) comes ∙ string_goes t.outer v next goes_on
+      by_move ∙ ap (λ b. roomy b (string_move t.outer v (field_moved t c v))) room ∙ ap (string_move t.outer v) comes ∙ goes_if t.outer v (Some next) goes_on
 
   -- it is taken
   pub going : (old new made : FieldScan) (next : FieldScanned) → new ≡ made → has_room_at (depth + frames t) c v ≡ true → field_moved t c v ≡ Some next → (t.outer ≡ [] → v ≡ closes → ⊥) → IsInString next → Follows made base next → ComesTo base depth t c old progress.Going new
@@ -73,7 +70,7 @@ module _ (base depth : ℕ) (t : FieldScanned) (c : ℕ) (v : FieldMove) (is : f
   -- it may not stand there
   pub no_step : (old : FieldScan) → field_moved t c v ≡ None → ComesTo base depth t c old progress.Refused old
   no_step old none =
-      (by_move ∙ ap (λ o. roomy (has_room_at (depth + frames t) c v) (string_move t.outer v o)) none ∙ ap (roomy (has_room_at (depth + frames t) c v)) (string_stops t c t.outer v none) ∙ go (has_room_at (depth + frames t) c v), refl)
+      (by_move ∙ ap (λ o. roomy (has_room_at (depth + frames t) c v) (string_move t.outer v o)) none ∙ ap (roomy (has_room_at (depth + frames t) c v)) (goes_if t.outer v None (λ outside shut. let clash = sym (ap (field_moved t c) shut) ∙ none in cc)) ∙ go (has_room_at (depth + frames t) c v), refl)
     where
       go : (b : Bool) → roomy b moves.Refused ≡ moves.Refused
       go true = refl

@@ -3,7 +3,6 @@
 use Rattle.std.specs.Prelude.{◌≡◌, ℕ, ◌+◌, ◌-◌, ◌<◌, ◌≤◌, ◌==◌, ◌&&◌, not, nat_lt, Bool, true, false, Option, None, Some, List, [], ◌∷◌, ◌++◌, length, drop, encode_utf8_all, if◌then◌else◌}
 use Rattle.std.specs.Str.{all_scalars}
 use Rattle.py_lines.specs.Character.{is_backslash, is_brace, is_break, is_quote, is_space, is_word_character}
-use Rattle.py_lines.specs.Balance.{is_opening}
 use Rattle.py_lines.specs.LogicalLine.{byte_len}
 use Rattle.py_lines.specs.Faults.{kind_of_cause, Unfinished, open_bracket, kind_of_unfinished}
 use Rattle.py_lines.specs.Piece.{Piece, spelled}
@@ -123,17 +122,24 @@ abbrev pub HasNoList : spots.FieldMode → List Piece → List ℕ → Type 0
 HasNoList (body host place named at) done openers = NoListAt place done openers
 HasNoList other done openers = Unit {0}
 
+-- the scan keeps a field of this level within these, where the outermost string starts at byte `base` and this is known of the frames
+-- round the field's string
+pub record FieldFollows (base : ℕ) (l : Level) (ls : List Level) (field : OpenField) (Others : Type 0) : Type 0 where
+  pub place : field.place ≡ base + (byte_len (before literal (l ∷ ls)) - 1)
+  pub host : host_in field.host ≡ l.host
+  pub region : region_in field.region ≡ l.place
+  pub start : field.start ≡ base + byte_len (before l.place ls ++ spelled l.done)
+  pub bare : NoListAt l.place l.done l.openers
+  pub round : Others
+
 -- The frames of a state, the innermost first: the brackets of its innermost list, the field in which that stands, and the frames
--- round that field's string. The string starts at byte `base`.
-pub data FramesFollow : ℕ → List Level → List Piece → List ℕ → List Frame → Type 0 where
-  none_open : (base : ℕ) (done : List Piece) (openers : List ℕ) (fs : List Frame) → openers ≡ [] → fs ≡ [] → FramesFollow base [] done openers fs
-  in_list : (base : ℕ) (l : Level) (ls : List Level) (done : List Piece) (openers : List ℕ) (fs : List Frame) (brackets : List Bracket)
-      (field : OpenField) (others : List Frame)
-      → brackets_of done ≡ Some brackets → openers ≡ bracket_openers brackets
-      → fs ≡ bracket_frames (base + byte_len (before literal (l ∷ ls))) brackets ++ frame.Field field ∷ others
-      → field.place ≡ base + (byte_len (before literal (l ∷ ls)) - 1) → host_in field.host ≡ l.host → region_in field.region ≡ l.place
-      → field.start ≡ base + byte_len (before l.place ls ++ spelled l.done) → NoListAt l.place l.done l.openers
-      → FramesFollow base ls l.done l.openers others → FramesFollow base (l ∷ ls) done openers fs
+-- round that field's string.
+abbrev pub FramesFollow : ℕ → List Level → List Piece → List ℕ → List Frame → Type 0
+FramesFollow base [] done openers fs = (openers ≡ []) × (fs ≡ [])
+FramesFollow base (l ∷ ls) done openers fs =
+    (bs : List Bracket) × (field : OpenField) × (others : List Frame) × (brackets_of done ≡ Some bs) × (openers ≡ bracket_openers bs)
+    × (fs ≡ bracket_frames (base + byte_len (before literal (l ∷ ls))) bs ++ frame.Field field ∷ others)
+    × FieldFollows base l ls field (FramesFollow base ls l.done l.openers others)
 
 -- what the open piece of code spells, where it isn't a string with fields
 abbrev pub HoldsCode : spots.FieldMode → List ℕ → Type 0
@@ -264,10 +270,7 @@ TakesMove old c place depth move result new =
     (base : ℕ) (t : FieldScanned) → Follows old base t → IsInString t → place ≡ base + here t → field_move t.mode t.held c ≡ move
     → ComesTo base depth t c old result new
 
--- how many brackets and fields open with the first character of a field's code
-abbrev pub opened_with : ℕ → ℕ
-opened_with c = if is_opening c then 2 else 1
-
--- the field whose `{` stands directly before this byte, in the literal part of the string that is open
-abbrev pub waiting_field : FieldScan → StringWithFields → ℕ → OpenField
-waiting_field old host place = record { place = place - 1; host = host; region = regions.Literal; start = old.start }
+-- the scan in the code of a field of the string that is open, whose `{` stands at one byte; the code goes on at another
+abbrev pub entered : FieldScan → StringWithFields → Region → ℕ → ℕ → FieldScan
+entered old host region brace place =
+    freed_at (record old { frames = frame.Field (record { place = brace; host = host; region = region; start = old.start }) ∷ old.frames }) place

@@ -1,6 +1,4 @@
-use Rattle.std.proofs.Common.{◌+◌, List, ap, sym, ◌∙◌}
-use Rattle.py_lines.specs.declared.frames.Frame.{Frame}
-use Rattle.py_lines.specs.Private.FieldScan.{freed_at}
+use Rattle.std.proofs.Common.{sym, ◌∙◌}
 use Rattle.py_lines.proofs.FieldScans.FieldOpenings.{opens_there, shut_there}
 use Rattle.py_lines.proofs.field_scan.FieldScan.open_field.Goals as goal
 
@@ -8,6 +6,4 @@ pub returns-then-not-has_room-clause-takes : goal.returns-then-not-has_room-clau
 returns-then-not-has_room-clause-takes c = λ base t f inside at is. shut_there c.args.self.now base c.args.depth c.args.c c.args.place c.args.host t f at is (sym c.has_room.ensures ∙ c.if-not-has_room.true)
 
 pub returns-clause-takes : goal.returns-clause-takes
-returns-clause-takes c = λ base t f inside at is.
-    opens_there c.args.self.now base c.args.depth c.args.c c.args.place c.args.host t f at is (sym c.has_room.ensures ∙ c.if-not-has_room.false) _
-    (c.free.ensures ∙ ap (λ (fs : List Frame). freed_at (record c.args.self.now { frames = fs }) (c.args.place + 1)) c.push.ensures)
+returns-clause-takes c = λ base t f inside at is. opens_there c.args.self.now base c.args.depth c.args.c c.args.place c.args.host t f at is (sym c.has_room.ensures ∙ c.if-not-has_room.false) _ c.enter.ensures
