@@ -3,12 +3,10 @@ pub mod FrameArrays
 pub mod Frames
 pub mod Moves
 pub mod Runs
-pub mod Steps
 pub mod Texts
 pub mod TextLengths
 pub mod Taking
-pub mod Operators
-pub mod FieldOpenings
+pub mod Openings
 pub mod CodeRuns
 pub mod FieldFaults
 pub mod Places

@@ -3,13 +3,10 @@ pub mod BracketStack
 pub mod StringSteps
 pub mod PieceEnd
 pub mod NextCharacter
-pub mod StringOpenings
 pub mod LineSteps
 pub mod TextSteps
 pub mod LineCount
-pub mod Increments
 pub mod Runs
-pub mod LongText
 pub mod Spans
 pub mod AsciiRuns
 pub mod PlainStrings

@@ -42,7 +42,7 @@ pub struct FieldScan {
 }
 
 impl FieldScan {
-    ghost use Rattle.std.specs.Prelude.{ℕ, false, Some, []};
+    ghost use Rattle.std.specs.Prelude.{ℕ, false, Some, [], drop};
     ghost use Rattle.py_lines.specs.Private.Machine.{start_of};
     ghost use Rattle.py_lines.specs.Private.FieldMachine.{closes, breaks, begins_code, opens_field, ends_field};
     ghost use Rattle.py_lines.specs.Private.FieldScan.{EndsCode, EndsField, FollowsBody, HoldsField, IsInPlace};
@@ -95,10 +95,13 @@ impl FieldScan {
         self.start = place;
     }
 
-    /// Back in the string round a field, which has ended.
-    fn resume(&mut self, field: OpenField)
-        ensures { self.new ≡ ended_in self.old field }
+    /// Ends the innermost field, which is this one: back in the string round it.
+    fn leave(&mut self, field: OpenField)
+        requires { IsInnermostFrame (Some (Frame.Field field)) self.old.frames }
+        ensures back { self.new ≡ ended_in field (drop 1 self.old.frames) }
+        ensures placed { IsInPlace self.new }
     {
+        self.frames.pop();
         self.mode = FieldMode::Body(field.host, field.region, false, At::Between);
         self.start = field.start;
     }
@@ -166,8 +169,7 @@ impl FieldScan {
         ensures placed { IsInPlace self.old → IsInPlace self.new }
     {
         if c == '}' {
-            self.frames.pop();
-            self.resume(field);
+            self.leave(field);
         } else if c == ':' {
             self.mode = FieldMode::Body(field.host, Region::Specification, false, At::Between);
             self.start = field.start;
@@ -297,8 +299,7 @@ impl FieldScan {
     {
         match self.frames.innermost() {
             Some(Frame::Field(field)) => {
-                self.frames.pop();
-                self.resume(field);
+                self.leave(field);
                 FieldProgress::Going
             }
             Some(Frame::Bracket(_, _)) => unreachable!(),

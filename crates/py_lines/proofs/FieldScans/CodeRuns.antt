@@ -1,5 +1,5 @@
 -- Words, spaces and signs of a field's code are taken in one step, up to the last sign.
-use Rattle.std.proofs.Common.{◌≡◌, ℕ, ◌+◌, ◌-◌, ◌<◌, ◌≤◌, true, false, not, ◌||◌, ◌==◌, Some, List, [], ◌∷◌, ◌++◌, length, take, slice_index, refl, sym, ap, ◌∙◌, subst, append_assoc, append-nil, arith, ⊎_elim}
+use Rattle.std.proofs.Common.{◌≡◌, ℕ, ◌+◌, ◌-◌, ◌<◌, ◌≤◌, true, false, not, ◌||◌, ◌==◌, List, [], ◌∷◌, ◌++◌, length, take, slice_index, refl, sym, ap, ◌∙◌, subst, append-nil, arith, ⊎_elim}
 use Rattle.std.specs.Prelude.{nat_lt}
 use Rattle.std.specs.List.{list_all}
 use Rattle.std.proofs.lemmas.Bool.{and_parts, both_ways, lt-ltb, or_cases}
@@ -25,7 +25,7 @@ use Rattle.py_lines.proofs.LogicalLines.Cuts.{byte_len-append}
 use Rattle.py_lines.proofs.Text.CharacterTests.{operator_ascii}
 use Rattle.py_lines.proofs.FieldScans.Frames.{AreOpenAlike, frames_alike}
 use Rattle.py_lines.proofs.FieldScans.Runs.{holds_ascii}
-use Rattle.py_lines.proofs.FieldScans.Steps.{follows_free}
+use Rattle.py_lines.proofs.FieldScans.Taking.{follows_free}
 use Rattle.py_lines.proofs.FieldScans.Texts.{codes_go, ends_in_word, goes_on-append, passes_code, operator-not-word, operator_others, sign_cases, sign_goes}
 
 -- such a byte is ASCII

@@ -6,7 +6,7 @@ use Rattle.std.proofs.lemmas.Str.{length-encode, len_utf8_bounds}
 use Rattle.py_lines.specs.Piece.{spelled}
 use Rattle.py_lines.specs.LogicalLine.{byte_len}
 use Rattle.py_lines.specs.Faults.{Cause, kind_of_cause, open_brace, open_short, open_long, open_join, open_bracket, open_inside}
-use Rattle.py_lines.specs.FieldStrings.{Host, Place, literal}
+use Rattle.py_lines.specs.FieldStrings.{Host, literal}
 use Rattle.py_lines.specs.declared.fault.FaultKind.{FaultKind}
 use Rattle.py_lines.specs.declared.fault.FaultKind.TheVariants as fault_kind
 use Rattle.py_lines.specs.declared.mode.Mode.{Mode}
@@ -16,7 +16,7 @@ use Rattle.py_lines.specs.declared.frames.Frame.{Frame}
 use Rattle.py_lines.specs.declared.frames.Frame.TheVariants as frame
 use Rattle.py_lines.specs.declared.field_scan.FieldScan.{FieldScan}
 use Rattle.py_lines.specs.Private.Machine.{in_short, in_long, is_after_backslash}
-use Rattle.py_lines.specs.Private.FieldMachine.{At, after_brace, FieldMode, body, Level, FieldScanned, frames, before, text_place}
+use Rattle.py_lines.specs.Private.FieldMachine.{after_brace, FieldMode, body, Level, FieldScanned, frames, before, text_place}
 use Rattle.py_lines.specs.Private.FieldFaults.{is_waiting, cause_in, cause_place, here, field_start, unfinished_code, unfinished_place}
 use Rattle.py_lines.specs.Private.FieldScan.{bracket_openers, mode_from, code_mode, Follows, unfinished_with, unfinished_round, IsFieldEnd}
 use Rattle.py_lines.specs.Private.Frames.{InField, in_bracket, place_of}
@@ -61,15 +61,10 @@ waiting_place scan base t place f waits at =
     omega (arith, some, at, byte_len-append (before (text_place t.mode) t.outer) (spelled t.done ++ t.held), byte_len-append (spelled t.done) t.held)
 
 -- where a text ends in a field's code
-code_never : (m : Mode) (host : Host) (place : Place) (named : Bool) (at : At) → code_mode m ≡ body host place named at → ⊥
-code_never (modes.FieldOpened h) host place named at is = cc
-code_never (modes.FieldEmpty h) host place named at is = cc
-code_never m host place named at is = cc
-
 pub code_inside : (m : Mode) (t : FieldScanned) → code_mode m ≡ t.mode → IsInString t → t.outer ≡ [] → ⊥
-code_inside m t is inside outside =
-    let (host, place, named, at, mode) = inside outside in
-    code_never m host place named at (is ∙ mode)
+code_inside (modes.FieldOpened h) t is inside outside = let (host, place, named, at, mode) = inside outside in cc
+code_inside (modes.FieldEmpty h) t is inside outside = let (host, place, named, at, mode) = inside outside in cc
+code_inside m t is inside outside = let (host, place, named, at, mode) = inside outside in cc
 
 code_what : (m : Mode) (depth : ℕ) (outer : List Level) (openers : List ℕ)
     → unfinished_with depth outer openers (code_mode m)

@@ -1,8 +1,8 @@
 -- The frames that the scan of a string with fields keeps are the brackets and fields that are open in the machine.
-use Rattle.std.proofs.Common.{◌≡◌, ℕ, suc, ◌+◌, ◌-◌, ◌<◌, true, false, ◌==◌, Some, List, [], ◌∷◌, ◌++◌, length, refl, sym, ap, ◌∙◌, subst, arith, length-append}
-use Rattle.py_lines.specs.Piece.{operator, Piece, spelled}
+use Rattle.std.proofs.Common.{◌≡◌, ℕ, suc, ◌+◌, ◌<◌, true, false, ◌==◌, Some, List, [], ◌∷◌, ◌++◌, length, refl, ap, ◌∙◌, subst, arith, length-append}
+use Rattle.py_lines.specs.Piece.{Class, operator, Piece, spelled}
 use Rattle.py_lines.specs.LogicalLine.{byte_len}
-use Rattle.py_lines.specs.Balance.{is_opening, is_closing, closing_of}
+use Rattle.py_lines.specs.Balance.{is_opening, is_closing, is_opener, is_closer, closing_of}
 use Rattle.py_lines.specs.FieldStrings.{literal}
 use Rattle.py_lines.specs.declared.frames.OpenField.{OpenField}
 use Rattle.py_lines.specs.declared.frames.Frame.{Frame}
@@ -95,5 +95,6 @@ bracket_closed base (l ∷ ls) done openers os fs others opener at c ((b ∷ bs)
     let closes = stack_push done p (b ∷ bs) stack ∙ closer_pops bs (byte_len (spelled done)) b p closing (ap (λ (o : ℕ). c == closing_of o) same ∙ fits) in
     (bs, field, rest, closes, cc (are, openers_are), cc (top, frames_are), is)
 
-pub operator_alike : (done : List Piece) (c : ℕ) → is_opening c ≡ false → is_closing c ≡ false → AreOpenAlike done (done ++ piece operator (c ∷ []) ∷ [])
-operator_alike done c opens closes = λ st stacked. stack_push done (piece operator (c ∷ [])) st stacked ∙ other_keeps st (byte_len (spelled done)) (piece operator (c ∷ [])) opens closes
+-- a piece that is no bracket
+pub neutral_alike : (done : List Piece) (class : Class) (text : List ℕ) → is_opener (piece class text) ≡ false → is_closer (piece class text) ≡ false → AreOpenAlike done (done ++ piece class text ∷ [])
+neutral_alike done class text opens shuts = λ st stacked. stack_push done (piece class text) st stacked ∙ other_keeps st (byte_len (spelled done)) (piece class text) opens shuts

@@ -1,12 +1,10 @@
 -- What a character does in a string with fields: the code's words say the machine's, and what each move of the machine leaves open.
-use Rattle.std.proofs.Common.{◌≡◌, ℕ, Bool, true, false, not, ◌&&◌, ◌==◌, Some, List, [], ◌∷◌, ◌++◌, refl, sym, ap, ◌∙◌, subst, ⊎_elim, append-nil}
+use Rattle.std.proofs.Common.{◌≡◌, ℕ, Bool, true, false, not, ◌&&◌, ◌==◌, Some, List, [], ◌∷◌, ◌++◌, refl, sym, ap, ◌∙◌, subst, append-nil}
 use Rattle.std.specs.Str.{byte}
-use Rattle.std.proofs.lemmas.Bool.{cond_both, cases_Bool, both_ways, and_right, and_parts, not-true}
-use Rattle.py_lines.specs.Character.{is_quote, is_line_feed, is_return, is_break, is_backslash, is_brace}
+use Rattle.std.proofs.lemmas.Bool.{cond_both, both_ways, and_parts, not-true}
+use Rattle.py_lines.specs.Character.{is_line_feed, is_return, is_break, is_backslash, is_brace}
 use Rattle.py_lines.specs.Piece.{string, Piece, spelled}
 use Rattle.py_lines.specs.FieldStrings.{Host, Place, literal, specification, names}
-use Rattle.py_lines.specs.declared.host.StringWithFields.{StringWithFields}
-use Rattle.py_lines.specs.declared.mode.Spelling.{Spelling}
 use Rattle.py_lines.specs.declared.mode.Mode.{Mode}
 use Rattle.py_lines.specs.declared.mode.Move.{Move}
 use Rattle.py_lines.specs.declared.mode.Mode.TheVariants as modes
@@ -14,28 +12,23 @@ use Rattle.py_lines.specs.declared.mode.Move.TheVariants as moves
 use Rattle.py_lines.specs.declared.mode.Start.TheVariants as starts
 use Rattle.py_lines.specs.declared.field_mode.FieldMode.{FieldMode}
 use Rattle.py_lines.specs.declared.field_mode.FieldMode.TheVariants as field_modes
-use Rattle.py_lines.specs.Private.Machine.{Bracket, brackets_of, Holds, closed, class_of, move_of, start_of, is_prefix_spelling}
+use Rattle.py_lines.specs.Private.Machine.{Bracket, brackets_of, Holds, closed, class_of, move_of, start_of}
 use Rattle.py_lines.specs.Private.FieldMachine as spots
 use Rattle.py_lines.specs.Private.FieldMachine.{At, between, after_one, after_two, after_slash, after_return, after_name, after_brace, plain, opened, empty, body, FieldMove, grows, closes, breaks, begins_code, opens_field, ends_field, refused, host_of, long_host, begins_host, plain_move, between_move, escape_move, body_move, closing_move, opening_move, ending_move, is_after_two, with_quote, is_barred_escape, is_after_brace, field_move, field_closed, field_class_of, text_place}
-use Rattle.py_lines.specs.Private.ScanMachine.{is_field_spelling, is_raw_spelling, host_in, quote_move, meet_of}
+use Rattle.py_lines.specs.Private.ScanMachine.{meet_of}
 use Rattle.py_lines.specs.Private.FieldScan.{code_mode, mode_from, code_moved, code_move, meets_field, HoldsCode, HasNoList, WaitsInLiteral}
 use Rattle.py_lines.proofs.Pieces.PieceLists.{piece, spelled-push}
-use Rattle.py_lines.proofs.Text.CharacterTests.{quote-not-word}
 use Rattle.py_lines.proofs.Machine.LiveTexts as live
 use Rattle.py_lines.proofs.Machine.Starts as begun
 use Rattle.py_lines.proofs.Machine.Soundness.{MoveHolds, move_holds, StartHolds, start_holds}
 use Rattle.py_lines.proofs.ScanMachine.BodyMoves.{IsBodyMode}
-use Rattle.py_lines.proofs.FieldMachine.PlainSteps.{is_fielded_mode, IsOpenAfter, open_after}
+use Rattle.py_lines.proofs.FieldMachine.PlainSteps.{IsOpenAfter, open_after}
 use Rattle.py_lines.proofs.ScanMachine.Follows.{word_meets, closing_neutral}
 
 -- a move of the machine without fields is the same in the code's words
-code_plain : (m : Mode) → is_fielded_mode m ≡ false → code_mode m ≡ plain m
-code_plain (modes.FieldOpened h) other = absurd (both_ways _ other refl)
-code_plain (modes.FieldEmpty h) other = absurd (both_ways _ other refl)
-code_plain m other = refl
-
 as_plain : (v : Move) → IsOpenAfter v → code_moved v ≡ plain_move v
-as_plain (moves.Grows m) one = ap grows (code_plain m one)
+as_plain (moves.Grows (modes.FieldOpened h)) one = absurd (both_ways _ one refl)
+as_plain (moves.Grows (modes.FieldEmpty h)) one = absurd (both_ways _ one refl)
 as_plain v other = refl
 
 -- the code meets a character as the machine does
@@ -184,11 +177,8 @@ closed_spells modes.Start held holds done = nothing_held done held holds.1
 closed_spells modes.Free held holds done = nothing_held done held holds
 closed_spells m held holds done = spelled-push done (class_of m) held
 
-no_body : (m n : spots.FieldMode) → ((host : Host) (place : Place) (named : Bool) (at : At) → m ≡ body host place named at → ⊥) → IsBodyMode m → IsBodyMode n
-no_body m n other (host, place, named, at, is) = absurd (other host place named at is)
-
 plain_says : (m : Mode) (held : List ℕ) (c : ℕ) (v : Move) → move_of m c ≡ v → Holds m [] held → MoveHolds m held c v → Says (plain m) held c (plain_move v)
-plain_says m held c (moves.Grows n) is own holds = record { place = refl; holds = holds; body_stays = no_body (plain m) (plain n) (λ host place named at e. cc); waits = tt }
+plain_says m held c (moves.Grows n) is own holds = record { place = refl; holds = holds; body_stays = λ (host, place, named, at, e). absurd (cc); waits = tt }
 plain_says m held c moves.Closes is own holds =
     let neutral = closing_neutral m (held ++ c ∷ []) c is in
     (refl, λ done st stack. live.keeps done (piece (class_of m) (held ++ c ∷ [])) st neutral.0 neutral.1 stack)
@@ -199,11 +189,11 @@ says : (m : spots.FieldMode) (held : List ℕ) (c : ℕ) → HoldsCode m held �
 unfolding field_move body_move
 says (plain m) held c holds waits =
     cond_both (begins_host m held c) (grows (opened (host_of held c))) (plain_move (move_of m c)) (Says (plain m) held c)
-    (λ h. record { place = refl; holds = tt; body_stays = no_body (plain m) (opened (host_of held c)) (λ host place named at e. cc); waits = tt })
+    (λ h. record { place = refl; holds = tt; body_stays = λ (host, place, named, at, e). absurd (cc); waits = tt })
     (λ h. plain_says m held c (move_of m c) refl holds (move_holds m held c holds))
 says (opened host) held c holds waits =
     cond_both (c == host.quote) (grows (empty host)) (between_move host literal false between c) (Says (opened host) held c)
-    (λ h. record { place = refl; holds = tt; body_stays = no_body (opened host) (empty host) (λ host place named at e. cc); waits = tt })
+    (λ h. record { place = refl; holds = tt; body_stays = λ (host, place, named, at, e). absurd (cc); waits = tt })
     (λ h. opened_says host held c (between_move host literal false between c) (between_moved host literal false between between c))
 says (empty host) held c holds waits =
     cond_both (c == host.quote) (grows (body (long_host host) literal false between)) breaks (Says (empty host) held c)

@@ -1,53 +1,112 @@
--- A character in a string with fields that goes on the open piece, closes it, or begins another after it.
-use Rattle.std.proofs.Common.{◌≡◌, ℕ, ◌+◌, true, false, not, ◌||◌, List, [], ◌∷◌, ◌++◌, nat_lt, refl, sym, ap, ◌∙◌, subst, arith, append_assoc}
+-- What one more character comes to in a string with fields, by what it does in the machine: the open piece goes on, closes, or ends
+-- before another.
+use Rattle.std.proofs.Common.{◌≡◌, ℕ, ◌+◌, Bool, true, false, Option, None, Some, List, [], ◌∷◌, ◌++◌, refl, sym, ap, ◌∙◌, subst, not, ◌||◌, nat_lt, arith, append_assoc, length, length-append}
+use Rattle.std.proofs.lemmas.Bool.{both_ways}
+use Rattle.std.specs.Prelude.{if◌then◌else◌}
+use Rattle.py_lines.specs.Piece.{Piece, spelled, Class, line_end}
+use Rattle.py_lines.specs.LogicalLine.{byte_len}
+use Rattle.py_lines.specs.FieldStrings.{literal}
+use Rattle.py_lines.specs.declared.mode.Mode.TheVariants as modes
+use Rattle.py_lines.specs.declared.mode.Move.{Move}
+use Rattle.py_lines.specs.declared.mode.Move.TheVariants as moves
+use Rattle.py_lines.specs.declared.field_scan.FieldScan.{FieldScan}
+use Rattle.py_lines.specs.declared.field_scan.FieldProgress.TheVariants as progress
+use Rattle.py_lines.specs.Private.FieldMachine.{FieldMove, closes, refused, Level, FieldScanned, field_fresh, field_move, field_moved, before, frames, has_room_at, plain, grows, breaks, field_state, field_class_of, field_closed, field_started}
+use Rattle.py_lines.specs.Private.ScanMachine.{string_move, fielded_move, IsInString}
+use Rattle.py_lines.specs.Private.FieldScan.{Follows, FramesFollow, freed_at, ComesTo, mode_from, meets_field, HoldsCode}
 use Rattle.std.specs.Char.{len_utf8}
 use Rattle.std.proofs.lemmas.Str.{len_utf8_ascii}
 use Rattle.py_lines.specs.Character.{is_line_feed}
-use Rattle.py_lines.specs.Piece.{Class, line_end, Piece, spelled}
-use Rattle.py_lines.specs.LogicalLine.{byte_len}
-use Rattle.py_lines.specs.Balance.{is_opening, is_opener, is_closer}
-use Rattle.py_lines.specs.FieldStrings.{literal}
+use Rattle.py_lines.specs.Balance.{is_opening}
 use Rattle.py_lines.specs.declared.mode.Mode.{Mode}
 use Rattle.py_lines.specs.declared.mode.Start.TheVariants as starts
 use Rattle.py_lines.specs.declared.field_mode.FieldMode.{FieldMode}
 use Rattle.py_lines.specs.declared.field_mode.FieldMode.TheVariants as field_modes
-use Rattle.py_lines.specs.declared.field_scan.FieldScan.{FieldScan}
-use Rattle.py_lines.specs.declared.field_scan.FieldProgress.TheVariants as progress
 use Rattle.py_lines.specs.Private.Machine.{start_of}
-use Rattle.py_lines.specs.Private.FieldMachine.{plain, FieldMove, grows, closes, breaks, refused, Level, FieldScanned, field_state, field_fresh, field_class_of, field_closed, field_move, field_started, before, frames, has_room_at}
 use Rattle.py_lines.specs.Private.FieldMachine as spots
 use Rattle.py_lines.specs.Private.FieldFaults.{here}
-use Rattle.py_lines.specs.Private.ScanMachine.{IsInString}
-use Rattle.py_lines.specs.Private.FieldScan.{mode_from, meets_field, HoldsCode, Follows, FramesFollow, freed_at, ComesTo}
 use Rattle.py_lines.proofs.Text.CharacterTests.{operator_ascii}
 use Rattle.py_lines.proofs.Pieces.PieceLists.{piece, spelled-push}
-use Rattle.py_lines.proofs.Pieces.OpenBrackets.{stack_push, other_keeps}
 use Rattle.py_lines.proofs.LogicalLines.Cuts.{byte_len-append}
 use Rattle.py_lines.proofs.LineScan.LineCount.{byte_len-one}
 use Rattle.py_lines.proofs.LineScan.NextCharacter.{one_feed}
 use Rattle.py_lines.proofs.Machine.Starts as begun_so
 use Rattle.py_lines.proofs.Machine.Starts.{StartsSo}
 use Rattle.py_lines.proofs.ScanMachine.Follows.{room_grows, room_closes, opens_no}
-use Rattle.py_lines.proofs.FieldScans.Frames.{AreOpenAlike, frames_alike}
+use Rattle.py_lines.proofs.FieldScans.Frames.{frames_alike, neutral_alike}
 use Rattle.py_lines.proofs.FieldScans.Moves.{list_at, meets, said, starts_so}
-use Rattle.py_lines.proofs.FieldScans.Steps.{follows_free, going, comes_closed, no_step}
 
-not_empty : (xs : List ℕ) (c : ℕ) → xs ++ c ∷ [] ≡ [] → ⊥
-not_empty [] c h = cc
-not_empty (x ∷ xs) c h = cc
+-- a contradiction, which `cc` finds faster here than where much is known
+pub some_level : (l : Level) (ls : List Level) → l ∷ ls ≡ [] → ⊥
+some_level l ls none = cc
 
--- the byte after one more character
-pub place_after : (base place c : ℕ) (text : List ℕ) → place ≡ base + byte_len text → place + len_utf8 c ≡ base + byte_len (text ++ c ∷ [])
-place_after base place c text at = omega (arith, at, byte_len-append text (c ∷ []), byte_len-one c)
+-- whether this closes the string
+abbrev pub is_closing_move : FieldMove → Bool
+is_closing_move closes = true
+is_closing_move _ = false
+
+pub keeps_open : (v : FieldMove) → is_closing_move v ≡ false → v ≡ closes → ⊥
+keeps_open v other is = both_ways _ other (ap is_closing_move is)
+
+-- what doesn't close the string goes on in it, if there is a step
+pub goes_if : (outer : List Level) (v : FieldMove) (o : Option FieldScanned) → (outer ≡ [] → v ≡ closes → ⊥) → string_move outer v o ≡ string_move [] refused o
+goes_if [] closes o goes_on = absurd (goes_on refl refl)
+goes_if [] v None goes_on = refl
+goes_if [] v (Some next) goes_on = refl
+goes_if (l ∷ ls) v None goes_on = refl
+goes_if (l ∷ ls) v (Some next) goes_on = refl
+
+module _ (base depth : ℕ) (t : FieldScanned) (c : ℕ) (v : FieldMove) (is : field_move t.mode t.held c ≡ v) where
+  abbrev roomy : Bool → Move → Move
+  roomy b w = if b then w else moves.Refused
+
+  pub by_move : fielded_move depth (Some t) c ≡ roomy (has_room_at (depth + frames t) c v) (string_move t.outer v (field_moved t c v))
+  by_move = ap (λ w. roomy (has_room_at (depth + frames t) c w) (string_move t.outer w (field_moved t c w))) is
+
+  -- the string goes on
+  pub goes_through : (next : FieldScanned) → has_room_at (depth + frames t) c v ≡ true → field_moved t c v ≡ Some next → (t.outer ≡ [] → v ≡ closes → ⊥) → fielded_move depth (Some t) c ≡ moves.Grows modes.Fielded
+  goes_through next room comes goes_on =
+      by_move ∙ ap (λ b. roomy b (string_move t.outer v (field_moved t c v))) room ∙ ap (string_move t.outer v) comes ∙ goes_if t.outer v (Some next) goes_on
+
+  -- it is taken
+  pub going : (old new made : FieldScan) (next : FieldScanned) → new ≡ made → has_room_at (depth + frames t) c v ≡ true → field_moved t c v ≡ Some next → (t.outer ≡ [] → v ≡ closes → ⊥) → IsInString next → Follows made base next → ComesTo base depth t c old progress.Going new
+  going old new made next same room comes goes_on inside follow = (
+    next,
+    ap (field_moved t c) is ∙ comes,
+    goes_through next room comes goes_on,
+    inside,
+    subst (λ (scan : FieldScan). Follows scan base next) (sym same) follow,
+  )
+
+  -- it finds no room
+  pub no_room : (old : FieldScan) → has_room_at (depth + frames t) c v ≡ false → ComesTo base depth t c old progress.Refused old
+  no_room old none = (by_move ∙ ap (λ b. roomy b (string_move t.outer v (field_moved t c v))) none, refl)
+
+  -- it closes the string
+  pub comes_closed : v ≡ closes → t.outer ≡ [] → has_room_at (depth + frames t) c v ≡ true → fielded_move depth (Some t) c ≡ moves.Closes
+  comes_closed closing none room =
+      by_move ∙ ap (λ b. roomy b (string_move t.outer v (field_moved t c v))) room
+      ∙ ap (λ w. string_move t.outer w (field_moved t c v)) closing
+      ∙ ap (λ o. string_move o closes (field_moved t c v)) none
+
+  -- it may not stand there
+  pub no_step : (old : FieldScan) → field_moved t c v ≡ None → ComesTo base depth t c old progress.Refused old
+  no_step old none =
+      (by_move ∙ ap (λ o. roomy (has_room_at (depth + frames t) c v) (string_move t.outer v o)) none ∙ ap (roomy (has_room_at (depth + frames t) c v)) (goes_if t.outer v None (λ outside shut. let clash = sym (ap (field_moved t c) shut) ∙ none in cc)) ∙ go (has_room_at (depth + frames t) c v), refl)
+    where
+      go : (b : Bool) → roomy b moves.Refused ≡ moves.Refused
+      go true = refl
+      go false = refl
+
+-- the innermost list goes on at this byte
+pub follows_free : (old : FieldScan) (base : ℕ) (outer : List Level) (done : List Piece) (openers : List ℕ) (place : ℕ) → FramesFollow base outer done openers old.frames → place ≡ base + byte_len (before literal outer ++ spelled done) → Follows (freed_at old place) base (field_fresh outer done openers)
+follows_free old base outer done openers place follow at = record { mode = refl; holds = refl; no_list = tt; waits = tt; full = λ w. absurd (cc); start = at; frames = follow }
 
 -- the byte after one more piece, which is one character of one byte
 pub piece_after : (base place : ℕ) (outer : List Level) (done : List Piece) (class : Class) (c : ℕ) → 1 ≡ byte_len (c ∷ []) → place ≡ base + byte_len (before literal outer ++ spelled done) → place + 1 ≡ base + byte_len (before literal outer ++ spelled (done ++ piece class (c ∷ []) ∷ []))
 piece_after base place outer done class c one at =
     let written : (before literal outer ++ spelled done) ++ c ∷ [] ≡ before literal outer ++ spelled (done ++ piece class (c ∷ []) ∷ []) = append_assoc (before literal outer) (spelled done) (c ∷ []) ∙ ap (λ x. before literal outer ++ x) (sym (spelled-push done class (c ∷ []))) in
     omega (arith, at, one, byte_len-append (before literal outer ++ spelled done) (c ∷ []), ap byte_len written)
-
-pub neutral_alike : (done : List Piece) (class : Class) (text : List ℕ) → is_opener (piece class text) ≡ false → is_closer (piece class text) ≡ false → AreOpenAlike done (done ++ piece class text ∷ [])
-neutral_alike done class text opens shuts = λ st stacked. stack_push done (piece class text) st stacked ∙ other_keeps st (byte_len (spelled done)) (piece class text) opens shuts
 
 -- what opens no bracket finds room
 pub no_opening : (depth c : ℕ) → is_opening c ≡ false → has_room_at depth c breaks ≡ true
@@ -78,7 +137,7 @@ grown_follows old base t c code m follow is same =
       holds = k.holds;
       no_list = list_at t.mode m t.done t.openers k.place follow.no_list;
       waits = k.waits;
-      full = λ w none. not_empty t.held c none;
+      full = λ w none. absurd (omega (arith, ap length none, length-append t.held (c ∷ [])));
       start = follow.start ∙ ap (λ p. base + byte_len (before p t.outer ++ spelled t.done)) (sym k.place);
       frames = follow.frames;
     }
@@ -102,7 +161,7 @@ module _ (old : FieldScan) (base depth : ℕ) (t : FieldScanned) (c place : ℕ)
       going base depth t c closes is old new (freed_at old (place + len_utf8 c)) (field_fresh t.outer done t.openers) same
       (room_closes (depth + frames t) c) refl (λ none other. within none) (λ none. absurd (within none))
       (follows_free old base t.outer done t.openers (place + len_utf8 c)
-      (frames_alike base t.outer t.done done t.openers old.frames (shut.1 t.done) follow.frames) (place_after base place c text stands ∙ ap (λ x. base + byte_len x) written))
+      (frames_alike base t.outer t.done done t.openers old.frames (shut.1 t.done) follow.frames) (omega (arith, stands, byte_len-append text (c ∷ []), byte_len-one c, ap byte_len written)))
 
   -- in the string itself it closes the string
   pub closed_out : field_move t.mode t.held c ≡ closes → t.outer ≡ [] → (new : FieldScan) → ComesTo base depth t c old progress.Closed new

@@ -29,11 +29,10 @@ use Rattle.py_lines.proofs.FieldMachine.ListBrackets.{opening_pushes, closing_po
 use Rattle.py_lines.proofs.FieldMachine.StringParts.{open_moves, other_escaped, second_brace, slash_grows}
 use Rattle.py_lines.proofs.FieldMachine.FieldRuns.{brace_ends, code_moves, colon_opens, end_moves, end_no_quote}
 use Rattle.py_lines.proofs.ScanMachine.Follows.{room_closes}
-use Rattle.py_lines.proofs.FieldScans.Frames.{AreOpenAlike, operator_alike}
-use Rattle.py_lines.proofs.FieldScans.Operators.{no_colon}
+use Rattle.py_lines.proofs.FieldScans.Frames.{AreOpenAlike, neutral_alike}
+use Rattle.py_lines.proofs.FieldScans.Openings.{no_colon}
 use Rattle.py_lines.proofs.FieldScans.Runs.{text_stays, two_false}
-use Rattle.py_lines.proofs.FieldScans.Taking.{no_opening}
-use Rattle.py_lines.proofs.FieldScans.Steps.{goes_through, keeps_open, some_level}
+use Rattle.py_lines.proofs.FieldScans.Taking.{no_opening, goes_through, keeps_open, some_level}
 use Rattle.py_lines.proofs.LineScan.StringSteps.{string_grows}
 use Rattle.py_lines.proofs.LineScan.AsciiRuns.{low_is, quote-no_break, space-not-quote}
 use Rattle.py_lines.proofs.LineScan.Runs.{stays-no_break, break-return, body_parts, quote_ascii, space_low, word_byte_continues, word_byte_low, word_byte_starts}
@@ -65,12 +64,9 @@ leads-append quote P Q R a b first second outer l depth t same quotes room at =
     let two = second outer l depth one.0 same quotes room one.2 in
     (two.0, goes_on-append depth t one.0 two.0 a b one.1 two.1, two.2)
 
-pub leads-none : (quote : ℕ) (P : Spot) → Leads quote P [] P
-leads-none quote P outer l depth t same quotes room at = (t, refl, at)
-
 -- a run of characters each of which leads back
 leads-run : (passes : ℕ → Bool) (quote : ℕ) (P : Spot) → ((c : ℕ) → passes c ≡ true → Leads quote P (c ∷ []) P) → (run : List ℕ) → list_all passes run ≡ true → Leads quote P run P
-leads-run passes quote P each [] all = leads-none quote P
+leads-run passes quote P each [] all = λ outer l depth t same quotes room at. (t, refl, at)
 leads-run passes quote P each (c ∷ cs) all =
     let parts = and_parts (passes c) (list_all passes cs) all in
     leads-append quote P P P (c ∷ []) cs (each c parts.0) (leads-run passes quote P each cs parts.1)
@@ -106,11 +102,11 @@ part_leads quote c a b low none moves outer l depth t same quotes room (held, is
       (held ++ c ∷ [], refl),
     )
 
-text_leads : (quote c : ℕ) → is_literal_byte quote c ≡ true → Leads quote InText (c ∷ []) InText
-text_leads quote c h = let is = literal_parts quote c h in part_leads quote c between between is.low is.none (λ host held same quotes. text_grows host quote c same is held literal)
-
 pub texts_lead : (quote : ℕ) (run : List ℕ) → list_all (is_literal_byte quote) run ≡ true → Leads quote InText run InText
-texts_lead quote = leads-run (is_literal_byte quote) quote InText (text_leads quote)
+texts_lead quote =
+    leads-run (is_literal_byte quote) quote InText (λ c h.
+    let is = literal_parts quote c h in
+    part_leads quote c between between is.low is.none (λ host held same quotes. text_grows host quote c same is held literal))
 
 -- `}` and `{{`
 pub brace_leads : (quote : ℕ) → Leads quote InText (125 ∷ []) InText
@@ -189,22 +185,17 @@ space-not-word : (c : ℕ) → is_space c ≡ true → is_ascii_word c ≡ false
 unfolding is_space is_ascii_word
 space-not-word c h = none_of is_ascii_word (32 ∷ 9 ∷ 12 ∷ []) c refl h
 
-opening-not-word : (c : ℕ) → is_opening c ≡ true → is_ascii_word c ≡ false
-unfolding is_opening is_ascii_word
-opening-not-word c h = none_of is_ascii_word (40 ∷ 91 ∷ 123 ∷ []) c refl h
-
 pub operator-not-word : (c : ℕ) → is_operator c ≡ true → is_ascii_word c ≡ false
 unfolding is_operator is_ascii_word
 operator-not-word c h = none_of is_ascii_word (codes "+-*/%@&|^~<>=!()[]{},:.;") c refl h
 
-word_no_space : (c : ℕ) → is_ascii_word c ≡ true → is_space c ≡ false
-word_no_space c h = excluded is_ascii_word is_space c (space-not-word c) h
-
-pub word_no_break : (c : ℕ) → is_ascii_word c ≡ true → is_break c ≡ false
-word_no_break c h = stays-no_break (modes.Word spellings.Name) c h
-
-word_opens_none : (c : ℕ) → is_ascii_word c ≡ true → is_opening c ≡ false
-word_opens_none c h = excluded is_ascii_word is_opening c (opening-not-word c) h
+word_others : (c : ℕ) → is_ascii_word c ≡ true → (is_space c ≡ false) × (is_break c ≡ false) × (is_opening c ≡ false)
+unfolding is_opening is_ascii_word
+word_others c h = (
+  excluded is_ascii_word is_space c (space-not-word c) h,
+  stays-no_break (modes.Word spellings.Name) c h,
+  excluded is_ascii_word is_opening c (λ opens. none_of is_ascii_word (40 ∷ 91 ∷ 123 ∷ []) c refl opens) h,
+)
 
 -- what a character does to a word, to space, and where no piece is open: it begins such a piece, or goes on in one
 abbrev BeginsOrGrows : (Mode → Bool) → ℕ → Mode → List ℕ → Type 0
@@ -242,14 +233,11 @@ word_starts c h = start-word c (word_byte_starts c (word_byte_low c h) ∙ h)
 pub word_moves : (c : ℕ) → is_ascii_word c ≡ true → (m : Mode) (held : List ℕ) → is_code_mode m ≡ true → BeginsOrGrows is_code_mode c m held
 unfolding move_of
 word_moves c h modes.Free held simple = inl (plain_move_is modes.Free held c (word_no_quote c (word_character c h)))
-word_moves c h modes.Space held simple = inl (plain_move_is modes.Space held c (word_no_quote c (word_character c h)) ∙ rw (word_no_space c h) refl)
+word_moves c h modes.Space held simple = inl (plain_move_is modes.Space held c (word_no_quote c (word_character c h)) ∙ rw (word_others c h).0 refl)
 word_moves c h (modes.Word s) held simple = inr (modes.Word (spelling_with s c), plain_move_is (modes.Word s) held c (word_no_quote c (word_character c h)) ∙ rw (word_character c h) refl, refl)
 word_moves c h m held simple = absurd (both_ways _ refl simple)
 
 -- a space
-space_no_word : (c : ℕ) → is_space c ≡ true → is_word_character c ≡ false
-space_no_word c h = word_byte_continues c (space_low c h) ∙ space-not-word c h
-
 pub space_others : (c : ℕ) → is_space c ≡ true → (is_quote c ≡ false) × (is_break c ≡ false) × (is_opening c ≡ false)
 unfolding is_space is_quote is_break is_opening
 space_others c h = (none_of is_quote (32 ∷ 9 ∷ 12 ∷ []) c refl h, none_of is_break (32 ∷ 9 ∷ 12 ∷ []) c refl h, none_of is_opening (32 ∷ 9 ∷ 12 ∷ []) c refl h)
@@ -260,19 +248,16 @@ space_moves c h modes.Free held simple = inl (plain_move_is modes.Free held c (s
 space_moves c h modes.Space held simple = inr (modes.Space, plain_move_is modes.Space held c (space_others c h).0 ∙ rw h refl, refl)
 space_moves c h (modes.Word s) held simple =
     let neither : is_prefix_spelling s && is_quote c ≡ false = and_right (is_prefix_spelling s) _ (space_others c h).0 in
-    inl (plain_move_is (modes.Word s) held c (space_others c h).0 ∙ rw (space_no_word c h, neither) refl)
+    inl (plain_move_is (modes.Word s) held c (space_others c h).0 ∙ rw (word_byte_continues c (space_low c h) ∙ space-not-word c h, neither) refl)
 space_moves c h m held simple = absurd (both_ways _ refl simple)
 
 -- an operator
-operator_no_word : (c : ℕ) → is_operator c ≡ true → is_word_character c ≡ false
-operator_no_word c h = word_byte_continues c (operator_ascii c h) ∙ operator-not-word c h
-
 pub operator_others : (c : ℕ) → is_operator c ≡ true → (is_space c ≡ false) × (is_quote c ≡ false) × (is_break c ≡ false)
 unfolding is_operator is_space is_quote is_break
 operator_others c h = (none_of is_space (codes "+-*/%@&|^~<>=!()[]{},:.;") c refl h, none_of is_quote (codes "+-*/%@&|^~<>=!()[]{},:.;") c refl h, none_of is_break (codes "+-*/%@&|^~<>=!()[]{},:.;") c refl h)
 
 pub operator_breaks : (m : Mode) (held : List ℕ) (c : ℕ) → is_code_mode m ≡ true → is_operator c ≡ true → field_move (plain m) held c ≡ breaks
-operator_breaks m held c simple h = let others = operator_others c h in no_more m held c simple (operator_no_word c h) others.0 others.1
+operator_breaks m held c simple h = let others = operator_others c h in no_more m held c simple (word_byte_continues c (operator_ascii c h) ∙ operator-not-word c h) others.0 others.1
 
 pub operator_goes : (depth : ℕ) (outer : List Level) (ps : List Piece) (os after : List ℕ) (m : Mode) (held : List ℕ) (c : ℕ) → is_code_mode m ≡ true → is_operator c ≡ true → openers_with os c ≡ Some after → (c == 58) && (length os == 0) ≡ false → has_room_at (depth + (length os + levels_open outer)) c breaks ≡ true → GoesThrough depth (field_state outer ps os (plain m) held) (c ∷ []) (field_fresh outer (closed m ps held ++ piece operator (c ∷ []) ∷ []) after)
 operator_goes depth outer ps os after m held c simple h stands colon room =
@@ -294,7 +279,7 @@ pub sign_goes : (depth : ℕ) (outer : List Level) (ps : List Piece) (os : List 
 sign_goes depth outer ps os m held c simple is opens shuts colon = (
   closed m ps held ++ piece operator (c ∷ []) ∷ [],
   operator_goes depth outer ps os os m held c simple is (others_keep os c opens shuts) (ap (λ b. b && (length os == 0)) colon) (no_opening _ c opens),
-  λ st same. operator_alike (closed m ps held) c opens shuts st (live.stack_closed m ps held st same),
+  λ st same. neutral_alike (closed m ps held) operator (c ∷ []) opens shuts st (live.stack_closed m ps held st same),
 )
 
 -- the operators that code has mostly
@@ -349,7 +334,7 @@ code_goes : (depth : ℕ) (outer : List Level) (ps : List Piece) (os : List ℕ)
 code_goes depth outer ps os m held c simple h = go (is_ascii_word c) refl
   where
     go : (word : Bool) → is_ascii_word c ≡ word → CodeTo (passing word) depth (field_state outer ps os (plain m) held) (c ∷ [])
-    go true word = piece_goes is_code_mode depth outer ps os m held c (modes.Word (first_spelling c)) (word_byte_low c word) (word_no_break c word) (word_opens_none c word) (word_starts c word) refl (word_moves c word m held simple)
+    go true word = piece_goes is_code_mode depth outer ps os m held c (modes.Word (first_spelling c)) (word_byte_low c word) (word_others c word).1 (word_others c word).2 (word_starts c word) refl (word_moves c word m held simple)
     go false other = signs_go depth outer ps os m held c simple (ap (λ b. b || is_code_sign c) (sym other) ∙ h)
 
 pub codes_go : (word : Bool) (depth : ℕ) (outer : List Level) (ps : List Piece) (os : List ℕ) (m : Mode) (held : List ℕ) (run : List ℕ) → passing word m ≡ true → list_all is_code_byte run ≡ true → CodeTo (passing (ends_in_word word run)) depth (field_state outer ps os (plain m) held) run
@@ -378,13 +363,9 @@ module _ (quote : ℕ) (outer : List Level) (l : Level) (depth : ℕ) (front : L
       let parts = and_parts (is_body_byte q c) (nat_lt c 128) passes in
       grows_to depth (open_in ps m held) c (plain (modes.Inside q)) (low_is c parts.1) (body_parts q c parts.0).2 (plain_moves m held c none ∙ ap plain_move move)
 
-  inside_grows : (c : ℕ) → is_text_byte q c ≡ true → move_of (modes.Inside q) c ≡ moves.Grows (modes.Inside q)
+  inside_grows : (c : ℕ) → is_text_byte q c ≡ true → (move_of (modes.Inside q) c ≡ moves.Grows (modes.Inside q)) × (move_of (modes.Opened q) c ≡ moves.Grows (modes.Inside q))
   unfolding move_of short_move
-  inside_grows c passes = let parts = body_parts q c (and_parts (is_body_byte q c) (nat_lt c 128) passes).0 in rw (parts.0, parts.1, parts.2) refl
-
-  opened_grows : (c : ℕ) → is_text_byte q c ≡ true → move_of (modes.Opened q) c ≡ moves.Grows (modes.Inside q)
-  unfolding move_of short_move
-  opened_grows c passes = let parts = body_parts q c (and_parts (is_body_byte q c) (nat_lt c 128) passes).0 in rw (parts.0, parts.1, parts.2) refl
+  inside_grows c passes = let parts = body_parts q c (and_parts (is_body_byte q c) (nat_lt c 128) passes).0 in (rw (parts.0, parts.1, parts.2) refl, rw (parts.0, parts.1, parts.2) refl)
 
   -- and over a run
   texts_on : (ps : List Piece) (held run : List ℕ) → list_all (is_text_byte q) run ≡ true → GoesThrough depth (open_in ps (modes.Inside q) held) run (open_in ps (modes.Inside q) (held ++ run))
@@ -393,7 +374,7 @@ module _ (quote : ℕ) (outer : List Level) (l : Level) (depth : ℕ) (front : L
       let parts = and_parts (is_text_byte q c) (list_all (is_text_byte q) cs) all in
       subst (λ x. GoesThrough depth (open_in ps (modes.Inside q) held) (c ∷ cs) (open_in ps (modes.Inside q) x)) (append_assoc held (c ∷ []) cs)
       (goes_on-append depth (open_in ps (modes.Inside q) held) (open_in ps (modes.Inside q) (held ++ c ∷ [])) (open_in ps (modes.Inside q) ((held ++ c ∷ []) ++ cs)) (c ∷ []) cs
-      (text_on ps (modes.Inside q) held c refl (inside_grows c parts.0) parts.0) (texts_on ps (held ++ c ∷ []) cs parts.1))
+      (text_on ps (modes.Inside q) held c refl (inside_grows c parts.0).0 parts.0) (texts_on ps (held ++ c ∷ []) cs parts.1))
 
   inside_closes : (held : List ℕ) → field_move (plain (modes.Inside q)) held q ≡ closes
   unfolding move_of
@@ -412,7 +393,7 @@ module _ (quote : ℕ) (outer : List Level) (l : Level) (depth : ℕ) (front : L
       let one = open_in ps (modes.Inside q) (q ∷ d ∷ []) in
       let two = open_in ps (modes.Inside q) ((q ∷ d ∷ []) ++ ds) in
       goes_on-append depth (open_in ps (modes.Opened q) (q ∷ [])) two (closed_in ps ((q ∷ d ∷ []) ++ ds)) (d ∷ ds) (q ∷ [])
-      (goes_on-append depth (open_in ps (modes.Opened q) (q ∷ [])) one two (d ∷ []) ds (text_on ps (modes.Opened q) (q ∷ []) d refl (opened_grows d parts.0) parts.0) (texts_on ps (q ∷ d ∷ []) ds parts.1))
+      (goes_on-append depth (open_in ps (modes.Opened q) (q ∷ [])) one two (d ∷ []) ds (text_on ps (modes.Opened q) (q ∷ []) d refl (inside_grows d parts.0).1 parts.0) (texts_on ps (q ∷ d ∷ []) ds parts.1))
       (text_ends ps ((q ∷ d ∷ []) ++ ds))
 
 pub quote_no_word : (q : ℕ) → is_quote q ≡ true → is_ascii_word q ≡ false

@@ -1,20 +1,41 @@
 -- Runs of bytes of ASCII, and what they begin.
-use Rattle.std.proofs.Common.{◌≡◌, ℕ, zero, suc, ◌<◌, ◌≤◌, Bool, true, false, List, [], ◌∷◌, ◌++◌, length, take, slice_index, refl, ap, ◌∙◌, arith}
-use Rattle.std.specs.Prelude.{encode_utf8_all, codes, nat_lt}
+use Rattle.std.proofs.Common.{◌≡◌, ℕ, zero, suc, ◌<◌, ◌≤◌, Bool, true, false, List, [], ◌∷◌, ◌++◌, length, take, slice_index, refl, ap, ◌∙◌, ◌||◌, ◌&&◌, ◌==◌, sym, arith}
+use Rattle.std.specs.Prelude.{encode_utf8_all, codes, nat_lt, nat_le}
 use Rattle.std.specs.Str.{all_scalars}
 use Rattle.std.specs.List.{list_all}
 use Rattle.std.specs.Char.{IsScalar}
 use Rattle.std.proofs.lemmas.Bool.{and_parts, and_from, both_ways, lt-ltb, ltb-true}
 use Rattle.std.proofs.lemmas.Str.{encode_ascii}
 use Rattle.std.proofs.Math.Utf8.{low_scalar}
-use Rattle.py_lines.specs.Character.{is_space, is_word_start, is_quote, is_operator, is_break}
+use Rattle.py_lines.specs.Character.{is_space, is_word_start, is_word_character, is_digit, is_quote, is_operator, is_break}
 use Rattle.py_lines.specs.declared.mode.Spelling.{Spelling}
 use Rattle.py_lines.specs.declared.mode.Mode.{Mode}
 use Rattle.py_lines.specs.declared.mode.Mode.TheVariants as modes
 use Rattle.py_lines.specs.Private.Machine.{first_spelling, spelling_with, spelling_on, IsFull}
 use Rattle.py_lines.specs.Private.Run.{is_ascii_word, is_free, word_spelling}
 use Rattle.py_lines.proofs.Text.CharacterTests.{none_of}
-use Rattle.py_lines.proofs.LineScan.Runs.{word_byte_low, word_byte_starts}
+use Rattle.unicode_ident.proofs.IdentLemmas.{is_xid_continue-ascii, is_xid_start-ascii}
+use Rattle.std.proofs.Math.Bool.{or_assoc, or_comm}
+use Rattle.std.proofs.lemmas.Bool.Decides.{nat_tests}
+
+-- a byte of words continues a word
+pub word_byte_low : (c : ℕ) → is_ascii_word c ≡ true → c < 128
+unfolding is_ascii_word
+word_byte_low c h = grind (arith, nat_tests)
+
+pub word_byte_continues : (c : ℕ) → c < 128 → is_word_character c ≡ is_ascii_word c
+unfolding is_ascii_word is_word_character
+word_byte_continues c low = is_xid_continue-ascii c low
+
+-- and begins one
+pub word_byte_starts : (c : ℕ) → c < 128 → is_word_start c ≡ is_ascii_word c
+unfolding is_ascii_word is_word_start is_digit
+word_byte_starts c low =
+    let digit = nat_le 48 c && nat_le c 57 in
+    let capital = nat_le 65 c && nat_le c 90 in
+    let small = nat_le 97 c && nat_le c 122 in
+    ap (λ (b : Bool). (b || (c == 95)) || digit) (is_xid_start-ascii c low) ∙ or_comm ((capital || small) || (c == 95)) digit
+    ∙ sym (or_assoc digit (capital || small) (c == 95)) ∙ ap (λ (b : Bool). b || (c == 95)) (sym (or_assoc digit capital small))
 
 -- a run of bytes as a list
 pub all_pass : (passes : ℕ → Bool) (bytes : List ℕ) (n : ℕ) → n ≤ length bytes → ((i : ℕ) → i < n → passes (slice_index bytes i) ≡ true)

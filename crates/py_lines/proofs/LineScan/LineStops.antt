@@ -34,8 +34,7 @@ use Rattle.py_lines.proofs.LineScan.LineSteps.{way_here, way_keeps, way_stop, at
 use Rattle.py_lines.specs.Private.FieldScan.{IsInPlace}
 use Rattle.py_lines.specs.Private.FieldMachine.{FieldScanned}
 use Rattle.py_lines.proofs.LineScan.StringSteps.{fielded_at}
-use Rattle.py_lines.proofs.LineScan.Runs.{reached_character, reached_run, sound_quote}
-use Rattle.py_lines.proofs.LineScan.LongText.{reached_long}
+use Rattle.py_lines.proofs.LineScan.Runs.{reached_character, reached_run, sound_quote, reached_long}
 
 -- wherever in a line the scan stood before a text, it stands now before another
 abbrev pub GoesTo : Scan → List ℕ → Scan → List ℕ → Type 0

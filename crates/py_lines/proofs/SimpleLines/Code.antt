@@ -28,8 +28,7 @@ use Rattle.py_lines.proofs.Machine.PieceSteps.{scanned, pieces_at, steps_by-appe
 use Rattle.py_lines.proofs.Machine.LiveTexts.{keeps, stack_closed}
 use Rattle.py_lines.proofs.ScanMachine.Steps.{begun as scan_begun}
 use Rattle.py_lines.proofs.LineScan.BracketStack.{keeps_at}
-use Rattle.py_lines.proofs.LineScan.Increments.{EndsNoLine-push, line_ends-step, stack_push}
-use Rattle.py_lines.proofs.LineScan.LineCount.{ends-last}
+use Rattle.py_lines.proofs.LineScan.LineCount.{EndsNoLine-push, line_ends-step, stack_push, ends-last}
 use Rattle.py_lines.proofs.LineScan.NextCharacter.{closed_one_line, depth_none, none_level}
 use Rattle.py_lines.proofs.LineScan.PieceEnd.{closed_text}
 use Rattle.py_lines.proofs.LineScan.Runs.{break_low, ends-run, line_ends-run, space_low, stays-no_break, word_byte_continues, word_byte_low}

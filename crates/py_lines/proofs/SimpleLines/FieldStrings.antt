@@ -22,7 +22,7 @@ use Rattle.py_lines.proofs.Machine.PieceSteps.{scanned}
 use Rattle.py_lines.proofs.ScanMachine.Spellings.{word_tells}
 use Rattle.py_lines.proofs.FieldScans.Runs.{leads_low}
 use Rattle.py_lines.proofs.FieldScans.TextLengths.{rest_is, rest_of}
-use Rattle.py_lines.proofs.LineScan.Increments.{EndsNoLine-push}
+use Rattle.py_lines.proofs.LineScan.LineCount.{EndsNoLine-push}
 use Rattle.py_lines.proofs.LineScan.Runs.{quote_ascii, string_no_break}
 use Rattle.py_lines.proofs.LineScan.AsciiRuns.{is_low, is_low_from, low_encodes, low_is, quote-no_break}
 use Rattle.py_lines.proofs.LineScan.PlainStrings.{quoted_all}

@@ -9,8 +9,7 @@ use Rattle.py_lines.specs.declared.mode.Mode.{Mode}
 use Rattle.py_lines.specs.Private.Machine.{Bracket}
 use Rattle.py_lines.specs.Private.Run.{HasAsciiQuote, is_feed, is_long_byte, stays}
 use Rattle.py_lines.specs.Private.Outline.{BeforePiece, IsInLong, IsInPieceAfter}
-use Rattle.py_lines.proofs.LineScan.Runs.{all_no_break, characters_stay, ends-run, held_run}
-use Rattle.py_lines.proofs.LineScan.LongText.{long_characters, long_counts, long_held}
+use Rattle.py_lines.proofs.LineScan.Runs.{all_no_break, characters_stay, ends-run, held_run, long_characters, long_counts, long_held}
 use Rattle.py_lines.proofs.Text.Utf8Prefixes.{all_scalars-append}
 use Rattle.py_lines.proofs.SimpleLines.Code.{holds_more, come_over}
 

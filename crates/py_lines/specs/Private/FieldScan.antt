@@ -260,9 +260,10 @@ EndsCode scan m line_fault =
 abbrev pub freed_at : FieldScan → ℕ → FieldScan
 freed_at old place = record old { mode = field_modes.Code modes.Free; start = place }
 
--- the scan back in the string round a field
-abbrev pub ended_in : FieldScan → OpenField → FieldScan
-ended_in old field = record old { mode = field_modes.Body field.host field.region false ats.Between; start = field.start }
+-- the scan back in the string round a field, with these frames
+abbrev pub ended_in : OpenField → List Frame → FieldScan
+ended_in field others =
+    record { mode = field_modes.Body field.host field.region false ats.Between; start = field.start; frames = others }
 
 -- what a character comes to that does this
 abbrev pub TakesMove : FieldScan → ℕ → ℕ → ℕ → spots.FieldMove → FieldProgress → FieldScan → Type 0

@@ -3,7 +3,7 @@ use Rattle.py_lines.specs.declared.field_scan.FieldProgress.TheVariants as progr
 use Rattle.py_lines.specs.declared.field_scan.FieldScan.{FieldScan}
 use Rattle.py_lines.specs.declared.frames.Frame.{Frame}
 use Rattle.py_lines.specs.Private.FieldScan.{IsInPlace}
-use Rattle.py_lines.proofs.FieldScans.FieldOpenings.{begins_there, no_room_there}
+use Rattle.py_lines.proofs.FieldScans.Openings.{begins_there, no_room_there}
 use Rattle.py_lines.proofs.field_scan.FieldScan.begin_code.Goals as goal
 
 pub returns-then-not-has_room-clause-takes : goal.returns-then-not-has_room-clause-takes

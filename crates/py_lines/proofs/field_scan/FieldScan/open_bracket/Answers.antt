@@ -1,17 +1,14 @@
-use Rattle.std.proofs.Common.{◌+◌, List, ap, sym, ◌∙◌, arith}
-use Rattle.std.proofs.lemmas.Bool.{ltb-true, lt-ltb, both_ways}
+use Rattle.std.proofs.Common.{◌+◌, List, ap, sym, ◌∙◌}
 use Rattle.py_lines.specs.declared.frames.Frame.{Frame}
 use Rattle.py_lines.specs.Private.FieldScan.{freed_at}
-use Rattle.py_lines.proofs.FieldScans.Operators.{bracket_opens, bracket_too_deep}
+use Rattle.py_lines.proofs.FieldScans.Openings.{bracket_opens, bracket_too_deep}
 use Rattle.py_lines.proofs.field_scan.FieldScan.open_bracket.Goals as goal
 
 pub returns-then-not-has_room-clause-takes : goal.returns-then-not-has_room-clause-takes
 returns-then-not-has_room-clause-takes c = λ base t follow inside at is.
-    bracket_too_deep c.args.self.now base c.args.depth c.args.c c.args.place t follow inside at is c.requires.operator c.requires.opens
-    (λ low. both_ways _ c.if-not-has_room.true (c.has_room.ensures ∙ lt-ltb _ 201 (omega (arith, low))))
+    bracket_too_deep c.args.self.now base c.args.depth c.args.c c.args.place t follow inside at is c.requires.operator c.requires.opens (sym c.has_room.ensures ∙ c.if-not-has_room.true)
 
 pub returns-clause-takes : goal.returns-clause-takes
 returns-clause-takes c = λ base t follow inside at is.
-    bracket_opens c.args.self.now base c.args.depth c.args.c c.args.place t follow inside at is c.requires.operator c.requires.opens
-    (let room = ltb-true _ 201 (sym c.has_room.ensures ∙ c.if-not-has_room.false) in omega (arith, room)) _
+    bracket_opens c.args.self.now base c.args.depth c.args.c c.args.place t follow inside at is c.requires.operator c.requires.opens (sym c.has_room.ensures ∙ c.if-not-has_room.false) _
     (c.free.ensures ∙ ap (λ (fs : List Frame). freed_at (record c.args.self.now { frames = fs }) (c.args.place + 1)) c.push.ensures)

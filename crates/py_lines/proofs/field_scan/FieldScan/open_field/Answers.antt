@@ -1,5 +1,5 @@
 use Rattle.std.proofs.Common.{sym, ◌∙◌}
-use Rattle.py_lines.proofs.FieldScans.FieldOpenings.{opens_there, shut_there}
+use Rattle.py_lines.proofs.FieldScans.Openings.{opens_there, shut_there}
 use Rattle.py_lines.proofs.field_scan.FieldScan.open_field.Goals as goal
 
 pub returns-then-not-has_room-clause-takes : goal.returns-then-not-has_room-clause-takes

@@ -3,7 +3,7 @@ use Rattle.py_lines.specs.declared.field_scan.FieldScan.{FieldScan}
 use Rattle.py_lines.specs.declared.frames.Frame.{Frame}
 use Rattle.py_lines.specs.declared.frames.Frame.TheVariants as frame
 use Rattle.py_lines.specs.Private.FieldScan.{IsInPlace, freed_at}
-use Rattle.py_lines.proofs.FieldScans.Operators.{bracket_closes, bracket_wrong, bracket_passes}
+use Rattle.py_lines.proofs.FieldScans.Openings.{bracket_closes, bracket_wrong, bracket_passes}
 use Rattle.py_lines.proofs.FieldScans.Places.{some_open}
 use Rattle.py_lines.proofs.field_scan.FieldScan.take_in_bracket.Goals as goal
 use Rattle.py_lines.proofs.field_scan.FieldScan.take_in_bracket.Goals.{then-is_closing+else-c-closing_of, else-is_closing}

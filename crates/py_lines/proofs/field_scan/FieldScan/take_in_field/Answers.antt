@@ -1,12 +1,7 @@
-use Rattle.std.proofs.Common.{false, List, drop, refl, sym, ap, ◌∙◌, subst}
+use Rattle.std.proofs.Common.{List, drop, refl, sym, ap, ◌∙◌}
 use Rattle.py_lines.specs.declared.frames.Frame.{Frame}
-use Rattle.py_lines.specs.declared.frames.Frame.TheVariants as frame
-use Rattle.py_lines.specs.Private.FieldScan.{IsInPlace, ended_in}
-use Rattle.py_lines.proofs.FieldScans.Operators.{field_ends, field_specifies, field_closes_none, field_passes}
-use Rattle.py_lines.specs.Private.FieldMachine.{between}
-use Rattle.py_lines.specs.Private.Frames.{StandsIn}
-use Rattle.py_lines.specs.Private.ScanMachine.{host_in}
-use Rattle.py_lines.proofs.FieldScans.Places.{in_text}
+use Rattle.py_lines.specs.Private.FieldScan.{ended_in}
+use Rattle.py_lines.proofs.FieldScans.Openings.{field_ends, field_specifies, field_closes_none, field_passes}
 use Rattle.py_lines.proofs.field_scan.FieldScan.take_in_field.Goals as goal
 
 pub returns-then-is_closing-clause-takes : goal.returns-then-is_closing-clause-takes
@@ -18,7 +13,7 @@ pub returns-then-c-eq125-clause-takes : goal.returns-then-c-eq125-clause-takes
 returns-then-c-eq125-clause-takes c = λ depth base t follow inside at is.
     let top = c.requires.innermost in
     field_ends c.args.self.now base depth c.args.c c.args.place t follow inside at is c.requires.operator c.args.field top.0 top.1 c.if-c-eq125.true _
-    (c.resume.ensures ∙ ap (λ (fs : List Frame). ended_in (record c.args.self.now { frames = fs }) c.args.field) (c.pop.ensures.rest ∙ ap (drop 1) top.1))
+    (c.leave.ensures.back ∙ ap (λ (fs : List Frame). ended_in c.args.field (drop 1 fs)) top.1)
 
 pub returns-then-c-eq58-clause-takes : goal.returns-then-c-eq58-clause-takes
 returns-then-c-eq58-clause-takes c = λ depth base t follow inside at is.
@@ -28,10 +23,3 @@ pub returns-else-is_closing-clause-takes : goal.returns-else-is_closing-clause-t
 returns-else-is_closing-clause-takes c = λ depth base t follow inside at is.
     field_passes c.args.self.now base depth c.args.c c.args.place t follow inside at is c.requires.operator c.args.field c.requires.innermost.0 c.requires.innermost.1
     c.if-c-eq58.false c.requires.other (sym c.is_closing.ensures ∙ c.if-is_closing.false) _ c.free.ensures
-
-pub returns-then-c-eq125-clause-placed : goal.returns-then-c-eq125-clause-placed
-returns-then-c-eq125-clause-placed c = λ old.
-    let top = c.requires.innermost in
-    subst IsInPlace (sym c.resume.ensures)
-    (in_text c.args.field.region (host_in c.args.field.host) false between c.pop.new.self
-    (subst (StandsIn c.args.field.region) (sym (c.pop.ensures.rest ∙ ap (drop 1) top.1)) (c.pop.ensures.nested (frame.Field c.args.field) top.0 top.1)))

@@ -1,7 +1,7 @@
 use Rattle.std.proofs.Common.{sym, ap, ◌∙◌}
 use Rattle.py_lines.specs.declared.mode.Mode.{Mode}
 use Rattle.py_lines.specs.Private.ScanMachine.{meet_of}
-use Rattle.py_lines.proofs.LineScan.StringOpenings.{enters_after, takes_opened, takes_emptied}
+use Rattle.py_lines.proofs.LineScan.NextCharacter.{enters_after, takes_opened, takes_emptied}
 use Rattle.py_lines.proofs.scan.Scan.enter_string.Goals as goal
 
 pub unreachable-requires : goal.unreachable-requires
