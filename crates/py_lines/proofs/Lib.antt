@@ -13,7 +13,7 @@
 -- goes through the fields among them, and through a list of pieces wherever it goes through the strings among them; so it goes
 -- through fields, by how many stand one in another. Each run says what its characters open, so one proof gives two theorems: the
 -- machine goes through every list that is read, however deep; and where a text has a reading, each character has room. The other
--- way round, the state tells what is open at a place (WhatIsOpen, OpenCode): the machine comes from the text's start to each
+-- way round, the state tells what is open at a place (WhatIsOpen): the machine comes from the text's start to each
 -- string, list and spot that the definitions call open. It is sound (proofs/FieldSoundness). What it holds, in each mode and of
 -- each field that is open, is stated for any limit on what may stand at a depth, so one proof gives two theorems: where it may
 -- end, its pieces read the text; and they are shallow if each character had room. What it holds says which lists of pieces and

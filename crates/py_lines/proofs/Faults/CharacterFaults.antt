@@ -26,7 +26,7 @@ use Rattle.py_lines.specs.OpenFields.{BeginsList, InSpecification, InOpenShort}
 use Rattle.py_lines.proofs.Pieces.PieceLists.{piece, spelled-push, AreReadIn-first}
 use Rattle.py_lines.proofs.FieldSoundness.WholeTexts.{no_limit, any_rooms, two_hundred}
 use Rattle.py_lines.proofs.FieldSoundness.OpenEnds.{are_begun, list_begins, specification_is_open}
-use Rattle.py_lines.proofs.Text.CharacterTests.{none_of, each_of, opening-not-quote, break-not-others}
+use Rattle.py_lines.proofs.Text.CharacterTests.{none_of, each_of, break-not-others}
 use Rattle.py_lines.proofs.Machine.Starts.{start-operator, start-feed, start-return}
 use Rattle.py_lines.proofs.Pieces.OpenBrackets.{depth_through-append, depth-opener}
 use Rattle.py_lines.proofs.FieldSoundness.OpenLists.{opens-depth}
@@ -362,7 +362,7 @@ module _ (s : FieldScanned) (read : List ℕ) (c : ℕ) (after : List ℕ) (step
 
   -- an opening bracket that is refused, or the `{` of a field
   opening_fits : is_deep ≡ false → is_break c ≡ false → after_open_backslash s.mode ≡ false → is_closing c ≡ false → is_opening c ≡ true → (offset : ℕ) × OpensTooDeep read c offset
-  unfolding is_closing
+  unfolding is_closing is_opening is_quote
   opening_fits shallow no_break no_slash no_closing opens = by (why shallow)
     where
       by : Why s c → (offset : ℕ) × OpensTooDeep read c offset
@@ -374,7 +374,7 @@ module _ (s : FieldScanned) (read : List ℕ) (c : ℕ) (after : List ℕ) (step
       by (Why.closes_field brace at) = absurd (both_ways _ no_closing (ap is_closing brace))
       by (Why.refuses (inl (break, short))) = absurd (both_ways _ no_break break)
       by (Why.refuses (inr (inl (slash, other)))) = absurd (both_ways _ no_slash slash)
-      by (Why.refuses (inr (inr (same, quotes)))) = absurd (both_ways _ (opening-not-quote c opens) quotes)
+      by (Why.refuses (inr (inr (same, quotes)))) = absurd (both_ways _ (none_of is_quote (codes "([{") c refl opens) quotes)
 
   -- what follows a backslash
   join_fits : after_open_backslash s.mode ≡ true → (offset : ℕ) × Explains breaks_join read c offset

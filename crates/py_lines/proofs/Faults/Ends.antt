@@ -27,7 +27,6 @@ use Rattle.py_lines.specs.Reading.{IsBalancedReading}
 use Rattle.py_lines.specs.declared.fault.FaultKind.{FaultKind}
 use Rattle.py_lines.proofs.FieldMachine.Completeness.{reading_reached}
 use Rattle.py_lines.proofs.FieldMachine.WhatIsOpen.{Comes, comes_to, short_open_comes, long_open_comes, backslash_comes, SpecificationAt, specification_comes, CodeAt, in_code, at_brace, code_comes, brace_comes}
-use Rattle.py_lines.proofs.FieldMachine.OpenCode.{CodeAt, in_code, at_brace, code_comes, brace_comes}
 use Rattle.py_lines.proofs.FieldMachine.ListBrackets.{none_some}
 use Rattle.py_lines.proofs.FieldMachine.OpenStrings.{HasOpened}
 use Rattle.py_lines.proofs.FieldSoundness.Holds.{IsFieldSound}

@@ -7,7 +7,7 @@ use Rattle.py_lines.specs.Piece.{Piece, ends}
 use Rattle.py_lines.specs.Balance.{depth_after, depth_through}
 use Rattle.py_lines.specs.LogicalLine.{is_line_end_class, ends_line, line_ends, byte_len}
 use Rattle.py_lines.specs.Private.Scan.{counts_after, EndsNoLine, count_with}
-use Rattle.py_lines.proofs.Text.CharacterTests.{feed-not-return}
+use Rattle.py_lines.proofs.Text.CharacterTests.{feed-not-others}
 pub use Rattle.py_lines.proofs.Pieces.OpenBrackets.{stack_push}
 use Rattle.std.specs.Char.{len_utf8}
 use Rattle.std.proofs.lemmas.Str.{length-encode, length-le-encodes}
@@ -34,7 +34,7 @@ counts_alone c = go (is_return c) (is_line_feed c)
 
 counts_two : (x c : ℕ) → counted (ends_line x (c ∷ [])) + counted (ends_line c []) ≡ counted (ends_line x []) + counts_after (is_return x) c
 unfolding counted counts_after
-counts_two x c = go (is_return x) (is_line_feed x) (is_return c) (is_line_feed c) (λ h. feed-not-return x h) (λ h. feed-not-return c h)
+counts_two x c = go (is_return x) (is_line_feed x) (is_return c) (is_line_feed c) (λ h. (feed-not-others x h).2) (λ h. (feed-not-others c h).2)
   where
     go : (rx fx rc fc : Bool) → (fx ≡ true → rx ≡ false) → (fc ≡ true → rc ≡ false) → counted (fx || (rx && not fc)) + counted (fc || (rc && true)) ≡ counted (fx || (rx && true)) + (if rc then 1 else (if fc && not rx then 1 else 0))
     go rx fx true true a b = absurd (both_ways _ (b refl) refl)

@@ -25,7 +25,7 @@ use Rattle.py_lines.specs.Balance.{depth_through}
 use Rattle.py_lines.specs.Private.FieldMachine.{FieldScanned}
 use Rattle.py_lines.specs.Private.FieldScan.{GoesThrough, HoldsField}
 use Rattle.py_lines.specs.Private.Run.{is_ascii_word, is_body_byte, stays, Stay, HeldIn, HoldsRun, with_bytes, HasAsciiQuote, Reached, Spans, HoldsLongText, is_feed, is_long_byte, is_text_byte, with_lines}
-use Rattle.py_lines.proofs.Text.CharacterTests.{none_of, excluded, feed-not-quote, feed-not-return, feed-not-slash, feed_from}
+use Rattle.py_lines.proofs.Text.CharacterTests.{none_of, excluded, feed-not-others, feed_from}
 use Rattle.py_lines.proofs.LineScan.LineCount.{line_ends-step, ends-last}
 use Rattle.py_lines.proofs.LineScan.PieceEnd.{counts_longer}
 use Rattle.py_lines.proofs.LineScan.StringSteps.{here_at, in_string, string_more, string_through}
@@ -332,9 +332,9 @@ module _ (q : ℕ) (quote : is_quote q ≡ true) where
           let ten = eqb-true c 10 is in
           let feeds = feed_from c ten in
           record {
-            other = false_from_ne_true (c == q) (λ same. both_ways (is_quote c) (feed-not-quote c feeds) (ap is_quote (eqb-true c q same) ∙ quote));
-            slash = feed-not-slash c feeds;
-            unreturned = feed-not-return c feeds;
+            other = false_from_ne_true (c == q) (λ same. both_ways (is_quote c) (feed-not-others c feeds).0 (ap is_quote (eqb-true c q same) ∙ quote));
+            slash = (feed-not-others c feeds).1;
+            unreturned = (feed-not-others c feeds).2;
             low = omega (arith, ten);
           }
 

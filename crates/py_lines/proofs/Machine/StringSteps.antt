@@ -143,7 +143,7 @@ grown-other q seen (c ∷ d ∷ []) quotes is other = (Mode.LongEscape q, long_e
 grown-other q seen (c ∷ d ∷ e ∷ []) quotes is other =
     let first = and_parts (is_backslash c && is_return d) (is_line_feed e) is in
     let slash = (and_parts (is_backslash c) (is_return d) first.0).0 in
-    let feed : move_of (Mode.Long q) e ≡ Move.Grows (Mode.Long q) = long_moves q e none (not_quote e q quotes (feed-not-quote e first.1)) ∙ rw (feed-not-slash e first.1) in
+    let feed : move_of (Mode.Long q) e ≡ Move.Grows (Mode.Long q) = long_moves q e none (not_quote e q quotes (feed-not-others e first.1).0) ∙ rw (feed-not-others e first.1).1 in
     (Mode.LongEscape q, long_escapes q c seen quotes slash, (Mode.Long q, refl, (Mode.Long q, feed, refl)))
 grown-other q seen (c ∷ d ∷ e ∷ f ∷ cs) quotes is other = absurd (both_ways _ refl is)
 

@@ -32,11 +32,9 @@ use Rattle.py_lines.proofs.LogicalLines.Cuts.{byte_len-append}
 use Rattle.py_lines.proofs.FieldSoundness.Holds.{Limit, HoldsLevel, HoldsLevels, IsFieldSound}
 use Rattle.py_lines.proofs.FieldSoundness.HostSteps.{sound_at}
 use Rattle.py_lines.proofs.FieldSoundness.WholeTexts.{no_limit, any_rooms}
-use Rattle.py_lines.proofs.Faults.CharacterFaults.{IsStuck}
-use Rattle.py_lines.proofs.Faults.CauseAt.{cause_fits, short_here, only_breaks, text_is}
-use Rattle.py_lines.proofs.Faults.EndPlaces.{final_by}
-use Rattle.py_lines.proofs.Faults.Refusals.{IsShortHere}
-use Rattle.py_lines.proofs.Faults.Ends.{StandsThere, unfinished_fits}
+use Rattle.py_lines.proofs.Faults.CharacterFaults.{IsStuck, IsShortHere, cause_fits, short_here, only_breaks}
+use Rattle.py_lines.proofs.Faults.EndFaults.{final_by}
+use Rattle.py_lines.proofs.Faults.Ends.{StandsThere, text_is, unfinished_fits}
 use Rattle.py_lines.proofs.ScanMachine.Advance.{RunsTo, advance}
 use Rattle.py_lines.proofs.ScanMachine.BodyMoves.{IsBodyMode}
 use Rattle.py_lines.proofs.ScanMachine.Rebased.{rebased, rebased_in, rebased_if, based, frames_more}

@@ -20,7 +20,7 @@ use Rattle.py_lines.specs.LogicalLine.{byte_len}
 use Rattle.py_lines.proofs.Machine.PieceSteps.{scanned, pieces_at, is_word_mode}
 use Rattle.py_lines.proofs.Machine.LiveTexts.{keeps, stack_closed}
 use Rattle.py_lines.proofs.Machine.Starts.{StartsSo, starts_so, start-operator}
-use Rattle.py_lines.proofs.Text.CharacterTests.{excluded, quote-not-word, slash-not-break, break-not-others}
+use Rattle.py_lines.proofs.Text.CharacterTests.{excluded, quote-not-word, break-not-others}
 use Rattle.py_lines.proofs.Machine.Soundness.{word_on}
 use Rattle.py_lines.proofs.FieldMachine.Completeness.{start_breaks}
 use Rattle.py_lines.proofs.Machine.Spellings.{spelling_on-push}
