@@ -79,8 +79,8 @@
 -- those that are live without fields, and there it goes as the scanning machine does. So such a text is live with fields exactly
 -- if it is live without. Nothing that is open in it is a string with fields, so its fault is the same, and its lexing.
 --
--- proofs/Text has characters, the bytes that spell them, and vectors of bytes (Lanes). Files named WorkedRows and
--- DepthRows are rows worked out by hand, which are proved of the definitions.
+-- proofs/Text has characters, the bytes that spell them, and vectors of bytes (Lanes). Files named WorkedRows
+-- are rows worked out by hand, which are proved of the definitions.
 pub mod Text
 pub mod Pieces
 pub mod Neighbours

@@ -35,7 +35,7 @@ use Rattle.py_lines.proofs.FieldMachine.PieceRuns.{IsNoColon, opening_operator, 
 use Rattle.py_lines.proofs.Faults.EndFaults.{no_brace_at, EndsSo, due_at, brace_is_due, few_frames}
 use Rattle.py_lines.proofs.FieldMachine.WhatIsOpen.{comes_to, specification_comes, backslash_comes}
 use Rattle.py_lines.specs.LogicalLine.{byte_len}
-use Rattle.py_lines.proofs.Faults.Ends.{brace_more, short_unfinished, join_unfinished, deep_state, sound_to, text_is, open_now, named, in_specification, specification_named}
+use Rattle.py_lines.proofs.Faults.Ends.{brace_more, short_unfinished, join_unfinished, deep_state, sound_to, text_is, open_now, end_named, in_specification, specification_named}
 
 -- a short string is open here, or a specification of one
 abbrev pub IsShortHere : FieldMode → Type 0
@@ -74,8 +74,8 @@ plain_reason m held c holds = search (either, inl, inr) depth 8
 
 -- in a string with fields where no `{` waits, by what the character does there
 moved_reason : (limit : Limit) (outer : List Level) (depth : ℕ) (host : Host) (place : Place) (m : FieldMode) (held : List ℕ) (c : ℕ) (v : FieldMove) → text_place m ≡ place → (host.is_long ≡ false → IsShortHere m) → (place ≡ specification → c ≡ host.quote → quotes_specification m c ≡ true) → is_quote host.quote ≡ true → Moved limit outer depth host place false held c v → Reason m c v
-moved_reason limit outer depth host place m held c (begins_code h) at short quoted quotes moved = absurd (both_ways _ refl moved.1)
-moved_reason limit outer depth host place m held c (opens_field h) at short quoted quotes moved = (moved.2, at ∙ moved.1)
+moved_reason limit outer depth host place m held c (begins_code h) at short quoted quotes moved = absurd (both_ways _ refl moved.0)
+moved_reason limit outer depth host place m held c (opens_field h) at short quoted quotes moved = (moved.1, at ∙ moved.0)
 moved_reason limit outer depth host place m held c ends_field at short quoted quotes moved = (moved.1, at ∙ moved.0)
 moved_reason limit outer depth host place m held c refused at short quoted quotes (inl (break, is_short)) = inl (break, short is_short)
 moved_reason limit outer depth host place m held c refused at short quoted quotes (inr (there, same)) = inr (inr (quoted there same, ap is_quote same ∙ quotes))
@@ -223,11 +223,11 @@ module _ (read : List ℕ) (s : FieldScanned) (steps : field_steps_from (Some fi
   place_is breaks_string c offset fits = go fits.inside
     where
       go : InOpenShort read fits.start ⊎ InShortSpecification read fits.start → offset ≡ piece_start s
-      go (inl short) = (named read s steps room open_short offset (fits.start, short, fits.place)).1
+      go (inl short) = (end_named read s steps room open_short offset (fits.start, short, fits.place)).1
       go (inr is) =
           let own = comes_to read _ s (specification_comes is.host read is.field is.inside) steps in
           fits.place ∙ ap byte_len (sym (own.0.string_is ∙ own.1 ∙ is.before)) ∙ ap (λ p. byte_len (before p s.outer ++ spelled s.done)) (sym (in_specification is.host s.mode own.0.mode_is).1)
-  place_is breaks_join c offset fits = (named read s steps room open_join offset (fits.start, fits.after, fits.place)).1
+  place_is breaks_join c offset fits = (end_named read s steps room open_join offset (fits.start, fits.after, fits.place)).1
   place_is closes_wrong c offset fits = fits.place ∙ sym (text_is read s steps room)
   place_is opens_too_deep c offset fits = fits.place ∙ sym (text_is read s steps room)
   place_is ends_specification c offset fits =
@@ -356,7 +356,7 @@ module _ (s : FieldScanned) (read : List ℕ) (c : ℕ) (after : List ℕ) (step
   unfolding field_move
   opens_due (body host specification named at) h place is own full =
       let moved = subst (Moved two_hundred s.outer (frames s) host specification (is_after_brace at) s.held c) is (body_moves two_hundred s.outer (frames s) host specification named at s.held c own.mode) in
-      let due = due_at two_hundred s.outer s.done s.openers (body host specification named at) s.held read own host specification s.held [] (123 ∷ []) refl refl (λ same. refl) moved.3 in
+      let due = due_at two_hundred s.outer s.done s.openers (body host specification named at) s.held read own h specification s.held [] (123 ∷ []) refl refl (λ same. refl) moved.2 in
       subst (λ n. IsFieldDue specification n read []) full (subst (λ t. IsFieldDue specification (frames s) t []) own.spell due)
   opens_due m h place is own full = not_specification place
 

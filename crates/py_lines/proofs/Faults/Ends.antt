@@ -245,27 +245,27 @@ module _ (characters : List ℕ) (s : FieldScanned) (steps : field_steps_from (S
       let found = tells own.0 in
       (found.0, place ∙ ap byte_len (sym own.1) ∙ ap (λ p. byte_len (before p s.outer ++ spelled s.done)) (sym found.1))
 
-  pub named : (what : Unfinished) (offset : ℕ) → IsOpenAtEnd what characters offset → IsNamed what offset
-  named open_brace offset deep =
+  pub end_named : (what : Unfinished) (offset : ℕ) → IsOpenAtEnd what characters offset → IsNamed what offset
+  end_named open_brace offset deep =
       (brace_named s.outer s.openers s.mode (deep_state characters s [] offset steps deep), ap (λ n. n + 1) deep.place ∙ brace_more deep.start characters deep.spell ∙ sym text_is)
     where
       brace_named : (outer : List Level) (openers : List ℕ) (m : FieldMode) → IsDeepBrace outer openers m → unfinished_in outer openers m ≡ Some open_brace
       brace_named outer openers (body host literal named after_brace) (waits, full) = ap (λ n. Some (unfinished_literal host after_brace n)) full
       brace_named outer openers m (waits, full) = absurd (both_ways _ refl waits)
-  named open_short offset (start, is, place) = starts_there open_short in_open_short start offset (short_unfinished s.outer s.openers s.mode) (short_open_comes characters start is) place
-  named open_long offset (start, is, place) = starts_there open_long in_open_long start offset (long_unfinished s.outer s.openers s.mode) (long_open_comes characters start is) place
-  named open_join offset (start, is, place) = starts_there open_join after_open_backslash start offset (join_unfinished s.outer s.openers s.mode) (backslash_comes characters start is) place
-  named open_bracket offset (start, is, place) =
+  end_named open_short offset (start, is, place) = starts_there open_short in_open_short start offset (short_unfinished s.outer s.openers s.mode) (short_open_comes characters start is) place
+  end_named open_long offset (start, is, place) = starts_there open_long in_open_long start offset (long_unfinished s.outer s.openers s.mode) (long_open_comes characters start is) place
+  end_named open_join offset (start, is, place) = starts_there open_join after_open_backslash start offset (join_unfinished s.outer s.openers s.mode) (backslash_comes characters start is) place
+  end_named open_bracket offset (start, is, place) =
       subst (λ (n : ℕ). (unfinished_at s ≡ Some open_bracket) × IsPlaced open_bracket s n) (sym place) (bracket_back characters start s is steps)
-  named open_inside offset (start, inl is, place, other) = code_named start offset (comes_to characters (CodeAt start) s (code_comes characters start is) steps) place other
-  named open_inside offset (start, inr (host, is), place, other) = specification_named host start offset (comes_to characters _ s (specification_comes host characters start is) steps).0 place
+  end_named open_inside offset (start, inl is, place, other) = code_named start offset (comes_to characters (CodeAt start) s (code_comes characters start is) steps) place other
+  end_named open_inside offset (start, inr (host, is), place, other) = specification_named host start offset (comes_to characters _ s (specification_comes host characters start is) steps).0 place
 
 -- so the fault at the end is one
 pub one_end : (characters tail : List ℕ) (kind other : FaultKind) (offset place : ℕ) → IsEndFault kind characters tail offset → IsEndFault other characters tail place → (kind ≡ other) × (offset ≡ place)
 one_end characters tail kind other offset place first second =
     let run = live_goes characters first.live in
-    let one = named characters run.0 run.1 run.2 first.unfinished offset first.ends_in in
-    let two = named characters run.0 run.1 run.2 second.unfinished place second.ends_in in
+    let one = end_named characters run.0 run.1 run.2 first.unfinished offset first.ends_in in
+    let two = end_named characters run.0 run.1 run.2 second.unfinished place second.ends_in in
     let same : first.unfinished ≡ second.unfinished = some_is first.unfinished second.unfinished (sym one.0 ∙ two.0) in (
       first.is ∙ ap kind_of_unfinished same ∙ sym second.is,
       one_place second.unfinished run.0 offset place (subst (λ (w : Unfinished). IsPlaced w run.0 offset) same one.1) two.1,
@@ -278,7 +278,7 @@ end_unread characters tail kind offset fault pieces reading =
     let whole = reading_reached pieces characters reading in
     let same = same_state characters whole.to run.0 whole.steps run.1 in
     let final : IsFieldFinal run.0 = subst IsFieldFinal same whole.final in
-    let open_yet = named characters run.0 run.1 run.2 fault.unfinished offset fault.ends_in in
+    let open_yet = end_named characters run.0 run.1 run.2 fault.unfinished offset fault.ends_in in
     let none : unfinished_at run.0 ≡ None = code_unfinished run.0.outer run.0.openers run.0.mode final.ends ∙ rw (final.outside, final.closed_all) refl in
     none_some (sym none ∙ open_yet.0)
 
@@ -317,5 +317,5 @@ module _ (read : List ℕ) (s : FieldScanned) (steps : field_steps_from (Some fi
       let found = subst (EndsSo s read) is (open_now read s steps room) in (
         found.0,
         record { unfinished = what; is = refl; whole = refl; live = goes_live read s steps room; ends_in = found.1 },
-        there what found.0 (named read s steps room what found.0 found.1).1,
+        there what found.0 (end_named read s steps room what found.0 found.1).1,
       )

@@ -19,12 +19,7 @@ all_causes = brace_too_deep ∷ breaks_string ∷ breaks_join ∷ closes_wrong �
 
 is_first : (cause : Cause) (before : List ℕ) (c : ℕ) → NoneExplains (causes_before cause) before c → IsFirst all_causes before c cause
 is_first brace_too_deep before c none = inl refl
-is_first breaks_string before c (a, none) = inr (a, inl refl)
-is_first breaks_join before c (a, (b, none)) = inr (a, inr (b, inl refl))
-is_first closes_wrong before c (a, (b, (d, none))) = inr (a, inr (b, inr (d, inl refl)))
-is_first opens_too_deep before c (a, (b, (d, (e, none)))) = inr (a, inr (b, inr (d, inr (e, inl refl))))
-is_first ends_specification before c (a, (b, (d, (e, (f, none))))) = inr (a, inr (b, inr (d, inr (e, inr (f, inl refl)))))
-is_first begins_nothing before c (a, (b, (d, (e, (f, (g, none)))))) = inr (a, inr (b, inr (d, inr (e, inr (f, inr (g, inl refl))))))
+is_first cause before c none = search (inl, inr) depth 16
 
 -- is one
 one_first : (causes : List Cause) (before : List ℕ) (c : ℕ) (one two : Cause) (offset place : ℕ) → IsFirst causes before c one → IsFirst causes before c two → Explains one before c offset → Explains two before c place → one ≡ two

@@ -6,18 +6,18 @@ use Rattle.std.specs.Str.{byte}
 use Rattle.std.specs.List.{list_any}
 use Rattle.std.proofs.lemmas.Bool.{cond_both, and_parts, and_from, or_cases, eqb-true, both_ways, not_from_false, and_left, and_right, or_right}
 use Rattle.py_lines.specs.Character.{is_quote, is_return, is_break, is_backslash, is_brace, is_barred, is_line_feed}
-use Rattle.py_lines.specs.Piece.{string}
+use Rattle.py_lines.specs.Piece.{string, Piece}
 use Rattle.py_lines.specs.PieceGrammar.{is_prefix, IsNoneOr, is_bare, joined, has_triple, InClassIn, MayPrecedeIn}
 use Rattle.py_lines.specs.Fields.{fielded}
 use Rattle.py_lines.specs.FieldStrings.{is_field_prefix, Host, Place, literal, specification, quotes_of, is_ordinary, IsPart, bare, named_after, named_through, AreParts, IsFieldString, with_fields, may_be_escaped, names, slash, escape, escaped_end, name, double}
 use Rattle.py_lines.specs.Private.Machine.{IsFull}
-use Rattle.py_lines.specs.Private.FieldMachine.{At, between, after_one, after_two, FieldMode, body, FieldMove, grows, closes, breaks, begins_code, opens_field, ends_field, refused, Level, is_after_two, with_quote, closing_move, opening_move, ending_move, between_move, after_slash, after_return, after_name, after_brace, is_after_brace, is_barred_escape, escape_move, body_move}
+use Rattle.py_lines.specs.Private.FieldMachine.{text_place, At, between, after_one, after_two, FieldMode, body, FieldMove, grows, closes, breaks, begins_code, opens_field, ends_field, refused, Level, is_after_two, with_quote, closing_move, opening_move, ending_move, between_move, after_slash, after_return, after_name, after_brace, is_after_brace, is_barred_escape, escape_move, body_move}
 use Rattle.py_lines.proofs.Pieces.TripleQuotes.{triple-left, triple-other}
 use Rattle.py_lines.proofs.Text.CharacterTests.{none_of, barred, slash-not-quote, not_quote, return-not-brace}
 use Rattle.py_lines.proofs.Machine.OpenPieces.{full-append, joined-push, not_one, quote-not-slash}
 use Rattle.py_lines.proofs.Fields.Parts.{quote-not-open, names_letter, name-not-brace, name-not-return}
 use Rattle.py_lines.proofs.Fields.Prefixes.{plain_quotes, field_letters, first_quote}
-use Rattle.py_lines.proofs.FieldSoundness.Holds.{Limit, WholeParts, HoldsParts, HoldsBetween, HoldsAt, HoldsMode}
+use Rattle.py_lines.proofs.FieldSoundness.Holds.{Limit, AtStart, WholeParts, HoldsParts, HoldsBetween, HoldsAt, HoldsMode}
 use Rattle.py_lines.proofs.FieldMachine.StringParts.{quote_no_end, kept_or}
 
 -- parts, one more after others
@@ -126,16 +126,12 @@ module _ (limit : Limit) (outer : List Level) (depth : ℕ) (host : Host) where
   }
 
   -- what a character does in a string with fields, where a `{` may wait
-  abbrev pub IsIn : Place → FieldMode → Type 0
-  IsIn place (body h p named at) = p ≡ place
-  IsIn place other = ⊥
-
   abbrev pub Moved : Place → Bool → List ℕ → ℕ → FieldMove → Type 0
-  Moved place waits held c (grows m) = IsIn place m × HoldsMode limit outer depth m (held ++ c ∷ [])
+  Moved place waits held c (grows m) = (text_place m ≡ place) × ((done : List Piece) → AtStart m outer done) × HoldsMode limit outer depth m (held ++ c ∷ [])
   Moved place waits held c closes = (place ≡ literal) × InClassIn (with_fields (limit.FieldsAt depth)) string (held ++ c ∷ []) × ((more : List ℕ) → MayPrecedeIn fielded string (held ++ c ∷ []) more)
-  Moved place waits held c (begins_code h) = (h ≡ host) × (waits ≡ true) × (place ≡ literal) × (c == byte "{" ≡ false) × (text : List ℕ) × (held ≡ text ++ byte "{" ∷ []) × HoldsParts limit outer depth host place false text (byte "{" ∷ [])
-  Moved place waits held c (opens_field h) = (h ≡ host) × (place ≡ specification) × (c ≡ byte "{") × HoldsParts limit outer depth host place false held (byte "{" ∷ [])
-  Moved place waits held c ends_field = (place ≡ specification) × (c ≡ byte "}") × HoldsParts limit outer depth host place false held (byte "}" ∷ [])
+  Moved place waits held c (begins_code h) = (waits ≡ true) × (place ≡ literal) × (c == byte "{" ≡ false) × (text : List ℕ) × (held ≡ text ++ byte "{" ∷ []) × HoldsParts limit outer depth h literal false text (byte "{" ∷ [])
+  Moved place waits held c (opens_field h) = (place ≡ specification) × (c ≡ byte "{") × HoldsParts limit outer depth h specification false held (byte "{" ∷ [])
+  Moved place waits held c ends_field = (place ≡ specification) × (c ≡ byte "}") × HoldsParts limit outer depth host specification false held (byte "}" ∷ [])
   Moved place waits held c refused = ((is_break c ≡ true) × (host.is_long ≡ false)) ⊎ ((place ≡ specification) × (c ≡ host.quote))
   Moved place waits held c breaks = ⊥
 
@@ -145,14 +141,14 @@ module _ (limit : Limit) (outer : List Level) (depth : ℕ) (host : Host) where
       push_between place named after held (c ∷ []) [] h (λ more. bare c refl no_slash (stands host.is_long host.quote c stays other) itself) other tt is
 
   opening : (waits : Bool) (place : Place) (held : List ℕ) (c : ℕ) → HoldsParts limit outer depth host place false held (c ∷ []) → c ≡ 123 → Moved place waits held c (opening_move host place)
-  opening waits literal held c h is = (refl, (held, ap (λ (d : ℕ). held ++ d ∷ []) is, refl, refl, subst (λ (d : ℕ). HoldsParts limit outer depth host literal false held (d ∷ [])) is h))
-  opening waits specification held c h is = (refl, refl, is, subst (λ (d : ℕ). HoldsParts limit outer depth host specification false held (d ∷ [])) is h)
+  opening waits literal held c h is = (refl, λ done. tt, (held, ap (λ (d : ℕ). held ++ d ∷ []) is, refl, refl, subst (λ (d : ℕ). HoldsParts limit outer depth host literal false held (d ∷ [])) is h))
+  opening waits specification held c h is = (refl, is, subst (λ (d : ℕ). HoldsParts limit outer depth host specification false held (d ∷ [])) is h)
 
   ending : (waits : Bool) (place : Place) (named : Bool) (held : List ℕ) (c : ℕ) → HoldsParts limit outer depth host place named held (c ∷ []) → c == 125 ≡ true → c == host.quote ≡ false → is_backslash c ≡ false → is_break c && not host.is_long ≡ false → Moved place waits held c (ending_move host place named)
   ending waits literal named held c h is other no_slash stays =
       let itself : is_ordinary literal named c ≡ true = subst (λ (d : ℕ). named || not (d == 123) ≡ true) (sym (eqb-true c 125 is)) (or_right named true refl) in
-      (refl, bare_one literal named false held c h other no_slash stays itself (ended_named named (c == 125) is))
-  ending waits specification true held c h is other no_slash stays = (refl, bare_one specification true false held c h other no_slash stays refl (ended_named true (c == 125) is))
+      (refl, λ done. tt, bare_one literal named false held c h other no_slash stays itself (ended_named named (c == 125) is))
+  ending waits specification true held c h is other no_slash stays = (refl, λ done. tt, bare_one specification true false held c h other no_slash stays refl (ended_named true (c == 125) is))
   ending waits specification false held c h is other no_slash stays = (refl, eqb-true c 125 is, subst (λ (d : ℕ). HoldsParts limit outer depth host specification false held (d ∷ [])) (eqb-true c 125 is) h)
 
   -- what a quote of the string does
@@ -165,7 +161,7 @@ module _ (limit : Limit) (outer : List Level) (depth : ℕ) (host : Host) where
   between_moves waits place named at held c h quoted =
       let P : FieldMove → Type 0 = Moved place waits held c in
       cond_both (c == host.quote) _ _ P (λ same. quoted (eqb-true c host.quote same))
-      (λ other. cond_both (is_backslash c) _ _ P (λ slashes. (refl, (held, c, refl, slashes, h)))
+      (λ other. cond_both (is_backslash c) _ _ P (λ slashes. (refl, λ done. tt, (held, c, refl, slashes, h)))
       (λ no_slash. cond_both (is_break c && not host.is_long) _ _ P (λ ended. inl (and_not (is_break c) host.is_long ended))
       (λ stays. cond_both ((c == 123) && not named) _ _ P
       (λ opens.
@@ -173,7 +169,7 @@ module _ (limit : Limit) (outer : List Level) (depth : ℕ) (host : Host) where
       opening waits place held c (subst (λ n. HoldsParts limit outer depth host place n held (c ∷ [])) parts.1 h) (eqb-true c 123 parts.0))
       (λ no_open. cond_both (c == 125) _ _ P
       (λ is. ending waits place named held c h is other no_slash stays)
-      (λ no_close. (refl, bare_one place named named held c h other no_slash stays (ordinary_character place named c no_open no_close) (kept_named named (c == 125) no_close)))))))
+      (λ no_close. (refl, λ done. tt, bare_one place named named held c h other no_slash stays (ordinary_character place named c no_open no_close) (kept_named named (c == 125) no_close)))))))
 
   -- after a quote that is a part of its own, of a long string
   quote_on : (place : Place) (named : Bool) (text next : List ℕ) → host.is_long ≡ true → (h : HoldsParts limit outer depth host place named text (host.quote ∷ [])) → has_triple host.quote (h.parts ++ (host.quote ∷ []) ∷ []) ≡ false → HoldsParts limit outer depth host place named (text ++ host.quote ∷ []) next
@@ -228,7 +224,7 @@ module _ (limit : Limit) (outer : List Level) (depth : ℕ) (host : Host) where
       let own : HoldsBetween limit outer depth host place named held (host.quote ∷ []) = subst (λ (d : ℕ). HoldsBetween limit outer depth host place named held (d ∷ [])) is h in
       let spell : held ++ c ∷ [] ≡ held ++ host.quote ∷ [] = ap (λ (d : ℕ). held ++ d ∷ []) is in
       cond_both (host.is_long && true) _ _ (Moved place waits held c)
-      (λ long. (refl, (held, spell, (and_parts _ _ long).0, own)))
+      (λ long. (refl, λ done. tt, (held, spell, (and_parts _ _ long).0, own)))
       (λ one.
       let short = plain_one host.is_long one in
       closes_at waits place named held held [] c spell (short_quotes host short) is own (λ at r single. more_than_one (joined own.all.parts) host.quote r (own.full at short) single))
@@ -236,7 +232,7 @@ module _ (limit : Limit) (outer : List Level) (depth : ℕ) (host : Host) where
   pub second_quote : (waits : Bool) (place : Place) (named : Bool) (held : List ℕ) (c : ℕ) → HoldsAt limit outer depth host place named after_one held → c ≡ host.quote → Moved place waits held c (quote_move place named after_one)
   second_quote waits place named held c (text, spell, long, h) is =
       cond_both (host.is_long && true) _ _ (Moved place waits held c)
-      (λ two. (refl, (text, ap (λ t. t ++ c ∷ []) spell ∙ append_assoc text (host.quote ∷ []) (c ∷ []) ∙ ap (λ (d : ℕ). text ++ host.quote ∷ d ∷ []) is, long, h)))
+      (λ two. (refl, λ done. tt, (text, ap (λ t. t ++ c ∷ []) spell ∙ append_assoc text (host.quote ∷ []) (c ∷ []) ∙ ap (λ (d : ℕ). text ++ host.quote ∷ d ∷ []) is, long, h)))
       (λ short. absurd (both_ways _ short (and_from _ _ long refl)))
 
   pub third_quote : (waits : Bool) (place : Place) (named : Bool) (held : List ℕ) (c : ℕ) → HoldsAt limit outer depth host place named after_two held → c ≡ host.quote → Moved place waits held c (quote_move place named after_two)
@@ -290,29 +286,27 @@ module _ (limit : Limit) (outer : List Level) (depth : ℕ) (host : Host) where
       (pushed place named named held text (s ∷ []) [] (c ∷ []) is h (λ more. slash s refl slashes brace) (not_quote s host.quote h.quotes (slash-not-quote s slashes)) tt (kept_named named (s == 125) (slash-not-closing s slashes))))
       (λ no_brace. cond_both (is_barred_escape host place c) _ _ P (λ barred. inl (barred_short host place c barred))
       (λ free. cond_both (is_return c) _ _ P
-      (λ returns. (refl, (text, s, c, spell, slashes, returns, may_stand_escaped host place c free, h)))
+      (λ returns. (refl, λ done. tt, (text, s, c, spell, slashes, returns, may_stand_escaped host place c free, h)))
       (λ no_return. cond_both (names host c) _ _ P
-      (λ named_one. (refl, (text, s, c, spell, slashes, named_one, may_stand_escaped host place c free, h)))
+      (λ named_one. (refl, λ done. tt, (text, s, c, spell, slashes, named_one, may_stand_escaped host place c free, h)))
       (λ no_name.
-      (refl, pushed place named named (held ++ c ∷ []) text (s ∷ []) (c ∷ []) [] spell h (λ more. escape s c refl slashes no_brace (may_stand_escaped host place c free) (and_left _ _ no_name) (and_left _ _ no_return)) refl tt refl)))))
+      (refl, λ done. tt, pushed place named named (held ++ c ∷ []) text (s ∷ []) (c ∷ []) [] spell h (λ more. escape s c refl slashes no_brace (may_stand_escaped host place c free) (and_left _ _ no_name) (and_left _ _ no_return)) refl tt refl)))))
   body_moves place named after_return held c (text, s, r, is, slashes, returns, may, h) =
       cond_both (is_line_feed c) _ _ (Moved limit outer depth host place false held c)
-      (λ feeds. (
-        refl,
-        pushed place named named (held ++ c ∷ []) text (s ∷ []) (r ∷ c ∷ []) [] (ap (λ t. t ++ c ∷ []) is ∙ append_assoc text (s ∷ r ∷ []) (c ∷ [])) h
-            (λ more. escaped_end s r c refl slashes returns feeds may) refl tt (kept_or named (is_backslash s && (r == 78)) (and_right _ _ (return-not-letter r returns))),
-      ))
+      (λ feeds.
+      let own = pushed place named named (held ++ c ∷ []) text (s ∷ []) (r ∷ c ∷ []) [] (ap (λ t. t ++ c ∷ []) is ∙ append_assoc text (s ∷ r ∷ []) (c ∷ [])) h
+      (λ more. escaped_end s r c refl slashes returns feeds may) refl tt (kept_or named (is_backslash s && (r == 78)) (and_right _ _ (return-not-letter r returns))) in
+      (refl, λ done. tt, own))
       (λ no_feed.
       between_two false place named held c
       (pushed place named named held text (s ∷ []) (r ∷ []) (c ∷ []) is h
       (λ more. escape s r refl slashes (return-not-brace r returns) may (and_left _ _ (and_left _ _ (return-not-letter r returns))) (and_right _ _ no_feed)) refl tt refl))
   body_moves place named after_name held c (text, s, n, is, slashes, is_name, may, h) =
       cond_both (c == 123) _ _ (Moved limit outer depth host place false held c)
-      (λ braces. (
-        refl,
-        pushed place named true (held ++ c ∷ []) text (s ∷ []) (n ∷ c ∷ []) [] (ap (λ t. t ++ c ∷ []) is ∙ append_assoc text (s ∷ n ∷ []) (c ∷ [])) h
-            (λ more. name s n c refl slashes is_name (eqb-true c 123 braces)) refl tt (or_right named (is_backslash s && (n == 78)) (and_from _ _ slashes (names_letter host n is_name))),
-      ))
+      (λ braces.
+      let own = pushed place named true (held ++ c ∷ []) text (s ∷ []) (n ∷ c ∷ []) [] (ap (λ t. t ++ c ∷ []) is ∙ append_assoc text (s ∷ n ∷ []) (c ∷ [])) h
+      (λ more. name s n c refl slashes is_name (eqb-true c 123 braces)) refl tt (or_right named (is_backslash s && (n == 78)) (and_from _ _ slashes (names_letter host n is_name))) in
+      (refl, λ done. tt, own))
       (λ no_brace.
       between_two false place named held c
       (pushed place named named held text (s ∷ []) (n ∷ []) (c ∷ []) is h
@@ -320,5 +314,5 @@ module _ (limit : Limit) (outer : List Level) (depth : ℕ) (host : Host) where
   body_moves place named after_brace held c (text, is, at, unnamed, h) =
       cond_both (c == 123) _ _ (Moved limit outer depth host place true held c)
       (λ braces.
-      (refl, pushed place named named (held ++ c ∷ []) text (123 ∷ []) (c ∷ []) [] (ap (λ t. t ++ c ∷ []) is ∙ append_assoc text (123 ∷ []) (c ∷ [])) h (λ more. double 123 c refl refl (eqb-true c 123 braces) at unnamed) refl tt refl))
-      (λ no_brace. (refl, refl, at, no_brace, text, is, subst (λ n. HoldsParts limit outer depth host place n text (123 ∷ [])) unnamed h))
+      (refl, λ done. tt, pushed place named named (held ++ c ∷ []) text (123 ∷ []) (c ∷ []) [] (ap (λ t. t ++ c ∷ []) is ∙ append_assoc text (123 ∷ []) (c ∷ [])) h (λ more. double 123 c refl refl (eqb-true c 123 braces) at unnamed) refl tt refl))
+      (λ no_brace. (refl, at, no_brace, text, is, subst (λ p. HoldsParts limit outer depth host p false text (123 ∷ [])) at (subst (λ n. HoldsParts limit outer depth host place n text (123 ∷ [])) unnamed h)))

@@ -11,7 +11,7 @@ use Rattle.py_lines.specs.Private.FieldMachine.{text_place, before, between, Fie
 use Rattle.py_lines.proofs.Pieces.PieceLists.{piece}
 use Rattle.py_lines.proofs.Fields.Prefixes.{field_letters, first_quote}
 use Rattle.py_lines.proofs.FieldSoundness.Holds.{Limit, OpensHost, HoldsParts, HoldsBetween, HoldsMode, HoldsLevel, HoldsLevels, AtStart, IsFieldSound}
-use Rattle.py_lines.proofs.FieldSoundness.BodyMoves.{quoted_prefix, short_quotes, whole_string, IsIn, Moved, between_moves, body_moves}
+use Rattle.py_lines.proofs.FieldSoundness.BodyMoves.{quoted_prefix, short_quotes, whole_string, Moved, between_moves, body_moves}
 use Rattle.py_lines.proofs.FieldSoundness.Lists.{FieldSoundIf, no_pieces, stands_at, stands_more}
 use Rattle.py_lines.proofs.FieldSoundness.CodeSteps.{start_sound, specification_ends, HasRoom, grew, closes_with, ends_before, plain_sound, begins_sound}
 
@@ -62,11 +62,17 @@ module _ (limit : Limit) (outer : List Level) (done : List Piece) (openers : Lis
   abbrev State : FieldScanned
   State = field_state outer done openers m held
 
+  -- whatever a character does in a string with fields
+  moved_sound : (host : Host) (place : Place) (waits : Bool) (v : FieldMove) → text_place m ≡ place → field_class_of m ≡ string → Moved limit outer depth host place waits held c v → HasRoom limit depth c v → FieldSoundIf limit (field_moved State c v) (read ++ c ∷ [])
+  moved_sound host place waits (grows n) at class holds room = grew limit outer done openers m n held read c sound (holds.0 ∙ sym at) holds.2 (holds.1 done)
+  moved_sound host place waits closes at class holds room =
+      subst (λ (x : Class). IsFieldSound limit (field_fresh outer (done ++ piece x (held ++ c ∷ []) ∷ []) openers) (read ++ c ∷ [])) (sym class)
+      (closes_with limit outer done openers m held read c string sound (at ∙ holds.0) (λ h. absurd (cc)) holds.1 holds.2 (inl refl))
+  moved_sound host place waits breaks at class holds room = absurd holds
   -- a field opens before the character, in a literal part
-  code_begins : (host : Host) (text : List ℕ) → text_place m ≡ literal → c == byte "{" ≡ false → held ≡ text ++ byte "{" ∷ [] → HoldsParts limit outer depth host literal false text (byte "{" ∷ []) → HasRoom limit depth c (begins_code host) → FieldSoundIf limit (field_moved State c (begins_code host)) (read ++ c ∷ [])
-  code_begins host text at single spell parts room =
-      let level : Level = record { done = done; openers = openers; host = host; place = literal; front = held } in
-      let stands = stands_at limit outer done openers m held read literal sound at in
+  moved_sound host place waits (begins_code h) at class (waiting, here, single, text, spell, parts) room =
+      let level : Level = record { done = done; openers = openers; host = h; place = literal; front = held } in
+      let stands = stands_at limit outer done openers m held read literal sound (at ∙ here) in
       let own : HoldsLevel limit level outer = record { text = text; spell = spell; list = stands.list; parts = parts; room = room.0 } in
       start_sound limit (level ∷ outer) [] [] read c
       (record {
@@ -75,45 +81,20 @@ module _ (limit : Limit) (outer : List Level) (done : List Piece) (openers : Lis
         levels = (λ more. single, own, stands.levels);
       })
       (λ opens. subst limit.Room (omega arith) (room.1 opens))
-
   -- a field opens at the character, in a specification
-  field_opens : (host : Host) → text_place m ≡ specification → c ≡ byte "{" → HoldsParts limit outer depth host specification false held (byte "{" ∷ []) → limit.Room depth → FieldSoundIf limit (field_moved State c (opens_field host)) (read ++ c ∷ [])
-  field_opens host at is parts room =
+  moved_sound host place waits (opens_field h) at class (here, is, parts) room =
       let front = held ++ c ∷ [] in
-      let level : Level = record { done = done; openers = openers; host = host; place = specification; front = front } in
-      let stands = stands_more limit specification outer done openers held read (c ∷ []) (stands_at limit outer done openers m held read specification sound at) in
+      let level : Level = record { done = done; openers = openers; host = h; place = specification; front = front } in
+      let stands = stands_more limit specification outer done openers held read (c ∷ []) (stands_at limit outer done openers m held read specification sound (at ∙ here)) in
       let own : HoldsLevel limit level outer = record { text = held; spell = ap (λ (d : ℕ). held ++ d ∷ []) is; list = stands.list; parts = parts; room = room } in
       record { spell = append-nil (before specification outer ++ (spelled done ++ front)) ∙ stands.spell; mode = (refl, λ h. absurd (cc)); list = no_pieces limit literal (level ∷ outer) []; levels = (tt, own, stands.levels); start = tt }
-
   -- the field ends whose specification is open
-  field_ends : (host : Host) → text_place m ≡ specification → c ≡ byte "}" → HoldsParts limit outer depth host specification false held (byte "}" ∷ []) → FieldSoundIf limit (field_moved State c ends_field) (read ++ c ∷ [])
-  field_ends host at is parts =
-      let none = sound.list.no_list at in
+  moved_sound host place waits ends_field at class (here, is, parts) room =
+      let none = sound.list.no_list (at ∙ here) in
       let text : spelled done ++ held ≡ held = ap (λ (l : List Piece). spelled l ++ held) none.0 in
-      let stands = stands_at limit outer done openers m held read specification sound at in
+      let stands = stands_at limit outer done openers m held read specification sound (at ∙ here) in
       specification_ends limit outer openers host held read c none.1 is parts
       (subst (HoldsLevels limit specification outer) text stands.levels) (ap (λ t. before specification outer ++ t) (sym text) ∙ stands.spell)
-
-  -- so whatever a character does in the body of a string
-  body_in : (place : Place) (n : FieldMode) (host : Host) → IsIn limit outer depth host place n → text_place m ≡ place → (text_place n ≡ text_place m) × AtStart n outer done
-  body_in place (body h p named q) host is at = (is ∙ sym at, tt)
-  body_in place n host is at = absurd is
-
-  moved_sound : (host : Host) (place : Place) (waits : Bool) (v : FieldMove) → text_place m ≡ place → field_class_of m ≡ string → Moved limit outer depth host place waits held c v → HasRoom limit depth c v → FieldSoundIf limit (field_moved State c v) (read ++ c ∷ [])
-  moved_sound host place waits (grows n) at class holds room =
-      let own = body_in place n host holds.0 at in
-      grew limit outer done openers m n held read c sound own.0 holds.1 own.1
-  moved_sound host place waits closes at class holds room =
-      subst (λ (x : Class). IsFieldSound limit (field_fresh outer (done ++ piece x (held ++ c ∷ []) ∷ []) openers) (read ++ c ∷ [])) (sym class)
-      (closes_with limit outer done openers m held read c string sound (at ∙ holds.0) (λ h. absurd (cc)) holds.1 holds.2 (inl refl))
-  moved_sound host place waits breaks at class holds room = absurd holds
-  moved_sound host place waits (begins_code h) at class holds room =
-      subst (λ (x : Host). FieldSoundIf limit (field_moved State c (begins_code x)) (read ++ c ∷ [])) (sym holds.0)
-      (code_begins host holds.4 (at ∙ holds.2) holds.3 holds.5 (subst (λ p. HoldsParts limit outer depth host p false holds.4 (123 ∷ [])) holds.2 holds.6) room)
-  moved_sound host place waits (opens_field h) at class holds room =
-      subst (λ (x : Host). FieldSoundIf limit (field_moved State c (opens_field x)) (read ++ c ∷ [])) (sym holds.0)
-      (field_opens host (at ∙ holds.1) holds.2 (subst (λ p. HoldsParts limit outer depth host p false held (123 ∷ [])) holds.1 holds.3) room)
-  moved_sound host place waits ends_field at class holds room = field_ends host (at ∙ holds.0) holds.1 (subst (λ p. HoldsParts limit outer depth host p false held (125 ∷ [])) holds.0 holds.2)
   moved_sound host place waits refused at class holds room = tt
 
 -- what a move comes to is sound

@@ -66,9 +66,7 @@ module _ (first : List Piece) where
 
   closed_begin : (outer : List Level) (m : FieldMode) (done : List Piece) (held : List ℕ) → BeginWith first outer done → BeginWith first outer (field_closed m done held)
   closed_begin outer (plain modes.Start) done held begin = begin
-  closed_begin outer (plain modes.Free) done held begin = begin
-  closed_begin outer (plain m) done held begin = one_more outer done _ begin
-  closed_begin outer m done held begin = one_more outer done _ begin
+  closed_begin outer m done held begin = search one_more
 
   operator_begin : (outer : List Level) (done : List Piece) (openers : List ℕ) (c : ℕ) → BeginWith first outer done → BeginIf first (field_operator outer done openers c)
   unfolding code_operator
