@@ -1,5 +1,4 @@
 -- Texts without a prefix of strings with fields before a quote: they are the same with fields and without.
 pub mod SameRuns
-pub mod SameFaults
 pub mod SameLexings
 pub mod WorkedRows

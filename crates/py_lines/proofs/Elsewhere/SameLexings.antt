@@ -1,15 +1,246 @@
--- A text that has no prefix of a string with fields before a quote has the same lexing with fields and without.
-use Rattle.std.proofs.Common.{◌≡◌, ℕ, false, Option, None, Some, List, ◌++◌, ap, ◌∙◌}
-use Rattle.py_lines.specs.Piece.{Piece, spelled}
-use Rattle.py_lines.specs.LogicalLine.{LogicalLine}
-use Rattle.py_lines.specs.FieldStrings.{may_have_fields}
+-- What is open in a text that has no prefix of a string with fields before a quote is the same with fields and without, and so are
+-- its fault and its lexing.
+use Rattle.std.proofs.Common.{◌≡◌, ℕ, Bool, true, false, ◌||◌, ◌&&◌, List, [], ◌∷◌, ◌++◌, refl, sym, ap, ◌∙◌, inl, inr, ⊎_elim, append_assoc, append-nil, Option, None, Some}
+use Rattle.std.specs.Str.{byte}
+use Rattle.std.proofs.lemmas.Bool.{or_parts, or_from, both_ways}
+use Rattle.py_lines.specs.Character.{is_quote, is_r, is_f, is_t}
+use Rattle.py_lines.specs.Piece.{Piece, begins, spelled}
+use Rattle.py_lines.specs.PieceGrammar.{AreReadIn, joined}
+use Rattle.py_lines.specs.FieldStrings.{Host, begins_fielded, may_have_fields, Place}
 use Rattle.py_lines.specs.Dialect.{Dialect, fielded_dialect, plain_dialect}
-use Rattle.py_lines.specs.Reading.{Decodes, IsReadPrefixIn}
+use Rattle.py_lines.specs.Fields.{Fields}
+use Rattle.py_lines.specs.Reading.{IsReadingIn, Decodes, IsReadPrefixIn}
+use Rattle.py_lines.specs.OpenFields.{Spot, IsOpenStringIn, in_literal, in_specification, AreBegunIn, BeginsListIn, at_start, in_field, StandsOpenIn, IsOpenUpToIn, IsPlainShortPrefixIn, IsPlainLongPrefixIn, IsOpenLiteralIn, InOpenShortIn, InOpenLongIn, AfterOpenBackslashIn, InSpecificationIn, InFieldCodeIn, InOpenFieldIn}
+use Rattle.py_lines.specs.Faults.{IsLiveIn, DiesAtIn, IsFieldDueIn, IsAtDepthIn, OpensBraceTooDeepIn, InShortSpecificationIn, BreaksStringIn, OpensTooDeepIn, Cause, brace_too_deep, breaks_string, breaks_join, closes_wrong, opens_too_deep, ends_specification, begins_nothing, ExplainsIn, causes_before, NoneExplainsIn, IsCharacterFaultIn, InOpenBracketIn, Unfinished, open_brace, open_short, open_long, open_join, open_bracket, open_inside, IsOpenAtEndIn, IsFaultAtIn, at_character, at_bytes, at_end, IsLexicalFaultIn}
+use Rattle.py_lines.proofs.Fields.Elsewhere.{later, none_false, no_field_prefix, quotes_begin, read_with, read_without, balanced_with, balanced_without}
+use Rattle.py_lines.proofs.Elsewhere.SameRuns.{live_with, live_without}
+use Rattle.py_lines.specs.declared.fault.FaultKind.{FaultKind}
+use Rattle.py_lines.specs.declared.fault.Fault.{Fault}
+use Rattle.py_lines.specs.LogicalLine.{LogicalLine}
 use Rattle.py_lines.specs.Lexed.{IsLexedIn, IsLexed}
 use Rattle.py_lines.specs.WithoutFields.{IsPlainLexed, HasNoFields}
-use Rattle.py_lines.specs.declared.fault.Fault.{Fault}
 use Rattle.py_lines.proofs.Text.Decoding.{decoded}
-use Rattle.py_lines.proofs.Elsewhere.SameFaults.{Carries, earlier, to_fielded, to_plain, lexical_carried}
+
+-- what such a text begins with is such a text
+begins_fewer : (a b : List ℕ) → begins_fielded (a ++ b) ≡ false → begins_fielded a ≡ false
+begins_fewer [] b h = refl
+begins_fewer (c ∷ []) b h = none_false (is_f c || is_t c)
+begins_fewer (c ∷ d ∷ []) b h = go (is_f c || is_t c) (is_quote d) (is_r d) (begins is_quote b) h
+  where
+    go : (x y z w : Bool) → x && (y || (z && w)) ≡ false → x && (y || (z && false)) ≡ false
+    go false y z w k = refl
+    go true true z w k = k
+    go true false z w k = none_false z
+begins_fewer (c ∷ d ∷ e ∷ es) b h = h
+
+pub earlier : (a b : List ℕ) → may_have_fields (a ++ b) ≡ false → may_have_fields a ≡ false
+earlier [] b h = refl
+earlier (c ∷ a) b h =
+    let parts = or_parts (begins_fielded (c ∷ (a ++ b))) (may_have_fields (a ++ b)) h in
+    or_from _ _ (begins_fewer (c ∷ a) b parts.0) (earlier a b parts.1)
+
+-- What two ways of reading have in common on such texts: what the first has, the second has too. No string with fields is open.
+pub record Carries (old new : Dialect) : Type 0 where
+  pub fit : (ps : List Piece) (rest : List ℕ) → may_have_fields (spelled ps ++ rest) ≡ false → AreReadIn old.grammar ps rest → AreReadIn new.grammar ps rest
+  pub reading : (ps : List Piece) (cs : List ℕ) → may_have_fields cs ≡ false → IsReadingIn old ps cs → IsReadingIn new ps cs
+  pub live : (cs : List ℕ) → may_have_fields cs ≡ false → IsLiveIn old cs → IsLiveIn new cs
+  pub prefix : (prefix : List ℕ) (q : ℕ) (after : List ℕ) → is_quote q ≡ true → may_have_fields (prefix ++ q ∷ after) ≡ false → new.is_field_prefix prefix ≡ false
+  pub none : (host : Host) (spot : Spot) (front rest : List ℕ) → may_have_fields front ≡ false → ¬ (IsOpenStringIn old host spot front rest)
+
+-- where no such prefix stands before a quote, none is open
+none_open : (dialect : Dialect) → ((prefix : List ℕ) (q : ℕ) (after : List ℕ) → is_quote q ≡ true → may_have_fields (prefix ++ q ∷ after) ≡ false → dialect.is_field_prefix prefix ≡ false) → (host : Host) (spot : Spot) (front rest : List ℕ) → may_have_fields front ≡ false → ¬ (IsOpenStringIn dialect host spot front rest)
+none_open dialect none host spot front rest h (in_literal s f r prefix parts at is fielded raw quotes each open_yet) =
+    let begin = quotes_begin host in
+    let spell : front ≡ prefix ++ host.quote ∷ (begin.0 ++ joined parts) = is ∙ ap (λ t. prefix ++ (t ++ joined parts)) begin.1 in
+    both_ways _ (none prefix host.quote (begin.0 ++ joined parts) quotes (ap may_have_fields (sym spell) ∙ h)) fielded
+none_open dialect none host spot front rest h (in_specification s round f r before inside parts at is string may inner each open_yet) =
+    none_open dialect none host round before _ (earlier before _ (ap may_have_fields (sym is) ∙ h)) string
+
+pub to_fielded : Carries plain_dialect fielded_dialect
+to_fielded = record { fit = read_with Fields; reading = balanced_with; live = live_with; prefix = no_field_prefix; none = none_open plain_dialect (λ prefix q after quotes h. refl) }
+
+pub to_plain : Carries fielded_dialect plain_dialect
+to_plain = record { fit = read_without Fields; reading = balanced_without; live = live_without; prefix = λ prefix q after quotes h. refl; none = none_open fielded_dialect no_field_prefix }
+
+module _ (old new : Dialect) (same : Carries old new) where
+  -- where a list begins, and its first pieces
+  pub list_carried : (outside rest : List ℕ) (depth : ℕ) → may_have_fields (outside ++ rest) ≡ false → BeginsListIn old outside rest depth → BeginsListIn new outside rest depth
+  list_carried outside rest depth h (at_start b r d is none) = at_start outside rest depth is none
+  list_carried outside rest depth h (in_field b r d earlier_list base pieces front host spot is list begun string may deep) =
+      let before : may_have_fields (earlier_list ++ (spelled pieces ++ (front ++ byte "{" ∷ []))) ≡ false = ap may_have_fields (sym is) ∙ earlier outside rest h in
+      let own : may_have_fields (front ++ byte "{" ∷ []) ≡ false = later (spelled pieces) _ (later earlier_list _ before) in
+      absurd (same.none host spot front _ (earlier front _ own) string)
+
+  pub begun_carried : (depth : ℕ) (pieces : List Piece) (rest : List ℕ) → may_have_fields (spelled pieces ++ rest) ≡ false → AreBegunIn old depth pieces rest → AreBegunIn new depth pieces rest
+  begun_carried depth pieces rest h is = record { fit = same.fit pieces rest h is.fit; others = is.others; balanced = is.balanced; inside = is.inside }
+
+  -- a piece that is open
+  pub stands_carried : (Open Other : List ℕ → Type 0) → ((front : List ℕ) → may_have_fields front ≡ false → Open front → Other front) → (characters start : List ℕ) → may_have_fields characters ≡ false → StandsOpenIn old Open characters start → StandsOpenIn new Other characters start
+  stands_carried Open Other carry characters start h is =
+      let whole : may_have_fields (is.outside ++ (spelled is.pieces ++ is.front)) ≡ false =
+      ap may_have_fields (sym (append_assoc is.outside (spelled is.pieces) is.front) ∙ ap (λ t. t ++ is.front) is.before ∙ is.spell) ∙ h in
+      let own = later is.outside (spelled is.pieces ++ is.front) whole in
+      record {
+        outside = is.outside;
+        depth = is.depth;
+        pieces = is.pieces;
+        front = is.front;
+        list = list_carried is.outside (spelled is.pieces ++ is.front) is.depth whole is.list;
+        begun = begun_carried is.depth is.pieces is.front own is.begun;
+        before = is.before;
+        spell = is.spell;
+        open_yet = carry is.front (later (spelled is.pieces) is.front own) is.open_yet;
+      }
+
+  -- it is no string with fields
+  pub no_string : (host : Host) (spot : Spot) (front : List ℕ) → may_have_fields front ≡ false → ¬ (IsOpenUpToIn old host spot front)
+  no_string host spot front h is = same.none host spot is.body is.last (earlier is.body is.last (ap may_have_fields (sym is.spell) ∙ h)) is.string
+
+  pub in_short_carried : (characters start : List ℕ) → may_have_fields characters ≡ false → InOpenShortIn old characters start → InOpenShortIn new characters start
+  in_short_carried characters start h is = stands_carried _ _ (λ front k. ⊎_elim (λ (short, plain). inl (short, same.prefix short.prefix short.quote _ short.opens (ap may_have_fields (sym short.spell) ∙ k))) (λ (host, spot, up, place, length). absurd (no_string host spot front k up))) characters start h is
+
+  pub in_long_carried : (characters start : List ℕ) → may_have_fields characters ≡ false → InOpenLongIn old characters start → InOpenLongIn new characters start
+  in_long_carried characters start h is = stands_carried _ _ (λ front k. ⊎_elim (λ (long, plain). inl (long, same.prefix long.prefix long.quote _ long.opens (ap may_have_fields (sym long.spell) ∙ k))) (λ (host, spot, up, place, length). absurd (no_string host spot front k up))) characters start h is
+
+  pub backslash_carried : (characters start : List ℕ) → may_have_fields characters ≡ false → AfterOpenBackslashIn old characters start → AfterOpenBackslashIn new characters start
+  backslash_carried characters start h is = stands_carried _ _ (λ front k slash. slash) characters start h is
+
+  -- no specification is open, and no field
+  pub no_specification : (host : Host) (characters start : List ℕ) → may_have_fields characters ≡ false → ¬ (InSpecificationIn old host characters start)
+  no_specification host characters start h is = no_string host is.spot is.stands.front (later is.string is.stands.front (ap may_have_fields is.stands.spell ∙ h)) is.stands.open_yet
+
+  code_carried : (characters start : List ℕ) → may_have_fields characters ≡ false → InFieldCodeIn old characters start → InFieldCodeIn new characters start
+  code_carried characters start h is =
+      let whole : may_have_fields ((start ++ byte "{" ∷ []) ++ spelled is.pieces) ≡ false = ap may_have_fields (append_assoc start (byte "{" ∷ []) (spelled is.pieces) ∙ is.spell) ∙ h in
+      record {
+        depth = is.depth;
+        pieces = is.pieces;
+        list = list_carried (start ++ byte "{" ∷ []) (spelled is.pieces) is.depth whole is.list;
+        begun = begun_carried is.depth is.pieces [] (ap may_have_fields (append-nil (spelled is.pieces)) ∙ later (start ++ byte "{" ∷ []) (spelled is.pieces) whole) is.begun;
+        deep = is.deep;
+        balanced = is.balanced;
+        spell = is.spell;
+      }
+
+  pub field_carried : (characters start : List ℕ) → may_have_fields characters ≡ false → InOpenFieldIn old characters start → InOpenFieldIn new characters start
+  field_carried characters start h (inl code) = inl (code_carried characters start h code)
+  field_carried characters start h (inr (host, is)) = absurd (no_specification host characters start h is)
+
+module _ (old new : Dialect) (same : Carries old new) where
+  -- no field may open
+  no_field : (place : Place) (depth : ℕ) (characters after : List ℕ) → may_have_fields characters ≡ false → ¬ (IsFieldDueIn old place depth characters after)
+  no_field place depth characters after h is =
+      same.none is.host is.spot is.front _ (later (spelled is.pieces) is.front (later is.outside (spelled is.pieces ++ is.front) (ap may_have_fields is.spell ∙ h))) is.string
+
+  no_brace : (before after : List ℕ) (offset : ℕ) → may_have_fields before ≡ false → ¬ (OpensBraceTooDeepIn old before after offset)
+  no_brace before after offset h is = no_field _ _ is.start after (earlier is.start (byte "{" ∷ []) (ap may_have_fields is.spell ∙ h)) is.due
+
+  depth_carried : (before : List ℕ) (c depth : ℕ) → may_have_fields (before ++ c ∷ []) ≡ false → IsAtDepthIn old before c depth → IsAtDepthIn new before c depth
+  depth_carried before c depth h is =
+      let whole : may_have_fields (is.outside ++ (spelled is.pieces ++ c ∷ [])) ≡ false =
+      ap may_have_fields (sym (append_assoc is.outside (spelled is.pieces) (c ∷ [])) ∙ ap (λ t. t ++ c ∷ []) is.spell) ∙ h in
+      record {
+        outside = is.outside;
+        base = is.base;
+        pieces = is.pieces;
+        list = list_carried old new same is.outside (spelled is.pieces ++ c ∷ []) is.base whole is.list;
+        begun = begun_carried old new same is.base is.pieces (c ∷ []) (later is.outside (spelled is.pieces ++ c ∷ []) whole) is.begun;
+        spell = is.spell;
+        deep = is.deep;
+      }
+
+  string_carried : (before : List ℕ) (c offset : ℕ) → may_have_fields before ≡ false → BreaksStringIn old before c offset → BreaksStringIn new before c offset
+  string_carried before c offset h is = record {
+    start = is.start;
+    breaks = is.breaks;
+    inside = ⊎_elim (λ short. inl (in_short_carried old new same before is.start h short)) (λ other. absurd (no_specification old new same other.host before other.field h other.inside)) is.inside;
+    place = is.place;
+  }
+
+  deep_carried : (before : List ℕ) (c offset : ℕ) → may_have_fields (before ++ c ∷ []) ≡ false → OpensTooDeepIn old before c offset → OpensTooDeepIn new before c offset
+  deep_carried before c offset h is = record {
+    opens = is.opens;
+    deep = ⊎_elim (λ at. inl (depth_carried before c 200 h at)) (λ due. absurd (no_field _ _ before [] (earlier before (c ∷ []) h) due.1)) is.deep;
+    place = is.place;
+  }
+
+  -- why a character is refused
+  explains_carried : (cause : Cause) (before : List ℕ) (c offset : ℕ) → may_have_fields (before ++ c ∷ []) ≡ false → ExplainsIn old cause before c offset → ExplainsIn new cause before c offset
+  explains_carried brace_too_deep before c offset h is = absurd (no_brace before (c ∷ []) offset (earlier before (c ∷ []) h) is)
+  explains_carried breaks_string before c offset h is = string_carried before c offset (earlier before (c ∷ []) h) is
+  explains_carried breaks_join before c offset h is = record { start = is.start; after = backslash_carried old new same before is.start (earlier before (c ∷ []) h) is.after; place = is.place }
+  explains_carried closes_wrong before c offset h is = is
+  explains_carried opens_too_deep before c offset h is = deep_carried before c offset h is
+  explains_carried ends_specification before c offset h is = absurd (no_specification old new same is.host before is.start (earlier before (c ∷ []) h) is.inside)
+  explains_carried begins_nothing before c offset h is = is
+
+  -- the bracket that is open
+  bracket_carried : (characters start : List ℕ) → may_have_fields characters ≡ false → InOpenBracketIn old characters start → InOpenBracketIn new characters start
+  bracket_carried characters start h is =
+      let ps : List Piece = is.outer ++ is.opener ∷ is.inner in
+      let whole : may_have_fields (is.outside ++ spelled ps) ≡ false = ap may_have_fields is.spell ∙ h in
+      record {
+        outside = is.outside;
+        depth = is.depth;
+        outer = is.outer;
+        opener = is.opener;
+        inner = is.inner;
+        list = list_carried old new same is.outside (spelled ps) is.depth whole is.list;
+        begun = begun_carried old new same is.depth ps [] (ap may_have_fields (append-nil (spelled ps)) ∙ later is.outside (spelled ps) whole) is.begun;
+        opens = is.opens;
+        balanced = is.balanced;
+        spell = is.spell;
+        before = is.before;
+      }
+
+module _ (old new : Dialect) (there : Carries old new) (back : Carries new old) where
+  none_carried : (causes : List Cause) (before : List ℕ) (c : ℕ) → may_have_fields (before ++ c ∷ []) ≡ false → NoneExplainsIn old causes before c → NoneExplainsIn new causes before c
+  none_carried [] before c h none = tt
+  none_carried (cause ∷ causes) before c h none = (λ offset is. none.0 offset (explains_carried new old back cause before c offset h is), none_carried causes before c h none.1)
+
+  through : (before after characters : List ℕ) (c : ℕ) → before ++ c ∷ after ≡ characters → may_have_fields characters ≡ false → may_have_fields (before ++ c ∷ []) ≡ false
+  through before after characters c spell h = earlier (before ++ c ∷ []) after (ap may_have_fields (append_assoc before (c ∷ []) after ∙ spell) ∙ h)
+
+  dies_carried : (characters before : List ℕ) (c : ℕ) → may_have_fields characters ≡ false → DiesAtIn old characters before c → DiesAtIn new characters before c
+  dies_carried characters before c h is =
+      let here = through before is.after characters c is.spell h in
+      record { after = is.after; spell = is.spell; live = there.live before (earlier before (c ∷ []) here) is.live; dead = λ live. is.dead (back.live (before ++ c ∷ []) here live) }
+
+  character_carried : (kind : FaultKind) (characters : List ℕ) (offset : ℕ) → may_have_fields characters ≡ false → IsCharacterFaultIn old kind characters offset → IsCharacterFaultIn new kind characters offset
+  character_carried kind characters offset h is =
+      let here = through is.before is.dies.after characters is.c is.dies.spell h in
+      record {
+        cause = is.cause;
+        before = is.before;
+        c = is.c;
+        is = is.is;
+        dies = dies_carried characters is.before is.c h is.dies;
+        fits = explains_carried old new there is.cause is.before is.c offset here is.fits;
+        first = none_carried (causes_before is.cause) is.before is.c here is.first;
+      }
+
+  -- what is open at the end
+  open_carried : (unfinished : Unfinished) (characters : List ℕ) (offset : ℕ) → may_have_fields characters ≡ false → IsOpenAtEndIn old unfinished characters offset → IsOpenAtEndIn new unfinished characters offset
+  open_carried open_brace characters offset h is = absurd (no_brace old new there characters [] offset h is)
+  open_carried open_short characters offset h (start, is, place) = (start, in_short_carried old new there characters start h is, place)
+  open_carried open_long characters offset h (start, is, place) = (start, in_long_carried old new there characters start h is, place)
+  open_carried open_join characters offset h (start, is, place) = (start, backslash_carried old new there characters start h is, place)
+  open_carried open_bracket characters offset h (start, is, place) = (start, bracket_carried old new there characters start h is, place)
+  open_carried open_inside characters offset h (start, is, place, none) =
+      (start, field_carried old new there characters start h is, place, λ other. no_brace new old back characters [] other h)
+
+  fault_carried : (kind : FaultKind) (characters tail : List ℕ) (offset : ℕ) → may_have_fields characters ≡ false → IsFaultAtIn old kind characters tail offset → IsFaultAtIn new kind characters tail offset
+  fault_carried kind characters tail offset h (at_character is) = at_character (character_carried kind characters offset h is)
+  fault_carried kind characters tail offset h (at_bytes is) = at_bytes (record { is = is.is; bad = is.bad; live = there.live characters h is.live; place = is.place })
+  fault_carried kind characters tail offset h (at_end is) =
+      at_end (record { unfinished = is.unfinished; is = is.is; whole = is.whole; live = there.live characters h is.live; ends_in = open_carried is.unfinished characters offset h is.ends_in })
+
+  pub lexical_carried : (characters tail : List ℕ) (fault : Fault) → may_have_fields characters ≡ false → IsLexicalFaultIn old characters tail fault → IsLexicalFaultIn new characters tail fault
+  lexical_carried characters tail fault h is = record {
+    unread = λ whole pieces reading. is.unread whole pieces (back.reading pieces characters h reading);
+    place = fault_carried fault.kind characters tail fault.offset h is.place;
+    line = is.line;
+  }
 
 -- the characters of the text, however it was decoded
 none_in : (text characters tail : List ℕ) → HasNoFields text → Decodes text characters tail → may_have_fields characters ≡ false

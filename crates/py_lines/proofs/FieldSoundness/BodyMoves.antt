@@ -1,6 +1,6 @@
 -- What each character does in a string with fields, at each place in it: how the string grows, in its literal part and in
 -- specifications, and how it ends.
-use Rattle.std.proofs.Common.{◌≡◌, ◌==◌, ℕ, Bool, true, false, not, ◌||◌, ◌&&◌, List, [], ◌∷◌, ◌++◌, refl, sym, ap, ◌∙◌, subst, inl, inr, ◌⊎◌, ⊎_elim, append_assoc}
+use Rattle.std.proofs.Common.{◌≡◌, ◌==◌, ℕ, Bool, true, false, not, ◌||◌, ◌&&◌, List, [], ◌∷◌, ◌++◌, refl, sym, ap, ◌∙◌, subst, inl, inr, ◌⊎◌, ⊎_elim, append_assoc, append-nil}
 use Rattle.std.specs.Prelude.{if◌then◌else◌}
 use Rattle.std.specs.Str.{byte}
 use Rattle.std.specs.List.{list_any}
@@ -17,7 +17,7 @@ use Rattle.py_lines.proofs.Text.CharacterTests.{none_of, barred, slash-not-quote
 use Rattle.py_lines.proofs.Machine.OpenPieces.{full-append, joined-push, not_one, quote-not-slash}
 use Rattle.py_lines.proofs.Fields.Parts.{quote-not-open, names_letter, name-not-brace, name-not-return}
 use Rattle.py_lines.proofs.Fields.Prefixes.{plain_quotes, field_letters, first_quote}
-use Rattle.py_lines.proofs.FieldSoundness.Holds.{Limit, AtStart, WholeParts, HoldsParts, HoldsBetween, HoldsAt, HoldsMode}
+use Rattle.py_lines.proofs.FieldSoundness.Holds.{Limit, OpensPlace, AtStart, WholeParts, HoldsParts, HoldsBetween, HoldsAt, HoldsMode}
 use Rattle.py_lines.proofs.FieldMachine.StringParts.{quote_no_end, kept_or}
 
 -- parts, one more after others
@@ -91,7 +91,13 @@ more_than_one (x ∷ xs) q r full same = not_one x xs q r same
 pub short_quotes : (host : Host) → host.is_long ≡ false → quotes_of host ≡ host.quote ∷ []
 short_quotes host h = rw h
 
--- one more part
+-- no part yet, and one more part
+abbrev pub no_parts : (limit : Limit) (outer : List Level) (depth : ℕ) (host : Host) (place : Place) (held next : List ℕ) → OpensPlace limit outer host place held → is_quote host.quote ≡ true → HoldsParts limit outer depth host place false held next
+no_parts limit outer depth host place held next opens quotes = record {
+  whole = record { begin = held; parts = []; spell = sym (append-nil held); opens_with = opens; quotes = quotes; named_is = refl; open_yet = refl };
+  fit = λ more. tt;
+}
+
 abbrev pub push_part : (limit : Limit) (outer : List Level) (host : Host) (place : Place) (named after : Bool) (held part : List ℕ) (h : WholeParts limit outer host place named held) → has_triple host.quote (h.parts ++ part ∷ []) ≡ false → named_after named part ≡ after → WholeParts limit outer host place after (held ++ part)
 push_part limit outer host place named after held part h open_yet is = record {
   begin = h.begin;

@@ -1,7 +1,7 @@
 -- What each character does outside strings with fields: it goes on with the open piece or ends it, begins another one, ends a field,
 -- or opens its specification.
 use Rattle.std.proofs.Common.{◌≡◌, ◌==◌, ℕ, suc, ◌+◌, true, false, ◌&&◌, Option, None, Some, List, [], ◌∷◌, ◌++◌, length, refl, sym, ap, ◌∙◌, subst, inl, append_assoc, append-nil, arith, Bool, inr, ◌⊎◌}
-use Rattle.std.proofs.lemmas.Bool.{cond_both, and_left, and_right, eqb-true, ne_eqb, and_parts, both_ways, or_from, false_from_ne_true}
+use Rattle.std.proofs.lemmas.Bool.{cond_both, and_left, and_right, eqb-true, ne_eqb, and_parts, both_ways, or_from, false_from_ne_true, and_from}
 use Rattle.py_lines.specs.Character.{is_quote, is_operator, is_word_character}
 use Rattle.py_lines.specs.Piece.{string, operator, line_end, Piece, spelled, Class, word, begins, is_mark_class}
 use Rattle.py_lines.specs.PieceGrammar.{is_bare, joined, InPlainClass, InClassIn, MayPrecedePlain, MayPrecedeIn, AreReadPlain}
@@ -21,7 +21,7 @@ use Rattle.py_lines.proofs.Machine.Starts.{StartsSo, starts_so}
 use Rattle.py_lines.proofs.Machine.Soundness.{StartHolds, start_holds, MoveHolds, move_holds}
 use Rattle.py_lines.proofs.FieldSoundness.OpenLists.{OpensIf, opens-operator, opens-depth, balanced_at}
 use Rattle.py_lines.proofs.FieldSoundness.Holds.{Limit, OpensSpecification, HoldsParts, HoldsBetween, IsSingle, HoldsLevel, HoldsLevels, Stands, AtStart, IsFieldSound, HoldsMode}
-use Rattle.py_lines.proofs.FieldSoundness.BodyMoves.{longer_next, push_between}
+use Rattle.py_lines.proofs.FieldSoundness.BodyMoves.{no_parts, longer_next, push_between}
 use Rattle.py_lines.proofs.FieldSoundness.Lists.{FieldSoundIf, not_specification, no_pieces, sound_in, list_more, levels_more, adds_neutral, fresh_sound, stands_at, stands_more, stands_push}
 use Rattle.py_lines.proofs.FieldMachine.StringParts.{field_unnamed}
 use Rattle.std.specs.List.{list_any}
@@ -107,10 +107,7 @@ code_specifies limit level outer done read c ready is =
     record {
       spell = (simp append_assoc) ∙ ready.spell;
       mode = record {
-        all = record {
-          whole = record { begin = held; parts = []; spell = sym (append-nil held); opens_with = opens; quotes = own.parts.quotes; named_is = refl; open_yet = refl };
-          fit = λ more. tt;
-        };
+        all = no_parts limit (level ∷ outer) _ level.host specification held [] opens own.parts.quotes;
         apart = refl;
         full = λ at short. not_specification (sym at);
       };
@@ -120,9 +117,6 @@ code_specifies limit level outer done read c ready is =
     }
 
 -- an operator
-deep : (n m : ℕ) → n ≡ suc m + 0 → (n == 0) ≡ false
-deep n m is = ne_eqb n 0 (λ zero. omega (arith, is, zero))
-
 operator_sound : (limit : Limit) (outer : List Level) (done : List Piece) (openers read : List ℕ) (c : ℕ) → Ready limit outer done openers read c → (is_opening c ≡ true → limit.Room (length openers + levels_open outer)) → is_operator c ≡ true → FieldSoundIf limit (field_operator outer done openers c) (read ++ c ∷ [])
 unfolding code_operator
 operator_sound limit [] done openers read c ready room is = after_sound limit [] done openers read c ready room is (λ l ls at. absurd (cc))
@@ -134,22 +128,19 @@ operator_sound limit (level ∷ outer) done [] read c ready room is =
     (λ another. after_sound limit (level ∷ outer) done [] read c ready room is (λ l ls at. and_left _ _ another)))
 operator_sound limit (level ∷ outer) done (o ∷ os) read c ready room is =
     let depth : depth_through 0 done ≡ suc (length os) + 0 = opens-depth (o ∷ os) done 0 ready.list.opens ∙ omega arith in
-    after_sound limit (level ∷ outer) done (o ∷ os) read c ready room is (λ l ls at. and_right _ _ (deep (depth_through 0 done) (length os) depth))
+    after_sound limit (level ∷ outer) done (o ∷ os) read c ready room is (λ l ls at. and_right _ _ (ne_eqb (depth_through 0 done) 0 (λ zero. omega (arith, depth, zero))))
 
 -- what a character begins
 pub start_sound : (limit : Limit) (outer : List Level) (done : List Piece) (openers read : List ℕ) (c : ℕ) → Ready limit outer done openers read c → (is_opening c ≡ true → limit.Room (length openers + levels_open outer)) → FieldSoundIf limit (field_started outer done openers c (start_of c)) (read ++ c ∷ [])
 start_sound limit outer done openers read c ready room = go (start_of c) (starts_so c) (start_holds c)
   where
-    quoted : (m : Mode) → StartsSo c (starts.Open m) → class_of m ≡ string → BeginsPlain (c ∷ [])
-    quoted (modes.Opened q) so at = record { prefix = []; quote = c; body = []; spell = refl; none = refl; opens = so.0; plain = refl }
-    quoted m so at = absurd (first_of (assumption, cc))
-
-    at_start : (m : Mode) → StartsSo c (starts.Open m) → AtStart (plain m) outer done
-    at_start modes.Start so = absurd so
-    at_start m so = tt
+    begun : (m : Mode) → StartsSo c (starts.Open m) → (class_of m ≡ string → BeginsPlain (c ∷ [])) × AtStart (plain m) outer done
+    begun modes.Start so = absurd so
+    begun (modes.Opened q) so = (λ at. record { prefix = []; quote = c; body = []; spell = refl; none = refl; opens = so.0; plain = refl }, tt)
+    begun m so = (λ at. absurd (first_of (assumption, cc)), tt)
 
     go : (s : Start) → StartsSo c s → StartHolds c s → FieldSoundIf limit (field_started outer done openers c s) (read ++ c ∷ [])
-    go (starts.Open m) so holds = sound_in limit outer done openers (plain m) (c ∷ []) (read ++ c ∷ []) ready (holds, quoted m so) (at_start m so)
+    go (starts.Open m) so holds = sound_in limit outer done openers (plain m) (c ∷ []) (read ++ c ∷ []) ready (holds, (begun m so).0) (begun m so).1
     go starts.Operator so holds = operator_sound limit outer done openers read c ready room so
     go starts.LineEnd so holds =
         fresh_sound limit outer done openers openers line_end (c ∷ []) (read ++ c ∷ []) ready
@@ -231,12 +222,8 @@ quoted_so (modes.Word s) held c holds own other =
     let P : Move → Type 0 = λ v. QuotedSo held c v in
     cond_both (is_word_character c) _ _ P (λ h at. absurd (cc))
     (λ h. cond_both (is_prefix_spelling s && is_quote c) _ _ P
-    (λ k at. record { prefix = held; quote = c; body = []; spell = refl; none = word_no_quote s held holds; opens = (and_parts _ _ k).1; plain = first_false (is_field_prefix held) (is_quote c) other (and_parts _ _ k).1 })
+    (λ k at. record { prefix = held; quote = c; body = []; spell = refl; none = word_no_quote s held holds; opens = (and_parts _ _ k).1; plain = false_from_ne_true _ (λ fields. both_ways _ other (and_from _ _ fields (and_parts _ _ k).1)) })
     (λ k. tt))
-  where
-    first_false : (a b : Bool) → a && b ≡ false → b ≡ true → a ≡ false
-    first_false true b h k = absurd (both_ways _ h k)
-    first_false false b h k = refl
 quoted_so m held c holds own other = keeps_class (class_of m) held c (move_of m c) (no_word m c refl) own
 
 -- no character closes a word, nor what stands after no piece
@@ -313,10 +300,7 @@ module _ (limit : Limit) (outer : List Level) (done : List Piece) (openers : Lis
 
 -- a word that is the prefix of a string with fields, before a quote
 pub begins_sound : (limit : Limit) (outer : List Level) (done : List Piece) (openers : List ℕ) (m : Mode) (held read : List ℕ) (c : ℕ) → IsFieldSound limit (field_state outer done openers (plain m) held) read → begins_host m held c ≡ true → IsFieldSound limit (field_state outer done openers (opened (host_of held c)) (held ++ c ∷ [])) (read ++ c ∷ [])
-begins_sound limit outer done openers m held read c sound is =
-    let both = go m is in
-    grew limit outer done openers (plain m) (opened (host_of held c)) held read c sound refl (record { prefix = held; spell = refl; begun = both.0; raw = refl }, both.1, refl) tt
-  where
-    go : (n : Mode) → begins_host n held c ≡ true → (is_field_prefix held ≡ true) × (is_quote c ≡ true)
-    go (modes.Word s) h = and_parts (is_field_prefix held) (is_quote c) h
-    go n h = absurd (both_ways _ refl h)
+begins_sound limit outer done openers (modes.Word s) held read c sound is =
+    let both = and_parts (is_field_prefix held) (is_quote c) is in
+    grew limit outer done openers (plain (modes.Word s)) (opened (host_of held c)) held read c sound refl (record { prefix = held; spell = refl; begun = both.0; raw = refl }, both.1, refl) tt
+begins_sound limit outer done openers m held read c sound is = absurd (both_ways _ refl is)

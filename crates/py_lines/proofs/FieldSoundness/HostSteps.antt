@@ -11,7 +11,7 @@ use Rattle.py_lines.specs.Private.FieldMachine.{text_place, before, between, Fie
 use Rattle.py_lines.proofs.Pieces.PieceLists.{piece}
 use Rattle.py_lines.proofs.Fields.Prefixes.{field_letters, first_quote}
 use Rattle.py_lines.proofs.FieldSoundness.Holds.{Limit, OpensHost, HoldsParts, HoldsBetween, HoldsMode, HoldsLevel, HoldsLevels, AtStart, IsFieldSound}
-use Rattle.py_lines.proofs.FieldSoundness.BodyMoves.{quoted_prefix, short_quotes, whole_string, Moved, between_moves, body_moves}
+use Rattle.py_lines.proofs.FieldSoundness.BodyMoves.{no_parts, quoted_prefix, short_quotes, whole_string, Moved, between_moves, body_moves}
 use Rattle.py_lines.proofs.FieldSoundness.Lists.{FieldSoundIf, no_pieces, stands_at, stands_more}
 use Rattle.py_lines.proofs.FieldSoundness.CodeSteps.{start_sound, specification_ends, HasRoom, grew, closes_with, ends_before, plain_sound, begins_sound}
 
@@ -25,12 +25,6 @@ more_quotes host quotes held c same h = record {
 }
 
 -- after the opening of a string, no part of it
-abbrev pub no_parts : (limit : Limit) (outer : List Level) (depth : ℕ) (host : Host) (held next : List ℕ) → OpensHost host (quotes_of host) held → is_quote host.quote ≡ true → HoldsParts limit outer depth host literal false held next
-no_parts limit outer depth host held next opens quotes = record {
-  whole = record { begin = held; parts = []; spell = sym (append-nil held); opens_with = opens; quotes = quotes; named_is = refl; open_yet = refl };
-  fit = λ more. tt;
-}
-
 pub short_opens : (host : Host) (held : List ℕ) → host.is_long ≡ false → OpensHost host (host.quote ∷ []) held → OpensHost host (quotes_of host) held
 short_opens host held short h = subst (λ t. OpensHost host t held) (sym (short_quotes host short)) h
 
@@ -38,7 +32,7 @@ short_opens host held short h = subst (λ t. OpensHost host t held) (sym (short_
 pub opened_moves : (limit : Limit) (outer : List Level) (depth : ℕ) (host : Host) (held : List ℕ) (c : ℕ) → HoldsMode limit outer depth (opened host) held → c == host.quote ≡ false → Moved limit outer depth host literal false held c (body_move host literal false between c)
 unfolding body_move
 opened_moves limit outer depth host held c (opens, quotes, short) other =
-    between_moves limit outer depth host false literal false between held c (no_parts limit outer depth host held (c ∷ []) (short_opens host held short opens) quotes) (λ same. absurd (both_ways _ other (eq-eqb c host.quote same)))
+    between_moves limit outer depth host false literal false between held c (no_parts limit outer depth host literal held (c ∷ []) (short_opens host held short opens) quotes) (λ same. absurd (both_ways _ other (eq-eqb c host.quote same)))
 
 -- two quotes are an empty string, unless a third one follows
 pub empty_string : (limit : Limit) (outer : List Level) (depth : ℕ) (host : Host) (held : List ℕ) → OpensHost host (host.quote ∷ host.quote ∷ []) held → is_quote host.quote ≡ true → host.is_long ≡ false → IsFieldString (limit.FieldsAt depth) held
@@ -46,7 +40,7 @@ empty_string limit outer depth host held h quotes short =
     let text = h.prefix ++ host.quote ∷ [] in
     let opens = short_opens host text short (record { prefix = h.prefix; spell = refl; begun = h.begun; raw = h.raw }) in
     subst (IsFieldString (limit.FieldsAt depth)) (append_assoc h.prefix (host.quote ∷ []) (host.quote ∷ []) ∙ sym h.spell)
-    (whole_string limit outer depth host false text [] (short_quotes host short) (no_parts limit outer depth host text (host.quote ∷ []) opens quotes) refl)
+    (whole_string limit outer depth host false text [] (short_quotes host short) (no_parts limit outer depth host literal text (host.quote ∷ []) opens quotes) refl)
 
 pub empty_before : (host : Host) (held : List ℕ) (c : ℕ) (more : List ℕ) → OpensHost host (host.quote ∷ host.quote ∷ []) held → is_quote host.quote ≡ true → c == host.quote ≡ false → MayPrecedeIn fielded string held (c ∷ more)
 empty_before host held c more h quotes other prefix r spell begun also =
@@ -120,7 +114,7 @@ step_sound limit outer done openers (empty host) held read c sound room =
     let three = more_quotes host (host.quote ∷ host.quote ∷ []) held c same opens in
     let long : OpensHost (long_host host) (quotes_of (long_host host)) (held ++ c ∷ []) = record { prefix = three.prefix; spell = three.spell; begun = three.begun; raw = three.raw } in
     grew limit outer done openers (empty host) (body (long_host host) literal false between) held read c sound refl
-    (record { all = no_parts limit outer depth (long_host host) (held ++ c ∷ []) [] long quotes; apart = refl; full = λ at short. absurd (both_ways _ short refl) }) tt)
+    (record { all = no_parts limit outer depth (long_host host) literal (held ++ c ∷ []) [] long quotes; apart = refl; full = λ at short. absurd (both_ways _ short refl) }) tt)
     (λ other room.
     start_sound limit outer (done ++ piece string held ∷ []) openers read c
     (ends_before limit outer done openers (empty host) held read c string sound refl (λ h. absurd (cc)) (inr (empty_string limit outer depth host held opens quotes short)) (λ more. empty_before host held c more opens quotes other) refl) room) room

@@ -29,8 +29,8 @@ use Rattle.py_lines.proofs.Fields.Elsewhere.{other_prefix}
 use Rattle.py_lines.proofs.Text.CharacterTests.{return-not-brace}
 use Rattle.py_lines.proofs.Fields.Parts.{name-not-brace}
 use Rattle.py_lines.proofs.FieldSoundness.Lists.{stands_at}
-use Rattle.py_lines.proofs.FieldSoundness.BodyMoves.{push_part, parts-push, one_quote, two_quotes}
-use Rattle.py_lines.proofs.FieldSoundness.HostSteps.{no_parts, short_opens}
+use Rattle.py_lines.proofs.FieldSoundness.BodyMoves.{no_parts, push_part, parts-push, one_quote, two_quotes}
+use Rattle.py_lines.proofs.FieldSoundness.HostSteps.{short_opens}
 use Rattle.py_lines.proofs.FieldSoundness.WholeTexts.{code_at_end, list_ends}
 
 -- brackets that are open can be closed
@@ -249,7 +249,7 @@ literal_is_open limit outer done openers host named at held read sound other Oth
 pub opened_is_open : (limit : Limit) (outer : List Level) (done : List Piece) (openers : List ℕ) (host : Host) (held read : List ℕ) → IsFieldSound limit (field_state outer done openers (opened host) held) read → InOpenShort read (before literal outer ++ spelled done)
 opened_is_open limit outer done openers host held read sound =
     let depth = length openers + levels_open outer in
-    let parts = no_parts limit outer depth host held [] (short_opens host held sound.mode.2 sound.mode.0) sound.mode.1 in
+    let parts = no_parts limit outer depth host literal held [] (short_opens host held sound.mode.2 sound.mode.0) sound.mode.1 in
     (body_open limit outer done openers (opened host) held read sound host literal false (λ spot front. IsPlainShortPrefix front ⊎ IsOpenLiteral false front) (λ spot place up. inr (host, spot, up, place, sound.mode.2)) refl
     (whole_open limit outer depth host literal false held held refl parts)).2
 

@@ -111,8 +111,7 @@ two_hundred = record {
 -- each character has room where there is no limit
 any_room : (depth c : ℕ) (v : FieldMove) → HasRoom no_limit depth c v
 any_room depth c breaks = λ opens. tt
-any_room depth c (begins_code host) = (tt, λ opens. tt)
-any_room depth c v = tt
+any_room depth c v = search tt
 
 pub any_rooms : (o : Option FieldScanned) (cs : List ℕ) → HaveRoom no_limit o cs
 any_rooms None cs = tt

@@ -16,7 +16,7 @@ use Rattle.py_lines.specs.declared.mode.Mode.TheVariants as modes
 use Rattle.py_lines.specs.declared.mode.Start.{Start}
 use Rattle.py_lines.specs.declared.mode.Start.TheVariants as starts
 use Rattle.py_lines.specs.Private.Machine.{start_of}
-use Rattle.py_lines.specs.Private.FieldMachine.{FieldMode, plain, FieldMove, grows, closes, breaks, begins_code, opens_field, ends_field, refused, Level, FieldScanned, field_state, field_text_start, field_closed, openers_with, after_operator, code_operator, field_operator, field_started, opened_level, specification_ended, field_move, field_moved, field_step, field_pieces}
+use Rattle.py_lines.specs.Private.FieldMachine.{FieldMode, plain, FieldMove, grows, closes, breaks, begins_code, opens_field, ends_field, refused, Level, FieldScanned, field_state, field_text_start, field_closed, openers_with, after_operator, code_operator, field_operator, field_started, opened_level, specification_ended, field_move, field_moved, field_step, field_steps_from, field_pieces}
 use Rattle.py_lines.proofs.Pieces.PieceLists.{piece, spelled-append, AreReadIn-second}
 use Rattle.py_lines.proofs.Text.CharacterTests.{none_of}
 use Rattle.py_lines.proofs.Text.Decoding.{decoded}
@@ -25,7 +25,8 @@ use Rattle.py_lines.proofs.Machine.Starts.{start-operator}
 use Rattle.py_lines.proofs.Fields.Elsewhere.{quotes_begin}
 use Rattle.py_lines.proofs.Fields.Prefixes.{Compared, same, longer, shorter, compared_more}
 use Rattle.py_lines.proofs.Fields.Parts.{not_nothing, begins_same}
-use Rattle.py_lines.proofs.FieldMachine.Runs.{NoLimit, Goes, StopsAt}
+use Rattle.py_lines.proofs.FieldMachine.Runs.{NoLimit, StopsAt, steps_of}
+use Rattle.py_lines.proofs.FieldSoundness.LiveTexts.{steps-append}
 use Rattle.py_lines.proofs.FieldMachine.Completeness.{start_breaks, fields_reached}
 use Rattle.py_lines.proofs.FieldMachine.PieceRuns.{FieldFinds}
 
@@ -100,17 +101,10 @@ module _ (first : List Piece) where
       go (l ∷ ls) own = own
   moved_begin s c refused begin = tt
 
-  run_begin : (s : FieldScanned) (text : List ℕ) (t : FieldScanned) → Goes NoLimit s text t → BeginWith first s.outer s.done → BeginWith first t.outer t.done
-  run_begin s [] t goes begin = subst (λ (x : FieldScanned). BeginWith first x.outer x.done) goes begin
-  run_begin s (c ∷ cs) t (next, step, room, others) begin = run_begin next cs t others (subst (BeginIf first) step (moved_begin s c (field_move s.mode s.held c) begin))
-
--- over the second of two texts, the machine goes from where it has come over the first
-goes_rest : (s t u : FieldScanned) (a b : List ℕ) → Goes NoLimit s a t → Goes NoLimit s (a ++ b) u → Goes NoLimit t b u
-goes_rest s t u [] b one two = subst (λ x. Goes NoLimit x b u) one two
-goes_rest s t u (c ∷ a) b (next, step, room, later) (mid, also, more, others) =
-    let both : Some mid ≡ Some next = sym also ∙ step in
-    let is : mid ≡ next = cc in
-    goes_rest next t u a b later (subst (λ x. Goes NoLimit x (a ++ b) u) is others)
+  run_begin : (o : Option FieldScanned) (text : List ℕ) → BeginIf first o → BeginIf first (field_steps_from o text)
+  run_begin None text begin = tt
+  run_begin (Some s) [] begin = begin
+  run_begin (Some s) (c ∷ cs) begin = run_begin (field_step s c) cs (moved_begin s c (field_move s.mode s.held c) begin)
 
 -- the machine goes over a piece, and may stop there; or the piece is an operator
 data IsAlone (class : Class) (text rest : List ℕ) : Type 0 where
@@ -126,25 +120,27 @@ module _ (p q : Piece) (t u : List ℕ) (two : FieldFinds NoLimit field_text_sta
   abbrev end_of : FieldScanned
   end_of = field_state [] two.done [] two.mode two.held
 
-  goes_on : (s : FieldScanned) (text : List ℕ) → Goes NoLimit s text end_of → BeginWith (p ∷ []) s.outer s.done → p ≡ q
-  goes_on s text goes begin =
-      let all = closed_begin (p ∷ []) [] two.mode two.done two.held (run_begin (p ∷ []) s text end_of goes begin) in
+  goes_on : (o : Option FieldScanned) (text : List ℕ) → field_steps_from o text ≡ Some end_of → BeginIf (p ∷ []) o → p ≡ q
+  goes_on o text steps begin =
+      let all = closed_begin (p ∷ []) [] two.mode two.done two.held (subst (BeginIf (p ∷ [])) steps (run_begin (p ∷ []) o text begin)) in
       let is : p ∷ all.0 ≡ q ∷ [] = sym all.1 ∙ two.pieces_are in
       cc
 
   after_piece : (s r x : List ℕ) → FieldFinds NoLimit field_text_start s (p ∷ []) [] r → t ≡ s ++ x → r ≡ x ++ u → p ≡ q
-  after_piece s r x one is left = go x left (goes_rest field_text_start end end_of s x one.goes (subst (λ z. Goes NoLimit field_text_start z end_of) is two.goes))
+  after_piece s r x one is left =
+      go x left (ap (λ o. field_steps_from o x) (sym (steps_of NoLimit field_text_start end s one.goes)) ∙ sym (steps-append (Some field_text_start) s x) ∙ ap (field_steps_from (Some field_text_start)) (sym is) ∙ steps_of NoLimit field_text_start end_of t two.goes)
     where
       end : FieldScanned
       end = field_state [] one.done [] one.mode one.held
 
-      go : (y : List ℕ) → r ≡ y ++ u → Goes NoLimit end y end_of → p ≡ q
+      go : (y : List ℕ) → r ≡ y ++ u → field_steps_from (Some end) y ≡ Some end_of → p ≡ q
       go [] at later =
-          let is : p ∷ [] ≡ q ∷ [] = sym one.pieces_are ∙ ap field_pieces later ∙ two.pieces_are in
+          let same : end ≡ end_of = cc in
+          let is : p ∷ [] ≡ q ∷ [] = sym one.pieces_are ∙ ap field_pieces same ∙ two.pieces_are in
           cc
-      go (c ∷ y) at (next, step, room, others) =
+      go (c ∷ y) at later =
           let move = subst (StopsAt one.mode one.held) at one.stops in
-          goes_on next y others (subst (BeginIf (p ∷ [])) (sym (ap (field_moved end c) move) ∙ step) (started_begin (p ∷ []) [] (field_pieces end) [] c (start_of c) ([], one.pieces_are)))
+          goes_on (field_step end c) y later (subst (BeginIf (p ∷ [])) (sym (ap (field_moved end c) move)) (started_begin (p ∷ []) [] (field_pieces end) [] c (start_of c) ([], one.pieces_are)))
 
 -- an operator is the first piece where its character stands
 operator-not-mark : (c : ℕ) → is_operator c ≡ true → is_mark c ≡ false
@@ -165,8 +161,8 @@ after_operator_piece c q [] r u is two at =
     absurd (cc)
 after_operator_piece c q (d ∷ t) r u is two at =
     let here : c ≡ d = cc in
-    let (next, step, room, others) = two.goes in
-    goes_on (piece operator (c ∷ [])) q (d ∷ t) u two next t others (subst (BeginIf (piece operator (c ∷ []) ∷ [])) (ap (field_step field_text_start) here ∙ step) (operator_first c is))
+    goes_on (piece operator (c ∷ [])) q (d ∷ t) u two (field_step field_text_start d) t (steps_of NoLimit field_text_start (end_of (piece operator (c ∷ [])) q (d ∷ t) u two) (d ∷ t) two.goes)
+    (subst (BeginIf (piece operator (c ∷ []) ∷ [])) (ap (field_step field_text_start) here) (operator_first c is))
 
 -- two pieces that begin in one place are the same
 same_piece : (c d : Class) (s t r u : List ℕ) → InClassIn fielded c s → MayPrecedeIn fielded c s r → InClassIn fielded d t → MayPrecedeIn fielded d t u → s ++ r ≡ t ++ u → piece c s ≡ piece d t
