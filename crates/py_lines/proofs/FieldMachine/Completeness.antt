@@ -1,7 +1,7 @@
 -- The machine with fields goes through all fields, however many stand one in another, and so through every text that is read with
 -- fields: it finds its pieces.
-use Rattle.std.proofs.Common.{◌≡◌, ℕ, true, false, None, Some, List, [], ◌∷◌, ◌++◌, refl, sym, ap, ◌∙◌, subst, ⊎_elim, zero, suc, length}
-use Rattle.std.proofs.lemmas.Bool.{cases_Bool, false_from_ne_true}
+use Rattle.std.proofs.Common.{◌≡◌, ℕ, true, false, Some, List, [], ◌∷◌, ◌++◌, refl, sym, ap, ◌∙◌, subst, zero, suc, length}
+use Rattle.std.proofs.lemmas.Bool.{false_from_ne_true}
 use Rattle.py_lines.specs.Character.{is_mark}
 use Rattle.py_lines.specs.Piece.{Class, mark, Piece, begins, spelled, begins_marked}
 use Rattle.py_lines.specs.PieceGrammar.{AreReadIn, InClassIn}

@@ -1,11 +1,11 @@
 -- What is open at a place is told by the state of the machine with fields there, so nothing else is: a string, a backslash, a
 -- specification, code of a field, or a spot where a field may open.
-use Rattle.std.proofs.Common.{◌≡◌, ℕ, Bool, true, false, Some, List, [], ◌∷◌, ◌++◌, ◌⊎◌, inl, inr, refl, sym, ap, ◌∙◌, subst, append_assoc, ⊎_elim, ◌<◌, append-nil, arith}
+use Rattle.std.proofs.Common.{◌≡◌, ℕ, Bool, true, false, Some, List, [], ◌∷◌, ◌++◌, inl, inr, refl, sym, ap, ◌∙◌, subst, append_assoc, ⊎_elim, ◌<◌, append-nil, arith}
 use Rattle.std.proofs.lemmas.Bool.{both_ways}
 use Rattle.py_lines.specs.Character.{is_mark, is_quote}
 use Rattle.py_lines.specs.Piece.{begins, spelled}
 use Rattle.py_lines.specs.PieceGrammar.{IsPrefix}
-use Rattle.py_lines.specs.OpenFields.{IsSlash, Spot, StandsOpen, IsOpenUpTo, IsOpenLiteral, IsPlainShortPrefix, IsPlainLongPrefix, InOpenShort, InOpenLong, AfterOpenBackslash, InSpecification, BeginsList, InFieldCode}
+use Rattle.py_lines.specs.OpenFields.{Spot, StandsOpen, IsOpenUpTo, IsOpenLiteral, InOpenShort, InOpenLong, AfterOpenBackslash, InSpecification, BeginsList, InFieldCode}
 use Rattle.py_lines.specs.FieldStrings.{is_field_prefix, Host, Place, literal, specification}
 use Rattle.py_lines.specs.Private.Machine.{Mode}
 use Rattle.py_lines.specs.Private.FieldMachine.{before, FieldMode, plain, FieldScanned, field_state, field_text_start, field_pieces, field_started, field_steps_from, in_open_short, in_open_long, after_open_backslash, InSpecificationOf, body, after_brace, Level, levels_open, frames, may_end}

@@ -4,7 +4,7 @@ use Rattle.std.proofs.Common.{◌≡◌, ℕ, Bool, true, false, ◌&&◌, eqb, 
 use Rattle.std.proofs.lemmas.Bool.{cond_both, and_parts, and_from, and_left, and_right, eqb-true, both_ways, not_from_false}
 use Rattle.py_lines.specs.Character.{is_mark, is_space, is_word_character, is_quote, is_line_feed, is_return, is_break, is_backslash}
 use Rattle.py_lines.specs.Piece.{Class, mark, string, operator, line_end, Piece, ends, spelled}
-use Rattle.py_lines.specs.PieceGrammar.{feed, return_feed, return, without_fields, InPlainClass, is_prefix, is_short_item, joined, MayPrecedePlain, AreReadPlain}
+use Rattle.py_lines.specs.PieceGrammar.{feed, return_feed, return, without_fields, InPlainClass, is_prefix, joined, MayPrecedePlain, AreReadPlain}
 use Rattle.py_lines.specs.Private.Machine.{Spelling, Mode, Move, Start, IsSound, Holds, HoldsShort, HoldsSome, HoldsQuotes, HoldsPrefix, HoldsLong, Scanned, fresh, class_of, closed, started, moved, step, move_of, short_move, long_move, start_of, first_spelling, spelling_with, is_prefix_spelling, is_final}
 use Rattle.py_lines.proofs.Pieces.PieceLists.{piece, spelled-push, AreReadIn-push, MayFollow, follows_any}
 use Rattle.py_lines.proofs.Machine.Starts.{StartsSo, starts_so}

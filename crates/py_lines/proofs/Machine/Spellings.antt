@@ -1,7 +1,5 @@
 -- A word's spelling, as the machine keeps it, says whether the word is the prefix of a string.
-use Rattle.std.proofs.Common.{◌≡◌, ℕ, false, ◌&&◌, ◌||◌, List, [], ◌∷◌, ◌++◌, refl, sym, ap, ◌∙◌, ⊎_elim, inl, inr, ◌⊎◌, arith}
-use Rattle.std.proofs.lemmas.Bool.{cond_both}
-use Rattle.py_lines.specs.Character.{is_digit, is_r, is_b, is_f, is_t, is_u}
+use Rattle.std.proofs.Common.{◌≡◌, ℕ, List, [], ◌∷◌, ◌++◌, refl, sym, ap, ◌∙◌, ⊎_elim, ◌⊎◌, arith}
 use Rattle.py_lines.specs.PieceGrammar.{is_prefix}
 use Rattle.py_lines.specs.Private.Machine.{Spelling, first_spelling, spelling_with, is_prefix_spelling, spelling_on}
 use Rattle.py_lines.proofs.Text.CharacterTests.{digit-not-letter, r-not-others, t-not-u}

@@ -1,16 +1,14 @@
 -- The scanning machine and the machine with fields go alike through a text from its start: with the brackets that are open, the state of the
 -- one gives that of the other.
-use Rattle.std.proofs.Common.{◌≡◌, ℕ, ◌+◌, Bool, true, false, not, ◌||◌, ◌==◌, Option, None, Some, List, [], ◌∷◌, ◌++◌, length, nat_lt, refl, sym, ap, ◌∙◌, subst, ⊎_elim, arith}
-use Rattle.std.specs.Prelude.{if◌then◌else◌}
+use Rattle.std.proofs.Common.{◌≡◌, ℕ, ◌+◌, Bool, true, false, not, ◌||◌, ◌==◌, Option, None, Some, List, [], ◌∷◌, ◌++◌, length, nat_lt, refl, sym, ap, ◌∙◌, subst, arith}
 use Rattle.std.specs.Str.{byte}
-use Rattle.std.specs.List.{list_all, list_any}
-use Rattle.std.proofs.lemmas.Bool.{cases_Bool, cond_both, both_ways, and_right, and_parts, and_from, false_from_ne_true}
-use Rattle.py_lines.specs.Character.{is_mark, is_word_character, is_quote, is_break, is_backslash, is_r}
+use Rattle.std.proofs.lemmas.Bool.{cond_both, false_from_ne_true}
+use Rattle.py_lines.specs.Character.{is_word_character, is_quote, is_break, is_backslash}
 use Rattle.py_lines.specs.Piece.{operator, line_end, Piece, spelled}
-use Rattle.py_lines.specs.Balance.{is_opening, is_closing, closing_of, is_opener, is_closer, depth_through}
+use Rattle.py_lines.specs.Balance.{is_opening, is_opener, is_closer, depth_through}
 use Rattle.py_lines.specs.FieldStrings.{is_field_prefix, Host, literal}
 use Rattle.py_lines.specs.declared.host.StringWithFields.{StringWithFields}
-use Rattle.py_lines.specs.Private.Machine.{Spelling, Mode, Move, Start, Scanned, fresh, class_of, closed, started, moved, move_of, start_of, Holds, is_prefix_spelling, first_spelling, spelling_with, Bracket, brackets_after, brackets_of}
+use Rattle.py_lines.specs.Private.Machine.{Spelling, Mode, Move, Start, Scanned, fresh, class_of, closed, started, moved, move_of, start_of, Holds, spelling_with, Bracket, brackets_after, brackets_of}
 use Rattle.py_lines.specs.Private.FieldMachine.{between, after_slash, after_brace, FieldMode, plain, opened, empty, body, FieldMove, grows, closes, breaks, refused, FieldScanned, field_state, field_fresh, field_text_start, begins_host, host_of, long_host, plain_move, field_move, field_moved, field_step, field_started, field_pieces, openers_with, after_operator, frames, has_room, has_room_at, between_move, body_move}
 use Rattle.py_lines.specs.Private.ScanMachine.{is_field_spelling, is_raw_spelling, begins_string, host_in, quote_move, opened_move, meet_of, string_state, have_room_in, move_at, scan_step, IsInString}
 use Rattle.py_lines.specs.Private.FieldScan.{code_mode, code_moved}
@@ -20,7 +18,7 @@ use Rattle.py_lines.specs.LogicalLine.{byte_len}
 use Rattle.py_lines.proofs.Machine.PieceSteps.{scanned, pieces_at, is_word_mode}
 use Rattle.py_lines.proofs.Machine.LiveTexts.{keeps, stack_closed}
 use Rattle.py_lines.proofs.Machine.Starts.{StartsSo, starts_so, start-operator}
-use Rattle.py_lines.proofs.Text.CharacterTests.{excluded, quote-not-word, break-not-others}
+use Rattle.py_lines.proofs.Text.CharacterTests.{excluded, quote-not-word, break-not-others, slash-not-break}
 use Rattle.py_lines.proofs.Machine.Soundness.{word_on}
 use Rattle.py_lines.proofs.FieldMachine.Completeness.{start_breaks}
 use Rattle.py_lines.proofs.Machine.Spellings.{spelling_on-push}

@@ -1,12 +1,10 @@
 -- Inside a string the machine with fields does not look at the pieces before the string in the outermost list, nor at the brackets that
 -- are open there: it goes alike whatever they are.
-use Rattle.std.proofs.Common.{◌≡◌, ℕ, ◌+◌, Bool, true, false, ◌==◌, Option, None, Some, List, [], ◌∷◌, ◌++◌, length, refl, arith}
-use Rattle.std.specs.Prelude.{if◌then◌else◌}
-use Rattle.std.specs.Str.{byte}
-use Rattle.py_lines.specs.Piece.{Piece, spelled}
-use Rattle.py_lines.specs.FieldStrings.{literal, specification}
+use Rattle.std.proofs.Common.{◌≡◌, ℕ, ◌+◌, Option, None, Some, List, [], ◌∷◌, length, refl, arith}
+use Rattle.py_lines.specs.Piece.{Piece}
+use Rattle.py_lines.specs.FieldStrings.{literal}
 use Rattle.py_lines.specs.Private.Machine.{Start, start_of}
-use Rattle.py_lines.specs.Private.FieldMachine.{between, FieldMode, body, FieldMove, closes, breaks, begins_code, ends_field, Level, FieldScanned, field_state, field_move, field_moved, field_step, field_started, field_operator, field_closed, code_operator, after_operator, openers_with, opened_level, field_ended, levels_open, frames}
+use Rattle.py_lines.specs.Private.FieldMachine.{FieldMode, FieldMove, closes, breaks, begins_code, ends_field, Level, FieldScanned, field_state, field_move, field_moved, field_step, field_started, field_operator, field_closed, code_operator, opened_level, levels_open, frames}
 use Rattle.py_lines.proofs.ScanMachine.BodyMoves.{KeepsString}
 
 -- what stands in the innermost field, or in none

@@ -1,9 +1,9 @@
 -- Strings with fields that stand at some depth of brackets: what may stand in them, and the room that their characters have.
-use Rattle.std.proofs.Common.{◌≡◌, ℕ, suc, ◌+◌, ◌-◌, ◌<◌, ◌≤◌, Bool, true, false, Option, None, Some, List, [], ◌∷◌, ◌++◌, refl, ap, ◌∙◌, arith}
-use Rattle.std.specs.Prelude.{zero, if◌then◌else◌}
+use Rattle.std.proofs.Common.{◌≡◌, ℕ, suc, ◌+◌, ◌<◌, ◌≤◌, true, Option, None, Some, List, [], ◌∷◌, ◌++◌, refl, ap, ◌∙◌, arith}
+use Rattle.std.specs.Prelude.{zero}
 use Rattle.std.proofs.lemmas.Bool.{and_parts, and_from}
 use Rattle.py_lines.specs.Piece.{Piece}
-use Rattle.py_lines.specs.Balance.{is_opener, is_closer, depth_after}
+use Rattle.py_lines.specs.Balance.{depth_after}
 use Rattle.py_lines.specs.Fields.{IsShallowWith, ShallowWithin, ShallowFields, Fields}
 use Rattle.py_lines.specs.FieldStrings.{Host}
 use Rattle.py_lines.specs.Private.FieldMachine.{FieldMode, FieldMove, grows, begins_code, FieldScanned, field_state, field_text_start, field_move, field_moved, field_step, field_steps_from, frames, has_room_at}

@@ -1,9 +1,7 @@
 -- A word's spelling, as the machine keeps it, says whether the word is the prefix of a string with fields.
-use Rattle.std.proofs.Common.{◌≡◌, ℕ, true, false, ◌||◌, List, [], ◌∷◌, refl, sym, ap, ◌∙◌, ⊎_elim, arith}
-use Rattle.std.specs.Prelude.{if◌then◌else◌}
+use Rattle.std.proofs.Common.{◌≡◌, ℕ, true, false, List, [], ◌∷◌, arith}
 use Rattle.std.specs.List.{list_any}
-use Rattle.std.proofs.lemmas.Bool.{cond_both, both_ways}
-use Rattle.py_lines.specs.Character.{is_digit, is_r, is_b, is_f, is_t, is_u}
+use Rattle.py_lines.specs.Character.{is_r}
 use Rattle.py_lines.specs.FieldStrings.{is_field_prefix}
 use Rattle.py_lines.specs.Private.Machine.{Spelling, Mode, Holds, first_spelling, spelling_with, is_prefix_spelling, spelling_on}
 use Rattle.py_lines.specs.Private.ScanMachine.{is_field_spelling, is_raw_spelling, begins_string}
