@@ -7,7 +7,6 @@ pub mod ListBrackets
 pub mod PieceRuns
 pub mod StringRuns
 pub mod CodeRuns
-pub mod FieldRuns
 pub mod Completeness
 pub mod OpenStrings
 pub mod OpenLists

@@ -29,6 +29,8 @@ use Rattle.py_lines.specs.declared.mode.Spelling.{Spelling}
 use Rattle.py_lines.specs.declared.mode.Move.{Move}
 use Rattle.py_lines.specs.Private.ScanMachine.{is_field_spelling, quote_move, meet_of, move_in, scan_steps}
 use Rattle.py_lines.proofs.ScanMachine.Spellings.{word_tells, other_begins}
+use Rattle.py_lines.proofs.Machine.Soundness.{SoundIf, step_sound}
+use Rattle.py_lines.proofs.Machine.Spellings.{word_tells, other_begins}
 use Rattle.py_lines.proofs.ScanMachine.Reaching.{live_runs, runs_live}
 use Rattle.py_lines.proofs.Fields.Elsewhere.{later, no_field_prefix, none_false}
 

@@ -18,8 +18,7 @@ use Rattle.py_lines.proofs.Fields.Parts.{BeginOpen, fields_begin, field_begins, 
 use Rattle.py_lines.proofs.FieldMachine.Runs.{NoLimit, BelowLimit, HasRoomFor, Goes, StopsAt, goes-append, goes-closes, stops-fresh, steps_of, room_of}
 use Rattle.py_lines.proofs.FieldMachine.ListBrackets.{none_some, balanced_openers}
 use Rattle.py_lines.proofs.FieldMachine.PieceRuns.{FieldFinds}
-use Rattle.py_lines.proofs.FieldMachine.FieldRuns.{field_goes}
-use Rattle.py_lines.proofs.FieldMachine.CodeRuns.{ArePassed, FieldsRun, all_found, HasNoColonIn}
+use Rattle.py_lines.proofs.FieldMachine.CodeRuns.{ArePassed, FieldsRun, all_found, HasNoColonIn, field_goes}
 
 -- without a limit
 pub passed_any : (H : Host → List ℕ → Type 0) (depth : ℕ) (ps : List Piece) (rest : List ℕ) → AreReadIn (with_fields H) ps rest → ArePassed NoLimit (λ d. H) depth ps

@@ -10,7 +10,7 @@ use Rattle.py_lines.proofs.Pieces.OpenBrackets.{some_before}
 use Rattle.py_lines.proofs.Machine.ReadingSteps.{MayBegin}
 use Rattle.py_lines.proofs.FieldMachine.Runs.{NoLimit, Goes, StopsAt, HasRoomFor, goes-append, goes-grows, stops-fresh}
 use Rattle.py_lines.proofs.FieldMachine.ListBrackets.{openers_through-append, balanced_openers, depth_is}
-use Rattle.py_lines.proofs.FieldMachine.FieldRuns.{opens_text}
+use Rattle.py_lines.proofs.FieldMachine.CodeRuns.{opens_text}
 use Rattle.py_lines.proofs.FieldMachine.Completeness.{fields_found, fields_reached}
 use Rattle.py_lines.proofs.FieldMachine.OpenStrings.{IsInString, open_quotes, open_unmarked, brace_opens, string_runs}
 

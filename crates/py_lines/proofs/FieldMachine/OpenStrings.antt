@@ -15,7 +15,7 @@ use Rattle.py_lines.proofs.Fields.Parts.{begins_same, some_head, fields_begin}
 use Rattle.py_lines.proofs.FieldMachine.Runs.{NoLimit, Goes, StopsAt, goes-append, goes-grows}
 use Rattle.py_lines.proofs.FieldMachine.StringParts.{settled, MayGoOn, goes_on, body_moves, slash_grows, open_moves, open_no_quote}
 use Rattle.py_lines.proofs.FieldMachine.StringRuns.{opened_moves, IsInLiteral, in_body, at_quote, literal_goes}
-use Rattle.py_lines.proofs.FieldMachine.FieldRuns.{opens_text, specification_goes}
+use Rattle.py_lines.proofs.FieldMachine.CodeRuns.{opens_text, specification_goes}
 use Rattle.py_lines.proofs.FieldMachine.Completeness.{fields_run, passed_any}
 
 -- The mode of a string that is open up to a spot, before the rest: in its body; or after its first quote, if it is short and

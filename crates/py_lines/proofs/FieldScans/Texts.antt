@@ -27,7 +27,7 @@ use Rattle.py_lines.proofs.FieldMachine.PlainSteps.{plain_moves}
 use Rattle.py_lines.proofs.FieldMachine.PieceRuns.{operator_stays}
 use Rattle.py_lines.proofs.FieldMachine.ListBrackets.{opening_pushes, closing_pops, others_keep}
 use Rattle.py_lines.proofs.FieldMachine.StringParts.{open_moves, other_escaped, second_brace, slash_grows}
-use Rattle.py_lines.proofs.FieldMachine.FieldRuns.{brace_ends, code_moves, colon_opens, end_moves, end_no_quote}
+use Rattle.py_lines.proofs.FieldMachine.CodeRuns.{brace_ends, code_moves, colon_opens, end_moves, end_no_quote}
 use Rattle.py_lines.proofs.ScanMachine.Follows.{room_closes}
 use Rattle.py_lines.proofs.FieldScans.Frames.{AreOpenAlike, neutral_alike}
 use Rattle.py_lines.proofs.FieldScans.Openings.{no_colon}

@@ -23,6 +23,8 @@ use Rattle.py_lines.proofs.ScanMachine.Follows.{word_alone, host_moves, room_clo
 use Rattle.py_lines.proofs.ScanMachine.Rooms.{alone_grows}
 use Rattle.py_lines.proofs.ScanMachine.Spellings.{word_tells}
 use Rattle.py_lines.proofs.FieldScans.Taking.{comes_closed}
+use Rattle.py_lines.proofs.Machine.Spellings.{word_tells}
+use Rattle.py_lines.proofs.FieldScans.Steps.{comes_closed}
 use Rattle.py_lines.proofs.LineScan.Runs.{string_run}
 use Rattle.py_lines.proofs.LineScan.NextCharacter.{opened_as_body}
 use Rattle.py_lines.proofs.LineScan.StringSteps.{string_more, string_through}

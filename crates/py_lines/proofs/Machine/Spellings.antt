@@ -1,8 +1,12 @@
--- A word's spelling, as the machine keeps it, says whether the word is the prefix of a string.
-use Rattle.std.proofs.Common.{◌≡◌, ℕ, List, [], ◌∷◌, ◌++◌, refl, sym, ap, ◌∙◌, ⊎_elim, ◌⊎◌, arith}
+-- A word's spelling, as the machine keeps it, says whether the word is the prefix of a string, with fields or without.
+use Rattle.std.proofs.Common.{◌≡◌, ℕ, List, [], ◌∷◌, ◌++◌, refl, sym, ap, ◌∙◌, ⊎_elim, ◌⊎◌, arith, true, false}
 use Rattle.py_lines.specs.PieceGrammar.{is_prefix}
-use Rattle.py_lines.specs.Private.Machine.{Spelling, first_spelling, spelling_with, is_prefix_spelling, spelling_on}
-use Rattle.py_lines.proofs.Text.CharacterTests.{digit-not-letter, r-not-others, t-not-u}
+use Rattle.py_lines.specs.Private.Machine.{Spelling, first_spelling, spelling_with, is_prefix_spelling, spelling_on, Mode, Holds}
+use Rattle.py_lines.proofs.Text.CharacterTests.{digit-not-letter, r-not-others, t-not-u, b-not-others}
+use Rattle.std.specs.List.{list_any}
+use Rattle.py_lines.specs.Character.{is_r}
+use Rattle.py_lines.specs.FieldStrings.{is_field_prefix}
+use Rattle.py_lines.specs.Private.ScanMachine.{is_field_spelling, is_raw_spelling, begins_string}
 
 pub name_stays : (cs : List ℕ) → spelling_on Spelling.Name cs ≡ Spelling.Name
 unfolding spelling_with
@@ -19,22 +23,44 @@ pub third : (s : Spelling) (b c : ℕ) → (spelling_with (spelling_with s b) c 
 unfolding spelling_with
 third s b c = grind arith
 
-one_letter : (a : ℕ) → is_prefix (a ∷ []) ≡ is_prefix_spelling (first_spelling a)
-unfolding first_spelling
-one_letter a = grind (arith, digit-not-letter a, t-not-u a)
+-- what a spelling says is what the word is
+abbrev pub Tells : List ℕ → Spelling → Type 0
+Tells word s = (is_field_prefix word ≡ is_field_spelling s) × (is_field_spelling s ≡ true → list_any is_r word ≡ is_raw_spelling s)
 
-two_letters : (a b : ℕ) → is_prefix (a ∷ b ∷ []) ≡ is_prefix_spelling (spelling_with (first_spelling a) b)
+abbrev TellsAll : List ℕ → Spelling → Type 0
+TellsAll word s = (is_prefix word ≡ is_prefix_spelling s) × Tells word s
+
+one_letter : (a : ℕ) → TellsAll (a ∷ []) (first_spelling a)
+unfolding first_spelling
+one_letter a = grind (arith, digit-not-letter a, r-not-others a, b-not-others a, t-not-u a)
+
+two_letters : (a b : ℕ) → TellsAll (a ∷ b ∷ []) (spelling_with (first_spelling a) b)
 unfolding first_spelling spelling_with
-two_letters a b = grind (arith, digit-not-letter a, r-not-others a)
+two_letters a b = grind (arith, digit-not-letter a, r-not-others a, b-not-others a, b-not-others b)
+
+more_letters : (first b c : ℕ) (cs : List ℕ) → TellsAll (first ∷ b ∷ c ∷ cs) (spelling_on (spelling_with (spelling_with (first_spelling first) b) c) cs)
+more_letters first b c cs = grind (arith, third (first_spelling first) b c, number_stays cs, name_stays cs)
+
+all_told : (first : ℕ) (others : List ℕ) → TellsAll (first ∷ others) (spelling_on (first_spelling first) others)
+all_told first [] = one_letter first
+all_told first (b ∷ []) = two_letters first b
+all_told first (b ∷ c ∷ cs) = more_letters first b c cs
 
 -- a word is a prefix exactly where its spelling says so
 pub prefix_spelling : (first : ℕ) (others : List ℕ) → is_prefix (first ∷ others) ≡ is_prefix_spelling (spelling_on (first_spelling first) others)
-prefix_spelling first [] = one_letter first
-prefix_spelling first (b ∷ []) = two_letters first b
-prefix_spelling first (b ∷ c ∷ cs) =
-    ⊎_elim
-    (λ is. sym (ap is_prefix_spelling (ap (λ s. spelling_on s cs) is ∙ number_stays cs)))
-    (λ is. sym (ap is_prefix_spelling (ap (λ s. spelling_on s cs) is ∙ name_stays cs))) (third (first_spelling first) b c)
+prefix_spelling first others = (all_told first others).0
+
+pub word_tells : (first : ℕ) (others : List ℕ) → Tells (first ∷ others) (spelling_on (first_spelling first) others)
+word_tells first others = (all_told first others).1
+
+-- so does that of an open word
+pub word_told : (s : Spelling) (held : List ℕ) → Holds (Mode.Word s) [] held → Tells held s
+word_told s held (first, others, is, opens, run, spells) = rw (is, spells) (word_tells first others)
+
+-- other words are prefixes as the machine without fields has them
+pub other_begins : (s : Spelling) → is_field_spelling s ≡ false → begins_string s ≡ is_prefix_spelling s
+other_begins Spelling.F h = grind arith
+other_begins s h = grind arith
 
 pub spelling_on-push : (s : Spelling) (cs : List ℕ) (c : ℕ) → spelling_on s (cs ++ c ∷ []) ≡ spelling_with (spelling_on s cs) c
 spelling_on-push s [] c = refl

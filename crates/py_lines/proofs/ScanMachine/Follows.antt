@@ -26,7 +26,7 @@ use Rattle.py_lines.proofs.Machine.OpenStrings.{start-not-mark}
 use Rattle.py_lines.proofs.FieldMachine.Runs.{steps_of}
 use Rattle.py_lines.proofs.FieldMachine.PieceRuns.{opening_operator, word_goes}
 use Rattle.py_lines.proofs.FieldMachine.PlainSteps.{plain_moves, is_fielded_mode, NoWord, no_word, IsOpenAfter, open_after}
-use Rattle.py_lines.proofs.ScanMachine.Spellings.{word_told, other_begins}
+use Rattle.py_lines.proofs.Machine.Spellings.{word_told, other_begins}
 use Rattle.py_lines.proofs.ScanMachine.Steps.{meets}
 use Rattle.py_lines.proofs.ScanMachine.Advance.{kept, kept_if}
 use Rattle.py_lines.proofs.ScanMachine.Rebased.{rebased, rebased_if}

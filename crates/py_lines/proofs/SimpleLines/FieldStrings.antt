@@ -19,7 +19,7 @@ use Rattle.py_lines.proofs.Pieces.OpenBrackets as brackets
 use Rattle.py_lines.proofs.Pieces.PieceLists.{piece}
 use Rattle.py_lines.proofs.Machine.LiveTexts.{keeps}
 use Rattle.py_lines.proofs.Machine.PieceSteps.{scanned}
-use Rattle.py_lines.proofs.ScanMachine.Spellings.{word_tells}
+use Rattle.py_lines.proofs.Machine.Spellings.{word_tells}
 use Rattle.py_lines.proofs.FieldScans.Runs.{leads_low}
 use Rattle.py_lines.proofs.FieldScans.TextLengths.{rest_is, rest_of}
 use Rattle.py_lines.proofs.LineScan.LineCount.{EndsNoLine-push}
