@@ -167,15 +167,6 @@ pub room_closes : (depth c : ℕ) → has_room_at depth c closes ≡ true
 unfolding has_room_at
 room_closes depth c = refl
 
--- both machines take the same move of the machine without fields, in a list of the outermost text
-plain_moved : (m : Mode) (done : List Piece) (held : List ℕ) (st : List Bracket) (c : ℕ) (v : Move) → move_of m c ≡ v → brackets_of done ≡ Some st → ((n : Mode) → v ≡ Move.Grows n → Own n (depth_through 0 done) (held ++ c ∷ [])) → Alike (kept_if (moved (scanned done m held) c v)) (roomy (has_room_at (frames (field_state [] done (openers_of st) (plain m) held)) c (plain_move v)) (field_moved (field_state [] done (openers_of st) (plain m) held) c (plain_move v)))
-plain_moved m done held st c (Move.Grows n) is stack own = alike_if _ _ _ st (room_grows _ c (plain n)) (tied_plain n done st (held ++ c ∷ []) (subst IsOpenAfter is (open_after m c)) (own n refl) stack)
-plain_moved m done held st c Move.Closes is stack own =
-    let neutral = closing_neutral m (held ++ c ∷ []) c is in
-    alike_if _ _ _ st (room_closes _ c) (tied_fresh done (piece (class_of m) (held ++ c ∷ [])) st neutral.0 neutral.1 stack)
-plain_moved m done held st c Move.Breaks is stack own = broken (closed m done held) st c (stack_closed m done held st stack)
-plain_moved m done held st c Move.Refused is stack own = none_alike (has_room_at (frames (field_state [] done (openers_of st) (plain m) held)) c refused)
-
 -- where the machine with fields ends a piece before a character, in no field, so does the other
 abbrev pub EndsAlike : Scanned → FieldScanned → ℕ → FieldMove → Type 0
 EndsAlike s t c w = w ≡ breaks → (meet_of s.mode c ≡ Move.Breaks) × (field_pieces t ≡ pieces_at s)
@@ -185,26 +176,9 @@ pub record StepsAlike (s : Scanned) (t : FieldScanned) (c : ℕ) : Type 0 where
   pub alike : Alike (kept_if (scan_step s c)) (roomy (has_room t c) (field_step t c))
   pub ends : t.outer ≡ [] → EndsAlike s t c (field_move t.mode t.held c)
 
--- where the moves of both machines are known
-by_moves : (s : Scanned) (t : FieldScanned) (c : ℕ) (v : Move) (w : FieldMove) → move_at s c ≡ v → field_move t.mode t.held c ≡ w → EndsAlike s t c w → Alike (kept_if (moved s c v)) (roomy (has_room_at (frames t) c w) (field_moved t c w)) → StepsAlike s t c
-by_moves s t c v w one two ends alike = record {
-  alike = subst (λ (x : Move). Alike (kept_if (moved s c x)) (roomy (has_room_at (frames t) c (field_move t.mode t.held c)) (field_moved t c (field_move t.mode t.held c)))) (sym one)
-      (subst (λ (x : FieldMove). Alike (kept_if (moved s c v)) (roomy (has_room_at (frames t) c x) (field_moved t c x))) (sym two) alike);
-  ends = λ outside h. ends (sym two ∙ h);
-}
-
-grows_to : (s : Scanned) (t : FieldScanned) (st : List Bracket) (c : ℕ) (m : Mode) (n : FieldMode) → move_at s c ≡ Move.Grows m → field_move t.mode t.held c ≡ grows n → IsTied (field_state t.outer t.done t.openers n (t.held ++ c ∷ [])) (scanned s.done m (s.held ++ c ∷ [])) st → StepsAlike s t c
-grows_to s t st c m n one two tied = by_moves s t c (Move.Grows m) (grows n) one two (λ k. absurd (cc)) (alike_if _ _ _ st (room_grows (frames t) c n) tied)
-
 breaks_as : (v : Move) → plain_move v ≡ breaks → v ≡ Move.Breaks
 breaks_as Move.Breaks h = refl
 breaks_as v h = absurd (cc)
-
--- where no word and no string with fields is open
-pub plain_steps : (m : Mode) (done : List Piece) (held : List ℕ) (st : List Bracket) (c : ℕ) → is_word_mode m ≡ false → move_at (scanned done m held) c ≡ meet_of m c → meet_of m c ≡ move_of m c → begins_host m held c ≡ false → brackets_of done ≡ Some st → StepsAlike (scanned done m held) (field_state [] done (openers_of st) (plain m) held) c
-plain_steps m done held st c word at meets other stack =
-    by_moves (scanned done m held) (field_state [] done (openers_of st) (plain m) held) c (move_of m c) (plain_move (move_of m c)) (at ∙ meets) (plain_moves m held c other) (λ h. (meets ∙ breaks_as (move_of m c) h, refl))
-    (plain_moved m done held st c (move_of m c) refl stack (λ n is. (plain_mode n done (openers_of st) (depth_through 0 done) (held ++ c ∷ []) (subst IsOpenAfter is (open_after m c))).1 (subst (NoWord (class_of m)) is (no_word m c word)).0))
 
 -- the text of a word, by itself
 pub word_alone : (s : Spelling) (depth : ℕ) (held : List ℕ) → Holds (Mode.Word s) [] held → GoesAlone depth held (field_state [] [] [] (plain (Mode.Word s)) held)
@@ -220,41 +194,9 @@ unfolding field_move
 host_moves s held c field quotes = rw (field, quotes)
 
 -- a word meets a character alike in both machines
-module _ (s : Spelling) (held : List ℕ) (c : ℕ) (own : Holds (Mode.Word s) [] held) where
-  pub word_meets : field_move (plain (Mode.Word s)) held c ≡ code_moved (meet_of (Mode.Word s) c)
-  unfolding meet_of quote_move field_move move_of
-  word_meets = grind (arith, word_told s held own, other_begins s, quote-not-word c)
-
--- so both go on alike after it
-module _ (s : Spelling) (done : List Piece) (held : List ℕ) (st : List Bracket) (c : ℕ) (own : Holds (Mode.Word s) [] held) (stack : brackets_of done ≡ Some st) where
-  abbrev T : FieldScanned
-  T = field_state [] done (openers_of st) (plain (Mode.Word s)) held
-
-  abbrev S : Scanned
-  S = scanned done (Mode.Word s) held
-
-  abbrev WordSteps : Move → Type 0
-  WordSteps v = meet_of (Mode.Word s) c ≡ v → StepsAlike S T c
-
-  word_breaks : WordSteps Move.Breaks
-  word_breaks is = by_moves S T c Move.Breaks breaks is (word_meets s held c own ∙ ap code_moved is) (λ h. (is, refl)) (broken (closed (Mode.Word s) done held) st c (stack_closed (Mode.Word s) done held st stack))
-
-  word_grows : (n : Mode) → is_fielded_mode n ≡ false → code_mode n ≡ plain n → Own n (depth_through 0 done) (held ++ c ∷ []) → WordSteps (Move.Grows n)
-  word_grows n other same grown is = grows_to S T st c n (plain n) is (word_meets s held c own ∙ ap code_moved is ∙ ap grows same) (tied_plain n done st (held ++ c ∷ []) other grown stack)
-
-  pub word_steps : StepsAlike S T c
-  unfolding meet_of quote_move
-  word_steps =
-      let h : StringWithFields = record { quote = c; is_long = false; is_raw = is_raw_spelling s } in
-      let depth = depth_through 0 done in
-      cond_both (is_word_character c) (Move.Grows (Mode.Word (spelling_with s c))) _ WordSteps (λ passes. word_grows (Mode.Word (spelling_with s c)) refl refl (word_on s held c own passes))
-      (λ other. cond_both (is_quote c) _ Move.Breaks WordSteps
-      (λ quotes. cond_both (is_field_spelling s) (Move.Grows (Mode.FieldOpened h)) _ WordSteps
-      (λ field is.
-      let move = word_meets s held c own ∙ ap code_moved is in
-      grows_to S T st c (Mode.FieldOpened h) (opened (host_in h)) is move (record { stack = stack; flat_is = refl; own = (alone_grows depth held c _ (opened (host_in h)) (word_alone s depth held own) move, refl) }))
-      (λ none. cond_both (begins_string s) (Move.Grows (Mode.Opened c)) Move.Breaks WordSteps (λ b. word_grows (Mode.Opened c) refl refl tt) (λ b. word_breaks)))
-      (λ none. word_breaks)) refl
+pub word_meets : (s : Spelling) (held : List ℕ) (c : ℕ) → Holds (Mode.Word s) [] held → field_move (plain (Mode.Word s)) held c ≡ code_moved (meet_of (Mode.Word s) c)
+unfolding meet_of quote_move field_move move_of
+word_meets s held c own = grind (arith, word_told s held own, other_begins s, quote-not-word c)
 
 -- one quote of a string with fields
 break_refused : (host : Host) (c : ℕ) → host.is_long ≡ false → c == host.quote ≡ false → is_break c ≡ true → between_move host literal false between c ≡ refused
@@ -275,52 +217,94 @@ first_grows host c other unbroken = go (is_backslash c) (c == byte "{") (c == by
     go false true shuts h k l = record { mode = body host literal false after_brace; is = rw (other, h, unbroken, k); stays = (host, literal, false, after_brace, refl) }
     go false false shuts h k l = record { mode = body host literal false between; is = grind arith; stays = (host, literal, false, between, refl) }
 
--- a string that has just got some text
-tied_begun : (done : List Piece) (held : List ℕ) (st : List Bracket) (m : FieldMode) → brackets_of done ≡ Some st → GoesAlone (depth_through 0 done) held (field_state [] [] [] m held) → IsBodyMode m → IsTied (field_state [] done (openers_of st) m held) (scanned done Mode.Fielded held) st
-tied_begun done held st m stack goes stays = record {
-  stack = stack;
-  flat_is = ap (rebased_if done (openers_of st)) goes.steps;
-  own = record { state = field_state [] [] [] m held; goes = goes; inside = λ is. stays; bare = refl };
-}
+-- one character, where the machine with fields is in no field
+module _ (done : List Piece) (held : List ℕ) (st : List Bracket) (c : ℕ) (stack : brackets_of done ≡ Some st) where
+  abbrev S : Mode → Scanned
+  S m = scanned done m held
 
-module _ (h : StringWithFields) (done : List Piece) (held : List ℕ) (st : List Bracket) (c : ℕ) (own : Own (Mode.FieldOpened h) (depth_through 0 done) held) (stack : brackets_of done ≡ Some st) where
-  abbrev SO : Scanned
-  SO = scanned done (Mode.FieldOpened h) held
+  abbrev T : FieldMode → FieldScanned
+  T n = field_state [] done (openers_of st) n held
 
-  abbrev TO : FieldScanned
-  TO = field_state [] done (openers_of st) (opened (host_in h)) held
+  abbrev depth : ℕ
+  depth = depth_through 0 done
 
-  opened_steps_go : (same ends_line : Bool) → c == h.quote ≡ same → is_break c ≡ ends_line → StepsAlike SO TO c
+  -- both machines take the same move of the machine without fields
+  plain_moved : (m : Mode) (v : Move) → move_of m c ≡ v → ((n : Mode) → v ≡ Move.Grows n → Own n depth (held ++ c ∷ [])) → Alike (kept_if (moved (S m) c v)) (roomy (has_room_at (frames (T (plain m))) c (plain_move v)) (field_moved (T (plain m)) c (plain_move v)))
+  plain_moved m (Move.Grows n) is own = alike_if _ _ _ st (room_grows _ c (plain n)) (tied_plain n done st (held ++ c ∷ []) (subst IsOpenAfter is (open_after m c)) (own n refl) stack)
+  plain_moved m Move.Closes is own =
+      let neutral = closing_neutral m (held ++ c ∷ []) c is in
+      alike_if _ _ _ st (room_closes _ c) (tied_fresh done (piece (class_of m) (held ++ c ∷ [])) st neutral.0 neutral.1 stack)
+  plain_moved m Move.Breaks is own = broken (closed m done held) st c (stack_closed m done held st stack)
+  plain_moved m Move.Refused is own = none_alike (has_room_at (frames (T (plain m))) c refused)
+
+  -- where the moves of both machines are known
+  by_moves : (m : Mode) (n : FieldMode) (v : Move) (w : FieldMove) → move_at (S m) c ≡ v → field_move n held c ≡ w → EndsAlike (S m) (T n) c w → Alike (kept_if (moved (S m) c v)) (roomy (has_room_at (frames (T n)) c w) (field_moved (T n) c w)) → StepsAlike (S m) (T n) c
+  by_moves m n v w one two ends alike = record {
+    alike = subst (λ (x : Move). Alike (kept_if (moved (S m) c x)) (roomy (has_room (T n) c) (field_step (T n) c))) (sym one)
+        (subst (λ (x : FieldMove). Alike (kept_if (moved (S m) c v)) (roomy (has_room_at (frames (T n)) c x) (field_moved (T n) c x))) (sym two) alike);
+    ends = λ outside h. ends (sym two ∙ h);
+  }
+
+  grows_to : (m : Mode) (n : FieldMode) (after : Mode) (next : FieldMode) → move_at (S m) c ≡ Move.Grows after → field_move n held c ≡ grows next → IsTied (field_state [] done (openers_of st) next (held ++ c ∷ [])) (scanned done after (held ++ c ∷ [])) st → StepsAlike (S m) (T n) c
+  grows_to m n after next one two tied = by_moves m n (Move.Grows after) (grows next) one two (λ k. absurd (cc)) (alike_if _ _ _ st (room_grows (frames (T n)) c next) tied)
+
+  -- a string that has just got some text
+  begins_body : (m : Mode) (n next : FieldMode) → move_at (S m) c ≡ Move.Grows Mode.Fielded → field_move n held c ≡ grows next → GoesAlone depth held (field_state [] [] [] n held) → IsBodyMode next → StepsAlike (S m) (T n) c
+  begins_body m n next one two goes stays =
+      let on = alone_grows depth held c _ next goes two in
+      grows_to m n Mode.Fielded next one two
+      (record { stack = stack; flat_is = ap (rebased_if done (openers_of st)) on.steps; own = record { state = field_state [] [] [] next (held ++ c ∷ []); goes = on; inside = λ is. stays; bare = refl } })
+
+  -- where no word and no string with fields is open
+  pub plain_steps : (m : Mode) → is_word_mode m ≡ false → move_at (S m) c ≡ meet_of m c → meet_of m c ≡ move_of m c → begins_host m held c ≡ false → StepsAlike (S m) (T (plain m)) c
+  plain_steps m word at meets other =
+      by_moves m (plain m) (move_of m c) (plain_move (move_of m c)) (at ∙ meets) (plain_moves m held c other) (λ h. (meets ∙ breaks_as (move_of m c) h, refl))
+      (plain_moved m (move_of m c) refl (λ n is. (plain_mode n done (openers_of st) depth (held ++ c ∷ []) (subst IsOpenAfter is (open_after m c))).1 (subst (NoWord (class_of m)) is (no_word m c word)).0))
+
+  -- a word
+  module _ (s : Spelling) (own : Holds (Mode.Word s) [] held) where
+    abbrev WordSteps : Move → Type 0
+    WordSteps v = meet_of (Mode.Word s) c ≡ v → StepsAlike (S (Mode.Word s)) (T (plain (Mode.Word s))) c
+
+    word_breaks : WordSteps Move.Breaks
+    word_breaks is = by_moves (Mode.Word s) (plain (Mode.Word s)) Move.Breaks breaks is (word_meets s held c own ∙ ap code_moved is) (λ h. (is, refl)) (broken (closed (Mode.Word s) done held) st c (stack_closed (Mode.Word s) done held st stack))
+
+    word_grows : (n : Mode) → is_fielded_mode n ≡ false → code_mode n ≡ plain n → Own n depth (held ++ c ∷ []) → WordSteps (Move.Grows n)
+    word_grows n other same grown is = grows_to (Mode.Word s) (plain (Mode.Word s)) n (plain n) is (word_meets s held c own ∙ ap code_moved is ∙ ap grows same) (tied_plain n done st (held ++ c ∷ []) other grown stack)
+
+    pub word_steps : StepsAlike (S (Mode.Word s)) (T (plain (Mode.Word s))) c
+    unfolding meet_of quote_move
+    word_steps =
+        let h : StringWithFields = record { quote = c; is_long = false; is_raw = is_raw_spelling s } in
+        cond_both (is_word_character c) (Move.Grows (Mode.Word (spelling_with s c))) _ WordSteps (λ passes. word_grows (Mode.Word (spelling_with s c)) refl refl (word_on s held c own passes))
+        (λ other. cond_both (is_quote c) _ Move.Breaks WordSteps
+        (λ quotes. cond_both (is_field_spelling s) (Move.Grows (Mode.FieldOpened h)) _ WordSteps
+        (λ field is.
+        let move = word_meets s held c own ∙ ap code_moved is in
+        grows_to (Mode.Word s) (plain (Mode.Word s)) (Mode.FieldOpened h) (opened (host_in h)) is move (record { stack = stack; flat_is = refl; own = (alone_grows depth held c _ (opened (host_in h)) (word_alone s depth held own) move, refl) }))
+        (λ none. cond_both (begins_string s) (Move.Grows (Mode.Opened c)) Move.Breaks WordSteps (λ b. word_grows (Mode.Opened c) refl refl tt) (λ b. word_breaks)))
+        (λ none. word_breaks)) refl
+
+  -- one quote of a string with fields
+  pub opened_steps : (h : StringWithFields) → Own (Mode.FieldOpened h) depth held → StepsAlike (S (Mode.FieldOpened h)) (T (opened (host_in h))) c
   unfolding meet_of opened_move field_move body_move
-  opened_steps_go true ends_line is break =
-      let move : field_move (opened (host_in h)) held c ≡ grows (empty (host_in h)) = rw is in
-      grows_to SO TO st c (Mode.FieldEmpty h) (empty (host_in h)) (rw is) move (record { stack = stack; flat_is = refl; own = alone_grows (depth_through 0 done) held c _ (empty (host_in h)) own.0 move })
-  opened_steps_go false true is break =
-      let move : field_move (opened (host_in h)) held c ≡ refused = rw is (break_refused (host_in h) c own.1 is break) in
-      by_moves SO TO c Move.Refused refused (rw (is, break)) move (λ k. absurd (cc)) (none_alike (has_room_at (frames TO) c refused))
-  opened_steps_go false false is break =
-      let first = first_grows (host_in h) c is break in
-      let move : field_move (opened (host_in h)) held c ≡ grows first.mode = rw is first.is in
-      grows_to SO TO st c Mode.Fielded first.mode (rw (is, break)) move (tied_begun done (held ++ c ∷ []) st first.mode stack (alone_grows (depth_through 0 done) held c _ first.mode own.0 move) first.stays)
+  opened_steps h own = go (c == h.quote) (is_break c) refl refl
+    where
+      go : (same ends_line : Bool) → c == h.quote ≡ same → is_break c ≡ ends_line → StepsAlike (S (Mode.FieldOpened h)) (T (opened (host_in h))) c
+      go true ends_line is break =
+          let move : field_move (opened (host_in h)) held c ≡ grows (empty (host_in h)) = rw is in
+          grows_to (Mode.FieldOpened h) (opened (host_in h)) (Mode.FieldEmpty h) (empty (host_in h)) (rw is) move (record { stack = stack; flat_is = refl; own = alone_grows depth held c _ (empty (host_in h)) own.0 move })
+      go false true is break =
+          by_moves (Mode.FieldOpened h) (opened (host_in h)) Move.Refused refused (rw (is, break)) (rw is (break_refused (host_in h) c own.1 is break)) (λ k. absurd (cc)) (none_alike (has_room_at (frames (T (opened (host_in h)))) c refused))
+      go false false is break =
+          let first = first_grows (host_in h) c is break in
+          begins_body (Mode.FieldOpened h) (opened (host_in h)) first.mode (rw (is, break)) (rw is first.is) own.0 first.stays
 
-  pub opened_steps : StepsAlike SO TO c
-  opened_steps = opened_steps_go (c == h.quote) (is_break c) refl refl
-
--- two quotes
-module _ (h : StringWithFields) (done : List Piece) (held : List ℕ) (st : List Bracket) (c : ℕ) (own : Own (Mode.FieldEmpty h) (depth_through 0 done) held) (stack : brackets_of done ≡ Some st) where
-  abbrev SE : Scanned
-  SE = scanned done (Mode.FieldEmpty h) held
-
-  abbrev TE : FieldScanned
-  TE = field_state [] done (openers_of st) (empty (host_in h)) held
-
-  empty_steps_go : (same : Bool) → c == h.quote ≡ same → StepsAlike SE TE c
+  -- two quotes
+  pub empty_steps : (h : StringWithFields) → Own (Mode.FieldEmpty h) depth held → StepsAlike (S (Mode.FieldEmpty h)) (T (empty (host_in h))) c
   unfolding meet_of field_move
-  empty_steps_go true is =
-      let m : FieldMode = body (long_host (host_in h)) literal false between in
-      let move : field_move (empty (host_in h)) held c ≡ grows m = rw is in
-      grows_to SE TE st c Mode.Fielded m (rw is) move (tied_begun done (held ++ c ∷ []) st m stack (alone_grows (depth_through 0 done) held c _ m own move) (long_host (host_in h), literal, false, between, refl))
-  empty_steps_go false is = by_moves SE TE c Move.Breaks breaks (rw is) (rw is) (λ k. (rw is, refl)) (broken (closed (Mode.FieldEmpty h) done held) st c (stack_closed (Mode.FieldEmpty h) done held st stack))
-
-  pub empty_steps : StepsAlike SE TE c
-  empty_steps = empty_steps_go (c == h.quote) refl
+  empty_steps h own = go (c == h.quote) refl
+    where
+      go : (same : Bool) → c == h.quote ≡ same → StepsAlike (S (Mode.FieldEmpty h)) (T (empty (host_in h))) c
+      go true is = begins_body (Mode.FieldEmpty h) (empty (host_in h)) (body (long_host (host_in h)) literal false between) (rw is) (rw is) own (long_host (host_in h), literal, false, between, refl)
+      go false is = by_moves (Mode.FieldEmpty h) (empty (host_in h)) Move.Breaks breaks (rw is) (rw is) (λ k. (rw is, refl)) (broken (closed (Mode.FieldEmpty h) done held) st c (stack_closed (Mode.FieldEmpty h) done held st stack))

@@ -130,13 +130,13 @@ module _ (done : List Piece) (held : List ℕ) (st : List Bracket) (c : ℕ) (st
 -- one character, wherever the two machines stand together
 tied_mode : (m : Mode) (done : List Piece) (held : List ℕ) (st : List Bracket) (t : FieldScanned) (c : ℕ) → brackets_of done ≡ Some st → flat m done (openers_of st) held ≡ Some t → Own m (depth_through 0 done) held → StepsAlike (scanned done m held) t c
 unfolding meet_of
-tied_mode (Mode.Word s) done held st t c stack is own = subst (λ x. StepsAlike (scanned done (Mode.Word s) held) x c) (some_is _ t is) (word_steps s done held st c own stack)
-tied_mode (Mode.FieldOpened h) done held st t c stack is own = subst (λ x. StepsAlike (scanned done (Mode.FieldOpened h) held) x c) (some_is _ t is) (opened_steps h done held st c own stack)
-tied_mode (Mode.FieldEmpty h) done held st t c stack is own = subst (λ x. StepsAlike (scanned done (Mode.FieldEmpty h) held) x c) (some_is _ t is) (empty_steps h done held st c own stack)
+tied_mode (Mode.Word s) done held st t c stack is own = subst (λ x. StepsAlike (scanned done (Mode.Word s) held) x c) (some_is _ t is) (word_steps done held st c stack s own)
+tied_mode (Mode.FieldOpened h) done held st t c stack is own = subst (λ x. StepsAlike (scanned done (Mode.FieldOpened h) held) x c) (some_is _ t is) (opened_steps done held st c stack h own)
+tied_mode (Mode.FieldEmpty h) done held st t c stack is own = subst (λ x. StepsAlike (scanned done (Mode.FieldEmpty h) held) x c) (some_is _ t is) (empty_steps done held st c stack h own)
 tied_mode Mode.Fielded done held st t c stack is own =
     subst (λ x. StepsAlike (scanned done Mode.Fielded held) x c) (some_is (rebased done (openers_of st) own.state) t (sym (ap (rebased_if done (openers_of st)) own.goes.steps) ∙ is))
     (fielded_steps done held st c stack own.state own.goes own.inside own.bare)
-tied_mode m done held st t c stack is own = subst (λ x. StepsAlike (scanned done m held) x c) (some_is _ t is) (plain_steps m done held st c refl refl refl refl stack)
+tied_mode m done held st t c stack is own = subst (λ x. StepsAlike (scanned done m held) x c) (some_is _ t is) (plain_steps done held st c stack m refl refl refl refl)
 
 pub tied_step : (t : FieldScanned) (s : Scanned) (st : List Bracket) (c : ℕ) → IsTied t s st → StepsAlike s t c
 tied_step t s st c tied = tied_mode s.mode s.done s.held st t c tied.stack tied.flat_is tied.own
