@@ -173,16 +173,11 @@ module _ (Room : ℕ → Type 0) (outer : List Level) (done : List Piece) (opene
     pub on : MayGoOn host specification (named_through false parts) to rest
 
   module _ (F : ℕ → Host → List ℕ → Type 0) (begin : (depth : ℕ) → BeginOpen (F depth)) (run : FieldsRun Room F) (G : Host → List ℕ → Type 0) where
-    -- the field's code, before the character that ends it
-    code_found : (place : Place) (held : List ℕ) (inside : List Piece) (e : ℕ) → AreInside (with_fields G) inside (e ∷ []) → ArePassed Room F (depth + 1) inside → FieldFinds Room (in_field place held) (spelled inside) inside [] (e ∷ [])
-    code_found place held inside e is passed =
-        all_found Room F begin run G (in_field place held) inside [] (e ∷ []) is.fit is.unmarked (subst (λ n. ArePassed Room F n inside) (sym (deeper place held)) passed)
-        (balanced_openers inside is.balanced []) is.colon (stops-fresh (spelled inside ++ e ∷ []))
-
-    -- and that character
+    -- the field's code, and the character that ends it
     code_goes : (place : Place) (held : List ℕ) (inside : List Piece) (e : ℕ) (t : List Piece → FieldScanned) → AreInside (with_fields G) inside (e ∷ []) → ArePassed Room F (depth + 1) inside → start_of e ≡ Start.Operator → is_opening e ≡ false → ((ps : List Piece) → code_operator (level_at place held) outer ps e ≡ Some (t ps)) → Goes Room (in_field place held) (spelled inside ++ e ∷ []) (t inside)
     code_goes place held inside e t is passed starts_as no_bracket ends =
-        let found = code_found place held inside e is passed in
+        let found = all_found Room F begin run G (in_field place held) inside [] (e ∷ []) is.fit is.unmarked (subst (λ n. ArePassed Room F n inside) (sym (deeper place held)) passed)
+        (balanced_openers inside is.balanced []) is.colon (stops-fresh (spelled inside ++ e ∷ [])) in
         let level : Level = level_at place held in
         let s : FieldScanned = field_state (level ∷ outer) found.done [] found.mode found.held in
         let last : Goes Room s (e ∷ []) (t (field_pieces s)) =
@@ -190,18 +185,6 @@ module _ (Room : ℕ → Type 0) (outer : List Level) (done : List Piece) (opene
         (ap (field_started (level ∷ outer) (field_pieces s) [] e) starts_as ∙ ends (field_pieces s)) (λ is_one. absurd (both_ways _ no_bracket is_one)) refl in
         goes-to Room (in_field place held) (t (field_pieces s)) (t inside) (spelled inside ++ e ∷ [])
         (goes-append Room (in_field place held) s (t (field_pieces s)) (spelled inside) (e ∷ []) found.goes last) (ap t found.pieces_are)
-
-    -- a field without a specification
-    simple_goes : (place : Place) (at : At) (held : List ℕ) (inside : List Piece) → is_quote host.quote ≡ true → Room depth → AreInside (with_fields G) inside (125 ∷ []) → ArePassed Room F (depth + 1) inside → (place ≡ literal → begins_double (123 ∷ spelled inside ++ 125 ∷ []) ≡ false) → MayGoOn host place false at (123 ∷ spelled inside ++ 125 ∷ []) → Goes Room (in_string place at held) (123 ∷ spelled inside ++ 125 ∷ []) (in_string place between (held ++ (123 ∷ spelled inside ++ 125 ∷ [])))
-    simple_goes place at held inside quotes room is passed single here =
-        let code : List ℕ = spelled inside ++ 125 ∷ [] in
-        let level : Level = level_at place held in
-        let ended : List Piece → FieldScanned = λ ps. field_ended level outer (level.front ++ (spelled ps ++ 125 ∷ [])) in
-        let full = some_head (spelled inside) 125 [] in
-        goes-to Room (in_string place at held) (ended inside) _ (123 ∷ code)
-        (opens_text place (body host place false at) held code full.0 full.1 (ended inside) full.2 (body_moves host place false at held 123 code here ∙ open_moves host place (settled at) quotes) room single
-        (code_goes place held inside 125 ended is passed brace_is.0 brace_is.1 (λ ps. brace_ends level outer ps)))
-        (ap (in_string place between) (append_assoc held (123 ∷ []) code))
 
     pub specification_goes : (place : Place) (held : List ℕ) (inside : List Piece) (parts : List (List ℕ)) (rest : List ℕ) → is_quote host.quote ≡ true → AreInside (with_fields G) inside (58 ∷ []) → ArePassed Room F (depth + 1) inside → AreParts (F (depth + 1)) host specification false parts rest → has_triple host.quote parts ≡ false → SpecificationGoes place held inside parts rest
     specification_goes place held inside parts rest quotes is passed each open_yet =
@@ -225,13 +208,22 @@ module _ (Room : ℕ → Type 0) (outer : List Level) (done : List Piece) (opene
           on = parts_run.on;
         }
 
-    -- a field with one
-    specified_goes : (place : Place) (at : At) (held : List ℕ) (inside : List Piece) (parts : List (List ℕ)) → is_quote host.quote ≡ true → Room depth → AreInside (with_fields G) inside (58 ∷ []) → ArePassed Room F (depth + 1) inside → IsSpecification (F (depth + 1)) host parts → (place ≡ literal → begins_double (123 ∷ spelled inside ++ (58 ∷ joined parts ++ 125 ∷ [])) ≡ false) → MayGoOn host place false at (123 ∷ spelled inside ++ (58 ∷ joined parts ++ 125 ∷ [])) → Goes Room (in_string place at held) (123 ∷ spelled inside ++ (58 ∷ joined parts ++ 125 ∷ [])) (in_string place between (held ++ (123 ∷ spelled inside ++ (58 ∷ joined parts ++ 125 ∷ []))))
-    specified_goes place at held inside parts quotes room is passed own single here =
+    -- a field, whose pieces meet a condition by which what opens in them may open there
+    pub field_goes : (Passes : List Piece → Type 0) → ((ps : List Piece) (rest : List ℕ) → AreReadIn (with_fields G) ps rest → Passes ps → ArePassed Room F (depth + 1) ps) → (place : Place) (at : At) (held text : List ℕ) → is_quote host.quote ≡ true → Room depth → IsField (with_fields G) Passes (F (depth + 1)) host text → (place ≡ literal → begins_double text ≡ false) → MayGoOn host place false at text → Goes Room (in_string place at held) text (in_string place between (held ++ text))
+    field_goes Passes passed place at held text quotes room (simple inside spell is passes) single here =
+        let code : List ℕ = spelled inside ++ 125 ∷ [] in
+        let level : Level = level_at place held in
+        let ended : List Piece → FieldScanned = λ ps. field_ended level outer (level.front ++ (spelled ps ++ 125 ∷ [])) in
+        let full = some_head (spelled inside) 125 [] in
+        rw spell (goes-to Room (in_string place at held) (ended inside) _ (123 ∷ code)
+        (opens_text place (body host place false at) held code full.0 full.1 (ended inside) full.2 (body_moves host place false at held 123 code (rw spell at here) ∙ open_moves host place (settled at) quotes) room (rw spell at single)
+        (code_goes place held inside 125 ended is (passed inside (125 ∷ []) is.fit passes) brace_is.0 brace_is.1 (λ ps. brace_ends level outer ps)))
+        (ap (in_string place between) (append_assoc held (123 ∷ []) code)))
+    field_goes Passes passed place at held text quotes room (specified inside parts spell is passes own) single here =
         let code : List ℕ = spelled inside ++ (58 ∷ joined parts) in
         let text : List ℕ = held ++ (123 ∷ code) in
         let whole : code ++ 125 ∷ [] ≡ spelled inside ++ (58 ∷ joined parts ++ 125 ∷ []) = append_assoc (spelled inside) (58 ∷ joined parts) (125 ∷ []) in
-        let first = specification_goes place held inside parts (125 ∷ []) quotes is passed own.each own.open_yet in
+        let first = specification_goes place held inside parts (125 ∷ []) quotes is (passed inside (58 ∷ []) is.fit passes) own.each own.open_yet in
         let s : FieldScanned = field_state (level_at place held ∷ outer) [] [] (body host specification (named_through false parts) first.to) text in
         let move : field_move (body host specification (named_through false parts) first.to) text 125 ≡ ends_field =
         ap (λ n. field_move (body host specification n first.to) text 125) own.ended
@@ -239,14 +231,7 @@ module _ (Room : ℕ → Type 0) (outer : List Level) (done : List Piece) (opene
         let ended : FieldScanned = in_string place between (text ++ 125 ∷ []) in
         let last : Goes Room s (125 ∷ []) ended = (ended, ap (field_moved s 125) move, subst (HasRoomFor Room (frames s) 125) (sym move) tt, refl) in
         let full = some_head (spelled inside) 58 (joined parts ++ 125 ∷ []) in
-        goes-to Room (in_string place at held) ended _ (123 ∷ spelled inside ++ (58 ∷ joined parts ++ 125 ∷ []))
-        (opens_text place (body host place false at) held _ full.0 full.1 ended full.2 (body_moves host place false at held 123 (code ++ 125 ∷ []) here ∙ open_moves host place (settled at) quotes) room single
+        rw spell (goes-to Room (in_string place at held) ended _ (123 ∷ spelled inside ++ (58 ∷ joined parts ++ 125 ∷ []))
+        (opens_text place (body host place false at) held _ full.0 full.1 ended full.2 (body_moves host place false at held 123 (code ++ 125 ∷ []) (rw spell at here) ∙ open_moves host place (settled at) quotes) room (rw spell at single)
         (subst (λ x. Goes Room (in_field place held) x ended) whole (goes-append Room (in_field place held) s ended code (125 ∷ []) first.goes last)))
-        (ap (in_string place between) (append_assoc held (123 ∷ code) (125 ∷ []) ∙ ap (λ x. held ++ (123 ∷ x)) whole))
-
-    -- a field, whose pieces meet a condition by which what opens in them may open there
-    pub field_goes : (Passes : List Piece → Type 0) → ((ps : List Piece) (rest : List ℕ) → AreReadIn (with_fields G) ps rest → Passes ps → ArePassed Room F (depth + 1) ps) → (place : Place) (at : At) (held text : List ℕ) → is_quote host.quote ≡ true → Room depth → IsField (with_fields G) Passes (F (depth + 1)) host text → (place ≡ literal → begins_double text ≡ false) → MayGoOn host place false at text → Goes Room (in_string place at held) text (in_string place between (held ++ text))
-    field_goes Passes passed place at held text quotes room (simple inside spell is passes) single here =
-        rw spell (simple_goes place at held inside quotes room is (passed inside (125 ∷ []) is.fit passes) (rw spell at single) (rw spell at here))
-    field_goes Passes passed place at held text quotes room (specified inside parts spell is passes own) single here =
-        rw spell (specified_goes place at held inside parts quotes room is (passed inside (58 ∷ []) is.fit passes) own (rw spell at single) (rw spell at here))
+        (ap (in_string place between) (append_assoc held (123 ∷ code) (125 ∷ []) ∙ ap (λ x. held ++ (123 ∷ x)) whole)))

@@ -159,7 +159,7 @@ list_runs all rest depth (in_field _ _ _ outside base pieces front host spot spe
     let level : Level = level_of run.done run.openers host spot.place front in
     let s : FieldScanned = field_state run.outer run.done run.openers run.mode front in
     let braced = braces run.outer run.done run.openers host spot.place run.mode front move in
-    let whole : (r : List ℕ) → outside ++ (spelled pieces ++ (front ++ 123 ∷ r)) ≡ all ++ r = λ r. whole_text all outside (spelled pieces) front r spell in
+    let whole : (r : List ℕ) → outside ++ (spelled pieces ++ (front ++ 123 ∷ r)) ≡ all ++ r = λ r. simp (spell, append_assoc) in
     record {
       outer = level ∷ run.outer;
       deep =
@@ -181,8 +181,3 @@ list_runs all rest depth (in_field _ _ _ outside base pieces front host spot spe
         braced.2,
       );
     }
-  where
-    whole_text : (all outside code front r : List ℕ) → all ≡ outside ++ (code ++ (front ++ 123 ∷ [])) → outside ++ (code ++ (front ++ 123 ∷ r)) ≡ all ++ r
-    whole_text all outside code front r spell =
-        ap (λ t. outside ++ (code ++ t)) (sym (append_assoc front (123 ∷ []) r)) ∙ ap (λ t. outside ++ t) (sym (append_assoc code (front ++ 123 ∷ []) r))
-        ∙ sym (append_assoc outside (code ++ (front ++ 123 ∷ [])) r) ∙ ap (λ t. t ++ r) (sym spell)

@@ -84,7 +84,7 @@ short_last q m last short quotes escapes = last_grows _ m (Mode.Escape q) last (
 pub short_end : (q : ℕ) (items : List (List ℕ)) (last : List ℕ) → is_quote q ≡ true → list_all (is_short_item q) items ≡ true → IsUnescaped last → GrownTo (λ n. in_short n ≡ true) (Mode.Opened q) (joined items ++ last)
 short_end q [] last quotes each escapes = short_last q (Mode.Opened q) last (inl refl) quotes escapes
 short_end q (i ∷ is) last quotes each escapes =
-    let body = short_body q i is quotes each in
+    let body = short_body q (Mode.Opened q) i is (inl refl) quotes each in
     let end = short_last q body.0 last (inr body.1) quotes escapes in
     (end.0, end.1, grown-append _ body.0 end.0 (joined (i ∷ is)) last body.2 end.2)
 

@@ -46,7 +46,6 @@ GrownTo IsSuch from text = (to : Mode) × IsSuch to × Grown from text to
 
 grown-item : (q : ℕ) (m : Mode) (item : List ℕ) → IsShortMode q m → is_quote q ≡ true → is_short_item q item ≡ true → GrownTo (HoldsShort q) m item
 unfolding move_of short_move
-grown-item q m [] short quotes is = absurd (both_ways _ refl is)
 grown-item q m (c ∷ []) short quotes is =
     let parts = and_parts (not (is_backslash c)) (not (is_barred q c)) is in
     let bare = unbarred q c (not-true _ parts.1) in
@@ -63,23 +62,18 @@ grown-item q m (c ∷ d ∷ e ∷ []) short quotes is =
     let first = and_parts (is_backslash c && is_return d) (is_line_feed e) (and_parts _ true is).0 in
     let second = and_parts (is_backslash c) (is_return d) first.0 in
     (Mode.Inside q, inl refl, (Mode.Escape q, short_escapes q c m short quotes second.0, (Mode.EscapeReturn q, rw second.1, (Mode.Inside q, rw first.1, refl))))
-grown-item q m (c ∷ d ∷ e ∷ f ∷ cs) short quotes is = absurd (both_ways _ refl is)
-
-grown-items : (q : ℕ) (m : Mode) (items : List (List ℕ)) → HoldsShort q m → is_quote q ≡ true → list_all (is_short_item q) items ≡ true → GrownTo (HoldsShort q) m (joined items)
-grown-items q m [] holds quotes each = (m, holds, refl)
-grown-items q m (i ∷ is) holds quotes each =
-    let parts = and_parts (is_short_item q i) (list_all (is_short_item q) is) each in
-    let first = grown-item q m i (inr holds) quotes parts.0 in
-    let others = grown-items q first.0 is first.1 quotes parts.1 in
-    (others.0, others.1, grown-append m first.0 others.0 i (joined is) first.2 others.2)
+grown-item q m item short quotes is = absurd (both_ways _ refl is)
 
 -- the items of a short string, if there are some
-pub short_body : (q : ℕ) (item : List ℕ) (items : List (List ℕ)) → is_quote q ≡ true → list_all (is_short_item q) (item ∷ items) ≡ true → GrownTo (HoldsShort q) (Mode.Opened q) (joined (item ∷ items))
-short_body q item items quotes each =
-    let parts = and_parts (is_short_item q item) (list_all (is_short_item q) items) each in
-    let first = grown-item q (Mode.Opened q) item (inl refl) quotes parts.0 in
-    let others = grown-items q first.0 items first.1 quotes parts.1 in
-    (others.0, others.1, grown-append _ first.0 others.0 item (joined items) first.2 others.2)
+pub short_body : (q : ℕ) (m : Mode) (item : List ℕ) (items : List (List ℕ)) → IsShortMode q m → is_quote q ≡ true → list_all (is_short_item q) (item ∷ items) ≡ true → GrownTo (HoldsShort q) m (joined (item ∷ items))
+short_body q m item [] short quotes each =
+    let first = grown-item q m item short quotes (and_parts (is_short_item q item) true each).0 in
+    (first.0, first.1, grown-append m first.0 first.0 item [] first.2 refl)
+short_body q m item (i ∷ is) short quotes each =
+    let parts = and_parts (is_short_item q item) (list_all (is_short_item q) (i ∷ is)) each in
+    let first = grown-item q m item short quotes parts.0 in
+    let others = short_body q first.0 i is (inr first.1) quotes parts.1 in
+    (others.0, others.1, grown-append m first.0 others.0 item (joined (i ∷ is)) first.2 others.2)
 
 -- a quote closes it
 short_closes : (q : ℕ) (m : Mode) → HoldsShort q m → is_quote q ≡ true → (class_of m ≡ string) × (move_of m q ≡ Move.Closes)
@@ -92,7 +86,7 @@ short_ends text prefix q [] rest spell is quotes each before =
     ends_before (Mode.Empty q) (Mode.Empty q, rw (eq-eqb q q refl), refl) (refl, λ done held. refl)
     (stops_unless (Mode.Empty q) (λ c. c == q) refl (λ c h. rw h) rest (before prefix q spell is quotes))
 short_ends text prefix q (i ∷ items) rest spell is quotes each before =
-    let body = short_body q i items quotes each in
+    let body = short_body q (Mode.Opened q) i items (inl refl) quotes each in
     let last = short_closes q body.0 body.1 quotes in
     ends_at body.0 (joined (i ∷ items)) q refl body.2 last.0 last.1
 
@@ -137,7 +131,6 @@ long_escapes q c seen quotes slash = long_moves q c seen (not_quote c q quotes (
 -- an item that is no quote of the string
 grown-other : (q : ℕ) (seen : QuotesBefore) (item : List ℕ) → is_quote q ≡ true → is_item item ≡ true → is_bare (λ c. c == q) item ≡ false → Grown (mode_at q seen) item (Mode.Long q)
 unfolding move_of long_move
-grown-other q seen [] quotes is other = absurd (both_ways _ refl is)
 grown-other q seen (c ∷ []) quotes is other = (Mode.Long q, long_moves q c seen other ∙ rw (not-true _ is), refl)
 grown-other q seen (c ∷ d ∷ []) quotes is other = (Mode.LongEscape q, long_escapes q c seen quotes is, (Mode.Long q, refl, refl))
 grown-other q seen (c ∷ d ∷ e ∷ []) quotes is other =
@@ -145,12 +138,11 @@ grown-other q seen (c ∷ d ∷ e ∷ []) quotes is other =
     let slash = (and_parts (is_backslash c) (is_return d) first.0).0 in
     let feed : move_of (Mode.Long q) e ≡ Move.Grows (Mode.Long q) = long_moves q e none (not_quote e q quotes (feed-not-others e first.1).0) ∙ rw (feed-not-others e first.1).1 in
     (Mode.LongEscape q, long_escapes q c seen quotes slash, (Mode.Long q, refl, (Mode.Long q, feed, refl)))
-grown-other q seen (c ∷ d ∷ e ∷ f ∷ cs) quotes is other = absurd (both_ways _ refl is)
+grown-other q seen item quotes is other = absurd (both_ways _ refl is)
 
 bare_quote : (q : ℕ) (item : List ℕ) → is_bare (λ c. c == q) item ≡ true → item ≡ q ∷ []
-bare_quote q [] h = absurd (both_ways _ refl h)
 bare_quote q (c ∷ []) h = ap (λ d. d ∷ []) (eqb-true c q h)
-bare_quote q (c ∷ d ∷ cs) h = absurd (both_ways _ refl h)
+bare_quote q item h = absurd (both_ways _ refl h)
 
 -- one more quote, where the string goes on
 quote_grows : (q : ℕ) (seen : QuotesBefore) (items : List (List ℕ)) → has_triple q (quotes_before q seen ++ (q ∷ []) ∷ items) ≡ false → (move_of (mode_at q seen) q ≡ Move.Grows (mode_at q (next seen))) × (has_triple q (quotes_before q (next seen) ++ items) ≡ false)

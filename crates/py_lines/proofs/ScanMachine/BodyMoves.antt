@@ -1,5 +1,5 @@
 -- What leaves a string with fields open: a character that its body grows by, and all that stands in its fields.
-use Rattle.std.proofs.Common.{◌≡◌, ℕ, Bool, false, ◌==◌, Option, None, Some, List, [], ◌∷◌, ◌++◌, refl}
+use Rattle.std.proofs.Common.{◌≡◌, ℕ, Bool, false, ◌==◌, Option, None, Some, List, [], ◌∷◌, ◌++◌, refl, arith}
 use Rattle.std.specs.Str.{byte}
 use Rattle.std.proofs.lemmas.Bool.{cond_both}
 use Rattle.py_lines.specs.Piece.{Piece, spelled}
@@ -37,6 +37,11 @@ operator_inside l ls ps [] c =
     (λ h. cond_both (c == byte ":") (Some (field_state (l ∷ ls) [] [] (body l.host specification false between) (l.front ++ (spelled ps ++ c ∷ [])))) (after_operator (l ∷ ls) ps c (openers_with [] c)) InStringIf
     (λ k is. absurd (cc)) (λ k. after_inside l ls ps c (openers_with [] c)))
 operator_inside l ls ps (b ∷ bs) c = after_inside l ls ps c (openers_with (b ∷ bs) c)
+
+try_inside : (l : Level) (ls : List Level) (ps : List Piece) (bs : List ℕ) (c : ℕ) → InStringIf (field_operator (l ∷ ls) ps bs c)
+unfolding code_operator
+try_inside l ls ps [] c = grind arith
+try_inside l ls ps (b ∷ bs) c = grind arith
 
 started_inside : (l : Level) (ls : List Level) (ps : List Piece) (bs : List ℕ) (c : ℕ) (st : Start) → InStringIf (field_started (l ∷ ls) ps bs c st)
 started_inside l ls ps bs c (Start.Open m) = λ is. absurd (cc)

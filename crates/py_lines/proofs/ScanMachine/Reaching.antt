@@ -93,8 +93,6 @@ stack_openers ps st (inside _ _ b others outer inner a is spell out opens kind p
 
 -- where the machine with fields may end, in no field, the other may, and has found the same
 final_alike : (m : Mode) (done : List Piece) (held os : List ℕ) (t : FieldScanned) → flat m done os held ≡ Some t → Own m (depth_through 0 done) held → t.outer ≡ [] → may_end t.mode ≡ true → (is_final m ≡ true) × (field_pieces t ≡ closed m done held)
-final_alike (Mode.FieldOpened h) done held os t is own none ends = absurd (both_ways _ refl (ap (λ (x : FieldScanned). may_end x.mode) (some_is _ t is) ∙ ends))
-final_alike (Mode.FieldEmpty h) done held os t is own none ends = (refl, ap field_pieces (sym (some_is _ t is)))
 final_alike Mode.Fielded done held os t is own none ends =
     let x : FieldScanned = own.state in
     let whole : rebased done os x ≡ t = some_is _ t (sym (ap (rebased_if done os) own.goes.steps) ∙ is) in

@@ -194,14 +194,10 @@ ends_as : (m : Mode) (done : List Piece) (os held read : List ℕ) → EndsList 
 ends_as m done os held read ends spell = record { spell = ends.spell ∙ spell; fit = ends.fit; strings = strings_shallow 0 (closed m done held) ends.passes }
 
 ends_in : (m : Mode) (done : List Piece) (os held read : List ℕ) (t : FieldScanned) → flat m done os held ≡ Some t → IsFieldSound two_hundred t read → is_final m ≡ true → EndsSound (scanned done m held) read
-ends_in (Mode.FieldOpened h) done os held read t is field may = absurd (both_ways _ refl may)
-ends_in (Mode.FieldEmpty h) done os held read t is field may =
-    let own = field_as t (field_state [] done os (empty (host_in h)) held) read is field in
-    ends_as (Mode.FieldEmpty h) done os held read (list_ends two_hundred [] done os (empty (host_in h)) held read own refl) own.spell
 ends_in Mode.Fielded done os held read t is field may = absurd (both_ways _ refl may)
 ends_in m done os held read t is field may =
-    let own = field_as t (field_state [] done os (plain m) held) read is field in
-    ends_as m done os held read (list_ends two_hundred [] done os (plain m) held read own may) own.spell
+    let own = field_as t _ read is field in
+    ends_as m done os held read (list_ends two_hundred [] done os _ held read own may) own.spell
 
 pub end_sound : (m : Mode) (read : List ℕ) (s : Scanned) (st : List Bracket) → StandsSound m read s st → is_final s.mode ≡ true → EndsSound s read
 end_sound m read s st here may = ends_in s.mode s.done (openers_of st) s.held read here.state here.tied.flat_is here.field may
