@@ -37,9 +37,6 @@ abbrev pub HasNoColonIn : List Level → ℕ → List Piece → Type 0
 HasNoColonIn [] depth ps = Unit {0}
 HasNoColonIn (level ∷ outer) depth ps = HasNoColon depth ps
 
-one_more : (before mid all : List Piece) (p : Piece) (ps : List Piece) → all ≡ mid ++ ps → mid ≡ before ++ p ∷ [] → all ≡ before ++ p ∷ ps
-one_more before mid all p ps others first = others ∙ ap (λ l. l ++ ps) first ∙ append_assoc before (p ∷ []) ps
-
 module _ (Room : ℕ → Type 0) (F : ℕ → Host → List ℕ → Type 0) (begin : (depth : ℕ) → BeginOpen (F depth)) (run : FieldsRun Room F) where
   same_openers : (from : FieldScanned) (text : List ℕ) (ps : List Piece) (after rest : List ℕ) → Some from.openers ≡ Some after → FieldFinds Room from text ps from.openers rest → FieldFinds Room from text ps after rest
   same_openers from text ps after rest is found =
@@ -86,7 +83,7 @@ module _ (Room : ℕ → Type 0) (F : ℕ → Host → List ℕ → Type 0) (beg
         mode = found.mode;
         held = found.held;
         goes = goes-append Room from s (field_state from.outer found.done after found.mode found.held) p.text (spelled ps) first.goes found.goes;
-        pieces_are = one_more (field_pieces from) (field_pieces s) (field_closed found.mode found.done found.held) p ps found.pieces_are first.pieces_are;
+        pieces_are = simp (found.pieces_are, first.pieces_are, append_assoc);
         stops = found.stops;
       }
     where

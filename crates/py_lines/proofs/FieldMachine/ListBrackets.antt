@@ -17,8 +17,7 @@ openers_through-append (Some os) (p ∷ ps) qs = openers_through-append (openers
 
 pub opening_pushes : (os : List ℕ) (c : ℕ) → is_opening c ≡ true → openers_with os c ≡ Some (c ∷ os)
 unfolding openers_with
-opening_pushes [] c h = rw h
-opening_pushes (o ∷ os) c h = rw h
+opening_pushes os c h = grind arith
 
 pub closing_pops : (o : ℕ) (os : List ℕ) (c : ℕ) → is_closing c ≡ true → c == closing_of o ≡ true → openers_with (o ∷ os) c ≡ Some os
 unfolding openers_with
@@ -26,20 +25,17 @@ closing_pops o os c h kind = rw (closing-not-opening c h, h, kind)
 
 pub others_keep : (os : List ℕ) (c : ℕ) → is_opening c ≡ false → is_closing c ≡ false → openers_with os c ≡ Some os
 unfolding openers_with
-others_keep [] c h k = rw (h, k)
-others_keep (o ∷ os) c h k = rw (h, k)
+others_keep os c h k = grind arith
 
 no_character : (os : List ℕ) → openers_with os 0 ≡ Some os
 unfolding is_opening is_closing
 no_character os = others_keep os 0 refl refl
 
 pub opener_pushes : (os : List ℕ) (class : Class) (text : List ℕ) → is_operator_that is_opening class text ≡ true → openers_by os class text ≡ Some (first_or_zero text ∷ os)
-opener_pushes os operator [] h = absurd (both_ways _ refl h)
 opener_pushes os operator (c ∷ cs) h = opening_pushes os c h
-opener_pushes os other text h = absurd (both_ways _ refl h)
+opener_pushes os class text h = absurd (both_ways _ refl h)
 
 closer_pops : (o : ℕ) (os : List ℕ) (class : Class) (text : List ℕ) → is_operator_that is_closing class text ≡ true → first_or_zero text == closing_of o ≡ true → openers_by (o ∷ os) class text ≡ Some os
-closer_pops o os operator [] h kind = absurd (both_ways _ refl h)
 closer_pops o os operator (c ∷ cs) h kind = closing_pops o os c h kind
 closer_pops o os other text h kind = absurd (both_ways _ refl h)
 

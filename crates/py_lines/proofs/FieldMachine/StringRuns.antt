@@ -208,11 +208,9 @@ module _ (Room : ℕ → Type 0) (from : FieldScanned) where
         let quotes = quotes_of host in
         let q = host.quote in
         let front : List ℕ = is.prefix ++ (quotes ++ joined is.parts) in
-        let whole : front ++ quotes ≡ text =
-        append_assoc is.prefix (quotes ++ joined is.parts) quotes ∙ ap (λ t. is.prefix ++ t) (append_assoc quotes (joined is.parts) quotes) ∙ sym is.spell in
+        let whole : front ++ quotes ≡ text = simp (is.spell, append_assoc) in
         let begin_quotes = quotes_begin host in
-        let first : text ++ rest ≡ is.prefix ++ q ∷ ((begin_quotes.0 ++ (joined is.parts ++ quotes)) ++ rest) =
-        ap (λ t. t ++ rest) (is.spell ∙ ap (λ t. is.prefix ++ (t ++ (joined is.parts ++ quotes))) begin_quotes.1) ∙ append_assoc is.prefix (q ∷ (begin_quotes.0 ++ (joined is.parts ++ quotes))) rest in
+        let first : text ++ rest ≡ is.prefix ++ q ∷ ((begin_quotes.0 ++ (joined is.parts ++ quotes)) ++ rest) = simp (is.spell, begin_quotes.1, append_assoc) in
         let run = literal_goes host is.prefix is.parts quotes _ ((q ∷ []) ∷ (q ∷ []) ∷ []) is.begun is.raw is.opens is.each is.first (subst (StopsAt from.mode from.held) first stops) in
         subst (λ t. FieldFinds Room from t (piece string t ∷ []) from.openers rest) whole
         (ends_found G host.is_long q host.is_raw (named_through false is.parts) run.mode front rest run.goes run.stands is.opens (subst (λ t. MayPrecedeIn (with_fields G) string t rest) (sym whole) before))

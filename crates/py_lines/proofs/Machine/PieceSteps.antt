@@ -161,12 +161,7 @@ found_open from class text rest c cs m is starts_as ends stops = subst (λ t. Fi
     }
     go (ends_at n front d cut grown shape closing) =
         found_fresh from class (c ∷ cs) rest
-        (begun
-        ∙ ap (steps_from (Some (scanned done m (c ∷ [])))) cut
-        ∙ steps_by-append move_from (Some (scanned done m (c ∷ []))) front (d ∷ [])
-        ∙ ap (λ o. steps_from o (d ∷ [])) (grown-steps done m n (c ∷ []) front grown)
-        ∙ closes done n (c ∷ front) d closing
-        ∙ ap (λ k. Some (fresh (done ++ piece k (c ∷ (front ++ d ∷ [])) ∷ []))) shape ∙ ap (λ t. Some (fresh (done ++ piece class (c ∷ t) ∷ []))) (sym cut))
+        (rw (begun, cut, steps_by-append move_from, grown-steps done m n (c ∷ []) front grown, closes done n (c ∷ front) d closing, shape))
 
 -- whether a word is open
 abbrev pub is_word_mode : Mode → Bool

@@ -187,8 +187,7 @@ pub long_ends : (q : ℕ) (items : List (List ℕ)) (rest : List ℕ) → is_quo
 unfolding move_of
 long_ends q items rest quotes each triple =
     let all = items ++ (q ∷ []) ∷ (q ∷ []) ∷ [] in
-    let cut : joined items ++ q ∷ q ∷ q ∷ [] ≡ joined all ++ q ∷ [] =
-    sym (ap (λ t. t ++ q ∷ []) (joined-append items ((q ∷ []) ∷ (q ∷ []) ∷ [])) ∙ append_assoc (joined items) (q ∷ q ∷ []) (q ∷ [])) in
+    let cut : joined items ++ q ∷ q ∷ q ∷ [] ≡ joined all ++ q ∷ [] = simp (joined-append, append_assoc) in
     let seen : seen_after q none all ≡ two = seen_after-append q none items ((q ∷ []) ∷ (q ∷ []) ∷ []) ∙ two_quotes q (seen_after q none items) in
     let run = grown-long q none all quotes (list_all-append is_item items ((q ∷ []) ∷ (q ∷ []) ∷ []) ∙ and_from _ _ each (quotes_items q quotes)) triple in
     ends_at (Mode.LongTwo q) (q ∷ q ∷ joined all) q (ap (λ t. q ∷ q ∷ t) cut) (grown-opening q (joined all) (Mode.LongTwo q) (subst (λ s. Grown (Mode.Long q) (joined all) (mode_at q s)) seen run)) refl (rw (eq-eqb q q refl))

@@ -23,31 +23,14 @@ abbrev pub InStringIf : Option FieldScanned → Type 0
 InStringIf None = Unit {0}
 InStringIf (Some t) = IsInString t
 
-ended_inside : (l : Level) (ls : List Level) (text : List ℕ) → IsInString (field_ended l ls text)
-ended_inside l ls text is = (l.host, l.place, false, between, refl)
-
-after_inside : (l : Level) (ls : List Level) (ps : List Piece) (c : ℕ) (o : Option (List ℕ)) → InStringIf (after_operator (l ∷ ls) ps c o)
-after_inside l ls ps c None = tt
-after_inside l ls ps c (Some bs) = λ is. absurd (cc)
-
 operator_inside : (l : Level) (ls : List Level) (ps : List Piece) (bs : List ℕ) (c : ℕ) → InStringIf (field_operator (l ∷ ls) ps bs c)
 unfolding code_operator
-operator_inside l ls ps [] c =
-    cond_both (c == byte "}") (Some (field_ended l ls (l.front ++ (spelled ps ++ c ∷ [])))) _ InStringIf (λ h. ended_inside l ls (l.front ++ (spelled ps ++ c ∷ [])))
-    (λ h. cond_both (c == byte ":") (Some (field_state (l ∷ ls) [] [] (body l.host specification false between) (l.front ++ (spelled ps ++ c ∷ [])))) (after_operator (l ∷ ls) ps c (openers_with [] c)) InStringIf
-    (λ k is. absurd (cc)) (λ k. after_inside l ls ps c (openers_with [] c)))
-operator_inside l ls ps (b ∷ bs) c = after_inside l ls ps c (openers_with (b ∷ bs) c)
-
-try_inside : (l : Level) (ls : List Level) (ps : List Piece) (bs : List ℕ) (c : ℕ) → InStringIf (field_operator (l ∷ ls) ps bs c)
-unfolding code_operator
-try_inside l ls ps [] c = grind arith
-try_inside l ls ps (b ∷ bs) c = grind arith
+operator_inside l ls ps [] c = grind arith
+operator_inside l ls ps (b ∷ bs) c = grind arith
 
 started_inside : (l : Level) (ls : List Level) (ps : List Piece) (bs : List ℕ) (c : ℕ) (st : Start) → InStringIf (field_started (l ∷ ls) ps bs c st)
-started_inside l ls ps bs c (Start.Open m) = λ is. absurd (cc)
 started_inside l ls ps bs c Start.Operator = operator_inside l ls ps bs c
-started_inside l ls ps bs c Start.LineEnd = λ is. absurd (cc)
-started_inside l ls ps bs c Start.Nothing = tt
+started_inside l ls ps bs c st = grind arith
 
 -- what does not end the string leaves it open
 abbrev pub KeepsString : List Level → FieldMove → Type 0
@@ -57,14 +40,8 @@ KeepsString [] breaks = ⊥
 KeepsString outer move = Unit {0}
 
 pub moved_inside : (outer : List Level) (ps : List Piece) (bs : List ℕ) (m : FieldMode) (held : List ℕ) (c : ℕ) (v : FieldMove) → KeepsString outer v → InStringIf (field_moved (field_state outer ps bs m held) c v)
-moved_inside [] ps bs m held c (grows n) keeps = λ is. keeps
-moved_inside [] ps bs m held c closes keeps = absurd keeps
-moved_inside [] ps bs m held c breaks keeps = absurd keeps
 moved_inside [] ps bs m held c (begins_code host) keeps = started_inside (opened_level (field_state [] ps bs m held) host literal held) [] [] [] c (start_of c)
-moved_inside [] ps bs m held c (opens_field host) keeps = λ is. absurd (cc)
-moved_inside [] ps bs m held c v keeps = tt
+moved_inside [] ps bs m held c v keeps = grind arith
 moved_inside (l ∷ ls) ps bs m held c breaks keeps = started_inside l ls (field_closed m ps held) bs c (start_of c)
 moved_inside (l ∷ ls) ps bs m held c (begins_code host) keeps = started_inside (opened_level (field_state (l ∷ ls) ps bs m held) host literal held) (l ∷ ls) [] [] c (start_of c)
-moved_inside (l ∷ ls) ps bs m held c ends_field keeps = ended_inside l ls (held ++ c ∷ [])
-moved_inside (l ∷ ls) ps bs m held c refused keeps = tt
-moved_inside (l ∷ ls) ps bs m held c v keeps = λ is. absurd (cc)
+moved_inside (l ∷ ls) ps bs m held c v keeps = grind arith

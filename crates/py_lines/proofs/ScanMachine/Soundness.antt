@@ -1,6 +1,6 @@
 -- Where the scanning machine has come from a line's start, the machine with fields stands with it, and tells what is sound: the pieces that were
 -- found spell what was read, and are read before whatever follows; no string among them opens a bracket or a field at depth 200.
-use Rattle.std.proofs.Common.{◌≡◌, ℕ, Bool, true, false, Option, None, Some, List, [], ◌∷◌, ◌++◌, refl, sym, ap, ◌∙◌, subst, append_assoc, append-nil}
+use Rattle.std.proofs.Common.{◌≡◌, ℕ, Bool, true, false, Option, None, Some, List, [], ◌∷◌, ◌++◌, refl, sym, ap, ◌∙◌, subst, append_assoc, append-nil, arith}
 use Rattle.std.proofs.lemmas.Bool.{and_from, both_ways}
 use Rattle.py_lines.specs.Piece.{Piece, spelled}
 use Rattle.py_lines.specs.Balance.{depth_through}
@@ -159,16 +159,8 @@ start_sound Mode.Free holds start = record {
   field = record { spell = refl; mode = (refl, λ at. absurd (cc)); list = (field_soundness.start_is_sound two_hundred).list; levels = tt; start = tt };
   scan = start;
 }
-start_sound Mode.Space holds start = let stuck = holds.0.2 in absurd (cc)
-start_sound (Mode.Word s) holds start = let stuck = holds.0.2 in absurd (cc)
-start_sound Mode.Comment holds start = let stuck = holds.0.2 in absurd (cc)
-start_sound Mode.Backslash holds start = let stuck = holds.0.1 in absurd (cc)
-start_sound Mode.JoinReturn holds start = let stuck = holds.0.2 in absurd (cc)
-start_sound Mode.Return holds start = let stuck = holds.0.1 in absurd (cc)
-start_sound (Mode.FieldOpened h) holds start = let stuck = ap (λ (t : FieldScanned). t.mode) (some_is _ _ holds) in absurd (cc)
-start_sound (Mode.FieldEmpty h) holds start = let stuck = ap (λ (t : FieldScanned). t.mode) (some_is _ _ holds) in absurd (cc)
-start_sound Mode.Fielded holds start = let is = some_is field_text_start holds.state holds.steps in let stuck = (holds.inside (ap (λ (t : FieldScanned). t.outer) (sym is))).4 in absurd (cc)
-start_sound string_mode holds start = let plain = holds.1 refl in absurd (not_empty plain.prefix plain.quote plain.body plain.spell)
+start_sound Mode.Space holds start = absurd (grind (arith, not_empty))
+start_sound m holds start = absurd (grind (arith, not_empty))
 
 -- where the machine goes to from a line's start is sound
 pub stands_sound : (m : Mode) (cs : List ℕ) (s : Scanned) (st : List Bracket) → IsScanSound (line_start m) [] → GoesTo (line_start m) cs s st → StandsSound m cs s st
