@@ -3,6 +3,7 @@ use Rattle.std.proofs.Common.{◌≡◌, ℕ, Bool, true, false, not, ◌&&◌, 
 use Rattle.std.specs.Prelude.{if◌then◌else◌}
 use Rattle.std.proofs.Math.Bool.{and-true}
 use Rattle.std.proofs.lemmas.Bool.{eq-eqb, eqb-true, or_right, and_right, and_from}
+use Rattle.std.proofs.lemmas.Bool.Decides.{nat_tests}
 use Rattle.py_lines.specs.Character.{is_quote, is_line_feed, is_return, is_break, is_backslash, is_barred, is_brace}
 use Rattle.py_lines.specs.Piece.{Piece, begins}
 use Rattle.py_lines.specs.PieceGrammar.{joined, has_triple}
@@ -84,21 +85,14 @@ no_break_in_short : (host : Host) (c : ℕ) → eqb c host.quote ≡ false → m
 unfolding is_barred is_break
 no_break_in_short host c other stands = grind arith
 
-may_escape : (host : Host) (place : Place) (c : ℕ) → may_be_escaped host place c ≡ true → is_barred_escape host place c ≡ false
-may_escape host literal c may = refl
-may_escape host specification c may = grind arith
-
 quote_in_long : (host : Host) → may_stand host host.quote ≡ true → host.is_long ≡ true
 unfolding is_barred
 quote_in_long host stands = grind (arith, eq-eqb host.quote host.quote refl)
 
--- after a backslash
-escaped : (host : Host) (place : Place) (named : Bool) (held : List ℕ) (c : ℕ) → is_brace c ≡ false → may_be_escaped host place c ≡ true → field_move (body host place named after_slash) held c ≡ (if is_return c then grows (body host place named after_return) else (if names host c then grows (body host place named after_name) else grows (body host place named between)))
-unfolding field_move body_move escape_move
-escaped host place named held c no_brace may = rw (no_brace, may_escape host place c may)
-
+-- a backslash and another character
 pub other_escaped : (host : Host) (place : Place) (named : Bool) (held : List ℕ) (c : ℕ) → is_brace c ≡ false → may_be_escaped host place c ≡ true → is_return c ≡ false → names host c ≡ false → field_move (body host place named after_slash) held c ≡ grows (body host place named between)
-other_escaped host place named held c no_brace may other no_name = escaped host place named held c no_brace may ∙ rw (other, no_name)
+unfolding field_move body_move escape_move
+other_escaped host place named held c no_brace may other no_name = grind arith
 
 pub second_brace : (host : Host) (place : Place) (named : Bool) (held : List ℕ) → field_move (body host place named after_brace) held 123 ≡ grows (body host place named between)
 unfolding field_move body_move
@@ -113,12 +107,6 @@ pub open_moves : (host : Host) (place : Place) (at : At) → is_quote host.quote
 unfolding between_move is_backslash is_break
 open_moves host place at quotes = rw (not_quote 123 host.quote quotes open_no_quote)
 
--- what isn't a quote of the string
-name_may : (host : Host) (place : Place) (c : ℕ) → names host c ≡ true → may_be_escaped host place c ≡ true
-unfolding is_break
-name_may host literal c h = refl
-name_may host specification c h = subst (λ x. host.is_long || not (is_break x) ≡ true) (sym (names_is host c h)) (or_right host.is_long true refl)
-
 pub quote_no_end : (q : ℕ) → is_quote q ≡ true → eqb q 125 ≡ false
 unfolding is_quote
 quote_no_end q quotes = none_of (λ d. eqb d 125) (39 ∷ 34 ∷ []) q refl quotes
@@ -127,25 +115,10 @@ quote_no_end q quotes = none_of (λ d. eqb d 125) (39 ∷ 34 ∷ []) q refl quot
 quote_unnamed : (named : Bool) (q : ℕ) → is_quote q ≡ true → named_after named (q ∷ []) ≡ named
 quote_unnamed named q quotes = ap (λ b. named && not b) (quote_no_end q quotes) ∙ and-true named
 
-slash_unnamed : (named : Bool) (s : ℕ) → is_backslash s ≡ true → named_after named (s ∷ []) ≡ named
-unfolding is_backslash
-slash_unnamed named s slashes = ap (λ b. named && not b) (none_of (λ d. eqb d 125) (92 ∷ []) s refl slashes) ∙ and-true named
-
-return_unnamed : (named : Bool) (s r f : ℕ) → is_return r ≡ true → named_after named (s ∷ r ∷ f ∷ []) ≡ named
-unfolding is_return
-return_unnamed named s r f returns =
-    ap (λ b. named || (is_backslash s && b)) (none_of (λ d. eqb d 78) (13 ∷ []) r refl returns) ∙ kept_or named (is_backslash s && false) (and_right _ _ refl)
-
-name_named : (host : Host) (named : Bool) (s c b : ℕ) → is_backslash s ≡ true → names host c ≡ true → named_after named (s ∷ c ∷ b ∷ []) ≡ true
-name_named host named s c b slashes is_name =
-    subst (λ x. named || (is_backslash s && (x == 78)) ≡ true) (sym (names_is host c is_name)) (or_right named _ (and_from (is_backslash s) true slashes refl))
-
 pub field_unnamed : (rest : List ℕ) → named_after false (123 ∷ rest) ≡ false
 unfolding is_backslash
-field_unnamed [] = refl
-field_unnamed (c ∷ []) = refl
 field_unnamed (c ∷ d ∷ []) = refl
-field_unnamed (c ∷ d ∷ e ∷ cs) = refl
+field_unnamed rest = refl
 
 -- a part by each character of which the string's text grows, and other parts or the string's end may follow
 record PartGrows (host : Host) (place : Place) (named after : Bool) (at : At) (part rest : List ℕ) (tail : List (List ℕ)) : Type 0 where
@@ -192,40 +165,42 @@ module _ (host : Host) (place : Place) (named : Bool) (at : At) (rest : List ℕ
       record { to = to; grown = grown here; on = goes_on_so host place _ to rest may; open_yet = ap (λ l. has_triple host.quote (l ++ tail)) none ∙ later_triple host.quote (quotes_seen host.quote at) part tail open_yet }
 
   slash_passes : (s : ℕ) → is_backslash s ≡ true → begins is_brace rest ≡ true → Passes host place named at rest tail (s ∷ [])
-  slash_passes s slashes braces = passes_to (s ∷ []) after_slash refl braces (λ here. slash_then [] s _ slashes here (ap (λ n. body host place n after_slash) (sym (slash_unnamed named s slashes))))
+  unfolding is_backslash
+  slash_passes s slashes braces = passes_to (s ∷ []) after_slash refl braces (λ here. slash_then [] s _ slashes here (grind (arith, nat_tests)))
 
   -- a backslash and a character that is no brace
   escape_passes : (s c : ℕ) → is_backslash s ≡ true → is_brace c ≡ false → may_be_escaped host place c ≡ true → names host c && begins_open rest ≡ false → is_return c && begins is_line_feed rest ≡ false → Passes host place named at rest tail (s ∷ c ∷ [])
+  unfolding field_move body_move escape_move
   escape_passes s c slashes brace may none ended = go (is_return c) (names host c) refl refl
     where
       by : (to : At) → quotes_seen host.quote to ≡ [] → MayFollow to rest → ((held : List ℕ) → field_move (body host place named after_slash) held c ≡ grows (body host place named to)) → Passes host place named at rest tail (s ∷ c ∷ [])
       by to seen follows moves = passes_to (s ∷ c ∷ []) to seen follows (λ here. slash_then (c ∷ []) s _ slashes here (body host place named to, moves, refl))
 
       go : (r n : Bool) → is_return c ≡ r → names host c ≡ n → Passes host place named at rest tail (s ∷ c ∷ [])
-      go true n returns is_name = by after_return refl (rw returns at ended) (λ held. escaped host place named held c brace may ∙ rw returns)
-      go false true other is_name = by after_name refl (rw is_name at none) (λ held. escaped host place named held c brace may ∙ rw (other, is_name))
-      go false false other no_name = by between refl tt (λ held. other_escaped host place named held c brace may other no_name)
+      go true n returns is_name = by after_return refl (rw returns at ended) (λ held. grind arith)
+      go false true other is_name = by after_name refl (rw is_name at none) (λ held. grind arith)
+      go false false other no_name = by between refl tt (λ held. grind arith)
 
   -- a backslash, CR and LF
   end_passes : (s r f : ℕ) → is_backslash s ≡ true → is_return r ≡ true → is_line_feed f ≡ true → may_be_escaped host place r ≡ true → Passes host place named at rest tail (s ∷ r ∷ f ∷ [])
-  unfolding field_move body_move
+  unfolding field_move body_move escape_move is_return
   end_passes s r f slashes returns feeds may =
       passes_to (s ∷ r ∷ f ∷ []) between refl tt (λ here.
       slash_then (r ∷ f ∷ []) s _ slashes here (
         body host place named after_return,
-        λ held. escaped host place named held r (return-not-brace r returns) may ∙ rw returns,
-        (body host place named between, λ held. rw feeds, ap (λ n. body host place n between) (sym (return_unnamed named s r f returns))),
+        λ held. grind (arith, return-not-brace r returns),
+        (body host place named between, λ held. rw feeds, grind (arith, nat_tests)),
       ))
 
   -- `\N{`
   name_passes : (s c : ℕ) → is_backslash s ≡ true → names host c ≡ true → Passes host place named at rest tail (s ∷ c ∷ 123 ∷ [])
-  unfolding field_move body_move
+  unfolding field_move body_move escape_move is_break is_brace is_return
   name_passes s c slashes is_name =
       passes_to (s ∷ c ∷ 123 ∷ []) between refl tt (λ here.
       slash_then (c ∷ 123 ∷ []) s _ slashes here (
         body host place named after_name,
-        λ held. escaped host place named held c (name-not-brace host c is_name) (name_may host place c is_name) ∙ rw (name-not-return host c is_name, is_name),
-        (body host place true between, λ held. refl, ap (λ n. body host place n between) (sym (name_named host named s c 123 slashes is_name))),
+        λ held. grind (arith, names_is host c is_name),
+        (body host place true between, λ held. refl, grind (arith, names_is host c is_name)),
       ))
 
 -- `{{`
@@ -261,14 +236,11 @@ module _ (Room : ℕ → Type 0) (outer : List Level) (done : List Piece) (opene
       let head = begin host part is in
       record {
         to = between;
-        goes = goes-to Room _ _ _ part (go host place at held part is quotes single (first head.0 head.1 part head.2 here))
+        goes = goes-to Room _ _ _ part (go host place at held part is quotes single (rw head.2 (rw head.2 at here)))
             (ap (λ n. within (body host place n between) (held ++ part)) (sym (subst (λ t. named_after false t ≡ false) (sym head.2) (field_unnamed (head.0 ∷ head.1)))));
         on = goes_on host place _ rest;
         open_yet = later_triple host.quote (quotes_seen host.quote at) part tail open_yet;
       }
-    where
-      first : (c : ℕ) (cs t : List ℕ) → t ≡ 123 ∷ c ∷ cs → MayGoOn host place false at (t ++ rest) → MayGoOn host place false at t
-      first c cs t so on = subst (MayGoOn host place false at) (sym so) (subst (λ x. MayGoOn host place false at (x ++ rest)) so on)
 
   -- a part
   part_goes : (F : Host → List ℕ → Type 0) → BeginOpen F → FieldsGo F → (host : Host) (place : Place) (named : Bool) (at : At) (held part rest : List ℕ) (tail : List (List ℕ)) → is_quote host.quote ≡ true → MayGoOn host place named at (part ++ rest) → has_triple host.quote (quotes_seen host.quote at ++ part ∷ tail) ≡ false → IsPart F host place named part rest → PartGoes host place named (named_after named part) at held part rest tail
