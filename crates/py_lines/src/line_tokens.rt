@@ -4,10 +4,11 @@ ghost use Rattle.std.specs.Prelude.{◌≡◌, ℕ, ◌+◌, ◌<◌, ◌^◌, t
 ghost use Rattle.std.specs.Char.{is_ascii_digit};
 ghost use Rattle.py_lines.specs.Character.{is_quote, is_space};
 ghost use Rattle.py_lines.specs.Piece.{Piece, begins};
-ghost use Rattle.py_lines.specs.Private.Run.{IsRunOf, is_wide_word};
+ghost use Rattle.py_lines.specs.Private.Run.{IsRunOf, is_wide_word, word_spelling};
+ghost use Rattle.py_lines.specs.Private.ScanMachine.{is_field_spelling};
 ghost use Rattle.py_lines.specs.Private.LineTokens.{AddsPiece, BeginWithPiece, BeginWithString, HaveRead};
 ghost use Rattle.py_lines.specs.Private.LineTokens.{HoldsTokens, IsFirstPiece, IsFirstString, IsLineText};
-ghost use Rattle.py_lines.specs.Private.LineTokens.{ends_prefix, is_plain_word, kind_with, line_end_len, mark_len, token_piece, word_kind};
+ghost use Rattle.py_lines.specs.Private.LineTokens.{ends_prefix, is_prefix_word, kind_with, line_end_len, mark_len, token_piece, word_kind};
 
 use crate::character::{is_line_feed, is_quote, is_return, is_space};
 use crate::class::Class;
@@ -80,21 +81,30 @@ fn scanned_string(scan: &mut Scan, bytes: &[u8]) -> LinePiece
     }
 }
 
-/// The string without fields that the bytes begin with, whose prefix has so many of them, or none.
-fn string(scan: &mut Scan, bytes: &[u8], prefix: usize) -> LinePiece
+/// The string that the bytes begin with, with fields or without, whose prefix has so many of them, or none. Where it is simple, it is
+/// passed at once.
+fn string(scan: &mut Scan, bytes: &[u8], prefix: usize, has_fields: bool) -> LinePiece
     requires quote { begins is_quote (drop prefix bytes.now) ≡ true }
-    requires plain { is_plain_word (take prefix bytes.now) ≡ true }
+    requires prefix { is_prefix_word (take prefix bytes.now) ≡ true }
+    requires fields { has_fields ≡ is_field_spelling (word_spelling (take prefix bytes.now)) }
     requires string { BeginWithString bytes.now }
     ensures { IsFirstString bytes.now result }
 {
-    match plain_string(&bytes[prefix..]) {
-        Some(quoted) if quoted.len > 2 => LinePiece {
-            role: Role::Token(TokKind::Str),
-            len: prefix + quoted.len,
-            line_ends: quoted.line_ends,
-        },
-        _ => scanned_string(scan, bytes),
+    let quoted = &bytes[prefix..];
+    if has_fields {
+        if let Some(len) = quoted_text_len(quoted) {
+            return LinePiece::token(TokKind::Str, prefix + len);
+        }
+    } else if let Some(passed) = plain_string(quoted) {
+        if passed.len > 2 {
+            return LinePiece {
+                role: Role::Token(TokKind::Str),
+                len: prefix + passed.len,
+                line_ends: passed.line_ends,
+            };
+        }
     }
+    scanned_string(scan, bytes)
 }
 
 /// Whether the first bytes, so many of them, are the prefix of a string, whose quote follows.
@@ -105,22 +115,6 @@ fn ends_prefix(bytes: &[u8], len: usize) -> bool
     len < bytes.len()
         && is_quote(bytes[len] as char)
         && Spelling::of_word(&bytes[..len]).is_prefix()
-}
-
-/// The string that the bytes begin with, whose prefix has so many of them.
-fn prefixed_string(scan: &mut Scan, bytes: &[u8], prefix: usize) -> LinePiece
-    requires prefix { ends_prefix bytes.now prefix ≡ true }
-    requires some { 0 < prefix }
-    requires string { BeginWithString bytes.now }
-    ensures { IsFirstString bytes.now result }
-{
-    if !Spelling::of_word(&bytes[..prefix]).has_fields() {
-        return string(scan, bytes, prefix);
-    }
-    match quoted_text_len(&bytes[prefix..]) {
-        Some(len) => LinePiece::token(TokKind::Str, prefix + len),
-        None => scanned_string(scan, bytes),
-    }
 }
 
 /// The kind of a word that begins with this byte.
@@ -142,7 +136,8 @@ fn word_or_string(scan: &mut Scan, bytes: &[u8]) -> LinePiece
 {
     let len = ByteRun::WideWord.len_in(bytes);
     if ends_prefix(bytes, len) {
-        prefixed_string(scan, bytes, len)
+        let has_fields = Spelling::of_word(&bytes[..len]).has_fields();
+        string(scan, bytes, len, has_fields)
     } else {
         LinePiece::token(word_kind(bytes[0]), len)
     }
@@ -168,7 +163,7 @@ fn first_piece(scan: &mut Scan, bytes: &[u8]) -> LinePiece
     let first = bytes[0];
     match Class::of(first) {
         Class::Word | Class::Wide => word_or_string(scan, bytes),
-        Class::Quote => string(scan, bytes, 0),
+        Class::Quote => string(scan, bytes, 0, false),
         Class::Operator | Class::Opening | Class::Closing => {
             LinePiece::token(TokKind::Op(first), 1)
         }

@@ -21,7 +21,7 @@ use Rattle.py_lines.specs.declared.line_tokens.LinePiece.{LinePiece}
 use Rattle.py_lines.specs.declared.class.Class.TheVariants as class
 use Rattle.py_lines.specs.declared.token.TokKind.{TokKind}
 use Rattle.py_lines.specs.Private.Run.{IsRunOf, is_comment_byte, is_ascii_word, is_wide_word, word_spelling}
-use Rattle.py_lines.specs.Private.LineTokens.{BeginWithPiece, IsTakenFor, line_end_len, role_of, token_piece, ends_prefix, word_kind}
+use Rattle.py_lines.specs.Private.LineTokens.{BeginWithPiece, IsTakenFor, line_end_len, role_of, token_piece, ends_prefix, is_prefix_word, word_kind}
 use Rattle.py_lines.specs.Private.ScanMachine.{begins_string}
 use Rattle.py_lines.proofs.Text.CharacterTests.{Each, feed_is, operator_ascii, none_of}
 use Rattle.py_lines.proofs.Text.Utf8Shapes.{one}
@@ -279,6 +279,10 @@ first_byte passes (b ∷ bs) h = h
 -- where bytes are cut that begin with these
 cut_at : (bytes xs ys : List ℕ) (n : ℕ) → bytes ≡ xs ++ ys → n ≡ length xs → (take n bytes ≡ xs) × (drop n bytes ≡ ys)
 cut_at bytes xs ys n is size = rw (is, size) (take-append_seam xs ys, drop-append_seam xs ys)
+
+pub prefix_word : (word : List ℕ) → begins_string (word_spelling word) ≡ true → is_prefix_word word ≡ true
+prefix_word [] begun = refl
+prefix_word (c ∷ cs) begun = begun
 
 -- the spelling of the word
 prefix_told : (prefix : List ℕ) (c : ℕ) (cs : List ℕ) → prefix ≡ c ∷ cs

@@ -28,7 +28,7 @@ use Rattle.py_lines.specs.Private.Machine.{Scanned, fresh, text_start, class_of,
 use Rattle.py_lines.specs.Private.ScanMachine.{HoldsOpen, IsScanSound, StringsFit, fielded_move, has_room_in, meet_of, move_at, move_in, scan_step, scan_steps, string_move, string_state, begins_string as opens_string, is_field_spelling}
 use Rattle.py_lines.specs.Private.Scan.{Tallies, IsStacked, Takes, TakesNext, is_return_mode, none_open, stack_if, stack_of, line_start}
 use Rattle.py_lines.specs.Private.Run.{BeginsWith, HoldsRun, Reached, is_free, word_spelling}
-use Rattle.py_lines.specs.Private.LineTokens.{AreTextAt, BeginWithPiece, IsFirstString, ends_prefix, is_plain_word, role_of, string_piece, token_piece}
+use Rattle.py_lines.specs.Private.LineTokens.{AreTextAt, BeginWithPiece, IsFirstString, is_prefix_word, role_of, string_piece, token_piece}
 use Rattle.py_lines.specs.Private.FieldText.{IsQuotedText}
 use Rattle.py_lines.specs.Private.Outline.{BeforePiece, HasClosedString, HasString, IsInPieceAfter, Passes, PassesString, StringBegins, StringEnds}
 use Rattle.py_lines.proofs.Text.Incomplete.{text_none}
@@ -487,21 +487,14 @@ quote_within bs k h =
 pub quote_of_rest : (bytes : List ℕ) (n : ℕ) → begins is_quote (drop n bytes) ≡ true → is_quote (slice_index (rest_of bytes n) 0) ≡ true
 quote_of_rest bytes n quotes = ap (λ t. is_quote (slice_index t 0)) (rest_is bytes n) ∙ first_byte is_quote (drop n bytes) quotes
 
-pub plain_word : (word : List ℕ) → is_field_spelling (word_spelling word) ≡ false → opens_string (word_spelling word) ≡ true → is_plain_word word ≡ true
-plain_word [] field begins = refl
-plain_word (c ∷ cs) field begins = rw field begins
+-- a string that was passed, after a prefix or none
+word_low : (word : List ℕ) → is_prefix_word word ≡ true → encode_utf8_all word ≡ word
+word_low [] is = refl
+word_low (c ∷ cs) is = (low_encodes is_low (c ∷ cs) low_is (prefix_low (c ∷ cs) is)).0
 
--- a string without fields that was passed, after a prefix or none
-plain_starts : (f b : Bool) → (if f then false else b) ≡ true → b ≡ true
-plain_starts true b h = absurd (both_ways _ refl h)
-plain_starts false b h = h
-
-word_low : (word : List ℕ) → is_plain_word word ≡ true → encode_utf8_all word ≡ word
-word_low [] plain = refl
-word_low (c ∷ cs) plain = (low_encodes is_low (c ∷ cs) low_is (prefix_low (c ∷ cs) (plain_starts _ _ plain))).0
-
-begins_after : (q : ℕ) (word : List ℕ) → is_quote q ≡ true → is_plain_word word ≡ true → StringBegins q start word 0 []
-begins_after q [] quote plain = record {
+begins_after : (q : ℕ) (word : List ℕ) → is_quote q ≡ true → is_prefix_word word ≡ true → is_field_spelling (word_spelling word) ≡ false
+    → StringBegins q start word 0 []
+begins_after q [] quote is plain = record {
   held = q ∷ [];
   come = record {
     start = begun_sound 1;
@@ -512,9 +505,7 @@ begins_after q [] quote plain = record {
   };
   unreturned = one_unreturned [] q (quote-no_break q quote);
 }
-begins_after q (c ∷ cs) quote plain =
-    let on = in_prefix c cs (plain_starts _ _ plain) in
-    after_word q quote (spelling_on (first_spelling c) cs) start (c ∷ cs) 0 [] plain on
+begins_after q (c ∷ cs) quote is plain = after_word q quote (spelling_on (first_spelling c) cs) start (c ∷ cs) 0 [] (rw (plain, is)) (in_prefix c cs is)
 
 -- a string that was passed after its prefix, or with none, from where it begins so
 string_taken : {begins : BeforePiece → List ℕ → ℕ → List Bracket → Type 0} (bytes : List ℕ) (n : ℕ) (p : Passed) → n ≤ length bytes → 2 < p.len → encode_utf8_all (take n bytes) ≡ take n bytes
@@ -544,24 +535,22 @@ string_taken {begins} bytes n p within some low has begun q string_is first =
       line_ends = omega (arith, ap line_ends same, ended.come.holds.count);
     }
 
-pub plain_taken : (bytes : List ℕ) (n : ℕ) (p : Passed) → begins is_quote (drop n bytes) ≡ true
-    → is_plain_word (take n bytes) ≡ true → 2 < p.len → HasString (drop n bytes) (Some p)
+-- one without fields
+pub plain_taken : (bytes : List ℕ) (n : ℕ) (p : Passed) → begins is_quote (drop n bytes) ≡ true → is_prefix_word (take n bytes) ≡ true
+    → is_field_spelling (word_spelling (take n bytes)) ≡ false → 2 < p.len → HasString (drop n bytes) (Some p)
     → IsFirstString bytes (string_piece (n + p.len) p.line_ends)
-plain_taken bytes n p quotes plain some has =
-    string_taken bytes n p (quote_within bytes n quotes) some (word_low (take n bytes) plain) has
-    (begins_after (slice_index (drop n bytes) 0) (take n bytes) (first_byte is_quote (drop n bytes) quotes) plain)
+plain_taken bytes n p quotes is plain some has =
+    string_taken bytes n p (quote_within bytes n quotes) some (word_low (take n bytes) is) has
+    (begins_after (slice_index (drop n bytes) 0) (take n bytes) (first_byte is_quote (drop n bytes) quotes) is plain)
 
 -- one with fields
-pub fields_taken : (bytes : List ℕ) (n len : ℕ) → 0 < n → ends_prefix bytes n ≡ true
+pub fields_taken : (bytes : List ℕ) (n len : ℕ) → begins is_quote (drop n bytes) ≡ true → is_prefix_word (take n bytes) ≡ true
     → is_field_spelling (word_spelling (take n bytes)) ≡ true → IsQuotedText (drop n bytes) len → IsFirstString bytes (token_piece kind.Str (n + len))
-fields_taken bytes n len some told field is =
-    let (quotes, begun) = and_parts (begins is_quote (drop n bytes)) (opens_string (word_spelling (take n bytes))) told in
-    let within = quote_within bytes n quotes in
-    let low = (low_encodes is_low (take n bytes) low_is (prefix_low (take n bytes) begun)).0 in
-    let on = by (take n bytes) (omega (arith, some, length-take-le n bytes within)) begun in
-    string_taken bytes n (record { len = len; line_ends = 0 }) within (fields_some (drop n bytes) len is) low
-    (fields_passed (drop n bytes) len (word_spelling (take n bytes)) field is) (omega arith, on)
+fields_taken bytes n len quotes is field has =
+    string_taken bytes n (record { len = len; line_ends = 0 }) (quote_within bytes n quotes) (fields_some (drop n bytes) len has)
+    (word_low (take n bytes) is) (fields_passed (drop n bytes) len (word_spelling (take n bytes)) field has) (omega arith, on (take n bytes) is field)
   where
-    by : (word : List ℕ) → 0 < length word → opens_string (word_spelling word) ≡ true → IsInPieceAfter (modes.Word (word_spelling word)) start word 0 []
-    by [] some begun = absurd (omega (arith, some))
-    by (c ∷ cs) some begun = in_prefix c cs begun
+    on : (word : List ℕ) → is_prefix_word word ≡ true → is_field_spelling (word_spelling word) ≡ true
+        → IsInPieceAfter (modes.Word (word_spelling word)) start word 0 []
+    on [] is field = absurd (both_ways _ refl field)
+    on (c ∷ cs) is field = in_prefix c cs is

@@ -1,5 +1,5 @@
 -- The tokens of a whole logical line, which are read from its text alone.
-use Rattle.std.specs.Prelude.{◌≡◌, ℕ, ◌+◌, ◌≤◌, ◌&&◌, Bool, true, false, Some, List, [], ◌∷◌, ◌++◌, if◌then◌else◌, encode_utf8_all, take, drop, nat_eq}
+use Rattle.std.specs.Prelude.{◌≡◌, ℕ, ◌+◌, ◌≤◌, ◌&&◌, Bool, true, false, List, [], ◌∷◌, ◌++◌, if◌then◌else◌, encode_utf8_all, take, drop, nat_eq}
 use Rattle.std.specs.List.{starts_with}
 use Rattle.std.specs.Str.{all_scalars}
 use Rattle.py_lines.specs.Character.{is_digit, is_line_feed, is_quote, is_return}
@@ -8,7 +8,6 @@ use Rattle.py_lines.specs.Fields.{AreReadBefore}
 use Rattle.py_lines.specs.LogicalLine.{byte_len, line_ends, first_or_zero, token, tokens_from, kind_of, indent_of}
 use Rattle.py_lines.specs.Private.ScanMachine.{StringsFit, begins_string}
 use Rattle.py_lines.specs.Private.Run.{word_spelling}
-use Rattle.py_lines.specs.Private.Outline.{is_plain_prefix}
 use Rattle.py_lines.specs.Token.{is_comment}
 use Rattle.py_lines.specs.declared.token.Token.{Token}
 use Rattle.py_lines.specs.declared.token.TokKind.{TokKind}
@@ -69,10 +68,10 @@ line_end_len other = 1
 abbrev pub ends_prefix : List ℕ → ℕ → Bool
 ends_prefix bytes len = begins is_quote (drop len bytes) && begins_string (word_spelling (take len bytes))
 
--- whether a quote after such a word, or after nothing, begins a string without fields
-abbrev pub is_plain_word : List ℕ → Bool
-is_plain_word [] = true
-is_plain_word text = is_plain_prefix (Some (word_spelling text))
+-- whether a quote after such a word, or after nothing, begins a string
+abbrev pub is_prefix_word : List ℕ → Bool
+is_prefix_word [] = true
+is_prefix_word text = begins_string (word_spelling text)
 
 -- a string of so many bytes, with so many line ends
 abbrev pub string_piece : ℕ → ℕ → LinePiece

@@ -1,8 +1,13 @@
-use Rattle.std.proofs.Common.{ℕ, List, Some, subst}
+use Rattle.std.proofs.Common.{ℕ, List, Some, sym, ◌∙◌, subst}
+use Rattle.py_lines.specs.Private.FieldText.{IsQuotedText}
+use Rattle.py_lines.specs.Private.LineTokens.{IsFirstString}
 use Rattle.py_lines.specs.Private.Outline.{HasString}
 use Rattle.py_lines.proofs.FieldScans.TextLengths.{rest_is}
-use Rattle.py_lines.proofs.LineTokens.Strings.{plain_taken, quote_of_rest}
+use Rattle.py_lines.proofs.LineTokens.Strings.{fields_taken, plain_taken, quote_of_rest}
 use Rattle.py_lines.proofs.line_tokens.string.Goals as goal
+
+pub quoted_text_len-requires-clause-quote : goal.quoted_text_len-requires-clause-quote
+quoted_text_len-requires-clause-quote c = quote_of_rest c.args.bytes.now c.args.prefix c.requires.quote
 
 pub plain_string-requires-clause-quote : goal.plain_string-requires-clause-quote
 plain_string-requires-clause-quote c = quote_of_rest c.args.bytes.now c.args.prefix c.requires.quote
@@ -10,5 +15,14 @@ plain_string-requires-clause-quote c = quote_of_rest c.args.bytes.now c.args.pre
 pub returns-in-Some : goal.returns-in-Some
 returns-in-Some c =
     let bytes = c.args.bytes.now in
-    plain_taken bytes c.args.prefix c.in-Some.quoted c.requires.quote c.requires.plain c.if-quoted-gt2.true
-    (subst (λ (t : List ℕ). HasString t (Some c.in-Some.quoted)) (rest_is bytes c.args.prefix) c.in-Some.ensures)
+    let text = subst (λ (t : List ℕ). IsQuotedText t c.in-Some.len) (rest_is bytes c.args.prefix) c.in-Some.ensures in
+    subst (IsFirstString bytes) (sym c.token.ensures)
+    (fields_taken bytes c.args.prefix c.in-Some.len c.requires.quote c.requires.prefix (sym c.requires.fields ∙ c.if-has_fields.true) text)
+
+pub returns-then-passed-gt2 : goal.returns-then-passed-gt2
+returns-then-passed-gt2 c =
+    let bytes = c.args.bytes.now in
+    let passed = c.in-Some-plain_string.passed in
+    let has = subst (λ (t : List ℕ). HasString t (Some passed)) (rest_is bytes c.args.prefix) c.in-Some-plain_string.ensures in
+    plain_taken bytes c.args.prefix passed c.requires.quote c.requires.prefix (sym c.requires.fields ∙ c.if-has_fields.false)
+    c.if-passed-gt2.true has

@@ -1,18 +1,23 @@
-use Rattle.std.proofs.Common.{sym, ◌∙◌, subst}
+use Rattle.std.proofs.Common.{sym, ◌∙◌, subst, take}
+use Rattle.std.proofs.lemmas.Bool.{and_parts}
 use Rattle.py_lines.specs.Private.LineTokens.{IsTakenFor}
-use Rattle.py_lines.proofs.LineTokens.FirstPieces.{is_string, is_word, word_taken}
+use Rattle.py_lines.proofs.LineTokens.FirstPieces.{is_string, is_word, prefix_word, word_taken}
 use Rattle.py_lines.proofs.line_tokens.word_or_string.Goals as goal
 
-pub prefixed_string-requires-clause-string : goal.prefixed_string-requires-clause-string
-prefixed_string-requires-clause-string c =
-    let told = sym c.ends_prefix.ensures ∙ c.if-ends_prefix.true in
+pub string-requires-clause-quote : goal.string-requires-clause-quote
+string-requires-clause-quote c = (and_parts _ _ (sym c.ends_prefix.ensures ∙ c.if-ends_prefix.true)).0
+
+pub string-requires-clause-prefix : goal.string-requires-clause-prefix
+string-requires-clause-prefix c = prefix_word (take c.len_in-len.result c.args.bytes.now) (and_parts _ _ (sym c.ends_prefix.ensures ∙ c.if-ends_prefix.true)).1
+
+pub string-requires-clause-string : goal.string-requires-clause-string
+string-requires-clause-string c =
     let (p, b) = c.requires.piece in
-    (p, is_string b c.len_in-len.result c.requires.word c.len_in-len.ensures told, b)
+    (p, is_string b c.len_in-len.result c.requires.word c.len_in-len.ensures (sym c.ends_prefix.ensures ∙ c.if-ends_prefix.true), b)
 
 pub returns-then-ends_prefix : goal.returns-then-ends_prefix
 returns-then-ends_prefix c = λ p b.
-    let told = sym c.ends_prefix.ensures ∙ c.if-ends_prefix.true in
-    c.prefixed_string.ensures p (is_string b c.len_in-len.result c.requires.word c.len_in-len.ensures told) b
+    c.string.ensures p (is_string b c.len_in-len.result c.requires.word c.len_in-len.ensures (sym c.ends_prefix.ensures ∙ c.if-ends_prefix.true)) b
 
 pub returns-else-ends_prefix : goal.returns-else-ends_prefix
 returns-else-ends_prefix c = λ p b.
