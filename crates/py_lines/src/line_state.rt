@@ -41,6 +41,7 @@ impl LineState {
     ghost use Rattle.py_lines.specs.Private.LineTokens.{HoldsTokens, IsLineText};
 
     /// At this byte of a text, which is on this line. Nothing of the next line is read.
+    #[tactic(auto, using(crate::proofs::LineScan::StringSteps::first_plain))]
     pub fn at(alloc: Global, place: u64, line: u64) -> LineState
         ensures { BeginsAt place line result }
     {
@@ -73,6 +74,7 @@ impl LineState {
     }
 
     /// Begins the scan of the next line anew.
+    #[tactic(auto, using(crate::proofs::LineScan::StringSteps::first_plain))]
     pub fn restart(&mut self)
         ensures { BeginsAnew self.old self.new }
     {
