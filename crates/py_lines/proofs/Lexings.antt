@@ -3,8 +3,6 @@ pub mod Prefixes
 pub mod LineEnds
 pub mod LinePrefix
 pub mod Existence
-pub mod SettledLines
 pub mod FirstLines
 pub mod LinesBefore
-pub mod Answers
 pub mod DecidedFaults

@@ -2,4 +2,3 @@
 pub mod LineFaults
 pub mod LineAnswers
 pub mod PassedLines
-pub mod EndAnswers

@@ -38,7 +38,7 @@ use Rattle.py_lines.proofs.Machine.PieceSteps.{scanned, pieces_at}
 use Rattle.py_lines.proofs.ScanMachine.Advance.{GoesTo}
 use Rattle.py_lines.proofs.ScanMachine.Reaching.{runs_live}
 use Rattle.py_lines.proofs.Faults.Verdict.{not_live}
-use Rattle.py_lines.proofs.Lexings.Answers.{IsLineOf, HasPrefix, refused_at_character, refused_at_bytes}
+use Rattle.py_lines.proofs.Lexings.LinePrefix.{IsLineOf, HasPrefix, refused_at_character, refused_at_bytes}
 use Rattle.py_lines.proofs.Lexings.DecidedFaults.{decided_lexing}
 use Rattle.py_lines.proofs.Lexings.FirstLines.{base_lines}
 use Rattle.py_lines.proofs.LogicalLines.Cuts.{byte_len-append}

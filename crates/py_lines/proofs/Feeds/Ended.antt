@@ -19,7 +19,7 @@ use Rattle.py_lines.proofs.Machine.PieceSteps.{pieces_at}
 use Rattle.py_lines.proofs.ScanMachine.Advance.{GoesTo, RunsTo}
 use Rattle.py_lines.proofs.ScanMachine.Reaching.{reading_at}
 use Rattle.py_lines.proofs.LineScan.TextSteps.{way_goes}
-use Rattle.py_lines.proofs.Lexings.Answers.{refused_at_end}
+use Rattle.py_lines.proofs.Lexings.LinePrefix.{refused_at_end}
 use Rattle.py_lines.proofs.Readers.LineFaults.{Within, unfinished_fault}
 use Rattle.py_lines.proofs.Feeds.Known as of
 use Rattle.py_lines.proofs.Feeds.Known.{IsKnown}

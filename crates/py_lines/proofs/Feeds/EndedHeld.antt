@@ -20,9 +20,8 @@ use Rattle.py_lines.specs.Private.Run.{Reached}
 use Rattle.py_lines.specs.Private.Feed.{EndsText, FailsAt, Holds, IsScanned}
 use Rattle.py_lines.proofs.LineScan.NextCharacter.{empty_stack}
 use Rattle.py_lines.proofs.Machine.PieceSteps.{pieces_at}
-use Rattle.py_lines.proofs.Readers.LineAnswers.{IsScannedLine}
+use Rattle.py_lines.proofs.Readers.LineAnswers.{IsScannedLine, line_at_text_end, line_at_return, returned_final}
 use Rattle.py_lines.proofs.Readers.LineFaults.{Within, finished, unfinished_within}
-use Rattle.py_lines.proofs.Readers.EndAnswers.{line_at_text_end, line_at_return, returned_final}
 use Rattle.py_lines.proofs.Feeds.Known.{IsKnown, first_at, goes_at, is_known}
 use Rattle.py_lines.proofs.Feeds.DecidedSoFar.{way_open}
 use Rattle.py_lines.proofs.Feeds.Ended.{ended_bytes, ended_unfinished, ended_line}

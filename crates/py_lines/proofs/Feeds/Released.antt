@@ -12,8 +12,7 @@ use Rattle.py_lines.specs.LogicalLine.{LogicalLine, byte_len, line_ends}
 use Rattle.py_lines.proofs.Text.Decoding.{decoded}
 use Rattle.py_lines.proofs.LogicalLines.Cuts.{byte_len-append}
 use Rattle.py_lines.proofs.LogicalLines.NextLine.{texts, texts-append, texts-lines}
-use Rattle.py_lines.proofs.Lexings.FirstLines.{base_lines}
-use Rattle.py_lines.proofs.Lexings.SettledLines.{settled_first}
+use Rattle.py_lines.proofs.Lexings.FirstLines.{base_lines, settled_first}
 use Rattle.py_lines.proofs.Feeds.Known.{first_at, goes_after, goes_at}
 use Rattle.std.proofs.lemmas.Bool.{both_ways}
 use Rattle.std.proofs.Math.Seq.{drop-append_seam}

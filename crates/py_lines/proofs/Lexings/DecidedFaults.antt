@@ -65,35 +65,30 @@ line_on characters tail rest fault refused =
       line = refused.line found.prefix found.rest found.spell found.place;
     }
 
--- the known bytes, and what they say of a text that goes on
-pub record Continued (text more : List ℕ) (fault : Fault) (characters tail : List ℕ) : Type 0 where
-  pub whole : List ℕ
-  pub left : List ℕ
-  pub decodes : Decodes (text ++ more) whole left
-  pub refused : IsLexicalFault whole left fault
-  pub stays : StaysFaulty fault.kind whole left fault.offset
-  pub prefix : (pieces : List Piece) → IsReadPrefix pieces characters → IsReadPrefix pieces whole
+-- a text that goes on has the fault too, and after the same lines
+abbrev GoesOn : List ℕ → List ℕ → Fault → List ℕ → Type 0
+GoesOn text more fault characters =
+    (d : Decides (text ++ more) fault) × ((pieces : List Piece) → IsReadPrefix pieces characters → IsReadPrefix pieces d.characters)
 
-by_character : (text more : List ℕ) (fault : Fault) (d : Decides text fault) → IsCharacterFault fault.kind d.characters fault.offset → Continued text more fault d.characters d.tail
+by_character : (text more : List ℕ) (fault : Fault) (d : Decides text fault) → IsCharacterFault fault.kind d.characters fault.offset → GoesOn text more fault d.characters
 by_character text more fault d stays =
     let w = decoding (text ++ more) in
     let on = goes_on d.characters (d.tail ++ more) w.characters w.tail d.decodes.are w.decodes.are w.decodes.bad (sym (append_assoc (encode_utf8_all d.characters) d.tail more) ∙ ap (λ t. t ++ more) d.decodes.spell ∙ sym w.decodes.spell) in
     let later = goes_on_faulty fault.kind d.characters on.rest fault.offset stays in
-    record {
-      whole = d.characters ++ on.rest;
-      left = w.tail;
+    (record {
+      characters = d.characters ++ on.rest;
+      tail = w.tail;
       decodes = subst (λ t. Decodes (text ++ more) t w.tail) on.split w.decodes;
       refused = lexical (d.characters ++ on.rest) w.tail fault (at_character later) (line_on d.characters d.tail on.rest fault d.refused);
       stays = inl later;
-      prefix = λ pieces prefix. prefix_on fault.kind d.characters on.rest fault.offset pieces stays prefix;
-    }
+    }, λ pieces prefix. prefix_on fault.kind d.characters on.rest fault.offset pieces stays prefix)
 
-by_bytes : (text more : List ℕ) (fault : Fault) (d : Decides text fault) → fault.kind ≡ faults.BadUtf8 → ((after : List ℕ) → StartsWithNoChar (d.tail ++ after)) → Continued text more fault d.characters d.tail
+by_bytes : (text more : List ℕ) (fault : Fault) (d : Decides text fault) → fault.kind ≡ faults.BadUtf8 → ((after : List ℕ) → StartsWithNoChar (d.tail ++ after)) → GoesOn text more fault d.characters
 by_bytes text more fault d is hopeless =
     let at = undecodable fault.kind d.characters d.tail fault.offset is d.refused.place in
-    record {
-      whole = d.characters;
-      left = d.tail ++ more;
+    (record {
+      characters = d.characters;
+      tail = d.tail ++ more;
       decodes = record { are = d.decodes.are; spell = sym (append_assoc (encode_utf8_all d.characters) d.tail more) ∙ ap (λ t. t ++ more) d.decodes.spell; bad = hopeless more };
       refused = record {
         unread = λ nothing. absurd (at.bad (none_both d.tail more nothing).0);
@@ -101,39 +96,36 @@ by_bytes text more fault d is hopeless =
         line = d.refused.line;
       };
       stays = inr (is, λ after. subst StartsWithNoChar (sym (append_assoc d.tail more after)) (hopeless (more ++ after)));
-      prefix = λ pieces prefix. prefix;
-    }
+    }, λ pieces prefix. prefix)
 
-continued : (text more : List ℕ) (fault : Fault) (d : Decides text fault) → Continued text more fault d.characters d.tail
+continued : (text more : List ℕ) (fault : Fault) (d : Decides text fault) → GoesOn text more fault d.characters
 continued text more fault d = ⊎_elim (by_character text more fault d) (λ stays. by_bytes text more fault d stays.0 stays.1) d.stays
 
 -- more bytes decide it too
 pub decided_more : (text more : List ℕ) (fault : Fault) → Decides text fault → Decides (text ++ more) fault
-decided_more text more fault d =
-    let on = continued text more fault d in
-    record { characters = on.whole; tail = on.left; decodes = on.decodes; refused = on.refused; stays = on.stays }
+decided_more text more fault d = (continued text more fault d).0
 
 -- so it is that of each such text, and the lines before it are the same
 pub decided_lexing : (text more : List ℕ) (fault : Fault) (lines : List LogicalLine) → Decides text fault → IsLexed text lines (Some fault) → IsLexed (text ++ more) lines (Some fault)
 decided_lexing text more fault lines d lexed =
-    let on = continued text more fault d in
+    let (on, prefix) = continued text more fault d in
     let same = decoded text lexed.characters d.characters lexed.tail d.tail lexed.decodes d.decodes in
     record {
-      characters = on.whole;
-      tail = on.left;
+      characters = on.characters;
+      tail = on.tail;
       pieces = lexed.pieces;
       decodes = on.decodes;
-      prefix = on.prefix lexed.pieces (subst (IsReadPrefix lexed.pieces) same.0 lexed.prefix);
+      prefix = prefix lexed.pieces (subst (IsReadPrefix lexed.pieces) same.0 lexed.prefix);
       refused = on.refused;
       cut = lexed.cut;
     }
 
 pub decided_fault : (text more : List ℕ) (fault : Fault) (lines : List LogicalLine) (end : Option Fault) → Decides text fault → IsLexed (text ++ more) lines end → end ≡ Some fault
 decided_fault text more fault lines None d lexed =
-    let on = continued text more fault d in
-    let same = decoded (text ++ more) lexed.characters on.whole [] on.left lexed.decodes on.decodes in
+    let (on, prefix) = continued text more fault d in
+    let same = decoded (text ++ more) lexed.characters on.characters [] on.tail lexed.decodes on.decodes in
     absurd (on.refused.unread (sym same.1) lexed.pieces (subst (λ t. IsBalancedReading lexed.pieces t) same.0 lexed.reading))
 decided_fault text more fault lines (Some other) d lexed =
-    let on = continued text more fault d in
-    let same = decoded (text ++ more) lexed.characters on.whole lexed.tail on.left lexed.decodes on.decodes in
-    ap Some (same_fault on.whole on.left other fault (subst (λ (t : List ℕ). IsLexicalFault t on.left other) same.0 (subst (λ (t : List ℕ). IsLexicalFault lexed.characters t other) same.1 lexed.refused)) on.refused)
+    let (on, prefix) = continued text more fault d in
+    let same = decoded (text ++ more) lexed.characters on.characters lexed.tail on.tail lexed.decodes on.decodes in
+    ap Some (same_fault on.characters on.tail other fault (subst (λ (t : List ℕ). IsLexicalFault t on.tail other) same.0 (subst (λ (t : List ℕ). IsLexicalFault lexed.characters t other) same.1 lexed.refused)) on.refused)

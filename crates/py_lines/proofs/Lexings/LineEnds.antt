@@ -75,6 +75,10 @@ module _ (grammar : Grammar) where
 pub line_first : (p : Piece) → p.class ≡ line_end → InClass p.class p.text → (c : ℕ) × (cs : List ℕ) × (p.text ≡ c ∷ cs)
 line_first p is holds = line_text p.text (subst (λ x. InClass x p.text) is holds)
 
+-- the last characters of pieces are those of the last one
+pub ends-line : (p : ℕ → Bool) (body : List Piece) (last : Piece) → last.class ≡ line_end → InClass last.class last.text → ends p (spelled (body ++ last ∷ [])) ≡ ends p last.text
+ends-line p body last is holds = ends-last p body last (subst (λ k. InClass k last.text) is holds)
+
 -- pieces that end a line are read to the text's end too
 pub read-alone : (body : List Piece) (last : Piece) (rest : List ℕ) → last.class ≡ line_end → AreReadBefore (body ++ last ∷ []) rest → AreReadBefore (body ++ last ∷ []) []
 read-alone body last rest is fit = read_on fielded body last rest [] is fit (and_right _ _ refl)

@@ -1,18 +1,24 @@
--- The prefix of a text that isn't read, and what its known bytes settle: the pieces up to the last line end outside brackets that the
--- machine has found.
+-- The prefix of a text that isn't read, with what a reader answers there, and what a text's known bytes settle: the pieces up to the last
+-- line end outside brackets that the machine has found.
 use Rattle.std.proofs.Common.{false, ◌≡◌, ℕ, ◌+◌, ◌≤◌, Option, Some, List, [], ◌∷◌, ◌++◌, length, refl, sym, ap, ◌∙◌, subst, inl, inr, append_assoc, append-nil, length-append, arith, ◌⊎◌, true}
 use Rattle.std.proofs.lemmas.List.{same_from_push, append_cancel_left}
 use Rattle.std.proofs.lemmas.Bool.{both_ways, cond_both}
 use Rattle.py_lines.specs.Character.{is_line_feed, is_return}
 use Rattle.py_lines.specs.Piece.{line_end, Piece, spelled, ends}
-use Rattle.py_lines.specs.LogicalLine.{is_line_end_class}
+use Rattle.py_lines.specs.LogicalLine.{is_line_end_class, lines_of, byte_len}
 use Rattle.py_lines.specs.Balance.{depth_through}
-use Rattle.py_lines.specs.Reading.{IsBalancedReading, EndsLine, IsReadPrefix}
-use Rattle.py_lines.specs.Faults.{IsLive}
-pub use Rattle.py_lines.specs.Private.Scan.{EndsNoLine}
+use Rattle.py_lines.specs.Reading.{IsBalancedReading, EndsLine, IsReadPrefix, Decodes}
+use Rattle.py_lines.specs.Faults.{IsLive, IsCharacterFault, IsEndFault, IsFaultAt, at_character, at_bytes, at_end}
+use Rattle.py_lines.specs.PieceGrammar.{IsLineEnd, feed, return_feed, return}
+use Rattle.py_lines.specs.Fields.{InClass, AreReadBefore}
+use Rattle.py_lines.specs.Settled.{EndsForGood, IsSettledPrefix}
+use Rattle.py_lines.specs.Lexed.{IsLexedToFault}
 use Rattle.py_lines.specs.declared.mode.Mode.{Mode}
 use Rattle.py_lines.specs.declared.mode.Mode.TheVariants as modes
 use Rattle.py_lines.specs.declared.mode.Move.{Move}
+use Rattle.py_lines.specs.declared.fault.FaultKind.TheVariants as faults
+use Rattle.py_lines.specs.declared.fault.Fault.{Fault}
+use Rattle.py_lines.specs.Private.Scan.{EndsNoLine}
 use Rattle.py_lines.specs.Private.Machine.{Scanned, fresh, text_start, class_of, closed, started, moved, move_of, start_of, Bracket}
 use Rattle.py_lines.specs.Private.ScanMachine.{meet_of, move_at, scan_steps}
 use Rattle.py_lines.proofs.Text.Splits.{Either, either}
@@ -31,8 +37,10 @@ use Rattle.py_lines.proofs.Lexings.Existence.{reading_live}
 use Rattle.py_lines.specs.PieceGrammar.{IsLineEnd, feed, return_feed, return}
 use Rattle.py_lines.specs.Fields.{InClass, AreReadBefore}
 use Rattle.py_lines.specs.Settled.{EndsForGood, IsSettledPrefix}
-use Rattle.py_lines.proofs.Lexings.LineEnds.{no_end_in, depth_prefix, length_line, return_returns, none_both}
+use Rattle.py_lines.proofs.Lexings.LineEnds.{no_end_in, depth_prefix, length_line, return_returns, none_both, line_first, ends-append, ends-line}
 use Rattle.py_lines.proofs.Lexings.SettledLines.{ends-append, ends-line}
+use Rattle.py_lines.proofs.ScanMachine.LiveTexts.{same_state, runs_live}
+pub use Rattle.py_lines.proofs.Lexings.Existence.{reading_live, IsLineOf, lexical}
 
 -- a line end that the machine has found stays, though CR may get LF after it
 pub record Stays (body : List Piece) (last : Piece) (all : List Piece) : Type 0 where
@@ -226,3 +234,40 @@ settled_line characters tail prefix rest spell reading good near = record { rest
     longest (inl empty) others after spells read ended = omega (arith, total others after spells, ap length empty)
     longest (inr (c, is, other, bare)) others [] spells read ended = not_last c others is other bare spells read ended
     longest (inr (c, is, other, bare)) others (d ∷ ds) spells read ended = omega (arith, total others (d ∷ ds) spells, ap length is)
+
+-- the prefix that a reader has given: up to the last line end at depth 0
+pub record HasPrefix (s : Scanned) (prefix : List Piece) : Type 0 where
+  pub others : List Piece
+  pub spell : pieces_at s ≡ prefix ++ others
+  pub reading : IsBalancedReading prefix (spelled prefix)
+  pub ended : EndsLine prefix
+  pub none : EndsNoLine 0 others
+
+-- the text is refused where the machine has come, and may not go on
+refused : (text characters tail before later : List ℕ) (s : Scanned) (st : List Bracket) (prefix : List Piece) (fault : Fault) → Decodes text characters tail → before ++ later ≡ characters → RunsTo before s st → ((c : ℕ) (after : List ℕ) → later ≡ c ∷ after → ¬ (IsLive (before ++ c ∷ []))) → HasPrefix s prefix
+    → IsFaultAt fault.kind characters tail fault.offset → IsLineOf fault characters → IsLexedToFault text (lines_of prefix) fault
+refused text characters tail before later s st prefix fault decodes spell steps dead has place line = record {
+  characters = characters;
+  tail = tail;
+  pieces = prefix;
+  decodes = decodes;
+  prefix = prefix_is before later characters s st prefix has.others steps spell dead has.spell has.reading has.ended has.none;
+  refused = lexical characters tail fault place line;
+  cut = refl;
+}
+
+-- at a character
+pub refused_at_character : (text characters tail before after : List ℕ) (c : ℕ) (s : Scanned) (st : List Bracket) (prefix : List Piece) (fault : Fault) → Decodes text characters tail → before ++ c ∷ after ≡ characters → RunsTo before s st → ¬ (IsLive (before ++ c ∷ [])) → HasPrefix s prefix → IsCharacterFault fault.kind characters fault.offset → IsLineOf fault characters → IsLexedToFault text (lines_of prefix) fault
+refused_at_character text characters tail before after c s st prefix fault decodes spell steps dead has is line =
+    refused text characters tail before (c ∷ after) s st prefix fault decodes spell steps (λ d ds same. let first : c ≡ d = cc in subst (λ (x : ℕ). ¬ (IsLive (before ++ x ∷ []))) first dead) has (at_character is) line
+
+-- at its end
+pub refused_at_end : (text characters : List ℕ) (s : Scanned) (st : List Bracket) (prefix : List Piece) (fault : Fault) → Decodes text characters [] → RunsTo characters s st → HasPrefix s prefix → IsEndFault fault.kind characters [] fault.offset → IsLineOf fault characters → IsLexedToFault text (lines_of prefix) fault
+refused_at_end text characters s st prefix fault decodes steps has is line =
+    refused text characters [] characters [] s st prefix fault decodes (append-nil characters) steps (λ c after same. absurd (cc)) has (at_end is) line
+
+-- at bytes that begin no character
+pub refused_at_bytes : (text characters : List ℕ) (d : ℕ) (ds : List ℕ) (s : Scanned) (st : List Bracket) (prefix : List Piece) (fault : Fault) → Decodes text characters (d ∷ ds) → RunsTo characters s st → HasPrefix s prefix → fault.kind ≡ faults.BadUtf8 → fault.offset ≡ byte_len characters → IsLineOf fault characters → IsLexedToFault text (lines_of prefix) fault
+refused_at_bytes text characters d ds s st prefix fault decodes steps has kind place line =
+    refused text characters (d ∷ ds) characters [] s st prefix fault decodes (append-nil characters) steps (λ c after same. absurd (cc)) has
+    (at_bytes (record { is = kind; bad = λ (h : d ∷ ds ≡ []). cc; live = runs_live characters s st steps; place = place })) line

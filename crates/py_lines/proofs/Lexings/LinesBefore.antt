@@ -11,8 +11,7 @@ use Rattle.py_lines.proofs.Pieces.PieceLists.{MayFollow, AreReadIn-append, AreRe
 use Rattle.py_lines.proofs.Pieces.OpenBrackets.{balanced-from_stack, stack-from_balanced}
 use Rattle.py_lines.proofs.Pieces.ShallowPieces.{IsShallow-append, IsShallow-parts, brackets_shallow}
 use Rattle.py_lines.proofs.Machine.EarlierPieces.{shift_if, stack-after}
-use Rattle.py_lines.proofs.Lexings.LineEnds.{read_on, ended_reading, depth_prefix, prefix_stack}
-use Rattle.py_lines.proofs.Lexings.SettledLines.{ends-line}
+use Rattle.py_lines.proofs.Lexings.LineEnds.{ends-line, read_on, ended_reading, depth_prefix, prefix_stack}
 
 follows_lines : (lines rest : List Piece) → begins_marked rest ≡ false → MayFollow lines rest
 follows_lines [] rest h = tt

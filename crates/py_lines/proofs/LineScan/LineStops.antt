@@ -27,7 +27,7 @@ use Rattle.py_lines.proofs.Text.Incomplete.{text_none}
 use Rattle.py_lines.proofs.Text.Utf8Prefixes.{prefix_chars, all_scalars-parts, scalars_more, spell_more}
 use Rattle.py_lines.proofs.Pieces.PieceLists.{AreReadBefore-second}
 use Rattle.py_lines.proofs.LogicalLines.Cuts.{uncut}
-use Rattle.py_lines.proofs.Lexings.SettledLines.{ends-line, ends-append}
+use Rattle.py_lines.proofs.Lexings.LineEnds.{ends-line, ends-append}
 use Rattle.py_lines.proofs.LineScan.LineCount.{line_ends-bytes}
 use Rattle.py_lines.proofs.LineScan.NextCharacter.{return_mode, takes_fielded}
 use Rattle.py_lines.proofs.LineScan.LineSteps.{way_here, way_keeps, way_stop, at_line_end, returned, follows_nothing, follows_whole}

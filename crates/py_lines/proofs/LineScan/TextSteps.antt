@@ -25,7 +25,7 @@ use Rattle.py_lines.proofs.ScanMachine.Reaching.{reach, live_runs}
 use Rattle.py_lines.proofs.Pieces.OpenBrackets.{stack_before, stands}
 use Rattle.py_lines.proofs.ScanMachine.Advance.{kept, kept_if, advance, GoesTo, RunsTo, stops_there}
 use Rattle.py_lines.proofs.Machine.LiveTexts.{stack_closed}
-use Rattle.py_lines.proofs.Lexings.LinePrefix.{line_first}
+use Rattle.py_lines.proofs.Lexings.LineEnds.{line_first}
 use Rattle.py_lines.proofs.LogicalLines.Cuts.{byte_len-append}
 use Rattle.py_lines.proofs.Machine.EarlierPieces.{after_pieces, after_if, closed-after, closed_grows, steps-after, step-after, shift, shift_if, stack-after}
 use Rattle.py_lines.specs.Balance.{depth_through}
