@@ -151,7 +151,7 @@ impl Frames {
     pub fn is_empty(&self) -> bool
         ensures { result ≡ (length self.now == 0) }
     {
-        self.depth == 0
+        self.len() == 0
     }
 
     /// How many brackets and fields are open.

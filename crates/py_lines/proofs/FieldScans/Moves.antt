@@ -23,6 +23,7 @@ use Rattle.py_lines.proofs.Machine.Starts as begun
 use Rattle.py_lines.proofs.Machine.Soundness.{MoveHolds, move_holds, StartHolds, start_holds}
 use Rattle.py_lines.proofs.Machine.Spellings.{Tells, word_tells, other_begins}
 use Rattle.py_lines.proofs.ScanMachine.BodyMoves.{IsBodyMode}
+use Rattle.py_lines.proofs.FieldScans.Frames.{AreOpenAlike, neutral_alike}
 use Rattle.py_lines.proofs.FieldMachine.PlainSteps.{IsOpenAfter, open_after}
 use Rattle.py_lines.proofs.ScanMachine.Follows.{word_meets, closing_neutral}
 
@@ -116,30 +117,23 @@ pub record GrowsTo (m n : spots.FieldMode) (text : List ℕ) : Type 0 where
   pub body_stays : IsBodyMode m → IsBodyMode n
   pub waits : WaitsInLiteral n
 
--- these pieces leave the brackets open that were
-abbrev KeepsOpen : (List Piece → List Piece) → Type 0
-KeepsOpen after = (done : List Piece) (st : List Bracket) → brackets_of done ≡ Some st → brackets_of (after done) ≡ Some st
-
 -- a piece that ends before a character
 pub record EndsBefore (m : spots.FieldMode) (held : List ℕ) : Type 0 where
   pub place : text_place m ≡ literal
   pub spells : (done : List Piece) → spelled (field_closed m done held) ≡ spelled done ++ held
-  pub neutral : KeepsOpen (λ done. field_closed m done held)
+  pub neutral : (done : List Piece) → AreOpenAlike done (field_closed m done held)
   pub no_body : IsBodyMode m → ⊥
 
 -- what each move says of the open piece: what closes it closes a string's text, or code; and a field begins, opens or ends in a
 -- string, and opens in a specification by a `{`
 abbrev pub Says : spots.FieldMode → List ℕ → ℕ → FieldMove → Type 0
 Says m held c (grows n) = GrowsTo m n (held ++ c ∷ [])
-Says m held c closes = (text_place m ≡ literal) × KeepsOpen (λ done. done ++ record { class = field_class_of m; text = held ++ c ∷ [] } ∷ [])
+Says m held c closes = (text_place m ≡ literal) × ((done : List Piece) → AreOpenAlike done (done ++ piece (field_class_of m) (held ++ c ∷ []) ∷ []))
 Says m held c breaks = EndsBefore m held
 Says m held c (begins_code h) = (named : Bool) × (m ≡ body h literal named after_brace)
 Says m held c (opens_field h) = (at : At) × (m ≡ body h specification false at) × (c == byte "{" ≡ true)
 Says m held c ends_field = Unit {0}
 Says m held c refused = Unit {0}
-
-string_neutral : (text : List ℕ) → KeepsOpen (λ done. done ++ piece string text ∷ [])
-string_neutral text done st stack = live.keeps done (piece string text) st refl refl stack
 
 pub body_waits : (host : Host) (place : Place) (b : Bool) (a : At) → (place ≡ specification → is_after_brace a ≡ false) → WaitsInLiteral (body host place b a)
 body_waits host literal b a fit = tt
@@ -152,7 +146,7 @@ waiting_in host specification named waits = absurd (both_ways _ waits refl)
 body_says : (host : Host) (place : Place) (named : Bool) (at : At) (held : List ℕ) (c : ℕ) (v : FieldMove) → WaitsInLiteral (body host place named at) → BodyMoved host place named at c v → Says (body host place named at) held c v
 body_says host place named at held c (grows n) waits (b, a, is, fit) =
     subst (λ (x : spots.FieldMode). GrowsTo (body host place named at) x (held ++ c ∷ [])) (sym is) (record { place = refl; holds = tt; body_stays = λ own. (host, place, b, a, refl); waits = body_waits host place b a fit })
-body_says host place named at held c closes waits (is, quote) = (is, string_neutral (held ++ c ∷ []))
+body_says host place named at held c closes waits (is, quote) = (is, λ done. neutral_alike done string (held ++ c ∷ []) refl refl)
 body_says host place named at held c breaks waits none = absurd none
 body_says host place named at held c (begins_code h) waits (same, is) =
     let (own, there) = waiting_in host place named (subst (λ (a : At). WaitsInLiteral (body host place named a)) is waits) in
@@ -182,7 +176,7 @@ plain_says : (m : Mode) (held : List ℕ) (c : ℕ) (v : Move) → move_of m c �
 plain_says m held c (moves.Grows n) is own holds = record { place = refl; holds = holds; body_stays = λ (host, place, named, at, e). absurd (cc); waits = tt }
 plain_says m held c moves.Closes is own holds =
     let neutral = closing_neutral m (held ++ c ∷ []) c is in
-    (refl, λ done st stack. live.keeps done (piece (class_of m) (held ++ c ∷ [])) st neutral.0 neutral.1 stack)
+    (refl, λ done. neutral_alike done (class_of m) (held ++ c ∷ []) neutral.0 neutral.1)
 plain_says m held c moves.Breaks is own holds = record { place = refl; spells = closed_spells m held own; neutral = λ done st stack. live.stack_closed m done held st stack; no_body = λ (host, place, named, at, e). cc }
 plain_says m held c moves.Refused is own holds = tt
 
@@ -199,7 +193,7 @@ says (opened host) held c holds waits =
 says (empty host) held c holds waits =
     cond_both (c == host.quote) (grows (body (long_host host) literal false between)) breaks (Says (empty host) held c)
     (λ h. record { place = refl; holds = tt; body_stays = λ own. (long_host host, literal, false, between, refl); waits = tt })
-    (λ h. record { place = refl; spells = λ done. spelled-push done string held; neutral = string_neutral held; no_body = λ (host, place, named, at, e). cc })
+    (λ h. record { place = refl; spells = λ done. spelled-push done string held; neutral = λ done. neutral_alike done string held refl refl; no_body = λ (host, place, named, at, e). cc })
 says (body host place named at) held c holds waits = body_says host place named at held c _ waits (body_moved host place named at held c)
 
 pub said : (m : spots.FieldMode) (held : List ℕ) (c : ℕ) (v : FieldMove) → HoldsCode m held → WaitsInLiteral m → field_move m held c ≡ v → Says m held c v

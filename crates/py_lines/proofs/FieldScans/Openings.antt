@@ -47,10 +47,6 @@ unfolding openers_with
 wrong_is [] done o os c closing other = rw (closing-not-opening c closing, closing, other)
 wrong_is (l ∷ ls) done o os c closing other = rw (closing-not-opening c closing, closing, other)
 
-pub wrong_in_field : (l : Level) (ls : List Level) (done : List Piece) (c : ℕ) → c == byte "}" ≡ false → c == byte ":" ≡ false → is_closing c ≡ true → field_operator (l ∷ ls) done [] c ≡ None
-unfolding code_operator openers_with
-wrong_in_field l ls done c ends specifies closing = rw (ends, specifies, closing-not-opening c closing, closing)
-
 -- only `:` is no piece of its list, where no bracket is open
 pub no_colon : (outer : List Level) (openers : List ℕ) (c : ℕ) → (c == 58) && (length openers == 0) ≡ false → IsNoColon outer openers c
 no_colon [] openers c h = tt
@@ -177,7 +173,8 @@ module _ (old : FieldScan) (base depth c place : ℕ) (t : FieldScanned) (follow
         })
 
     pub field_closes_none : (c ≡ byte "}" → ⊥) → (c ≡ byte ":" → ⊥) → is_closing c ≡ true → ComesTo base depth t c old progress.Refused old
-    field_closes_none ends specifies closing = refuses (in_code None (wrong_in_field i.level i.outside Done c (ne_eqb c (byte "}") ends) (ne_eqb c (byte ":") specifies) closing))
+    unfolding code_operator openers_with
+    field_closes_none ends specifies closing = refuses (in_code None (rw (ne_eqb c (byte "}") ends, ne_eqb c (byte ":") specifies, closing-not-opening c closing, closing)))
 
     pub field_passes : (c ≡ byte ":" → ⊥) → is_opening c ≡ false → is_closing c ≡ false → (new : FieldScan) → new ≡ freed_at old (place + 1) → ComesTo base depth t c old progress.Going new
     field_passes specifies opens closes = sign_passes opens closes (ap (λ b. b && (length t.openers == 0)) (ne_eqb c 58 specifies))

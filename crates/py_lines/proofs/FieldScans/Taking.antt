@@ -113,9 +113,6 @@ pub no_opening : (depth c : ℕ) → is_opening c ≡ false → has_room_at dept
 unfolding has_room_at
 no_opening depth c none = ap (λ b. not b || nat_lt depth 200) none
 
-feeds : (c : ℕ) → start_of c ≡ starts.LineEnd → is_line_feed c ≡ true
-feeds c is = subst (StartsSo c) is (begun_so.starts_so c)
-
 -- an operator is one byte
 pub one_operator : (c : ℕ) → start_of c ≡ starts.Operator → 1 ≡ byte_len (c ∷ [])
 one_operator c is = sym (byte_len-one c ∙ len_utf8_ascii c (operator_ascii c (subst (StartsSo c) is (begun_so.starts_so c))))
@@ -123,10 +120,6 @@ one_operator c is = sym (byte_len-one c ∙ len_utf8_ascii c (operator_ascii c (
 -- the code meets the character as the machine does
 pub moves_so : (old : FieldScan) (base : ℕ) (t : FieldScanned) (c : ℕ) (v : FieldMove) → Follows old base t → v ≡ meets_field old.mode c → field_move t.mode t.held c ≡ v
 moves_so old base t c v follow is = sym (is ∙ meets old.mode t.held c (subst (λ (m : spots.FieldMode). HoldsCode m t.held) (sym follow.mode) follow.holds) ∙ ap (λ (m : spots.FieldMode). field_move m t.held c) follow.mode)
-
--- it may not stand there
-pub refused_there : (old : FieldScan) (base depth : ℕ) (t : FieldScanned) (c : ℕ) → field_move t.mode t.held c ≡ refused → ComesTo base depth t c old progress.Refused old
-refused_there old base depth t c is = no_step base depth t c refused is old refl
 
 -- the scan follows where the open piece grows
 pub grown_follows : (old : FieldScan) (base : ℕ) (t : FieldScanned) (c : ℕ) (code : FieldMode) (m : spots.FieldMode) → Follows old base t → field_move t.mode t.held c ≡ grows m → mode_from code ≡ m → Follows (record old { mode = code }) base (field_state t.outer t.done t.openers m (t.held ++ c ∷ []))
@@ -204,4 +197,4 @@ module _ (old : FieldScan) (base depth : ℕ) (t : FieldScanned) (c place : ℕ)
       (ap (field_started t.outer closed t.openers c) starts_with)
       (λ none other. b.within none) (λ none. absurd (b.within none))
       (follows_free old base t.outer done t.openers (place + 1)
-      (frames_alike base t.outer closed done t.openers old.frames (neutral_alike closed line_end (c ∷ []) refl refl) b.frames) (piece_after base place t.outer closed line_end c (one_feed c (feeds c starts_with)) b.start))
+      (frames_alike base t.outer closed done t.openers old.frames (neutral_alike closed line_end (c ∷ []) refl refl) b.frames) (piece_after base place t.outer closed line_end c (one_feed c (subst (StartsSo c) starts_with (begun_so.starts_so c))) b.start))

@@ -178,10 +178,6 @@ code_on bytes n m k code within is inside more = always (AtCode []) (InCode []) 
     each quote = by_append quote (AtCode []) (AtCode []) (InCode []) bytes (n + (1 + m)) k (closed quote) (more.within, more.leads [] quote)
 
 -- parts of a string's text
-pub some_bytes : (bytes : List ℕ) → length bytes == 0 ≡ false → 0 < length bytes
-some_bytes [] h = absurd (both_ways _ h refl)
-some_bytes (b ∷ bs) h = omega arith
-
 pub brace_part : (quote : ℕ) (bytes : List ℕ) → 0 < length bytes → slice_index bytes 0 ≡ 125 → LeadsBy quote InText bytes 1 InText
 brace_part quote bytes some is = by_byte quote 125 InText InText bytes some is (brace_leads quote)
 

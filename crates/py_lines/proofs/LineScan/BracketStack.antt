@@ -10,7 +10,7 @@ use Rattle.py_lines.specs.Private.Scan.{stack, depth_of, none_open}
 use Rattle.py_lines.specs.declared.brackets.Brackets.{Brackets}
 use Rattle.py_lines.specs.declared.brackets.OpenBracket.{OpenBracket}
 use Rattle.py_lines.proofs.Pieces.PieceLists.{piece}
-use Rattle.py_lines.proofs.Pieces.OpenBrackets.{opener_pushes, closer_pops, other_keeps}
+use Rattle.py_lines.proofs.Pieces.OpenBrackets.{other_keeps}
 
 abbrev entry : OpenBracket → Bracket
 entry b = record { opener = b.opener; place = b.place }
@@ -54,24 +54,6 @@ popped bs (suc n) b others within top =
     let both : entry (get_or bs (suc n - 1) d) ∷ stack (take (suc n - 1) bs) ≡ b ∷ others = sym (last_is bs (suc n) d within (λ none. absurd (omega (arith, none)))) ∙ top in
     cc
 
--- an operator at a byte
-pub too_deep : (st : List Bracket) (place c : ℕ) → is_opening c ≡ true → 200 ≤ length st → brackets_after st place (record { class = operator; text = c ∷ [] }) ≡ None
-unfolding brackets_after
-too_deep st place c opens deep = rw (opens, false_from_ne_true (nat_lt (length st) 200) (λ (less : nat_lt (length st) 200 ≡ true). omega (arith, ltb-true (length st) 200 less, deep)))
-
-pub opens_at : (st : List Bracket) (place c : ℕ) → is_opening c ≡ true → length st < 200 → brackets_after st place (record { class = operator; text = c ∷ [] }) ≡ Some (record { opener = c; place = place } ∷ st)
-opens_at st place c opens room = opener_pushes st place (piece operator (c ∷ [])) opens room
-
-pub closes_none : (st : List Bracket) (place c : ℕ) → st ≡ [] → is_opening c ≡ false → is_closing c ≡ true → brackets_after st place (record { class = operator; text = c ∷ [] }) ≡ None
-unfolding brackets_after
-closes_none st place c none other closes = rw (none, other, closes) refl
-
-pub closes_wrong : (st : List Bracket) (place c : ℕ) (b : Bracket) (others : List Bracket) → st ≡ b ∷ others → is_opening c ≡ false → is_closing c ≡ true → (c ≡ closing_of b.opener → ⊥) → brackets_after st place (record { class = operator; text = c ∷ [] }) ≡ None
-unfolding brackets_after
-closes_wrong st place c b others top other closes unlike = rw (top, other, closes, false_from_ne_true (eqb c (closing_of b.opener)) (λ h. unlike (eqb-true c (closing_of b.opener) h))) refl
-
-pub closes_top : (st : List Bracket) (place c : ℕ) (b : Bracket) (others : List Bracket) → st ≡ b ∷ others → is_opening c ≡ false → is_closing c ≡ true → eqb c (closing_of b.opener) ≡ true → brackets_after st place (record { class = operator; text = c ∷ [] }) ≡ Some others
-closes_top st place c b others top other closes like = ap (λ s. brackets_after s place (piece operator (c ∷ []))) top ∙ closer_pops others place b (piece operator (c ∷ [])) closes like
-
+-- an operator at a byte that is no bracket
 pub keeps_at : (st : List Bracket) (place c : ℕ) → is_opening c ≡ false → is_closing c ≡ false → brackets_after st place (record { class = operator; text = c ∷ [] }) ≡ Some st
 keeps_at st place c opens closes = other_keeps st place (piece operator (c ∷ [])) opens closes

@@ -4,6 +4,7 @@ use Rattle.std.specs.Prelude.{encode_utf8, encode_utf8_all, IsUtf8}
 use Rattle.std.specs.Str.{all_scalars, StartsWithNoChar}
 use Rattle.std.specs.Char.{len_utf8}
 use Rattle.std.proofs.lemmas.Bool.{and_parts, both_ways, not-true}
+use Rattle.std.proofs.Math.Bool.{and-true}
 use Rattle.std.proofs.lemmas.List.{take_rest}
 use Rattle.std.proofs.lemmas.Str.{cons_from_encodes, encode_ascii, encode_same, encodes_same, length-encode, len_utf8_ascii, len_utf8_bounds}
 use Rattle.py_lines.specs.Character.{is_line_feed, is_return}
@@ -20,7 +21,7 @@ use Rattle.py_lines.specs.declared.scan.Stop.TheVariants as stops
 use Rattle.py_lines.specs.Private.Machine.{Scanned}
 use Rattle.py_lines.specs.Private.ScanMachine.{HoldsOpen, IsScanSound}
 use Rattle.py_lines.specs.Private.Scan.{Tallies, IsStacked, Takes, TakesNext, freed, line_start, stack_of, none_open, is_returned, is_return_mode, IsAtLineEnd, EndsWhole, ScansIn, Scans, StopsIn, StopsSo, StandsInString, TakesInString}
-use Rattle.py_lines.specs.Private.Run.{BeginsWith, ReachedInSomeLine, HoldsLongText, HoldsRun, HasAsciiQuote, Reached}
+use Rattle.py_lines.specs.Private.Run.{BeginsWith, ReachedInSomeLine, HoldsLongText, HoldsRun, HasAsciiQuote, Reached, WhereverReached}
 use Rattle.py_lines.specs.Private.WholePieces.{LeavesOff}
 use Rattle.py_lines.proofs.Text.CharacterTests.{feed_from}
 use Rattle.py_lines.proofs.Text.Incomplete.{text_none}
@@ -38,18 +39,15 @@ use Rattle.py_lines.proofs.LineScan.Runs.{reached_character, reached_run, sound_
 
 -- wherever in a line the scan stood before a text, it stands now before another
 abbrev pub GoesTo : Scan → List ℕ → Scan → List ℕ → Type 0
-GoesTo old text new rest = (m : Mode) (line : ℕ) (whole : List ℕ) → IsScanSound (line_start m) [] → Reached m line whole old text
-    → Reached m line whole new rest
+GoesTo old text new rest = WhereverReached old text (λ m line whole. Reached m line whole new rest)
 
--- and it stops so
+-- or it stops so
 abbrev pub StopsNow : Scan → List ℕ → Scan → Stop → Type 0
-StopsNow old text new stop = (m : Mode) (line : ℕ) (whole : List ℕ) → IsScanSound (line_start m) [] → Reached m line whole old text
-    → ScansIn m line whole new stop
+StopsNow old text new stop = WhereverReached old text (λ m line whole. ScansIn m line whole new stop)
 
 -- what pieces leave
 abbrev pub Leaves : Scan → List ℕ → Scan → Left → Type 0
-Leaves old before new left = (m : Mode) (line : ℕ) (whole : List ℕ) → IsScanSound (line_start m) [] → Reached m line whole old before
-    → LeavesOff m line whole new left
+Leaves old before new left = WhereverReached old before (λ m line whole. LeavesOff m line whole new left)
 
 -- what standing in a line tells
 pub record Stands (at : ℕ) (text : List ℕ) (scan : Scan) (rest : List ℕ) : Type 0 where
@@ -103,11 +101,7 @@ feed_last m scan read len at =
     let second = AreReadBefore-second at.body (at.last ∷ []) (10 ∷ []) fit in
     let apart = uncut at.last.class at.last.text (10 ∷ []) second.0 second.1 in
     ap (ends is_return) (sym at.spell) ∙ ends-line is_return at.body at.last at.are.class second.0
-    ∙ by_true (ends is_return at.last.text) apart
-  where
-    by_true : (b : Bool) → b && true ≡ false → b ≡ false
-    by_true true h = h
-    by_true false h = refl
+    ∙ sym (and-true (ends is_return at.last.text)) ∙ apart
 
 -- where CR is open, it was read last
 pub return_ends : (s : Scanned) (read : List ℕ) → IsScanSound s read → is_return_mode s.mode ≡ true → ends is_return read ≡ true

@@ -34,6 +34,7 @@ use Rattle.py_lines.proofs.ScanMachine.Advance.{steps_push}
 use Rattle.py_lines.specs.declared.scan.Progress.TheVariants as progress
 use Rattle.py_lines.proofs.Text.Utf8Prefixes.{all_scalars-append, scalars_more, spell_more}
 pub use Rattle.py_lines.proofs.LogicalLines.Cuts.{break-return}
+use Rattle.py_lines.proofs.LogicalLines.Cuts.{no_bytes}
 pub use Rattle.py_lines.proofs.LineScan.AsciiRuns.{word_byte_continues, word_byte_low, word_byte_starts}
 use Rattle.py_lines.proofs.Machine.PieceSteps.{scanned, longer, all_held, steps_by-append, grown_by, run_by}
 use Rattle.py_lines.proofs.Pieces.OpenBrackets.{stands}
@@ -176,10 +177,6 @@ full_from : (run : List ℕ) → 0 < byte_len run → IsFull run
 full_from [] some = absurd (omega (arith, some))
 full_from (c ∷ cs) some = tt
 
-none_from : (run : List ℕ) → byte_len run ≡ 0 → run ≡ []
-none_from [] none = refl
-none_from (c ∷ cs) none = absurd (omega (arith, none, length-append (encode_utf8 c) (encode_utf8_all cs), length-encode c, len_utf8_bounds c))
-
 -- a run was read, or none
 pub holds_run : (old mid new : Scan) (text : List ℕ) (n : ℕ) → HeldIn old text n mid → ((0 < n) × (new ≡ with_bytes mid n)) ⊎ ((n ≤ 0) × (new ≡ mid)) → HoldsRun old text (drop n text) new
 holds_run old mid new text n held how = record {
@@ -189,7 +186,7 @@ holds_run old mid new text n held how = record {
   fields = held.fields;
   stay = held.stay;
   reads = ⊎_elim (λ some. inr (full_from held.run (omega (arith, held.size, some.0)), some.1 ∙ (λ i. with_bytes (held.same i) (sym held.size i))))
-      (λ none. inl (none_from held.run (omega (arith, held.size, none.0)), none.1 ∙ held.none (omega (arith, none.0)))) how;
+      (λ none. inl (no_bytes held.run (omega (arith, held.size, none.0)), none.1 ∙ held.none (omega (arith, none.0)))) how;
 }
 
 -- no line ends in a run

@@ -23,7 +23,9 @@ use Rattle.py_lines.proofs.ScanMachine.Steps as runs_of
 use Rattle.py_lines.proofs.Machine.ReadingSteps.{MayBegin}
 use Rattle.py_lines.proofs.ScanMachine.Reaching.{reach, live_runs}
 use Rattle.py_lines.proofs.Pieces.OpenBrackets.{stack_before, stands}
-use Rattle.py_lines.proofs.ScanMachine.Advance.{kept, kept_if, advance, GoesTo, RunsTo, stops_there}
+use Rattle.py_lines.proofs.ScanMachine.Advance.{kept, kept_if, advance, GoesTo, RunsTo, stops_there, steps_push}
+use Rattle.py_lines.proofs.Machine.FinishedPieces.{closed_grows}
+use Rattle.py_lines.proofs.ScanMachine.LiveTexts.{live_runs}
 use Rattle.py_lines.proofs.Machine.LiveTexts.{stack_closed}
 use Rattle.py_lines.proofs.Lexings.LineEnds.{line_first}
 use Rattle.py_lines.proofs.LogicalLines.Cuts.{byte_len-append}
@@ -102,13 +104,6 @@ from_base base to c cs after flat is stops =
     ∙ ap (λ l. scan_steps (Some (fresh l)) (c ∷ cs)) (sym (append-nil base))
     ∙ steps-after base (Some (line_start modes.Free)) (c ∷ cs) flat
 
-step_as_run : (s : Scanned) (c : ℕ) → scan_steps (Some s) (c ∷ []) ≡ scan_step s c
-step_as_run s c = go (scan_step s c)
-  where
-    go : (o : Option Scanned) → scan_steps o [] ≡ o
-    go None = refl
-    go (Some t) = refl
-
 after_nothing : (o : Option Scanned) → after_if [] o ≡ o
 after_nothing None = refl
 after_nothing (Some t) = refl
@@ -168,7 +163,7 @@ module _ (n : ℕ) (base : List Piece) (after : List ℕ) (level : brackets_of b
         st = [];
         steps = record { run = ap (scan_steps (Some text_start)) (append-nil (spelled base)) ∙ reached.steps; stack = paired base to.mode to.done to.held level reached.pieces_are };
         pieces = reached.pieces_are ∙ sym (append-nil base) ∙ ap (λ (t : Scanned). base ++ pieces_at t) here;
-        next = λ d more follows. sym (step_as_run to d) ∙ from_base base to d [] more (stands base [] level).depth reached.pieces_are (subst (StopsBefore to.mode) follows (reached.stops (any after))) ∙ ap (after_if base) (step_as_run (line_start modes.Free) d) ∙ ap (λ (t : Scanned). after_if base (scan_step t d)) here;
+        next = λ d more follows. sym (steps_push to [] to d refl) ∙ from_base base to d [] more (stands base [] level).depth reached.pieces_are (subst (StopsBefore to.mode) follows (reached.stops (any after))) ∙ ap (after_if base) (steps_push (line_start modes.Free) [] (line_start modes.Free) d refl) ∙ ap (λ (t : Scanned). after_if base (scan_step t d)) here;
         short = closed_mode.0 ∙ ap (λ (t : Scanned). in_short t.mode) here;
         slash = closed_mode.1 ∙ ap (λ (t : Scanned). is_after_backslash t.mode) here;
         inside = λ at. absurd (first_plain n (ap (λ (t : Scanned). t.mode) begins ∙ at));

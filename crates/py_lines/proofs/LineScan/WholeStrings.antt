@@ -65,9 +65,6 @@ module _ (done : List Piece) (few : depth_through 0 done ≤ 100) (c : ℕ) (cs 
   field : is_field_spelling s ≡ true
   field = sym (word_tells c cs).0 ∙ begun
 
-  over_quote : (after : List ℕ) → scan_steps (Some (scanned done (modes.Word s) prefix)) (q ∷ after) ≡ scan_steps (Some (scanned done (modes.FieldOpened h) opening)) after
-  over_quote after = grown_by move_at done (modes.Word s) (modes.FieldOpened h) prefix q after (quote_opens s q field quotes)
-
   opened_state : string_state opening ≡ Some (field_state [] [] [] (spots.opened (host_in h)) opening)
   opened_state =
       let host : host_of prefix q ≡ host_in h = ap (λ (b : Bool). record { quote = q; is_long = false; is_raw = b }) ((word_tells c cs).1 field) in
@@ -106,4 +103,4 @@ module _ (done : List Piece) (few : depth_through 0 done ≤ 100) (c : ℕ) (cs 
 
     -- from the end of its prefix
     pub quoted_steps : scan_steps (Some (scanned done (modes.Word s) prefix)) (q ∷ ((d ∷ ds) ++ q ∷ [])) ≡ Some (fresh (done ++ piece string (held ++ q ∷ []) ∷ []))
-    quoted_steps = over_quote ((d ∷ ds) ++ q ∷ []) ∙ (to_end (q ∷ [])).0 ∙ ap (λ o. scan_steps o []) closes_string
+    quoted_steps = grown_by move_at done (modes.Word s) (modes.FieldOpened h) prefix q ((d ∷ ds) ++ q ∷ []) (quote_opens s q field quotes) ∙ (to_end (q ∷ [])).0 ∙ ap (λ o. scan_steps o []) closes_string

@@ -98,7 +98,7 @@ pub byte_len-append : (xs ys : List ℕ) → byte_len (xs ++ ys) ≡ byte_len xs
 byte_len-append xs ys = ap length (encodes-append xs ys) ∙ length-append _ _
 
 -- a byte of a text belongs to one prefix
-no_bytes : (k : List ℕ) → byte_len k ≡ 0 → k ≡ []
+pub no_bytes : (k : List ℕ) → byte_len k ≡ 0 → k ≡ []
 no_bytes k none =
     let bound = length-le-encodes k in
     nil_from_length k (omega arith)

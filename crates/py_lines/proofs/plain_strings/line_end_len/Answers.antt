@@ -1,5 +1,5 @@
 use Rattle.std.proofs.Common.{◌∙◌, sym}
-use Rattle.py_lines.proofs.FieldScans.TextLengths.{some_bytes}
+use Rattle.py_lines.proofs.Text.FirstCharacters.{some_bytes}
 use Rattle.py_lines.proofs.SimpleLines.FirstBytes.{feed_found, returned_found}
 use Rattle.py_lines.proofs.plain_strings.line_end_len.Goals as goal
 

@@ -1,5 +1,6 @@
 use Rattle.std.proofs.Common.{sym, ◌∙◌, arith}
-use Rattle.py_lines.proofs.FieldScans.TextLengths.{brace_part, double_part, escape_part, field_part, some_bytes}
+use Rattle.py_lines.proofs.FieldScans.TextLengths.{brace_part, double_part, escape_part, field_part}
+use Rattle.py_lines.proofs.Text.FirstCharacters.{some_bytes}
 use Rattle.py_lines.proofs.whole_strings.part_len.Goals as goal
 
 pub returns-in-125 : goal.returns-in-125

@@ -2,7 +2,7 @@ use Rattle.std.proofs.Common.{refl, sym, ap, ◌∙◌}
 use Rattle.py_lines.specs.Private.FieldMachine.{grows, closes, breaks, begins_code, opens_field, ends_field, refused}
 use Rattle.py_lines.specs.Private.FieldScan.{field_move_from, mode_from}
 use Rattle.py_lines.specs.Private.ScanMachine.{host_in}
-use Rattle.py_lines.proofs.FieldScans.Taking.{grown, moves_so, refused_there}
+use Rattle.py_lines.proofs.FieldScans.Taking.{grown, moves_so, no_step}
 use Rattle.py_lines.proofs.FieldScans.Places.{moved_placed}
 use Rattle.py_lines.proofs.field_scan.FieldScan.push.Goals as goal
 
@@ -27,7 +27,7 @@ pub returns-in-EndsField-clause-takes : goal.returns-in-EndsField-clause-takes
 returns-in-EndsField-clause-takes c = λ base t f inside at. c.end_field.ensures.takes c.args.c c.args.place c.args.depth base t f inside at (moves_so c.args.self.now base t c.args.c ends_field f (sym (ap field_move_from c.in-EndsField.is) ∙ c.meet.ensures))
 
 pub returns-in-Refused-clause-takes : goal.returns-in-Refused-clause-takes
-returns-in-Refused-clause-takes c = λ base t f inside at. refused_there c.args.self.now base c.args.depth t c.args.c (moves_so c.args.self.now base t c.args.c refused f (sym (ap field_move_from c.in-Refused.is) ∙ c.meet.ensures))
+returns-in-Refused-clause-takes c = λ base t f inside at. no_step base c.args.depth t c.args.c refused (moves_so c.args.self.now base t c.args.c refused f (sym (ap field_move_from c.in-Refused.is) ∙ c.meet.ensures)) c.args.self.now refl
 
 pub returns-in-Grows-clause-placed : goal.returns-in-Grows-clause-placed
 returns-in-Grows-clause-placed c = moved_placed c.args.self.now c.args.c (grows (mode_from c.in-Grows.mode)) (sym (ap field_move_from c.in-Grows.is) ∙ c.meet.ensures) c.requires.placed
