@@ -86,8 +86,6 @@ impl<'t> Source<'t> {
 
     /// Reads the tokens of the line that reaches to where the scan stopped, with `end_len` bytes of line end. It is read then.
     fn give(&mut self, end_len: usize) -> Result<(), AllocError>
-        requires within { self.old.state.place + self.old.state.scan.stop
-            ≤ length self.old.characters.now }
         requires boundary { IsCharBoundary self.old.characters.now
             (self.old.state.place + self.old.state.scan.stop) }
         requires lines { self.old.state.scan.count.line
@@ -108,8 +106,7 @@ impl<'t> Source<'t> {
 
     /// The text has this fault, from now on. It stands so many bytes after the lines that were read.
     fn fail(&mut self, kind: FaultKind, offset: usize) -> LexError
-        requires within { self.old.state.place + offset ≤ length self.old.characters.now }
-        requires boundary { IsCharBoundary self.old.characters.now (self.old.state.place + offset) }
+        requires { IsCharBoundary self.old.characters.now (self.old.state.place + offset) }
         ensures { FailsAfter self.old kind offset result self.new }
     {
         let place = self.state.place as usize;

@@ -105,6 +105,7 @@ fn wide_character(bytes: &[u8]) -> Option<char>
 }
 
 /// How many bytes a character has that begins with this one, if any does.
+#[tactic(auto, using(crate::proofs::Text::FirstCharacters::encoded))]
 fn encoded_len(first: u8) -> usize
     ensures some { 0 < result }
     ensures is { (c : ℕ)

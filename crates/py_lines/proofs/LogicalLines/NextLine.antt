@@ -71,10 +71,7 @@ lines_of-push given unit rest ended one fit =
     let first = AreReadBefore-first given unit rest fit in
     let lines : parts_lines (cut 0 given) ≡ line_ends (spelled given) = cut_lines 0 given (spelled unit ++ rest) first ∙ sym (line_ends-spelled given (spelled unit ++ rest) first) in
     let bytes : 0 + byte_len (parts_spelled (cut 0 given)) ≡ byte_len (spelled given) = omega (arith, ap byte_len (cut_spelled 0 given)) in
-    ap (lines_from 0 1) (cut-append given unit ended ∙ ap (λ us. cut 0 given ++ us) one)
-    ∙ lines_from-append 0 1 (cut 0 given) (unit ∷ [])
-    ∙ ap (λ (n : ℕ). lines_of given ++ line_of n (1 + parts_lines (cut 0 given)) unit ∷ []) bytes
-    ∙ ap (λ (n : ℕ). lines_of given ++ line_of (byte_len (spelled given)) (1 + n) unit ∷ []) lines
+    rw (cut-append given unit ended, one, lines_from-append 0 1 (cut 0 given) (unit ∷ []), bytes, lines)
 
 -- the logical lines of pieces that end a line stay, whatever pieces follow
 pub lines_of-more : (given others : List Piece) → EndsLine given → (more : List LogicalLine) × (lines_of (given ++ others) ≡ lines_of given ++ more)

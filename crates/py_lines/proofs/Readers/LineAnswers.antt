@@ -111,9 +111,6 @@ pub place_boundary : (s : Source) (stop : Stop) (has : HasScanned s stop) (offse
 place_boundary s stop has offset w =
     subst (λ (n : ℕ). IsCharBoundary s.characters.now (s.state.place + n)) (sym w.size) (IsCharBoundary-from_rest s.characters.now s.state.place (byte_len w.prefix) s.within (IsCharBoundary-at_seam (drop s.state.place s.characters.now) (encode_utf8_all w.prefix) (encode_utf8_all w.later ++ has.scans.rest) (sym (prefix_spells s stop has offset w)) (rest_text s stop has offset w)))
 
-pub place_room : (s : Source) (stop : Stop) (has : HasScanned s stop) (offset : ℕ) → Within has.scans.read offset → s.state.place + offset ≤ length s.characters.now
-place_room s stop has offset w = omega (arith, w.size, ap length (prefix_spells s stop has offset w), length-append (encode_utf8_all w.prefix) (encode_utf8_all w.later ++ has.scans.rest), length-drop s.state.place s.characters.now, s.within)
-
 pub all_within : (read : List ℕ) (n : ℕ) → n ≡ byte_len read → Within read n
 all_within read n size = record { prefix = read; later = []; split = append-nil read; size = size }
 

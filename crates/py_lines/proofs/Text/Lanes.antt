@@ -179,15 +179,11 @@ filled_run p bytes block mask pad r same few stops counts marks =
     ]
 
 -- the bits of the first lanes alone
-lowest : (b : Bool) (n : ℕ) → ((cond b 1 0 + 2 * n) % 2 ≡ cond b 1 0) × ((cond b 1 0 + 2 * n) / 2 ≡ n)
-lowest true n = (omega arith, omega arith)
-lowest false n = (omega arith, omega arith)
-
 bits_more : (b : Bool) (n k : ℕ) → (cond b 1 0 + 2 * n) % 2 ^ (k + 1) ≡ cond b 1 0 + 2 * (n % 2 ^ k)
 bits_more b n k =
-    let all : ℕ = cond b 1 0 + 2 * n in
-    let (low, high) = lowest b n in
-    mod-pow-add all k 1 ∙ ap (λ (h : ℕ). h % 2 ^ k * 2 + all % 2) high ∙ ap (λ (l : ℕ). n % 2 ^ k * 2 + l) low ∙ omega arith
+    let low : (cond b 1 0 + 2 * n) % 2 ≡ cond b 1 0 = grind arith in
+    let high : (cond b 1 0 + 2 * n) / 2 ≡ n = grind arith in
+    mod-pow-add (cond b 1 0 + 2 * n) k 1 ∙ ap (λ (h : ℕ). h % 2 ^ k * 2 + (cond b 1 0 + 2 * n) % 2) high ∙ ap (λ (l : ℕ). n % 2 ^ k * 2 + l) low ∙ omega arith
 
 mask_l-take : (ms : List Bool) (k : ℕ) → mask_l ms % 2 ^ k ≡ mask_l (take k ms)
 mask_l-take ms zero = omega arith

@@ -9,7 +9,7 @@ use Rattle.py_lines.proofs.run.comment_run.Goals as goal
 
 break_is : (x : ℕ) → is_byte2 10 13 x ≡ is_break x
 unfolding is_break
-break_is x = ap (λ b. (x == 10) || b) (sym (or-false (x == 13)))
+break_is x = grind arith
 
 no_break : (x : ℕ) → (is_byte2 10 13 x ≡ true → ⊥) → is_comment_byte x ≡ true
 no_break x none = ap not (sym (break_is x) ∙ false_from_ne_true _ none)

@@ -1,13 +1,8 @@
 use Rattle.std.proofs.Common.{◌++◌, ◌∷◌, []}
 use Rattle.std.proofs.lemmas.Result.{err_from_is_err_and}
 use Rattle.py_lines.specs.declared.scan.Stop.TheVariants.{LineEnd}
-use Rattle.py_lines.proofs.Readers.LineAnswers.{all_within, place_boundary, place_room, line_ended, is_line_text, few_lines_line, continues_line}
+use Rattle.py_lines.proofs.Readers.LineAnswers.{all_within, place_boundary, line_ended, is_line_text, few_lines_line, continues_line}
 use Rattle.py_lines.proofs.source.Source.end_line.Goals as goal
-
-pub give-requires-clause-within : goal.give-requires-clause-within
-give-requires-clause-within c =
-    let s = c.args.self.now in
-    place_room s (LineEnd c.args.len) c.requires s.state.scan.stop (all_within c.requires.scans.read s.state.scan.stop (line_ended s c.args.len c.requires).stop)
 
 pub give-requires-clause-boundary : goal.give-requires-clause-boundary
 give-requires-clause-boundary c =

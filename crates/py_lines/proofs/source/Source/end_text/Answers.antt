@@ -10,8 +10,9 @@ use Rattle.py_lines.specs.Private.LineState.{IsEndLineFault}
 use Rattle.py_lines.specs.Private.Machine.{is_final}
 use Rattle.py_lines.specs.Private.Source.{Advances, FailsAfter, HasScanned}
 use Rattle.py_lines.proofs.Machine.PieceSteps.{pieces_at}
-use Rattle.py_lines.proofs.Readers.LineAnswers.{all_within, place_room, place_boundary, is_line_text, stop_size, fails_at_bytes, fails_at_end, end_within, last_line, continues_text, few_lines_text}
+use Rattle.py_lines.proofs.Readers.LineAnswers.{all_within, place_room, place_boundary, is_line_text, stop_size, fails_at_bytes, fails_at_end, end_within, last_line, continues_text, few_lines_text, Within}
 use Rattle.py_lines.proofs.Readers.LineFaults.{Within, finished}
+use Rattle.py_lines.proofs.Readers.EndAnswers.{stop_size, fails_at_bytes, fails_at_end, end_within, last_line, continues_text, few_lines_text}
 use Rattle.py_lines.proofs.source.Source.end_text.Goals as goal
 
 line_fault_within : (s : Source) (has : HasScanned s TextEnd) (rest : ℕ) (line_fault : LineFault) → (rest ≡ 0 → length s.bytes.now ≤ length s.characters.now) → IsEndLineFault s.state.scan rest (Some line_fault) → Within has.scans.read line_fault.place
@@ -25,13 +26,8 @@ line_fault_fails s has line_fault (inl (some, kind, place)) error new at =
 line_fault_fails s has line_fault (inr (none, unfinished)) error new at =
     subst (λ (e : LexError). Advances s (Err e) new) (sym at.keeps.error_is) (fails_at_end s has new line_fault error at unfinished (omega (arith, none)))
 
-pub fail-requires-clause-within : goal.fail-requires-clause-within
-fail-requires-clause-within c =
-    let s = c.args.self.now in
-    place_room s TextEnd c.requires c.in-Some.line_fault.place (line_fault_within s c.requires (length s.bytes.now - length s.characters.now) c.in-Some.line_fault (λ none. omega (arith, none)) c.in-Some.ensures)
-
-pub fail-requires-clause-boundary : goal.fail-requires-clause-boundary
-fail-requires-clause-boundary c =
+pub fail-requires : goal.fail-requires
+fail-requires c =
     let s = c.args.self.now in
     place_boundary s TextEnd c.requires c.in-Some.line_fault.place (line_fault_within s c.requires (length s.bytes.now - length s.characters.now) c.in-Some.line_fault (λ none. omega (arith, none)) c.in-Some.ensures)
 
@@ -40,11 +36,6 @@ returns-in-Some c = line_fault_fails c.args.self.now c.requires c.in-Some.line_f
 
 final_mode : (s : Source) (has : HasScanned s TextEnd) → is_final s.state.scan.piece.mode ≡ true → is_final has.scans.stops.0.state.mode ≡ true
 final_mode s has final = ap (λ (m : Mode). is_final m) (sym has.scans.stops.0.tallies.counts.mode) ∙ final
-
-pub give-requires-clause-within : goal.give-requires-clause-within
-give-requires-clause-within c =
-    let s = c.args.self.now in
-    place_room s TextEnd c.requires s.state.scan.stop (all_within c.requires.scans.read s.state.scan.stop (stop_size s c.requires))
 
 pub give-requires-clause-boundary : goal.give-requires-clause-boundary
 give-requires-clause-boundary c =

@@ -3,15 +3,11 @@ use Rattle.py_lines.specs.declared.fault.LexError.{LexError}
 use Rattle.py_lines.specs.declared.scan.Stop.TheVariants.{Refused}
 use Rattle.py_lines.specs.Private.Source.{Advances}
 use Rattle.py_lines.proofs.Readers.LineAnswers.{place_room, place_boundary, refused_place_within, fails_at_character}
+use Rattle.py_lines.proofs.Readers.EndAnswers.{refused_place_within, fails_at_character}
 use Rattle.py_lines.proofs.source.Source.refuse.Goals as goal
 
-pub fail-requires-clause-within : goal.fail-requires-clause-within
-fail-requires-clause-within c =
-    let s = c.args.self.now in
-    place_room s (Refused c.args.c) c.requires c.refusal-line_fault.result.place (refused_place_within s c.args.c c.requires c.refusal-line_fault.result c.refusal-line_fault.ensures)
-
-pub fail-requires-clause-boundary : goal.fail-requires-clause-boundary
-fail-requires-clause-boundary c =
+pub fail-requires : goal.fail-requires
+fail-requires c =
     let s = c.args.self.now in
     place_boundary s (Refused c.args.c) c.requires c.refusal-line_fault.result.place (refused_place_within s c.args.c c.requires c.refusal-line_fault.result c.refusal-line_fault.ensures)
 
