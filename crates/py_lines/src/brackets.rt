@@ -63,6 +63,7 @@ impl Brackets {
     }
 
     /// How many brackets are open.
+    #[tactic(auto, using(crate::proofs::LineScan::BracketStack::depth_is))]
     #[inline(always)]
     pub fn len(&self) -> usize
         ensures { result ≡ depth_of self.now }
@@ -71,6 +72,7 @@ impl Brackets {
     }
 
     /// Whether no bracket is open.
+    #[tactic(auto, using(crate::proofs::LineScan::BracketStack::depth_is, crate::proofs::LineScan::BracketStack::none_length))]
     #[inline(always)]
     pub fn is_empty(&self) -> bool
         ensures { result ≡ none_open (stack_of self.now) }

@@ -28,6 +28,7 @@ impl<'t> Lines<'t> {
     ghost use Rattle.py_lines.specs.Lines.{LeavesNext, PassesUpTo};
 
     /// A reader at the start of a text, which is any bytes. The only error is `Memory`, and then there is no reader.
+    #[tactic(auto, using(crate::proofs::Readers::LineAnswers::start_given))]
     pub fn new(alloc: Global, text: &'t [u8]) -> Result<Lines<'t>, LexError>
         ensures start { IfOk result (λ l. l ≡ at_start text.now) }
         ensures given { IfOk result (λ l. HasGiven l []) }

@@ -29,6 +29,7 @@ fn bits_at(text: &[u8], base: usize) -> u64
 }
 
 /// The same of fewer bytes than 64.
+#[tactic(auto, using(crate::proofs::SpecialBytes::Places::filled))]
 #[inline(never)]
 fn last_bits(rest: &[u8]) -> u64
     requires { length rest.now < 64 }

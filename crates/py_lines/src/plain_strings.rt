@@ -18,6 +18,7 @@ pub struct Passed {
 }
 
 /// How many bytes the line end has that the bytes begin with, if they begin with LF or CR LF (Python Language Reference, 2.1.2).
+#[tactic(auto, using(crate::proofs::SimpleLines::FirstBytes::feed_found, crate::proofs::SimpleLines::FirstBytes::returned_found, crate::proofs::Text::FirstCharacters::some_bytes))]
 #[inline(always)]
 pub fn line_end_len(bytes: &[u8]) -> Option<usize>
     ensures { HasLineEnd bytes.now result }
@@ -35,6 +36,7 @@ pub fn line_end_len(bytes: &[u8]) -> Option<usize>
 }
 
 /// Passes the backslash that the bytes begin with, and what it escapes: a line end, or another byte of ASCII.
+#[tactic(auto, using(crate::proofs::SimpleLines::Strings::escapes_byte, crate::proofs::SimpleLines::Strings::escapes_line_end))]
 fn escape(bytes: &[u8]) -> Option<Passed>
     ensures { HasEscape bytes.now result }
 {
@@ -55,6 +57,7 @@ fn escape(bytes: &[u8]) -> Option<Passed>
 }
 
 /// The short string that the bytes begin with, which holds something.
+#[tactic(auto, using(crate::proofs::LineScan::Runs::quote_ascii))]
 fn short_string(bytes: &[u8]) -> Option<Passed>
     requires more { 1 < length bytes.now }
     requires quote { is_quote (slice_index bytes.now 0) ≡ true }
@@ -79,6 +82,7 @@ fn short_string(bytes: &[u8]) -> Option<Passed>
 }
 
 /// Passes a quote of the text of a string of three such quotes, with which the bytes begin, and the line end or the text after it.
+#[tactic(auto, using(crate::proofs::SimpleLines::Strings::lone_line_end_part, crate::proofs::SimpleLines::Strings::lone_text_part, crate::proofs::LineScan::Runs::quote_ascii))]
 fn lone_quote(quote: u8, bytes: &[u8]) -> Option<Passed>
     requires quote { is_quote quote ≡ true }
     requires some { 0 < length bytes.now }
@@ -104,6 +108,7 @@ fn lone_quote(quote: u8, bytes: &[u8]) -> Option<Passed>
 
 /// Passes what stands at these bytes of a string of three such quotes, after a run of its text: a line end, a quote of its text, or an
 /// escape.
+#[tactic(auto, using(crate::proofs::SimpleLines::Strings::line_end_part, crate::proofs::SimpleLines::Strings::part_of_escape))]
 fn part_of_long(quote: u8, bytes: &[u8]) -> Option<Passed>
     requires { is_quote quote ≡ true }
     ensures { PassesOrNot bytes.now result (IsInLong quote) (IsInLong quote) }
@@ -118,6 +123,7 @@ fn part_of_long(quote: u8, bytes: &[u8]) -> Option<Passed>
 }
 
 /// Passes text of a string of three such quotes: its lines up to the last block, and the run of text after them.
+#[tactic(auto, using(crate::proofs::SimpleLines::Strings::long_lines, crate::proofs::SimpleLines::Strings::text_part, crate::proofs::LineScan::Runs::quote_ascii))]
 #[inline(always)]
 fn text_of_long(quote: u8, bytes: &[u8]) -> Passed
     requires { is_quote quote ≡ true }
@@ -165,6 +171,7 @@ fn long_string(bytes: &[u8]) -> Option<Passed>
 
 /// The string that the bytes begin with by its first quote, where it has no fields, and is whole characters without CR except before
 /// LF.
+#[tactic(auto, using(crate::proofs::SimpleLines::Strings::empty_is))]
 pub fn plain_string(bytes: &[u8]) -> Option<Passed>
     requires some { 0 < length bytes.now }
     requires quote { is_quote (slice_index bytes.now 0) ≡ true }

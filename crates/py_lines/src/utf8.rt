@@ -81,6 +81,7 @@ pub fn utf8_len(bytes: &[u8]) -> usize
 }
 
 /// The character that the bytes begin with, if they begin with one.
+#[tactic(auto, using(crate::proofs::Text::FirstCharacters::none_first))]
 #[inline(always)]
 pub fn first_character(bytes: &[u8]) -> Option<char>
     ensures { MatchOption result (StartsWithNoChar bytes.now) (BeginsWith bytes.now) }

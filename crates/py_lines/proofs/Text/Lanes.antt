@@ -1,4 +1,5 @@
 -- Lanes that pass a test, marked by vectors of 16 bytes.
+use Rattle.std.proofs.lemmas.Str.{IsUtf8-from_ascii}
 use Rattle.std.proofs.Common.{◌≡◌, ℕ, zero, suc, ◌*◌, ◌/◌, ◌%◌, ◌^◌, ◌≤◌, ◌<◌, ◌&&◌, ◌||◌, not, List, [], ◌∷◌, Bool, true, false, cond, ◌+◌, ◌-◌, take, drop, slice_index, leb, ltb, eqb, length, map, ◌++◌, replicate, refl, sym, ap, inl, inr, ◌∙◌, subst, arith, w8, bit_and, bit_or}
 use Rattle.std.specs.List.{count_by, prefix_len}
 use Rattle.std.specs.Simd.Lanes.{chunk, zip2, sel_l, mask_l, top}
@@ -7,7 +8,7 @@ use Rattle.std.proofs.lemmas.Simd.{length-chunk, get_or-chunk, map-map, tops_com
 use Rattle.std.proofs.lemmas.Nat.{and_mask, mod-pow-add}
 use Rattle.std.proofs.lemmas.Str.Ascii.{IsAscii-from_all}
 use Rattle.std.proofs.lemmas.List.Elements.{All-from_get_or}
-use Rattle.std.specs.Str.{IsAscii}
+use Rattle.std.specs.Str.{IsUtf8}
 use Rattle.std.proofs.lemmas.List.{take_rest, length-map, length-drop, length-append, length-replicate, get_or-drop, get_or_append_left, get_or-append_right, get_or-replicate, take-map}
 use Rattle.std.proofs.lemmas.List.Sums.{prefix_len-le-length, prefix_len_passes, prefix_len_stops}
 use Rattle.std.proofs.lemmas.Bool.{both_ways, cases_lt, leb-false, not-true, not-false}
@@ -135,10 +136,10 @@ high_bits_are vs long =
     ap (λ ms. mask_l ms % 2 ^ 64) (tops_compared w8 leb (replicate 64 128) vs ∙ zip2_splat_left leb 128 64 vs long)
     ∙ mask_l-mod (map (λ x. leb 128 x) vs) 64 (omega (arith, length-map vs (λ x. leb 128 x), long))
 
-pub low_lanes : (vs : List ℕ) → length vs ≡ 64 → high_bits vs ≡ 0 → IsAscii vs
+pub low_lanes : (vs : List ℕ) → length vs ≡ 64 → high_bits vs ≡ 0 → IsUtf8 vs
 low_lanes vs long none =
     let all = leading_from_mask_l (λ x. leb 128 x) vs (sym (high_bits_are vs long) ∙ none) in
-    IsAscii-from_all vs (All-from_get_or (λ b. b < 128) vs 0 (λ i less. leb-false 128 _ (not-true _ (prefix_len_passes (λ x. not (leb 128 x)) vs i 0 (omega (arith, less, all))))))
+    IsUtf8-from_ascii vs (IsAscii-from_all vs (All-from_get_or (λ b. b < 128) vs 0 (λ i less. leb-false 128 _ (not-true _ (prefix_len_passes (λ x. not (leb 128 x)) vs i 0 (omega (arith, less, all)))))))
 
 -- past the bytes stands what fills the block
 pub filled_past : (bytes : List ℕ) (n k pad : ℕ) → length bytes ≤ k → k < n → slice_index (bytes ++ drop (length bytes) (replicate n pad)) k ≡ pad

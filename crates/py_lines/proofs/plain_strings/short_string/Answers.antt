@@ -1,13 +1,9 @@
 use Rattle.std.proofs.Common.{◌+◌, arith, refl}
-use Rattle.py_lines.proofs.LineScan.Runs.{quote_ascii}
 use Rattle.py_lines.proofs.SimpleLines.Strings.{after_rest, short_ended, short_escape, short_first, short_run}
 use Rattle.py_lines.proofs.plain_strings.short_string.Goals as goal
 
 pub parts-init : goal.parts-init
 parts-init c = record { some = omega arith; part = short_first _ c.requires.quote c.args.bytes.now (omega (arith, c.requires.more)) refl; few = omega arith }
-
-pub body_characters-len-requires : goal.body_characters-len-requires
-body_characters-len-requires c = record { quote = quote_ascii _ c.requires.quote }
 
 pub returns-then-bytes-len : goal.returns-then-bytes-len
 returns-then-bytes-len c =

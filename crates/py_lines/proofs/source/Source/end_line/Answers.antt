@@ -4,19 +4,17 @@ use Rattle.py_lines.specs.declared.scan.Stop.TheVariants.{LineEnd}
 use Rattle.py_lines.proofs.Readers.LineAnswers.{all_within, place_boundary, line_ended, is_line_text, few_lines_line, continues_line}
 use Rattle.py_lines.proofs.source.Source.end_line.Goals as goal
 
-pub give-requires-clause-boundary : goal.give-requires-clause-boundary
-give-requires-clause-boundary c =
+pub give-requires : goal.give-requires
+give-requires c =
     let s = c.args.self.now in
-    place_boundary s (LineEnd c.args.len) c.requires s.state.scan.stop (all_within c.requires.scans.read s.state.scan.stop (line_ended s c.args.len c.requires).stop)
-
-pub give-requires-clause-lines : goal.give-requires-clause-lines
-give-requires-clause-lines c = few_lines_line c.args.self.now c.args.len c.requires
-
-pub give-requires-clause-text : goal.give-requires-clause-text
-give-requires-clause-text c =
-    let s = c.args.self.now in
+    let stop = LineEnd c.args.len in
     let at = c.requires.scans.stops in
-    (at.body ++ at.last ∷ [], is_line_text s (LineEnd c.args.len) c.requires c.args.len (at.body ++ at.last ∷ []) (line_ended s c.args.len c.requires))
+    let ended = line_ended s c.args.len c.requires in
+    record {
+      boundary = place_boundary s stop c.requires s.state.scan.stop (all_within c.requires.scans.read s.state.scan.stop ended.stop);
+      lines = few_lines_line s c.args.len c.requires;
+      text = (at.body ++ at.last ∷ [], is_line_text s stop c.requires c.args.len (at.body ++ at.last ∷ []) ended);
+    }
 
 pub returns-in_err-give : goal.returns-in_err-give
 returns-in_err-give c =

@@ -37,20 +37,16 @@ returns-in-Some c = line_fault_fails c.args.self.now c.requires c.in-Some.line_f
 final_mode : (s : Source) (has : HasScanned s TextEnd) → is_final s.state.scan.piece.mode ≡ true → is_final has.scans.stops.0.state.mode ≡ true
 final_mode s has final = ap (λ (m : Mode). is_final m) (sym has.scans.stops.0.tallies.counts.mode) ∙ final
 
-pub give-requires-clause-boundary : goal.give-requires-clause-boundary
-give-requires-clause-boundary c =
-    let s = c.args.self.now in
-    place_boundary s TextEnd c.requires s.state.scan.stop (all_within c.requires.scans.read s.state.scan.stop (stop_size s c.requires))
-
-pub give-requires-clause-lines : goal.give-requires-clause-lines
-give-requires-clause-lines c = few_lines_text c.args.self.now c.requires
-
-pub give-requires-clause-text : goal.give-requires-clause-text
-give-requires-clause-text c =
+pub give-requires : goal.give-requires
+give-requires c =
     let s = c.args.self.now in
     let done = finished s.state.scan c.in_default.ensures.1 in
     let pieces = pieces_at c.requires.scans.stops.0.state in
-    (pieces, is_line_text s TextEnd c.requires 0 pieces (last_line s c.requires (final_mode s c.requires done.0) done.1 (omega (arith, c.in_default.ensures.0))))
+    record {
+      boundary = place_boundary s TextEnd c.requires s.state.scan.stop (all_within c.requires.scans.read s.state.scan.stop (stop_size s c.requires));
+      lines = few_lines_text s c.requires;
+      text = (pieces, is_line_text s TextEnd c.requires 0 pieces (last_line s c.requires (final_mode s c.requires done.0) done.1 (omega (arith, c.in_default.ensures.0))));
+    }
 
 pub returns-in_err-give : goal.returns-in_err-give
 returns-in_err-give c =

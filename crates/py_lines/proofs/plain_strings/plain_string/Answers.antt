@@ -1,6 +1,0 @@
-use Rattle.std.proofs.Common.{arith}
-use Rattle.py_lines.proofs.SimpleLines.Strings.{empty_is}
-use Rattle.py_lines.proofs.plain_strings.plain_string.Goals as goal
-
-pub returns-then-bytes-quote-2 : goal.returns-then-bytes-quote-2
-returns-then-bytes-quote-2 c = empty_is c.args.bytes.now c.requires.quote (omega (arith, c.if-bytes-lt3.false)) c.if-bytes-quote.false c.if-bytes-quote-2.true
