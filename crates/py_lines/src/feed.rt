@@ -1,7 +1,7 @@
 //! The scanner inside a `Scanner`: the text that it holds, and the scan of the line that this text begins with.
 
 ghost use Rattle.std.specs.Prelude.{◌≡◌, ℕ, ◌+◌, ◌-◌, ◌<◌, ◌≤◌, ◌^◌, ◌++◌, IsTrue, false};
-ghost use Rattle.std.specs.Prelude.{drop, take, length, OnOk, OnErr};
+ghost use Rattle.std.specs.Prelude.{drop, take, length, Option, OnOk, OnErr};
 ghost use Rattle.std.specs.Str.{StartsWithNoChar};
 ghost use Rattle.py_lines.specs.Private.Feed.{TellsHopeless};
 ghost use Rattle.py_lines.specs.Private.LineTokens.{IsLineText};
@@ -111,9 +111,10 @@ impl Feed {
     ghost use Rattle.std.specs.Prelude.{◌&&◌, not, IsTrue, true, false, None, Some, Ok, Err, List, [], IsUtf8};
     ghost use Rattle.py_lines.specs.ScannerState.{begun_at, Feeds, FeedsNaming, Finishes, PassesPieceLines, StandsAtLine};
     ghost use Rattle.py_lines.specs.ScannerState.View.{ready_of, scanning_of};
+    ghost use Rattle.py_lines.specs.LogicalLine.{LogicalLine};
     ghost use Rattle.py_lines.specs.UnitLine.{line_in};
-    ghost use Rattle.py_lines.specs.Private.Feed.{HasRoom, IsOpen, IsHeldOpen, IsCutAt, FailsAt, ReadsTokens, ScansHeld, StopsHeld, IsScanned};
-    ghost use Rattle.py_lines.specs.Private.Feed.{whole_end, GivesBack, TakesChunk, TakesSo, WaitsSo, HoldsLine, IsSoundFeed, EndsText, LetsGo};
+    ghost use Rattle.py_lines.specs.Private.Feed.{HasRoom, IsOpen, IsHeldOpen, IsCutAt, FailsAt, ReadsTokens, ScansHeld, StopsHeld, StopsWith, IsScanned};
+    ghost use Rattle.py_lines.specs.Private.Feed.{whole_end, GivesBack, HoldsPiece, HoldsSo, TakesSo, WaitsSo, HoldsLine, IsSoundFeed, EndsText, LetsGo};
 
     /// At this byte of a text, which is on this line. Nothing was fed.
     pub fn at(alloc: Global, place: u64, line: u64) -> Feed
@@ -139,14 +140,16 @@ impl Feed {
         self.state.fail(kind, prefix)
     }
 
-    /// Reads the tokens of the line that has ended where the scan stopped. If there is no memory for them, no line is ready: only so
+    /// Reads the tokens of the line that stands in what is held, if one does. If there is no memory for them, no line is ready: only so
     /// many bytes stay held, and their scan is begun anew.
     fn read_tokens(&mut self, before: usize) -> Result<(), LexError>
-        requires within { self.old.state.scan.stop ≤ length self.old.held.items }
-        requires text { IsLineText (take self.old.state.scan.stop self.old.held.items) }
+        requires holds { (line : Option LogicalLine) × HoldsSo self.old self.old.ready line }
         requires room { HasRoom self.old 0 }
         ensures { ReadsTokens self.old before result self.new }
     {
+        if self.ready.is_none() {
+            return Ok(());
+        }
         let stop = self.state.scan.stop;
         if let Err(error) = self.state.read_tokens(&self.held[..stop]) {
             self.held.truncate(before);
@@ -165,7 +168,7 @@ impl Feed {
         requires room { HasRoom self.old 0 }
         ensures { ScansHeld self.old result self.new }
     {
-        if self.state.scan.stop == self.held.len() {
+        if self.held.len() <= self.state.scan.stop {
             return Ok(());
         }
         if self.state.scan.is_returned() {
@@ -202,15 +205,14 @@ impl Feed {
     }
 
     /// Scans all that is held, up to a line's end or a part of a character.
-    fn scan_held(&mut self) -> Result<(), LexError>
+    fn scan_held(&mut self) -> Stop
         requires opens { IsHeldOpen self.old }
         requires not_ready { self.old.ready ≡ None }
         requires room { HasRoom self.old 0 }
-        ensures { ScansHeld self.old result self.new }
+        ensures { StopsWith self.old self.old.held.items result self.new }
     {
         let scanned = self.state.scan.stop;
-        let stop = self.state.scan.extend(&self.held[scanned..]);
-        self.meet(stop)
+        self.state.scan.extend(&self.held[scanned..])
     }
 
     /// Where what is held of a line that is ready ends: after CR one byte shows that the line is whole.
@@ -226,11 +228,11 @@ impl Feed {
         }
     }
 
-    /// Where a line is ready, lets go what was taken after it. More than `before` bytes stay held.
+    /// Where a line is ready, lets go what was taken after it. More than `before` bytes stay held, if more are.
     #[inline(always)]
     fn give_back(&mut self, before: usize)
         requires scanned { IsScanned self.old self.old.ready }
-        requires more { before < length self.old.held.items }
+        requires within { before ≤ length self.old.held.items }
         requires fits { length self.old.held.items ≤ 2 ^ 62 }
         ensures { GivesBack self.old before self.new }
     {
@@ -240,65 +242,63 @@ impl Feed {
         }
     }
 
-    /// How many of these bytes are taken next. Where none is held they are scanned where they stand; after CR one byte
-    /// more shows that the line is whole.
+    /// How many of these bytes are taken next to follow those that are held: after CR one byte more shows that the line is whole.
     #[inline(always)]
     fn step_len(&self, bytes: &[u8]) -> usize
-        requires some { 0 < length bytes.now }
-        ensures some { 0 < result }
+        ensures some { result ≡ 0 → length bytes.now ≡ 0 }
         ensures within { result ≤ length bytes.now }
     {
-        match self.held.as_slice() {
-            [] => bytes.len(),
+        let most = match self.held.as_slice() {
             [b'\r'] => 1,
-            held => bytes.len().min(held.len().max(STEP)),
-        }
+            held => held.len().max(STEP),
+        };
+        bytes.len().min(most)
     }
 
-    /// Takes bytes of these where none is held, up to a line's end: how many. They are scanned where they stand. If there
-    /// is no memory for them, none is taken.
+    /// Holds bytes of these, up to a line's end, and scans them: where the scan stops. If none was held they are scanned where they stand.
+    /// If there is no memory for them, none is taken.
     #[inline(always)]
-    fn take_first(&mut self, chunk: &[u8]) -> Result<usize, LexError>
+    fn hold(&mut self, piece: &[u8]) -> Result<Stop, AllocError>
         requires opens { IsHeldOpen self.old }
-        requires none_held { self.old.held.items ≡ [] }
         requires not_ready { self.old.ready ≡ None }
-        requires some { 0 < length chunk.now }
-        requires room { HasRoom self.old (length chunk.now) }
-        ensures { TakesChunk self.old chunk.now result self.new }
+        requires room { HasRoom self.old (length piece.now) }
+        ensures { HoldsPiece self.old piece.now result self.new }
     {
-        let stop = self.state.scan.extend(chunk);
+        if !self.held.is_empty() {
+            let len = self.step_len(piece);
+            self.held.extend_from_slice(&piece[..len])?;
+            return Ok(self.scan_held());
+        }
+        let stop = self.state.scan.extend(piece);
         let len = match stop {
             Stop::LineEnd(_) => self.whole_end(),
-            _ => chunk.len(),
+            _ => piece.len(),
         };
-        if let Err(error) = hold_first(&mut self.held, chunk, len) {
+        if let Err(error) = hold_first(&mut self.held, piece, len) {
             self.state.restart();
-            return Err(error.into());
+            return Err(error);
         }
-        self.meet(stop)?;
-        self.give_back(0);
-        Ok(self.held.len())
+        Ok(stop)
     }
 
-    /// Takes bytes of these, up to a line's end: how many. If there is no memory for them, none is taken.
-    fn take(&mut self, chunk: &[u8]) -> Result<usize, LexError>
-        requires opens { IsHeldOpen self.old }
+    /// Takes bytes of a piece, up to a line's end: how many. If there is no memory for them, none is taken.
+    fn take(&mut self, piece: &[u8]) -> Result<usize, LexError>
+        requires sound { IsSoundFeed self.old }
+        requires no_fault { self.old.state.fault ≡ None }
         requires not_ready { self.old.ready ≡ None }
-        requires some { 0 < length chunk.now }
-        requires room { HasRoom self.old (length chunk.now) }
-        ensures { TakesChunk self.old chunk.now result self.new }
+        requires fits { self.old.state.place + length self.old.held.items + length piece.now
+            ≤ 2 ^ 62 }
+        ensures { TakesSo self.old piece.now result self.new }
     {
         let before = self.held.len();
-        if before == 0 {
-            return self.take_first(chunk);
-        }
-        self.held.extend_from_slice(chunk)?;
-        self.scan_held()?;
+        let stop = self.hold(piece)?;
+        self.meet(stop)?;
         self.give_back(before);
         Ok(self.held.len() - before)
     }
 
-    /// Takes bytes of a piece, up to a line's end: how many. Its tokens are not read.
+    /// Takes all bytes of a piece, up to a line's end: how many. If there is no memory for more, only the first are taken. The tokens of
+    /// the line are not read.
     fn take_bytes(&mut self, piece: &[u8]) -> Result<usize, LexError>
         requires sound { IsSoundFeed self.old }
         requires no_fault { self.old.state.fault ≡ None }
@@ -307,17 +307,11 @@ impl Feed {
             ≤ 2 ^ 62 }
         ensures { TakesSo self.old piece.now result self.new }
     {
-        if piece.is_empty() {
-            self.scan_held()?;
-        }
-        let mut taken = 0;
+        let mut taken = self.take(piece)?;
         while taken < piece.len() && self.ready.is_none() {
-            let rest = &piece[taken..];
-            let len = self.step_len(rest);
-            match self.take(&rest[..len]) {
+            match self.take(&piece[taken..]) {
                 Ok(more) => taken += more,
                 Err(LexError::Fault(fault)) => return Err(LexError::Fault(fault)),
-                Err(LexError::Memory) if taken == 0 => return Err(LexError::Memory),
                 Err(LexError::Memory) => return Ok(taken),
             }
         }
@@ -348,9 +342,7 @@ impl Feed {
         }
         let before = self.held.len();
         let taken = self.take_bytes(piece)?;
-        if self.ready.is_some() {
-            self.read_tokens(before)?;
-        }
+        self.read_tokens(before)?;
         Ok(taken)
     }
 
@@ -371,7 +363,7 @@ impl Feed {
         if self.waits()? {
             return Ok(0);
         }
-        let held = self.held.len();
+        let before = self.held.len();
         let taken = self.take_bytes(piece)?;
         if self.ready.is_none() {
             return Ok(taken);
@@ -380,7 +372,7 @@ impl Feed {
             self.release();
             return Ok(taken);
         }
-        self.read_tokens(held)?;
+        self.read_tokens(before)?;
         Ok(taken)
     }
 
@@ -447,8 +439,12 @@ impl Feed {
         requires room { HasRoom self.old 0 }
         ensures { EndsText self.old result self.new }
     {
-        self.scan_held()?;
-        if self.ready.is_some() || self.held.is_empty() {
+        if self.held.is_empty() {
+            return Ok(());
+        }
+        let stop = self.scan_held();
+        self.meet(stop)?;
+        if self.ready.is_some() {
             return Ok(());
         }
         if self.state.scan.is_returned() {
@@ -475,9 +471,7 @@ impl Feed {
         }
         self.end_text()?;
         let all = self.held.len();
-        if self.ready.is_some() {
-            self.read_tokens(all)?;
-        }
+        self.read_tokens(all)?;
         self.ended = true;
         Ok(())
     }

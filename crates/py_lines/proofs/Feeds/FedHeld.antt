@@ -1,5 +1,5 @@
 -- What the bytes fed settle and decide, where they were scanned.
-use Rattle.std.proofs.Common.{◌≡◌, ℕ, ◌+◌, ◌<◌, ◌⊎◌, true, false, ◌&&◌, Option, None, Some, List, [], ◌∷◌, ◌++◌, length, take, refl, sym, ap, ◌∙◌, subst, ⊎_elim, inl, inr, append-nil, arith, length-append}
+use Rattle.std.proofs.Common.{◌≡◌, ℕ, ◌+◌, ◌<◌, true, false, ◌&&◌, None, Some, List, [], ◌∷◌, ◌++◌, length, take, refl, sym, ap, ◌∙◌, subst, ⊎_elim, inl, inr, append-nil, arith, length-append}
 use Rattle.std.specs.Prelude.{encode_utf8_all}
 use Rattle.std.proofs.lemmas.Bool.{cases_lt}
 use Rattle.std.proofs.lemmas.List.{take_all}
@@ -19,20 +19,23 @@ use Rattle.py_lines.specs.declared.scan.Scan.{Scan}
 use Rattle.py_lines.specs.declared.scan.Stop.TheVariants as stops
 use Rattle.py_lines.specs.Private.Scan.{IsApart, ScansIn, line_start, is_return_mode, none_open, stack_of, EndsWhole}
 use Rattle.py_lines.specs.Private.LineState.{first_mode}
-use Rattle.py_lines.specs.Private.Feed.{IsScanned, SettleNone, StopsAfter, StopsHeld}
+use Rattle.py_lines.specs.Private.Feed.{IsScanned}
 use Rattle.py_lines.proofs.Text.Utf8Prefixes.{nothing_bad}
 use Rattle.py_lines.proofs.Text.Incomplete.{part_none}
 use Rattle.py_lines.proofs.Lexings.Existence.{reading_live}
 use Rattle.py_lines.proofs.Faults.Verdict.{not_live}
 use Rattle.py_lines.proofs.Text.Decoding.{decoded}
 use Rattle.py_lines.proofs.LineScan.TextSteps.{way_goes}
-use Rattle.py_lines.proofs.Feeds.Known.{IsKnown, both_none, goes_with_first, known_after, is_known}
-use Rattle.py_lines.proofs.Feeds.Steps.{reached_by}
+use Rattle.py_lines.proofs.Feeds.Known.{IsKnown, both_none, known_after, is_known}
 use Rattle.py_lines.proofs.Feeds.SettledSoFar.{settled_open, settled_ready, ended_before, IsNextLine}
 use Rattle.py_lines.proofs.Feeds.DecidedSoFar.{undecided}
-use Rattle.py_lines.proofs.Feeds.ReadyLines.{ended_alone, ended_holds, ended_scan, pieces_alone, same_before}
+use Rattle.py_lines.proofs.Feeds.ReadyLines.{ended_alone, ended_scan, pieces_alone, same_before}
 use Rattle.py_lines.proofs.Feeds.LastBytes.{exactly_encoded}
 use Rattle.py_lines.proofs.LineScan.LineSteps.{follows_whole}
+
+-- these bytes, if there are any, settle the lines given and no more
+abbrev pub SettleNone : List ℕ → ℕ → List ℕ → List LogicalLine → Type 0
+SettleNone text place items lines = 0 < length items → IsSettled (take (place + length items) text) lines
 
 -- a line has ended in these bytes, which a text goes on with after the lines given
 module _ (text : List ℕ) (place : ℕ) {line : ℕ} {bytes : List ℕ} {scan : Scan} {end_len : ℕ} (lines : List LogicalLine) (s : ScansIn (first_mode place) line bytes scan (stops.LineEnd end_len)) (first : AreFirstLines text place line lines) (goes : GoesOnWith text place bytes) where
@@ -69,27 +72,17 @@ module _ (text : List ℕ) (place : ℕ) {line : ℕ} {bytes : List ℕ} {scan :
       by_whole (inr (b, more, is, other)) none = absurd (omega (arith, ap length (sym is ∙ none)))
 
   -- where they are the line, with one byte more after CR alone, it is settled
-  settled_fed : EndsExactly s.read s.rest → IsSettled (take (place + length bytes) text) (lines ++ line_of place line (pieces_alone s) ∷ [])
+  pub settled_fed : EndsExactly s.read s.rest → IsSettled (take (place + length bytes) text) (lines ++ line_of place line (pieces_alone s) ∷ [])
   settled_fed exact =
       subst (λ t. IsSettled (take (place + length t) text) (lines ++ line_of place line (pieces_alone s) ∷ [])) s.spell
       (settled_ready text place line lines s.read s.rest known (pieces_alone s) next_line exact)
 
--- what is held then
-pub scanned_ended : (f : Feed) (end_len : ℕ) (s : StopsHeld f (stops.LineEnd end_len)) (before later : List ℕ) → before ++ later ≡ f.held.items
-    → EndsExactly s.read s.rest ⊎ ScansIn (first_mode f.state.place) f.state.line before f.state.scan (stops.LineEnd end_len) → StopsAfter before f (Some end_len)
-scanned_ended f end_len s before later spell which = (
-  ended_holds f end_len s,
-  λ text lines first goes none. ⊎_elim
-      (λ exact. (settled_fed text f.state.place lines s first goes exact, whole exact))
-      (λ had. absurd (never_before text f.state.place lines had first (goes_with_first text f.state.place before later (subst (GoesOnWith text f.state.place) (sym spell) goes)) none))
-      which,
-)
-  where
-    text_is : encode_utf8_all (spelled (pieces_alone s)) ≡ encode_utf8_all s.read
-    text_is = ap encode_utf8_all (ended_alone s).line.spell
-
-    whole : EndsExactly s.read s.rest → HoldsReady f.held.items (Some (line_of f.state.place f.state.line (pieces_alone s)))
-    whole exact = (s.rest, sym s.spell ∙ ap (λ t. t ++ s.rest) (sym text_is), subst (λ t. EndsExactly t s.rest) (sym text_is) (exactly_encoded s.read s.rest exact))
+  -- and they are it
+  pub holds_exactly : EndsExactly s.read s.rest → HoldsReady bytes (Some (line_of place line (pieces_alone s)))
+  holds_exactly exact = (s.rest, sym s.spell ∙ ap (λ t. t ++ s.rest) (sym text_is), subst (λ t. EndsExactly t s.rest) (sym text_is) (exactly_encoded s.read s.rest exact))
+    where
+      text_is : encode_utf8_all (spelled (pieces_alone s)) ≡ encode_utf8_all s.read
+      text_is = ap encode_utf8_all (ended_alone s).line.spell
 
 -- no line has ended in what is held, which was scanned
 module _ (f : Feed) (s : IsScanned f None) (text : List ℕ) (lines : List LogicalLine) (first : AreFirstLines text f.state.place f.state.line lines) (goes : GoesOnWith text f.state.place f.held.items) where
@@ -133,21 +126,13 @@ module _ (text : List ℕ) (place line : ℕ) (lines : List LogicalLine) (first 
   pub undecided_first : ¬ (Decides (take (place + 0) text) fault)
   undecided_first d = ⊎_elim (λ good. after_line good.0 d) (λ nothing. after_text nothing d) first.ended
 
--- nor where what is held was scanned, and no line has ended in it
-pub scanned_open : (f : Feed) → IsScanned f None → (before : List ℕ) → StopsAfter before f None
-scanned_open f s before = (
-  (s.0.rest, reached_by s.0 s.0.stops.0),
-  λ text lines first goes. (
-    λ some. settled_scanned f s text lines first goes some,
-    λ fault d. ⊎_elim
-        (λ some. undecided_scanned f s text lines first goes some fault d)
-        (λ none. undecided_first text f.state.place f.state.line lines first fault (subst (λ (n : ℕ). Decides (take (f.state.place + n) text) fault) (omega (arith, none)) d))
-        (cases_lt 0 (length f.held.items)),
-  ),
+-- nor where what is held was scanned, and no line has ended in it: the lines given are settled
+pub scanned_open : (f : Feed) → IsScanned f None → (text : List ℕ) (lines : List LogicalLine) → AreFirstLines text f.state.place f.state.line lines → GoesOnWith text f.state.place f.held.items
+    → SettleNone text f.state.place f.held.items lines × DecideNone (take (f.state.place + length f.held.items) text)
+scanned_open f s text lines first goes = (
+  λ some. settled_scanned f s text lines first goes some,
+  λ fault d. ⊎_elim
+      (λ some. undecided_scanned f s text lines first goes some fault d)
+      (λ none. undecided_first text f.state.place f.state.line lines first fault (subst (λ (n : ℕ). Decides (take (f.state.place + n) text) fault) (omega (arith, none)) d))
+      (cases_lt 0 (length f.held.items)),
 )
-
--- what was held before is scanned: a line that has ended in it had before
-pub scanned_again : (f : Feed) (before : List ℕ) → f.held.items ≡ before → (r : Option ℕ) → IsScanned f r → StopsAfter before f r
-scanned_again f before same None s = scanned_open f s before
-scanned_again f before same (Some n) s =
-    scanned_ended f n s before [] (append-nil before ∙ sym same) (inr (subst (λ l. ScansIn (first_mode f.state.place) f.state.line l f.state.scan (stops.LineEnd n)) same s))

@@ -16,9 +16,7 @@ use Rattle.py_lines.specs.Private.Scan.{EndsWhole, ScansIn}
 use Rattle.py_lines.specs.declared.scan.Stop.{Stop}
 use Rattle.py_lines.specs.declared.scan.Stop.TheVariants as stops
 use Rattle.py_lines.specs.ScannerState.{EndsExactly}
-use Rattle.py_lines.specs.Private.Feed.{Holds, IsScanned, StopsAfter, StopsHeld, whole_end, GivesBack, TakesOf}
-use Rattle.py_lines.proofs.Feeds.FedHeld.{scanned_ended, scanned_open}
-use Rattle.py_lines.proofs.Feeds.Loops.{holds_on}
+use Rattle.py_lines.specs.Private.Feed.{EndsWithLine, GivesBack, IsScanned, StopsHeld, whole_end}
 use Rattle.py_lines.proofs.Feeds.ReadyLines.{ended_alone, none_is, some_is}
 
 -- a line's end stays whole where one byte after CR stays
@@ -48,7 +46,7 @@ module _ {m : Mode} {line : ℕ} {bytes : List ℕ} {scan : Scan} {end_len : ℕ
   pub stop_within : scan.stop ≤ length bytes
   stop_within = omega (arith, (ended_alone s).stop, bytes_size)
 
-  pub end_some : 0 < whole_end scan
+  end_some : 0 < whole_end scan
   end_some = ⊎_elim (λ a. omega (arith, a.0, (ended_alone s).line.some)) (λ b. omega (arith, b.0)) end_is
 
   -- the line with the byte after CR lies in the bytes
@@ -82,32 +80,31 @@ module _ {m : Mode} {line : ℕ} {bytes : List ℕ} {scan : Scan} {end_len : ℕ
       (λ b. let one : 1 ≡ n - byte_len s.read = omega (arith, is, b.0) in subst (λ (k : ℕ). EndsExactly s.read (take k s.rest)) one (exact_return s.read s.rest b.1 s.stops.1))
       end_is
 
--- so many of these bytes are held of those that were scanned: some, and as many as the scan stops in
+-- so many of these bytes are held of those that were scanned: some, if there are any, and as many as the scan stops in
 pub record HoldsStop (m : Mode) (line : ℕ) (bytes : List ℕ) (scan : Scan) (stop : Stop) (n : ℕ) : Type 0 where
-  pub some : 0 < n
+  pub some : n ≡ 0 → length bytes ≡ 0
   pub within : n ≤ length bytes
   pub stops : (items : List ℕ) → items ≡ take n bytes → ScansIn m line items scan stop
 
 -- all, or up to the end of the line
-pub holds_bytes : {m : Mode} {line : ℕ} {bytes : List ℕ} {scan : Scan} {stop : Stop} → ScansIn m line bytes scan stop → 0 < length bytes → HoldsStop m line bytes scan stop (length bytes)
-holds_bytes {m} {line} {bytes} {scan} {stop} s some = record {
-  some = some;
+pub holds_bytes : {m : Mode} {line : ℕ} {bytes : List ℕ} {scan : Scan} {stop : Stop} → ScansIn m line bytes scan stop → HoldsStop m line bytes scan stop (length bytes)
+holds_bytes {m} {line} {bytes} {scan} {stop} s = record {
+  some = λ none. none;
   within = omega arith;
   stops = λ items is. subst (λ t. ScansIn m line t scan stop) (sym (is ∙ take_all (length bytes) bytes (omega arith))) s;
 }
 
 pub holds_line_end : {m : Mode} {line : ℕ} {bytes : List ℕ} {scan : Scan} {end_len : ℕ} → ScansIn m line bytes scan (stops.LineEnd end_len) → HoldsStop m line bytes scan (stops.LineEnd end_len) (whole_end scan)
-holds_line_end {m} {line} {bytes} {scan} s = record { some = end_some s; within = end_within s; stops = λ items is. ends_in_first s (whole_end scan) items is (omega arith) }
+holds_line_end {m} {line} {bytes} {scan} s = record { some = λ none. absurd (omega (arith, none, end_some s)); within = end_within s; stops = λ items is. ends_in_first s (whole_end scan) items is (omega arith) }
 
-module _ (f : Feed) (before : ℕ) (scanned : IsScanned f f.ready) (more : before < length f.held.items) where
+module _ (f : Feed) (before : ℕ) (scanned : IsScanned f f.ready) where
   -- no line is ready
   pub gives_none : is_some f.ready ≡ false → GivesBack f before f
   gives_none none = record {
     kept = length f.held.items;
-    more = more;
-    within = omega arith;
+    more = inr (omega arith);
     text = record { held = sym (take_all (length f.held.items) f.held.items (omega arith)); place = refl; line = refl; ended = refl; fault = refl };
-    stops = subst (StopsAfter (take before f.held.items) f) (sym (none_is f.ready none)) (scanned_open f (subst (IsScanned f) (none_is f.ready none) scanned) (take before f.held.items));
+    ends = subst (EndsWithLine (take before f.held.items) f) (sym (none_is f.ready none)) (subst (IsScanned f) (none_is f.ready none) scanned);
   }
 
   module _ (some : is_some f.ready ≡ true) where
@@ -123,34 +120,12 @@ module _ (f : Feed) (before : ℕ) (scanned : IsScanned f f.ready) (more : befor
     unfolding ends_in_first
     gives_line v kept held is =
         let s = line_ready in
-        let left : whole_end f.state.scan ≤ kept = omega (arith, is) in
-        let right : before + 1 ≤ kept = omega (arith, is) in
-        let split : take before f.held.items ++ drop before v.items ≡ v.items = ap (λ l. l ++ drop before v.items) (sym (ap (take before) held ∙ take-take before kept f.held.items (omega (arith, right)))) ∙ take-append-drop before v.items in
         record {
           kept = kept;
-          more = omega (arith, right);
-          within = omega (arith, is, end_within s, more);
+          more = inl (omega (arith, is));
           text = record { held = held; place = refl; line = refl; ended = refl; fault = refl };
-          stops = subst (StopsAfter (take before f.held.items) (record f { held = v })) (sym (some_is f.ready some).1)
-              (scanned_ended (record f { held = v }) (some_is f.ready some).0 (ends_in_first s kept v.items held left) (take before f.held.items) (drop before v.items) split
-              (⊎_elim (λ less. inl (ends_exactly s kept (omega (arith, is, less)))) (λ past. inr (ends_in_first s before (take before f.held.items) refl past)) (cases_lt before (whole_end f.state.scan))));
+          ends = subst (EndsWithLine (take before f.held.items) (record f { held = v })) (sym (some_is f.ready some).1) (
+            ends_in_first s kept v.items held (omega (arith, is)),
+            ⊎_elim (λ less. inl (ends_exactly s kept (omega (arith, is, less)))) (λ past. inr (ends_in_first s before (take before f.held.items) refl past)) (cases_lt before (whole_end f.state.scan)),
+          );
         }
-
--- bytes of a chunk were taken
-pub takes_of : (old mid new : Feed) (chunk : List ℕ) (first n : ℕ) → first ≤ length chunk → Holds old (old.held.items ++ take first chunk) old.state.fault mid
-    → n ≡ length new.held.items - length old.held.items → GivesBack mid (length old.held.items) new → (0 < n) × TakesOf old chunk n new
-takes_of old mid new chunk first n within holds size g =
-    let whole : length mid.held.items ≡ length old.held.items + first = ap length holds.held ∙ length-append old.held.items (take first chunk) ∙ ap (λ (k : ℕ). length old.held.items + k) (length-take-le first chunk within) in
-    let kept : length new.held.items ≡ g.kept = ap length g.text.held ∙ length-take-le g.kept mid.held.items g.within in
-    let parts : g.kept ≡ length old.held.items + n = omega (arith, size, kept, g.more) in
-    let less : n ≤ first = omega (arith, parts, g.within, whole) in
-    let items : take g.kept mid.held.items ≡ old.held.items ++ take n chunk
-    = ap (take g.kept) holds.held ∙ ap (λ (k : ℕ). take k (old.held.items ++ take first chunk)) parts ∙ take-append-add old.held.items (take first chunk) n ∙ ap (λ l. old.held.items ++ l) (take-take n first chunk less) in
-    let before : take (length old.held.items) mid.held.items ≡ old.held.items = ap (take (length old.held.items)) holds.held ∙ take-append_seam old.held.items (take first chunk) in (
-      omega (arith, size, kept, g.more),
-      record {
-        within = omega (arith, less, within);
-        text = holds_on holds g.text items holds.fault;
-        stops = subst (λ l. StopsAfter l new new.ready) before g.stops;
-      },
-    )

@@ -1,20 +1,25 @@
 -- What a scan of what is held comes to.
-use Rattle.std.proofs.Common.{◌≡◌, ℕ, ◌<◌, Bool, false, Option, None, Some, Err, List, [], length, refl, sym, ap, ◌∙◌, subst, ⊎_elim, append-nil, arith}
+use Rattle.std.proofs.Common.{◌≡◌, ℕ, ◌+◌, ◌<◌, ◌≤◌, ◌^◌, Bool, false, Option, None, Some, Result, Ok, Err, List, [], ◌++◌, length, take, refl, sym, ap, ◌∙◌, subst, ⊎_elim, append-nil, arith, length-append}
 use Rattle.std.specs.Prelude.{encode_utf8_all}
 use Rattle.std.proofs.lemmas.Bool.{cases_lt}
 use Rattle.std.proofs.lemmas.List.{nil_from_length}
+use Rattle.std.proofs.Math.Seq.{take-append_seam}
 use Rattle.py_lines.specs.Settled.{IsHopeless}
 use Rattle.py_lines.specs.declared.fault.Fault.{Fault}
 use Rattle.py_lines.specs.declared.fault.FaultKind.{FaultKind}
 use Rattle.py_lines.specs.declared.fault.FaultKind.TheVariants.{BadUtf8}
+use Rattle.py_lines.specs.ScannerState.{ScannerRunsOut}
+use Rattle.py_lines.specs.ScannerState.View.{ready_of, scanning_of}
 use Rattle.py_lines.specs.declared.fault.LexError.{LexError}
+use Rattle.py_lines.specs.declared.fault.LexError.TheVariants as lex
 use Rattle.py_lines.specs.declared.feed.Feed.{Feed}
 use Rattle.py_lines.specs.declared.line_state.LineState.{LineState}
 use Rattle.py_lines.specs.declared.scan.LineFault.{LineFault}
+use Rattle.py_lines.specs.declared.scan.Stop.{Stop}
 use Rattle.py_lines.specs.declared.scan.Stop.TheVariants as stops
 use Rattle.py_lines.specs.Private.Scan.{IsUnderWay, line_start, is_returned, IsRefusal}
 use Rattle.py_lines.specs.Private.LineState.{BeginsAnew, IsFaultAfter, first_mode}
-use Rattle.py_lines.specs.Private.Feed.{FailsAt, FailsIn, Holds, HoldsAt, IsDecidedAt, IsOpen, IsUnchanged, ScansHeld, StopsHeld, WhereHeld}
+use Rattle.py_lines.specs.Private.Feed.{DropsLine, FailsAt, HasRoom, Holds, HoldsAt, IsDecidedAt, IsOpen, IsSoundFeed, IsUnchanged, ScansHeld, ScansTo, StandsSo, StopsHeld, StopsWith, WhereHeld}
 use Rattle.py_lines.proofs.Text.Incomplete.{part_none}
 use Rattle.py_lines.proofs.Readers.LineFaults.{Within, refused_within}
 use Rattle.py_lines.proofs.Feeds.DecidedSoFar.{by_bytes, by_character}
@@ -29,9 +34,35 @@ pub holds_on : {place line : ℕ} {ended : Bool} {items more others : List ℕ} 
     → HoldsAt place line ended others also new
 holds_on a b is same = record { held = b.held ∙ is; place = b.place ∙ a.place; line = b.line ∙ a.line; ended = b.ended ∙ a.ended; fault = b.fault ∙ same }
 
--- what is held decides a fault, as a call found it that began before
-pub fails_from : (old mid new : Feed) {items : List ℕ} {known : Option Fault} (fault : Fault) → Holds old items known mid → FailsIn mid mid.held.items fault new → FailsIn old items fault new
-fails_from old mid new fault h (text, ready, decided) = (holds_on h text h.held refl, ready, rw (← h.held, ← h.place, ← h.line) decided)
+-- what is held was scanned after it came to be held
+pub scans_on : (old mid new : Feed) {items : List ℕ} {stop : Stop} (result : Result (Unit {0}) LexError) → StopsWith old items stop mid → ScansHeld mid result new → ScansTo old items result new
+scans_on old mid new (Ok done) w (text, scanned) = (holds_on w.text text w.text.held w.text.fault, scanned)
+scans_on old mid new (Err (lex.Fault f)) w (text, ready, decided) = (holds_on w.text text w.text.held refl, ready, rw (← w.text.held, ← w.text.place, ← w.text.line) decided)
+scans_on old mid new (Err lex.Memory) w none = none
+
+-- the state stays sound where more bytes are held
+pub room_more : (old new : Feed) (bytes : List ℕ) {known : Option Fault} → IsSoundFeed old → old.state.place + length old.held.items + length bytes ≤ 2 ^ 62
+    → Holds old (old.held.items ++ bytes) known new → HasRoom new 0
+room_more old new bytes s fits more = record {
+  fits = omega (arith, fits, more.place, ap length more.held, length-append old.held.items bytes);
+  few_lines = omega (arith, s.room.few_lines, more.place, more.line);
+}
+
+-- nothing that a caller sees has changed
+pub runs_out : {old new : Feed} → IsSoundFeed old → old.state.fault ≡ None → old.ready ≡ None → IsUnchanged old new
+    → ScannerRunsOut (scanning_of old) (scanning_of new) × IsSoundFeed new
+runs_out {old} {new} sound no_fault ready (same, none, opens) =
+    let is_ready : ready_of new new.ready ≡ ready_of old old.ready = ap (ready_of new) none ∙ sym (ap (ready_of old) ready) in (
+      record {
+        same = λ i. record { place = same.place i; line = same.line i; held = same.held i; ready = is_ready i; ended = same.ended i; fault = same.fault i };
+        none_ready = ap (ready_of old) ready;
+        no_fault = no_fault;
+      },
+      record {
+        room = record { fits = omega (arith, sound.room.fits, same.place, ap length same.held); few_lines = omega (arith, sound.room.few_lines, same.place, same.line) };
+        state = subst (StandsSo new) (sym none) (λ no_more. opens);
+      },
+    )
 
 -- the scan that was begun anew is that of a line of which nothing was read
 pub begun_open : (was : LineState) (new : Feed) → BeginsAnew was new.state → IsOpen new new.held.items
@@ -58,6 +89,17 @@ begun_unchanged old new was ready same begins = (
   ready,
   (new.held.items, begun_open was new begins),
 )
+
+-- so many bytes stay held, and no line is ready
+pub dropped : (old mid new : Feed) (bytes : List ℕ) {before : ℕ} → Holds old (old.held.items ++ bytes) old.state.fault mid
+    → before ≡ length old.held.items → DropsLine mid before new → IsUnchanged old new
+dropped old mid new bytes {before} more size d = begun_unchanged old new mid.state (ap (λ (f : Feed). f.ready) d.same) (record {
+  held = d.held ∙ ap (take before) more.held ∙ ap (λ (n : ℕ). take n (old.held.items ++ bytes)) size ∙ take-append_seam old.held.items bytes;
+  place = more.place;
+  line = more.line;
+  ended = ap (λ (f : Feed). f.ended) d.same ∙ more.ended;
+  fault = more.fault;
+}) d.begins
 
 module _ (f new : Feed) (kind : FaultKind) (offset : ℕ) (error : LexError) (fails : FailsAt f kind offset error new) where
   -- a fault keeps all that is held

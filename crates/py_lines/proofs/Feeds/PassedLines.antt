@@ -16,7 +16,7 @@ use Rattle.py_lines.specs.declared.feed.Feed.{Feed}
 use Rattle.py_lines.specs.declared.line_state.LineState.{LineState}
 use Rattle.py_lines.specs.declared.plain_strings.Passed.{Passed}
 use Rattle.py_lines.specs.declared.scan.Scan.{Scan}
-use Rattle.py_lines.specs.Private.Feed.{IsSoundFeed, IsUnchanged, StandsSo}
+use Rattle.py_lines.specs.Private.Feed.{IsSoundFeed, StandsSo}
 use Rattle.py_lines.specs.Private.LineState.{BeginsAnew}
 use Rattle.py_lines.specs.Private.Scan.{EndsWhole}
 use Rattle.py_lines.specs.Private.Outline.{AreWholeLines, BeginWithLines}
@@ -26,9 +26,9 @@ use Rattle.py_lines.proofs.LineScan.LineCount.{ends-last}
 use Rattle.py_lines.proofs.Text.CharacterTests.{return_is}
 use Rattle.py_lines.proofs.Readers.PassedLines.{AreSettledAt, line_settled, lines_at, lines_spell, shown, take_slice}
 use Rattle.py_lines.proofs.Feeds.Known.{goes_after, goes_with_first}
+use Rattle.py_lines.proofs.Feeds.ReadyLines.{none_ready}
 use Rattle.py_lines.proofs.Feeds.LastBytes.{ends-encoded, ends-later, exact_as, whole_as}
-use Rattle.py_lines.proofs.Feeds.Loops.{begun_open, begun_unchanged}
-use Rattle.py_lines.proofs.Feeds.FedScanner.{runs_short, sound_unchanged}
+use Rattle.py_lines.proofs.Feeds.Loops.{begun_open, begun_unchanged, runs_out}
 
 -- which bytes come after the first of those that follow is no matter
 same_first : (line xs others more : List ℕ) → 0 < length xs → EndsWhole line (xs ++ others) → EndsWhole line (xs ++ more)
@@ -122,10 +122,6 @@ module _ (bytes : List ℕ) (p : Passed) (some : 0 < p.len) (found : BeginWithLi
         next = ap (λ (k : ℕ). take k bytes) next ∙ take-suc bytes p.len 0 byte_follows;
       }
 
-none_ready : (f : Feed) (ready : Option ℕ) → ready_of f ready ≡ None → ready ≡ None
-none_ready f None seen = refl
-none_ready f (Some n) seen = absurd (cc)
-
 -- nothing was passed over
 passes_none : (old new : ScannerState) (bytes : List ℕ) (before : ℕ) → new ≡ old → PassesPieceLines old bytes before 0 new
 passes_none old new bytes before same = subst (λ (s : ScannerState). PassesPieceLines old bytes before 0 s) (sym same) (record {
@@ -146,14 +142,12 @@ module _ (f : Feed) (held : Vec ℕ) (state : LineState) (scan : Scan) (stands :
   abbrev begun : Feed
   begun = record f { state = state; held = held }
 
-  unchanged : IsUnchanged f begun
-  unchanged = begun_unchanged f begun (record f.state { scan = scan }) (none_ready f f.ready stands.ready) (record { held = kept; place = refl; line = refl; ended = refl; fault = refl }) anew
-
-  pub begun_none : (bytes : List ℕ) (before : ℕ) → PassesPieceLines (scanning_of f) bytes before 0 (scanning_of begun)
-  begun_none bytes before = passes_none (scanning_of f) (scanning_of begun) bytes before (runs_short f begun stands.no_fault (none_ready f f.ready stands.ready) unchanged).same
-
-  pub begun_sound_feed : IsSoundFeed f → IsSoundFeed begun
-  begun_sound_feed sound = sound_unchanged f begun sound unchanged
+  pub begun_none : (bytes : List ℕ) (before : ℕ) → IsSoundFeed f → PassesPieceLines (scanning_of f) bytes before 0 (scanning_of begun) × IsSoundFeed begun
+  begun_none bytes before sound =
+      let none = none_ready f f.ready stands.ready in
+      let same = runs_out sound stands.no_fault none
+      (begun_unchanged f begun (record f.state { scan = scan }) none (record { held = kept; place = refl; line = refl; ended = refl; fault = refl }) anew) in
+      (passes_none (scanning_of f) (scanning_of begun) bytes before same.0.same, same.1)
 
 -- the lines that the code has found in the first of these bytes, after which the scan of the next line begins
 module _ (f : Feed) (bytes : List ℕ) (before stop : ℕ) (p : Passed) (stands : StandsAtLine (scanning_of f)) (began : take (length f.held.items) bytes ≡ f.held.items) (stop_is : stop ≡ min before (length bytes)) (found : BeginWithLines (take stop bytes) p) (some : 0 < p.len) where

@@ -8,7 +8,6 @@ use Rattle.std.proofs.Math.Seq.{take-append_seam}
 use Rattle.py_lines.specs.Piece.{Piece, ends, line_end, spelled}
 use Rattle.py_lines.specs.LogicalLine.{LogicalLine, byte_len, line_ends}
 use Rattle.py_lines.specs.Token.{EachLiesIn}
-use Rattle.py_lines.specs.ScannerState.{ScannerState}
 use Rattle.py_lines.specs.ScannerState.View.{line_of_feed, ready_of, scanning_of}
 use Rattle.py_lines.specs.declared.feed.Feed.{Feed}
 use Rattle.py_lines.specs.declared.line_state.LineState.{LineState}
@@ -18,7 +17,7 @@ use Rattle.py_lines.specs.declared.scan.Stop.TheVariants as stops
 use Rattle.py_lines.specs.Private.Scan.{IsApart, ScansIn, line_start}
 use Rattle.py_lines.specs.Private.LineState.{first_mode, with_tokens}
 use Rattle.py_lines.specs.Private.LineTokens.{AreLineText, HoldsTokens, IsLineText}
-use Rattle.py_lines.specs.Private.Feed.{HasRoom, HoldsLine, IsReady, IsSoundFeed, StandsSo, StopsHeld, line_held}
+use Rattle.py_lines.specs.Private.Feed.{HasReadTokens, HasRoom, HoldsLine, HoldsSo, IsReady, StandsSo, StopsHeld, line_held, with_line}
 use Rattle.py_lines.proofs.Fields.OneReading.{one_fielded_reading}
 use Rattle.py_lines.proofs.Lexings.LineEnds.{read-alone}
 use Rattle.py_lines.proofs.LogicalLines.TokenPlaces.{each_after}
@@ -85,10 +84,6 @@ module _ {m : Mode} {line : ℕ} {bytes : List ℕ} {scan : Scan} {end_len : ℕ
 abbrev pub ended_holds : (f : Feed) (end_len : ℕ) → StopsHeld f (stops.LineEnd end_len) → HoldsLine f end_len
 ended_holds f end_len s = holds_line f end_len s.read s.rest (pieces_alone s) s.scalars s.spell s.number (ended_alone s)
 
--- the scanner as its callers see it, with this line ready
-abbrev pub with_line : Feed → Option LogicalLine → ScannerState
-with_line f line = record (scanning_of f) { ready = line }
-
 module _ (f : Feed) (end_len : ℕ) (h : HoldsLine f end_len) where
   -- its text
   pub held_text : (line_held f end_len h).text ≡ take f.state.scan.stop f.held.items
@@ -103,29 +98,52 @@ module _ (f : Feed) (end_len : ℕ) (h : HoldsLine f end_len) where
   pub held_line_text : IsLineText (take f.state.scan.stop f.held.items)
   held_line_text = (h.pieces, h.text)
 
-  -- once its tokens are read it is ready, whether the text has ended or not
-  module _ (state : LineState) (tokens : HoldsTokens (take f.state.scan.stop f.held.items) f.state.line state.tokens) (ended : Bool) where
-    abbrev pub with_read : Feed
-    with_read = record f { state = with_tokens f.state state; ended = ended }
+-- no line stands in what is held: there are no tokens to be read
+pub none_read : {f : Feed} → HasRoom f 0 → f.ready ≡ None → (line : Option LogicalLine) × HoldsSo f f.ready line → HasReadTokens f f
+none_read {f} room none (held, holds) = record {
+  seen = λ line h. ap (with_line f) (ap (ready_of f) none ∙ sym (subst (λ r. HoldsSo f r line) none h).0);
+  sound = record { room = room; state = subst (StandsSo f) (sym none) (subst (λ r. HoldsSo f r held) none holds).1 };
+}
 
-    line_read : line_of_feed with_read end_len ≡ line_held f end_len h
-    line_read =
-        let are = tokens h.pieces h.text in
-        λ i. record { kind = are.kind i; text = sym h.text.spell i; tokens = are.tokens i; offset = f.state.place; line = h.number i; indent = are.indent i; end_len = h.ends i }
+-- the tokens of the line that does were read
+module _ (f : Feed) (state : LineState) (tokens : HoldsTokens (take f.state.scan.stop f.held.items) f.state.line state.tokens) where
+  abbrev pub with_read : Feed
+  with_read = record f { state = with_tokens f.state state }
 
-    pub read_ready : f.ready ≡ Some end_len → HasRoom f 0 → (scanning_of with_read ≡ with_line (record f { ended = ended }) (Some (line_held f end_len h))) × IsSoundFeed with_read
-    read_ready ready room = (
-      ap (with_line (record f { ended = ended })) (ap (ready_of with_read) ready ∙ ap Some line_read),
-      record { room = room; state = subst (StandsSo with_read) (sym ready) (record { holds = h; line_is = line_read }) },
-    )
+  line_read : (end_len : ℕ) (h : HoldsLine f end_len) → line_of_feed with_read end_len ≡ line_held f end_len h
+  line_read end_len h =
+      let are = tokens h.pieces h.text in
+      λ i. record { kind = are.kind i; text = sym h.text.spell i; tokens = are.tokens i; offset = f.state.place; line = h.number i; indent = are.indent i; end_len = h.ends i }
+
+  seen_read : (end_len : ℕ) (line : Option LogicalLine) → HoldsSo f (Some end_len) line → ready_of with_read (Some end_len) ≡ line
+  seen_read end_len line (h, is) = ap Some (line_read end_len h) ∙ sym is
+
+  pub some_read : {end_len : ℕ} → HasRoom f 0 → f.ready ≡ Some end_len → HoldsLine f end_len → HasReadTokens f with_read
+  some_read {end_len} room ready h = record {
+    seen = λ line held. ap (with_line f) (ap (ready_of with_read) ready ∙ seen_read end_len line (subst (λ r. HoldsSo f r line) ready held));
+    sound = record { room = room; state = subst (StandsSo with_read) (sym ready) (record { holds = h; line_is = line_read end_len h }) };
+  }
 
 pub ready_seen : (f : Feed) (end_len : ℕ) → f.ready ≡ Some end_len → (r : IsReady f end_len)
     → scanning_of f ≡ with_line f (Some (line_held f end_len r.holds))
 ready_seen f end_len is r = ap (with_line f) (ap (ready_of f) is ∙ ap Some r.line_is)
 
+pub none_ready : (f : Feed) (ready : Option ℕ) → ready_of f ready ≡ None → ready ≡ None
+none_ready f None seen = refl
+none_ready f (Some n) seen = absurd (cc)
+
 pub none_is : {A : Type 0} (r : Option A) → is_some r ≡ false → r ≡ None
 none_is None h = refl
 none_is (Some n) h = absurd (cc)
+
+-- the line that stands in what is held, and its text
+pub line_stands : (f : Feed) (r : Option ℕ) {line : Option LogicalLine} → HoldsSo f r line → is_some r ≡ true → (n : ℕ) × (r ≡ Some n) × (h : HoldsLine f n) × (line ≡ Some (line_held f n h))
+line_stands f None holds h = absurd (cc)
+line_stands f (Some n) holds h = (n, refl, holds.0, holds.1)
+
+pub text_stands : (f : Feed) (r : Option ℕ) {line : Option LogicalLine} {l : LogicalLine} → HoldsSo f r line → line ≡ Some l → l.text ≡ take f.state.scan.stop f.held.items
+text_stands f None holds is = absurd (let none = holds.0 in cc)
+text_stands f (Some n) {line} {l} (h, at) is = let one : line_held f n h ≡ l = (cc) in ap (λ (u : LogicalLine). u.text) (sym one) ∙ h.text.spell
 
 pub some_is : (r : Option ℕ) → is_some r ≡ true → (n : ℕ) × (r ≡ Some n)
 some_is None h = absurd (cc)

@@ -1,10 +1,12 @@
 -- What is held of a line that is open.
-use Rattle.std.proofs.Common.{◌≡◌, ℕ, ◌+◌, ◌-◌, ◌<◌, ◌≤◌, true, List, [], ◌∷◌, ◌++◌, length, take, drop, inr, refl, sym, ap, ◌∙◌, append_assoc, arith, length-append, length-drop}
-use Rattle.std.specs.Prelude.{encode_utf8_all}
+use Rattle.std.proofs.Common.{◌≡◌, ℕ, ◌+◌, ◌-◌, ◌<◌, ◌≤◌, Bool, true, List, [], ◌∷◌, ◌++◌, length, take, drop, inr, refl, sym, ap, ◌∙◌, append_assoc, arith, length-append, length-drop}
+use Rattle.std.specs.Prelude.{encode_utf8_all, ◌==◌}
 use Rattle.std.specs.Str.{all_scalars, StartsWithNoChar}
-use Rattle.std.proofs.lemmas.Bool.{and_parts}
+use Rattle.std.specs.Global.{Vec}
+use Rattle.std.specs.Vec.{vec_len}
+use Rattle.std.proofs.lemmas.Bool.{and_parts, eqb-true}
 use Rattle.std.proofs.lemmas.Str.{encodes-append, encode_ascii, encodes_same}
-use Rattle.std.proofs.lemmas.List.{take_all}
+use Rattle.std.proofs.lemmas.List.{nil_from_length, take_all}
 use Rattle.std.proofs.Math.Seq.{take-append_seam, drop-append_seam}
 use Rattle.py_lines.specs.Character.{is_line_feed}
 use Rattle.py_lines.specs.Piece.{begins}
@@ -31,6 +33,9 @@ use Rattle.py_lines.proofs.Feeds.Known.{both_none}
 abbrev pub reached_by : {m : Mode} {line : ℕ} {whole : List ℕ} {scan : Scan} {stop : Stop} (s : ScansIn m line whole scan stop)
     → IsUnderWay m scan s.read → Reached m line whole scan s.rest
 reached_by s way = record { read = s.read; way = way; spell = s.spell; scalars = s.scalars; line = s.number }
+
+pub none_held : (held : Vec ℕ) {empty : Bool} → empty ≡ (vec_len held == 0) → empty ≡ true → held.items ≡ []
+none_held held is empty = nil_from_length held.items (let none : vec_len held ≡ 0 = eqb-true (vec_len held) 0 (sym is ∙ empty) in omega (arith, none))
 
 -- where nothing is held, it stands before the bytes that come next
 pub reached_next : (f : Feed) (rest chunk : List ℕ) → IsOpen f rest → f.held.items ≡ [] → Reached (first_mode f.state.place) f.state.line chunk f.state.scan chunk

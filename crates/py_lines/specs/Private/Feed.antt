@@ -1,18 +1,19 @@
 -- What the scanner inside a `Scanner` holds: the text since the line that was released last, and how far it was scanned.
-use Rattle.std.specs.Prelude.{◌≡◌, ℕ, ◌+◌, ◌<◌, ◌≤◌, ◌^◌, Bool, true, false, Option, None, Some, Result, Ok, Err, List, [], ◌∷◌, ◌++◌}
+use Rattle.std.specs.Prelude.{◌≡◌, ℕ, ◌+◌, ◌<◌, ◌≤◌, ◌^◌, ◌⊎◌, Bool, true, false, Option, None, Some, Result, Ok, Err, List, [], ◌++◌}
 use Rattle.std.specs.Prelude.{length, take, drop, encode_utf8_all, is_some, if◌then◌else◌, IsUtf8}
 use Rattle.std.specs.Str.{all_scalars}
+use Rattle.std.specs.declared.alloc.AllocError.{AllocError}
 use Rattle.py_lines.specs.Piece.{Piece, spelled}
 use Rattle.py_lines.specs.LogicalLine.{LogicalLine, byte_len, end_len_of, line_ends, line_of}
 use Rattle.py_lines.specs.Lexed.{IsLexed}
-use Rattle.py_lines.specs.Settled.{IsHopeless, IsSettled, Decides, DecideNone}
+use Rattle.py_lines.specs.Settled.{IsHopeless, Decides}
 use Rattle.py_lines.specs.Given.{AreFirstLines}
-use Rattle.py_lines.specs.ScannerState.{GoesOnWith, HoldsReady, HoldsLast, WhereWhole, ready_lines}
+use Rattle.py_lines.specs.ScannerState.{ScannerState, EndsExactly, Feeds, GoesOnWith, HoldsLast, TakesBytes, WhereWhole, ready_lines}
 use Rattle.py_lines.specs.ScannerState.View.{line_of_feed, scanning_of}
 use Rattle.py_lines.specs.Private.Scan.{ScansIn, is_returned}
 use Rattle.py_lines.specs.Private.Run.{Reached}
-use Rattle.py_lines.specs.Private.LineState.{BeginsAnew, KeepsFault, first_mode, with_tokens}
-use Rattle.py_lines.specs.Private.LineTokens.{AreLineText, HoldsTokens}
+use Rattle.py_lines.specs.Private.LineState.{BeginsAnew, KeepsFault, first_mode}
+use Rattle.py_lines.specs.Private.LineTokens.{AreLineText}
 use Rattle.py_lines.specs.declared.fault.Fault.{Fault}
 use Rattle.py_lines.specs.declared.fault.FaultKind.{FaultKind}
 use Rattle.py_lines.specs.declared.fault.LexError.{LexError}
@@ -72,22 +73,11 @@ pub record FailsAt (old : Feed) (kind : FaultKind) (offset : ℕ) (error : LexEr
   pub same : new ≡ record old { state = new.state }
   pub keeps : KeepsFault old.state kind offset (take offset old.held.items) error new.state
 
--- the tokens of the line that has ended where the scan stopped were read
-pub record HasReadTokens (old new : Feed) : Type 0 where
-  pub same : new ≡ record old { state = with_tokens old.state new.state }
-  pub tokens : HoldsTokens (take old.state.scan.stop old.held.items) old.state.line new.state.tokens
-
 -- no line is ready: so many bytes stay held, and their scan is begun anew
 pub record DropsLine (old : Feed) (before : ℕ) (new : Feed) : Type 0 where
   pub same : new ≡ record old { held = new.held; state = new.state; ready = None }
   pub held : new.held.items ≡ take before old.held.items
   pub begins : BeginsAnew old.state new.state
-
--- what a call that reads the tokens answers and leaves
-abbrev pub ReadsTokens : Feed → ℕ → Result (Unit {0}) LexError → Feed → Type 0
-ReadsTokens old before (Ok done) new = HasReadTokens old new
-ReadsTokens old before (Err (lex.Fault f)) new = ⊥
-ReadsTokens old before (Err lex.Memory) new = DropsLine old before new
 
 -- this holds of each text that goes on with these bytes after lines that reach to this place
 abbrev pub WhereHeld : ℕ → ℕ → List ℕ → (List ℕ → List LogicalLine → Type 0) → Type 0
@@ -107,11 +97,21 @@ FailsIn old items fault new =
     Holds old items (Some fault) new × (new.ready ≡ None)
     × WhereHeld old.state.place old.state.line items (λ text lines. IsDecidedAt text old.state.place lines (length items) fault)
 
--- what a scan of what is held answers and leaves
+-- these bytes are held, and no line is ready: the scan of the line that they begin with has stopped so
+pub record StopsWith (old : Feed) (items : List ℕ) (stop : Stop) (new : Feed) : Type 0 where
+  pub text : Holds old items old.state.fault new
+  pub not_ready : new.ready ≡ None
+  pub stops : StopsHeld new stop
+
+-- what a scan of these bytes, which are held then, answers and leaves
+abbrev pub ScansTo : Feed → List ℕ → Result (Unit {0}) LexError → Feed → Type 0
+ScansTo old items (Ok done) new = Holds old items old.state.fault new × IsScanned new new.ready
+ScansTo old items (Err (lex.Fault f)) new = FailsIn old items f new
+ScansTo old items (Err lex.Memory) new = ⊥
+
+-- what a scan of what is held does
 abbrev pub ScansHeld : Feed → Result (Unit {0}) LexError → Feed → Type 0
-ScansHeld old (Ok done) new = Holds old old.held.items old.state.fault new × IsScanned new new.ready
-ScansHeld old (Err (lex.Fault f)) new = FailsIn old old.held.items f new
-ScansHeld old (Err lex.Memory) new = ⊥
+ScansHeld old result new = ScansTo old old.held.items result new
 
 -- nothing that contracts see has changed, no line is ready, and the scan may go on
 abbrev pub IsUnchanged : Feed → Feed → Type 0
@@ -160,50 +160,58 @@ pub record IsSoundFeed (f : Feed) : Type 0 where
   pub room : HasRoom f 0
   pub state : StandsSo f f.ready
 
--- these bytes, if there are any, settle the lines given and no more
-abbrev pub SettleNone : List ℕ → ℕ → List ℕ → List LogicalLine → Type 0
-SettleNone text place items lines = 0 < length items → IsSettled (take (place + length items) text) lines
+-- the scanner as its callers see it, with this line ready
+abbrev pub with_line : Feed → Option LogicalLine → ScannerState
+with_line f line = record (scanning_of f) { ready = line }
 
--- What is held settles the lines given and no more, and decides no fault. Or a line has ended in it: where it hadn't in the bytes held
--- before, it is settled, and what is held is it, with one byte more after CR alone.
-abbrev pub StopsAfter : List ℕ → Feed → Option ℕ → Type 0
-StopsAfter before f None =
-    IsHeldOpen f × WhereHeld f.state.place f.state.line f.held.items (λ text lines.
-    SettleNone text f.state.place f.held.items lines × DecideNone (take (f.state.place + length f.held.items) text))
-StopsAfter before f (Some end_len) =
-    (h : HoldsLine f end_len) × WhereHeld f.state.place f.state.line f.held.items (λ text lines.
-    SettleNone text f.state.place before lines → IsSettled (take (f.state.place + length f.held.items) text) (lines ++ line_held f end_len h ∷ [])
-    × HoldsReady f.held.items (Some (line_held f end_len h)))
+-- the line that stands in what is held, if one does, and else one is open, unless the text has a fault
+abbrev pub HoldsSo : Feed → Option ℕ → Option LogicalLine → Type 0
+HoldsSo f None line = (line ≡ None) × (f.state.fault ≡ None → IsHeldOpen f)
+HoldsSo f (Some end_len) line = (h : HoldsLine f end_len) × (line ≡ Some (line_held f end_len h))
 
--- more bytes than these stay held: up to the line's end, where a line is ready, and else all
+-- the tokens of that line were read: callers see it ready
+pub record HasReadTokens (old new : Feed) : Type 0 where
+  pub seen : (line : Option LogicalLine) → HoldsSo old old.ready line → scanning_of new ≡ with_line old line
+  pub sound : IsSoundFeed new
+
+-- what a call that reads the tokens answers and leaves
+abbrev pub ReadsTokens : Feed → ℕ → Result (Unit {0}) LexError → Feed → Type 0
+ReadsTokens old before (Ok done) new = HasReadTokens old new
+ReadsTokens old before (Err (lex.Fault f)) new = ⊥
+ReadsTokens old before (Err lex.Memory) new = DropsLine old before new
+
+-- Some of these bytes, if there are any, are held after those that were, and the scan has stopped so in them. Or there is no memory.
+abbrev pub HoldsPiece : Feed → List ℕ → Result Stop AllocError → Feed → Type 0
+HoldsPiece old piece (Ok stop) new =
+    (n : ℕ) × (n ≤ length piece) × (n ≡ 0 → length piece ≡ 0) × StopsWith old (old.held.items ++ take n piece) stop new
+HoldsPiece old piece (Err error) new = IsUnchanged old new
+
+-- All that is held was scanned, and no line has ended in it. Or it is the line that has ended, with one byte more after CR alone, unless
+-- the line had ended in these bytes of it.
+abbrev pub EndsWithLine : List ℕ → Feed → Option ℕ → Type 0
+EndsWithLine before f None = IsScanned f None
+EndsWithLine before f (Some end_len) =
+    (s : StopsHeld f (stops.LineEnd end_len))
+    × (EndsExactly s.read s.rest ⊎ ScansIn (first_mode f.state.place) f.state.line before f.state.scan (stops.LineEnd end_len))
+
+-- so many bytes stay held, or all: more than these, if more are held
 pub record GivesBack (old : Feed) (before : ℕ) (new : Feed) : Type 0 where
   pub kept : ℕ
-  pub more : before < kept
-  pub within : kept ≤ length old.held.items
+  pub more : (before < kept) ⊎ (length old.held.items ≤ kept)
   pub text : Holds old (take kept old.held.items) old.state.fault new
-  pub stops : StopsAfter (take before old.held.items) new new.ready
+  pub ends : EndsWithLine (take before old.held.items) new new.ready
 
--- so many of these bytes were taken
-pub record TakesOf (old : Feed) (chunk : List ℕ) (n : ℕ) (new : Feed) : Type 0 where
-  pub within : n ≤ length chunk
-  pub text : Holds old (old.held.items ++ take n chunk) old.state.fault new
-  pub stops : StopsAfter old.held.items new new.ready
-
--- with some of these bytes what is held decides a fault
-abbrev pub FailsWith : Feed → List ℕ → Fault → Feed → Type 0
-FailsWith old chunk fault new = (n : ℕ) × (n ≤ length chunk) × FailsIn old (old.held.items ++ take n chunk) fault new
-
--- what a call that takes these bytes answers and leaves
-abbrev pub TakesChunk : Feed → List ℕ → Result ℕ LexError → Feed → Type 0
-TakesChunk old chunk (Ok n) new = (0 < n) × TakesOf old chunk n new
-TakesChunk old chunk (Err (lex.Fault f)) new = FailsWith old chunk f new
-TakesChunk old chunk (Err lex.Memory) new = IsUnchanged old new
+-- so many bytes of a piece were taken, and then this line stands in what is held, if one does
+pub record TakesLine (old : Feed) (piece : List ℕ) (n : ℕ) (new : Feed) : Type 0 where
+  pub line : Option LogicalLine
+  pub holds : HoldsSo new new.ready line
+  pub takes : TakesBytes (scanning_of old) piece n (with_line new line)
+  pub room : HasRoom new 0
 
 -- what a call that takes bytes of a piece answers and leaves
 abbrev pub TakesSo : Feed → List ℕ → Result ℕ LexError → Feed → Type 0
-TakesSo old piece (Ok n) new = (old.ready ≡ None) × (n ≡ 0 → piece ≡ []) × TakesOf old piece n new
-TakesSo old piece (Err (lex.Fault f)) new = FailsWith old piece f new
-TakesSo old piece (Err lex.Memory) new = IsUnchanged old new
+TakesSo old piece (Ok n) new = TakesLine old piece n new
+TakesSo old piece (Err error) new = Feeds (scanning_of old) piece (Err error) (scanning_of new) × IsSoundFeed new
 
 -- whether a line is ready, where no fault was met
 abbrev pub WaitsSo : Feed → Result Bool LexError → Type 0
@@ -216,11 +224,6 @@ pub record HasEndFault (old : Feed) (fault : Fault) (new : Feed) : Type 0 where
   pub text : Holds old old.held.items (Some fault) new
   pub none_ready : new.ready ≡ None
   pub lexed : WhereWhole (scanning_of old) (λ text lines. IsLexed text lines (Some fault))
-
--- the line that stands in what is held, if one does, and else one is open, unless the text has a fault
-abbrev pub HoldsSo : Feed → Option ℕ → Option LogicalLine → Type 0
-HoldsSo f None line = (line ≡ None) × (f.state.fault ≡ None → IsHeldOpen f)
-HoldsSo f (Some end_len) line = (h : HoldsLine f end_len) × (line ≡ Some (line_held f end_len h))
 
 -- the text ends with what is held, and has no fault there: the line that stands there, if one does, is its last
 pub record HasEndedText (old new : Feed) : Type 0 where

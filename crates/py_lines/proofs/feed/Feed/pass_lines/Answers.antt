@@ -1,7 +1,7 @@
 use Rattle.std.proofs.Common.{rules, subst}
 use Rattle.py_lines.specs.Private.LineState.{BeginsAnew}
 use Rattle.py_lines.specs.declared.line_state.LineState.{LineState}
-use Rattle.py_lines.proofs.Feeds.PassedLines.{begun_none, begun_sound_feed, line_fits, passed_sound, passes_lines}
+use Rattle.py_lines.proofs.Feeds.PassedLines.{begun_none, line_fits, passed_sound, passes_lines}
 use Rattle.py_lines.proofs.feed.Feed.pass_lines.Goals as goal
 
 pub returns-then-not-hold_after_lines : goal.returns-then-not-hold_after_lines
@@ -9,10 +9,8 @@ returns-then-not-hold_after_lines c =
     let f = c.args.self.now in
     let stands = c.stands_at_line.ensures.stands c.if-not-stands_at_line.false in
     let kept = c.hold_after_lines.ensures.kept c.if-not-hold_after_lines.true in
-    record {
-      passes = begun_none f c.hold_after_lines.new.held c.restart.new.self _ stands kept c.restart.ensures c.args.bytes.now c.args.before;
-      sound = begun_sound_feed f c.hold_after_lines.new.held c.restart.new.self _ stands kept c.restart.ensures c.requires.sound;
-    }
+    let answer = begun_none f c.hold_after_lines.new.held c.restart.new.self _ stands kept c.restart.ensures c.args.bytes.now c.args.before c.requires.sound in
+    record { passes = answer.0; sound = answer.1 }
 
 pub overflow_add-line : goal.overflow_add-line
 overflow_add-line c =

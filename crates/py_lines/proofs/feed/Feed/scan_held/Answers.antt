@@ -1,4 +1,4 @@
-use Rattle.std.proofs.Common.{length, sym, ap, subst, arith}
+use Rattle.std.proofs.Common.{length, refl, sym, ap, subst, arith}
 use Rattle.py_lines.specs.Private.Run.{Reached}
 use Rattle.py_lines.specs.Private.LineState.{first_mode}
 use Rattle.py_lines.proofs.LineScan.TextSteps.{begun_sound}
@@ -11,21 +11,25 @@ slice_bounds-extend-count c = let o = c.requires.opens in omega (arith, open_wit
 pub slice_bounds-extend-start : goal.slice_bounds-extend-start
 slice_bounds-extend-start c = let o = c.requires.opens in omega (arith, open_within c.args.self.now o.0 o.1 _ c.deref.ensures.value)
 
-pub extend-stop-requires-clause-way : goal.extend-stop-requires-clause-way
-extend-stop-requires-clause-way c =
+pub extend-requires-clause-way : goal.extend-requires-clause-way
+extend-requires-clause-way c =
     let o = c.requires.opens in
     let f = c.args.self.now in
     (first_mode f.state.place, f.state.line, f.held.items, begun_sound f.state.place, subst (Reached (first_mode f.state.place) f.state.line f.held.items f.state.scan) (sym (next_is f o.0 o.1 c.deref.result.now c.deref.ensures.value)) o.1)
 
-pub extend-stop-requires-clause-lines : goal.extend-stop-requires-clause-lines
-extend-stop-requires-clause-lines c =
+pub extend-requires-clause-lines : goal.extend-requires-clause-lines
+extend-requires-clause-lines c =
     let o = c.requires.opens in
     let f = c.args.self.now in
     omega (arith, open_stop f o.0 o.1, open_size f o.0 o.1, o.1.line, c.requires.room.fits, c.requires.room.few_lines, ap length (next_is f o.0 o.1 c.deref.result.now c.deref.ensures.value))
 
-pub meet-requires-clause-stops : goal.meet-requires-clause-stops
-meet-requires-clause-stops c =
+pub returns : goal.returns
+returns c =
     let o = c.requires.opens in
     let f = c.args.self.now in
-    c.extend-stop.ensures.stops (first_mode f.state.place) f.state.line f.held.items (begun_sound f.state.place)
-    (subst (Reached (first_mode f.state.place) f.state.line f.held.items f.state.scan) (sym (next_is f o.0 o.1 c.deref.result.now c.deref.ensures.value)) o.1)
+    record {
+      text = record { held = refl; place = refl; line = refl; ended = refl; fault = refl };
+      not_ready = c.requires.not_ready;
+      stops = c.extend.ensures.stops (first_mode f.state.place) f.state.line f.held.items (begun_sound f.state.place)
+          (subst (Reached (first_mode f.state.place) f.state.line f.held.items f.state.scan) (sym (next_is f o.0 o.1 c.deref.result.now c.deref.ensures.value)) o.1);
+    }

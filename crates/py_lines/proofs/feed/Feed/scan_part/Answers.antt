@@ -11,12 +11,12 @@ use Rattle.py_lines.proofs.Feeds.Loops.{holds_self, part_fails}
 use Rattle.py_lines.proofs.Readers.LineAnswers.{all_within}
 use Rattle.py_lines.proofs.feed.Feed.scan_part.Goals as goal
 
-pub returns-then-self-len : goal.returns-then-self-len
-returns-then-self-len c =
+pub returns-then-len-self : goal.returns-then-len-self
+returns-then-len-self c =
     let f = c.args.self.now in
     let s = c.requires.stops in
     let o = reached_by s s.stops.0 in
-    let none : s.rest ≡ [] = nil_from_length s.rest (omega (arith, c.if-self-len.true, c.len.ensures, open_stop f s.rest o, open_size f s.rest o)) in
+    let none : s.rest ≡ [] = nil_from_length s.rest (omega (arith, c.if-len-self.true, c.len.ensures, open_stop f s.rest o, open_size f s.rest o)) in
     (holds_self f, subst (IsScanned f) (sym c.requires.not_ready) (s, subst (λ t. ¬ (IsHopeless t)) (sym none) part_none, λ returned. none))
 
 pub returns-then-is_returned : goal.returns-then-is_returned
@@ -24,10 +24,7 @@ returns-then-is_returned c =
     let f = c.args.self.now in
     let s = c.requires.stops in
     let o = reached_by s s.stops.0 in
-    let some : 0 < length s.rest = ⊎_elim
-    (λ less. omega (arith, open_stop f s.rest o, open_size f s.rest o, c.len.ensures, less))
-    (λ past. absurd (c.if-self-len.false (omega (arith, open_stop f s.rest o, open_size f s.rest o, c.len.ensures, past))))
-    (cases_lt f.state.scan.stop c.len.result) in
+    let some : 0 < length s.rest = omega (arith, open_stop f s.rest o, open_size f s.rest o, c.len.ensures, c.if-len-self.false) in
     subst (λ (t : Scan). ScansHeld f (Ok tt) (record f { state = record f.state { scan = t }; ready = Some 1 })) (sym c.free.ensures)
     (record { held = refl; place = refl; line = refl; ended = refl; fault = refl }, ends_returned f s some (sym c.is_returned.ensures ∙ c.if-is_returned.true))
 
