@@ -8,10 +8,9 @@ pub mod Steps
 pub mod Loops
 pub mod ReadyLines
 pub mod LastBytes
-pub mod EndedHeld
 pub mod GivenBack
 pub mod FedHeld
 pub mod Taken
 pub mod FedScanner
-pub mod FinishedHeld
+pub mod EndedHeld
 pub mod PassedLines

@@ -23,16 +23,14 @@ use Rattle.py_lines.proofs.Machine.Soundness.{SoundIf, step_sound, end_sound}
 use Rattle.py_lines.proofs.Machine.EarlierPieces.{GoesBy, stack_at, closed_grows}
 use Rattle.py_lines.proofs.ScanMachine.Follows.{closing_neutral}
 use Rattle.py_lines.proofs.Machine.LiveTexts.{keeps, stack_closed, IsReady, ready-free, closing-operator, comment-breaks, feed-starts, closing_of-closing, closing-scalar, completes}
+use Rattle.py_lines.proofs.Machine.Spellings.{word_tells, other_begins}
+use Rattle.py_lines.proofs.ScanMachine.Reaching.{live_runs, runs_live}
+use Rattle.py_lines.proofs.Fields.Elsewhere.{later, no_field_prefix, none_false}
 use Rattle.py_lines.specs.Character.{is_quote}
 use Rattle.py_lines.specs.FieldStrings.{is_field_prefix, may_have_fields}
 use Rattle.py_lines.specs.declared.mode.Spelling.{Spelling}
 use Rattle.py_lines.specs.declared.mode.Move.{Move}
 use Rattle.py_lines.specs.Private.ScanMachine.{is_field_spelling, quote_move, meet_of, move_in, scan_steps}
-use Rattle.py_lines.proofs.ScanMachine.Spellings.{word_tells, other_begins}
-use Rattle.py_lines.proofs.Machine.Soundness.{SoundIf, step_sound}
-use Rattle.py_lines.proofs.Machine.Spellings.{word_tells, other_begins}
-use Rattle.py_lines.proofs.ScanMachine.Reaching.{live_runs, runs_live}
-use Rattle.py_lines.proofs.Fields.Elsewhere.{later, no_field_prefix, none_false}
 
 -- from one state, the machine goes over these characters to another, with these brackets open
 abbrev pub PlainGoesTo : Scanned → List ℕ → Scanned → List Bracket → Type 0

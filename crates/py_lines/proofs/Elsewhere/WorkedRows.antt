@@ -7,7 +7,8 @@ use Rattle.py_lines.specs.Dialect.{plain_dialect}
 use Rattle.py_lines.specs.OpenFields.{at_start}
 use Rattle.py_lines.specs.Faults.{IsLiveIn, open_short, IsFaultAtIn, at_end}
 use Rattle.py_lines.specs.declared.fault.FaultKind.TheVariants.{OpenString}
-use Rattle.py_lines.proofs.Fields.WorkedRows.{tested, piece}
+use Rattle.py_lines.proofs.FieldMachine.WorkedRows.{tested}
+use Rattle.py_lines.proofs.Fields.WorkedRows.{piece}
 
 -- f"{x is live without fields: a quote closes the string
 live_without : IsLiveIn plain_dialect (codes "f\"{x")

@@ -38,7 +38,8 @@ use Rattle.py_lines.proofs.Machine.PieceSteps.{scanned, pieces_at}
 use Rattle.py_lines.proofs.ScanMachine.Advance.{GoesTo}
 use Rattle.py_lines.proofs.ScanMachine.Reaching.{runs_live}
 use Rattle.py_lines.proofs.Faults.Verdict.{not_live}
-use Rattle.py_lines.proofs.Lexings.LinePrefix.{IsLineOf, HasPrefix, refused_at_character, refused_at_bytes}
+use Rattle.py_lines.proofs.Lexings.Existence.{IsLineOf}
+use Rattle.py_lines.proofs.Lexings.LinePrefix.{HasPrefix, refused_at_character, refused_at_bytes}
 use Rattle.py_lines.proofs.Lexings.DecidedFaults.{decided_lexing}
 use Rattle.py_lines.proofs.Lexings.FirstLines.{base_lines}
 use Rattle.py_lines.proofs.LogicalLines.Cuts.{byte_len-append}
@@ -46,8 +47,8 @@ use Rattle.py_lines.proofs.LineScan.LineSteps.{way_stop}
 use Rattle.py_lines.proofs.LineScan.NextCharacter.{closed_one_line}
 use Rattle.py_lines.proofs.LineScan.TextSteps.{base_of, begun_sound, way_goes, Joined, joined, dead_at}
 use Rattle.py_lines.proofs.Readers.LineFaults.{Within, refused_fault}
-use Rattle.py_lines.proofs.Feeds.Known as of
 use Rattle.py_lines.proofs.Feeds.Known.{IsKnown, goes_with_first, is_known}
+use Rattle.py_lines.proofs.Feeds.Known as of
 
 -- a CR that was read last ends no line inside brackets
 end_return : (m : Mode) (st : List Bracket) → is_return_mode m && none_open st ≡ false → m ≡ modes.Return → none_open st ≡ false

@@ -1,13 +1,13 @@
 -- The text ends with what is held: its last line, or the fault that stands there.
-use Rattle.std.proofs.Common.{◌≡◌, ℕ, ◌+◌, ◌-◌, ◌<◌, ◌≤◌, true, false, None, Some, Ok, Err, List, [], ◌++◌, length, inl, inr, refl, sym}
-use Rattle.std.proofs.Common.{ap, ◌∙◌, subst, append-nil, arith}
-use Rattle.std.specs.Prelude.{encode_utf8_all}
+use Rattle.std.proofs.Common.{◌≡◌, ℕ, ◌+◌, ◌-◌, ◌<◌, ◌≤◌, true, false, None, Some, Ok, Err, List, [], ◌++◌, length, inl, inr, refl, sym, ap}
+use Rattle.std.proofs.Common.{◌∙◌, subst, append-nil, arith, Option, drop, length-drop}
+use Rattle.std.specs.Prelude.{encode_utf8_all, is_some}
 use Rattle.std.proofs.lemmas.Bool.{and_parts, false_from_ne_true}
-use Rattle.std.proofs.lemmas.List.{nil_from_length}
+use Rattle.std.proofs.lemmas.List.{nil_from_length, take_all}
 use Rattle.py_lines.specs.LogicalLine.{LogicalLine, byte_len}
 use Rattle.py_lines.specs.Lexed.{IsLexed}
-use Rattle.py_lines.specs.ScannerState.{IsScanning, WhereWhole, fed_of}
-use Rattle.py_lines.specs.ScannerState.View.{scanning_of}
+use Rattle.py_lines.specs.ScannerState.{IsScanning, WhereWhole, fed_of, EndsScan, Finishes, ScannerState}
+use Rattle.py_lines.specs.ScannerState.View.{scanning_of, ready_of}
 use Rattle.py_lines.specs.declared.fault.FaultKind.{FaultKind}
 use Rattle.py_lines.specs.declared.fault.FaultKind.TheVariants.{BadUtf8}
 use Rattle.py_lines.specs.declared.fault.LexError.{LexError}
@@ -17,17 +17,57 @@ use Rattle.py_lines.specs.Private.Machine.{is_final}
 use Rattle.py_lines.specs.Private.Scan.{is_returned, is_return_mode, none_open, stack_of, line_start, IsUnfinished, IsUnderWay}
 use Rattle.py_lines.specs.Private.LineState.{IsEndLineFault, first_mode}
 use Rattle.py_lines.specs.Private.Run.{Reached}
-use Rattle.py_lines.specs.Private.Feed.{EndsText, FailsAt, Holds, IsScanned}
+use Rattle.py_lines.specs.Private.Feed.{EndsText, FailsAt, Holds, IsScanned, HasEndedText, HasReadTokens, HasRoom, HoldsSo, IsHeldOpen}
+use Rattle.py_lines.specs.Private.Feed.{IsSoundFeed, ReadsTokens, ScansHeld, StandsSo, StopsHeld, StopsWith, line_held, with_line}
 use Rattle.py_lines.proofs.LineScan.NextCharacter.{empty_stack}
 use Rattle.py_lines.proofs.Machine.PieceSteps.{pieces_at}
-use Rattle.py_lines.proofs.Readers.LineAnswers.{IsScannedLine, line_at_text_end, line_at_return, returned_final}
+use Rattle.py_lines.proofs.Readers.LineAnswers.{IsScannedLine, line_at_text_end, line_at_return, returned_final, all_within}
 use Rattle.py_lines.proofs.Readers.LineFaults.{Within, finished, unfinished_within}
 use Rattle.py_lines.proofs.Feeds.Known.{IsKnown, first_at, goes_at, is_known}
 use Rattle.py_lines.proofs.Feeds.DecidedSoFar.{way_open}
 use Rattle.py_lines.proofs.Feeds.Ended.{ended_bytes, ended_unfinished, ended_line}
-use Rattle.py_lines.proofs.Feeds.Loops.{fails_keep, fails_ready, fault_after, holds_on}
+use Rattle.py_lines.proofs.Feeds.Loops.{fails_keep, fails_ready, fault_after, holds_on, dropped, holds_self, room_more, runs_out, scans_on}
 use Rattle.py_lines.proofs.Feeds.Steps.{open_stands, open_stop, open_size, reached_by}
-use Rattle.py_lines.proofs.Feeds.ReadyLines.{holds_line}
+use Rattle.py_lines.proofs.Feeds.ReadyLines.{holds_line, ended_holds, some_is}
+use Rattle.py_lines.specs.declared.scan.Stop.{Stop}
+use Rattle.py_lines.proofs.Lexings.FirstLines.{all_first}
+use Rattle.py_lines.proofs.Feeds.FedHeld.{never_before}
+use Rattle.py_lines.proofs.Feeds.Taken.{settled_held}
+use Rattle.py_lines.specs.declared.fault.LexError.TheVariants as lex
+use Rattle.py_lines.specs.declared.scan.Stop.TheVariants as stops
+
+-- a fault of the scan
+pub text_fault : (old mid new : Feed) {stop : Stop} (error : LexError) → StopsWith old old.held.items stop mid → ScansHeld mid (Err error) new → EndsText old (Err error) new
+text_fault old mid new (lex.Fault f) stops failed =
+    let (text, none, decided) = scans_on old mid new (Err (lex.Fault f)) stops failed in
+    record { text = text; none_ready = none; lexed = λ whole lines s all. (decided whole lines s.first s.held).lexed }
+text_fault old mid new lex.Memory stops never = absurd never
+
+-- nothing is held
+pub text_empty : {old : Feed} → old.ready ≡ None → IsHeldOpen old → old.held.items ≡ [] → EndsText old (Ok tt) old
+text_empty {old} not_ready opens none = record {
+  text = holds_self old;
+  line = None;
+  holds = subst (λ r. HoldsSo old r None) (sym not_ready) (refl, λ no_fault. opens);
+  lexed = λ text lines scanning whole. (
+    subst (λ l. IsLexed text l None) (sym (append-nil lines)) (all_first text old.state.place old.state.line lines scanning.first (omega (arith, whole, ap length none))),
+    tt,
+  );
+}
+
+-- the scan has left no line open: none had ended, so this isn't
+pub text_left : (old mid : Feed) → Holds old old.held.items old.state.fault mid → is_some mid.ready ≡ true → old.ready ≡ None → IsScanned mid mid.ready → EndsText old (Ok tt) mid
+text_left old mid keeps some not_ready scanned =
+    let r = some_is mid.ready some in
+    let s : StopsHeld mid (stops.LineEnd r.0) = subst (IsScanned mid) r.1 scanned in
+    let h = ended_holds mid r.0 s in
+    record {
+      text = keeps;
+      line = Some (line_held mid r.0 h);
+      holds = subst (λ o. HoldsSo mid o (Some (line_held mid r.0 h))) (sym r.1) (h, refl);
+      lexed = λ text lines scanning whole. absurd (never_before text mid.state.place lines s (first_at keeps.place keeps.line scanning.first) (goes_at text keeps.place keeps.held scanning.held)
+          (rw (keeps.place, keeps.held) (settled_held text lines old not_ready scanning)));
+    }
 
 -- what is held was scanned, and no line has ended in it
 module _ (old f : Feed) (keeps : Holds old old.held.items old.state.fault f) (s : IsScanned f None) (some : 0 < length f.held.items) where
@@ -49,9 +89,6 @@ module _ (old f : Feed) (keeps : Holds old old.held.items old.state.fault f) (s 
   pub all_scanned : length f.held.items ≤ f.state.scan.stop → s.0.rest ≡ []
   all_scanned full = nil_from_length s.0.rest (omega (arith, full, open_stop f s.0.rest o, open_size f s.0.rest o))
 
-  all_within : Within s.0.read f.state.scan.stop
-  all_within = record { prefix = s.0.read; later = []; split = append-nil s.0.read; size = open_stop f s.0.rest o }
-
   read_some : s.0.rest ≡ [] → 0 < byte_len s.0.read
   read_some none = omega (arith, some, open_size f s.0.rest o, ap length none)
 
@@ -69,11 +106,10 @@ module _ (old f : Feed) (keeps : Holds old old.held.items old.state.fault f) (s 
 
     -- bytes that begin no character are left
     ends_in_bytes : 0 < length s.0.rest → FailsAt f BadUtf8 f.state.scan.stop error new → EndsText old (Err error) new
-    unfolding all_within
     ends_in_bytes more fails = end_fault BadUtf8 f.state.scan.stop fails (λ text lines scanning whole.
         ended_bytes text f.state lines s.0.read s.0.rest (known_at text lines scanning whole) (whole_at text lines scanning whole) way
         (false_from_ne_true _ (λ returned. omega (arith, more, ap length (s.2 returned)))) more fails.keeps.fault
-        (fault_after f new BadUtf8 f.state.scan.stop error fails s.0.rest o all_within) s.0.stops.1)
+        (fault_after f new BadUtf8 f.state.scan.stop error fails s.0.rest o (record { prefix = s.0.read; later = []; split = append-nil s.0.read; size = open_stop f s.0.rest o })) s.0.stops.1)
 
     -- something is open
     ends_open : (line_fault : LineFault) → s.0.rest ≡ [] → is_returned f.state.scan ≡ false → IsUnfinished f.state.scan (Some line_fault) → FailsAt f line_fault.kind line_fault.place error new → EndsText old (Err error) new
@@ -85,7 +121,7 @@ module _ (old f : Feed) (keeps : Holds old old.held.items old.state.fault f) (s 
   -- what is wrong there
   module _ (held : ℕ) (all : held ≡ length f.held.items) (line_fault : LineFault) where
     pub end_fault_within : IsEndLineFault f.state.scan (held - f.state.scan.stop) (Some line_fault) → Within s.0.read line_fault.place
-    end_fault_within (inl (more, kind, place)) = subst (Within s.0.read) (sym place) all_within
+    end_fault_within (inl (more, kind, place)) = subst (Within s.0.read) (sym place) (all_within s.0.read f.state.scan.stop (open_stop f s.0.rest o))
     end_fault_within (inr (none, unfinished)) = unfinished_in (all_scanned (omega (arith, all, none))) line_fault unfinished
 
     pub end_fault_fails : f.ready ≡ None → is_returned f.state.scan ≡ false → (new : Feed) (error : LexError) → FailsAt f line_fault.kind line_fault.place error new
@@ -128,3 +164,59 @@ module _ (old f : Feed) (keeps : Holds old old.held.items old.state.fault f) (s 
       let none = s.2 returned in
       last_line 1 none (returned_final f.state.scan.piece.mode mode) empty
       (line_at_return (first_mode f.state.place) f.state.scan s.0.read way (open_stands f s.0.rest o) mode empty (read_some none))
+
+-- the text has ended
+abbrev pub ended_now : Feed → Feed
+ended_now f = record f { ended = true }
+
+ended_ready : (f : Feed) (r : Option ℕ) → ready_of (ended_now f) r ≡ ready_of f r
+ended_ready f None = refl
+ended_ready f (Some n) = refl
+
+ended_seen : (f : Feed) → scanning_of (ended_now f) ≡ record (scanning_of f) { ended = true }
+ended_seen f = ap (with_line (ended_now f)) (ended_ready f f.ready)
+
+ended_stands : (f : Feed) (r : Option ℕ) → StandsSo f r → StandsSo (ended_now f) r
+ended_stands f None opens = opens
+ended_stands f (Some n) r = record { holds = r.holds; line_is = r.line_is }
+
+finish_now : (old f : Feed) → old.state.fault ≡ None → (e : HasEndedText old f)
+    → EndsScan (scanning_of old) (with_line (ended_now f) e.line)
+finish_now old f no_fault e = record {
+  scans = λ text lines scanning whole.
+      let lexed = e.lexed text lines scanning whole in
+      let from_there : drop old.state.place text ≡ old.held.items = sym (take_all (length old.held.items) (drop old.state.place text) (omega (arith, whole, length-drop old.state.place text))) ∙ scanning.held in
+      record {
+        first = first_at e.text.place e.text.line scanning.first;
+        lexed = lexed.0;
+        held = e.text.held ∙ sym from_there ∙ ap (λ (n : ℕ). drop n text) (sym e.text.place);
+        whole = lexed.1;
+        ended = refl;
+        no_fault = e.text.fault ∙ no_fault;
+      };
+  place = e.text.place;
+  held = e.text.held;
+  fault = no_fault;
+  ended = refl;
+  no_fault = e.text.fault ∙ no_fault;
+}
+
+module _ {old f : Feed} (sound : IsSoundFeed old) (no_fault : old.state.fault ≡ None) (e : HasEndedText old f) where
+  last_text : Holds old (old.held.items ++ []) old.state.fault f
+  last_text = subst (λ l. Holds old l old.state.fault f) (sym (append-nil old.held.items)) e.text
+
+  pub last_room : HasRoom f 0
+  last_room = room_more old f [] sound sound.room.fits last_text
+
+  -- once the tokens of the line that is left are read, if one is
+  pub finish_read : {new : Feed} → HasReadTokens f new → EndsScan (scanning_of old) (scanning_of (ended_now new)) × IsSoundFeed (ended_now new)
+  finish_read {new} read = (
+    subst (EndsScan (scanning_of old)) (sym (ended_seen new ∙ ap (λ (s : ScannerState). record s { ended = true }) (read.seen e.line e.holds))) (finish_now old f no_fault e),
+    record { room = read.sound.room; state = ended_stands new new.ready read.sound.state },
+  )
+
+  -- where there is no memory for them
+  pub finish_short : old.ready ≡ None → {all : ℕ} → all ≡ length f.held.items → {new : Feed} (error : LexError) → ReadsTokens f all (Err error) new
+      → Finishes (scanning_of old) (Err error) (scanning_of new) × IsSoundFeed new
+  finish_short not_ready size (lex.Fault x) never = absurd never
+  finish_short not_ready size {new} lex.Memory drops = runs_out sound no_fault not_ready (dropped old f new [] last_text (size ∙ ap length e.text.held) drops)

@@ -84,25 +84,6 @@ module _ (text : List ℕ) (place : ℕ) {line : ℕ} {bytes : List ℕ} {scan :
       text_is : encode_utf8_all (spelled (pieces_alone s)) ≡ encode_utf8_all s.read
       text_is = ap encode_utf8_all (ended_alone s).line.spell
 
--- no line has ended in what is held, which was scanned
-module _ (f : Feed) (s : IsScanned f None) (text : List ℕ) (lines : List LogicalLine) (first : AreFirstLines text f.state.place f.state.line lines) (goes : GoesOnWith text f.state.place f.held.items) where
-  module _ (some : 0 < length f.held.items) where
-    known_open : IsKnown text f.state.place f.state.line lines s.0.read s.0.rest
-    known_open = is_known text f.state.place f.state.line lines s.0.read s.0.rest first s.0.scalars (subst (GoesOnWith text f.state.place) (sym s.0.spell) goes) (omega (arith, some, ap length s.0.spell))
-
-    settled_scanned : IsSettled (take (f.state.place + length f.held.items) text) lines
-    settled_scanned =
-        let (way, bad) = s.0.stops in
-        let last = λ (h : is_return_mode way.state.mode && none_open (stack_of f.state.scan.brackets) ≡ true). s.2 (ap (λ (m : Mode). is_return_mode m && none_open (stack_of f.state.scan.brackets)) way.tallies.counts.mode ∙ h) in
-        subst (λ l. IsSettled (take (f.state.place + length l) text) lines) s.0.spell
-        (settled_open text f.state.place f.state.line lines s.0.read s.0.rest known_open way.state (stack_of f.state.scan.brackets) (way_goes way) way.one_line bad (omega (arith, some, ap length s.0.spell)) last)
-
-    undecided_scanned : DecideNone (take (f.state.place + length f.held.items) text)
-    undecided_scanned fault =
-        let (way, bad) = s.0.stops in
-        subst (λ l. ¬ (Decides (take (f.state.place + length l) text) fault)) s.0.spell
-        (undecided text f.state.place f.state.line lines s.0.read s.0.rest known_open way.state (stack_of f.state.scan.brackets) (way_goes way) bad s.1 fault)
-
 -- nothing is decided where the lines given end
 module _ (text : List ℕ) (place line : ℕ) (lines : List LogicalLine) (first : AreFirstLines text place line lines) (fault : Fault) where
   after_line : EndsLine first.pieces → ¬ (Decides (take (place + 0) text) fault)
@@ -126,13 +107,31 @@ module _ (text : List ℕ) (place line : ℕ) (lines : List LogicalLine) (first 
   pub undecided_first : ¬ (Decides (take (place + 0) text) fault)
   undecided_first d = ⊎_elim (λ good. after_line good.0 d) (λ nothing. after_text nothing d) first.ended
 
--- nor where what is held was scanned, and no line has ended in it: the lines given are settled
-pub scanned_open : (f : Feed) → IsScanned f None → (text : List ℕ) (lines : List LogicalLine) → AreFirstLines text f.state.place f.state.line lines → GoesOnWith text f.state.place f.held.items
-    → SettleNone text f.state.place f.held.items lines × DecideNone (take (f.state.place + length f.held.items) text)
-scanned_open f s text lines first goes = (
-  λ some. settled_scanned f s text lines first goes some,
-  λ fault d. ⊎_elim
-      (λ some. undecided_scanned f s text lines first goes some fault d)
-      (λ none. undecided_first text f.state.place f.state.line lines first fault (subst (λ (n : ℕ). Decides (take (f.state.place + n) text) fault) (omega (arith, none)) d))
-      (cases_lt 0 (length f.held.items)),
-)
+-- no line has ended in what is held, which was scanned
+module _ (f : Feed) (s : IsScanned f None) (text : List ℕ) (lines : List LogicalLine) (first : AreFirstLines text f.state.place f.state.line lines) (goes : GoesOnWith text f.state.place f.held.items) where
+  module _ (some : 0 < length f.held.items) where
+    known_open : IsKnown text f.state.place f.state.line lines s.0.read s.0.rest
+    known_open = is_known text f.state.place f.state.line lines s.0.read s.0.rest first s.0.scalars (subst (GoesOnWith text f.state.place) (sym s.0.spell) goes) (omega (arith, some, ap length s.0.spell))
+
+    settled_scanned : IsSettled (take (f.state.place + length f.held.items) text) lines
+    settled_scanned =
+        let (way, bad) = s.0.stops in
+        let last = λ (h : is_return_mode way.state.mode && none_open (stack_of f.state.scan.brackets) ≡ true). s.2 (ap (λ (m : Mode). is_return_mode m && none_open (stack_of f.state.scan.brackets)) way.tallies.counts.mode ∙ h) in
+        subst (λ l. IsSettled (take (f.state.place + length l) text) lines) s.0.spell
+        (settled_open text f.state.place f.state.line lines s.0.read s.0.rest known_open way.state (stack_of f.state.scan.brackets) (way_goes way) way.one_line bad (omega (arith, some, ap length s.0.spell)) last)
+
+    undecided_scanned : DecideNone (take (f.state.place + length f.held.items) text)
+    undecided_scanned fault =
+        let (way, bad) = s.0.stops in
+        subst (λ l. ¬ (Decides (take (f.state.place + length l) text) fault)) s.0.spell
+        (undecided text f.state.place f.state.line lines s.0.read s.0.rest known_open way.state (stack_of f.state.scan.brackets) (way_goes way) bad s.1 fault)
+
+  -- the lines given are settled then, and no fault is decided
+  pub scanned_open : SettleNone text f.state.place f.held.items lines × DecideNone (take (f.state.place + length f.held.items) text)
+  scanned_open = (
+    settled_scanned,
+    λ fault d. ⊎_elim
+        (λ some. undecided_scanned some fault d)
+        (λ none. undecided_first text f.state.place f.state.line lines first fault (subst (λ (n : ℕ). Decides (take (f.state.place + n) text) fault) (omega (arith, none)) d))
+        (cases_lt 0 (length f.held.items)),
+  )

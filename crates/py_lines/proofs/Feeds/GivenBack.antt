@@ -20,10 +20,12 @@ use Rattle.py_lines.specs.Private.Feed.{EndsWithLine, GivesBack, IsScanned, Stop
 use Rattle.py_lines.proofs.Feeds.ReadyLines.{ended_alone, none_is, some_is}
 
 -- a line's end stays whole where one byte after CR stays
-whole_taken : (all after : List ℕ) (k : ℕ) → EndsWhole all after → (ends is_return all ≡ true → 0 < k) → EndsWhole all (take k after)
-whole_taken all after k (inl feed) some = inl feed
-whole_taken all after zero (inr (b, m, is, other)) some = inl (false_from_ne_true _ (λ h. omega (arith, some h)))
-whole_taken all after (suc k) (inr (b, m, is, other)) some = inr (b, take k m, ap (take (suc k)) is, other)
+whole_taken : (all after : List ℕ) (n k : ℕ) → EndsWhole all after → EndsExactly all (take n after) → n ≤ k → EndsWhole all (take k after)
+whole_taken all after n k (inl feed) exact within = inl feed
+whole_taken all after n k whole (inl (feed, none)) within = inl feed
+whole_taken all after zero k whole (inr (returned, (b, none, other))) within = absurd (cc)
+whole_taken all after (suc n) zero whole exact within = absurd (omega (arith, within))
+whole_taken all after (suc n) (suc k) (inr (b, others, is, other)) exact within = inr (b, take k others, ap (take (suc k)) is, other)
 
 exact_return : (all after : List ℕ) → ends is_return all ≡ true → EndsWhole all after → EndsExactly all (take 1 after)
 exact_return all after returned (inl feed) = absurd (both_ways _ feed returned)
@@ -34,11 +36,15 @@ module _ {m : Mode} {line : ℕ} {bytes : List ℕ} {scan : Scan} {end_len : ℕ
   line_returned : scan.count.after_return ≡ ends is_return s.read
   line_returned = let at = s.stops.0 [] (λ returned. refl) in at.tallies.counts.after ∙ ap (ends is_return) (append-nil (spelled (at.body ++ at.last ∷ [])) ∙ at.spell)
 
-  -- where it ends, with the byte after CR
-  end_is : ((whole_end scan ≡ byte_len s.read) × (ends is_return s.read ≡ false)) ⊎ ((whole_end scan ≡ byte_len s.read + 1) × (ends is_return s.read ≡ true))
-  end_is = cond_both scan.count.after_return (scan.stop + 1) scan.stop (λ (n : ℕ). ((n ≡ byte_len s.read) × (ends is_return s.read ≡ false)) ⊎ ((n ≡ byte_len s.read + 1) × (ends is_return s.read ≡ true)))
-      (λ h. inr (omega (arith, (ended_alone s).stop), sym line_returned ∙ h))
-      (λ h. inl ((ended_alone s).stop, sym line_returned ∙ h))
+  -- where it ends: after CR one byte more is part of it
+  more : (n : ℕ) × (whole_end scan ≡ byte_len s.read + n) × (n ≤ length s.rest) × EndsExactly s.read (take n s.rest)
+  more = cond_both scan.count.after_return (scan.stop + 1) scan.stop (λ (k : ℕ). (n : ℕ) × (k ≡ byte_len s.read + n) × (n ≤ length s.rest) × EndsExactly s.read (take n s.rest))
+      (λ h. let returned = sym line_returned ∙ h in (1, omega (arith, (ended_alone s).stop), rest_some s.rest returned s.stops.1, exact_return s.read s.rest returned s.stops.1))
+      (λ h. (0, omega (arith, (ended_alone s).stop), omega arith, inl (sym line_returned ∙ h, refl)))
+    where
+      rest_some : (rest : List ℕ) → ends is_return s.read ≡ true → EndsWhole s.read rest → 1 ≤ length rest
+      rest_some rest returned (inl feed) = absurd (both_ways _ feed returned)
+      rest_some rest returned (inr (b, others, is, other)) = omega (arith, ap length is)
 
   bytes_size : length bytes ≡ byte_len s.read + length s.rest
   bytes_size = ap length (sym s.spell) ∙ length-append (encode_utf8_all s.read) s.rest
@@ -47,21 +53,16 @@ module _ {m : Mode} {line : ℕ} {bytes : List ℕ} {scan : Scan} {end_len : ℕ
   stop_within = omega (arith, (ended_alone s).stop, bytes_size)
 
   end_some : 0 < whole_end scan
-  end_some = ⊎_elim (λ a. omega (arith, a.0, (ended_alone s).line.some)) (λ b. omega (arith, b.0)) end_is
+  end_some = omega (arith, more.1, (ended_alone s).line.some)
 
   -- the line with the byte after CR lies in the bytes
   pub end_within : whole_end scan ≤ length bytes
-  end_within = ⊎_elim (λ a. omega (arith, a.0, bytes_size)) (λ b. returned b.0 b.1 s.stops.1) end_is
-    where
-      returned : whole_end scan ≡ byte_len s.read + 1 → ends is_return s.read ≡ true → EndsWhole s.read s.rest → whole_end scan ≤ length bytes
-      returned size h (inl feed) = absurd (both_ways _ feed h)
-      returned size h (inr (b, m', is, other)) = omega (arith, size, bytes_size, ap length is)
+  end_within = omega (arith, more.1, more.2, bytes_size)
 
   -- so many of the bytes, which the line is part of
   first_spell : (n : ℕ) → whole_end scan ≤ n → encode_utf8_all s.read ++ take (n - byte_len s.read) s.rest ≡ take n bytes
   first_spell n within =
-      let short : byte_len s.read ≤ n = ⊎_elim (λ a. omega (arith, a.0, within)) (λ b. omega (arith, b.0, within)) end_is in
-      let parts : n ≡ byte_len s.read + (n - byte_len s.read) = omega (arith, short) in
+      let parts : n ≡ byte_len s.read + (n - byte_len s.read) = omega (arith, more.1, within) in
       sym (ap (take n) (sym s.spell) ∙ ap (λ (k : ℕ). take k (encode_utf8_all s.read ++ s.rest)) parts ∙ take-append-add (encode_utf8_all s.read) s.rest (n - byte_len s.read))
 
   pub ends_in_first : (n : ℕ) (items : List ℕ) → items ≡ take n bytes → whole_end scan ≤ n → ScansIn m line items scan (stops.LineEnd end_len)
@@ -70,15 +71,12 @@ module _ {m : Mode} {line : ℕ} {bytes : List ℕ} {scan : Scan} {end_len : ℕ
     rest = take (n - byte_len s.read) s.rest;
     scalars = s.scalars;
     spell = first_spell n within ∙ sym is;
-    stops = (s.stops.0, whole_taken s.read s.rest (n - byte_len s.read) s.stops.1 (λ h. ⊎_elim (λ a. absurd (both_ways _ a.1 h)) (λ b. omega (arith, b.0, within)) end_is));
+    stops = (s.stops.0, whole_taken s.read s.rest more.0 (n - byte_len s.read) s.stops.1 more.3 (omega (arith, more.1, within)));
     number = s.number;
   }
 
   pub ends_exactly : (n : ℕ) → n ≡ whole_end scan → EndsExactly s.read (take (n - byte_len s.read) s.rest)
-  ends_exactly n is = ⊎_elim
-      (λ a. let none : 0 ≡ n - byte_len s.read = omega (arith, is, a.0) in subst (λ (k : ℕ). EndsExactly s.read (take k s.rest)) none (inl (a.1, refl)))
-      (λ b. let one : 1 ≡ n - byte_len s.read = omega (arith, is, b.0) in subst (λ (k : ℕ). EndsExactly s.read (take k s.rest)) one (exact_return s.read s.rest b.1 s.stops.1))
-      end_is
+  ends_exactly n is = let same : more.0 ≡ n - byte_len s.read = omega (arith, is, more.1) in subst (λ (k : ℕ). EndsExactly s.read (take k s.rest)) same more.3
 
 -- so many of these bytes are held of those that were scanned: some, if there are any, and as many as the scan stops in
 pub record HoldsStop (m : Mode) (line : ℕ) (bytes : List ℕ) (scan : Scan) (stop : Stop) (n : ℕ) : Type 0 where

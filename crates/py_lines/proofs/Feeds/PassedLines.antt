@@ -14,6 +14,7 @@ use Rattle.py_lines.specs.ScannerState.{EndsExactly, GoesOnWith, HasSettled, Hol
 use Rattle.py_lines.specs.ScannerState.View.{ready_of, scanning_of}
 use Rattle.py_lines.specs.declared.feed.Feed.{Feed}
 use Rattle.py_lines.specs.declared.line_state.LineState.{LineState}
+use Rattle.py_lines.specs.declared.line_tokens.LineTokens.{LineTokens}
 use Rattle.py_lines.specs.declared.plain_strings.Passed.{Passed}
 use Rattle.py_lines.specs.declared.scan.Scan.{Scan}
 use Rattle.py_lines.specs.Private.Feed.{IsSoundFeed, StandsSo}
@@ -151,37 +152,23 @@ module _ (f : Feed) (held : Vec ℕ) (state : LineState) (scan : Scan) (stands :
 
 -- the lines that the code has found in the first of these bytes, after which the scan of the next line begins
 module _ (f : Feed) (bytes : List ℕ) (before stop : ℕ) (p : Passed) (stands : StandsAtLine (scanning_of f)) (began : take (length f.held.items) bytes ≡ f.held.items) (stop_is : stop ≡ min before (length bytes)) (found : BeginWithLines (take stop bytes) p) (some : 0 < p.len) where
-  read : List ℕ
-  read = found.read
-
-  beyond : List ℕ
-  beyond = drop p.len (take stop bytes)
-
-  are : AreWholeLines found.texts read p.line_ends beyond
-  unfolding read beyond
-  are = found.whole
-
-  read_is : encode_utf8_all read ≡ take p.len bytes
-  unfolding read
+  read_is : encode_utf8_all found.read ≡ take p.len bytes
   read_is = found.spell ∙ take_slice bytes p.len stop found.within
 
-  within : p.len ≤ length bytes
-  within = omega (arith, found.within, stop_is, length-take stop bytes)
+  up_to : p.len ≤ stop
+  up_to = omega (arith, found.within, length-take stop bytes)
 
-  up_to : p.len ≤ before
-  up_to = omega (arith, found.within, stop_is, length-take stop bytes)
-
-  read_size : byte_len read ≡ p.len
-  read_size = ap length read_is ∙ length-take-le p.len bytes within
+  read_size : byte_len found.read ≡ p.len
+  read_size = ap length read_is ∙ length-take-le p.len bytes (omega (arith, up_to, stop_is))
 
   few : p.line_ends ≤ p.len
-  few = omega (arith, lines_few found.texts read p.line_ends beyond are, read_size)
+  few = omega (arith, lines_few found.texts found.read p.line_ends (drop p.len (take stop bytes)) found.whole, read_size)
 
   pub line_fits : f.state.place + length bytes ≤ 2 ^ 62 → IsSoundFeed f → f.state.line + p.line_ends < 2 ^ 64
-  line_fits fits sound = omega (arith, fits, sound.room.few_lines, few, within)
+  line_fits fits sound = omega (arith, fits, sound.room.few_lines, few, up_to, stop_is)
 
   lines : List LogicalLine
-  lines = lines_at found.texts f.state.place f.state.line read p.line_ends beyond are
+  lines = lines_at found.texts f.state.place f.state.line found.read p.line_ends (drop p.len (take stop bytes)) found.whole
 
   not_ready : f.ready ≡ None
   not_ready = none_ready f f.ready stands.ready
@@ -197,83 +184,66 @@ module _ (f : Feed) (bytes : List ℕ) (before stop : ℕ) (p : Passed) (stands 
           next = sym (take_slice bytes (p.len + length held.items) stop holds.within) ∙ holds.next ∙ ap (λ t. t ++ held.items) (take_slice bytes p.len stop found.within);
         }
 
-    exact : EndsExactly read held.items
-    exact = exact_as (take p.len bytes) read held.items (ap (ends is_return) (sym read_is) ∙ ends-encoded read) holds_here.exact
+    exact : EndsExactly found.read held.items
+    exact = exact_as (take p.len bytes) found.read held.items (ap (ends is_return) (sym read_is) ∙ ends-encoded found.read) holds_here.exact
 
-    module _ (state : LineState) (scan : Scan) (anew : BeginsAnew (record f.state { place = f.state.place + p.len; line = f.state.line + p.line_ends; scan = scan }) state) where
+    module _ (scan : Scan) (tokens : LineTokens) where
       abbrev after : Feed
-      after = record f { state = state; held = held }
-
-      place : state.place ≡ f.state.place + p.len
-      place = ap (λ (s : LineState). s.place) anew.same
-
-      line : state.line ≡ f.state.line + p.line_ends
-      line = ap (λ (s : LineState). s.line) anew.same
-
-      fault : state.fault ≡ f.state.fault
-      fault = ap (λ (s : LineState). s.fault) anew.same
+      after = record f { state = record f.state { place = f.state.place + p.len; line = f.state.line + p.line_ends; scan = scan; tokens = tokens }; held = held }
 
       ready : ready_of after f.ready ≡ None
       ready = ap (ready_of after) not_ready
 
-      first : (text : List ℕ) (given : List LogicalLine) → IsScanning (scanning_of f) text given → GoesOnWith text f.state.place (encode_utf8_all read ++ held.items) → AreSettledAt text state.place state.line (length held.items) (given ++ lines)
+      first : (text : List ℕ) (given : List LogicalLine) → IsScanning (scanning_of f) text given → GoesOnWith text f.state.place (encode_utf8_all found.read ++ held.items) → AreSettledAt text after.state.place after.state.line (length held.items) (given ++ lines)
       unfolding lines
-      first text given scanning goes =
-          let there : f.state.place + byte_len read ≡ state.place = omega (arith, place, read_size) in
-          rw (← there, line) (all_settled found.texts text f.state.place f.state.line given read held.items p.line_ends beyond are (omega (arith, some, read_size)) scanning.first goes exact)
+      first text given scanning goes = subst (λ (n : ℕ). AreSettledAt text (f.state.place + n) after.state.line (length held.items) (given ++ lines)) read_size
+          (all_settled found.texts text f.state.place f.state.line given found.read held.items p.line_ends (drop p.len (take stop bytes)) found.whole (omega (arith, some, read_size)) scanning.first goes exact)
 
       scans : (text : List ℕ) (given : List LogicalLine) → IsScanning (scanning_of f) text given → GoesOnWith text f.state.place (take p.len bytes ++ held.items) → HasSettled (scanning_of after) text (given ++ lines)
       scans text given scanning goes =
-          let next : GoesOnWith text f.state.place (encode_utf8_all read ++ held.items) = subst (λ t. GoesOnWith text f.state.place (t ++ held.items)) (sym read_is) goes in
+          let next : GoesOnWith text f.state.place (encode_utf8_all found.read ++ held.items) = subst (λ t. GoesOnWith text f.state.place (t ++ held.items)) (sym read_is) goes in
           let at = first text given scanning next in
-          let there : f.state.place + length (encode_utf8_all read) ≡ state.place = omega (arith, place, read_size) in
           let none : (given ++ lines) ++ ready_lines (ready_of after f.ready) ≡ given ++ lines = ap (λ (r : Option LogicalLine). (given ++ lines) ++ ready_lines r) ready ∙ append-nil (given ++ lines) in (
             record {
               first = at.0;
-              held = subst (λ (m : ℕ). GoesOnWith text m held.items) there (goes_after text f.state.place (encode_utf8_all read) held.items next);
-              settled = λ (more : 0 < length held.items). subst (IsSettled (take (state.place + length held.items) text)) (sym none) at.1;
+              held = subst (λ (n : ℕ). GoesOnWith text (f.state.place + n) held.items) read_size (goes_after text f.state.place (encode_utf8_all found.read) held.items next);
+              settled = λ (more : 0 < length held.items). subst (IsSettled (take (after.state.place + length held.items) text)) (sym none) at.1;
               whole = subst (HoldsReady held.items) (sym ready) tt;
               open_yet = stands.open_yet;
-              no_fault = fault ∙ stands.no_fault;
+              no_fault = stands.no_fault;
             },
             at.1,
           )
 
-      others : scanning_of after ≡ record (scanning_of f) { place = state.place; line = state.line; held = held.items }
-      others =
-          let same : ready_of after f.ready ≡ ready_of f f.ready = ready ∙ sym stands.ready in
-          λ i. record { place = state.place; line = state.line; held = held.items; ready = same i; ended = f.ended; fault = fault i }
-
       texts : flat_map (λ (l : LogicalLine). l.text) lines ≡ take p.len bytes
       unfolding lines
-      texts = lines_spell found.texts f.state.place f.state.line read p.line_ends beyond are ∙ read_is
+      texts = lines_spell found.texts f.state.place f.state.line found.read p.line_ends (drop p.len (take stop bytes)) found.whole ∙ read_is
 
-      pub passes_lines : PassesPieceLines (scanning_of f) bytes before p.len (scanning_of after)
-      passes_lines = record {
-        lines = lines;
-        texts = texts;
-        ends = up_to;
-        stands = λ more. stands;
-        began = λ more. began;
-        held = λ more. holds_here;
-        scans = λ more. scans;
-        place = place;
-        others = others;
-        same = λ none. absurd (omega (arith, none, some));
-      }
-
-      pub passed_sound : f.state.place + length bytes ≤ 2 ^ 62 → IsSoundFeed f → IsSoundFeed after
-      passed_sound fits sound =
-          let room = holds_here.within in
+      passes_lines : PassesPieceLines (scanning_of f) bytes before p.len (scanning_of after)
+      passes_lines =
+          let same : ready_of after f.ready ≡ ready_of f f.ready = ready ∙ sym stands.ready in
           record {
-            room = record {
-              fits = omega (arith, place, room, fits);
-              few_lines = omega (arith, place, line, few, sound.room.few_lines);
-            };
-            state = subst (StandsSo after) (sym not_ready)
-                (λ no_fault. (
-                  held.items,
-                  begun_open (record f.state
-                      { place = f.state.place + p.len; line = f.state.line + p.line_ends; scan = scan }) after anew,
-                ));
+            lines = lines;
+            texts = texts;
+            ends = omega (arith, up_to, stop_is);
+            stands = λ more. stands;
+            began = λ more. began;
+            held = λ more. holds_here;
+            scans = λ more. scans;
+            place = refl;
+            others = λ i. record { place = after.state.place; line = after.state.line; held = held.items; ready = same i; ended = f.ended; fault = f.state.fault };
+            same = λ none. absurd (omega (arith, none, some));
           }
+
+    pub passed : {scan : Scan} {state : LineState} → BeginsAnew (record f.state { place = f.state.place + p.len; line = f.state.line + p.line_ends; scan = scan }) state → f.state.place + length bytes ≤ 2 ^ 62 → IsSoundFeed f
+        → PassesPieceLines (scanning_of f) bytes before p.len (scanning_of (record f { state = state; held = held })) × IsSoundFeed (record f { state = state; held = held })
+    passed {scan} {state} anew fits sound =
+        let place : state.place ≡ f.state.place + p.len = ap (λ (s : LineState). s.place) anew.same in
+        let line : state.line ≡ f.state.line + p.line_ends = ap (λ (s : LineState). s.line) anew.same in
+        let room = holds_here.within in (
+          subst (λ (s : LineState). PassesPieceLines (scanning_of f) bytes before p.len (scanning_of (record f { state = s; held = held }))) (sym anew.same) (passes_lines state.scan state.tokens),
+          record {
+            room = record { fits = omega (arith, place, room, fits); few_lines = omega (arith, place, line, few, sound.room.few_lines) };
+            state = subst (StandsSo (record f { state = state; held = held })) (sym not_ready) (λ no_fault. (held.items, begun_open _ (record f { state = state; held = held }) anew));
+          },
+        )

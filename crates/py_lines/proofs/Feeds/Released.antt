@@ -87,6 +87,9 @@ module _ (old new : Feed) (n : ℕ) (r : HoldsLine old n) (go : LetsGo old new) 
   none_ready : ready_of new new.ready ≡ None
   none_ready = ap (ready_of new) go.ready
 
+  none_more : (lines : List LogicalLine) → lines ++ ready_lines (ready_of new new.ready) ≡ lines
+  none_more lines = ap (λ r. lines ++ ready_lines r) none_ready ∙ append-nil lines
+
   place_is : new.state.place ≡ old.state.place + byte_len r.read
   place_is = go.place ∙ ap (λ (m : ℕ). old.state.place + m) r.stop
 
@@ -99,16 +102,13 @@ module _ (old new : Feed) (n : ℕ) (r : HoldsLine old n) (go : LetsGo old new) 
   scans_on text lines scanning =
       let goes : GoesOnWith text old.state.place (encode_utf8_all r.read ++ r.rest) = subst (GoesOnWith text old.state.place) (sym r.spell) scanning.held in
       let settled_old : IsSettled (take (old.state.place + length old.held.items) text) (lines ++ unit ∷ []) = scanning.settled (omega (arith, size, r.some)) in
-      let settled_new : IsSettled (take (fed_of (scanning_of new)) text) (lines ++ unit ∷ []) = subst
-      (λ (m : ℕ). IsSettled (take m text) (lines ++ unit ∷ [])) (sym fed_is) settled_old in
+      let settled_new : IsSettled (take (fed_of (scanning_of new)) text) (lines ++ unit ∷ []) = rw fed_is settled_old in
       let first = released scanning.first r.read unit text_is (old.state.place + length old.held.items) settled_old in
       let held = goes_at text place_is rest_is (goes_after text old.state.place (encode_utf8_all r.read) r.rest goes) in (
         record {
           first = first_here text (lines ++ unit ∷ []) first;
           held = held;
-          settled = λ more. subst (λ x. IsSettled (take (fed_of (scanning_of new)) text) ((lines ++ unit ∷ []) ++ ready_lines x))
-              (sym none_ready) (subst (IsSettled (take (fed_of (scanning_of new)) text)) (sym (append-nil (lines ++ unit ∷ [])))
-              settled_new);
+          settled = λ more. subst (IsSettled (take (fed_of (scanning_of new)) text)) (sym (none_more (lines ++ unit ∷ []))) settled_new;
           whole = subst (HoldsReady new.held.items) (sym none_ready) tt;
           open_yet = go.ended ∙ scanning.open_yet;
           no_fault = go.fault ∙ scanning.no_fault;
@@ -122,8 +122,7 @@ module _ (old new : Feed) (n : ℕ) (r : HoldsLine old n) (go : LetsGo old new) 
       let all : IsLexedWhole text (lines ++ unit ∷ []) = ended.lexed in
       record {
         first = first_here text (lines ++ unit ∷ []) (last_released ended.first r.read unit text_is all);
-        lexed = subst (λ x. IsLexed text ((lines ++ unit ∷ []) ++ ready_lines x) None) (sym none_ready)
-            (subst (λ l. IsLexed text l None) (sym (append-nil (lines ++ unit ∷ []))) all);
+        lexed = subst (λ l. IsLexed text l None) (sym (none_more (lines ++ unit ∷ []))) all;
         held = go.held ∙ ap (drop old.state.scan.stop) ended.held ∙ drop-drop old.state.scan.stop old.state.place text ∙ ap (λ (m : ℕ). drop m text) (sym go.place);
         whole = subst (HoldsLast new.held.items) (sym none_ready) tt;
         ended = go.ended ∙ ended.ended;

@@ -96,17 +96,16 @@ module _ (text : List ℕ) (place line : ℕ) (lines : List LogicalLine) (read r
   by_rest : (characters tail left : List ℕ) → Decodes (of.bytes text place line lines read rest k) characters tail → spelled (k.base ++ u) ++ left ≡ characters → EndsForGood (k.base ++ u) (left ++ tail) → (left ≡ []) ⊎ ((c : ℕ) × (left ≡ c ∷ []) × (is_line_feed c ≡ false) × (tail ≡ [])) → IsSettled (of.bytes text place line lines read rest k) (lines ++ line_of place line u ∷ [])
   by_rest characters tail left decodes spell good near = record { characters = characters; tail = tail; pieces = k.base ++ u; decodes = decodes; prefix = settled_line characters tail (k.base ++ u) left spell all_reading good near; cut = of.lines_more text place line lines read rest k u k.more next.line.whole (fits_after k next.line next.fit) }
 
+  by_tail : StartsWithNoChar rest → (rest ≡ [] → ends is_return read ≡ false) → IsSettled (of.bytes text place line lines read rest k) (lines ++ line_of place line u ∷ [])
+  by_tail bad good = by_rest (spelled k.base ++ read) rest [] (of.decodes text place line lines read rest k bad) (append-nil (spelled (k.base ++ u)) ∙ all_spelled) (ends_line, λ none. last_ends ∙ good none) (inl refl)
+
   -- one line more is settled
   pub settled_ready : EndsExactly read rest → IsSettled (of.bytes text place line lines read rest k) (lines ++ line_of place line u ∷ [])
-  settled_ready (inl (no_cr, nothing)) =
-      by_rest (spelled k.base ++ read) [] [] (subst (λ t. Decodes (of.bytes text place line lines read rest k) (spelled k.base ++ read) t) nothing (of.decodes text place line lines read rest k (subst StartsWithNoChar (sym nothing) nothing_bad)))
-      (append-nil (spelled (k.base ++ u)) ∙ all_spelled) (ends_line, λ h. last_ends ∙ no_cr) (inl refl)
-  settled_ready (inr (returned, (b, is, other))) = ⊎_elim narrow wide (cases_lt b 128)
+  settled_ready (inl (no_cr, nothing)) = by_tail (subst StartsWithNoChar (sym nothing) nothing_bad) (λ none. no_cr)
+  settled_ready (inr (returned, (b, is, other))) = ⊎_elim narrow
+      (λ wide. by_tail (subst StartsWithNoChar (sym is) (wide_alone b wide)) (λ none. absurd (omega (arith, ap length (sym is ∙ none)))))
+      (cases_lt b 128)
     where
-      wide : 128 ≤ b → IsSettled (of.bytes text place line lines read rest k) (lines ++ line_of place line u ∷ [])
-      wide high = by_rest (spelled k.base ++ read) rest [] (of.decodes text place line lines read rest k (subst StartsWithNoChar (sym is) (wide_alone b high)))
-          (append-nil (spelled (k.base ++ u)) ∙ all_spelled) (ends_line, λ none. absurd (omega (arith, ap length (sym is ∙ none)))) (inl refl)
-
       narrow : b < 128 → IsSettled (of.bytes text place line lines read rest k) (lines ++ line_of place line u ∷ [])
       narrow low =
           let scalars = all_scalars-append (spelled k.base ++ read) (b ∷ []) k.scalars (and_from _ _ (low_scalar b (omega arith)) refl) in

@@ -20,8 +20,8 @@ use Rattle.py_lines.specs.Private.Run.{IsRunOf, is_ascii_word, is_code_byte, is_
 use Rattle.py_lines.specs.Private.WholePieces.{IsOperatorEnd}
 use Rattle.py_lines.specs.Private.ScanMachine.{string_state}
 use Rattle.py_lines.specs.Private.Passing.{IsOperatorEnd}
-use Rattle.py_lines.proofs.LineScan.AsciiRuns.{all_pass, is_low, low_encodes, low_is}
-use Rattle.py_lines.proofs.LineScan.Runs.{space_low, word_byte_low}
+use Rattle.py_lines.proofs.LineScan.AsciiRuns.{all_pass, is_low, low_encodes, low_is, word_byte_low}
+use Rattle.py_lines.proofs.LineScan.Runs.{space_low}
 use Rattle.py_lines.proofs.LineScan.StringSteps.{here_at, string_through}
 use Rattle.py_lines.proofs.LogicalLines.Cuts.{byte_len-append}
 use Rattle.py_lines.proofs.Text.CharacterTests.{operator_ascii}

@@ -20,7 +20,6 @@ use Rattle.py_lines.specs.Private.FieldText.{is_apart_mode, is_escaped, InText, 
 use Rattle.py_lines.specs.Private.Run.{is_ascii_word, is_text_byte, is_body_byte, is_literal_byte, is_code_sign, is_code_byte}
 use Rattle.py_lines.proofs.Pieces.PieceLists.{piece}
 use Rattle.py_lines.proofs.Text.CharacterTests.{each_of, none_of, not_quote, operator_ascii, excluded, quote-not-word}
-use Rattle.py_lines.proofs.Machine.LiveTexts as live
 use Rattle.py_lines.proofs.Machine.Starts.{start-word, start-space, start-operator, start-quote}
 use Rattle.py_lines.proofs.FieldMachine.Runs.{room_at, stops-fresh}
 use Rattle.py_lines.proofs.FieldMachine.PlainSteps.{plain_moves}
@@ -34,8 +33,10 @@ use Rattle.py_lines.proofs.FieldScans.Openings.{no_colon}
 use Rattle.py_lines.proofs.FieldScans.Runs.{text_stays, two_false}
 use Rattle.py_lines.proofs.FieldScans.Taking.{no_opening, goes_through, keeps_open, some_level}
 use Rattle.py_lines.proofs.LineScan.StringSteps.{string_grows}
-use Rattle.py_lines.proofs.LineScan.AsciiRuns.{low_is, quote-no_break, space-not-quote}
-use Rattle.py_lines.proofs.LineScan.Runs.{stays-no_break, break-return, body_parts, quote_ascii, space_low, word_byte_continues, word_byte_low, word_byte_starts}
+use Rattle.py_lines.proofs.LineScan.AsciiRuns.{low_is, quote-no_break, space-not-quote, word_byte_continues, word_byte_low, word_byte_starts}
+use Rattle.py_lines.proofs.LineScan.Runs.{stays-no_break, body_parts, quote_ascii, space_low}
+use Rattle.py_lines.proofs.LogicalLines.Cuts.{break-return}
+use Rattle.py_lines.proofs.Machine.LiveTexts as live
 
 -- where the machine stands: round the string are these fields, and this says which string it is
 abbrev pub Spot : Type 1

@@ -19,17 +19,17 @@ use Rattle.py_lines.proofs.Machine.LiveTexts.{closing-operator, closing_of-closi
 use Rattle.py_lines.proofs.FieldMachine.Runs.{HasRoomFor, Goes, goes-append, goes-grows, goes-closes, goes-begins, BelowLimit, steps_of, room_of}
 use Rattle.py_lines.proofs.FieldMachine.StringParts.{goes_on, body_moves, second_brace}
 use Rattle.py_lines.proofs.FieldMachine.ListBrackets.{closing_pops}
-use Rattle.py_lines.proofs.FieldMachine.FieldRuns.{end_moves, brace_ends}
+use Rattle.py_lines.proofs.FieldMachine.CodeRuns.{end_moves, brace_ends}
 use Rattle.py_lines.proofs.FieldSoundness.Holds.{Limit, HoldsLevels, HoldsAt, IsFieldSound}
-use Rattle.std.proofs.Math.Bool.{and_assoc}
-use Rattle.py_lines.specs.Faults.{IsLive}
-use Rattle.py_lines.specs.declared.mode.Mode.{Mode}
 use Rattle.py_lines.proofs.FieldMachine.PlainSteps.{plain_moves}
 use Rattle.py_lines.proofs.FieldMachine.Completeness.{reading_reached}
 use Rattle.py_lines.proofs.FieldSoundness.HostSteps.{sound_at}
 use Rattle.py_lines.proofs.FieldSoundness.OpenEnds.{at_open}
 use Rattle.py_lines.proofs.FieldSoundness.WholeTexts.{two_hundred, rooms_at, final_is_reading}
 use Rattle.py_lines.proofs.FieldMachine.StringRuns.{second_quote}
+use Rattle.std.proofs.Math.Bool.{and_assoc}
+use Rattle.py_lines.specs.Faults.{IsLive}
+use Rattle.py_lines.specs.declared.mode.Mode.{Mode}
 
 -- a mode in which the text may end, or a closing bracket follow
 pub record IsReadyField (m : FieldMode) (held : List ℕ) : Type 0 where

@@ -18,9 +18,8 @@ use Rattle.py_lines.specs.LogicalLine.{LogicalLine, byte_len, line_ends, lines_o
 use Rattle.py_lines.specs.Lexed.{IsLexed, BeginsLexing}
 use Rattle.py_lines.specs.Reader.{Reader, HasGiven, standing_at}
 use Rattle.py_lines.specs.declared.fault.Fault.{Fault}
-use Rattle.py_lines.proofs.Text.Continued.{IsContinued, goes_on}
+use Rattle.py_lines.proofs.Text.Utf8Prefixes.{IsContinued, goes_on, all_scalars-parts}
 use Rattle.py_lines.proofs.Text.Decoding.{decoding, decoded}
-use Rattle.py_lines.proofs.Text.Utf8Prefixes.{all_scalars-parts}
 use Rattle.py_lines.proofs.Pieces.PieceLists.{piece, spelled-append, spelled-push}
 use Rattle.py_lines.proofs.Pieces.OpenBrackets.{stack-from_balanced, balanced-from_stack}
 use Rattle.py_lines.proofs.Pieces.ShallowPieces.{IsShallow-parts, brackets_shallow}

@@ -31,15 +31,13 @@ use Rattle.py_lines.proofs.Pieces.ShallowPieces.{brackets_shallow, strings_shall
 use Rattle.py_lines.proofs.FieldSoundness.LiveTexts.{live_before}
 use Rattle.py_lines.proofs.ScanMachine.Advance.{RunsTo}
 use Rattle.py_lines.proofs.ScanMachine.Soundness.{sound_at}
-use Rattle.py_lines.proofs.ScanMachine.Reaching.{reach, same_state}
-pub use Rattle.py_lines.proofs.Lexings.LineEnds.{line_first, read-alone}
+use Rattle.py_lines.proofs.ScanMachine.Reaching.{reach, same_state, runs_live}
 use Rattle.py_lines.proofs.Lexings.Existence.{reading_live}
+use Rattle.py_lines.proofs.Lexings.LineEnds.{no_end_in, depth_prefix, length_line, return_returns, none_both, line_first, ends-append, ends-line}
+pub use Rattle.py_lines.proofs.Lexings.LineEnds.{line_first, read-alone}
 use Rattle.py_lines.specs.PieceGrammar.{IsLineEnd, feed, return_feed, return}
 use Rattle.py_lines.specs.Fields.{InClass, AreReadBefore}
 use Rattle.py_lines.specs.Settled.{EndsForGood, IsSettledPrefix}
-use Rattle.py_lines.proofs.Lexings.LineEnds.{no_end_in, depth_prefix, length_line, return_returns, none_both, line_first, ends-append, ends-line}
-use Rattle.py_lines.proofs.Lexings.SettledLines.{ends-append, ends-line}
-use Rattle.py_lines.proofs.ScanMachine.LiveTexts.{same_state, runs_live}
 pub use Rattle.py_lines.proofs.Lexings.Existence.{reading_live, IsLineOf, lexical}
 
 -- a line end that the machine has found stays, though CR may get LF after it

@@ -25,22 +25,22 @@ use Rattle.py_lines.proofs.Pieces.PieceLists.{piece, spelled-push}
 use Rattle.py_lines.proofs.Text.CharacterTests.{feed_is, return_is}
 use Rattle.py_lines.proofs.Machine.Starts.{starts_so, StartsSo}
 use Rattle.py_lines.proofs.Machine.PieceSteps.{pieces_at, scanned}
-use Rattle.py_lines.proofs.Pieces.OpenBrackets.{stands}
+use Rattle.py_lines.proofs.Pieces.OpenBrackets.{stands, stack_push}
 use Rattle.py_lines.proofs.Machine.LiveTexts.{keeps, stack_closed}
 use Rattle.py_lines.proofs.ScanMachine.Steps.{breaks_in, meets}
 use Rattle.py_lines.proofs.LogicalLines.Cuts.{byte_len-append}
-use Rattle.py_lines.proofs.LineScan.LineCount.{stack_push, EndsNoLine-push, byte_len-one, counted_push}
+use Rattle.py_lines.proofs.LineScan.LineCount.{EndsNoLine-push, byte_len-one, counted_push}
 use Rattle.py_lines.proofs.LineScan.BracketStack.{none_length}
 use Rattle.py_lines.proofs.LineScan.StringSteps.{InString, fielded_at, no_fields, opens_plain, string_more, string_move_is, string_grows}
 use Rattle.py_lines.proofs.LineScan.PieceEnd.{counts_longer, closed_text, shut_as, closes_shut, no_bracket}
+use Rattle.py_lines.proofs.FieldMachine.StringRuns.{moved_between}
+use Rattle.py_lines.proofs.FieldMachine.PlainSteps.{IsOpenAfter, open_after}
 use Rattle.std.specs.Prelude.{if◌then◌else◌}
 use Rattle.std.specs.Str.{byte}
 use Rattle.py_lines.specs.FieldStrings.{Host, literal}
 use Rattle.py_lines.specs.declared.host.StringWithFields.{StringWithFields}
 use Rattle.py_lines.specs.declared.mode.Spelling.{Spelling}
 use Rattle.py_lines.specs.Private.FieldScan.{FollowsBody, IsPlaced}
-use Rattle.py_lines.proofs.FieldMachine.StringRuns.{moved_between}
-use Rattle.py_lines.proofs.FieldMachine.PlainSteps.{IsOpenAfter, open_after}
 
 -- one more character in the piece that is open
 counts_read : (old : Scan) (f : FieldScan) (s : Scanned) (c : ℕ) (m : Mode) → Counts old s → Counts (in_mode (with_character (with_field_scan old f) c) m) (scanned s.done m (s.held ++ c ∷ []))

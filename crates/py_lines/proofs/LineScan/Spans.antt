@@ -9,7 +9,8 @@ use Rattle.std.proofs.lemmas.Str.Ascii.{IsAscii-from_all}
 use Rattle.std.proofs.Math.Seq.{take-add}
 use Rattle.py_lines.specs.Character.{is_space}
 use Rattle.py_lines.proofs.Text.Lanes.{run_goes_on}
-use Rattle.py_lines.proofs.LineScan.Runs.{space_low, word_byte_low}
+use Rattle.py_lines.proofs.LineScan.Runs.{space_low}
+use Rattle.py_lines.proofs.LineScan.AsciiRuns.{word_byte_low}
 use Rattle.py_lines.specs.Private.Run.{IsRunOf, IsWholeComment, Spans, is_comment_byte, is_remark_byte, is_ascii_word, is_body_byte, is_text_byte}
 
 -- bytes below 128 are characters

@@ -19,19 +19,17 @@ use Rattle.py_lines.proofs.Pieces.PieceLists.{piece, MayFollow, AreReadBefore-se
 use Rattle.py_lines.proofs.Machine.Starts.{start-mark}
 use Rattle.py_lines.proofs.Machine.PieceSteps.{pieces_at, steps_by-append}
 use Rattle.py_lines.proofs.ScanMachine.Steps.{StopsBefore, stops-free}
-use Rattle.py_lines.proofs.ScanMachine.Steps as runs_of
 use Rattle.py_lines.proofs.Machine.ReadingSteps.{MayBegin}
 use Rattle.py_lines.proofs.ScanMachine.Reaching.{reach, live_runs}
 use Rattle.py_lines.proofs.Pieces.OpenBrackets.{stack_before, stands}
 use Rattle.py_lines.proofs.ScanMachine.Advance.{kept, kept_if, advance, GoesTo, RunsTo, stops_there, steps_push}
-use Rattle.py_lines.proofs.Machine.FinishedPieces.{closed_grows}
-use Rattle.py_lines.proofs.ScanMachine.LiveTexts.{live_runs}
+use Rattle.py_lines.proofs.Machine.EarlierPieces.{closed_grows, after_pieces, after_if, closed-after, steps-after, step-after, shift, shift_if, stack-after}
 use Rattle.py_lines.proofs.Machine.LiveTexts.{stack_closed}
 use Rattle.py_lines.proofs.Lexings.LineEnds.{line_first}
 use Rattle.py_lines.proofs.LogicalLines.Cuts.{byte_len-append}
-use Rattle.py_lines.proofs.Machine.EarlierPieces.{after_pieces, after_if, closed-after, closed_grows, steps-after, step-after, shift, shift_if, stack-after}
-use Rattle.py_lines.specs.Balance.{depth_through}
 use Rattle.py_lines.proofs.LineScan.StringSteps.{first_plain}
+use Rattle.py_lines.proofs.ScanMachine.Steps as runs_of
+use Rattle.py_lines.specs.Balance.{depth_through}
 
 -- a line begins soundly
 pub begun_sound : (n : ℕ) → IsScanSound (line_start (first_mode n)) []

@@ -21,10 +21,8 @@ use Rattle.py_lines.proofs.Machine.PieceSteps.{scanned, steps_by-append, grown_b
 use Rattle.py_lines.proofs.Fields.Prefixes.{field_letters}
 use Rattle.py_lines.proofs.ScanMachine.Follows.{word_alone, host_moves, room_closes}
 use Rattle.py_lines.proofs.ScanMachine.Rooms.{alone_grows}
-use Rattle.py_lines.proofs.ScanMachine.Spellings.{word_tells}
-use Rattle.py_lines.proofs.FieldScans.Taking.{comes_closed}
 use Rattle.py_lines.proofs.Machine.Spellings.{word_tells}
-use Rattle.py_lines.proofs.FieldScans.Steps.{comes_closed}
+use Rattle.py_lines.proofs.FieldScans.Taking.{comes_closed}
 use Rattle.py_lines.proofs.LineScan.Runs.{string_run}
 use Rattle.py_lines.proofs.LineScan.NextCharacter.{opened_as_body}
 use Rattle.py_lines.proofs.LineScan.StringSteps.{string_more, string_through}

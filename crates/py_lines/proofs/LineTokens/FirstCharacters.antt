@@ -26,8 +26,8 @@ use Rattle.py_lines.proofs.Text.CharacterTests.{operator_ascii, prefix_word, the
 use Rattle.py_lines.proofs.Machine.Starts.{start-mark, start-word, start-space, start-operator, start-feed, start-return, start-quote, start-hash, start-slash}
 use Rattle.py_lines.proofs.Fields.Elsewhere.{quotes_begin}
 use Rattle.py_lines.proofs.Fields.Prefixes.{field_letters}
-use Rattle.py_lines.proofs.LineScan.Runs.{space_low, quote_ascii, word_byte_continues, word_byte_low, word_byte_starts}
-use Rattle.py_lines.proofs.LineScan.AsciiRuns.{is_low, low_is}
+use Rattle.py_lines.proofs.LineScan.Runs.{space_low, quote_ascii}
+use Rattle.py_lines.proofs.LineScan.AsciiRuns.{word_byte_continues, word_byte_low, word_byte_starts, is_low, low_is}
 use Rattle.py_lines.proofs.LineTokens.Spellings.{fielded_spelling, prefix_low}
 use Rattle.py_lines.proofs.Machine.LiveTexts.{closing-operator}
 use Rattle.py_lines.proofs.FieldMachine.PieceRuns.{opening_operator}

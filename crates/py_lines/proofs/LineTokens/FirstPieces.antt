@@ -28,8 +28,8 @@ use Rattle.py_lines.proofs.Text.Utf8Shapes.{one}
 use Rattle.py_lines.proofs.LineTokens.Spellings.{high_bytes, fielded_spelling, prefix_encoded}
 use Rattle.py_lines.proofs.Lexings.LineEnds.{line_text}
 use Rattle.py_lines.proofs.LogicalLines.NextLine.{begins-prefix}
-use Rattle.py_lines.proofs.LineScan.Runs.{all_no_break, break_low, line_ends-run, space_low, quote_ascii, word_byte_continues, word_byte_starts}
-use Rattle.py_lines.proofs.LineScan.AsciiRuns.{operator-no_break}
+use Rattle.py_lines.proofs.LineScan.Runs.{all_no_break, break_low, line_ends-run, space_low, quote_ascii}
+use Rattle.py_lines.proofs.LineScan.AsciiRuns.{word_byte_continues, word_byte_starts, operator-no_break}
 use Rattle.py_lines.proofs.LineTokens.FirstCharacters.{hash_is, slash_is, spelled_bytes, IsQuoted, class_told, first_of, prefix_is_word, quoted, word_ends}
 
 -- what passes one test passes another, where each number does

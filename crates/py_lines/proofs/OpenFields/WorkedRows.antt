@@ -12,7 +12,8 @@ use Rattle.py_lines.proofs.FieldSoundness.Holds.{IsFieldSound}
 use Rattle.py_lines.proofs.FieldSoundness.HostSteps.{sound_at}
 use Rattle.py_lines.proofs.FieldSoundness.WholeTexts.{no_limit, any_rooms}
 use Rattle.py_lines.proofs.FieldSoundness.OpenEnds.{code_open_at, short_is_open}
-use Rattle.py_lines.proofs.Fields.WorkedRows.{tested, piece, short}
+use Rattle.py_lines.proofs.FieldMachine.WorkedRows.{tested}
+use Rattle.py_lines.proofs.Fields.WorkedRows.{piece, short}
 
 -- no piece before the rest, at the text's start
 begun_none : (rest : List ℕ) → AreBegun 0 [] rest

@@ -41,14 +41,12 @@ use Rattle.py_lines.specs.Private.Source.{line_of_source, scanned_text, GivesTok
 use Rattle.py_lines.proofs.Lexings.Existence.{first_at}
 use Rattle.py_lines.proofs.Text.Utf8Prefixes.{prefix_chars, all_scalars-parts, one_decoding}
 use Rattle.py_lines.proofs.Pieces.PieceLists.{spelled-append, AreReadIn-append, AreReadBefore-second, AreReadBefore-append, piece}
-use Rattle.py_lines.proofs.Lexings.LinePrefix.{line_first}
+use Rattle.py_lines.proofs.Lexings.LineEnds.{line_first}
 use Rattle.py_lines.proofs.LogicalLines.TokenPlaces.{each_after, tokens_lie}
 use Rattle.py_lines.proofs.LogicalLines.Cuts.{byte_len-append, one_line, last_part, line_depth}
-use Rattle.py_lines.proofs.Lexings.LineEnds.{line_first}
 use Rattle.py_lines.proofs.LineScan.LineCount.{line_ends-bytes}
 use Rattle.py_lines.proofs.LineScan.TextSteps.{follows_base, begun_sound}
 use Rattle.py_lines.proofs.Lexings.FirstLines.{base_lines, ends_for_good, given_begin}
-use Rattle.py_lines.proofs.Feeds.Known as of
 use Rattle.py_lines.proofs.Feeds.Known.{IsKnown, is_known}
 use Rattle.py_lines.proofs.Pieces.OpenBrackets.{balanced_depth, depth_through-append, stands}
 use Rattle.py_lines.proofs.Pieces.ShallowPieces.{IsShallow-append, fits_reading}
@@ -61,6 +59,7 @@ use Rattle.py_lines.proofs.LineScan.NextCharacter.{closed_one_line, one_return}
 use Rattle.py_lines.proofs.LineScan.LineSteps.{way_stop}
 use Rattle.py_lines.proofs.Feeds.DecidedSoFar.{way_open, by_character}
 use Rattle.py_lines.proofs.Feeds.Ended.{ended_bytes, ended_unfinished}
+use Rattle.py_lines.proofs.Feeds.Known as of
 
 -- the pieces of a line that was read whole
 pub record IsReadLine (m : Scanned) (read : List ℕ) (u : List Piece) : Type 0 where

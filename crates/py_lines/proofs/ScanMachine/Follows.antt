@@ -14,24 +14,23 @@ use Rattle.py_lines.specs.Private.ScanMachine.{is_field_spelling, is_raw_spellin
 use Rattle.py_lines.specs.Private.FieldScan.{code_mode, code_moved}
 use Rattle.py_lines.proofs.Pieces.PieceLists.{piece}
 use Rattle.py_lines.proofs.Pieces.OpenBrackets.{stack_push}
-use Rattle.py_lines.specs.LogicalLine.{byte_len}
 use Rattle.py_lines.proofs.Machine.PieceSteps.{scanned, pieces_at, is_word_mode}
 use Rattle.py_lines.proofs.Machine.LiveTexts.{keeps, stack_closed}
 use Rattle.py_lines.proofs.Machine.Starts.{StartsSo, starts_so, start-operator}
-use Rattle.py_lines.proofs.Text.CharacterTests.{excluded, quote-not-word, break-not-others, slash-not-break}
+use Rattle.py_lines.proofs.Text.CharacterTests.{excluded, quote-not-word, break-not-others}
 use Rattle.py_lines.proofs.Machine.Soundness.{word_on}
 use Rattle.py_lines.proofs.FieldMachine.Completeness.{start_breaks}
-use Rattle.py_lines.proofs.Machine.Spellings.{spelling_on-push}
+use Rattle.py_lines.proofs.Machine.Spellings.{spelling_on-push, word_told, other_begins}
 use Rattle.py_lines.proofs.Machine.OpenStrings.{start-not-mark}
 use Rattle.py_lines.proofs.FieldMachine.Runs.{steps_of}
 use Rattle.py_lines.proofs.FieldMachine.PieceRuns.{opening_operator, word_goes}
 use Rattle.py_lines.proofs.FieldMachine.PlainSteps.{plain_moves, is_fielded_mode, NoWord, no_word, IsOpenAfter, open_after}
-use Rattle.py_lines.proofs.Machine.Spellings.{word_told, other_begins}
 use Rattle.py_lines.proofs.ScanMachine.Steps.{meets}
 use Rattle.py_lines.proofs.ScanMachine.Advance.{kept, kept_if}
 use Rattle.py_lines.proofs.ScanMachine.Rebased.{rebased, rebased_if}
 use Rattle.py_lines.proofs.ScanMachine.Rooms.{RoomFrom, goes_room, GoesAlone, alone_grows}
 use Rattle.py_lines.proofs.ScanMachine.BodyMoves.{IsBodyMode}
+use Rattle.py_lines.specs.LogicalLine.{byte_len}
 
 -- the openers of the brackets that are open
 abbrev pub openers_of : List Bracket → List ℕ

@@ -29,11 +29,12 @@ use Rattle.py_lines.proofs.Machine.PieceSteps.{scanned, pieces_at, steps_by-appe
 use Rattle.py_lines.proofs.Machine.LiveTexts.{keeps, stack_closed}
 use Rattle.py_lines.proofs.ScanMachine.Steps.{begun as scan_begun}
 use Rattle.py_lines.proofs.LineScan.BracketStack.{keeps_at}
-use Rattle.py_lines.proofs.LineScan.LineCount.{EndsNoLine-push, line_ends-step, stack_push, ends-last}
+use Rattle.py_lines.proofs.LineScan.LineCount.{EndsNoLine-push, line_ends-step, ends-last}
+use Rattle.py_lines.proofs.Pieces.OpenBrackets.{stack_push}
 use Rattle.py_lines.proofs.LineScan.NextCharacter.{closed_one_line, depth_none, none_level}
 use Rattle.py_lines.proofs.LineScan.PieceEnd.{closed_text}
-use Rattle.py_lines.proofs.LineScan.Runs.{break_low, ends-run, line_ends-run, space_low, stays-no_break, word_byte_continues, word_byte_low}
-use Rattle.py_lines.proofs.LineScan.AsciiRuns.{ascii_scalar, operator-no_break, word_starts, space-not-quote}
+use Rattle.py_lines.proofs.LineScan.Runs.{break_low, ends-run, line_ends-run, space_low, stays-no_break}
+use Rattle.py_lines.proofs.LineScan.AsciiRuns.{word_byte_continues, word_byte_low, ascii_scalar, operator-no_break, word_starts, space-not-quote}
 use Rattle.py_lines.proofs.LineScan.TextSteps.{begun_sound}
 use Rattle.py_lines.proofs.SimpleLines.Tails.{apart_tail, come_sound, feed_unreturned, free_closed, free_goes_on, no_tail, no_tail_with, return_returns, stands, tail_on-append, tail_push}
 use Rattle.py_lines.proofs.LineTokens.Spellings.{high_bytes}

@@ -26,7 +26,8 @@ use Rattle.py_lines.proofs.Machine.PieceSteps.{scanned}
 use Rattle.py_lines.proofs.Machine.LiveTexts.{keeps}
 use Rattle.py_lines.proofs.FieldScans.TextLengths.{rest_is, rest_of}
 use Rattle.py_lines.proofs.LineScan.LineCount.{EndsNoLine-push, ends-last}
-use Rattle.py_lines.proofs.LineScan.Runs.{body_parts, break-return, quote_ascii, stays-no_break, long_characters}
+use Rattle.py_lines.proofs.LineScan.Runs.{body_parts, quote_ascii, stays-no_break, long_characters}
+use Rattle.py_lines.proofs.LogicalLines.Cuts.{break-return}
 use Rattle.py_lines.proofs.LineScan.AsciiRuns.{all_pass, is_low, is_low_from, low_encodes, low_is, quote-no_break}
 use Rattle.py_lines.proofs.LineScan.PlainStrings.{inside_closes}
 use Rattle.py_lines.proofs.Text.CharacterTests.{none_of, quote-not-word}

@@ -21,7 +21,7 @@ use Rattle.py_lines.proofs.LineScan.LineCount.{ends-last}
 use Rattle.py_lines.proofs.Lexings.LineEnds.{ends-append}
 use Rattle.py_lines.proofs.LineScan.PieceEnd.{no_class_bracket}
 use Rattle.py_lines.proofs.LineScan.LineSteps.{sound_steps}
-use Rattle.py_lines.proofs.LineScan.Runs.{word_byte_continues}
+use Rattle.py_lines.proofs.LineScan.AsciiRuns.{word_byte_continues}
 use Rattle.py_lines.proofs.Text.CharacterTests.{feed_from, mark_is, none_of}
 
 -- where the machine has come, it is sound

@@ -1,6 +1,6 @@
 use Rattle.std.proofs.Common.{arith}
 use Rattle.std.proofs.lemmas.Result.{err_from_is_err_and}
-use Rattle.py_lines.proofs.Feeds.FinishedHeld.{finish_read, finish_short, last_room}
+use Rattle.py_lines.proofs.Feeds.EndedHeld.{finish_read, finish_short, last_room}
 use Rattle.py_lines.proofs.feed.Feed.finish.Goals as goal
 
 pub read_tokens-requires : goal.read_tokens-requires

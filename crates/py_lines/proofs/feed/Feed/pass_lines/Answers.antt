@@ -1,7 +1,7 @@
 use Rattle.std.proofs.Common.{rules, subst}
 use Rattle.py_lines.specs.Private.LineState.{BeginsAnew}
 use Rattle.py_lines.specs.declared.line_state.LineState.{LineState}
-use Rattle.py_lines.proofs.Feeds.PassedLines.{begun_none, line_fits, passed_sound, passes_lines}
+use Rattle.py_lines.proofs.Feeds.PassedLines.{begun_none, line_fits, passed}
 use Rattle.py_lines.proofs.feed.Feed.pass_lines.Goals as goal
 
 pub returns-then-not-hold_after_lines : goal.returns-then-not-hold_after_lines
@@ -26,8 +26,5 @@ returns c =
     let some = c.hold_after_lines.ensures.some c.if-not-hold_after_lines.false in
     let held = c.hold_after_lines.ensures.held c.if-not-hold_after_lines.false in
     let anew = subst (λ (s : LineState). BeginsAnew s c.restart-2.new.self) c.pass.ensures c.restart-2.ensures in
-    record {
-      passes = passes_lines c.args.self.now c.args.bytes.now c.args.before c.min.result c.simple_lines-lines.result stands begins c.min.ensures c.simple_lines-lines.ensures some c.hold_after_lines.new.held held c.restart-2.new.self _ anew;
-      sound = passed_sound c.args.self.now c.args.bytes.now c.args.before c.min.result c.simple_lines-lines.result stands begins c.min.ensures c.simple_lines-lines.ensures some c.hold_after_lines.new.held held c.restart-2.new.self _ anew c.requires.fits
-          c.requires.sound;
-    }
+    let answer = passed c.args.self.now c.args.bytes.now c.args.before c.min.result c.simple_lines-lines.result stands begins c.min.ensures c.simple_lines-lines.ensures some c.hold_after_lines.new.held held anew c.requires.fits c.requires.sound in
+    record { passes = answer.0; sound = answer.1 }

@@ -10,9 +10,8 @@ use Rattle.py_lines.specs.Private.LineState.{IsEndLineFault}
 use Rattle.py_lines.specs.Private.Machine.{is_final}
 use Rattle.py_lines.specs.Private.Source.{Advances, FailsAfter, HasScanned}
 use Rattle.py_lines.proofs.Machine.PieceSteps.{pieces_at}
-use Rattle.py_lines.proofs.Readers.LineAnswers.{all_within, place_room, place_boundary, is_line_text, stop_size, fails_at_bytes, fails_at_end, end_within, last_line, continues_text, few_lines_text, Within}
+use Rattle.py_lines.proofs.Readers.LineAnswers.{all_within, place_room, place_boundary, is_line_text, stop_size, fails_at_bytes, fails_at_end, end_within, last_line, continues_text, few_lines_text}
 use Rattle.py_lines.proofs.Readers.LineFaults.{Within, finished}
-use Rattle.py_lines.proofs.Readers.EndAnswers.{stop_size, fails_at_bytes, fails_at_end, end_within, last_line, continues_text, few_lines_text}
 use Rattle.py_lines.proofs.source.Source.end_text.Goals as goal
 
 line_fault_within : (s : Source) (has : HasScanned s TextEnd) (rest : ℕ) (line_fault : LineFault) → (rest ≡ 0 → length s.bytes.now ≤ length s.characters.now) → IsEndLineFault s.state.scan rest (Some line_fault) → Within has.scans.read line_fault.place
@@ -40,6 +39,7 @@ final_mode s has final = ap (λ (m : Mode). is_final m) (sym has.scans.stops.0.t
 pub give-requires : goal.give-requires
 give-requires c =
     let s = c.args.self.now in
+    let all = all_within c.requires.scans.read s.state.scan.stop (stop_size s c.requires) in
     let done = finished s.state.scan c.in_default.ensures.1 in
     let pieces = pieces_at c.requires.scans.stops.0.state in
     record {
