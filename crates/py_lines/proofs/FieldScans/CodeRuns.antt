@@ -17,7 +17,6 @@ use Rattle.py_lines.specs.Private.FieldMachine.{plain, FieldScanned, field_fresh
 use Rattle.py_lines.specs.Private.FieldScan.{mode_from, GoesThrough, HoldsField, freed_at}
 use Rattle.py_lines.specs.Private.Marks.{is_of_class}
 use Rattle.py_lines.specs.Private.Run.{IsRunOf, is_ascii_word, is_code_byte, is_code_sign}
-use Rattle.py_lines.specs.Private.WholePieces.{IsOperatorEnd}
 use Rattle.py_lines.specs.Private.ScanMachine.{string_state}
 use Rattle.py_lines.specs.Private.Passing.{IsOperatorEnd}
 use Rattle.py_lines.proofs.LineScan.AsciiRuns.{all_pass, is_low, low_encodes, low_is, word_byte_low}

@@ -10,7 +10,7 @@ use Rattle.py_lines.specs.Private.LineState.{IsEndLineFault}
 use Rattle.py_lines.specs.Private.Machine.{is_final}
 use Rattle.py_lines.specs.Private.Source.{Advances, FailsAfter, HasScanned}
 use Rattle.py_lines.proofs.Machine.PieceSteps.{pieces_at}
-use Rattle.py_lines.proofs.Readers.LineAnswers.{all_within, place_room, place_boundary, is_line_text, stop_size, fails_at_bytes, fails_at_end, end_within, last_line, continues_text, few_lines_text}
+use Rattle.py_lines.proofs.Readers.LineAnswers.{all_within, place_boundary, is_line_text, stop_size, fails_at_bytes, fails_at_end, end_within, last_line, continues_text, few_lines_text}
 use Rattle.py_lines.proofs.Readers.LineFaults.{Within, finished}
 use Rattle.py_lines.proofs.source.Source.end_text.Goals as goal
 

@@ -2,7 +2,7 @@ use Rattle.std.proofs.Common.{sym, subst, Err}
 use Rattle.py_lines.specs.declared.fault.LexError.{LexError}
 use Rattle.py_lines.specs.declared.scan.Stop.TheVariants.{Refused}
 use Rattle.py_lines.specs.Private.Source.{Advances}
-use Rattle.py_lines.proofs.Readers.LineAnswers.{place_room, place_boundary, refused_place_within, fails_at_character}
+use Rattle.py_lines.proofs.Readers.LineAnswers.{place_boundary, refused_place_within, fails_at_character}
 use Rattle.py_lines.proofs.source.Source.refuse.Goals as goal
 
 pub fail-requires : goal.fail-requires
