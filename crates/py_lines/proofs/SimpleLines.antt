@@ -6,8 +6,7 @@ pub mod Runs
 pub mod Prefixes
 pub mod Strings
 pub mod FieldStrings
-pub mod Comments
-pub mod Joins
+pub mod CommentsAndJoins
 pub mod Further
 pub mod Lines
 pub mod UnderWay
