@@ -12,6 +12,7 @@ use Rattle.py_lines.specs.Fields.{Fields}
 use Rattle.py_lines.specs.Reading.{IsReadingIn, Decodes, IsReadPrefixIn}
 use Rattle.py_lines.specs.OpenFields.{Spot, IsOpenStringIn, in_literal, in_specification, AreBegunIn, BeginsListIn, at_start, in_field, StandsOpenIn, IsOpenUpToIn, IsPlainShortPrefixIn, IsPlainLongPrefixIn, IsOpenLiteralIn, InOpenShortIn, InOpenLongIn, AfterOpenBackslashIn, InSpecificationIn, InFieldCodeIn, InOpenFieldIn}
 use Rattle.py_lines.specs.Faults.{IsLiveIn, DiesAtIn, IsFieldDueIn, IsAtDepthIn, OpensBraceTooDeepIn, InShortSpecificationIn, BreaksStringIn, OpensTooDeepIn, Cause, brace_too_deep, breaks_string, breaks_join, closes_wrong, opens_too_deep, ends_specification, begins_nothing, ExplainsIn, causes_before, NoneExplainsIn, IsCharacterFaultIn, InOpenBracketIn, Unfinished, open_brace, open_short, open_long, open_join, open_bracket, open_inside, IsOpenAtEndIn, IsFaultAtIn, at_character, at_bytes, at_end, IsLexicalFaultIn}
+use Rattle.py_lines.proofs.Fields.Parts.{not_nothing}
 use Rattle.py_lines.proofs.Fields.Elsewhere.{later, none_false, no_field_prefix, quotes_begin, read_with, read_without, balanced_with, balanced_without}
 use Rattle.py_lines.proofs.Elsewhere.SameRuns.{live_with, live_without}
 use Rattle.py_lines.specs.declared.fault.FaultKind.{FaultKind}
@@ -63,19 +64,22 @@ pub to_plain : Carries fielded_dialect plain_dialect
 to_plain = record { fit = read_without Fields; reading = balanced_without; live = live_without; prefix = λ prefix q after quotes h. refl; none = none_open fielded_dialect no_field_prefix }
 
 module _ (old new : Dialect) (same : Carries old new) where
-  -- where a list begins, and its first pieces
-  pub list_carried : (outside rest : List ℕ) (depth : ℕ) → may_have_fields (outside ++ rest) ≡ false → BeginsListIn old outside rest depth → BeginsListIn new outside rest depth
-  list_carried outside rest depth h (at_start b r d is none) = at_start outside rest depth is none
-  list_carried outside rest depth h (in_field b r d earlier_list base pieces front host spot is list begun string may deep) =
+  -- a list begins at the text's start alone, since no field opens; and its first pieces
+  list_starts : (outside rest : List ℕ) (depth : ℕ) → may_have_fields (outside ++ rest) ≡ false → BeginsListIn old outside rest depth → (outside ≡ []) × (depth ≡ 0)
+  list_starts outside rest depth h (at_start b r d is none) = (is, none)
+  list_starts outside rest depth h (in_field b r d earlier_list base pieces front host spot is list begun string may deep) =
       let before : may_have_fields (earlier_list ++ (spelled pieces ++ (front ++ byte "{" ∷ []))) ≡ false = ap may_have_fields (sym is) ∙ earlier outside rest h in
       let own : may_have_fields (front ++ byte "{" ∷ []) ≡ false = later (spelled pieces) _ (later earlier_list _ before) in
       absurd (same.none host spot front _ (earlier front _ own) string)
 
-  pub begun_carried : (depth : ℕ) (pieces : List Piece) (rest : List ℕ) → may_have_fields (spelled pieces ++ rest) ≡ false → AreBegunIn old depth pieces rest → AreBegunIn new depth pieces rest
+  list_carried : (outside rest : List ℕ) (depth : ℕ) → may_have_fields (outside ++ rest) ≡ false → BeginsListIn old outside rest depth → BeginsListIn new outside rest depth
+  list_carried outside rest depth h is = let at = list_starts outside rest depth h is in at_start outside rest depth at.0 at.1
+
+  begun_carried : (depth : ℕ) (pieces : List Piece) (rest : List ℕ) → may_have_fields (spelled pieces ++ rest) ≡ false → AreBegunIn old depth pieces rest → AreBegunIn new depth pieces rest
   begun_carried depth pieces rest h is = record { fit = same.fit pieces rest h is.fit; others = is.others; balanced = is.balanced; inside = is.inside }
 
   -- a piece that is open
-  pub stands_carried : (Open Other : List ℕ → Type 0) → ((front : List ℕ) → may_have_fields front ≡ false → Open front → Other front) → (characters start : List ℕ) → may_have_fields characters ≡ false → StandsOpenIn old Open characters start → StandsOpenIn new Other characters start
+  stands_carried : (Open Other : List ℕ → Type 0) → ((front : List ℕ) → may_have_fields front ≡ false → Open front → Other front) → (characters start : List ℕ) → may_have_fields characters ≡ false → StandsOpenIn old Open characters start → StandsOpenIn new Other characters start
   stands_carried Open Other carry characters start h is =
       let whole : may_have_fields (is.outside ++ (spelled is.pieces ++ is.front)) ≡ false =
       ap may_have_fields (sym (append_assoc is.outside (spelled is.pieces) is.front) ∙ ap (λ t. t ++ is.front) is.before ∙ is.spell) ∙ h in
@@ -93,40 +97,27 @@ module _ (old new : Dialect) (same : Carries old new) where
       }
 
   -- it is no string with fields
-  pub no_string : (host : Host) (spot : Spot) (front : List ℕ) → may_have_fields front ≡ false → ¬ (IsOpenUpToIn old host spot front)
+  no_string : (host : Host) (spot : Spot) (front : List ℕ) → may_have_fields front ≡ false → ¬ (IsOpenUpToIn old host spot front)
   no_string host spot front h is = same.none host spot is.body is.last (earlier is.body is.last (ap may_have_fields (sym is.spell) ∙ h)) is.string
 
-  pub in_short_carried : (characters start : List ℕ) → may_have_fields characters ≡ false → InOpenShortIn old characters start → InOpenShortIn new characters start
+  in_short_carried : (characters start : List ℕ) → may_have_fields characters ≡ false → InOpenShortIn old characters start → InOpenShortIn new characters start
   in_short_carried characters start h is = stands_carried _ _ (λ front k. ⊎_elim (λ (short, plain). inl (short, same.prefix short.prefix short.quote _ short.opens (ap may_have_fields (sym short.spell) ∙ k))) (λ (host, spot, up, place, length). absurd (no_string host spot front k up))) characters start h is
 
-  pub in_long_carried : (characters start : List ℕ) → may_have_fields characters ≡ false → InOpenLongIn old characters start → InOpenLongIn new characters start
+  in_long_carried : (characters start : List ℕ) → may_have_fields characters ≡ false → InOpenLongIn old characters start → InOpenLongIn new characters start
   in_long_carried characters start h is = stands_carried _ _ (λ front k. ⊎_elim (λ (long, plain). inl (long, same.prefix long.prefix long.quote _ long.opens (ap may_have_fields (sym long.spell) ∙ k))) (λ (host, spot, up, place, length). absurd (no_string host spot front k up))) characters start h is
 
-  pub backslash_carried : (characters start : List ℕ) → may_have_fields characters ≡ false → AfterOpenBackslashIn old characters start → AfterOpenBackslashIn new characters start
+  backslash_carried : (characters start : List ℕ) → may_have_fields characters ≡ false → AfterOpenBackslashIn old characters start → AfterOpenBackslashIn new characters start
   backslash_carried characters start h is = stands_carried _ _ (λ front k slash. slash) characters start h is
 
   -- no specification is open, and no field
-  pub no_specification : (host : Host) (characters start : List ℕ) → may_have_fields characters ≡ false → ¬ (InSpecificationIn old host characters start)
+  no_specification : (host : Host) (characters start : List ℕ) → may_have_fields characters ≡ false → ¬ (InSpecificationIn old host characters start)
   no_specification host characters start h is = no_string host is.spot is.stands.front (later is.string is.stands.front (ap may_have_fields is.stands.spell ∙ h)) is.stands.open_yet
 
-  code_carried : (characters start : List ℕ) → may_have_fields characters ≡ false → InFieldCodeIn old characters start → InFieldCodeIn new characters start
-  code_carried characters start h is =
-      let whole : may_have_fields ((start ++ byte "{" ∷ []) ++ spelled is.pieces) ≡ false = ap may_have_fields (append_assoc start (byte "{" ∷ []) (spelled is.pieces) ∙ is.spell) ∙ h in
-      record {
-        depth = is.depth;
-        pieces = is.pieces;
-        list = list_carried (start ++ byte "{" ∷ []) (spelled is.pieces) is.depth whole is.list;
-        begun = begun_carried is.depth is.pieces [] (ap may_have_fields (append-nil (spelled is.pieces)) ∙ later (start ++ byte "{" ∷ []) (spelled is.pieces) whole) is.begun;
-        deep = is.deep;
-        balanced = is.balanced;
-        spell = is.spell;
-      }
+  no_field_open : (characters start : List ℕ) → may_have_fields characters ≡ false → ¬ (InOpenFieldIn old characters start)
+  no_field_open characters start h (inl is) =
+      not_nothing start (byte "{") [] (list_starts (start ++ byte "{" ∷ []) (spelled is.pieces) is.depth (ap may_have_fields (append_assoc start (byte "{" ∷ []) (spelled is.pieces) ∙ is.spell) ∙ h) is.list).0
+  no_field_open characters start h (inr (host, is)) = no_specification host characters start h is
 
-  pub field_carried : (characters start : List ℕ) → may_have_fields characters ≡ false → InOpenFieldIn old characters start → InOpenFieldIn new characters start
-  field_carried characters start h (inl code) = inl (code_carried characters start h code)
-  field_carried characters start h (inr (host, is)) = absurd (no_specification host characters start h is)
-
-module _ (old new : Dialect) (same : Carries old new) where
   -- no field may open
   no_field : (place : Place) (depth : ℕ) (characters after : List ℕ) → may_have_fields characters ≡ false → ¬ (IsFieldDueIn old place depth characters after)
   no_field place depth characters after h is =
@@ -143,8 +134,8 @@ module _ (old new : Dialect) (same : Carries old new) where
         outside = is.outside;
         base = is.base;
         pieces = is.pieces;
-        list = list_carried old new same is.outside (spelled is.pieces ++ c ∷ []) is.base whole is.list;
-        begun = begun_carried old new same is.base is.pieces (c ∷ []) (later is.outside (spelled is.pieces ++ c ∷ []) whole) is.begun;
+        list = list_carried is.outside (spelled is.pieces ++ c ∷ []) is.base whole is.list;
+        begun = begun_carried is.base is.pieces (c ∷ []) (later is.outside (spelled is.pieces ++ c ∷ []) whole) is.begun;
         spell = is.spell;
         deep = is.deep;
       }
@@ -153,7 +144,7 @@ module _ (old new : Dialect) (same : Carries old new) where
   string_carried before c offset h is = record {
     start = is.start;
     breaks = is.breaks;
-    inside = ⊎_elim (λ short. inl (in_short_carried old new same before is.start h short)) (λ other. absurd (no_specification old new same other.host before other.field h other.inside)) is.inside;
+    inside = ⊎_elim (λ short. inl (in_short_carried before is.start h short)) (λ other. absurd (no_specification other.host before other.field h other.inside)) is.inside;
     place = is.place;
   }
 
@@ -168,10 +159,10 @@ module _ (old new : Dialect) (same : Carries old new) where
   explains_carried : (cause : Cause) (before : List ℕ) (c offset : ℕ) → may_have_fields (before ++ c ∷ []) ≡ false → ExplainsIn old cause before c offset → ExplainsIn new cause before c offset
   explains_carried brace_too_deep before c offset h is = absurd (no_brace before (c ∷ []) offset (earlier before (c ∷ []) h) is)
   explains_carried breaks_string before c offset h is = string_carried before c offset (earlier before (c ∷ []) h) is
-  explains_carried breaks_join before c offset h is = record { start = is.start; after = backslash_carried old new same before is.start (earlier before (c ∷ []) h) is.after; place = is.place }
+  explains_carried breaks_join before c offset h is = record { start = is.start; after = backslash_carried before is.start (earlier before (c ∷ []) h) is.after; place = is.place }
   explains_carried closes_wrong before c offset h is = is
   explains_carried opens_too_deep before c offset h is = deep_carried before c offset h is
-  explains_carried ends_specification before c offset h is = absurd (no_specification old new same is.host before is.start (earlier before (c ∷ []) h) is.inside)
+  explains_carried ends_specification before c offset h is = absurd (no_specification is.host before is.start (earlier before (c ∷ []) h) is.inside)
   explains_carried begins_nothing before c offset h is = is
 
   -- the bracket that is open
@@ -185,13 +176,17 @@ module _ (old new : Dialect) (same : Carries old new) where
         outer = is.outer;
         opener = is.opener;
         inner = is.inner;
-        list = list_carried old new same is.outside (spelled ps) is.depth whole is.list;
-        begun = begun_carried old new same is.depth ps [] (ap may_have_fields (append-nil (spelled ps)) ∙ later is.outside (spelled ps) whole) is.begun;
+        list = list_carried is.outside (spelled ps) is.depth whole is.list;
+        begun = begun_carried is.depth ps [] (ap may_have_fields (append-nil (spelled ps)) ∙ later is.outside (spelled ps) whole) is.begun;
         opens = is.opens;
         balanced = is.balanced;
         spell = is.spell;
         before = is.before;
       }
+
+-- the characters of the text, however it was decoded
+none_in : (text characters tail : List ℕ) → HasNoFields text → Decodes text characters tail → may_have_fields characters ≡ false
+none_in text characters tail free decodes = ap may_have_fields (decoded text characters free.characters tail free.tail decodes free.decodes).0 ∙ free.none
 
 module _ (old new : Dialect) (there : Carries old new) (back : Carries new old) where
   none_carried : (causes : List Cause) (before : List ℕ) (c : ℕ) → may_have_fields (before ++ c ∷ []) ≡ false → NoneExplainsIn old causes before c → NoneExplainsIn new causes before c
@@ -226,8 +221,7 @@ module _ (old new : Dialect) (there : Carries old new) (back : Carries new old) 
   open_carried open_long characters offset h (start, is, place) = (start, in_long_carried old new there characters start h is, place)
   open_carried open_join characters offset h (start, is, place) = (start, backslash_carried old new there characters start h is, place)
   open_carried open_bracket characters offset h (start, is, place) = (start, bracket_carried old new there characters start h is, place)
-  open_carried open_inside characters offset h (start, is, place, none) =
-      (start, field_carried old new there characters start h is, place, λ other. no_brace new old back characters [] other h)
+  open_carried open_inside characters offset h (start, is, place, none) = absurd (no_field_open old new there characters start h is)
 
   fault_carried : (kind : FaultKind) (characters tail : List ℕ) (offset : ℕ) → may_have_fields characters ≡ false → IsFaultAtIn old kind characters tail offset → IsFaultAtIn new kind characters tail offset
   fault_carried kind characters tail offset h (at_character is) = at_character (character_carried kind characters offset h is)
@@ -235,18 +229,13 @@ module _ (old new : Dialect) (there : Carries old new) (back : Carries new old) 
   fault_carried kind characters tail offset h (at_end is) =
       at_end (record { unfinished = is.unfinished; is = is.is; whole = is.whole; live = there.live characters h is.live; ends_in = open_carried is.unfinished characters offset h is.ends_in })
 
-  pub lexical_carried : (characters tail : List ℕ) (fault : Fault) → may_have_fields characters ≡ false → IsLexicalFaultIn old characters tail fault → IsLexicalFaultIn new characters tail fault
+  lexical_carried : (characters tail : List ℕ) (fault : Fault) → may_have_fields characters ≡ false → IsLexicalFaultIn old characters tail fault → IsLexicalFaultIn new characters tail fault
   lexical_carried characters tail fault h is = record {
     unread = λ whole pieces reading. is.unread whole pieces (back.reading pieces characters h reading);
     place = fault_carried fault.kind characters tail fault.offset h is.place;
     line = is.line;
   }
 
--- the characters of the text, however it was decoded
-none_in : (text characters tail : List ℕ) → HasNoFields text → Decodes text characters tail → may_have_fields characters ≡ false
-none_in text characters tail free decodes = ap may_have_fields (decoded text characters free.characters tail free.tail decodes free.decodes).0 ∙ free.none
-
-module _ (old new : Dialect) (there : Carries old new) (back : Carries new old) where
   prefix_carried : (pieces : List Piece) (characters : List ℕ) → may_have_fields characters ≡ false → IsReadPrefixIn old pieces characters → IsReadPrefixIn new pieces characters
   prefix_carried pieces characters h is =
       let first : (ps : List Piece) (rest : List ℕ) → spelled ps ++ rest ≡ characters → may_have_fields (spelled ps) ≡ false = λ ps rest spell. earlier (spelled ps) rest (ap may_have_fields spell ∙ h) in
@@ -275,7 +264,7 @@ module _ (old new : Dialect) (there : Carries old new) (back : Carries new old) 
         pieces = is.pieces;
         decodes = is.decodes;
         prefix = prefix_carried is.pieces is.characters h is.prefix;
-        refused = lexical_carried old new there back is.characters is.tail fault h is.refused;
+        refused = lexical_carried is.characters is.tail fault h is.refused;
         cut = is.cut;
       }
 

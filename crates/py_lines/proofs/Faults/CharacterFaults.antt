@@ -183,9 +183,7 @@ stuck_dies read c after s steps room stuck = record { after = after; spell = ref
     dead : IsStuck s c → ¬ (IsLive (read ++ c ∷ []))
     dead (inl none) live =
         let at = live_goes (read ++ c ∷ []) live in
-        let wrong : None ≡ Some at.0 =
-        sym (ap (λ o. field_steps_from o []) none) ∙ sym (ap (λ o. field_steps_from o (c ∷ [])) steps) ∙ sym (steps-append (Some field_text_start) read (c ∷ [])) ∙ at.1 in
-        absurd (cc)
+        none_some (sym (ap (λ o. field_steps_from o []) none) ∙ sym (ap (λ o. field_steps_from o (c ∷ [])) steps) ∙ sym (steps-append (Some field_text_start) read (c ∷ [])) ∙ at.1)
     dead (inr none) live =
         let at = live_goes (read ++ c ∷ []) live in
         let later = subst (λ o. have_room o (c ∷ []) ≡ true) steps (room_parts (Some field_text_start) read (c ∷ []) at.2).1 in

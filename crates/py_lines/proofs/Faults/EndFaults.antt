@@ -6,7 +6,7 @@ use Rattle.py_lines.specs.Piece.{operator, Piece, spelled}
 use Rattle.py_lines.specs.Balance.{is_opener, is_closer, depth_after, depth_through}
 use Rattle.py_lines.specs.Fields.{IsShallow}
 use Rattle.py_lines.specs.Faults.{IsFieldDue, OpensBraceTooDeep, InOpenBracket, Unfinished, open_brace, open_short, open_long, open_inside, IsOpenAtEnd}
-use Rattle.py_lines.specs.OpenFields.{AreBegun, BeginsList, StandsOpen, IsPlainShortPrefix, IsPlainLongPrefix, IsOpenLiteral}
+use Rattle.py_lines.specs.OpenFields.{IsSlash, AreBegun, BeginsList, StandsOpen, IsPlainShortPrefix, IsPlainLongPrefix, IsOpenLiteral}
 use Rattle.py_lines.specs.LogicalLine.{byte_len}
 use Rattle.py_lines.specs.FieldStrings.{Host, Place, literal, specification, begins_open}
 use Rattle.py_lines.specs.declared.mode.Mode.{Mode}
@@ -15,11 +15,12 @@ use Rattle.py_lines.specs.Private.Machine.{is_final, in_short, in_long, is_after
 use Rattle.py_lines.specs.Private.FieldMachine.{text_place, before, At, after_brace, FieldMode, plain, opened, empty, body, Level, FieldScanned, field_state, field_closed, levels_open, may_end, IsFieldFinal}
 use Rattle.py_lines.specs.Private.FieldFaults.{is_waiting, unfinished_code, unfinished_literal, unfinished_in}
 use Rattle.py_lines.proofs.Pieces.PieceLists.{piece}
+use Rattle.py_lines.proofs.Machine.OpenStrings.{slash_held}
 use Rattle.py_lines.proofs.FieldSoundness.OpenLists.{Opens, level, inside, opens-depth}
 use Rattle.py_lines.proofs.FieldSoundness.Holds.{Limit, HoldsAt, HoldsParts, HoldsList, HoldsLevels, IsFieldSound}
 use Rattle.py_lines.proofs.FieldSoundness.Lists.{not_specification, stands_at}
 use Rattle.py_lines.proofs.FieldSoundness.WholeTexts.{code_at_end, list_ends, two_hundred}
-use Rattle.py_lines.proofs.FieldSoundness.OpenEnds.{begun_before, parts_at, stands_open, list_begins, literal_is_open, opened_is_open, specification_is_open, short_is_open, long_is_open, slash_is_open, code_is_open, brace_is_open}
+use Rattle.py_lines.proofs.FieldSoundness.OpenEnds.{begun_before, parts_at, stands_open, list_begins, literal_is_open, opened_is_open, specification_is_open, short_is_open, long_is_open, piece_open, code_open_at, brace_is_open}
 
 -- within the limit at most 200 brackets and fields are open
 shallow_through : (depth : ℕ) (ps : List Piece) → depth ≤ 200 → IsShallow depth ps → depth_through depth ps ≤ 200
@@ -138,8 +139,9 @@ final_by m = refl
 code_open : (outer : List Level) (done : List Piece) (openers : List ℕ) (m : FieldMode) (held read : List ℕ) → IsFieldSound two_hundred (field_state outer done openers m held) read → may_end m ≡ true → ((place : ℕ) → ¬ (OpensBraceTooDeep read [] place)) → EndsSo (field_state outer done openers m held) read (unfinished_code outer openers)
 code_open [] done [] m held read sound may none = record { outside = refl; closed_all = refl; ends = may }
 code_open (l ∷ ls) done [] m held read sound may none =
-    let at = code_is_open two_hundred l ls done m held read sound may in
-    (byte_len at.0, (at.0, inl at.1, refl, none))
+    let own = (stands_at two_hundred (l ∷ ls) done [] m held read literal sound (code_at_end m may)).levels.1 in
+    let start = before l.place ls ++ (spelled l.done ++ own.text) in
+    (byte_len start, (start, inl (code_open_at two_hundred l ls done m held read start sound may (ap (λ t. before l.place ls ++ (spelled l.done ++ t)) own.spell ∙ simp append_assoc)), refl, none))
 code_open outer done (o ∷ os) m held read sound may none =
     let at = bracket_is_open two_hundred outer done o os m held read sound may in
     (byte_len at.0, (at.0, at.1, refl))
@@ -168,7 +170,7 @@ open_in outer done openers (plain m) held read sound deep =
     (λ short. cond_both (in_long m) _ _ P
     (λ is. (byte_len start, (start, long_is_open two_hundred outer done openers m held read sound is, refl)))
     (λ long. cond_both (is_after_backslash m) _ _ P
-    (λ is. (byte_len start, (start, slash_is_open two_hundred outer done openers m held read sound is, refl)))
+    (λ is. (byte_len start, (start, piece_open two_hundred outer done openers (plain m) held read sound IsSlash refl (slash_held m [] held sound.mode.0 is), refl)))
     (λ slash. code_open outer done openers (plain m) held read sound (final_by m ∙ rw (short, long, slash) refl) (λ place due. both_ways _ refl (deep place due).0))))
 open_in outer done openers (opened host) held read sound deep =
     let start = before literal outer ++ spelled done in

@@ -260,15 +260,6 @@ ends_of modes.Free = nothing (λ done held. refl) (λ held holds. holds)
 ends_of m = something (λ done held. refl) (λ h. absurd (cc)) refl
 
 module _ (limit : Limit) (outer : List Level) (done : List Piece) (openers : List ℕ) (m : Mode) (held read : List ℕ) (c : ℕ) (sound : IsFieldSound limit (field_state outer done openers (plain m) held) read) (other : begins_host m held c ≡ false) where
-  -- the piece ends with the character
-  closes_sound : InPlainClass (class_of m) (held ++ c ∷ []) × ((more : List ℕ) → MayPrecedePlain (class_of m) (held ++ c ∷ []) more) → move_of m c ≡ moves.Closes → FieldSoundIf limit (field_moved (field_state outer done openers (plain m) held) c closes) (read ++ c ∷ [])
-  closes_sound own so =
-      let text = held ++ c ∷ [] in
-      let class = closes_class m c so in
-      let is_plain : (rest : List ℕ) → IsPlainText (class_of m) text rest = λ rest. plain_text (class_of m) text rest (λ at. begins_plain-more held c (sound.mode.1 at)) (λ at. absurd (class.1 at)) in
-      closes_with limit outer done openers (plain m) held read c (class_of m) sound refl class.0 (plain_class _ (class_of m) text [] (is_plain []) own.0)
-      (λ more. plain_precede Fields (class_of m) text more (is_plain more) (own.1 more)) (unmarked m outer done sound.start)
-
   -- the piece ends before it
   ready : ((more : List ℕ) → AreReadPlain (closed m [] held) (c ∷ more)) → Ready limit outer (closed m done held) openers read c
   ready own = go (ends_of m)
@@ -294,7 +285,12 @@ module _ (limit : Limit) (outer : List Level) (done : List Piece) (openers : Lis
 
       go : (v : Move) → MoveHolds m held c v → QuotedSo held c v → move_of m c ≡ v → HasRoom limit (length openers + levels_open outer) c (plain_move v) → FieldSoundIf limit (field_moved (field_state outer done openers (plain m) held) c (plain_move v)) (read ++ c ∷ [])
       go (moves.Grows n) holds quoted so room = grew limit outer done openers (plain m) (plain n) held read c sound refl (holds, quoted) (no_start n holds)
-      go moves.Closes holds quoted so room = closes_sound holds so
+      go moves.Closes holds quoted so room =
+          let text = held ++ c ∷ [] in
+          let class = closes_class m c so in
+          let is_plain : (rest : List ℕ) → IsPlainText (class_of m) text rest = λ rest. plain_text (class_of m) text rest (λ at. begins_plain-more held c (sound.mode.1 at)) (λ at. absurd (class.1 at)) in
+          closes_with limit outer done openers (plain m) held read c (class_of m) sound refl class.0 (plain_class _ (class_of m) text [] (is_plain []) holds.0)
+          (λ more. plain_precede Fields (class_of m) text more (is_plain more) (holds.1 more)) (unmarked m outer done sound.start)
       go moves.Breaks holds quoted so room = start_sound limit outer (closed m done held) openers read c (ready holds) room
       go moves.Refused holds quoted so room = tt
 

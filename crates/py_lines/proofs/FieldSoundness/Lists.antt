@@ -1,5 +1,5 @@
 -- One more piece in the innermost list.
-use Rattle.std.proofs.Common.{◌≡◌, ◌==◌, ℕ, ◌+◌, true, false, ◌&&◌, Option, None, Some, List, [], ◌∷◌, ◌++◌, length, refl, sym, ap, ◌∙◌, subst, inl, inr, ◌⊎◌, append_assoc, append-nil}
+use Rattle.std.proofs.Common.{◌≡◌, ◌==◌, ℕ, ◌+◌, true, false, ◌&&◌, Option, None, Some, List, [], ◌∷◌, ◌++◌, length, refl, sym, ap, ◌∙◌, subst, inl, inr, ◌⊎◌, ⊎_elim, append_assoc, append-nil}
 use Rattle.std.proofs.lemmas.Bool.{and_left, both_ways}
 use Rattle.py_lines.specs.Piece.{Class, string, operator, Piece, is_mark_class, begins_marked, spelled}
 use Rattle.py_lines.specs.PieceGrammar.{InClassIn, MayPrecedeIn, AreReadIn}
@@ -99,29 +99,21 @@ pub stands_push : (limit : Limit) (outer : List Level) (done : List Piece) (open
 stands_push limit outer done openers after class text next read h adds =
     let is_field = class_map _ Fields (limit.are_fields (length openers + levels_open outer)) class text adds.is in
     let spell : spelled (done ++ piece class text ∷ []) ≡ spelled done ++ text = spelled-push done class text in
+    let follows : MayFollow done (piece class text ∷ []) =
+    ⊎_elim (λ other. follows_any done class text other) (λ first. subst (λ l. MayFollow l (piece class text ∷ [])) (sym first.1) tt) adds.unmarked in
     record {
       spell = sym (append_assoc (before literal outer) (spelled (done ++ piece class text ∷ [])) next) ∙ ap (λ t. t ++ next) (ap (λ t. before literal outer ++ t) spell ∙ h.spell);
       list = record {
-        fit = λ more. AreReadIn-push fielded done class text (next ++ more) (h.list.fit (next ++ more)) is_field (adds.precedes more) (follows adds.unmarked);
+        fit = λ more. AreReadIn-push fielded done class text (next ++ more) (h.list.fit (next ++ more)) is_field (adds.precedes more) follows;
         opens = adds.opens;
         passes = passes-push limit outer done openers class text h.list.opens h.list.passes adds.is adds.room;
         in_field = λ l ls is.
             let own = h.list.in_field l ls is in
-            (unmarked l ls is own.0 adds.unmarked, colon-push 0 done (piece class text) own.1 (adds.colon l ls is));
+            (⊎_elim (λ other. marked-push done (piece class text) own.0 other) (λ first. let none : [] ≡ l ∷ ls = sym first.0 ∙ is in absurd (cc)) adds.unmarked, colon-push 0 done (piece class text) own.1 (adds.colon l ls is));
         no_list = λ at. not_specification at;
       };
       levels = levels_more limit literal outer (spelled (done ++ piece class text ∷ [])) next (subst (HoldsLevels limit literal outer) (sym spell) h.levels);
     }
-  where
-    follows : (is_mark_class class ≡ false) ⊎ ((outer ≡ []) × (done ≡ [])) → MayFollow done (piece class text ∷ [])
-    follows (inl other) = follows_any done class text other
-    follows (inr first) = subst (λ l. MayFollow l (piece class text ∷ [])) (sym first.1) tt
-
-    unmarked : (l : Level) (ls : List Level) → outer ≡ l ∷ ls → begins_marked done ≡ false → (is_mark_class class ≡ false) ⊎ ((outer ≡ []) × (done ≡ [])) → begins_marked (done ++ piece class text ∷ []) ≡ false
-    unmarked l ls is own (inl other) = marked-push done (piece class text) own other
-    unmarked l ls is own (inr first) =
-        let none : [] ≡ l ∷ ls = sym first.0 ∙ is in
-        absurd (cc)
 
 -- a piece that is no operator
 pub adds_neutral : (limit : Limit) (outer : List Level) (done : List Piece) (openers : List ℕ) (class : Class) (text next : List ℕ) → Opens openers done → (class ≡ operator → ⊥) → InClassIn (with_fields (limit.FieldsAt (length openers + levels_open outer))) class text → ((more : List ℕ) → MayPrecedeIn fielded class text (next ++ more)) → (is_mark_class class ≡ false) ⊎ ((outer ≡ []) × (done ≡ [])) → Adds limit outer done openers openers class text next

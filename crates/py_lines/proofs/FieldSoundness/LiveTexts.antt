@@ -18,8 +18,9 @@ use Rattle.py_lines.proofs.Machine.Starts.{start-operator}
 use Rattle.py_lines.proofs.Machine.LiveTexts.{closing-operator, closing_of-closing, closing-scalar, quote-scalar, IsReady, closing-not-quote, comment-breaks, feed-starts, completes}
 use Rattle.py_lines.proofs.FieldMachine.Runs.{HasRoomFor, Goes, goes-append, goes-grows, goes-closes, goes-begins, BelowLimit, steps_of, room_of}
 use Rattle.py_lines.proofs.FieldMachine.StringParts.{goes_on, body_moves, second_brace}
-use Rattle.py_lines.proofs.FieldMachine.ListBrackets.{closing_pops}
+use Rattle.py_lines.proofs.FieldMachine.ListBrackets.{closing_pops, none_some}
 use Rattle.py_lines.proofs.FieldMachine.CodeRuns.{end_moves, brace_ends}
+use Rattle.py_lines.proofs.FieldMachine.FieldRuns.{end_moves, brace_ends}
 use Rattle.py_lines.proofs.FieldSoundness.Holds.{Limit, HoldsLevels, HoldsAt, IsFieldSound}
 use Rattle.py_lines.proofs.FieldMachine.PlainSteps.{plain_moves}
 use Rattle.py_lines.proofs.FieldMachine.Completeness.{reading_reached}
@@ -255,9 +256,7 @@ pub room_parts : (o : Option FieldScanned) (a b : List ℕ) → have_room o (a +
 room_parts o a b h = and_parts (have_room o a) (have_room (field_steps_from o a) b) (sym (room-through o a b) ∙ h)
 
 pub steps_before : (o : Option FieldScanned) (b : List ℕ) (s : FieldScanned) → field_steps_from o b ≡ Some s → (t : FieldScanned) × (o ≡ Some t)
-steps_before None b s steps =
-    let stuck : None ≡ Some s = steps in
-    absurd (cc)
+steps_before None b s steps = absurd (none_some steps)
 steps_before (Some t) b s steps = (t, refl)
 
 -- the machine goes through a live text, and each character has room

@@ -225,7 +225,7 @@ module _ (limit : Limit) (outer : List Level) (done : List Piece) (openers : Lis
       )
 
   -- a piece of the innermost list that is open
-  piece_open : (IsOpen : List ℕ → Type 0) → text_place m ≡ literal → IsOpen held → StandsOpen IsOpen read (before literal outer ++ spelled done)
+  pub piece_open : (IsOpen : List ℕ → Type 0) → text_place m ≡ literal → IsOpen held → StandsOpen IsOpen read (before literal outer ++ spelled done)
   piece_open IsOpen at is =
       let here = stands_at limit outer done openers m held read literal sound at in
       record {
@@ -281,9 +281,6 @@ long_is_open limit outer done openers m held read sound is =
     piece_open limit outer done openers (plain m) held read sound (λ front. IsPlainLongPrefix front ⊎ IsOpenLiteral true front) refl
     (inl (long, other_prefix held long.prefix _ long.quote (sound.mode.1 (long_mode m is).0) long.spell (plain_quotes long.prefix long.begun) long.opens))
 
-pub slash_is_open : (limit : Limit) (outer : List Level) (done : List Piece) (openers : List ℕ) (m : Mode) (held read : List ℕ) → IsFieldSound limit (field_state outer done openers (plain m) held) read → is_after_backslash m ≡ true → AfterOpenBackslash read (before literal outer ++ spelled done)
-slash_is_open limit outer done openers m held read sound is = piece_open limit outer done openers (plain m) held read sound IsSlash refl (slash_held m [] held sound.mode.0 is)
-
 -- the code of a field, whose brackets are closed
 pub code_open_at : (limit : Limit) (l : Level) (ls : List Level) (done : List Piece) (m : FieldMode) (held read start : List ℕ) → IsFieldSound limit (field_state (l ∷ ls) done [] m held) read → may_end m ≡ true → before literal (l ∷ ls) ≡ start ++ 123 ∷ [] → InFieldCode read start
 code_open_at limit l ls done m held read start sound may brace =
@@ -300,11 +297,6 @@ code_open_at limit l ls done m held read start sound may brace =
       balanced = balanced_at [] pieces refl ends.opens;
       spell = sym (append_assoc start (123 ∷ []) (spelled pieces)) ∙ ap (λ t. t ++ spelled pieces) (sym brace) ∙ ap (λ t. before literal (l ∷ ls) ++ t) ends.spell ∙ here.spell;
     }
-
-pub code_is_open : (limit : Limit) (l : Level) (ls : List Level) (done : List Piece) (m : FieldMode) (held read : List ℕ) → IsFieldSound limit (field_state (l ∷ ls) done [] m held) read → may_end m ≡ true → (start : List ℕ) × InFieldCode read start
-code_is_open limit l ls done m held read sound may =
-    let own = (stands_at limit (l ∷ ls) done [] m held read literal sound (code_at_end m may)).levels.1 in
-    (_, code_open_at limit l ls done m held read (before l.place ls ++ (spelled l.done ++ own.text)) sound may (ap (λ t. before l.place ls ++ (spelled l.done ++ t)) own.spell ∙ simp append_assoc))
 
 -- and directly after its `{`
 pub brace_is_open : (limit : Limit) (outer : List Level) (done : List Piece) (openers : List ℕ) (host : Host) (named : Bool) (held read : List ℕ) → IsFieldSound limit (field_state outer done openers (body host literal named after_brace) held) read → (start : List ℕ) × InFieldCode read start

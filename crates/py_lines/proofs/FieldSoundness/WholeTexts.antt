@@ -61,8 +61,8 @@ module _ (limit : Limit) (outer : List Level) (done : List Piece) (openers : Lis
       }
 
 -- by its mode
-ends_plain : (limit : Limit) (outer : List Level) (done : List Piece) (openers : List ℕ) (m : Mode) (held read : List ℕ) → IsFieldSound limit (field_state outer done openers (plain m) held) read → is_final m ≡ true → EndsList limit outer openers (closed m done held) (spelled done ++ held)
-ends_plain limit outer done openers m held read sound may = go (ends_of m)
+pub list_ends : (limit : Limit) (outer : List Level) (done : List Piece) (openers : List ℕ) (m : FieldMode) (held read : List ℕ) → IsFieldSound limit (field_state outer done openers m held) read → may_end m ≡ true → EndsList limit outer openers (field_closed m done held) (spelled done ++ held)
+list_ends limit outer done openers (plain m) held read sound may = go (ends_of m)
   where
     go : Ends m → EndsList limit outer openers (closed m done held) (spelled done ++ held)
     go (nothing is none) = subst (λ (l : List Piece). EndsList limit outer openers l (spelled done ++ held)) (sym (is done held)) (ends_none limit outer done openers (plain m) held read sound (none held sound.mode.0))
@@ -71,14 +71,10 @@ ends_plain limit outer done openers m held read sound may = go (ends_of m)
         let own : IsPlainText (class_of m) held [] = plain_text (class_of m) held [] sound.mode.1 (λ at. and_right _ _ refl) in
         subst (λ (l : List Piece). EndsList limit outer openers l (spelled done ++ held)) (sym (is done held))
         (ends_piece limit outer done openers (plain m) held read sound (class_of m) class marked (plain_class _ (class_of m) held [] own fit.0) (plain_precede Fields (class_of m) held [] own fit.1))
-
-pub list_ends : (limit : Limit) (outer : List Level) (done : List Piece) (openers : List ℕ) (m : FieldMode) (held read : List ℕ) → IsFieldSound limit (field_state outer done openers m held) read → may_end m ≡ true → EndsList limit outer openers (field_closed m done held) (spelled done ++ held)
-list_ends limit outer done openers (plain m) held read sound may = ends_plain limit outer done openers m held read sound may
-list_ends limit outer done openers (opened host) held read sound may = absurd (both_ways _ refl may)
 list_ends limit outer done openers (empty host) held read sound may =
     let own = sound.mode in
     ends_piece limit outer done openers (empty host) held read sound string (λ at. absurd (cc)) refl (inr (empty_string limit outer _ host held own.0 own.1 own.2)) (λ prefix r spell begun also. refl)
-list_ends limit outer done openers (body host place named at) held read sound may = absurd (both_ways _ refl may)
+list_ends limit outer done openers m held read sound may = absurd (both_ways _ refl may)
 
 -- no limit on the depth of brackets and fields
 abbrev pub no_limit : Limit
@@ -139,14 +135,11 @@ rooms_at (Some s) (c ∷ cs) h =
 -- where the text may end, its pieces are a reading, and at most 200 brackets and fields are open, if each character had room
 pub final_is_reading : (characters : List ℕ) (s : FieldScanned) → field_steps_from (Some field_text_start) characters ≡ Some s → have_room (Some field_text_start) characters ≡ true → IsFieldFinal s → IsBalancedReading (field_pieces s) characters
 final_is_reading characters s steps room final =
-    go s.outer s.openers (sound_at two_hundred characters s (rooms_at (Some field_text_start) characters room) steps) final.outside final.closed_all
-  where
-    go : (outer : List Level) (openers : List ℕ) → IsFieldSound two_hundred (field_state outer s.done openers s.mode s.held) characters → outer ≡ [] → openers ≡ [] → IsBalancedReading (field_pieces s) characters
-    go [] openers own outside none =
-        let list = list_ends two_hundred [] s.done openers s.mode s.held characters own final.ends in
-        record {
-          reads = record { spell = list.spell ∙ sym (ap (λ p. before p [] ++ (spelled s.done ++ s.held)) (code_at_end s.mode final.ends)) ∙ own.spell; fit = list.fit };
-          balanced = balanced_at openers (field_pieces s) none list.opens;
-          shallow = list.passes;
-        }
-    go (l ∷ ls) openers own outside none = absurd (cc)
+    let sound : IsFieldSound two_hundred (field_state s.outer s.done s.openers s.mode s.held) characters = sound_at two_hundred characters s (rooms_at (Some field_text_start) characters room) steps in
+    let own = rw (final.outside, final.closed_all) at sound in
+    let list = list_ends two_hundred [] s.done [] s.mode s.held characters own final.ends in
+    record {
+      reads = record { spell = list.spell ∙ sym (ap (λ p. before p [] ++ (spelled s.done ++ s.held)) (code_at_end s.mode final.ends)) ∙ own.spell; fit = list.fit };
+      balanced = balanced_at [] (field_pieces s) refl list.opens;
+      shallow = list.passes;
+    }
