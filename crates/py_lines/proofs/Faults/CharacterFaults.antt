@@ -293,13 +293,10 @@ module _ (s : FieldScanned) (read : List ℕ) (c : ℕ) (after : List ℕ) (step
       go closes is at = absurd (goes_free s _ c closes is refl refl stuck)
       go breaks is (inl none) = Why.begins s.outer (field_pieces s) s.openers (ap (field_moved s c) is) (inl none) (both_ways _ (reason_is breaks is))
       go breaks is (inr full) = Why.begins s.outer (field_pieces s) s.openers (ap (field_moved s c) is) (inr (begun_room (is_opening c) (frames s) (sym (ap (has_room_at (frames s) c) is) ∙ full) few)) (both_ways _ (reason_is breaks is))
-      go (begins_code h) is at =
-          Why.begins (opened_level s h literal s.held ∷ s.outer) [] [] (ap (field_moved s c) is)
-          (⊎_elim (λ none. inl none)
-          (λ full.
+      go (begins_code h) is (inl none) = Why.begins (opened_level s h literal s.held ∷ s.outer) [] [] (ap (field_moved s c) is) (inl none) (λ short. both_ways _ (short_alone s.mode short).waits (reason_is (begins_code h) is))
+      go (begins_code h) is (inr full) =
           let room = code_room (is_opening c) (frames s) (sym (ap (has_room_at (frames s) c) is) ∙ full) few (not_deep shallow (reason_is (begins_code h) is)) in
-          inr (room.0, omega (arith, room.1))) at)
-          (λ short. both_ways _ (short_alone s.mode short).waits (reason_is (begins_code h) is))
+          Why.begins (opened_level s h literal s.held ∷ s.outer) [] [] (ap (field_moved s c) is) (inr (room.0, omega (arith, room.1))) (λ short. both_ways _ (short_alone s.mode short).waits (reason_is (begins_code h) is))
       go (opens_field h) is (inl none) = absurd (none_some (sym none ∙ ap (field_moved s c) is))
       go (opens_field h) is (inr full) = Why.deep_field h is (omega (arith, few, ltb-false (frames s) 200 (sym (ap (has_room_at (frames s) c) is) ∙ full)))
       go ends_field is at = Why.closes_field (reason_is ends_field is).0 (reason_is ends_field is).1
@@ -310,13 +307,10 @@ module _ (s : FieldScanned) (read : List ℕ) (c : ℕ) (after : List ℕ) (step
   unfolding is_opening is_closing
   short_here shallow break = by (why shallow)
     where
-      no_opening : is_opening c ≡ false
-      no_opening = (break-not-others c break).0
-
       by : Why s c → IsShortHere s.mode
       by (Why.begins outer ps os step (inl none) apart) = absurd (break_starts outer ps os c break (sym step ∙ none))
-      by (Why.begins outer ps os step (inr (opens, full)) apart) = absurd (both_ways _ no_opening opens)
-      by (Why.deep_field h is full) = absurd (both_ways _ no_opening (ap is_opening (reason_is (opens_field h) is).0))
+      by (Why.begins outer ps os step (inr (opens, full)) apart) = absurd (both_ways _ (break-not-others c break).0 opens)
+      by (Why.deep_field h is full) = absurd (both_ways _ (break-not-others c break).0 (ap is_opening (reason_is (opens_field h) is).0))
       by (Why.closes_field brace at) = absurd (both_ways _ (break-not-others c break).1 (ap is_closing brace))
       by (Why.refuses (inl (at, short))) = short
       by (Why.refuses (inr (inl (slash, other)))) = absurd (both_ways _ other break)
@@ -324,18 +318,15 @@ module _ (s : FieldScanned) (read : List ℕ) (c : ℕ) (after : List ℕ) (step
 
   -- and in a short string nothing else is
   pub only_breaks : in_open_short s.mode ≡ true → is_break c ≡ true
-  only_breaks short = by (why (ap (λ b. b && (frames s == 200)) own.waits))
+  only_breaks short = by (why (ap (λ b. b && (frames s == 200)) (short_alone s.mode short).waits))
     where
-      own : IsShortAlone s.mode
-      own = short_alone s.mode short
-
       by : Why s c → is_break c ≡ true
       by (Why.begins outer ps os step none apart) = absurd (apart short)
       by (Why.deep_field h is full) = not_specification (sym ((short_unfinished s.outer s.openers s.mode short).1) ∙ (reason_is (opens_field h) is).1)
       by (Why.closes_field brace at) = not_specification (sym ((short_unfinished s.outer s.openers s.mode short).1) ∙ at)
       by (Why.refuses (inl (break, at))) = break
-      by (Why.refuses (inr (inl (slash, other)))) = absurd (both_ways _ own.slash slash)
-      by (Why.refuses (inr (inr (same, quotes)))) = absurd (both_ways _ (own.quotes c) same)
+      by (Why.refuses (inr (inl (slash, other)))) = absurd (both_ways _ (short_alone s.mode short).slash slash)
+      by (Why.refuses (inr (inr (same, quotes)))) = absurd (both_ways _ ((short_alone s.mode short).quotes c) same)
 
   -- a line end that is refused
   break_fits : is_deep ≡ false → is_break c ≡ true → (offset : ℕ) × BreaksString read c offset

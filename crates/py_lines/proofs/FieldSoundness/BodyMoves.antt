@@ -4,7 +4,8 @@ use Rattle.std.proofs.Common.{◌≡◌, ◌==◌, ℕ, Bool, true, false, not, 
 use Rattle.std.specs.Prelude.{if◌then◌else◌}
 use Rattle.std.specs.Str.{byte}
 use Rattle.std.specs.List.{list_any}
-use Rattle.std.proofs.lemmas.Bool.{cond_both, and_parts, and_from, or_cases, eqb-true, both_ways, not_from_false, and_left, and_right, or_right}
+use Rattle.std.proofs.Math.Bool.{and-true}
+use Rattle.std.proofs.lemmas.Bool.{cond_both, and_parts, and_from, or_cases, eqb-true, both_ways, not_from_false, and_left, and_right, or_right, not-true}
 use Rattle.py_lines.specs.Character.{is_quote, is_return, is_break, is_backslash, is_brace, is_barred, is_line_feed}
 use Rattle.py_lines.specs.Piece.{string, Piece}
 use Rattle.py_lines.specs.PieceGrammar.{is_prefix, IsNoneOr, is_bare, joined, has_triple, InClassIn, MayPrecedeIn}
@@ -34,20 +35,16 @@ named-push named (p ∷ ps) part = named-push (named_after named p) ps part
 
 -- Booleans
 pub kept_named : (a b : Bool) → b ≡ false → a && not b ≡ a
-kept_named true b h = rw h
-kept_named false b h = refl
+kept_named a b h = rw h (and-true a)
 
 ended_named : (a b : Bool) → b ≡ true → a && not b ≡ false
-ended_named true b h = rw h
-ended_named false b h = refl
+ended_named a b h = rw h (and_right a false refl)
 
 pub and_not : (a b : Bool) → a && not b ≡ true → (a ≡ true) × (b ≡ false)
-and_not true false h = (refl, refl)
-and_not a b h = absurd (cc)
+and_not a b h = let parts = and_parts a (not b) h in (parts.0, not-true b parts.1)
 
 pub plain_one : (b : Bool) → b && true ≡ false → b ≡ false
-plain_one true e = e
-plain_one false e = refl
+plain_one b h = sym (and-true b) ∙ h
 
 -- characters
 pub slash-not-closing : (c : ℕ) → is_backslash c ≡ true → c == 125 ≡ false

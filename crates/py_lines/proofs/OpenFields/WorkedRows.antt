@@ -1,28 +1,20 @@
 -- What is open where a text ends: rows worked out by hand.
-use Rattle.std.proofs.Common.{◌≡◌, ℕ, Some, List, [], ◌∷◌, refl, inl, inr, arith}
+use Rattle.std.proofs.Common.{◌≡◌, ℕ, false, Some, List, [], ◌∷◌, ◌++◌, refl, sym, ap, ◌∙◌, subst, inl, inr, append_assoc}
+use Rattle.std.proofs.lemmas.List.{append_cancel_right}
 use Rattle.std.specs.Prelude.{codes}
 use Rattle.py_lines.specs.declared.mode.Mode.TheVariants as modes
 use Rattle.py_lines.specs.declared.mode.Spelling.TheVariants as spellings
-use Rattle.py_lines.specs.FieldStrings.{literal}
-use Rattle.py_lines.specs.Private.FieldMachine.{plain, Level, FieldScanned, field_text_start, field_steps_from}
+use Rattle.py_lines.specs.FieldStrings.{literal, specification}
+use Rattle.py_lines.specs.Private.FieldMachine.{between, plain, body, Level, FieldScanned, field_state, field_text_start, field_steps_from}
 use Rattle.py_lines.specs.Piece.{space, word}
-use Rattle.py_lines.specs.Balance as balance
-use Rattle.py_lines.specs.OpenFields.{literal_after, specification_after, IsOpenString, in_literal, in_specification, AreBegun, at_start, InOpenShort, InOpenField}
+use Rattle.py_lines.specs.OpenFields.{InOpenShort, InOpenField}
+use Rattle.py_lines.proofs.FieldMachine.WhatIsOpen.{comes_to, specification_comes}
 use Rattle.py_lines.proofs.FieldSoundness.Holds.{IsFieldSound}
 use Rattle.py_lines.proofs.FieldSoundness.HostSteps.{sound_at}
 use Rattle.py_lines.proofs.FieldSoundness.WholeTexts.{no_limit, any_rooms}
-use Rattle.py_lines.proofs.FieldSoundness.OpenEnds.{code_open_at, short_is_open}
+use Rattle.py_lines.proofs.FieldSoundness.OpenEnds.{code_open_at, short_is_open, specification_is_open}
 use Rattle.py_lines.proofs.FieldMachine.WorkedRows.{tested}
-use Rattle.py_lines.proofs.Fields.WorkedRows.{piece, short}
-
--- no piece before the rest, at the text's start
-begun_none : (rest : List ℕ) → AreBegun 0 [] rest
-begun_none rest = record { fit = tt; others = []; balanced = balance.none [] refl; inside = λ h. absurd (omega arith) }
-
--- f"
-literal_open : (rest : List ℕ) → IsOpenString short (literal_after []) (codes "f\"") rest
-unfolding tested
-literal_open rest = in_literal (literal_after []) (codes "f\"") rest (codes "f") [] refl refl refl refl refl tt refl
+use Rattle.py_lines.proofs.Fields.WorkedRows.{piece, short, tested}
 
 -- where the machine with fields comes to, it is sound
 sound : (text : List ℕ) (s : FieldScanned) → field_steps_from (Some field_text_start) text ≡ Some s → IsFieldSound no_limit s text
@@ -42,42 +34,16 @@ comment_in_field : InOpenField (codes "f\"{a # }\"") (codes "f\"")
 unfolding tested in_braces
 comment_in_field = inl (code_open_at no_limit in_braces [] (piece word (codes "a") ∷ piece space (codes " ") ∷ []) (plain modes.Comment) (codes "# }\"") _ (codes "f\"") (sound _ _ refl) refl refl)
 
--- f"{x: : the field is open in its specification, from byte 2
+-- f"{x: : the field is open in its specification, from byte 2: its string begins with the text, up to the `{`
 open_specification : InOpenField (codes "f\"{x:") (codes "f\"")
-unfolding tested
+unfolding tested in_braces
 open_specification =
-    let x = piece word (codes "x") in
-    let round = literal_after [] in
-    let spot = specification_after round (codes "f\"") [] in
-    inr (
-      short,
-      record {
-        string = [];
-        spot = spot;
-        stands = record {
-          outside = [];
-          depth = 0;
-          pieces = [];
-          front = codes "f\"{x:";
-          list = at_start [] _ 0 refl refl;
-          begun = begun_none _;
-          before = refl;
-          spell = refl;
-          open_yet = record {
-            body = codes "f\"{x:";
-            last = [];
-            spell = refl;
-            escapes = inl refl;
-            string = in_specification spot round (codes "f\"{x:") [] (codes "f\"") (x ∷ []) [] refl refl (literal_open _)
-                (record { unnamed = refl; single = λ h. refl })
-                (record { fit = ((120, [], refl, refl, refl), (refl, refl), refl, tt); unmarked = refl; balanced = balance.one _ x refl refl; colon = (refl, tt) })
-                tt refl;
-          };
-        };
-        place = refl;
-        before = refl;
-      },
-    )
+    let state = field_state (in_braces ∷ []) [] [] (body short specification false between) (codes "f\"{x:") in
+    let found = specification_is_open no_limit (in_braces ∷ []) [] [] short false between (codes "f\"{x:") _ (sound _ state refl) (λ same. absurd (cc)) in
+    let at = (comes_to (codes "f\"{x:") _ state (specification_comes short (codes "f\"{x:") found.0 found.1) refl).0 in
+    let start : found.0 ++ 123 ∷ [] ≡ codes "f\"{" =
+    ap (λ t. t ++ 123 ∷ []) (sym at.before) ∙ append_assoc at.string at.field (123 ∷ []) ∙ ap (λ t. at.string ++ t) (sym at.field_is) ∙ ap (λ t. t ++ codes "f\"{") (sym at.string_is) in
+    subst (InOpenField (codes "f\"{x:")) (append_cancel_right found.0 (codes "f\"") (123 ∷ []) start) (inr (short, found.1))
 
 -- f"{" : the string in the field was opened last, at byte 3
 string_in_field : InOpenShort (codes "f\"{\"") (codes "f\"{")
