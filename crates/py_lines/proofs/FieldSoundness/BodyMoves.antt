@@ -34,12 +34,6 @@ named-push named [] part = refl
 named-push named (p ∷ ps) part = named-push (named_after named p) ps part
 
 -- Booleans
-pub kept_named : (a b : Bool) → b ≡ false → a && not b ≡ a
-kept_named a b h = rw h (and-true a)
-
-ended_named : (a b : Bool) → b ≡ true → a && not b ≡ false
-ended_named a b h = rw h (and_right a false refl)
-
 pub and_not : (a b : Bool) → a && not b ≡ true → (a ≡ true) × (b ≡ false)
 and_not a b h = let parts = and_parts a (not b) h in (parts.0, not-true b parts.1)
 
@@ -150,8 +144,8 @@ module _ (limit : Limit) (outer : List Level) (depth : ℕ) (host : Host) where
   ending : (waits : Bool) (place : Place) (named : Bool) (held : List ℕ) (c : ℕ) → HoldsParts limit outer depth host place named held (c ∷ []) → c == 125 ≡ true → c == host.quote ≡ false → is_backslash c ≡ false → is_break c && not host.is_long ≡ false → Moved place waits held c (ending_move host place named)
   ending waits literal named held c h is other no_slash stays =
       let itself : is_ordinary literal named c ≡ true = subst (λ (d : ℕ). named || not (d == 123) ≡ true) (sym (eqb-true c 125 is)) (or_right named true refl) in
-      (refl, λ done. tt, bare_one literal named false held c h other no_slash stays itself (ended_named named (c == 125) is))
-  ending waits specification true held c h is other no_slash stays = (refl, λ done. tt, bare_one specification true false held c h other no_slash stays refl (ended_named true (c == 125) is))
+      (refl, λ done. tt, bare_one literal named false held c h other no_slash stays itself (rw is (and_right named false refl)))
+  ending waits specification true held c h is other no_slash stays = (refl, λ done. tt, bare_one specification true false held c h other no_slash stays refl (rw is refl))
   ending waits specification false held c h is other no_slash stays = (refl, eqb-true c 125 is, subst (λ (d : ℕ). HoldsParts limit outer depth host specification false held (d ∷ [])) (eqb-true c 125 is) h)
 
   -- what a quote of the string does
@@ -172,7 +166,7 @@ module _ (limit : Limit) (outer : List Level) (depth : ℕ) (host : Host) where
       opening waits place held c (subst (λ n. HoldsParts limit outer depth host place n held (c ∷ [])) parts.1 h) (eqb-true c 123 parts.0))
       (λ no_open. cond_both (c == 125) _ _ P
       (λ is. ending waits place named held c h is other no_slash stays)
-      (λ no_close. (refl, λ done. tt, bare_one place named named held c h other no_slash stays (ordinary_character place named c no_open no_close) (kept_named named (c == 125) no_close)))))))
+      (λ no_close. (refl, λ done. tt, bare_one place named named held c h other no_slash stays (ordinary_character place named c no_open no_close) (rw no_close (and-true named))))))))
 
   -- after a quote that is a part of its own, of a long string
   quote_on : (place : Place) (named : Bool) (text next : List ℕ) → host.is_long ≡ true → (h : HoldsParts limit outer depth host place named text (host.quote ∷ [])) → has_triple host.quote (h.parts ++ (host.quote ∷ []) ∷ []) ≡ false → HoldsParts limit outer depth host place named (text ++ host.quote ∷ []) next
@@ -180,7 +174,7 @@ module _ (limit : Limit) (outer : List Level) (depth : ℕ) (host : Host) where
   quote_on place named text next long h open_yet =
       let itself = ordinary_character place named host.quote (and_left _ _ (quote-not-open host.quote h.quotes)) (quote_no_end host.quote h.quotes) in
       let whole : (rest : List ℕ) → IsPart (limit.FieldsAt depth) host place named (host.quote ∷ []) rest = λ rest. bare host.quote refl (quote-not-slash host.quote h.quotes) (ap (λ b. b || not (is_barred host.quote host.quote)) long) itself in
-      push place named named text (host.quote ∷ []) next h (λ more. whole (next ++ more)) open_yet (kept_named named (host.quote == 125) (quote_no_end host.quote h.quotes))
+      push place named named text (host.quote ∷ []) next h (λ more. whole (next ++ more)) open_yet (rw (quote_no_end host.quote h.quotes) (and-true named))
 
   apart_after : (parts : List (List ℕ)) → has_triple host.quote (parts ++ (host.quote ∷ []) ∷ (host.quote ∷ []) ∷ []) ≡ false → has_triple host.quote ((parts ++ (host.quote ∷ []) ∷ []) ++ (host.quote ∷ []) ∷ []) ≡ false
   apart_after parts apart = ap (has_triple host.quote) (append_assoc parts ((host.quote ∷ []) ∷ []) ((host.quote ∷ []) ∷ [])) ∙ apart
@@ -286,7 +280,7 @@ module _ (limit : Limit) (outer : List Level) (depth : ℕ) (host : Host) where
       cond_both (is_brace c) _ _ P
       (λ brace.
       between_two false place named held c
-      (pushed place named named held text (s ∷ []) [] (c ∷ []) is h (λ more. slash s refl slashes brace) (not_quote s host.quote h.quotes (slash-not-quote s slashes)) tt (kept_named named (s == 125) (slash-not-closing s slashes))))
+      (pushed place named named held text (s ∷ []) [] (c ∷ []) is h (λ more. slash s refl slashes brace) (not_quote s host.quote h.quotes (slash-not-quote s slashes)) tt (rw (slash-not-closing s slashes) (and-true named))))
       (λ no_brace. cond_both (is_barred_escape host place c) _ _ P (λ barred. inl (barred_short host place c barred))
       (λ free. cond_both (is_return c) _ _ P
       (λ returns. (refl, λ done. tt, (text, s, c, spell, slashes, returns, may_stand_escaped host place c free, h)))

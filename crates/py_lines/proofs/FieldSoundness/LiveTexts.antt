@@ -80,8 +80,12 @@ grows_first Room s m c scalar move next later = grows_on Room s m c scalar move 
 pub closes_last : (Room : ℕ → Type 0) (s : FieldScanned) (c : ℕ) → all_scalars (c ∷ []) ≡ true → field_move s.mode s.held c ≡ closes → Readies Room s
 closes_last Room s c scalar move later = finishes_after Room s _ (c ∷ []) scalar (goes-closes Room s c move) (later _ (plain modes.Free) [] ready-fresh)
 
-no_opening : {A : Type 0} (c : ℕ) → is_closing c ≡ true → is_opening c ≡ true → A
-no_opening c is opens = absurd (both_ways _ (closing-not-opening c is) opens)
+-- a closing bracket, or the `}` of a field, after a mode that is ready
+closes_by : (Room : ℕ → Type 0) (outer : List Level) (done : List Piece) (openers : List ℕ) (m : FieldMode) (held : List ℕ) (c : ℕ) (next : FieldScanned) → IsReadyField m held → is_closing c ≡ true → field_operator outer (field_closed m done held) openers c ≡ Some next → Finishes Room next → Finishes Room (field_state outer done openers m held)
+closes_by Room outer done openers m held c next ready is shuts later =
+    finishes_after Room (field_state outer done openers m held) next (c ∷ []) (and_from _ _ (closing-scalar c is) refl)
+    (goes-begins Room (field_state outer done openers m held) next next c [] (ready.closing c is)
+    (ap (field_started outer (field_closed m done held) openers c) (start-operator c (closing-operator c is)) ∙ shuts) (λ opens. absurd (both_ways _ (closing-not-opening c is) opens)) refl) later
 
 -- the innermost open bracket can be closed
 popped : (outer : List Level) (done : List Piece) (o : ℕ) (os : List ℕ) (c : ℕ) → is_closing c ≡ true → c == closing_of o ≡ true → field_operator outer done (o ∷ os) c ≡ Some (field_fresh outer (done ++ piece operator (c ∷ []) ∷ []) os)
@@ -92,13 +96,10 @@ popped (l ∷ ls) done o os c is kind = ap (after_operator (l ∷ ls) done c) (c
 closes_list : (Room : ℕ → Type 0) (outer : List Level) (openers : List ℕ) → ReadyFinishes Room outer [] → ReadyFinishes Room outer openers
 closes_list Room outer [] later done m held ready = later done m held ready
 closes_list Room outer (o ∷ os) later done m held ready =
-    let c = closing_of o in
     let is = closing_of-closing o in
     let pieces = field_closed m done held in
-    let next = field_fresh outer (pieces ++ piece operator (c ∷ []) ∷ []) os in
-    finishes_after Room _ next (c ∷ []) (and_from _ _ (closing-scalar c is) refl)
-    (goes-begins Room (field_state outer done (o ∷ os) m held) next next c [] (ready.closing c is)
-    (ap (field_started outer pieces (o ∷ os) c) (start-operator c (closing-operator c is)) ∙ popped outer pieces o os c is (eq-eqb c c refl)) (λ opens. no_opening c is opens) refl)
+    let next = field_fresh outer (pieces ++ piece operator (closing_of o ∷ []) ∷ []) os in
+    closes_by Room outer done (o ∷ os) m held (closing_of o) next ready is (popped outer pieces o os (closing_of o) is (eq-eqb (closing_of o) (closing_of o) refl))
     (closes_list Room outer os later next.done next.mode next.held ready-fresh)
 
 closing-brace : is_closing 125 ≡ true
@@ -115,12 +116,8 @@ code_finishes : (Room : ℕ → Type 0) (l : Level) (ls : List Level) (openers :
 code_finishes Room l ls openers later =
     closes_list Room (l ∷ ls) openers
     (λ done m held ready.
-    let pieces = field_closed m done held in
-    let ended = field_ended l ls (l.front ++ (spelled pieces ++ 125 ∷ [])) in
-    finishes_after Room (field_state (l ∷ ls) done [] m held) ended (125 ∷ []) refl
-    (goes-begins Room (field_state (l ∷ ls) done [] m held) ended ended 125 [] (ready.closing 125 closing-brace)
-    (ap (field_started (l ∷ ls) pieces [] 125) (start-operator 125 (closing-operator 125 closing-brace)) ∙ brace_ends l ls pieces) (λ opens. no_opening 125 closing-brace opens) refl)
-    (later (l.front ++ (spelled pieces ++ 125 ∷ []))))
+    let text = l.front ++ (spelled (field_closed m done held) ++ 125 ∷ []) in
+    closes_by Room (l ∷ ls) done [] m held 125 (field_ended l ls text) ready closing-brace (brace_ends l ls (field_closed m done held)) (later text))
 
 quote_one : (q : ℕ) → is_quote q ≡ true → all_scalars (q ∷ []) ≡ true
 quote_one q quotes = and_from _ _ (quote-scalar q quotes) refl

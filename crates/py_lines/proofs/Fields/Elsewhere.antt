@@ -1,6 +1,7 @@
 -- A text that has no string with fields reads the same with them and without.
 use Rattle.std.proofs.Common.{◌≡◌, ℕ, Bool, true, false, ◌||◌, ◌&&◌, List, [], ◌∷◌, ◌++◌, refl, sym, ap, ◌∙◌, subst, inl, inr, ⊎_elim, append_assoc, append-nil}
-use Rattle.std.proofs.lemmas.Bool.{and_parts, and_right, or_parts, or_from, or_cases, both_ways, false_from_ne_true}
+use Rattle.std.proofs.Math.Bool.{and-true}
+use Rattle.std.proofs.lemmas.Bool.{cond_both, and_parts, and_right, or_parts, or_from, or_cases, both_ways, false_from_ne_true}
 use Rattle.std.specs.Prelude.{if◌then◌else◌}
 use Rattle.py_lines.specs.Character.{is_quote, is_r, is_f, is_t}
 use Rattle.py_lines.specs.Piece.{Class, word, string, Piece, begins, spelled}
@@ -19,10 +20,6 @@ pub later : (a b : List ℕ) → may_have_fields (a ++ b) ≡ false → may_have
 later [] b h = h
 later (c ∷ a) b h = later a b (or_parts _ (may_have_fields (a ++ b)) h).1
 
-one_false : (x y : Bool) → x && (true || y) ≡ false → x ≡ false
-one_false true y h = h
-one_false false y h = refl
-
 two_false : (x y z : Bool) → x && (y || (z && true)) ≡ false → x && z ≡ false
 two_false true false false h = refl
 two_false x y z h = cc
@@ -34,9 +31,7 @@ none_false false = refl
 -- so no prefix of a string with fields stands directly before a quote
 pub no_field_prefix : (prefix : List ℕ) (q : ℕ) (after : List ℕ) → is_quote q ≡ true → may_have_fields (prefix ++ q ∷ after) ≡ false → is_field_prefix prefix ≡ false
 no_field_prefix [] q after quotes h = refl
-no_field_prefix (a ∷ []) q after quotes h =
-    let first = (or_parts _ (may_have_fields (q ∷ after)) h).0 in
-    one_false (is_f a || is_t a) (begins_raw (q ∷ after)) (subst (λ b. (is_f a || is_t a) && (b || begins_raw (q ∷ after)) ≡ false) quotes first)
+no_field_prefix (a ∷ []) q after quotes h = sym (and-true (is_f a || is_t a)) ∙ (rw quotes at (or_parts _ (may_have_fields (q ∷ after)) h).0)
 no_field_prefix (a ∷ b ∷ []) q after quotes h =
     let parts = or_parts _ (may_have_fields (b ∷ q ∷ after)) h in
     let second = no_field_prefix (b ∷ []) q after quotes parts.1 in
@@ -51,11 +46,7 @@ no_field_string text prefix body rest q is quotes h =
     no_field_prefix prefix q (body ++ rest) quotes (subst (λ t. may_have_fields t ≡ false) (ap (λ t. t ++ rest) is ∙ append_assoc prefix (q ∷ body) rest) h)
 
 pub quotes_begin : (host : Host) → (others : List ℕ) × (quotes_of host ≡ host.quote ∷ others)
-quotes_begin host = go host.is_long
-  where
-    go : (b : Bool) → (others : List ℕ) × ((if b then host.quote ∷ host.quote ∷ host.quote ∷ [] else host.quote ∷ []) ≡ host.quote ∷ others)
-    go true = (host.quote ∷ host.quote ∷ [], refl)
-    go false = ([], refl)
+quotes_begin host = cond_both host.is_long _ _ (λ (qs : List ℕ). (others : List ℕ) × (qs ≡ host.quote ∷ others)) (λ long. (host.quote ∷ host.quote ∷ [], refl)) (λ short. ([], refl))
 
 -- a string with fields begins with one
 has_prefix : (F : Host → List ℕ → Type 0) (text rest : List ℕ) → may_have_fields (text ++ rest) ≡ false → ¬ (IsFieldString F text)
