@@ -35,7 +35,7 @@ use Rattle.py_lines.proofs.FieldMachine.PieceRuns.{IsNoColon, opening_operator, 
 use Rattle.py_lines.proofs.Faults.EndFaults.{no_brace_at, EndsSo, due_at, brace_is_due, few_frames}
 use Rattle.py_lines.proofs.FieldMachine.WhatIsOpen.{comes_to, specification_comes, backslash_comes}
 use Rattle.py_lines.specs.LogicalLine.{byte_len}
-use Rattle.py_lines.proofs.Faults.Ends.{brace_more, short_unfinished, join_unfinished, deep_state, sound_to, text_is, open_now, end_named, in_specification, specification_named}
+use Rattle.py_lines.proofs.Faults.Ends.{brace_more, short_unfinished, join_unfinished, deep_state, sound_to, text_is, open_now, end_named, specification_says, specification_named}
 
 -- a short string is open here, or a specification of one
 abbrev pub IsShortHere : FieldMode → Type 0
@@ -203,16 +203,11 @@ unfolding field_move body_move
 not_second host named held c = cond_both (c == 123) (grows (body host literal named between)) (begins_code host) (λ v. ((n : FieldMode) → v ≡ grows n → ⊥) → c == 123 ≡ false) (λ h none. absurd (none _ refl)) (λ other none. other)
 
 -- where a short string is open, no `{` waits, and neither a backslash nor a specification is open
-record IsShortAlone (m : FieldMode) : Type 0 where
-  waits : is_waiting m ≡ false
-  slash : after_open_backslash m ≡ false
-  quotes : (c : ℕ) → quotes_specification m c ≡ false
-
-short_alone : (m : FieldMode) → in_open_short m ≡ true → IsShortAlone m
+short_alone : (m : FieldMode) → in_open_short m ≡ true → (is_waiting m ≡ false) × (after_open_backslash m ≡ false) × ((c : ℕ) → quotes_specification m c ≡ false)
 short_alone (plain modes.Backslash) short = absurd (both_ways _ refl short)
 short_alone (body host literal named after_brace) short = absurd (both_ways _ refl short)
 short_alone (body host specification named at) short = absurd (both_ways _ refl short)
-short_alone m short = record { waits = refl; slash = refl; quotes = λ c. refl }
+short_alone m short = (refl, refl, λ c. refl)
 
 module _ (read : List ℕ) (s : FieldScanned) (steps : field_steps_from (Some field_text_start) read ≡ Some s) (room : have_room (Some field_text_start) read ≡ true) where
   -- where a cause fits, its byte is that of the state
@@ -224,14 +219,14 @@ module _ (read : List ℕ) (s : FieldScanned) (steps : field_steps_from (Some fi
       go (inl short) = (end_named read s steps room open_short offset (fits.start, short, fits.place)).1
       go (inr is) =
           let own = comes_to read _ s (specification_comes is.host read is.field is.inside) steps in
-          fits.place ∙ ap byte_len (sym (own.0.string_is ∙ own.1 ∙ is.before)) ∙ ap (λ p. byte_len (before p s.outer ++ spelled s.done)) (sym (in_specification is.host s.mode own.0.mode_is).1)
+          fits.place ∙ ap byte_len (sym (own.0.string_is ∙ own.1 ∙ is.before)) ∙ ap (λ p. byte_len (before p s.outer ++ spelled s.done)) (sym (specification_says s.outer s.openers is.host s.mode own.0.mode_is).2)
   place_is breaks_join c offset fits = (end_named read s steps room open_join offset (fits.start, fits.after, fits.place)).1
   place_is closes_wrong c offset fits = fits.place ∙ sym (text_is read s steps room)
   place_is opens_too_deep c offset fits = fits.place ∙ sym (text_is read s steps room)
   place_is ends_specification c offset fits =
       let own = comes_to read _ s (specification_comes fits.host read fits.start fits.inside) steps in
       let found = specification_named read s steps room fits.host fits.start offset own.0 fits.place in
-      let place = rw ((in_specification fits.host s.mode own.0.mode_is).0) at found.1 in
+      let place = rw ((specification_says s.outer s.openers fits.host s.mode own.0.mode_is).1) at found.1 in
       omega (arith, place)
   place_is begins_nothing c offset fits = fits ∙ sym (text_is read s steps room)
 
@@ -293,10 +288,10 @@ module _ (s : FieldScanned) (read : List ℕ) (c : ℕ) (after : List ℕ) (step
       go closes is at = absurd (goes_free s _ c closes is refl refl stuck)
       go breaks is (inl none) = Why.begins s.outer (field_pieces s) s.openers (ap (field_moved s c) is) (inl none) (both_ways _ (reason_is breaks is))
       go breaks is (inr full) = Why.begins s.outer (field_pieces s) s.openers (ap (field_moved s c) is) (inr (begun_room (is_opening c) (frames s) (sym (ap (has_room_at (frames s) c) is) ∙ full) few)) (both_ways _ (reason_is breaks is))
-      go (begins_code h) is (inl none) = Why.begins (opened_level s h literal s.held ∷ s.outer) [] [] (ap (field_moved s c) is) (inl none) (λ short. both_ways _ (short_alone s.mode short).waits (reason_is (begins_code h) is))
+      go (begins_code h) is (inl none) = Why.begins (opened_level s h literal s.held ∷ s.outer) [] [] (ap (field_moved s c) is) (inl none) (λ short. both_ways _ (short_alone s.mode short).0 (reason_is (begins_code h) is))
       go (begins_code h) is (inr full) =
           let room = code_room (is_opening c) (frames s) (sym (ap (has_room_at (frames s) c) is) ∙ full) few (not_deep shallow (reason_is (begins_code h) is)) in
-          Why.begins (opened_level s h literal s.held ∷ s.outer) [] [] (ap (field_moved s c) is) (inr (room.0, omega (arith, room.1))) (λ short. both_ways _ (short_alone s.mode short).waits (reason_is (begins_code h) is))
+          Why.begins (opened_level s h literal s.held ∷ s.outer) [] [] (ap (field_moved s c) is) (inr (room.0, omega (arith, room.1))) (λ short. both_ways _ (short_alone s.mode short).0 (reason_is (begins_code h) is))
       go (opens_field h) is (inl none) = absurd (none_some (sym none ∙ ap (field_moved s c) is))
       go (opens_field h) is (inr full) = Why.deep_field h is (omega (arith, few, ltb-false (frames s) 200 (sym (ap (has_room_at (frames s) c) is) ∙ full)))
       go ends_field is at = Why.closes_field (reason_is ends_field is).0 (reason_is ends_field is).1
@@ -318,15 +313,15 @@ module _ (s : FieldScanned) (read : List ℕ) (c : ℕ) (after : List ℕ) (step
 
   -- and in a short string nothing else is
   pub only_breaks : in_open_short s.mode ≡ true → is_break c ≡ true
-  only_breaks short = by (why (ap (λ b. b && (frames s == 200)) (short_alone s.mode short).waits))
+  only_breaks short = by (why (ap (λ b. b && (frames s == 200)) (short_alone s.mode short).0))
     where
       by : Why s c → is_break c ≡ true
       by (Why.begins outer ps os step none apart) = absurd (apart short)
       by (Why.deep_field h is full) = not_specification (sym ((short_unfinished s.outer s.openers s.mode short).1) ∙ (reason_is (opens_field h) is).1)
       by (Why.closes_field brace at) = not_specification (sym ((short_unfinished s.outer s.openers s.mode short).1) ∙ at)
       by (Why.refuses (inl (break, at))) = break
-      by (Why.refuses (inr (inl (slash, other)))) = absurd (both_ways _ (short_alone s.mode short).slash slash)
-      by (Why.refuses (inr (inr (same, quotes)))) = absurd (both_ways _ ((short_alone s.mode short).quotes c) same)
+      by (Why.refuses (inr (inl (slash, other)))) = absurd (both_ways _ (short_alone s.mode short).1 slash)
+      by (Why.refuses (inr (inr (same, quotes)))) = absurd (both_ways _ ((short_alone s.mode short).2 c) same)
 
   -- a line end that is refused
   break_fits : is_deep ≡ false → is_break c ≡ true → (offset : ℕ) × BreaksString read c offset

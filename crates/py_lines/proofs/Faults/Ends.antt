@@ -118,16 +118,16 @@ none_open : (short long slash : Bool) (o : Option Unfinished) → not (short || 
 none_open false false false o ends = refl
 none_open short long slash o ends = absurd (both_ways _ refl ends)
 
--- where it may end, brackets and fields aside, code is open
-pub code_unfinished : (outer : List Level) (openers : List ℕ) (m : FieldMode) → may_end m ≡ true → unfinished_in outer openers m ≡ unfinished_code outer openers
-code_unfinished outer openers (plain m) may = none_open (in_short m) (in_long m) (is_after_backslash m) _ (sym (final_by m) ∙ may)
-code_unfinished outer openers (empty host) may = refl
+-- where it may end, brackets and fields aside, code is open, and no `{` of a literal part waits
+pub code_unfinished : (outer : List Level) (openers : List ℕ) (m : FieldMode) → may_end m ≡ true → (unfinished_in outer openers m ≡ unfinished_code outer openers) × (is_waiting m ≡ false)
+code_unfinished outer openers (plain m) may = (none_open (in_short m) (in_long m) (is_after_backslash m) _ (sym (final_by m) ∙ may), refl)
+code_unfinished outer openers (empty host) may = (refl, refl)
 code_unfinished outer openers m may = absurd (both_ways _ refl may)
 
--- a specification
-pub specification_unfinished : (outer : List Level) (openers : List ℕ) (host : Host) (m : FieldMode) → InSpecificationOf host m → unfinished_in outer openers m ≡ Some open_inside
-specification_unfinished outer openers host (body own specification named at) is = refl
-specification_unfinished outer openers host m is = absurd is
+-- nor does one in a specification
+pub specification_says : (outer : List Level) (openers : List ℕ) (host : Host) (m : FieldMode) → InSpecificationOf host m → (unfinished_in outer openers m ≡ Some open_inside) × (is_waiting m ≡ false) × (text_place m ≡ specification)
+specification_says outer openers host (body own specification named at) is = (refl, refl, refl)
+specification_says outer openers host m is = absurd is
 
 pub same_state : (characters : List ℕ) (s t : FieldScanned) → field_steps_from (Some field_text_start) characters ≡ Some s → field_steps_from (Some field_text_start) characters ≡ Some t → s ≡ t
 same_state characters s t one two = cc
@@ -157,7 +157,7 @@ bracket_back characters start s is steps =
     let same : t ≡ s = same_state characters t s (steps_of NoLimit field_text_start t characters goes) steps in
     let some = some_after is.outer is.inner is.opener run.after is.opens is.balanced run.opens in
     let here : (unfinished_at t ≡ Some open_bracket) × IsPlaced open_bracket t (byte_len start) = (
-      code_unfinished list.outer run.after run.mode run.stops ∙ ap (unfinished_code list.outer) some.2,
+      (code_unfinished list.outer run.after run.mode run.stops).0 ∙ ap (unfinished_code list.outer) some.2,
       (is.outer, is.opener, is.inner, run.pieces_are, is.opens, is.balanced, ap byte_len (sym is.before ∙ ap (λ x. x ++ spelled is.outer) (sym list.start_is))),
     ) in
     subst (λ (x : FieldScanned). (unfinished_at x ≡ Some open_bracket) × IsPlaced open_bracket x (byte_len start)) same here
@@ -184,15 +184,6 @@ read_or_open characters s steps room = go (unfinished_at s) (open_now characters
     go None final = inl (final_is_reading characters s steps room final)
     go (Some what) at = inr (kind_of_unfinished what, at.0, record { unfinished = what; is = refl; whole = refl; live = goes_live characters s steps room; ends_in = at.1 })
 
--- no `{` of a literal part waits where the text may end, nor in a specification
-none_waits : (m : FieldMode) → may_end m ≡ true → is_waiting m ≡ false
-none_waits (body host place named at) may = absurd (both_ways _ refl may)
-none_waits m may = refl
-
-pub in_specification : (host : Host) (m : FieldMode) → InSpecificationOf host m → (is_waiting m ≡ false) × (text_place m ≡ specification)
-in_specification host (body own specification named at) is = (refl, refl)
-in_specification host m is = absurd is
-
 code_inside : (outer : List Level) (openers : List ℕ) → 0 < levels_open outer → openers ≡ [] → unfinished_code outer openers ≡ Some open_inside
 code_inside [] openers deep none = absurd (omega arith)
 code_inside (l ∷ ls) openers deep none = ap (unfinished_code (l ∷ ls)) none
@@ -209,8 +200,8 @@ module _ (characters : List ℕ) (s : FieldScanned) (steps : field_steps_from (S
 
   code_named : (start : List ℕ) (offset : ℕ) → CodeAt start s → offset ≡ byte_len start → ((place : ℕ) → ¬ (OpensBraceTooDeep characters [] place)) → IsNamed open_inside offset
   code_named start offset (in_code deep none may is) place other = (
-    code_unfinished s.outer s.openers s.mode may ∙ code_inside s.outer s.openers deep none,
-    rw (none_waits s.mode may) (ap (λ n. n + 1) place ∙ brace_more start _ (sym is)),
+    (code_unfinished s.outer s.openers s.mode may).0 ∙ code_inside s.outer s.openers deep none,
+    rw ((code_unfinished s.outer s.openers s.mode may).1) (ap (λ n. n + 1) place ∙ brace_more start _ (sym is)),
   )
   code_named start offset (at_brace host mode_is is) place other = go s.mode mode_is sound
     where
@@ -225,9 +216,9 @@ module _ (characters : List ℕ) (s : FieldScanned) (steps : field_steps_from (S
 
   pub specification_named : (host : Host) (start : List ℕ) (offset : ℕ) → SpecificationAt host start s → offset ≡ byte_len start → IsNamed open_inside offset
   specification_named host start offset at place =
-      let inside = in_specification host s.mode at.mode_is in
-      let none = sound.list.no_list inside.1 in
-      (specification_unfinished s.outer s.openers host s.mode at.mode_is, rw (inside.0) (ap (λ n. n + 1) place ∙ brace_more start _ (whole s.outer at.string_is at.field_is none.0)))
+      let inside = specification_says s.outer s.openers host s.mode at.mode_is in
+      let none = sound.list.no_list inside.2 in
+      (inside.0, rw (inside.1) (ap (λ n. n + 1) place ∙ brace_more start _ (whole s.outer at.string_is at.field_is none.0)))
     where
       whole : (outer : List Level) → before specification outer ++ spelled s.done ≡ at.string → HasOpened specification outer at.field → s.done ≡ [] → start ++ 123 ∷ [] ≡ before literal outer
       whole [] string_is field_is none = absurd field_is
@@ -279,7 +270,7 @@ end_unread characters tail kind offset fault pieces reading =
     let same = same_state characters whole.to run.0 whole.steps run.1 in
     let final : IsFieldFinal run.0 = subst IsFieldFinal same whole.final in
     let open_yet = end_named characters run.0 run.1 run.2 fault.unfinished offset fault.ends_in in
-    let none : unfinished_at run.0 ≡ None = code_unfinished run.0.outer run.0.openers run.0.mode final.ends ∙ rw (final.outside, final.closed_all) refl in
+    let none : unfinished_at run.0 ≡ None = (code_unfinished run.0.outer run.0.openers run.0.mode final.ends).0 ∙ rw (final.outside, final.closed_all) refl in
     none_some (sym none ∙ open_yet.0)
 
 -- a piece that is open is no bracket
