@@ -1,18 +1,17 @@
 -- Where the machine with fields can't go on, or has no room to, the text dies: its state and the character tell the cause of the
 -- fault, and the fault's byte.
-use Rattle.std.proofs.Common.{◌≡◌, ℕ, Bool, true, false, not, ◌&&◌, ◌||◌, ◌==◌, List, [], ◌⊎◌, inl, inr, refl, sym, ap, ◌∙◌, subst, ◌+◌, Option, None, Some, ◌∷◌, ◌++◌, length, append_assoc, append-nil, arith, ◌≤◌, nat_lt, ⊎_elim}
+use Rattle.std.proofs.Common.{◌≡◌, ℕ, Bool, true, false, not, ◌&&◌, ◌||◌, ◌==◌, List, [], ◌⊎◌, inl, inr, refl, sym, ap, ◌∙◌, subst, ◌+◌, None, Some, ◌∷◌, ◌++◌, length, append_assoc, append-nil, arith, ◌≤◌, nat_lt}
 use Rattle.std.specs.Prelude.{if◌then◌else◌, codes}
 use Rattle.std.proofs.lemmas.Bool.{both_ways, cond_both, and_from, or_parts, or_from, not_from_false, eq-eqb, and_parts, eqb-true, ltb-false}
-use Rattle.py_lines.specs.Character.{is_mark, is_space, is_word_character, is_quote, is_line_feed, is_return, is_break, is_backslash, is_brace}
-use Rattle.py_lines.specs.FieldStrings.{Host, Place, literal, specification, names}
+use Rattle.py_lines.specs.Character.{is_quote, is_line_feed, is_return, is_break}
+use Rattle.py_lines.specs.FieldStrings.{Host, Place, literal, specification}
 use Rattle.py_lines.specs.declared.mode.Mode.{Mode}
 use Rattle.py_lines.specs.declared.mode.Mode.TheVariants as modes
 use Rattle.py_lines.specs.declared.mode.Move.{Move}
-use Rattle.py_lines.specs.declared.mode.Move.TheVariants as moves
-use Rattle.py_lines.specs.Private.Machine.{Holds, move_of, short_move, long_move, is_prefix_spelling, in_short, start_of}
-use Rattle.py_lines.specs.Private.FieldMachine.{text_place, At, between, after_one, after_two, after_slash, after_return, after_name, after_brace, FieldMode, plain, opened, empty, body, FieldMove, breaks, begins_code, opens_field, ends_field, refused, Level, is_after_two, is_after_brace, closing_move, opening_move, ending_move, is_barred_escape, between_move, escape_move, body_move, field_move, plain_move, begins_host, in_open_short, after_open_backslash, InSpecificationOf, before, FieldScanned, field_state, field_fresh, field_text_start, field_moved, field_started, field_step, field_steps_from, levels_open, frames, has_room, has_room_at, have_room, grows, closes, field_pieces, opened_level}
-use Rattle.py_lines.specs.Private.FieldFaults.{is_waiting, quotes_specification, cause_in, cause_place, here, piece_start}
-use Rattle.py_lines.proofs.FieldSoundness.Holds.{Limit, HoldsAt, HoldsMode, IsFieldSound}
+use Rattle.py_lines.specs.Private.Machine.{Holds, move_of, short_move, long_move, start_of}
+use Rattle.py_lines.specs.Private.FieldMachine.{text_place, At, between, after_brace, FieldMode, plain, opened, empty, body, FieldMove, breaks, begins_code, opens_field, ends_field, refused, Level, is_after_brace, body_move, field_move, plain_move, begins_host, in_open_short, after_open_backslash, InSpecificationOf, before, FieldScanned, field_state, field_fresh, field_text_start, field_moved, field_started, field_step, field_steps_from, levels_open, frames, has_room, has_room_at, have_room, grows, closes, field_pieces, opened_level}
+use Rattle.py_lines.specs.Private.FieldFaults.{is_waiting, quotes_specification, cause_in, cause_place, piece_start}
+use Rattle.py_lines.proofs.FieldSoundness.Holds.{Limit, HoldsMode, IsFieldSound}
 use Rattle.py_lines.proofs.FieldSoundness.BodyMoves.{Moved, body_moves}
 use Rattle.py_lines.proofs.FieldSoundness.Lists.{not_specification}
 use Rattle.py_lines.proofs.FieldSoundness.HostSteps.{opened_moves, sound_at}

@@ -1,12 +1,11 @@
 -- What is open where a text with fields ends, by the state in which the machine stands.
-use Rattle.std.proofs.Common.{◌≡◌, ℕ, ◌+◌, ◌-◌, ◌<◌, ◌≤◌, Bool, true, false, not, ◌||◌, Option, None, Some, List, [], ◌∷◌, ◌++◌, length, nat_lt, refl, sym, ap, ◌∙◌, subst, inl, inr, ◌⊎◌, append_assoc, append-nil, arith}
-use Rattle.std.specs.Prelude.{if◌then◌else◌}
+use Rattle.std.proofs.Common.{◌≡◌, ℕ, ◌+◌, ◌-◌, ◌<◌, ◌≤◌, Bool, true, false, not, ◌||◌, Option, None, Some, List, [], ◌∷◌, ◌++◌, length, nat_lt, refl, sym, ap, ◌∙◌, subst, inl, inr, append_assoc, append-nil, arith}
 use Rattle.std.proofs.lemmas.Bool.{both_ways, cond_both, ltb-true, ltb-false}
 use Rattle.py_lines.specs.Piece.{operator, Piece, spelled}
 use Rattle.py_lines.specs.Balance.{is_opener, is_closer, depth_after, depth_through}
 use Rattle.py_lines.specs.Fields.{IsShallow}
 use Rattle.py_lines.specs.Faults.{IsFieldDue, OpensBraceTooDeep, InOpenBracket, Unfinished, open_brace, open_short, open_long, open_inside, IsOpenAtEnd}
-use Rattle.py_lines.specs.OpenFields.{IsSlash, AreBegun, BeginsList, StandsOpen, IsPlainShortPrefix, IsPlainLongPrefix, IsOpenLiteral}
+use Rattle.py_lines.specs.OpenFields.{IsSlash, AreBegun, BeginsList, IsPlainShortPrefix, IsPlainLongPrefix}
 use Rattle.py_lines.specs.LogicalLine.{byte_len}
 use Rattle.py_lines.specs.FieldStrings.{Host, Place, literal, specification, begins_open}
 use Rattle.py_lines.specs.declared.mode.Mode.{Mode}

@@ -12,7 +12,7 @@ use Rattle.py_lines.specs.PieceGrammar.{is_prefix, IsNoneOr, is_bare, joined, ha
 use Rattle.py_lines.specs.Fields.{fielded}
 use Rattle.py_lines.specs.FieldStrings.{is_field_prefix, Host, Place, literal, specification, quotes_of, is_ordinary, IsPart, bare, named_after, named_through, AreParts, IsFieldString, with_fields, may_be_escaped, names, slash, escape, escaped_end, name, double}
 use Rattle.py_lines.specs.Private.Machine.{IsFull}
-use Rattle.py_lines.specs.Private.FieldMachine.{text_place, At, between, after_one, after_two, FieldMode, body, FieldMove, grows, closes, breaks, begins_code, opens_field, ends_field, refused, Level, is_after_two, with_quote, closing_move, opening_move, ending_move, between_move, after_slash, after_return, after_name, after_brace, is_after_brace, is_barred_escape, escape_move, body_move}
+use Rattle.py_lines.specs.Private.FieldMachine.{text_place, At, between, after_one, after_two, body, FieldMove, grows, closes, breaks, begins_code, opens_field, ends_field, refused, Level, is_after_two, with_quote, closing_move, opening_move, ending_move, between_move, after_slash, after_return, after_name, after_brace, is_after_brace, is_barred_escape, escape_move, body_move}
 use Rattle.py_lines.proofs.Pieces.TripleQuotes.{triple-left, triple-other}
 use Rattle.py_lines.proofs.Text.CharacterTests.{none_of, barred, slash-not-quote, not_quote, return-not-brace}
 use Rattle.py_lines.proofs.Machine.OpenPieces.{full-append, joined-push, not_one, quote-not-slash}

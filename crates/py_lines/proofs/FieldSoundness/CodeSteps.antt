@@ -1,10 +1,10 @@
 -- What each character does outside strings with fields: it goes on with the open piece or ends it, begins another one, ends a field,
 -- or opens its specification.
-use Rattle.std.proofs.Common.{◌≡◌, ◌==◌, ℕ, suc, ◌+◌, true, false, ◌&&◌, Option, None, Some, List, [], ◌∷◌, ◌++◌, length, refl, sym, ap, ◌∙◌, subst, inl, append_assoc, append-nil, arith, Bool, inr, ◌⊎◌}
+use Rattle.std.proofs.Common.{◌≡◌, ◌==◌, ℕ, suc, ◌+◌, true, false, ◌&&◌, Option, None, Some, List, [], ◌∷◌, ◌++◌, length, refl, sym, ap, ◌∙◌, subst, inl, append_assoc, append-nil, arith, inr, ◌⊎◌}
 use Rattle.std.proofs.lemmas.Bool.{cond_both, and_left, and_right, eqb-true, ne_eqb, and_parts, both_ways, or_from, false_from_ne_true, and_from}
 use Rattle.py_lines.specs.Character.{is_quote, is_operator, is_word_character}
 use Rattle.py_lines.specs.Piece.{string, operator, line_end, Piece, spelled, Class, word, begins, is_mark_class}
-use Rattle.py_lines.specs.PieceGrammar.{is_bare, joined, InPlainClass, InClassIn, MayPrecedePlain, MayPrecedeIn, AreReadPlain}
+use Rattle.py_lines.specs.PieceGrammar.{is_bare, joined, InClassIn, MayPrecedeIn, AreReadPlain}
 use Rattle.py_lines.specs.Balance.{is_opening, depth_through}
 use Rattle.py_lines.specs.Fields.{AreInside, IsSpecification, simple, specified, fielded, Fields}
 use Rattle.py_lines.specs.FieldStrings.{Host, Place, literal, specification, begins_open, field, is_field_prefix, with_fields}
@@ -13,7 +13,7 @@ use Rattle.py_lines.specs.declared.mode.Mode.TheVariants as modes
 use Rattle.py_lines.specs.declared.mode.Start.{Start}
 use Rattle.py_lines.specs.declared.mode.Start.TheVariants as starts
 use Rattle.py_lines.specs.Private.Machine.{class_of, start_of, Holds, closed, move_of, is_prefix_spelling}
-use Rattle.py_lines.specs.Private.FieldMachine.{before, between, plain, body, Level, FieldScanned, field_state, levels_open, field_ended, code_operator, after_operator, field_operator, field_started, openers_with, specification_ended, text_place, FieldMode, opened, FieldMove, closes, field_fresh, host_of, begins_host, plain_move, field_moved}
+use Rattle.py_lines.specs.Private.FieldMachine.{before, between, plain, body, Level, FieldScanned, field_state, levels_open, field_ended, code_operator, after_operator, field_operator, field_started, openers_with, specification_ended, text_place, FieldMode, opened, FieldMove, field_fresh, host_of, begins_host, plain_move, field_moved}
 use Rattle.py_lines.specs.Private.ScanMachine.{BeginsPlain}
 use Rattle.py_lines.proofs.Pieces.PieceLists.{piece}
 use Rattle.py_lines.proofs.Text.CharacterTests.{not_quote, quote-not-start}

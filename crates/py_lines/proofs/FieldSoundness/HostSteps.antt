@@ -1,6 +1,5 @@
 -- What each character does in strings with fields, and so what any text does.
 use Rattle.std.proofs.Common.{◌≡◌, ◌==◌, ℕ, ◌+◌, Bool, true, false, Option, None, Some, List, [], ◌∷◌, ◌++◌, length, refl, sym, ap, ◌∙◌, subst, inl, inr, append_assoc, append-nil, arith}
-use Rattle.std.specs.Str.{byte}
 use Rattle.std.proofs.lemmas.Bool.{cond_both, both_ways, eqb-true, eq-eqb}
 use Rattle.py_lines.specs.Character.{is_quote}
 use Rattle.py_lines.specs.Piece.{Class, string, spelled, Piece}
@@ -10,7 +9,7 @@ use Rattle.py_lines.specs.FieldStrings.{Host, Place, literal, specification, quo
 use Rattle.py_lines.specs.Private.FieldMachine.{text_place, before, between, FieldMode, plain, opened, empty, body, FieldMove, grows, closes, breaks, begins_code, opens_field, ends_field, refused, Level, FieldScanned, field_state, field_fresh, field_text_start, begins_host, long_host, is_after_brace, field_move, body_move, field_moved, field_step, field_steps_from, field_class_of, levels_open, frames}
 use Rattle.py_lines.proofs.Pieces.PieceLists.{piece}
 use Rattle.py_lines.proofs.Fields.Prefixes.{field_letters, first_quote}
-use Rattle.py_lines.proofs.FieldSoundness.Holds.{Limit, OpensHost, HoldsParts, HoldsBetween, HoldsMode, HoldsLevel, HoldsLevels, AtStart, IsFieldSound}
+use Rattle.py_lines.proofs.FieldSoundness.Holds.{Limit, OpensHost, HoldsMode, HoldsLevel, HoldsLevels, IsFieldSound}
 use Rattle.py_lines.proofs.FieldSoundness.BodyMoves.{no_parts, quoted_prefix, short_quotes, whole_string, Moved, between_moves, body_moves}
 use Rattle.py_lines.proofs.FieldSoundness.Lists.{FieldSoundIf, no_pieces, stands_at, stands_more}
 use Rattle.py_lines.proofs.FieldSoundness.CodeSteps.{start_sound, specification_ends, HasRoom, grew, closes_with, ends_before, plain_sound, begins_sound}

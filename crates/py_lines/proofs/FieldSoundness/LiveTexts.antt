@@ -15,7 +15,7 @@ use Rattle.py_lines.proofs.Text.Utf8Prefixes.{all_scalars-append}
 use Rattle.py_lines.proofs.Pieces.PieceLists.{piece}
 use Rattle.py_lines.proofs.Pieces.OpenBrackets.{closing-not-opening}
 use Rattle.py_lines.proofs.Machine.Starts.{start-operator}
-use Rattle.py_lines.proofs.Machine.LiveTexts.{closing-operator, closing_of-closing, closing-scalar, quote-scalar, IsReady, closing-not-quote, comment-breaks, feed-starts, completes}
+use Rattle.py_lines.proofs.Machine.LiveTexts.{closing-operator, closing_of-closing, closing-scalar, quote-scalar, closing-not-quote, comment-breaks, feed-starts, completes}
 use Rattle.py_lines.proofs.FieldMachine.Runs.{HasRoomFor, Goes, goes-append, goes-grows, goes-closes, goes-begins, BelowLimit, steps_of, room_of}
 use Rattle.py_lines.proofs.FieldMachine.StringParts.{goes_on, body_moves, second_brace}
 use Rattle.py_lines.proofs.FieldMachine.ListBrackets.{closing_pops, none_some}

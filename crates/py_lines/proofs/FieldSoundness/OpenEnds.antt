@@ -7,8 +7,8 @@ use Rattle.py_lines.specs.Piece.{operator, Piece, begins_marked, spelled, string
 use Rattle.py_lines.specs.PieceGrammar.{joined, AreReadIn}
 use Rattle.py_lines.specs.Balance.{closing_of, IsBalanced, depth_through}
 use Rattle.py_lines.specs.Fields.{HasNoColon, Fields, fielded}
-use Rattle.py_lines.specs.OpenFields.{Spot, literal_after, specification_after, IsOpenString, in_literal, in_specification, AreBegun, BeginsList, at_start, in_field, IsUnescaped, IsShortPrefix, IsLongPrefix, IsSlash, StandsOpen, IsOpenUpTo, IsPlainShortPrefix, IsPlainLongPrefix, IsOpenLiteral, InOpenShort, InOpenLong, AfterOpenBackslash, InSpecification, InFieldCode}
-use Rattle.py_lines.specs.FieldStrings.{Host, Place, literal, specification, begins_open, AreParts, may_be_escaped, escape}
+use Rattle.py_lines.specs.OpenFields.{Spot, literal_after, specification_after, IsOpenString, in_literal, in_specification, AreBegun, BeginsList, at_start, in_field, IsUnescaped, StandsOpen, IsOpenUpTo, IsPlainShortPrefix, IsPlainLongPrefix, IsOpenLiteral, InOpenShort, InOpenLong, InSpecification, InFieldCode}
+use Rattle.py_lines.specs.FieldStrings.{Host, Place, literal, specification, begins_open, may_be_escaped, escape}
 use Rattle.py_lines.specs.Private.FieldMachine.{before, Level, levels_open, text_place, At, between, after_one, after_two, after_slash, after_return, after_name, after_brace, FieldMode, plain, opened, body, field_state, field_closed, may_end}
 use Rattle.py_lines.proofs.Pieces.PieceLists.{piece}
 use Rattle.py_lines.proofs.Machine.LiveTexts.{closing_of-closing}
@@ -20,10 +20,9 @@ use Rattle.py_lines.specs.Character.{is_backslash, is_brace}
 use Rattle.py_lines.specs.Balance as balance
 use Rattle.py_lines.specs.declared.mode.Mode.{Mode}
 use Rattle.py_lines.specs.declared.mode.Mode.TheVariants as modes
-use Rattle.py_lines.specs.Private.Machine.{class_of, in_short, in_long, is_after_backslash}
-use Rattle.py_lines.specs.Private.ScanMachine.{BeginsPlain}
+use Rattle.py_lines.specs.Private.Machine.{class_of, in_short, in_long}
 use Rattle.py_lines.proofs.Pieces.TripleQuotes.{triple-other}
-use Rattle.py_lines.proofs.Machine.OpenStrings.{short_held, long_held, slash_held}
+use Rattle.py_lines.proofs.Machine.OpenStrings.{short_held, long_held}
 use Rattle.py_lines.proofs.Fields.Prefixes.{plain_quotes}
 use Rattle.py_lines.proofs.Fields.Elsewhere.{other_prefix}
 use Rattle.py_lines.proofs.Text.CharacterTests.{return-not-brace}

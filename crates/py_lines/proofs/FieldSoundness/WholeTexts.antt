@@ -1,14 +1,13 @@
 -- Where the machine with fields may end, its pieces read the text, those of the innermost list with the open one. They are
 -- shallow if each character had room.
-use Rattle.std.proofs.Common.{◌≡◌, ℕ, ◌+◌, true, false, List, [], ◌∷◌, ◌++◌, length, refl, sym, ap, ◌∙◌, subst, inr, append-nil, ◌<◌, Bool, not, ◌||◌, Option, None, Some, nat_lt, arith}
+use Rattle.std.proofs.Common.{◌≡◌, ℕ, ◌+◌, true, false, List, [], ◌∷◌, ◌++◌, length, refl, sym, ap, ◌∙◌, subst, inr, append-nil, ◌<◌, Option, None, Some, nat_lt, arith}
 use Rattle.std.proofs.lemmas.Bool.{and_left, and_right, both_ways, and_parts, cond_both, ltb-true}
 use Rattle.py_lines.specs.Piece.{Class, string, operator, Piece, is_mark_class, begins_marked, spelled}
 use Rattle.py_lines.specs.PieceGrammar.{InClassIn, MayPrecedeIn, AreReadPlain, AreReadIn}
 use Rattle.py_lines.specs.Fields.{HasNoColon, Fields, fielded, IsShallow, AnyPieces, ShallowFields}
 use Rattle.py_lines.specs.FieldStrings.{literal, with_fields}
-use Rattle.py_lines.specs.declared.mode.Mode.{Mode}
-use Rattle.py_lines.specs.Private.Machine.{closed, class_of, is_final}
-use Rattle.py_lines.specs.Private.FieldMachine.{text_place, FieldMode, plain, opened, empty, body, Level, field_state, field_closed, levels_open, may_end, before, FieldMove, breaks, begins_code, opens_field, FieldScanned, field_text_start, field_move, field_step, field_steps_from, field_pieces, frames, has_room, has_room_at, have_room, IsFieldFinal}
+use Rattle.py_lines.specs.Private.Machine.{closed, class_of}
+use Rattle.py_lines.specs.Private.FieldMachine.{text_place, FieldMode, plain, empty, body, Level, field_state, field_closed, levels_open, may_end, before, FieldMove, breaks, begins_code, opens_field, FieldScanned, field_text_start, field_move, field_step, field_steps_from, field_pieces, frames, has_room, has_room_at, have_room, IsFieldFinal}
 use Rattle.py_lines.proofs.Pieces.PieceLists.{piece, spelled-push, AreReadIn-push, follows_any}
 use Rattle.py_lines.proofs.Fields.Nesting.{class_map, field_is, shallow_is, shallow_fields}
 use Rattle.py_lines.proofs.Fields.Elsewhere.{IsPlainText, plain_class, plain_precede}
@@ -18,7 +17,6 @@ use Rattle.py_lines.proofs.FieldSoundness.Holds.{Limit, IsFieldSound}
 use Rattle.py_lines.proofs.FieldSoundness.Lists.{neutral, passes-push, colon-push, marked-push}
 use Rattle.py_lines.proofs.FieldSoundness.CodeSteps.{plain_text, Ends, nothing, something, ends_of, HasRoom}
 use Rattle.py_lines.proofs.FieldSoundness.HostSteps.{empty_string, HaveRoom, sound_at}
-use Rattle.std.specs.Prelude.{if◌then◌else◌}
 use Rattle.py_lines.specs.Balance.{is_opening, is_opener, depth_after, depth_through}
 use Rattle.py_lines.specs.Reading.{IsBalancedReading}
 

@@ -2,7 +2,6 @@
 use Rattle.std.proofs.Common.{◌≡◌, ℕ, Bool, true, false, ◌||◌, ◌&&◌, List, [], ◌∷◌, ◌++◌, refl, sym, ap, ◌∙◌, subst, inl, inr, ⊎_elim, append_assoc, append-nil}
 use Rattle.std.proofs.Math.Bool.{and-true}
 use Rattle.std.proofs.lemmas.Bool.{cond_both, and_parts, and_right, or_parts, or_from, or_cases, both_ways, false_from_ne_true}
-use Rattle.std.specs.Prelude.{if◌then◌else◌}
 use Rattle.py_lines.specs.Character.{is_quote, is_r, is_f, is_t}
 use Rattle.py_lines.specs.Piece.{Class, word, string, Piece, begins, spelled}
 use Rattle.py_lines.specs.PieceGrammar.{is_prefix, IsNoneOr, InPlainClass, InClassIn, MayPrecedePlain, MayPrecedeIn, AreReadPlain, AreReadIn, ReadsPlain, ReadsIn, joined}
@@ -10,7 +9,7 @@ use Rattle.py_lines.specs.Balance.{IsShallowPlain, depth_after}
 use Rattle.py_lines.specs.Fields.{Fields, fielded, IsShallowWith, ShallowFields}
 use Rattle.py_lines.specs.Reading.{IsBalancedReading}
 use Rattle.py_lines.specs.WithoutFields.{IsPlainReading}
-use Rattle.py_lines.specs.FieldStrings.{is_field_prefix, Host, quotes_of, IsFieldString, with_fields, begins_raw, may_have_fields}
+use Rattle.py_lines.specs.FieldStrings.{is_field_prefix, Host, quotes_of, IsFieldString, with_fields, may_have_fields}
 use Rattle.py_lines.specs.Private.ScanMachine.{BeginsPlain}
 use Rattle.std.specs.List.{list_any}
 use Rattle.py_lines.proofs.Fields.Prefixes.{plain_quotes, field_letters, first_quote}
