@@ -39,20 +39,13 @@ HasNoColonIn (level ∷ outer) depth ps = HasNoColon depth ps
 
 module _ (Room : ℕ → Type 0) (F : ℕ → Host → List ℕ → Type 0) (begin : (depth : ℕ) → BeginOpen (F depth)) (run : FieldsRun Room F) where
   same_openers : (from : FieldScanned) (text : List ℕ) (ps : List Piece) (after rest : List ℕ) → Some from.openers ≡ Some after → FieldFinds Room from text ps from.openers rest → FieldFinds Room from text ps after rest
-  same_openers from text ps after rest is found =
-      let same : from.openers ≡ after = cc in
-      subst (λ os. FieldFinds Room from text ps os rest) same found
+  same_openers from text ps after rest is found = subst (λ os. FieldFinds Room from text ps os rest) (cc is) found
 
   -- a piece
   one_found : (G : Host → List ℕ → Type 0) (from : FieldScanned) (class : Class) (text after rest : List ℕ) → is_mark_class class ≡ false → InClassIn (with_fields G) class text → MayPrecedeIn (with_fields G) class text rest → (is_opener (piece class text) ≡ true → Room (frames from)) → (class ≡ string → (with_fields (F (frames from))).IsString text) → openers_by from.openers class text ≡ Some after → HasNoColonIn from.outer (length from.openers) (piece class text ∷ []) → StopsAt from.mode from.held (text ++ rest) → FieldFinds Room from text (piece class text ∷ []) after rest
   one_found G from mark text after rest unmarked is before room own opens none stops = absurd (both_ways _ unmarked refl)
   one_found G from operator text after rest unmarked (c, is, passes) before room own opens none stops =
-      let P : List ℕ → Type 0 = λ t. FieldFinds Room from t (piece operator t ∷ []) after rest in
-      subst P (sym is) (operator_found Room from c after rest passes
-      (subst (λ t. openers_by from.openers operator t ≡ Some after) is opens)
-      (no_colon from.outer (subst (λ t. HasNoColonIn from.outer (length from.openers) (piece operator t ∷ [])) is none))
-      (subst (λ t. is_opener (piece operator t) ≡ true → Room (frames from)) is room)
-      (subst (λ t. StopsAt from.mode from.held (t ++ rest)) is stops))
+      rw is (operator_found Room from c after rest passes (rw is at opens) (no_colon from.outer (rw is at none)) (rw is at room) (rw is at stops))
     where
       no_colon : (outer : List Level) → HasNoColonIn outer (length from.openers) (piece operator (c ∷ []) ∷ []) → IsNoColon outer from.openers c
       no_colon [] h = tt

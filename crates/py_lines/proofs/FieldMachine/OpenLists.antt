@@ -166,9 +166,7 @@ list_runs all rest depth (in_field _ _ _ outside base pieces front host spot spe
           let own = run.depth_is in
           let up = pieces_at.deep in
           omega (arith, own, up, deep);
-      start_is = sym (append_assoc (before spot.place run.outer) (spelled run.done) (front ++ 123 ∷ []))
-          ∙ ap (λ t. t ++ (front ++ 123 ∷ [])) (run.start_is ∙ ap (λ t. t ++ spelled (field_pieces pieces_at.from)) pieces_at.start_is ∙ ap (λ p. outside ++ spelled p) pieces_at.pieces_are)
-          ∙ append_assoc outside (spelled pieces) (front ++ 123 ∷ []) ∙ sym spell;
+      start_is = simp (← append_assoc, run.start_is, pieces_at.start_is, pieces_at.pieces_are, spell);
       goes = λ t text alike_so goes.
           let single : spot.place ≡ literal → begins_open text ≡ false = λ at. ap begins_open alike_so.two_is ∙ sym (ap begins_open alike_so.one_is) ∙ may.single at in
           let code = opens_text NoLimit run.outer run.done run.openers host spot.place run.mode front text alike_so.first alike_so.more t alike_so.two_is move tt single goes in

@@ -19,6 +19,7 @@ use Rattle.py_lines.proofs.FieldMachine.Runs.{NoLimit, Goes, StopsAt, goes-appen
 use Rattle.py_lines.proofs.FieldMachine.OpenStrings.{IsInString, in_part, at_first, HasOpened, open_unmarked, open_begins, up_to_runs, open_quotes, brace_opens, string_runs}
 use Rattle.py_lines.proofs.FieldMachine.OpenLists.{list_runs, after_pieces, string_begins, pieces_run, IsBraced, alike, alike_after, ListRun, level_of, braces}
 use Rattle.std.specs.Str.{byte}
+use Rattle.std.specs.Prelude.{if◌then◌else◌}
 use Rattle.py_lines.specs.Faults.{IsFieldDue}
 use Rattle.py_lines.proofs.FieldMachine.Completeness.{may_begin}
 use Rattle.py_lines.proofs.FieldMachine.ListBrackets.{balanced_openers}
@@ -32,9 +33,8 @@ pub record Comes (characters : List ℕ) (IsSuch : FieldScanned → Type 0) : Ty
 -- such a state is the one to which it comes
 pub comes_to : (characters : List ℕ) (IsSuch : FieldScanned → Type 0) (s : FieldScanned) → Comes characters IsSuch → field_steps_from (Some field_text_start) characters ≡ Some s → IsSuch s
 comes_to characters IsSuch s comes steps =
-    let same : Some comes.to ≡ Some s = sym (steps_of NoLimit field_text_start comes.to characters comes.goes) ∙ steps in
-    let is : comes.to ≡ s = cc in
-    subst IsSuch is comes.such
+    let same : comes.to ≡ s = cc (steps_of NoLimit field_text_start comes.to characters comes.goes, steps) in
+    subst IsSuch same comes.such
 
 -- the characters before the open piece, where a string, its specification with it, or a backslash is open
 abbrev pub StartsAfter : Place → List ℕ → FieldScanned → Type 0
@@ -61,8 +61,7 @@ front_at IsOpen characters start at unmarked =
 
 -- a string, or the literal part of one with fields
 abbrev pub InLiteral : Bool → FieldMode → Type 0
-InLiteral false mode = in_open_short mode ≡ true
-InLiteral true mode = in_open_long mode ≡ true
+InLiteral is_long mode = (if is_long then in_open_long mode else in_open_short mode) ≡ true
 
 -- a string without fields, whose text grows so after its first quote
 plain_comes : (IsOpen : List ℕ → Type 0) (characters start : List ℕ) (at : StandsOpen IsOpen characters start) (is_long : Bool) (prefix : List ℕ) (q : ℕ) (inner : List ℕ) → at.front ≡ prefix ++ q ∷ inner → IsPrefix prefix → is_field_prefix prefix ≡ false → is_quote q ≡ true → GrownTo (λ m. InLiteral is_long (plain m)) (Mode.Opened q) inner → Comes characters (λ s. InLiteral is_long s.mode × StartsAfter literal start s)
@@ -82,10 +81,8 @@ plain_comes IsOpen characters start at is_long prefix q inner spell is no_field 
     }
 
 literal_mode : (host : Host) (named : Bool) (is_long : Bool) (mode : FieldMode) → IsInString host literal named mode [] → host.is_long ≡ is_long → InLiteral is_long mode
-literal_mode host named true mode (in_part at is apart) long = subst (InLiteral true) (sym is) (rw (apart, long))
-literal_mode host named false mode (in_part at is apart) long = subst (InLiteral false) (sym is) (rw (apart, long))
-literal_mode host named true mode (at_first is place_is unnamed short) long = absurd (both_ways _ short long)
-literal_mode host named false mode (at_first is place_is unnamed short) long = subst (InLiteral false) (sym is) refl
+literal_mode host named is_long mode (in_part at is apart) long = grind arith
+literal_mode host named is_long mode (at_first is place_is unnamed short) long = grind arith
 
 -- a string with fields that is open
 host_comes : (IsOpen : List ℕ → Type 0) (characters start : List ℕ) (at : StandsOpen IsOpen characters start) (host : Host) (spot : Spot) → IsOpenUpTo host spot at.front → Comes characters (λ s. IsInString host spot.place spot.named s.mode [] × StartsAfter spot.place start s × HasOpened spot.place s.outer spot.field)
@@ -140,9 +137,7 @@ pub record SpecificationAt (host : Host) (start : List ℕ) (s : FieldScanned) :
 
 specification_mode : (host : Host) (named : Bool) (mode : FieldMode) → IsInString host specification named mode [] → InSpecificationOf host mode
 specification_mode host named mode (in_part at is apart) = subst (InSpecificationOf host) (sym is) (refl, apart)
-specification_mode host named mode (at_first is place_is unnamed short) =
-    let none : specification ≡ literal = place_is in
-    absurd (cc)
+specification_mode host named mode (at_first is place_is unnamed short) = absurd (cc)
 
 pub specification_comes : (host : Host) (characters start : List ℕ) (at : InSpecification host characters start) → Comes characters (λ s. (own : SpecificationAt host start s) × (own.string ≡ at.string))
 specification_comes host characters start at =
@@ -214,8 +209,7 @@ brace_comes depth start after is =
     let braced = braces run.outer run.done run.openers is.host literal run.mode is.front move in
     record {
       to = braced.0;
-      goes = subst (λ x. Goes NoLimit field_text_start x braced.0)
-          (ap (λ x. is.outside ++ x) (sym (append_assoc (spelled is.pieces) is.front (123 ∷ []))) ∙ sym (append_assoc is.outside (spelled is.pieces ++ is.front) (123 ∷ [])) ∙ ap (λ x. x ++ 123 ∷ []) is.spell)
+      goes = subst (λ x. Goes NoLimit field_text_start x braced.0) (simp (← is.spell, append_assoc))
           (pieces_at.goes braced.0 (is.front ++ 123 ∷ []) (alike_after is.front (123 ∷ after) (123 ∷ []) (alike 123 after [])) (goes-append NoLimit pieces_at.from s braced.0 is.front (123 ∷ []) run.goes braced.1));
       such = go s braced.0 (omega (arith, run.depth_is, pieces_at.deep, is.deep)) braced.2;
     }

@@ -1,6 +1,6 @@
 -- What each character does to the open piece alone; so where the machine has come, the pieces that it found spell what it read,
 -- and are read before whatever follows.
-use Rattle.std.proofs.Common.{◌≡◌, ℕ, Bool, true, false, ◌&&◌, eqb, Option, None, Some, List, [], ◌∷◌, ◌++◌, refl, sym, ap, ◌∙◌, subst, inl, inr, append_assoc, append-nil}
+use Rattle.std.proofs.Common.{◌≡◌, ℕ, Bool, true, false, ◌&&◌, eqb, Option, None, Some, List, [], ◌∷◌, ◌++◌, refl, sym, ap, ◌∙◌, subst, inl, inr, append_assoc, append-nil, arith}
 use Rattle.std.proofs.lemmas.Bool.{cond_both, and_parts, and_from, and_left, and_right, eqb-true, both_ways, not_from_false}
 use Rattle.py_lines.specs.Character.{is_mark, is_space, is_word_character, is_quote, is_line_feed, is_return, is_break, is_backslash}
 use Rattle.py_lines.specs.Piece.{Class, mark, string, operator, line_end, Piece, ends, spelled}
@@ -22,16 +22,9 @@ StartHolds c Start.LineEnd = InPlainClass line_end (c ∷ []) × ((more : List �
 StartHolds c Start.Nothing = Unit {0}
 
 starts_hold : (c : ℕ) (s : Start) → StartsSo c s → StartHolds c s
-starts_hold c (Start.Open Mode.Space) so = (c, [], refl, and_from _ _ so refl)
-starts_hold c (Start.Open (Mode.Word s)) so = (c, [], refl, so.0, refl, so.1)
-starts_hold c (Start.Open Mode.Comment) so = (c, [], refl, so, refl)
 starts_hold c (Start.Open (Mode.Opened q)) so = record { prefix = []; spell = ap (λ d. d ∷ []) (sym so.1); begun = inl refl; opens = ap is_quote so.1 ∙ so.0 }
-starts_hold c (Start.Open Mode.Return) so = (c, refl, so)
-starts_hold c (Start.Open Mode.Backslash) so = (c, refl, so)
-starts_hold c (Start.Open m) so = absurd so
-starts_hold c Start.Operator so = (c, refl, so)
 starts_hold c Start.LineEnd so = (feed (ap (λ d. d ∷ []) (feed_is c so)), λ more. and_left _ _ (feed-not-others c so).2)
-starts_hold c Start.Nothing so = tt
+starts_hold c x so = grind arith
 
 pub start_holds : (c : ℕ) → StartHolds c (start_of c)
 start_holds c = starts_hold c (start_of c) (starts_so c)
@@ -79,9 +72,7 @@ returned_items q done held (before, slash, r, is, items, slashes, returns) =
 -- an empty string is before no quote of its kind
 empty_before : (q : ℕ) (held : List ℕ) (c : ℕ) (more : List ℕ) → HoldsQuotes (q ∷ q ∷ []) q held → eqb c q ≡ false → MayPrecedePlain string held (c ∷ more)
 empty_before q held c more holds other prefix r spell begun quotes =
-    let same : q ∷ q ∷ [] ≡ r ∷ r ∷ [] = same_quotes holds.prefix prefix q r (q ∷ []) (r ∷ []) (sym holds.spell ∙ spell) holds.begun begun holds.opens quotes in
-    let one : q ≡ r = cc in
-    subst (λ (d : ℕ). eqb c d ≡ false) one other
+    subst (λ (d : ℕ). eqb c d ≡ false) (cc (same_quotes holds.prefix prefix q r (q ∷ []) (r ∷ []) (sym holds.spell ∙ spell) holds.begun begun holds.opens quotes)) other
 
 empty_string : (q : ℕ) (held : List ℕ) → HoldsQuotes (q ∷ q ∷ []) q held → InPlainClass string held
 empty_string q held holds = inl (record { prefix = holds.prefix; quote = q; items = []; spell = holds.spell; begun = holds.begun; opens = holds.opens; each = refl })
@@ -91,10 +82,7 @@ one_after before held last c is = ap (λ t. t ++ c ∷ []) is ∙ append_assoc b
 
 -- a line end of two characters
 feed_after : (r c : ℕ) → is_return r ≡ true → is_line_feed c ≡ true → r ∷ c ∷ [] ≡ 13 ∷ 10 ∷ []
-feed_after r c h k =
-    let first : r ≡ 13 = return_is r h in
-    let second : c ≡ 10 = feed_is c k in
-    cc
+feed_after r c h k = cc (return_is r h, feed_is c k)
 
 -- so in each mode
 pub move_holds : (m : Mode) (held : List ℕ) (c : ℕ) → Holds m [] held → MoveHolds m held c (move_of m c)
