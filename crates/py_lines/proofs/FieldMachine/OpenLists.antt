@@ -112,10 +112,7 @@ after_pieces outside depth pieces front list begun may =
       from = from;
       stops = run.stops;
       opens = run.opens;
-      deep =
-          let own = list.deep in
-          let many = run.deep in
-          omega (arith, own, many);
+      deep = omega (arith, list.deep, run.deep);
       start_is = list.start_is;
       pieces_are = run.pieces_are;
       goes = λ t text alike_so goes.
@@ -162,10 +159,7 @@ list_runs all rest depth (in_field _ _ _ outside base pieces front host spot spe
     let whole : (r : List ℕ) → outside ++ (spelled pieces ++ (front ++ 123 ∷ r)) ≡ all ++ r = λ r. simp (spell, append_assoc) in
     record {
       outer = level ∷ run.outer;
-      deep =
-          let own = run.depth_is in
-          let up = pieces_at.deep in
-          omega (arith, own, up, deep);
+      deep = omega (arith, run.depth_is, pieces_at.deep, deep);
       start_is = simp (← append_assoc, run.start_is, pieces_at.start_is, pieces_at.pieces_are, spell);
       goes = λ t text alike_so goes.
           let single : spot.place ≡ literal → begins_open text ≡ false = λ at. ap begins_open alike_so.two_is ∙ sym (ap begins_open alike_so.one_is) ∙ may.single at in

@@ -104,8 +104,7 @@ string_runs from host spot front rest (in_literal _ _ _ prefix parts is spell be
 string_runs from host spot front rest (in_specification _ round _ _ opening inside parts is spell string may are_inside each open_yet) stops =
     let code : List ℕ = spelled inside ++ (58 ∷ joined parts) in
     let later : List ℕ = 123 ∷ spelled inside ++ (58 ∷ joined parts ++ rest) in
-    let whole : front ++ rest ≡ opening ++ later =
-    ap (λ t. t ++ rest) spell ∙ append_assoc opening (123 ∷ code) rest ∙ ap (λ t. opening ++ (123 ∷ t)) (append_assoc (spelled inside) (58 ∷ joined parts) rest) in
+    let whole : front ++ rest ≡ opening ++ later = simp (spell, append_assoc) in
     let inner = string_runs from host round opening later string (subst (StopsAt from.mode from.held) whole stops) in
     let quotes = open_quotes host round opening later string in
     let outer : List Level = record { done = inner.done; openers = inner.openers; host = host; place = round.place; front = opening ++ 123 ∷ [] } ∷ inner.outer in
@@ -125,9 +124,7 @@ string_runs from host spot front rest (in_specification _ round _ _ opening insi
       goes = goes-append NoLimit from (field_state inner.outer inner.done inner.openers inner.mode opening) last opening (123 ∷ code) inner.goes opened_run;
       stands = in_part run.to refl run.on;
       start_is = append-nil _ ∙ inner.start_is;
-      depth_is =
-          let own = inner.depth_is in
-          omega (arith, own);
+      depth_is = omega (arith, inner.depth_is);
       field_is = refl;
     }))
 

@@ -36,10 +36,6 @@ pub opening_operator : (c : ℕ) → is_opening c ≡ true → is_operator c ≡
 unfolding is_opening is_operator
 opening_operator c h = each_of (λ x. is_operator x ≡ true) (40 ∷ 91 ∷ 123 ∷ []) c (refl, (refl, (refl, tt))) h
 
-feed-opens-nothing : is_opening 10 ≡ false
-unfolding is_opening
-feed-opens-nothing = refl
-
 -- where a word ends, it is no prefix of a string with fields
 abbrev EndsNoPrefix : Class → List ℕ → List ℕ → Type 0
 EndsNoPrefix class text rest = class ≡ word → is_field_prefix text && begins is_quote rest ≡ false
@@ -79,12 +75,7 @@ module _ (Room : ℕ → Type 0) where
   -- a character that opens a piece
   goes-opens : (from : FieldScanned) (c : ℕ) (after : List ℕ) (m : Mode) → StopsAt from.mode from.held (c ∷ after) → start_of c ≡ Start.Open m → Goes Room from (c ∷ []) (open_at from m (c ∷ []))
   goes-opens from c after m stops starts_as =
-      goes-begins Room from (open_at from m (c ∷ [])) _ c [] stops (ap (field_started from.outer (field_pieces from) from.openers c) starts_as) (λ opens. absurd (no_bracket opens)) refl
-    where
-      no_bracket : is_opening c ≡ true → ⊥
-      no_bracket opens =
-          let both : Start.Operator ≡ Start.Open m = sym (start-operator c (opening_operator c opens)) ∙ starts_as in
-          cc
+      goes-begins Room from (open_at from m (c ∷ [])) _ c [] stops (ap (field_started from.outer (field_pieces from) from.openers c) starts_as) (λ opens. absurd (cc (start-operator c (opening_operator c opens), starts_as))) refl
 
   -- a piece is found that a character ends, with none open after it
   pub fresh_found : (from : FieldScanned) (class : Class) (text after rest : List ℕ) → Goes Room from text (field_fresh from.outer (field_pieces from ++ piece class text ∷ []) after) → FieldFinds Room from text (piece class text ∷ []) after rest
@@ -115,6 +106,7 @@ module _ (Room : ℕ → Type 0) where
 
   -- a space, a word, a comment, a join or a line end
   pub plain_found : (F : Host → List ℕ → Type 0) (from : FieldScanned) (class : Class) (text rest : List ℕ) → IsPlainClass class → InPlainClass class text → MayPrecedeIn (with_fields F) class text rest → StopsAt from.mode from.held (text ++ rest) → FieldFinds Room from text (piece class text ∷ []) from.openers rest
+  unfolding is_opening
   plain_found F from class text rest plain_class is before stops = go (is_read class text rest plain_class is (precede_without F class text rest before))
     where
       go : IsRead class text rest → FieldFinds Room from text (piece class text ∷ []) from.openers rest
@@ -122,7 +114,7 @@ module _ (Room : ℕ → Type 0) where
           subst (λ p. FieldFinds Room from p.text (p ∷ []) from.openers rest) (ap (λ k. piece k (10 ∷ [])) (sym so) ∙ ap (piece class) (sym feed))
           (fresh_found from line_end (10 ∷ []) from.openers rest
           (goes-begins Room from _ _ 10 [] (subst (λ t. StopsAt from.mode from.held (t ++ rest)) feed stops)
-          (ap (field_started from.outer (field_pieces from) from.openers 10) (start-feed 10 feed-is-one)) (λ opens. absurd (both_ways _ feed-opens-nothing opens)) refl))
+          (ap (field_started from.outer (field_pieces from) from.openers 10) (start-feed 10 feed-is-one)) (λ opens. absurd (cc)) refl))
       go (opened c cs m spell starts_as quiet ends) =
           ends_found from class text (c ∷ []) cs rest m spell (goes-opens from c (cs ++ rest) m (subst (λ t. StopsAt from.mode from.held (t ++ rest)) spell stops) starts_as) quiet ends (ends_no_prefix F class text rest before)
 

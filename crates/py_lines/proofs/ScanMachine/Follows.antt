@@ -238,11 +238,7 @@ module _ (done : List Piece) (held : List ℕ) (st : List Bracket) (c : ℕ) (st
 
   -- where the moves of both machines are known
   by_moves : (m : Mode) (n : FieldMode) (v : Move) (w : FieldMove) → move_at (S m) c ≡ v → field_move n held c ≡ w → EndsAlike (S m) (T n) c w → Alike (kept_if (moved (S m) c v)) (roomy (has_room_at (frames (T n)) c w) (field_moved (T n) c w)) → StepsAlike (S m) (T n) c
-  by_moves m n v w one two ends alike = record {
-    alike = subst (λ (x : Move). Alike (kept_if (moved (S m) c x)) (roomy (has_room (T n) c) (field_step (T n) c))) (sym one)
-        (subst (λ (x : FieldMove). Alike (kept_if (moved (S m) c v)) (roomy (has_room_at (frames (T n)) c x) (field_moved (T n) c x))) (sym two) alike);
-    ends = λ outside h. ends (sym two ∙ h);
-  }
+  by_moves m n v w one two ends alike = record { alike = rw (one, two) alike; ends = λ outside h. ends (sym two ∙ h) }
 
   grows_to : (m : Mode) (n : FieldMode) (after : Mode) (next : FieldMode) → move_at (S m) c ≡ Move.Grows after → field_move n held c ≡ grows next → IsTied (field_state [] done (openers_of st) next (held ++ c ∷ [])) (scanned done after (held ++ c ∷ [])) st → StepsAlike (S m) (T n) c
   grows_to m n after next one two tied = by_moves m n (Move.Grows after) (grows next) one two (λ k. absurd (cc)) (alike_if _ _ _ st (room_grows (frames (T n)) c next) tied)

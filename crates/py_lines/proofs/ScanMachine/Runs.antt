@@ -70,9 +70,7 @@ module _ (done : List Piece) (held : List ℕ) (st : List Bracket) (c : ℕ) (st
   -- both moves are known
   both : (w : Move) (b : Bool) (o : Option FieldScanned) → move_at S c ≡ w → has_room T c ≡ b → field_step T c ≡ o → Alike (kept_if (moved S c w)) (roomy b o) → StepsAlike S T c
   both w b o one two three alike = record {
-    alike = subst (λ (x : Move). Alike (kept_if (moved S c x)) (roomy (has_room T c) (field_step T c))) (sym one)
-        (subst (λ (x : Bool). Alike (kept_if (moved S c w)) (roomy x (field_step T c))) (sym two)
-        (subst (λ (x : Option FieldScanned). Alike (kept_if (moved S c w)) (roomy b x)) (sym three) alike));
+    alike = rw (one, two, three) alike;
     ends = λ outside h. absurd (subst StaysBody h (body_at (inside (none_based done os t.outer t.done t.openers t.mode t.held outside))));
   }
 
@@ -112,11 +110,7 @@ module _ (done : List Piece) (held : List ℕ) (st : List Bracket) (c : ℕ) (st
   closing : has_room_in (depth_through 0 done) t c ≡ true → t.outer ≡ [] → v ≡ closes → IsBodyMode t.mode → StepsAlike S T c
   closing room none is at =
       let p : Piece = piece string (held ++ c ∷ []) in
-      let class : field_class_of t.mode ≡ string = ap field_class_of at.4 in
-      let whole : T ≡ field_state [] done os t.mode t.held = ap (λ (l : List Level). rebased_in done os l t.done t.openers t.mode t.held) none in
-      let field : field_step T c ≡ Some (field_fresh [] (done ++ p ∷ []) os)
-      = ap (λ (x : FieldScanned). field_step x c) whole ∙ ap (field_moved (field_state [] done os t.mode t.held) c) is
-      ∙ ap (λ k. Some (field_fresh [] (done ++ piece k (t.held ++ c ∷ []) ∷ []) os)) class ∙ ap (λ x. Some (field_fresh [] (done ++ piece string (x ++ c ∷ []) ∷ []) os)) (outside_is none) in
+      let field : field_step T c ≡ Some (field_fresh [] (done ++ p ∷ []) os) = rw (none, is, ap field_class_of at.4, outside_is none) in
       both Move.Closes true (Some (field_fresh [] (done ++ p ∷ []) os)) (scan_move true room ∙ ap (λ (l : List Level). string_move l v (field_step t c)) none ∙ ap (λ (w : FieldMove). string_move [] w (field_step t c)) is) (room_same ∙ room) field
       (alike_kept (fresh (done ++ p ∷ [])) (field_fresh [] (done ++ p ∷ []) os) st (tied_fresh done p st refl refl stack))
 

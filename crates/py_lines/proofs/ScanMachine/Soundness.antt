@@ -94,7 +94,6 @@ module _ (s : Scanned) (read : List ℕ) (c : ℕ) (sound : IsScanSound s read) 
   next_sound (Mode.FieldEmpty h) done held os t stays is own field = sound_as (Mode.FieldEmpty h) (empty (host_in h)) done os held all (field_as t _ all is field) own.steps
   next_sound Mode.Fielded done held os t stays is own field =
       let (before, grown) = stays refl in
-      let longer : (more : List ℕ) → held ++ more ≡ s.held ++ c ∷ more = λ more. ap (λ x. x ++ more) grown ∙ append_assoc s.held (c ∷ []) more in
       record {
         spell = ap (λ (l : List Piece). spelled l ++ held) before ∙ ap (λ x. spelled s.done ++ x) grown ∙ sym (append_assoc (spelled s.done) s.held (c ∷ [])) ∙ ap (λ x. x ++ c ∷ []) sound.spell;
         holds = record {
@@ -104,7 +103,7 @@ module _ (s : Scanned) (read : List ℕ) (c : ℕ) (sound : IsScanSound s read) 
           inside = own.inside;
           bare = subst Bare (sym own.bare) (is_bare own.state.outer own.state.done own.state.openers own.state.mode own.state.held);
         };
-        fit = λ more. subst (λ (l : List Piece). AreReadBefore l (held ++ more)) (sym before) (subst (AreReadBefore s.done) (sym (longer more)) (sound.fit (c ∷ more)));
+        fit = λ more. rw (before, grown, append_assoc s.held (c ∷ []) more) (sound.fit (c ∷ more));
         strings = subst (StringsFit 0) (sym before) sound.strings;
       }
   next_sound m done held os t stays is own field =
