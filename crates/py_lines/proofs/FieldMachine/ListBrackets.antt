@@ -51,16 +51,10 @@ balanced_openers ps (balance.one _ p is other) os =
     let parts = or_parts (is_opener p) (is_closer p) other in
     ap (openers_through (Some os)) is ∙ ap (λ o. openers_through o []) (other_keeps os p.class p.text parts.0 parts.1)
 balanced_openers ps (balance.pair _ inner a b is both within) os =
-    ap (openers_through (Some os)) is
-    ∙ ap (λ o. openers_through o (inner ++ b ∷ [])) (opener_pushes os a.class a.text both.opens)
-    ∙ openers_through-append (Some (first_or_zero a.text ∷ os)) inner (b ∷ [])
-    ∙ ap (λ o. openers_through o (b ∷ [])) (balanced_openers inner within (first_or_zero a.text ∷ os))
-    ∙ ap (λ o. openers_through o []) (closer_pops (first_or_zero a.text) os b.class b.text both.closes (pair_kind a b both))
-balanced_openers ps (balance.both _ first second is left right) os =
-    ap (openers_through (Some os)) is
-    ∙ openers_through-append (Some os) first second
-    ∙ ap (λ o. openers_through o second) (balanced_openers first left os)
-    ∙ balanced_openers second right os
+    let now = first_or_zero a.text ∷ os in
+    let opened : openers_through (Some os) (a ∷ inner) ≡ Some now = ap (λ o. openers_through o inner) (opener_pushes os a.class a.text both.opens) ∙ balanced_openers inner within now in
+    rw (is, openers_through-append (Some os) (a ∷ inner) (b ∷ []), opened) (ap (λ o. openers_through o []) (closer_pops (first_or_zero a.text) os b.class b.text both.closes (pair_kind a b both)))
+balanced_openers ps (balance.both _ first second is left right) os = rw (is, openers_through-append (Some os) first second, balanced_openers first left os, balanced_openers second right os)
 
 pub none_some : {A : Type 0} {a : A} → None ≡ Some a → ⊥
 none_some h = absurd (cc)

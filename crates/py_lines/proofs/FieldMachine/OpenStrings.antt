@@ -49,11 +49,8 @@ open_unmarked host spot front rest more string =
 -- what another character than its quote does there
 string_moves : (host : Host) (place : Place) (named : Bool) (mode : FieldMode) (held : List ℕ) (c : ℕ) (rest : List ℕ) → IsInString host place named mode (c ∷ rest) → eqb c host.quote ≡ false → (at : At) × (field_move mode held c ≡ between_move host place named at c)
 string_moves host place named mode held c rest (in_part at is on) other = (settled at, ap (λ m. field_move m held c) is ∙ body_moves host place named at held c rest on)
-string_moves host place named mode held c rest (at_first is place_is unnamed short) other = (
-  between,
-  ap (λ m. field_move m held c) is ∙ opened_moves host held c other ∙ body_moves host literal false between held c rest (goes_on host literal false (c ∷ rest))
-      ∙ ap (λ p. between_move host p false between c) (sym place_is) ∙ ap (λ n. between_move host place n between c) (sym unnamed),
-)
+string_moves host place named mode held c rest (at_first is place_is unnamed short) other =
+    (between, rw (is, place_is, unnamed) (opened_moves host held c other ∙ body_moves host literal false between held c rest (goes_on host literal false (c ∷ rest))))
 
 -- the `{` of a field
 pub brace_opens : (host : Host) (place : Place) (mode : FieldMode) (held rest : List ℕ) → IsInString host place false mode (123 ∷ rest) → is_quote host.quote ≡ true → field_move mode held 123 ≡ opening_move host place

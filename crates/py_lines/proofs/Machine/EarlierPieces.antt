@@ -104,10 +104,7 @@ through-shift base (p ∷ ps) done (Some st) =
 -- the brackets after pieces with none open
 pub stack-after : (base local : List Piece) → brackets_of base ≡ Some [] → brackets_of (base ++ local) ≡ shift_if (byte_len (spelled base)) (brackets_of local)
 stack-after base local level =
-    through-append (Some []) [] base local
-    ∙ ap (λ o. brackets_through o base local) level
-    ∙ ap (λ l. brackets_through (Some []) l local) (sym (append-nil base))
-    ∙ through-shift base local [] (Some [])
+    rw (through-append (Some []) [] base local, level) (ap (λ l. brackets_through (Some []) l local) (sym (append-nil base)) ∙ through-shift base local [] (Some []))
 
 -- from one state, a machine goes over these characters to another, with these brackets open
 pub record GoesBy (move : Scanned → ℕ → Move) (from : Scanned) (characters : List ℕ) (to : Scanned) (brackets : List Bracket) : Type 0 where

@@ -83,13 +83,8 @@ same_state cs s t one two = cc
 stack_openers : (ps : List Piece) (st : List Bracket) → StandsAt st ps → openers_through (Some []) ps ≡ Some (openers_of st)
 stack_openers ps st (level _ _ empty within) = balanced_openers ps within [] ∙ ap (λ (bs : List Bracket). Some (openers_of bs)) (sym empty)
 stack_openers ps st (inside _ _ b others outer inner a is spell out opens kind place within) =
-    ap (openers_through (Some [])) spell
-    ∙ openers_through-append (Some []) outer (a ∷ inner)
-    ∙ ap (λ o. openers_through o (a ∷ inner)) (stack_openers outer others out)
-    ∙ ap (λ o. openers_through o inner) (opener_pushes (openers_of others) a.class a.text opens)
-    ∙ balanced_openers inner within (first_or_zero a.text ∷ openers_of others)
-    ∙ ap (λ (o : ℕ). Some (o ∷ openers_of others)) (sym kind)
-    ∙ ap (λ (bs : List Bracket). Some (openers_of bs)) (sym is)
+    rw (spell, is, openers_through-append (Some []) outer (a ∷ inner), stack_openers outer others out, kind)
+    (ap (λ o. openers_through o inner) (opener_pushes (openers_of others) a.class a.text opens) ∙ balanced_openers inner within (first_or_zero a.text ∷ openers_of others))
 
 -- where the machine with fields may end, in no field, the other may, and has found the same
 final_alike : (m : Mode) (done : List Piece) (held os : List ℕ) (t : FieldScanned) → flat m done os held ≡ Some t → Own m (depth_through 0 done) held → t.outer ≡ [] → may_end t.mode ≡ true → (is_final m ≡ true) × (field_pieces t ≡ closed m done held)
