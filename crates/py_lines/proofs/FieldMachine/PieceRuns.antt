@@ -53,19 +53,15 @@ ends_no_prefix F word text rest before is = (either_prefix (is_prefix text) (is_
 ends_no_prefix F class text rest before is = absurd (cc)
 
 -- an operator in a list, where it neither ends a field nor opens its specification
-brace_closes : (after : List ℕ) → openers_with [] 125 ≡ Some after → ⊥
-unfolding openers_with is_opening is_closing
-brace_closes after h = none_some h
-
 abbrev pub IsNoColon : List Level → List ℕ → ℕ → Type 0
 IsNoColon [] openers c = Unit {0}
 IsNoColon (level ∷ outer) openers c = (c == 58) && (length openers == 0) ≡ false
 
 pub operator_stays : (outer : List Level) (done : List Piece) (openers after : List ℕ) (c : ℕ) → openers_with openers c ≡ Some after → IsNoColon outer openers c → field_operator outer done openers c ≡ Some (field_fresh outer (done ++ piece operator (c ∷ []) ∷ []) after)
-unfolding code_operator
+unfolding code_operator openers_with is_opening is_closing
 operator_stays [] done openers after c h none = ap (after_operator [] done c) h
 operator_stays (level ∷ outer) done (o ∷ os) after c h none = ap (after_operator (level ∷ outer) done c) h
-operator_stays (level ∷ outer) done [] after c h none = grind (arith, nat_tests, brace_closes after)
+operator_stays (level ∷ outer) done [] after c h none = grind (arith, nat_tests)
 
 -- the state in which a piece is open after those of another state
 abbrev open_at : FieldScanned → Mode → List ℕ → FieldScanned

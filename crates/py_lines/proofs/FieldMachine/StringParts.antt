@@ -80,15 +80,6 @@ quote_seen : (q : ℕ) (at : At) (tail : List (List ℕ)) → has_triple q (quot
 quote_seen q after_two tail h = grind (arith, eq-eqb q q refl)
 quote_seen q at tail h = (refl, h)
 
--- what stands without a backslash in a short string, or after one in its specifications
-no_break_in_short : (host : Host) (c : ℕ) → eqb c host.quote ≡ false → may_stand host c ≡ true → is_break c && not host.is_long ≡ false
-unfolding is_barred is_break
-no_break_in_short host c other stands = grind arith
-
-quote_in_long : (host : Host) → may_stand host host.quote ≡ true → host.is_long ≡ true
-unfolding is_barred
-quote_in_long host stands = grind (arith, eq-eqb host.quote host.quote refl)
-
 -- a backslash and another character
 pub other_escaped : (host : Host) (place : Place) (named : Bool) (held : List ℕ) (c : ℕ) → is_brace c ≡ false → may_be_escaped host place c ≡ true → is_return c ≡ false → names host c ≡ false → field_move (body host place named after_slash) held c ≡ grows (body host place named between)
 unfolding field_move body_move escape_move
@@ -140,18 +131,19 @@ module _ (host : Host) (place : Place) (named : Bool) (at : At) (rest : List ℕ
 
   -- one that stands for itself
   bare_passes : (c : ℕ) → is_backslash c ≡ false → may_stand host c ≡ true → is_ordinary place named c ≡ true → Passes host place named at rest tail (c ∷ [])
+  unfolding is_barred is_break
   bare_passes c no_slash stands itself = go (eqb c host.quote) refl
     where
       own_quote : may_stand host host.quote ≡ true → Passes host place named at rest tail (host.quote ∷ [])
       own_quote may here open_yet =
           let seen = quote_seen host.quote at tail open_yet in
           subst (λ n. PartGrows host place named n at (host.quote ∷ []) rest tail) (sym (quote_unnamed named host.quote quotes))
-          (one_grows named (with_quote (settled at)) host.quote here (quote_grows host place named (settled at) (quote_in_long host may) seen.0) (goes_on-quotes host place named (settled at) rest) seen.1)
+          (one_grows named (with_quote (settled at)) host.quote here (quote_grows host place named (settled at) (grind (arith, eq-eqb host.quote host.quote refl)) seen.0) (goes_on-quotes host place named (settled at) rest) seen.1)
 
       go : (b : Bool) → eqb c host.quote ≡ b → Passes host place named at rest tail (c ∷ [])
       go true same = subst (λ x. may_stand host x ≡ true → Passes host place named at rest tail (x ∷ [])) (sym (eqb-true c host.quote same)) own_quote stands
       go false other = λ here open_yet.
-          one_grows _ between c here (itself_grows host place named (settled at) c other no_slash (no_break_in_short host c other stands) itself)
+          one_grows _ between c here (itself_grows host place named (settled at) c other no_slash (grind arith) itself)
           (goes_on host place _ rest) (later_triple host.quote (quotes_seen host.quote at) (c ∷ []) tail open_yet)
 
   -- a backslash, and what the string's text grows by after it

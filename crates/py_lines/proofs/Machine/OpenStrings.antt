@@ -53,16 +53,13 @@ pub start-not-mark : (c : ℕ) → is_word_start c ≡ true → is_mark c ≡ fa
 unfolding unicode_ident is_word_start is_digit is_mark
 start-not-mark c h = false_from_ne_true _ (λ marks. both_ways _ (none_of is_word_start (65279 ∷ []) c refl marks) h)
 
-quote-not-mark : (c : ℕ) → is_quote c ≡ true → is_mark c ≡ false
-unfolding is_quote is_mark
-quote-not-mark c h = none_of is_mark (39 ∷ 34 ∷ []) c refl h
-
 pub slash-not-mark : (c : ℕ) → is_backslash c ≡ true → is_mark c ≡ false
 unfolding is_backslash is_mark
 slash-not-mark c h = none_of is_mark (92 ∷ []) c refl h
 
 pub prefix-unmarked : (prefix : List ℕ) (q : ℕ) (body : List ℕ) → IsPrefix prefix → is_quote q ≡ true → begins is_mark (prefix ++ q ∷ body) ≡ false
-prefix-unmarked [] q body is quotes = quote-not-mark q quotes
+unfolding is_quote is_mark
+prefix-unmarked [] q body is quotes = none_of is_mark (39 ∷ 34 ∷ []) q refl quotes
 prefix-unmarked (a ∷ bs) q body (inl empty) quotes = absurd (cc)
 prefix-unmarked (a ∷ bs) q body (inr is) quotes = start-not-mark a (prefix_word a bs is).0
 

@@ -41,9 +41,6 @@ pub word_on : (s : Spelling) (held : List ℕ) (c : ℕ) → Holds (Mode.Word s)
 word_on s held c (first, others, is, opens, run, so) passes =
     (first, others ++ c ∷ [], push held c is, opens, list_all-push is_word_character others c run passes, ap (λ t. spelling_with t c) so ∙ sym (spelling_on-push (first_spelling first) others c))
 
-prefix_held : (s : Spelling) (held : List ℕ) → Holds (Mode.Word s) [] held → is_prefix held ≡ is_prefix_spelling s
-prefix_held s held (first, others, is, opens, run, so) = ap is_prefix is ∙ prefix_spelling first others ∙ ap is_prefix_spelling (sym so)
-
 -- a character in a short string, between two items
 short_holds : (m : Mode) (held : List ℕ) (q c : ℕ) → HoldsShort q held → eqb c q ≡ false → MoveHolds m held c (short_move q c)
 unfolding short_move
@@ -94,7 +91,7 @@ move_holds Mode.Space held c holds =
     (λ h. (holds.0, holds.1 ++ c ∷ [], push held c holds.2, list_all-push is_space held c holds.3 h))
     (λ h more. (holds, h, refl, tt))
 move_holds (Mode.Word s) held c (first, others, is, opens, run, so) =
-    let prefixed = prefix_held s held (first, others, is, opens, run, so) in
+    let prefixed : is_prefix held ≡ is_prefix_spelling s = ap is_prefix is ∙ prefix_spelling first others ∙ ap is_prefix_spelling (sym so) in
     cond_both (is_word_character c) _ _ (MoveHolds (Mode.Word s) held c)
     (λ h. word_on s held c (first, others, is, opens, run, so) h)
     (λ h. cond_both (is_prefix_spelling s && is_quote c) _ _ (MoveHolds (Mode.Word s) held c)

@@ -1,6 +1,6 @@
 -- The scanning machine and the machine with fields go alike through a text from its start: with the brackets that are open, the state of the
 -- one gives that of the other.
-use Rattle.std.proofs.Common.{◌≡◌, ℕ, ◌+◌, Bool, true, false, not, ◌||◌, ◌==◌, Option, None, Some, List, [], ◌∷◌, ◌++◌, length, nat_lt, refl, sym, ap, ◌∙◌, subst, arith}
+use Rattle.std.proofs.Common.{◌≡◌, ℕ, ◌+◌, Bool, true, false, not, ◌||◌, ◌==◌, Option, None, Some, List, [], ◌∷◌, ◌++◌, length, nat_lt, refl, sym, ap, ◌∙◌, subst, arith, add-zero}
 use Rattle.std.specs.Str.{byte}
 use Rattle.std.proofs.lemmas.Bool.{cond_both, false_from_ne_true}
 use Rattle.py_lines.specs.Character.{is_word_character, is_quote, is_break, is_backslash}
@@ -149,9 +149,7 @@ started_with done st c (Start.Open n) is stack so =
 -- a character begins a piece in both machines, after what was open
 broken : (done : List Piece) (st : List Bracket) (c : ℕ) → brackets_of done ≡ Some st → Alike (kept_if (started done c (start_of c))) (roomy (has_room_at (length (openers_of st) + 0) c breaks) (field_started [] done (openers_of st) c (start_of c)))
 unfolding has_room_at
-broken done st c stack =
-    let deep : length (openers_of st) ≡ length (openers_of st) + 0 = omega arith in
-    subst (λ (n : ℕ). Alike (kept_if (started done c (start_of c))) (roomy (not (is_opening c) || nat_lt n 200) (field_started [] done (openers_of st) c (start_of c)))) deep (started_with done st c (start_of c) refl stack (starts_so c))
+broken done st c stack = rw add-zero (started_with done st c (start_of c) refl stack (starts_so c))
 
 pub closing_neutral : (m : Mode) (text : List ℕ) (c : ℕ) → move_of m c ≡ Move.Closes → (is_opener (piece (class_of m) text) ≡ false) × (is_closer (piece (class_of m) text) ≡ false)
 unfolding move_of
@@ -175,10 +173,6 @@ pub record StepsAlike (s : Scanned) (t : FieldScanned) (c : ℕ) : Type 0 where
   pub alike : Alike (kept_if (scan_step s c)) (roomy (has_room t c) (field_step t c))
   pub ends : t.outer ≡ [] → EndsAlike s t c (field_move t.mode t.held c)
 
-breaks_as : (v : Move) → plain_move v ≡ breaks → v ≡ Move.Breaks
-breaks_as Move.Breaks h = refl
-breaks_as v h = absurd (cc)
-
 -- the text of a word, by itself
 pub word_alone : (s : Spelling) (depth : ℕ) (held : List ℕ) → Holds (Mode.Word s) [] held → GoesAlone depth held (field_state [] [] [] (plain (Mode.Word s)) held)
 word_alone s depth held (first, others, is, opens, run, spells) =
@@ -197,11 +191,7 @@ pub word_meets : (s : Spelling) (held : List ℕ) (c : ℕ) → Holds (Mode.Word
 unfolding meet_of quote_move field_move move_of
 word_meets s held c own = grind (arith, word_told s held own, other_begins s, quote-not-word c)
 
--- one quote of a string with fields
-break_refused : (host : Host) (c : ℕ) → host.is_long ≡ false → c == host.quote ≡ false → is_break c ≡ true → between_move host literal false between c ≡ refused
-unfolding between_move
-break_refused host c short other breaks_line = rw (other, (break-not-others c breaks_line).3, breaks_line, short)
-
+-- what the first character after one quote of a string with fields begins
 pub record GrowsBody (host : Host) (c : ℕ) : Type 0 where
   pub mode : FieldMode
   pub is : between_move host literal false between c ≡ grows mode
@@ -253,7 +243,7 @@ module _ (done : List Piece) (held : List ℕ) (st : List Bracket) (c : ℕ) (st
   -- where no word and no string with fields is open
   pub plain_steps : (m : Mode) → is_word_mode m ≡ false → move_at (S m) c ≡ meet_of m c → meet_of m c ≡ move_of m c → begins_host m held c ≡ false → StepsAlike (S m) (T (plain m)) c
   plain_steps m word at meets other =
-      by_moves m (plain m) (move_of m c) (plain_move (move_of m c)) (at ∙ meets) (plain_moves m held c other) (λ h. (meets ∙ breaks_as (move_of m c) h, refl))
+      by_moves m (plain m) (move_of m c) (plain_move (move_of m c)) (at ∙ meets) (plain_moves m held c other) (λ h. (meets ∙ (grind arith), refl))
       (plain_moved m (move_of m c) refl (λ n is. (plain_mode n done (openers_of st) depth (held ++ c ∷ []) (subst IsOpenAfter is (open_after m c))).1 (subst (NoWord (class_of m)) is (no_word m c word)).0))
 
   -- a word
@@ -282,7 +272,7 @@ module _ (done : List Piece) (held : List ℕ) (st : List Bracket) (c : ℕ) (st
 
   -- one quote of a string with fields
   pub opened_steps : (h : StringWithFields) → Own (Mode.FieldOpened h) depth held → StepsAlike (S (Mode.FieldOpened h)) (T (opened (host_in h))) c
-  unfolding meet_of opened_move field_move body_move
+  unfolding meet_of opened_move field_move body_move between_move
   opened_steps h own = go (c == h.quote) (is_break c) refl refl
     where
       go : (same ends_line : Bool) → c == h.quote ≡ same → is_break c ≡ ends_line → StepsAlike (S (Mode.FieldOpened h)) (T (opened (host_in h))) c
@@ -290,10 +280,10 @@ module _ (done : List Piece) (held : List ℕ) (st : List Bracket) (c : ℕ) (st
           let move : field_move (opened (host_in h)) held c ≡ grows (empty (host_in h)) = rw is in
           grows_to (Mode.FieldOpened h) (opened (host_in h)) (Mode.FieldEmpty h) (empty (host_in h)) (rw is) move (record { stack = stack; flat_is = refl; own = alone_grows depth held c _ (empty (host_in h)) own.0 move })
       go false true is break =
-          by_moves (Mode.FieldOpened h) (opened (host_in h)) Move.Refused refused (rw (is, break)) (rw is (break_refused (host_in h) c own.1 is break)) (λ k. absurd (cc)) (none_alike (has_room_at (frames (T (opened (host_in h)))) c refused))
+          by_moves (Mode.FieldOpened h) (opened (host_in h)) Move.Refused refused (rw (is, break)) (grind (arith, own.1, slash-not-break c break)) (λ k. absurd (cc)) (none_alike (has_room_at (frames (T (opened (host_in h)))) c refused))
       go false false is break =
           let first = first_grows (host_in h) c is break in
-          begins_body (Mode.FieldOpened h) (opened (host_in h)) first.mode (rw (is, break)) (rw is first.is) own.0 first.stays
+          begins_body (Mode.FieldOpened h) (opened (host_in h)) first.mode (rw (is, break)) (rw is (rw is at first.is)) own.0 first.stays
 
   -- two quotes
   pub empty_steps : (h : StringWithFields) → Own (Mode.FieldEmpty h) depth held → StepsAlike (S (Mode.FieldEmpty h)) (T (empty (host_in h))) c

@@ -52,14 +52,12 @@ module _ (done : List Piece) (os : List ℕ) where
 
   -- moves other than those that end the outermost string
   pub moved_alike : (outer : List Level) (ps : List Piece) (bs : List ℕ) (m : FieldMode) (held : List ℕ) (c : ℕ) (v : FieldMove) → KeepsString outer v → field_moved (rebased_in outer ps bs m held) c v ≡ rebased_if (field_moved (field_state outer ps bs m held) c v)
-  moved_alike [] ps bs m held c closes keeps = absurd keeps
-  moved_alike [] ps bs m held c breaks keeps = absurd keeps
   moved_alike [] ps bs m held c (begins_code host) keeps = started_alike (opened_level (field_state [] ps bs m held) host literal held) [] [] [] c (start_of c)
   moved_alike (l ∷ ls) ps bs m held c breaks keeps = started_alike l ls (field_closed m ps held) bs c (start_of c)
   moved_alike (l ∷ ls) ps bs m held c (begins_code host) keeps = started_alike (opened_level (field_state (l ∷ ls) ps bs m held) host literal held) (l ∷ ls) [] [] c (start_of c)
   moved_alike (l ∷ []) ps bs m held c ends_field keeps = refl
   moved_alike (l ∷ k ∷ ks) ps bs m held c ends_field keeps = refl
-  moved_alike outer ps bs m held c v keeps = refl
+  moved_alike outer ps bs m held c v keeps = grind arith
 
   pub step_alike : (t : FieldScanned) (c : ℕ) → KeepsString t.outer (field_move t.mode t.held c) → field_step (rebased t) c ≡ rebased_if (field_step t c)
   step_alike t c keeps = moved_alike t.outer t.done t.openers t.mode t.held c (field_move t.mode t.held c) keeps

@@ -14,15 +14,12 @@ use Rattle.py_lines.proofs.FieldMachine.Runs as runs_of
 use Rattle.py_lines.proofs.FieldSoundness.LiveTexts.{steps-append}
 
 -- what is shallow at some depth is so at any smaller one
-after_less : (d e : ℕ) (p : Piece) → d ≤ e → depth_after d p ≤ depth_after e p
-after_less d e p less = grind arith
-
 pieces_less : (S : ℕ → Host → List ℕ → Type 0) → ((d e : ℕ) → d ≤ e → Within (S e) (S d)) → (d e : ℕ) (ps : List Piece) → d ≤ e → IsShallowWith S e ps → IsShallowWith S d ps
 pieces_less S less d e [] small passes = tt
 pieces_less S less d e (p ∷ ps) small passes = (
   λ opens. let room = passes.0 opens in omega (arith, small, room),
   λ at. string_map (S e) (S d) (less d e small) p.text (passes.1 at),
-  pieces_less S less (depth_after d p) (depth_after e p) ps (after_less d e p small) passes.2,
+  pieces_less S less (depth_after d p) (depth_after e p) ps (grind arith) passes.2,
 )
 
 within_less : (n d e : ℕ) → d ≤ e → Within (ShallowWithin n e) (ShallowWithin n d)
