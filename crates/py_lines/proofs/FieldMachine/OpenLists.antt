@@ -25,9 +25,7 @@ some_open ps others balanced = some_before (λ o. openers_through o others) refl
 
 -- and how many there are
 depth_of : (ps : List Piece) (os after : List ℕ) (k : ℕ) → openers_through (Some os) ps ≡ Some after → depth_through (length os + k) ps ≡ length after + k
-depth_of [] os after k is =
-    let same : os ≡ after = cc in
-    ap (λ l. length l + k) same
+depth_of [] os after k is = grind arith
 depth_of (p ∷ ps) os after k is =
     let mid = some_before (λ o. openers_through o ps) refl (openers_by os p.class p.text) after is in
     ap (λ n. depth_through n ps) (depth_is os mid.0 p.class p.text k mid.1) ∙ depth_of ps mid.0 after k (sym (ap (λ o. openers_through o ps) mid.1) ∙ is)
@@ -142,12 +140,9 @@ list_runs outside rest depth (at_start _ _ _ none zero) = record {
   outer = [];
   deep = sym zero;
   start_is = sym none;
-  goes = λ t text alike_so goes. subst (λ x. Goes NoLimit field_text_start (x ++ text) t) (sym none) goes;
-  begins_at = (field_text_start, at_once none, refl);
+  goes = λ t text alike_so goes. rw none goes;
+  begins_at = (field_text_start, rw none refl, refl);
 }
-  where
-    at_once : outside ≡ [] → Goes NoLimit field_text_start outside field_text_start
-    at_once h = subst (λ x. Goes NoLimit field_text_start x field_text_start) (sym h) refl
 list_runs all rest depth (in_field _ _ _ outside base pieces front host spot spell list begun string may deep) =
     let later : List ℕ = front ++ 123 ∷ rest in
     let pieces_at = after_pieces outside base pieces later (list_runs outside (spelled pieces ++ later) base list) begun (string_begins pieces later (open_unmarked host spot front (123 ∷ rest) (123 ∷ rest) string)) in

@@ -33,7 +33,6 @@ quote_closes host named at h = rw (eq-eqb host.quote host.quote refl, h)
 
 -- two quotes after parts of a long string don't close it: so none stands directly before them
 none_before : (q : ℕ) (at : At) → has_triple q (quotes_seen q at ++ (q ∷ []) ∷ (q ∷ []) ∷ []) ≡ false → settled at ≡ between
-none_before q after_one h = grind (arith, eq-eqb q q refl)
 none_before q at h = grind (arith, eq-eqb q q refl)
 
 -- parts aren't empty

@@ -110,14 +110,6 @@ unfolding meet_of move_of
 stops_start [] h = refl
 stops_start (c ∷ cs) h = rw h
 
--- it finds what the machine with fields finds
-reach_by : (pieces : List Piece) (os rest : List ℕ) → FieldFinds BelowLimit field_text_start (spelled pieces) pieces os rest → Reaches (spelled pieces) pieces rest
-reach_by pieces os rest found =
-    let t : FieldScanned = field_state [] found.done os found.mode found.held in
-    let along = goes_along (spelled pieces) text_start [] field_text_start t start_tied (steps_of BelowLimit field_text_start t (spelled pieces) found.goes) (room_of field_text_start t (spelled pieces) found.goes) in
-    let alike = stops_alike rest t along.state along.brackets along.tied refl found.stops in
-    record { to = along.state; steps = along.goes.run; pieces_are = sym alike.1 ∙ found.pieces_are; stops = λ begin. alike.0 }
-
 -- pieces that are read before the rest are found from the start
 pub reach : (pieces : List Piece) (st : List Bracket) (rest : List ℕ) → AreReadBefore pieces rest → brackets_of pieces ≡ Some st → StringsFit 0 pieces → Reaches (spelled pieces) pieces rest
 reach [] st rest fit stack strings = record { to = text_start; steps = refl; pieces_are = refl; stops = stops_start rest }
@@ -125,4 +117,7 @@ reach (p ∷ ps) st rest fit stack strings =
     let at = stands (p ∷ ps) st stack in
     let shallow = passed_shallow ShallowFields 0 (p ∷ ps) (shallow_both 0 (p ∷ ps) at.shallow strings) in
     let found = reached BelowLimit ShallowFields begin_shallow shallow_run Fields (p ∷ ps) (openers_of st) rest fit shallow (stack_openers (p ∷ ps) st at.at) tt in
-    reach_by (p ∷ ps) (openers_of st) rest found
+    let t : FieldScanned = field_state [] found.done (openers_of st) found.mode found.held in
+    let along = goes_along (spelled (p ∷ ps)) text_start [] field_text_start t start_tied (steps_of BelowLimit field_text_start t (spelled (p ∷ ps)) found.goes) (room_of field_text_start t (spelled (p ∷ ps)) found.goes) in
+    let alike = stops_alike rest t along.state along.brackets along.tied refl found.stops in
+    record { to = along.state; steps = along.goes.run; pieces_are = sym alike.1 ∙ found.pieces_are; stops = λ begin. alike.0 }
