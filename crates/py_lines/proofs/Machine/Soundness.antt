@@ -160,16 +160,11 @@ move_holds m held c holds = absurd holds
 
 -- and at the text's end
 pub end_holds : (m : Mode) (held : List ℕ) → Holds m [] held → is_final m ≡ true → AreReadPlain (closed m [] held) []
-end_holds Mode.Start held holds may = tt
-end_holds Mode.Free held holds may = tt
-end_holds Mode.Space held holds may = (holds, refl, refl, tt)
 end_holds (Mode.Word s) held (first, others, is, opens, run, so) may = ((first, others, is, opens, run), (refl, and_right _ _ refl), refl, tt)
-end_holds Mode.Comment held holds may = (holds, inl refl, refl, tt)
 end_holds (Mode.Empty q) held holds may = (empty_string q held holds, λ prefix r spell begun quotes. refl, refl, tt)
-end_holds (Mode.FieldEmpty h) held holds may = absurd holds
 end_holds Mode.JoinReturn held (slash, r, is, slashes, returns) may = ((slash, r ∷ [], is, slashes, return (ap (λ d. d ∷ []) (return_is r returns))), and_right _ _ refl, refl, tt)
 end_holds Mode.Return held (r, is, returns) may = (return (is ∙ ap (λ d. d ∷ []) (return_is r returns)), and_right _ _ refl, refl, tt)
-end_holds m held holds may = absurd (both_ways _ refl may)
+end_holds m held holds may = grind arith
 
 -- what the open piece holds alone it holds after finished pieces, but at the text's start
 holds_alone : (m : Mode) (done : List Piece) (held : List ℕ) → Holds m done held → Holds m [] held

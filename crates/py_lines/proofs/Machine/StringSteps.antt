@@ -147,9 +147,7 @@ bare_quote q item h = absurd (both_ways _ refl h)
 -- one more quote, where the string goes on
 quote_grows : (q : ℕ) (seen : QuotesBefore) (items : List (List ℕ)) → has_triple q (quotes_before q seen ++ (q ∷ []) ∷ items) ≡ false → (move_of (mode_at q seen) q ≡ Move.Grows (mode_at q (next seen))) × (has_triple q (quotes_before q (next seen) ++ items) ≡ false)
 unfolding move_of
-quote_grows q none items h = (rw (eq-eqb q q refl), h)
-quote_grows q one items h = (rw (eq-eqb q q refl), h)
-quote_grows q two items h = absurd (both_ways _ (or_parts (begins_triple q ((q ∷ []) ∷ (q ∷ []) ∷ (q ∷ []) ∷ items)) _ h).0 (rw (eq-eqb q q refl)))
+quote_grows q seen items h = grind (arith, eq-eqb q q refl)
 
 -- what stays open after some items and one more
 pub later_triple : (q : ℕ) (before : List (List ℕ)) (item : List ℕ) (items : List (List ℕ)) → has_triple q (before ++ item ∷ items) ≡ false → has_triple q items ≡ false

@@ -1,5 +1,5 @@
 -- In a string with fields the two machines go alike too, so they do through every text.
-use Rattle.std.proofs.Common.{◌≡◌, ℕ, ◌+◌, Bool, true, false, Option, None, Some, List, [], ◌∷◌, ◌++◌, length, inl, inr, ◌⊎◌, ⊎_elim, refl, sym, ap, ◌∙◌, subst}
+use Rattle.std.proofs.Common.{◌≡◌, ℕ, ◌+◌, Bool, true, false, Option, None, Some, List, [], ◌∷◌, ◌++◌, length, inl, inr, ◌⊎◌, ⊎_elim, refl, sym, ap, ◌∙◌, subst, arith}
 use Rattle.std.specs.Prelude.{if◌then◌else◌}
 use Rattle.py_lines.specs.Piece.{string, Piece, spelled}
 use Rattle.py_lines.specs.Balance.{depth_through}
@@ -26,9 +26,7 @@ goes_or_not (Some n) = Move.Grows Mode.Fielded
 
 string_stays : (outer : List Level) (v : FieldMove) (o : Option FieldScanned) → KeepsString outer v → string_move outer v o ≡ goes_or_not o
 string_stays [] closes o keeps = absurd keeps
-string_stays [] breaks o keeps = absurd keeps
-string_stays outer v None keeps = refl
-string_stays outer v (Some n) keeps = refl
+string_stays outer v o keeps = grind arith
 
 -- a move in the body leaves it open, or does not end it before the character
 body_stays : (host : Host) (place : Place) (named : Bool) (at : At) (c : ℕ) (v : FieldMove) → BodyMoved host place named at c v → StaysBody v

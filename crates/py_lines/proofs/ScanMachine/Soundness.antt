@@ -67,10 +67,7 @@ is_bare (l ∷ ls) ps os m held = level_bare l ls ps os
 -- what a piece without fields holds
 open_of : (m : Mode) (done : List Piece) (held : List ℕ) → HoldsMode two_hundred [] 0 (plain m) held → AtStart (plain m) [] done → HoldsOpen m done held
 open_of Mode.Start done held mode start = ((start.1, mode.0.1), mode.1)
-open_of (Mode.FieldOpened h) done held mode start = absurd mode.0
-open_of (Mode.FieldEmpty h) done held mode start = absurd mode.0
-open_of Mode.Fielded done held mode start = absurd mode.0
-open_of m done held mode start = mode
+open_of m done held mode start = grind arith
 
 field_as : (t u : FieldScanned) (read : List ℕ) → Some u ≡ Some t → IsFieldSound two_hundred t read → IsFieldSound two_hundred u read
 field_as t u read is field = subst (λ x. IsFieldSound two_hundred x read) (sym (some_is u t is)) field
