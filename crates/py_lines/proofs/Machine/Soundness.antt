@@ -2,6 +2,7 @@
 -- and are read before whatever follows.
 use Rattle.std.proofs.Common.{◌≡◌, ℕ, Bool, true, false, ◌&&◌, eqb, Option, None, Some, List, [], ◌∷◌, ◌++◌, refl, sym, ap, ◌∙◌, subst, inl, inr, append_assoc, append-nil, arith}
 use Rattle.std.proofs.lemmas.Bool.{cond_both, and_parts, and_from, and_left, and_right, eqb-true, both_ways, not_from_false}
+use Rattle.std.proofs.lemmas.Bool.Decides.{nat_tests}
 use Rattle.py_lines.specs.Character.{is_mark, is_space, is_word_character, is_quote, is_line_feed, is_return, is_break, is_backslash}
 use Rattle.py_lines.specs.Piece.{Class, mark, string, operator, line_end, Piece, ends, spelled}
 use Rattle.py_lines.specs.PieceGrammar.{feed, return_feed, return, without_fields, InPlainClass, is_prefix, joined, MayPrecedePlain, AreReadPlain}
@@ -86,10 +87,7 @@ pub move_holds : (m : Mode) (held : List ℕ) (c : ℕ) → Holds m [] held → 
 unfolding move_of long_string
 move_holds Mode.Start held c holds = cond_both (is_mark c) _ _ (MoveHolds Mode.Start held c) (λ h. ((c, ap (λ t. t ++ c ∷ []) holds.1, h), λ more. tt)) (λ h more. tt)
 move_holds Mode.Free held c holds = λ more. tt
-move_holds Mode.Space held c holds =
-    cond_both (is_space c) _ _ (MoveHolds Mode.Space held c)
-    (λ h. (holds.0, holds.1 ++ c ∷ [], push held c holds.2, list_all-push is_space held c holds.3 h))
-    (λ h more. (holds, h, refl, tt))
+move_holds Mode.Space held c (first, others, is, all) = grind (arith, list_all-push is_space held c)
 move_holds (Mode.Word s) held c (first, others, is, opens, run, so) =
     let prefixed : is_prefix held ≡ is_prefix_spelling s = ap is_prefix is ∙ prefix_spelling first others ∙ ap is_prefix_spelling (sym so) in
     cond_both (is_word_character c) _ _ (MoveHolds (Mode.Word s) held c)
@@ -99,14 +97,9 @@ move_holds (Mode.Word s) held c (first, others, is, opens, run, so) =
     let parts = and_parts (is_prefix_spelling s) (is_quote c) k in
     record { prefix = held; spell = refl; begun = inr (prefixed ∙ parts.0); opens = parts.1 })
     (λ k more. ((first, others, is, opens, run), (h, ap (λ (b : Bool). b && is_quote c) prefixed ∙ k), refl, tt)))
-move_holds Mode.Comment held c holds =
-    cond_both (is_break c) _ _ (MoveHolds Mode.Comment held c)
-    (λ h more. (holds, inr h, refl, tt))
-    (λ h. (holds.0, holds.1 ++ c ∷ [], push held c holds.2, holds.3, list_any-push is_break holds.1 c holds.4 h))
-move_holds (Mode.Opened q) held c holds =
-    cond_both (eqb c q) _ _ (MoveHolds (Mode.Opened q) held c) (λ h. one_more_quote (q ∷ []) q held c h holds) (λ h. short_holds (Mode.Opened q) held q c (none_yet (q ∷ []) _ q held refl holds) h)
-move_holds (Mode.Inside q) held c holds =
-    cond_both (eqb c q) _ _ (MoveHolds (Mode.Inside q) held c) (λ h. close_holds held q c holds h) (λ h. short_holds (Mode.Inside q) held q c holds.0 h)
+move_holds Mode.Comment held c (first, others, is, opens, all) = grind (arith, list_any-push is_break others c)
+move_holds (Mode.Opened q) held c holds = grind (arith, one_more_quote (q ∷ []) q held c, short_holds (Mode.Opened q) held q c (none_yet (q ∷ []) _ q held refl holds))
+move_holds (Mode.Inside q) held c holds = grind (arith, close_holds held q c holds, short_holds (Mode.Inside q) held q c holds.0)
 move_holds (Mode.Escape q) held c (before, slash, is, items, slashes) =
     let spell = one_after before held slash c is in
     cond_both (is_return c) _ _ (MoveHolds (Mode.Escape q) held c)
@@ -122,14 +115,9 @@ move_holds (Mode.Empty q) held c holds =
     cond_both (eqb c q) _ _ (MoveHolds (Mode.Empty q) held c)
     (λ h. none_yet (q ∷ q ∷ q ∷ []) _ q (held ++ c ∷ []) (refl, refl) (one_more_quote (q ∷ q ∷ []) q held c h holds))
     (λ h more. (empty_string q held holds, empty_before q held c more holds h, refl, tt))
-move_holds (Mode.Long q) held c holds =
-    cond_both (eqb c q) _ _ (MoveHolds (Mode.Long q) held c)
-    (λ h. (held, ap (λ (d : ℕ). held ++ d ∷ []) (eqb-true c q h), holds))
-    (λ h. long_holds (Mode.Long q) held q c (opening_none q held holds) h)
+move_holds (Mode.Long q) held c holds = grind (arith, nat_tests, long_holds (Mode.Long q) held q c (opening_none q held holds))
 move_holds (Mode.LongOne q) held c (before, is, long) =
-    cond_both (eqb c q) _ _ (MoveHolds (Mode.LongOne q) held c)
-    (λ h. (before, one_after before held q c is ∙ ap (λ (d : ℕ). before ++ q ∷ d ∷ []) (eqb-true c q h), long))
-    (λ h. long_holds (Mode.LongOne q) held q c (subst (HoldsPrefix q) (sym is) (opening_one q before long)) h)
+    grind (arith, nat_tests, one_after before held q c is, long_holds (Mode.LongOne q) held q c (subst (HoldsPrefix q) (sym is) (opening_one q before long)))
 move_holds (Mode.LongTwo q) held c (before, is, long) =
     cond_both (eqb c q) _ _ (MoveHolds (Mode.LongTwo q) held c)
     (λ h.
@@ -151,11 +139,7 @@ move_holds Mode.JoinReturn held c (slash, r, is, slashes, returns) =
     cond_both (is_line_feed c) _ _ (MoveHolds Mode.JoinReturn held c)
     (λ h. ((slash, r ∷ c ∷ [], spell, slashes, return_feed (feed_after r c returns h)), λ more. and_left _ _ (ap (ends is_return) spell ∙ (feed-not-others c h).2)))
     (λ h more. ((slash, r ∷ [], is, slashes, return (ap (λ d. d ∷ []) (return_is r returns))), and_right _ _ h, refl, tt))
-move_holds Mode.Return held c (r, is, returns) =
-    let spell : held ++ c ∷ [] ≡ r ∷ c ∷ [] = push held c is in
-    cond_both (is_line_feed c) _ _ (MoveHolds Mode.Return held c)
-    (λ h. (return_feed (spell ∙ feed_after r c returns h), λ more. and_left _ _ (ap (ends is_return) spell ∙ (feed-not-others c h).2)))
-    (λ h more. (return (is ∙ ap (λ d. d ∷ []) (return_is r returns)), and_right _ _ h, refl, tt))
+move_holds Mode.Return held c (r, is, returns) = grind (arith, return_feed, return, feed_after r c returns, return_is r returns, λ (h : is_line_feed c ≡ true). (feed-not-others c h).2)
 move_holds m held c holds = absurd holds
 
 -- and at the text's end

@@ -280,7 +280,7 @@ module _ (done : List Piece) (held : List ℕ) (st : List Bracket) (c : ℕ) (st
           let move : field_move (opened (host_in h)) held c ≡ grows (empty (host_in h)) = rw is in
           grows_to (Mode.FieldOpened h) (opened (host_in h)) (Mode.FieldEmpty h) (empty (host_in h)) (rw is) move (record { stack = stack; flat_is = refl; own = alone_grows depth held c _ (empty (host_in h)) own.0 move })
       go false true is break =
-          by_moves (Mode.FieldOpened h) (opened (host_in h)) Move.Refused refused (rw (is, break)) (grind (arith, own.1, slash-not-break c break)) (λ k. absurd (cc)) (none_alike (has_room_at (frames (T (opened (host_in h)))) c refused))
+          by_moves (Mode.FieldOpened h) (opened (host_in h)) Move.Refused refused (rw (is, break)) (grind (arith, own.1, (break-not-others c break).3)) (λ k. absurd (cc)) (none_alike (has_room_at (frames (T (opened (host_in h)))) c refused))
       go false false is break =
           let first = first_grows (host_in h) c is break in
           begins_body (Mode.FieldOpened h) (opened (host_in h)) first.mode (rw (is, break)) (rw is (rw is at first.is)) own.0 first.stays
