@@ -45,9 +45,7 @@ word_on s held c (first, others, is, opens, run, so) passes =
 -- a character in a short string, between two items
 short_holds : (m : Mode) (held : List ℕ) (q c : ℕ) → HoldsShort q held → eqb c q ≡ false → MoveHolds m held c (short_move q c)
 unfolding short_move
-short_holds m held q c items other =
-    cond_both (is_backslash c) _ _ (MoveHolds m held c) (λ slash. (held, c, refl, items, slash))
-    (λ no_slash. cond_both (is_break c) _ _ (MoveHolds m held c) (λ break. tt) (λ no_break. short_push q held (c ∷ []) items (and_from _ _ (not_from_false _ no_slash) (not_from_false _ (barred q c other no_break))) tt))
+short_holds m held q c items other = grind (arith, barred q c other, short_push q held (c ∷ []) items)
 
 -- the closing quote of a short string that holds something
 close_holds : (held : List ℕ) (q c : ℕ) → HoldsSome q held → eqb c q ≡ true → InPlainClass string (held ++ c ∷ []) × ((more : List ℕ) → MayPrecedePlain string (held ++ c ∷ []) more)
@@ -59,8 +57,7 @@ close_holds held q c holds same =
 -- a character in a long string, which isn't its quote
 long_holds : (m : Mode) (held : List ℕ) (q c : ℕ) → HoldsPrefix q held → eqb c q ≡ false → MoveHolds m held c (long_move q c)
 unfolding long_move
-long_holds m held q c opening other =
-    cond_both (is_backslash c) _ _ (MoveHolds m held c) (λ slash. (held, c, refl, opening, slash)) (λ no_slash. prefix_push q held (c ∷ []) opening (not_from_false _ no_slash) other)
+long_holds m held q c opening other = grind (arith, prefix_push q held (c ∷ []) opening)
 
 -- the items of a short string after an escaped CR
 pub returned_items : (q : ℕ) (done : List Piece) (held : List ℕ) → Holds (Mode.EscapeReturn q) done held → HoldsSome q held
@@ -90,31 +87,22 @@ move_holds Mode.Free held c holds = λ more. tt
 move_holds Mode.Space held c (first, others, is, all) = grind (arith, list_all-push is_space held c)
 move_holds (Mode.Word s) held c (first, others, is, opens, run, so) =
     let prefixed : is_prefix held ≡ is_prefix_spelling s = ap is_prefix is ∙ prefix_spelling first others ∙ ap is_prefix_spelling (sym so) in
-    cond_both (is_word_character c) _ _ (MoveHolds (Mode.Word s) held c)
-    (λ h. word_on s held c (first, others, is, opens, run, so) h)
-    (λ h. cond_both (is_prefix_spelling s && is_quote c) _ _ (MoveHolds (Mode.Word s) held c)
-    (λ k.
-    let parts = and_parts (is_prefix_spelling s) (is_quote c) k in
-    record { prefix = held; spell = refl; begun = inr (prefixed ∙ parts.0); opens = parts.1 })
-    (λ k more. ((first, others, is, opens, run), (h, ap (λ (b : Bool). b && is_quote c) prefixed ∙ k), refl, tt)))
+    let quoted : is_prefix_spelling s ≡ true → is_quote c ≡ true → HoldsQuotes (c ∷ []) c (held ++ c ∷ []) = λ k l. record { prefix = held; spell = refl; begun = inr (prefixed ∙ k); opens = l } in
+    grind (arith, word_on s held c (first, others, is, opens, run, so), quoted, prefixed)
 move_holds Mode.Comment held c (first, others, is, opens, all) = grind (arith, list_any-push is_break others c)
 move_holds (Mode.Opened q) held c holds = grind (arith, one_more_quote (q ∷ []) q held c, short_holds (Mode.Opened q) held q c (none_yet (q ∷ []) _ q held refl holds))
 move_holds (Mode.Inside q) held c holds = grind (arith, close_holds held q c holds, short_holds (Mode.Inside q) held q c holds.0)
 move_holds (Mode.Escape q) held c (before, slash, is, items, slashes) =
     let spell = one_after before held slash c is in
-    cond_both (is_return c) _ _ (MoveHolds (Mode.Escape q) held c)
-    (λ h. (before, slash, c, spell, items, slashes, h))
-    (λ h. subst (HoldsSome q) (sym spell) (short_push q before (slash ∷ c ∷ []) items (and_from _ _ slashes refl) tt))
+    grind (arith, spell, subst (HoldsSome q) (sym spell) (short_push q before (slash ∷ c ∷ []) items (and_from _ _ slashes refl) tt))
 move_holds (Mode.EscapeReturn q) held c (before, slash, r, is, items, slashes, returns) =
-    let spell : held ++ c ∷ [] ≡ before ++ slash ∷ r ∷ c ∷ [] = ap (λ t. t ++ c ∷ []) is ∙ append_assoc before (slash ∷ r ∷ []) (c ∷ []) in
+    let spell : held ++ c ∷ [] ≡ before ++ slash ∷ r ∷ c ∷ [] = simp (is, append_assoc) in
     let whole = returned_items q [] held (before, slash, r, is, items, slashes, returns) in
-    cond_both (is_line_feed c) _ _ (MoveHolds (Mode.EscapeReturn q) held c)
-    (λ h. subst (HoldsSome q) (sym spell) (short_push q before (slash ∷ r ∷ c ∷ []) items (and_from _ _ (and_from _ _ (and_from _ _ slashes returns) h) refl) tt))
-    (λ h. cond_both (eqb c q) _ _ (MoveHolds (Mode.EscapeReturn q) held c) (λ k. close_holds held q c whole k) (λ k. short_holds (Mode.EscapeReturn q) held q c whole.0 k))
+    let fed : is_line_feed c ≡ true → HoldsSome q (held ++ c ∷ []) = λ h. subst (HoldsSome q) (sym spell) (short_push q before (slash ∷ r ∷ c ∷ []) items (and_from _ _ (and_from _ _ (and_from _ _ slashes returns) h) refl) tt) in
+    grind (arith, fed, close_holds held q c whole, short_holds (Mode.EscapeReturn q) held q c whole.0)
 move_holds (Mode.Empty q) held c holds =
-    cond_both (eqb c q) _ _ (MoveHolds (Mode.Empty q) held c)
-    (λ h. none_yet (q ∷ q ∷ q ∷ []) _ q (held ++ c ∷ []) (refl, refl) (one_more_quote (q ∷ q ∷ []) q held c h holds))
-    (λ h more. (empty_string q held holds, empty_before q held c more holds h, refl, tt))
+    let third : eqb c q ≡ true → HoldsLong q (held ++ c ∷ []) = λ h. none_yet (q ∷ q ∷ q ∷ []) _ q (held ++ c ∷ []) (refl, refl) (one_more_quote (q ∷ q ∷ []) q held c h holds) in
+    grind (arith, third, empty_string q held holds, empty_before q held c)
 move_holds (Mode.Long q) held c holds = grind (arith, nat_tests, long_holds (Mode.Long q) held q c (opening_none q held holds))
 move_holds (Mode.LongOne q) held c (before, is, long) =
     grind (arith, nat_tests, one_after before held q c is, long_holds (Mode.LongOne q) held q c (subst (HoldsPrefix q) (sym is) (opening_one q before long)))
