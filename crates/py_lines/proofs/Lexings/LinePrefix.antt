@@ -51,13 +51,23 @@ pub record Stays (body : List Piece) (last : Piece) (all : List Piece) : Type 0 
 stays_as : (body : List Piece) (last : Piece) (all ps : List Piece) → last.class ≡ line_end → all ≡ (body ++ last ∷ []) ++ ps → Stays body last all
 stays_as body last all ps is spell = record { line = last; others = ps; is = spell ∙ append_assoc body (last ∷ []) ps; class = is; longer = omega arith }
 
+-- finished pieces stay, and are among those that are found
+pub kept_on : (done : List Piece) (o : Option Scanned) (cs : List ℕ) (t : Scanned) → GrowsIf done o → scan_steps o cs ≡ Some t
+    → (ps : List Piece) × (t.done ≡ done ++ ps)
+kept_on done o cs t grows steps = subst (GrowsIf done) steps (run_grows move_at cs o done grows)
+
+pub found_on : (done : List Piece) (o : Option Scanned) (cs : List ℕ) (t : Scanned) → GrowsIf done o → scan_steps o cs ≡ Some t
+    → (ps : List Piece) × (pieces_at t ≡ done ++ ps)
+found_on done o cs t grows steps =
+    let kept = kept_on done o cs t grows steps in
+    let last = closed_grows t.mode t.done t.held in
+    (kept.0 ++ last.0, last.1 ∙ ap (λ l. l ++ last.0) kept.1 ∙ append_assoc done kept.0 last.0)
+
 -- after a state, what grows from its finished pieces
 stays_done : (body : List Piece) (last : Piece) (done : List Piece) (x : List ℕ) (o : Option Scanned) (s : Scanned) → last.class ≡ line_end → done ≡ body ++ last ∷ [] → GrowsIf done o → scan_steps o x ≡ Some s → Stays body last (pieces_at s)
 stays_done body last done x o s class is grows steps =
-    let later : GrowsIf done (Some s) = subst (GrowsIf done) steps (run_grows move_at x o done grows) in
-    let open_piece = closed_grows s.mode s.done s.held in
-    stays_as body last (pieces_at s) (later.0 ++ open_piece.0) class
-    (open_piece.1 ∙ ap (λ l. l ++ open_piece.0) later.1 ∙ append_assoc done later.0 open_piece.0 ∙ ap (λ l. l ++ (later.0 ++ open_piece.0)) is)
+    let found = found_on done o x s grows steps in
+    stays_as body last (pieces_at s) found.0 class (found.1 ∙ ap (λ l. l ++ found.0) is)
 
 stays_return : (body : List Piece) (last : Piece) (done : List Piece) (held : List ℕ) (x : List ℕ) (s : Scanned) → last.class ≡ line_end → done ++ piece line_end held ∷ [] ≡ body ++ last ∷ [] → scan_steps (Some (record { done = done; mode = modes.Return; held = held })) x ≡ Some s → Stays body last (pieces_at s)
 unfolding meet_of move_of

@@ -1,5 +1,5 @@
 -- The piece that bytes begin with, where it is no string, as its line takes it: how long it is, and what tells a word from a prefix.
-use Rattle.std.proofs.Common.{◌≡◌, ℕ, zero, suc, ◌≤◌, Bool, true, false, List, [], ◌∷◌, ◌++◌, length, refl, ap, ◌∙◌, arith, ⊎_elim, ◌+◌, ◌<◌, ◌⊎◌, inl, inr, ◌&&◌, drop, slice_index, sym, subst, take, append_assoc}
+use Rattle.std.proofs.Common.{◌≡◌, ℕ, zero, suc, ◌≤◌, Bool, true, false, List, [], ◌∷◌, ◌++◌, length, refl, ap, ◌∙◌, arith, zero-add, ⊎_elim, ◌+◌, ◌<◌, ◌⊎◌, inl, inr, ◌&&◌, drop, slice_index, sym, subst, take, append_assoc}
 use Rattle.std.specs.Prelude.{encode_utf8, encode_utf8_all, not, codes, nat_le}
 use Rattle.std.specs.List.{list_all, list_any}
 use Rattle.std.specs.Char.{is_ascii_digit}
@@ -112,12 +112,6 @@ all_other (c ∷ cs) none =
     let parts = or_parts (is_break c) (list_any is_break cs) none in and_from (is_comment_byte c) (list_all is_comment_byte cs)
     (ap not parts.0) (all_other cs parts.1)
 
--- how long a line end is, and that it is one
-record IsOneEnd (end : List ℕ) (rest : List ℕ) : Type 0 where
-  len : line_end_len (encode_utf8_all end ++ encode_utf8_all rest) ≡ byte_len end
-  counted : line_ends end ≡ 1
-  joined : line_ends (92 ∷ end) ≡ 1
-
 after_feed : (bytes : List ℕ) → line_end_len (10 ∷ bytes) ≡ 1
 unfolding is_return
 after_feed [] = refl
@@ -128,18 +122,15 @@ unfolding is_return
 after_return [] none = refl
 after_return (d ∷ ds) none = rw none
 
-one_end : (end rest after : List ℕ) → IsLineEnd end → ends is_return end && begins is_line_feed (rest ++ after) ≡ false → IsOneEnd end rest
+-- how long a line end is, and that it is one
+one_end : (end rest after : List ℕ) → IsLineEnd end → ends is_return end && begins is_line_feed (rest ++ after) ≡ false
+    → (line_end_len (encode_utf8_all end ++ encode_utf8_all rest) ≡ byte_len end) × (line_ends end ≡ 1)
 unfolding is_return is_line_feed encode
-one_end end rest after (feed is) uncut = rw is (record { len = after_feed (encode_utf8_all rest); counted = refl; joined = refl })
-one_end end rest after (return_feed is) uncut = rw is (record { len = refl; counted = refl; joined = refl })
+one_end end rest after (feed is) uncut = rw is (after_feed (encode_utf8_all rest), refl)
+one_end end rest after (return_feed is) uncut = rw is (refl, refl)
 one_end end rest after (return is) uncut =
-    rw is (record {
-      len = after_return (encode_utf8_all rest)
-          (encoded_begins is_line_feed (low_even is_line_feed (λ c h. omega (arith, feed_is c h))) rest
-          ∙ begins-prefix is_line_feed rest after (rw is at uncut));
-      counted = refl;
-      joined = refl;
-    })
+    let same = encoded_begins is_line_feed (low_even is_line_feed (λ c h. omega (arith, feed_is c h))) rest in
+    rw is (after_return (encode_utf8_all rest) (same ∙ begins-prefix is_line_feed rest after (rw is at uncut)), refl)
 
 ends_later : (slash : ℕ) (end : List ℕ) → IsLineEnd end → ends is_return (slash ∷ end) ≡ ends is_return end
 ends_later slash end is = let (c, cs, shape) = line_text end is in rw shape
@@ -229,9 +220,10 @@ module _ {bytes : List ℕ} {p : Piece} (b : BeginWithPiece bytes p) where
   pub line_end_taken : p.class ≡ line_end → IsTakenFor p (record { role = roles.LineEnd; len = line_end_len bytes; line_ends = 1 })
   line_end_taken is =
       let e = one_end p.text rest b.text.after (in_class line_end is) (precedes line_end is) in
-      taken line_end _ is refl (ap line_end_len (spelled_bytes bytes p b) ∙ e.len) (sym e.counted)
+      taken line_end _ is refl (ap line_end_len (spelled_bytes bytes p b) ∙ e.0) (sym e.1)
 
   pub join_taken : p.class ≡ join → IsTakenFor p (record { role = roles.Join; len = 1 + line_end_len (drop 1 bytes); line_ends = 1 })
+  unfolding is_line_feed is_return
   join_taken is =
       let shape = in_class join is in
       let end : List ℕ = shape.1 in
@@ -242,8 +234,8 @@ module _ {bytes : List ℕ} {p : Piece} (b : BeginWithPiece bytes p) where
       ∙ precedes join is in
       let e = one_end end rest b.text.after shape.4 uncut in
       taken join _ is refl
-      (longer 92 end _ text (omega arith) (ap (λ t. line_end_len (drop 1 t)) (after_first 92 end text (omega arith)) ∙ e.len))
-      (sym e.joined ∙ ap line_ends (sym text))
+      (longer 92 end _ text (omega arith) (ap (λ t. line_end_len (drop 1 t)) (after_first 92 end text (omega arith)) ∙ e.0))
+      (sym (ap line_ends text ∙ zero-add (line_ends end) ∙ e.1))
 
 -- the characters of a word are bytes of words, or not ASCII
 wide_even : IsEvenAbove is_wide_word

@@ -163,12 +163,8 @@ no_mark text (p ∷ ps) is unmarked = ap (λ (b : Bool). if b then 3 else 0) (fa
         both_ways _ (unmarked_first begun) (ap is_mark first)
 
 -- and with a mark, where it is the first piece
-record HasMark (text : List ℕ) (p : Piece) : Type 0 where
-  len : mark_len text ≡ 3
-  bytes : byte_len p.text ≡ 3
-  counted : line_ends p.text ≡ 0
-
-has_mark : (text : List ℕ) (p : Piece) (ps : List Piece) → AreLineText text (p ∷ ps) → p.class ≡ mark → HasMark text p
+has_mark : (text : List ℕ) (p : Piece) (ps : List Piece) → AreLineText text (p ∷ ps) → p.class ≡ mark
+    → (mark_len text ≡ byte_len p.text) × (line_ends p.text ≡ 0)
 unfolding is_line_feed is_return
 has_mark text p ps is class_is =
     let shape : InClass mark p.text = subst (λ (k : Class). InClass k p.text) class_is is.fit.0 in
@@ -178,11 +174,7 @@ has_mark text p ps is class_is =
     ∙ ap (λ t. t ++ encode_utf8_all (spelled ps)) mark_encoded in
     let present
     = (starts_is Decides-eqb text mark_bytes (starts_with nat_eq text mark_bytes) refl).1 (encode_utf8_all (spelled ps)) whole in
-    record {
-      len = ap (λ (b : Bool). if b then 3 else 0) present;
-      bytes = ap byte_len one ∙ ap length mark_encoded;
-      counted = ap line_ends one;
-    }
+    (ap (λ (b : Bool). if b then 3 else 0) present ∙ sym (ap byte_len one ∙ ap length mark_encoded), ap line_ends one)
 
 -- the space that pieces begin with
 abbrev first_space : List Piece → ℕ
@@ -250,11 +242,11 @@ module _ (text : List ℕ) (n first : ℕ) (t : LineTokens) (run : IsRunOf is_sp
   begun_marked : (p : Piece) (ps : List Piece) → AreLineText text (p ∷ ps) → p.class ≡ mark
       → (left : List Piece) × HaveReadOf text (p ∷ ps) left first (mark_len text) first t
   begun_marked p ps is class_is =
-      let m = has_mark text p ps is class_is in
-      let place = m.bytes ∙ sym m.len in
+      let (len, counted) = has_mark text p ps is class_is in
+      let place = sym len in
       begun_before (p ∷ ps) ps (depth_after 0 p) (subst (λ k. AreTextAt (depth_after 0 p) (drop k text) ps) place (text_after 0 text p ps is)) is.fit.2
       (ap (λ (k : Class). kind_of (record { class = k; text = p.text } ∷ ps)) class_is)
-      (ap (λ (k : Class). tokens_from 0 first (record { class = k; text = p.text } ∷ ps)) class_is ∙ rw (zero-add (byte_len p.text), place, m.counted, add-zero first))
+      (ap (λ (k : Class). tokens_from 0 first (record { class = k; text = p.text } ∷ ps)) class_is ∙ rw (zero-add (byte_len p.text), place, counted, add-zero first))
       (marked_indent p ps class_is)
 
   begun_unmarked : (ps : List Piece) → AreLineText text ps → begins_marked ps ≡ false

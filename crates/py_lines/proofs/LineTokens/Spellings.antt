@@ -4,7 +4,7 @@ use Rattle.std.specs.Prelude.{codes, encode_utf8, encode_utf8_all, nat_le}
 use Rattle.std.specs.List.{list_all, list_any}
 use Rattle.std.proofs.Math.Bool.{and-false, or-false}
 use Rattle.std.proofs.lemmas.Bool.{and_from, and_parts, or_right, both_ways, cases_lt, cases_Bool, leb-false, lt-ltb, false_from_ne_true}
-use Rattle.std.proofs.lemmas.Bool.Decides.{nat_tests}
+use Rattle.std.proofs.lemmas.Str.{encodes_same}
 use Rattle.py_lines.specs.Character.{is_one_of, is_r, is_b, is_f, is_t, is_u}
 use Rattle.py_lines.specs.PieceGrammar.{is_prefix}
 use Rattle.py_lines.specs.FieldStrings.{is_field_prefix}
@@ -39,16 +39,12 @@ fielded_spelling first others =
     (cases_Bool (is_field_spelling s))
 
 -- a character that isn't ASCII is no letter of a prefix
-record IsNoLetter (c : ℕ) : Type 0 where
-  r : is_r c ≡ false
-  b : is_b c ≡ false
-  f : is_f c ≡ false
-  t : is_t c ≡ false
-  u : is_u c ≡ false
+abbrev IsNoLetter : ℕ → Type 0
+IsNoLetter c = (is_r c ≡ false) × (is_b c ≡ false) × (is_f c ≡ false) × (is_t c ≡ false) × (is_u c ≡ false)
 
 no_letter : (c : ℕ) → 128 ≤ c → IsNoLetter c
 unfolding is_r is_b is_f is_t is_u
-no_letter c high = record { r = none (codes "rR") refl; b = none (codes "bB") refl; f = none (codes "fF") refl; t = none (codes "tT") refl; u = none (codes "uU") refl }
+no_letter c high = (none (codes "rR") refl, none (codes "bB") refl, none (codes "fF") refl, none (codes "tT") refl, none (codes "uU") refl)
   where
     none : (letters : List ℕ) → list_any (nat_le 128) letters ≡ false → is_one_of letters c ≡ false
     none letters low = false_from_ne_true _ (λ one. omega (arith, high, leb-false 128 c (none_of (nat_le 128) letters c low one)))
@@ -62,10 +58,10 @@ prefix_low [] begun = refl
 prefix_low (a ∷ cs) begun = by cs (fielded_spelling a cs ∙ begun)
   where
     by : (others : List ℕ) → fielded.is_prefix (a ∷ others) ≡ true → list_all is_low (a ∷ others) ≡ true
-    by [] is = and_from (is_low a) true (low_unless a (λ no. both_ways _ (rw (no.r, no.b, no.f, no.t, no.u)) is)) refl
+    by [] is = and_from (is_low a) true (low_unless a (λ no. both_ways _ (rw (no.0, no.1, no.2, no.3, no.4)) is)) refl
     by (b ∷ []) is =
-        and_from (is_low a) _ (low_unless a (λ no. both_ways _ (rw (no.r, no.b, no.f, no.t)) is))
-        (and_from (is_low b) true (low_unless b (λ no. both_ways _ (rw (no.r, no.b, no.f, no.t, and-false (is_r a), and-false (is_b a || is_f a), and-false (is_f a || is_t a))) is)) refl)
+        and_from (is_low a) _ (low_unless a (λ no. both_ways _ (rw (no.0, no.1, no.2, no.3)) is))
+        (and_from (is_low b) true (low_unless b (λ no. both_ways _ (rw (no.0, no.1, no.2, no.3, and-false (is_r a), and-false (is_b a || is_f a), and-false (is_f a || is_t a))) is)) refl)
     by (b ∷ c ∷ others) is = absurd (both_ways _ refl is)
 
 -- the bytes of a character that isn't ASCII
@@ -86,18 +82,7 @@ high_bytes c high = ⊎_elim
 
 -- bytes of ASCII are the characters that they spell
 low_encoded : (cs : List ℕ) → list_all is_low (encode_utf8_all cs) ≡ true → encode_utf8_all cs ≡ cs
-low_encoded [] all = refl
-low_encoded (c ∷ cs) all =
-    ⊎_elim
-    (λ low.
-    let is : encode_utf8_all (c ∷ cs) ≡ c ∷ encode_utf8_all cs = ap (λ t. t ++ encode_utf8_all cs) (one c low) in
-    let parts = and_parts (is_low c) (list_all is_low (encode_utf8_all cs)) (ap (list_all is_low) (sym is) ∙ all) in
-    is ∙ ap (λ t. c ∷ t) (low_encoded cs parts.1))
-    (λ high.
-    let h = high_bytes c high in
-    let first = (and_parts (is_low h.first) _ (ap (λ t. list_all is_low (t ++ encode_utf8_all cs)) (sym h.is) ∙ all)).0 in
-    absurd (omega (arith, h.high.0, low_is h.first first)))
-    (cases_lt c 128)
+low_encoded cs all = sym (encodes_same cs (encode_utf8_all cs) (sym (low_encodes is_low (encode_utf8_all cs) low_is all).0))
 
 -- so a word is a prefix where its bytes are
 pub prefix_encoded : (word : List ℕ) → begins_string (word_spelling (encode_utf8_all word)) ≡ begins_string (word_spelling word)

@@ -46,6 +46,7 @@ use Rattle.py_lines.proofs.ScanMachine.Reaching.{reach}
 use Rattle.py_lines.proofs.ScanMachine.Rooms.{fields_less}
 use Rattle.py_lines.proofs.ScanMachine.Steps.{StopsBefore, begun, stops-free, grow-word}
 use Rattle.py_lines.proofs.Lexings.FirstLines.{piece_some}
+use Rattle.py_lines.proofs.Lexings.LinePrefix.{found_on, kept_on}
 use Rattle.py_lines.proofs.LogicalLines.Cuts.{byte_len-append}
 use Rattle.py_lines.proofs.LineScan.PieceEnd.{closed_text, no_class_bracket}
 use Rattle.py_lines.proofs.LineScan.LineSteps.{sound_steps, way_keeps}
@@ -73,18 +74,6 @@ sound_from read s steps stack = sound_steps modes.Free read s (begun_sound 1) st
 -- over two texts
 then_on : (a b : List ℕ) (s : Scanned) → ComesTo a s → scan_steps (Some s) b ≡ scan_steps (Some (line_start modes.Free)) (a ++ b)
 then_on a b s steps = ap (λ o. scan_steps o b) (sym steps) ∙ sym (steps_by-append move_at (Some (line_start modes.Free)) a b)
-
--- finished pieces stay, and are among those that are found
-kept_on : (done : List Piece) (o : Option Scanned) (cs : List ℕ) (t : Scanned) → GrowsIf done o → scan_steps o cs ≡ Some t
-    → (ps : List Piece) × (t.done ≡ done ++ ps)
-kept_on done o cs t grows steps = subst (GrowsIf done) steps (run_grows move_at cs o done grows)
-
-found_on : (done : List Piece) (o : Option Scanned) (cs : List ℕ) (t : Scanned) → GrowsIf done o → scan_steps o cs ≡ Some t
-    → (ps : List Piece) × (pieces_at t ≡ done ++ ps)
-found_on done o cs t grows steps =
-    let kept = kept_on done o cs t grows steps in
-    let last = closed_grows t.mode t.done t.held in
-    (kept.0 ++ last.0, last.1 ∙ ap (λ l. l ++ last.0) kept.1 ∙ append_assoc done kept.0 last.0)
 
 -- no mark begins a string, so the text's start is like any other place
 from_line : (text : List ℕ) (to : Scanned) → InClass string text → scan_steps (Some text_start) text ≡ Some to → ComesTo text to

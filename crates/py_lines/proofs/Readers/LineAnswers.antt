@@ -46,7 +46,8 @@ use Rattle.py_lines.proofs.LogicalLines.TokenPlaces.{each_after}
 use Rattle.py_lines.proofs.LogicalLines.Cuts.{byte_len-append, one_line, line_depth, one_part}
 use Rattle.py_lines.proofs.LineScan.LineCount.{line_ends-bytes}
 use Rattle.py_lines.proofs.LineScan.TextSteps.{follows_base, begun_sound}
-use Rattle.py_lines.proofs.Lexings.FirstLines.{base_lines, ends_for_good, given_begin}
+use Rattle.py_lines.proofs.Lexings.FirstLines.{base_lines, ends_for_good, given_begin, piece_some}
+use Rattle.py_lines.proofs.Feeds.Known as of
 use Rattle.py_lines.proofs.Feeds.Known.{IsKnown, is_known}
 use Rattle.py_lines.proofs.Pieces.OpenBrackets.{balanced_depth, depth_through-append, stands}
 use Rattle.py_lines.proofs.Pieces.ShallowPieces.{IsShallow-append, fits_reading}
@@ -266,15 +267,9 @@ end_len-push [] p ends = ap (λ (k : Class). end_len_of (record { class = k; tex
 end_len-push (q ∷ []) p ends = ap (λ (k : Class). end_len_of (record { class = k; text = p.text } ∷ [])) ends
 end_len-push (q ∷ r ∷ rs) p ends = end_len-push (r ∷ rs) p ends
 
--- a line end isn't empty
-first_bytes : (last : Piece) → last.class ≡ line_end → InClass last.class last.text → 0 < byte_len last.text
-first_bytes last class holds =
-    let text = line_first last class holds in
-    omega (arith, length-le-encodes last.text, ap length text.2)
-
 full_line : (body : List Piece) (last : Piece) (read : List ℕ) → last.class ≡ line_end → spelled (body ++ last ∷ []) ≡ read → InClass last.class last.text → 0 < byte_len read
 full_line body last read class spell holds =
-    omega (arith, ap byte_len (sym spell ∙ spelled-append body (last ∷ [])), byte_len-append (spelled body) (last.text ++ []), ap byte_len (append-nil last.text), first_bytes last class holds)
+    omega (arith, ap byte_len (sym spell ∙ spelled-append body (last ∷ [])), byte_len-append (spelled body) (last.text ++ []), ap byte_len (append-nil last.text), piece_some last.class last.text holds, length-le-encodes last.text)
 
 -- a line with its line end
 pub line_at_end : (m : Mode) (scan : Scan) (read rest : List ℕ) (len : ℕ) (at : IsAtLineEnd m scan read rest len) (after : List ℕ) → encode_utf8_all after ≡ rest → IsScannedLine (line_start m) scan read len (at.body ++ at.last ∷ [])
@@ -379,10 +374,6 @@ fails_at_character old new c line_fault error has at is_line_fault =
     fails old new line_fault.kind line_fault.place error at has.no_fault has.more (λ lines given.
     (by_character old.bytes.now old.state lines (drop old.state.place old.bytes.now) read (left old stop has) given.first (goes old stop has) has.scans.scalars (all_spell old stop has) has.scans.stops.0
     c (encode_utf8_all more ++ tail old stop has) scalar spell has.scans.stops.3 has.scans.stops.4 line_fault is_line_fault at.keeps.fault w (fault_in old stop has new line_fault.kind line_fault.place error at w)).lexed)
-
--- nothing follows the characters that the scan took
-all_taken : (cs : List ℕ) (rest : List ℕ) → encode_utf8_all cs ≡ rest → rest ≡ [] → cs ≡ []
-all_taken cs rest is none = nil_from_length cs (omega (arith, length-le-encodes cs, ap length (is ∙ none)))
 
 -- a line whose last brackets are closed ends with no line end, if it has none
 end_len-none : (d : ℕ) (ps : List Piece) → EndsNoLine d ps → depth_through d ps ≡ 0 → end_len_of ps ≡ 0
@@ -489,7 +480,7 @@ module _ (old : Source) (has : HasScanned old stops.TextEnd) where
       let s = has.scans.stops.0.state in
       continues old stops.TextEnd has new 0 (pieces_at s) (last_line final empty full) gives
       (λ after is.
-      let none = all_taken after has.scans.rest is has.scans.stops.1 in (
+      let none = encodes_same after [] (is ∙ has.scans.stops.1) in (
         subst (AreReadBefore (pieces_at s)) (sym none) (end_sound (first_mode old.state.place) has.scans.read s (stack_of old.state.scan.brackets) way_sound final).fit,
         IsEnded.by_text (λ i. none i ++ drop_all (length old.characters.now) old.bytes.now full i),
       ))

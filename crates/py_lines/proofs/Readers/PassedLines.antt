@@ -44,17 +44,14 @@ use Rattle.py_lines.proofs.Feeds.Released.{released}
 use Rattle.py_lines.proofs.Lexings.FirstLines.{given_begin}
 
 -- a character at which the machine begins a line is no mark, so it begins the text's first line as well
-start_steps : (read : List ℕ) (s : Scanned) → 0 < length read → scan_steps (Some (line_start modes.Free)) read ≡ Some s → scan_steps (Some (line_start modes.Start)) read ≡ Some s
+first_steps : (place : ℕ) (read : List ℕ) (s : Scanned) → 0 < length read → scan_steps (Some (line_start modes.Free)) read ≡ Some s → scan_steps (Some (line_start (first_mode place))) read ≡ Some s
 unfolding meet_of move_of
-start_steps [] s some steps = absurd (omega (arith, some))
-start_steps (c ∷ cs) s some steps =
+first_steps (suc n) read s some steps = steps
+first_steps zero [] s some steps = absurd (omega (arith, some))
+first_steps zero (c ∷ cs) s some steps =
     cond_both (is_mark c) moves.Closes moves.Breaks (λ (v : Move). scan_steps (moved (line_start modes.Start) c v) cs ≡ Some s)
     (λ marks. let stuck : None ≡ Some s = ap (λ st. scan_steps (started [] c st) cs) (sym (start-mark c marks)) ∙ steps in absurd (cc))
     (λ other. steps)
-
-first_steps : (place : ℕ) (read : List ℕ) (s : Scanned) → 0 < length read → scan_steps (Some (line_start modes.Free)) read ≡ Some s → scan_steps (Some (line_start (first_mode place))) read ≡ Some s
-first_steps zero read s some steps = start_steps read s some steps
-first_steps (suc n) read s some steps = steps
 
 pub whole_read : (place : ℕ) (read : List ℕ) (n : ℕ) (after : List ℕ) → 0 < length read → (line : IsWholeLine read n after) → IsReadLine (line_start (first_mode place)) read (line.body ++ line.last ∷ [])
 whole_read place read n after some line =
