@@ -7,7 +7,7 @@ use Rattle.py_lines.specs.LogicalLine.{LogicalLine}
 use Rattle.py_lines.specs.Reading.{Decodes, IsBalancedReading, EndsLine, IsReadPrefix}
 use Rattle.py_lines.specs.Faults.{IsLive, IsCharacterFault, IsLexicalFault, at_character, at_bytes}
 use Rattle.py_lines.specs.Lexed.{IsLexed}
-use Rattle.py_lines.specs.Settled.{StaysFaulty, Decides}
+use Rattle.py_lines.specs.Settled.{Decides}
 use Rattle.py_lines.specs.declared.fault.FaultKind.{FaultKind}
 use Rattle.py_lines.specs.declared.fault.FaultKind.TheVariants as faults
 use Rattle.py_lines.specs.declared.fault.Fault.{Fault}
@@ -74,29 +74,33 @@ by_character : (text more : List ℕ) (fault : Fault) (d : Decides text fault) �
 by_character text more fault d stays =
     let w = decoding (text ++ more) in
     let on = goes_on d.characters (d.tail ++ more) w.characters w.tail d.decodes.are w.decodes.are w.decodes.bad (sym (append_assoc (encode_utf8_all d.characters) d.tail more) ∙ ap (λ t. t ++ more) d.decodes.spell ∙ sym w.decodes.spell) in
-    let later = goes_on_faulty fault.kind d.characters on.rest fault.offset stays in
-    (record {
-      characters = d.characters ++ on.rest;
-      tail = w.tail;
-      decodes = subst (λ t. Decodes (text ++ more) t w.tail) on.split w.decodes;
-      refused = lexical (d.characters ++ on.rest) w.tail fault (at_character later) (line_on d.characters d.tail on.rest fault d.refused);
-      stays = inl later;
-    }, λ pieces prefix. prefix_on fault.kind d.characters on.rest fault.offset pieces stays prefix)
+    let later = goes_on_faulty fault.kind d.characters on.rest fault.offset stays in (
+      record {
+        characters = d.characters ++ on.rest;
+        tail = w.tail;
+        decodes = subst (λ t. Decodes (text ++ more) t w.tail) on.split w.decodes;
+        refused = lexical (d.characters ++ on.rest) w.tail fault (at_character later) (line_on d.characters d.tail on.rest fault d.refused);
+        stays = inl later;
+      },
+      λ pieces prefix. prefix_on fault.kind d.characters on.rest fault.offset pieces stays prefix,
+    )
 
 by_bytes : (text more : List ℕ) (fault : Fault) (d : Decides text fault) → fault.kind ≡ faults.BadUtf8 → ((after : List ℕ) → StartsWithNoChar (d.tail ++ after)) → GoesOn text more fault d.characters
 by_bytes text more fault d is hopeless =
-    let at = undecodable fault.kind d.characters d.tail fault.offset is d.refused.place in
-    (record {
-      characters = d.characters;
-      tail = d.tail ++ more;
-      decodes = record { are = d.decodes.are; spell = sym (append_assoc (encode_utf8_all d.characters) d.tail more) ∙ ap (λ t. t ++ more) d.decodes.spell; bad = hopeless more };
-      refused = record {
-        unread = λ nothing. absurd (at.bad (none_both d.tail more nothing).0);
-        place = at_bytes (record { is = is; bad = λ nothing. at.bad (none_both d.tail more nothing).0; live = at.live; place = at.place });
-        line = d.refused.line;
-      };
-      stays = inr (is, λ after. subst StartsWithNoChar (sym (append_assoc d.tail more after)) (hopeless (more ++ after)));
-    }, λ pieces prefix. prefix)
+    let at = undecodable fault.kind d.characters d.tail fault.offset is d.refused.place in (
+      record {
+        characters = d.characters;
+        tail = d.tail ++ more;
+        decodes = record { are = d.decodes.are; spell = sym (append_assoc (encode_utf8_all d.characters) d.tail more) ∙ ap (λ t. t ++ more) d.decodes.spell; bad = hopeless more };
+        refused = record {
+          unread = λ nothing. absurd (at.bad (none_both d.tail more nothing).0);
+          place = at_bytes (record { is = is; bad = λ nothing. at.bad (none_both d.tail more nothing).0; live = at.live; place = at.place });
+          line = d.refused.line;
+        };
+        stays = inr (is, λ after. subst StartsWithNoChar (sym (append_assoc d.tail more after)) (hopeless (more ++ after)));
+      },
+      λ pieces prefix. prefix,
+    )
 
 continued : (text more : List ℕ) (fault : Fault) (d : Decides text fault) → GoesOn text more fault d.characters
 continued text more fault d = ⊎_elim (by_character text more fault d) (λ stays. by_bytes text more fault d stays.0 stays.1) d.stays

@@ -239,6 +239,7 @@ pub class_is : {bytes : List ℕ} {p : Piece} {j k : ByteClass} → BeginWithPie
     → OfByte k p.class
 class_is {bytes = bytes} {p = p} {j = j} b so is = subst (λ (i : ByteClass). OfByte i p.class) is (class_told bytes p j b so)
 
+-- bytes begin with one of their first byte's class
 first_passes : (passes : ℕ → Bool) (bytes : List ℕ) → 0 < length bytes → passes (slice_index bytes 0) ≡ true → begins passes bytes ≡ true
 first_passes passes [] some h = absurd (omega (arith, some))
 first_passes passes (b ∷ bs) some h = h

@@ -27,6 +27,7 @@ use Rattle.py_lines.proofs.Text.CharacterTests.{Each, feed_is, operator_ascii, n
 use Rattle.py_lines.proofs.Text.Utf8Shapes.{one}
 use Rattle.py_lines.proofs.LineTokens.Spellings.{high_bytes, fielded_spelling, prefix_encoded}
 use Rattle.py_lines.proofs.Lexings.LineEnds.{line_text}
+use Rattle.py_lines.proofs.FieldScans.TextLengths.{rest_is, rest_of}
 use Rattle.py_lines.proofs.LogicalLines.NextLine.{begins-prefix}
 use Rattle.py_lines.proofs.LineScan.Runs.{all_no_break, break_low, line_ends-run, space_low, quote_ascii}
 use Rattle.py_lines.proofs.LineScan.AsciiRuns.{word_byte_continues, word_byte_starts, operator-no_break}
@@ -200,7 +201,7 @@ module _ {bytes : List ℕ} {p : Piece} (b : BeginWithPiece bytes p) where
   comment_ends (c ∷ cs) after (inl none) = absurd (cc)
   comment_ends (c ∷ cs) after (inr breaks) = ap not breaks
 
-  pub comment_taken : (n : ℕ) → p.class ≡ comment → IsRunOf is_comment_byte (drop 1 bytes) n
+  pub comment_taken : (n : ℕ) → p.class ≡ comment → IsRunOf is_comment_byte (rest_of bytes 1) n
       → IsTakenFor p (token_piece kind.Remark (1 + n))
   unfolding is_break
   comment_taken n is run =
@@ -212,7 +213,7 @@ module _ {bytes : List ℕ} {p : Piece} (b : BeginWithPiece bytes p) where
       let bytes_are = after_first 35 body text (omega arith) in
       let len : n ≡ byte_len body
       = encoded_length is_comment_byte body rest n comment_even
-      (subst (λ (t : List ℕ). IsRunOf is_comment_byte (drop 1 t) n) bytes_are run) all
+      (subst (λ (t : List ℕ). IsRunOf is_comment_byte t n) (rest_is bytes 1 ∙ ap (drop 1) bytes_are) run) all
       (comment_ends rest b.text.after (precedes comment is)) in
       taken comment _ is refl (longer 35 body n text (omega arith) len)
       (unbroken p.text (ap (list_all is_comment_byte) text ∙ and_from (is_comment_byte 35) (list_all is_comment_byte body) refl all))
@@ -222,7 +223,7 @@ module _ {bytes : List ℕ} {p : Piece} (b : BeginWithPiece bytes p) where
       let e = one_end p.text rest b.text.after (in_class line_end is) (precedes line_end is) in
       taken line_end _ is refl (ap line_end_len (spelled_bytes bytes p b) ∙ e.0) (sym e.1)
 
-  pub join_taken : p.class ≡ join → IsTakenFor p (record { role = roles.Join; len = 1 + line_end_len (drop 1 bytes); line_ends = 1 })
+  pub join_taken : p.class ≡ join → IsTakenFor p (record { role = roles.Join; len = 1 + line_end_len (rest_of bytes 1); line_ends = 1 })
   unfolding is_line_feed is_return
   join_taken is =
       let shape = in_class join is in
@@ -234,15 +235,12 @@ module _ {bytes : List ℕ} {p : Piece} (b : BeginWithPiece bytes p) where
       ∙ precedes join is in
       let e = one_end end rest b.text.after shape.4 uncut in
       taken join _ is refl
-      (longer 92 end _ text (omega arith) (ap (λ t. line_end_len (drop 1 t)) (after_first 92 end text (omega arith)) ∙ e.0))
+      (longer 92 end _ text (omega arith) (ap line_end_len (rest_is bytes 1 ∙ ap (drop 1) (after_first 92 end text (omega arith))) ∙ e.0))
       (sym (ap line_ends text ∙ zero-add (line_ends end) ∙ e.1))
 
 -- the characters of a word are bytes of words, or not ASCII
 wide_even : IsEvenAbove is_wide_word
-wide_even c b one two = wide c one ∙ sym (wide b two)
-  where
-    wide : (d : ℕ) → 128 ≤ d → is_wide_word d ≡ true
-    wide d high = grind (arith, nat_tests)
+wide_even c b one two = grind (arith, nat_tests)
 
 by_range : (c : ℕ) → (c < 128 → is_ascii_word c ≡ true) → is_wide_word c ≡ true
 by_range c low = ⊎_elim (λ less. rw (low less) refl) (λ (more : 128 ≤ c). grind (arith, nat_tests)) (cases_lt c 128)
@@ -272,6 +270,7 @@ first_byte passes (b ∷ bs) h = h
 cut_at : (bytes xs ys : List ℕ) (n : ℕ) → bytes ≡ xs ++ ys → n ≡ length xs → (take n bytes ≡ xs) × (drop n bytes ≡ ys)
 cut_at bytes xs ys n is size = rw (is, size) (take-append_seam xs ys, drop-append_seam xs ys)
 
+-- a word whose spelling begins a string is a prefix
 pub prefix_word : (word : List ℕ) → begins_string (word_spelling word) ≡ true → is_prefix_word word ≡ true
 prefix_word [] begun = refl
 prefix_word (c ∷ cs) begun = begun
@@ -284,10 +283,8 @@ prefix_told prefix c cs is = prefix_encoded prefix ∙ rw is (sym (fielded_spell
 digit_told : (b c : ℕ) → (b < 128 → c ≡ b) → (128 ≤ b → 128 ≤ c) → is_ascii_digit b ≡ is_digit c
 unfolding is_digit
 digit_told b c low high =
-    ⊎_elim (λ less. ap (λ d. nat_le 48 d && nat_le d 57) (sym (low less))) (λ more. go (high more) more) (cases_lt b 128)
-  where
-    go : 128 ≤ c → 128 ≤ b → is_ascii_digit b ≡ (nat_le 48 c && nat_le c 57)
-    go one two = grind (arith, nat_tests)
+    ⊎_elim (λ less. ap (λ d. nat_le 48 d && nat_le d 57) (sym (low less)))
+    (λ (more : 128 ≤ b). let above : 128 ≤ c = high more in grind (arith, nat_tests)) (cases_lt b 128)
 
 module _ {bytes : List ℕ} {p : Piece} (b : BeginWithPiece bytes p) where
   pub word_or_string : begins is_wide_word bytes ≡ true → (p.class ≡ word) ⊎ (p.class ≡ string)

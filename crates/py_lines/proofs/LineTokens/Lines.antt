@@ -1,5 +1,5 @@
 -- How a line begins, with its mark and its indentation, and how its pieces are read one after another.
-use Rattle.std.proofs.Common.{◌≡◌, ℕ, ◌+◌, ◌<◌, ◌≤◌, Bool, true, false, cond, ◌||◌, List, [], ◌∷◌, ◌++◌, length, drop, refl, sym, ap, ◌∙◌, subst, append_assoc, append-nil, arith, length-append, length-drop, zero, suc, ◌⊎◌, inl, inr, ⊎_elim, zero-add, add-zero}
+use Rattle.std.proofs.Common.{◌≡◌, ℕ, ◌+◌, ◌<◌, ◌≤◌, Bool, true, false, cond, ◌||◌, List, [], ◌∷◌, ◌++◌, length, drop, refl, sym, ap, ◌∙◌, subst, append_assoc, append-nil, arith, length-drop, zero, suc, ◌⊎◌, inl, inr, ⊎_elim, zero-add, add-zero}
 use Rattle.std.specs.Prelude.{encode_utf8_all, if◌then◌else◌, nat_eq}
 use Rattle.std.specs.List.{list_any, starts_with}
 use Rattle.std.proofs.Math.Bool.{or-false, or_assoc}
@@ -133,8 +133,15 @@ pub whole_read : {text : List ℕ} {pieces : List Piece} {first start line : ℕ
     → HaveReadOf text pieces left first start line t → length text ≤ start → AreTokensOf pieces first t
 whole_read [] h end = record { kind = sym h.kind; indent = h.indent; tokens = sym (h.tokens ∙ append-nil _) }
 whole_read {text = text} {start = start} (p ∷ qs) h end =
-    absurd (omega (arith, end, ap length h.are.spell, length-drop start text, byte_len-append p.text (spelled qs),
-    piece_some p.class p.text h.are.fit.0, length-le-encodes p.text))
+    absurd (omega (
+      arith,
+      end,
+      ap length h.are.spell,
+      length-drop start text,
+      byte_len-append p.text (spelled qs),
+      piece_some p.class p.text h.are.fit.0,
+      length-le-encodes p.text,
+    ))
 
 -- the mark in UTF-8
 abbrev mark_bytes : List ℕ
@@ -181,9 +188,14 @@ abbrev first_space : List Piece → ℕ
 first_space [] = 0
 first_space (p ∷ ps) = space_len p.class p.text
 
-space_read : (bytes : List ℕ) (p : Piece) (n : ℕ) → BeginWithPiece bytes p → IsRunOf is_space bytes n → n ≡ space_len p.class p.text
-space_read bytes p n b run = go p.class refl
+first_read : (bytes : List ℕ) (depth : ℕ) (ps : List Piece) (n : ℕ) → AreTextAt depth bytes ps → begins_marked ps ≡ false
+    → IsRunOf is_space bytes n → n ≡ first_space ps
+first_read bytes depth [] n is unmarked run = omega (arith, run.within, ap length is.spell)
+first_read bytes depth (p ∷ ps) n is unmarked run = go p.class refl
   where
+    b : BeginWithPiece bytes p
+    b = record { unmarked = unmarked; others = ps; depth = depth; text = is }
+
     none : (k : ℕ) → IsRunOf is_space bytes k → (p.class ≡ space → ⊥) → k ≡ 0
     none zero r other = refl
     none (suc k) r other = absurd (other (class_told bytes p class.Space b (r.each 0 (omega arith))))
@@ -191,20 +203,9 @@ space_read bytes p n b run = go p.class refl
     go : (kind : Class) → p.class ≡ kind → n ≡ space_len kind p.text
     go space is =
         run_taken b is_space n (low_even is_space space_low) run (in_class b space is).3
-        (begins-prefix is_space (spelled b.others) b.text.after (precedes b space is))
+        (begins-prefix is_space (spelled ps) b.text.after (precedes b space is))
     go mark is = none n run (λ spaces. absurd (cc))
     go other is = none n run (λ spaces. absurd (cc))
-
-first_read : (bytes : List ℕ) (depth : ℕ) (ps : List Piece) (n : ℕ) → AreTextAt depth bytes ps → begins_marked ps ≡ false
-    → IsRunOf is_space bytes n → n ≡ first_space ps
-first_read bytes depth [] n is unmarked run = omega (arith, run.within, ap length is.spell)
-first_read bytes depth (p ∷ ps) n is unmarked run =
-    space_read bytes p n (record {
-      unmarked = unmarked;
-      others = ps;
-      depth = depth;
-      text = is;
-    }) run
 
 unmarked_indent : (ps : List Piece) → begins_marked ps ≡ false → indent_of ps ≡ first_space ps
 unmarked_indent [] unmarked = refl
@@ -221,11 +222,11 @@ is_mark_or space = inr refl
 is_mark_or _ = inr refl
 
 -- a line has begun
-module _ (text : List ℕ) (n first : ℕ) (t : LineTokens) (run : IsRunOf is_space (drop (mark_len text) text) n)
+module _ (text : List ℕ) (start n first : ℕ) (t : LineTokens) (begins : start ≡ mark_len text) (run : IsRunOf is_space (rest_of text start) n)
     (blank : t.kind ≡ unit_kind.Blank) (indent : t.indent ≡ n) (none : t.tokens.items ≡ []) where
-  begun_before : (pieces left : List Piece) (depth : ℕ) → AreTextAt depth (drop (mark_len text) text) left → begins_marked left ≡ false
-      → kind_of pieces ≡ kind_of left → tokens_from 0 first pieces ≡ tokens_from (mark_len text) first left → indent_of pieces ≡ first_space left
-      → (others : List Piece) × HaveReadOf text pieces others first (mark_len text) first t
+  begun_before : (pieces left : List Piece) (depth : ℕ) → AreTextAt depth (drop start text) left → begins_marked left ≡ false
+      → kind_of pieces ≡ kind_of left → tokens_from 0 first pieces ≡ tokens_from start first left → indent_of pieces ≡ first_space left
+      → (others : List Piece) × HaveReadOf text pieces others first start first t
   begun_before pieces left depth are unmarked kind tokens indent_is = (
     left,
     record {
@@ -234,27 +235,27 @@ module _ (text : List ℕ) (n first : ℕ) (t : LineTokens) (run : IsRunOf is_sp
       are = are;
       number = omega arith;
       kind = kind ∙ kinds_on false false left ∙ ap (λ k. kind_on k left) (sym blank);
-      indent = indent ∙ first_read _ depth left n are unmarked run ∙ sym indent_is;
-      tokens = tokens ∙ ap (λ l. l ++ tokens_from (mark_len text) first left) (sym none);
+      indent = indent ∙ first_read _ depth left n are unmarked (subst (λ l. IsRunOf is_space l n) (rest_is text start) run) ∙ sym indent_is;
+      tokens = tokens ∙ ap (λ l. l ++ tokens_from start first left) (sym none);
     },
   )
 
   begun_marked : (p : Piece) (ps : List Piece) → AreLineText text (p ∷ ps) → p.class ≡ mark
-      → (left : List Piece) × HaveReadOf text (p ∷ ps) left first (mark_len text) first t
+      → (left : List Piece) × HaveReadOf text (p ∷ ps) left first start first t
   begun_marked p ps is class_is =
       let (len, counted) = has_mark text p ps is class_is in
-      let place = sym len in
+      let place = sym (begins ∙ len) in
       begun_before (p ∷ ps) ps (depth_after 0 p) (subst (λ k. AreTextAt (depth_after 0 p) (drop k text) ps) place (text_after 0 text p ps is)) is.fit.2
       (ap (λ (k : Class). kind_of (record { class = k; text = p.text } ∷ ps)) class_is)
       (ap (λ (k : Class). tokens_from 0 first (record { class = k; text = p.text } ∷ ps)) class_is ∙ rw (zero-add (byte_len p.text), place, counted, add-zero first))
       (marked_indent p ps class_is)
 
   begun_unmarked : (ps : List Piece) → AreLineText text ps → begins_marked ps ≡ false
-      → (left : List Piece) × HaveReadOf text ps left first (mark_len text) first t
+      → (left : List Piece) × HaveReadOf text ps left first start first t
   begun_unmarked ps is unmarked =
-      let place = sym (no_mark text ps is unmarked) in
+      let place = sym (begins ∙ no_mark text ps is unmarked) in
       begun_before ps ps 0 (subst (λ k. AreTextAt 0 (drop k text) ps) place is) unmarked refl (ap (λ k. tokens_from k first ps) place) (unmarked_indent ps unmarked)
 
-  pub begun : HaveRead text first (mark_len text) first t
+  pub begun : HaveRead text first start first t
   begun [] is = begun_unmarked [] is refl
   begun (p ∷ ps) is = ⊎_elim (begun_marked p ps is) (begun_unmarked (p ∷ ps) is) (is_mark_or p.class)

@@ -1,9 +1,9 @@
 -- The spelling of a word, also as its bytes have it, says whether the word is the prefix of a string.
-use Rattle.std.proofs.Common.{◌≡◌, ℕ, ◌≤◌, true, false, Bool, ◌||◌, ◌&&◌, List, [], ◌∷◌, ◌++◌, refl, sym, ap, ◌∙◌, arith, ⊎_elim}
+use Rattle.std.proofs.Common.{◌≡◌, ℕ, ◌≤◌, true, false, Bool, ◌||◌, List, [], ◌∷◌, refl, sym, ap, ◌∙◌, arith, ⊎_elim}
 use Rattle.std.specs.Prelude.{codes, encode_utf8, encode_utf8_all, nat_le}
 use Rattle.std.specs.List.{list_all, list_any}
 use Rattle.std.proofs.Math.Bool.{and-false, or-false}
-use Rattle.std.proofs.lemmas.Bool.{and_from, and_parts, or_right, both_ways, cases_lt, cases_Bool, leb-false, lt-ltb, false_from_ne_true}
+use Rattle.std.proofs.lemmas.Bool.{and_from, or_right, both_ways, cases_lt, cases_Bool, leb-false, lt-ltb, false_from_ne_true}
 use Rattle.std.proofs.lemmas.Str.{encodes_same}
 use Rattle.py_lines.specs.Character.{is_one_of, is_r, is_b, is_f, is_t, is_u}
 use Rattle.py_lines.specs.PieceGrammar.{is_prefix}
@@ -15,7 +15,7 @@ use Rattle.py_lines.specs.Private.Machine.{first_spelling, spelling_on}
 use Rattle.py_lines.specs.Private.ScanMachine.{begins_string, is_field_spelling}
 use Rattle.py_lines.specs.Private.Run.{word_spelling}
 use Rattle.py_lines.proofs.Text.CharacterTests.{Each, none_of}
-use Rattle.py_lines.proofs.Text.Utf8Shapes.{one, two, three, four}
+use Rattle.py_lines.proofs.Text.Utf8Shapes.{two, three, four}
 use Rattle.py_lines.proofs.LineScan.AsciiRuns.{is_low, low_encodes, low_is}
 use Rattle.py_lines.proofs.Machine.Spellings.{prefix_spelling, name_stays, number_stays, other_begins, word_tells}
 

@@ -4,12 +4,12 @@ use Rattle.std.specs.Prelude.{encode_utf8_all, if◌then◌else◌}
 use Rattle.std.specs.Str.{all_scalars, StartsWithNoChar}
 use Rattle.std.specs.Char.{len_utf8}
 use Rattle.std.specs.List.{list_all}
-use Rattle.std.proofs.lemmas.Bool.{both_ways, and_right, cases_Bool, cond_both, and_parts, lt-ltb, cases_lt}
+use Rattle.std.proofs.lemmas.Bool.{both_ways, and_right, cases_Bool, cond_both, lt-ltb, cases_lt}
 use Rattle.std.proofs.lemmas.List.{append_cancel_left, length-take-le, take-append-drop, drop_all}
 use Rattle.std.proofs.lemmas.Str.{cons_from_encodes, encodes_same, length-le-encodes, encodes-append}
 use Rattle.py_lines.specs.Character.{is_line_feed, is_break, is_quote, is_word_character, is_word_start}
 use Rattle.py_lines.specs.Piece.{Class, operator, line_end, string, Piece, spelled, begins}
-use Rattle.py_lines.specs.Fields.{AreReadBefore, InClass, ShallowFields, fielded}
+use Rattle.py_lines.specs.Fields.{AreReadBefore, InClass, ShallowFields}
 use Rattle.py_lines.specs.LogicalLine.{byte_len, line_ends}
 use Rattle.py_lines.specs.declared.mode.Mode.{Mode}
 use Rattle.py_lines.specs.declared.mode.Mode.TheVariants as modes
@@ -25,7 +25,7 @@ use Rattle.py_lines.specs.declared.plain_strings.Passed.{Passed}
 use Rattle.py_lines.specs.declared.token.TokKind.TheVariants as kind
 use Rattle.py_lines.specs.Private.FieldMachine.{FieldMove, closes, FieldScanned, Level, field_move, field_step}
 use Rattle.py_lines.specs.Private.Machine.{Scanned, fresh, text_start, class_of, closed, started, moved, move_of, start_of, Bracket, brackets_of, first_spelling, spelling_on}
-use Rattle.py_lines.specs.Private.ScanMachine.{HoldsOpen, IsScanSound, StringsFit, fielded_move, has_room_in, meet_of, move_at, move_in, scan_step, scan_steps, string_move, string_state, begins_string as opens_string, is_field_spelling}
+use Rattle.py_lines.specs.Private.ScanMachine.{IsScanSound, StringsFit, fielded_move, has_room_in, meet_of, move_at, move_in, scan_step, scan_steps, string_move, string_state, begins_string as opens_string, is_field_spelling}
 use Rattle.py_lines.specs.Private.Scan.{Tallies, IsStacked, Takes, TakesNext, is_return_mode, none_open, stack_if, stack_of, line_start}
 use Rattle.py_lines.specs.Private.Run.{BeginsWith, HoldsRun, Reached, is_free, word_spelling}
 use Rattle.py_lines.specs.Private.LineTokens.{AreTextAt, BeginWithPiece, IsFirstString, is_prefix_word, role_of, string_piece, token_piece}
@@ -38,6 +38,7 @@ use Rattle.py_lines.proofs.Pieces.PieceLists.{piece, AreReadBefore-first}
 use Rattle.py_lines.proofs.Pieces.OpenBrackets.{stack_before}
 use Rattle.py_lines.proofs.Fields.Nesting.{string_map}
 use Rattle.py_lines.proofs.Machine.EarlierPieces.{GrowsIf, closed_grows, started_grows, run_grows}
+use Rattle.py_lines.proofs.Machine.FinishedPieces.{closed_grows, started_grows}
 use Rattle.py_lines.proofs.Machine.LiveTexts.{keeps}
 use Rattle.py_lines.proofs.Machine.PieceSteps.{pieces_at, steps_by-append, scanned, word_by}
 use Rattle.py_lines.proofs.ScanMachine.Advance.{steps_push}
@@ -80,11 +81,9 @@ from_line : (text : List ℕ) (to : Scanned) → InClass string text → scan_st
 unfolding meet_of move_of
 from_line text to fit steps =
     let b = begins_so string text refl fit in
-    let c = b.first in
-    let cs = b.others in
-    ap (scan_steps (Some (line_start modes.Free))) b.is ∙ begun (line_start modes.Free) c cs cs (start_of c) (stops-free (c ∷ cs)) refl
-    ∙ sym (begun text_start c cs cs (start_of c) (rw (unmarked_first b)) refl) ∙ ap (scan_steps (Some text_start)) (sym b.is)
-    ∙ steps
+    let breaks : meet_of modes.Start b.first ≡ moves.Breaks = rw (unmarked_first b) in
+    ap (scan_steps (Some (line_start modes.Free))) b.is ∙ sym (ap (λ (v : Move). scan_steps (moved text_start b.first v) b.others) breaks)
+    ∙ ap (scan_steps (Some text_start)) (sym b.is) ∙ steps
 
 -- the bytes begin with this string: the machine passes it, finds that piece alone, and may stop before the rest
 pub record BeginsString (bytes text : List ℕ) : Type 0 where
@@ -441,11 +440,8 @@ module _ (c : ℕ) (cs : List ℕ) (begins : opens_string (spelling_on (first_sp
   abbrev spelling : Spelling
   spelling = spelling_on (first_spelling c) cs
 
-  is_prefix : fielded.is_prefix prefix ≡ true
-  is_prefix = fielded_spelling c cs ∙ begins
-
   word : (is_word_start c ≡ true) × (list_all is_word_character cs ≡ true)
-  word = as_word c cs is_prefix
+  word = as_word c cs (fielded_spelling c cs ∙ begins)
 
   over_prefix : scan_steps (Some (line_start modes.Free)) prefix ≡ Some (scanned [] (modes.Word spelling) prefix)
   over_prefix =
@@ -526,16 +522,18 @@ string_taken {begins} bytes n p within some low has begun q string_is first =
 
 -- one without fields
 pub plain_taken : (bytes : List ℕ) (n : ℕ) (p : Passed) → begins is_quote (drop n bytes) ≡ true → is_prefix_word (take n bytes) ≡ true
-    → is_field_spelling (word_spelling (take n bytes)) ≡ false → 2 < p.len → HasString (drop n bytes) (Some p)
+    → is_field_spelling (word_spelling (take n bytes)) ≡ false → 2 < p.len → HasString (rest_of bytes n) (Some p)
     → IsFirstString bytes (string_piece (n + p.len) p.line_ends)
 plain_taken bytes n p quotes is plain some has =
-    string_taken bytes n p (quote_within bytes n quotes) some (word_low (take n bytes) is) has
+    string_taken bytes n p (quote_within bytes n quotes) some (word_low (take n bytes) is)
+    (subst (λ t. HasString t (Some p)) (rest_is bytes n) has)
     (begins_after (slice_index (drop n bytes) 0) (take n bytes) (first_byte is_quote (drop n bytes) quotes) is plain)
 
 -- one with fields
 pub fields_taken : (bytes : List ℕ) (n len : ℕ) → begins is_quote (drop n bytes) ≡ true → is_prefix_word (take n bytes) ≡ true
-    → is_field_spelling (word_spelling (take n bytes)) ≡ true → IsQuotedText (drop n bytes) len → IsFirstString bytes (token_piece kind.Str (n + len))
-fields_taken bytes n len quotes is field has =
+    → is_field_spelling (word_spelling (take n bytes)) ≡ true → IsQuotedText (rest_of bytes n) len → IsFirstString bytes (token_piece kind.Str (n + len))
+fields_taken bytes n len quotes is field text =
+    let has = subst (λ t. IsQuotedText t len) (rest_is bytes n) text in
     string_taken bytes n (record { len = len; line_ends = 0 }) (quote_within bytes n quotes) (fields_some (drop n bytes) len has)
     (word_low (take n bytes) is) (fields_passed (drop n bytes) len (word_spelling (take n bytes)) field has) (omega arith, on (take n bytes) is field)
   where

@@ -209,7 +209,7 @@ passes_all (t ∷ texts) r read n after beyond no_fault split are =
 -- the lines that the code has found
 module _ (s : Source) (no_fault : s.state.fault ≡ None) (before : ℕ) (ordered : s.state.place < before) (within : before ≤ length s.characters.now)
     (p : Passed) (found : BeginWithLines (take (before - s.state.place) (drop s.state.place s.characters.now)) p) where
-  read : List ℕ
+  abbrev read : List ℕ
   read = found.read
 
   slice_size : length (take (before - s.state.place) (drop s.state.place s.characters.now)) ≡ before - s.state.place
@@ -218,31 +218,25 @@ module _ (s : Source) (no_fault : s.state.fault ≡ None) (before : ℕ) (ordere
   pub room : s.state.place + p.len ≤ before
   room = omega (arith, found.within, slice_size, ordered)
 
-  after : List ℕ
+  abbrev after : List ℕ
   after = drop p.len (take (before - s.state.place) (drop s.state.place s.characters.now))
 
-  are : AreWholeLines found.texts read p.line_ends after
-  unfolding read after
-  are = found.whole
-
   spell : take p.len (drop s.state.place s.characters.now) ≡ encode_utf8_all read
-  unfolding read
   spell = sym (found.spell ∙ take_slice (drop s.state.place s.characters.now) p.len (before - s.state.place) found.within)
 
   size : byte_len read ≡ p.len
   size = sym (ap length spell) ∙ length-take-le p.len (drop s.state.place s.characters.now) (omega (arith, room, within, ordered, length-drop s.state.place s.characters.now))
 
   pub few : p.line_ends ≤ p.len
-  few = omega (arith, lines_few found.texts read p.line_ends after are, size)
+  few = omega (arith, lines_few found.texts read p.line_ends after found.whole, size)
 
   pub boundary : IsCharBoundary s.characters.now (s.state.place + p.len)
-  boundary = whole_boundary s p.len (omega (arith, room, within)) (read, (lines_scalars found.texts read p.line_ends after are, sym spell))
+  boundary = whole_boundary s p.len (omega (arith, room, within)) (read, (lines_scalars found.texts read p.line_ends after found.whole, sym spell))
 
-  beyond : List ℕ
+  abbrev beyond : List ℕ
   beyond = drop (before - s.state.place) (drop s.state.place s.characters.now) ++ drop (length s.characters.now) s.bytes.now
 
   split : encode_utf8_all read ++ (after ++ beyond) ≡ drop s.state.place s.bytes.now
-  unfolding read after beyond
   split =
       let characters = drop s.state.place s.characters.now in
       let slice = take (before - s.state.place) characters in
@@ -257,9 +251,9 @@ module _ (s : Source) (no_fault : s.state.fault ≡ None) (before : ℕ) (ordere
 
   pub passes_up_to : PassesUpTo (reader_of s) before p.len (further (reader_of s) p.len p.line_ends)
   passes_up_to = record {
-    lines = lines_at found.texts s.state.place s.state.line read p.line_ends after are;
-    passes = subst (λ (k : ℕ). PassesLines (reader_of s) (lines_at found.texts s.state.place s.state.line read p.line_ends after are) (further (reader_of s) k p.line_ends)) size
-        (passes_all found.texts (reader_of s) read p.line_ends after beyond no_fault split are);
+    lines = lines_at found.texts s.state.place s.state.line read p.line_ends after found.whole;
+    passes = subst (λ (k : ℕ). PassesLines (reader_of s) (lines_at found.texts s.state.place s.state.line read p.line_ends after found.whole) (further (reader_of s) k p.line_ends)) size
+        (passes_all found.texts (reader_of s) read p.line_ends after beyond no_fault split found.whole);
     place = refl;
     within = λ some. room;
     same = λ none.

@@ -1,7 +1,5 @@
-use Rattle.std.proofs.Common.{ℕ, List, sym, ap, ◌∙◌, subst, ⊎_elim}
-use Rattle.py_lines.proofs.FieldScans.TextLengths.{rest_is}
-use Rattle.py_lines.specs.Private.Run.{IsRunOf, is_comment_byte}
-use Rattle.py_lines.specs.Private.LineTokens.{IsTakenFor, line_end_len}
+use Rattle.std.proofs.Common.{sym, subst, ⊎_elim}
+use Rattle.py_lines.specs.Private.LineTokens.{IsTakenFor}
 use Rattle.py_lines.proofs.LineTokens.FirstPieces.{comment_taken, join_taken, line_end_taken, operator_taken, space_taken}
 use Rattle.py_lines.proofs.LineTokens.FirstCharacters.{begins_class, class_is, wide_begins}
 use Rattle.py_lines.proofs.line_tokens.first_piece.Goals as goal
@@ -25,8 +23,8 @@ returns-in-Operator c = λ p b.
 
 pub returns-in-Hash : goal.returns-in-Hash
 returns-in-Hash c = λ p b.
-    let run = subst (λ (t : List ℕ). IsRunOf is_comment_byte t c.comment_run.result) (rest_is c.args.bytes.now 1) c.comment_run.ensures in
-    subst (IsTakenFor p) (sym c.token-in-Hash.ensures) (comment_taken b c.comment_run.result (class_is b c.of.ensures c.in-Hash.is) run)
+    subst (IsTakenFor p) (sym c.token-in-Hash.ensures)
+    (comment_taken b c.comment_run.result (class_is b c.of.ensures c.in-Hash.is) c.comment_run.ensures)
 
 pub returns-in-LineFeed : goal.returns-in-LineFeed
 returns-in-LineFeed c = λ p b.
@@ -34,8 +32,7 @@ returns-in-LineFeed c = λ p b.
     (line_end_taken b (⊎_elim (λ is. class_is b c.of.ensures is) (λ is. class_is b c.of.ensures is) c.in-LineFeed.is))
 
 pub returns-in-Backslash : goal.returns-in-Backslash
-returns-in-Backslash c = λ p b.
-    rw (c.whole_line_end.ensures ∙ ap line_end_len (rest_is c.args.bytes.now 1)) (join_taken b (class_is b c.of.ensures c.in-Backslash.is))
+returns-in-Backslash c = λ p b. rw c.whole_line_end.ensures (join_taken b (class_is b c.of.ensures c.in-Backslash.is))
 
 pub returns-in-Space : goal.returns-in-Space
 returns-in-Space c = λ p b. space_taken b c.space_len.result (class_is b c.of.ensures c.in-Space.is) c.space_len.ensures

@@ -1,8 +1,5 @@
-use Rattle.std.proofs.Common.{ℕ, List, Some, sym, ◌∙◌, subst}
-use Rattle.py_lines.specs.Private.FieldText.{IsQuotedText}
+use Rattle.std.proofs.Common.{sym, ◌∙◌, subst}
 use Rattle.py_lines.specs.Private.LineTokens.{IsFirstString}
-use Rattle.py_lines.specs.Private.Outline.{HasString}
-use Rattle.py_lines.proofs.FieldScans.TextLengths.{rest_is}
 use Rattle.py_lines.proofs.LineTokens.Strings.{fields_taken, plain_taken, quote_of_rest}
 use Rattle.py_lines.proofs.line_tokens.string.Goals as goal
 
@@ -14,15 +11,11 @@ plain_string-requires-clause-quote c = quote_of_rest c.args.bytes.now c.args.pre
 
 pub returns-in-Some : goal.returns-in-Some
 returns-in-Some c =
-    let bytes = c.args.bytes.now in
-    let text = subst (λ (t : List ℕ). IsQuotedText t c.in-Some.len) (rest_is bytes c.args.prefix) c.in-Some.ensures in
-    subst (IsFirstString bytes) (sym c.token.ensures)
-    (fields_taken bytes c.args.prefix c.in-Some.len c.requires.quote c.requires.prefix (sym c.requires.fields ∙ c.if-has_fields.true) text)
+    subst (IsFirstString c.args.bytes.now) (sym c.token.ensures)
+    (fields_taken c.args.bytes.now c.args.prefix c.in-Some.len c.requires.quote c.requires.prefix (sym c.requires.fields ∙ c.if-has_fields.true)
+    c.in-Some.ensures)
 
 pub returns-then-passed-gt2 : goal.returns-then-passed-gt2
 returns-then-passed-gt2 c =
-    let bytes = c.args.bytes.now in
-    let passed = c.in-Some-plain_string.passed in
-    let has = subst (λ (t : List ℕ). HasString t (Some passed)) (rest_is bytes c.args.prefix) c.in-Some-plain_string.ensures in
-    plain_taken bytes c.args.prefix passed c.requires.quote c.requires.prefix (sym c.requires.fields ∙ c.if-has_fields.false)
-    c.if-passed-gt2.true has
+    plain_taken c.args.bytes.now c.args.prefix c.in-Some-plain_string.passed c.requires.quote c.requires.prefix
+    (sym c.requires.fields ∙ c.if-has_fields.false) c.if-passed-gt2.true c.in-Some-plain_string.ensures

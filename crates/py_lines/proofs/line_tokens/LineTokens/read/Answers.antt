@@ -1,4 +1,4 @@
-use Rattle.std.proofs.Common.{ℕ, List, ◌+◌, ◌<◌, arith, rules}
+use Rattle.std.proofs.Common.{List, ◌+◌, ◌<◌, arith, rules}
 use Rattle.py_lines.specs.Piece.{Piece}
 use Rattle.py_lines.specs.Private.LineTokens.{AreLineText}
 use Rattle.py_lines.proofs.LineTokens.Lines.{IsTakenNext, has_next, whole_read}
