@@ -244,7 +244,8 @@ first_passes : (passes : ℕ → Bool) (bytes : List ℕ) → 0 < length bytes �
 first_passes passes [] some h = absurd (omega (arith, some))
 first_passes passes (b ∷ bs) some h = h
 
-pub begins_class : {bytes : List ℕ} {p : Piece} {j k : ByteClass} → BeginWithPiece bytes p → is_of_class j (slice_index bytes 0) ≡ true → j ≡ k
+pub begins_class : {bytes : List ℕ} {p : Piece} {j k : ByteClass} → BeginWithPiece bytes p → is_of_class j (slice_index bytes 0) ≡ true
+    → j ≡ k
     → begins (is_of_class k) bytes ≡ true
 begins_class {bytes = bytes} {p = p} {k = k} b so is =
     first_passes (is_of_class k) bytes (first_of bytes p b).some (ap (λ (i : ByteClass). is_of_class i (slice_index bytes 0)) (sym is) ∙ so)

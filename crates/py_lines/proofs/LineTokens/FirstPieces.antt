@@ -300,7 +300,8 @@ module _ {bytes : List ℕ} {p : Piece} (b : BeginWithPiece bytes p) where
       run_taken b is_wide_word n wide_even run (text_wide is)
       (word_ends b.others b.text.after b.text.fit.3 b.text.fit.2 (precedes b word is).0)
 
-  pub word_taken : (n : ℕ) (k : TokKind) → p.class ≡ word → IsRunOf is_wide_word bytes n → k ≡ word_kind (is_ascii_digit (slice_index bytes 0))
+  pub word_taken : (n : ℕ) (k : TokKind) → p.class ≡ word → IsRunOf is_wide_word bytes n
+      → k ≡ word_kind (is_ascii_digit (slice_index bytes 0))
       → IsTakenFor p (token_piece k n)
   word_taken n k is run told =
       let shape = in_class b word is in

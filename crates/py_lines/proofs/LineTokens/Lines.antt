@@ -60,7 +60,8 @@ kinds_on a b (p ∷ ps) =
     ∙ ap (λ k. kind_on k ps) (kinds a b p.class p.text)
 
 -- a piece's token is that of its part in the line
-own_token : (class : Class) (text : List ℕ) (start stop line : ℕ) → token_in (role_of class text) start stop line ≡ tokens_of_piece start stop line class text
+own_token : (class : Class) (text : List ℕ) (start stop line : ℕ)
+    → token_in (role_of class text) start stop line ≡ tokens_of_piece start stop line class text
 own_token mark text start stop line = refl
 own_token class text start stop line = refl
 
@@ -222,7 +223,8 @@ is_mark_or space = inr refl
 is_mark_or _ = inr refl
 
 -- a line has begun
-module _ (text : List ℕ) (start n first : ℕ) (t : LineTokens) (begins : start ≡ mark_len text) (run : IsRunOf is_space (rest_of text start) n)
+module _ (text : List ℕ) (start n first : ℕ) (t : LineTokens) (begins : start ≡ mark_len text)
+    (run : IsRunOf is_space (rest_of text start) n)
     (blank : t.kind ≡ unit_kind.Blank) (indent : t.indent ≡ n) (none : t.tokens.items ≡ []) where
   begun_before : (pieces left : List Piece) (depth : ℕ) → AreTextAt depth (drop start text) left → begins_marked left ≡ false
       → kind_of pieces ≡ kind_of left → tokens_from 0 first pieces ≡ tokens_from start first left → indent_of pieces ≡ first_space left
@@ -245,16 +247,19 @@ module _ (text : List ℕ) (start n first : ℕ) (t : LineTokens) (begins : star
   begun_marked p ps is class_is =
       let (len, counted) = has_mark text p ps is class_is in
       let place = sym (begins ∙ len) in
-      begun_before (p ∷ ps) ps (depth_after 0 p) (subst (λ k. AreTextAt (depth_after 0 p) (drop k text) ps) place (text_after 0 text p ps is)) is.fit.2
+      begun_before (p ∷ ps) ps (depth_after 0 p)
+      (subst (λ k. AreTextAt (depth_after 0 p) (drop k text) ps) place (text_after 0 text p ps is)) is.fit.2
       (ap (λ (k : Class). kind_of (record { class = k; text = p.text } ∷ ps)) class_is)
-      (ap (λ (k : Class). tokens_from 0 first (record { class = k; text = p.text } ∷ ps)) class_is ∙ rw (zero-add (byte_len p.text), place, counted, add-zero first))
+      (ap (λ (k : Class). tokens_from 0 first (record { class = k; text = p.text } ∷ ps)) class_is
+      ∙ rw (zero-add (byte_len p.text), place, counted, add-zero first))
       (marked_indent p ps class_is)
 
   begun_unmarked : (ps : List Piece) → AreLineText text ps → begins_marked ps ≡ false
       → (left : List Piece) × HaveReadOf text ps left first start first t
   begun_unmarked ps is unmarked =
       let place = sym (begins ∙ no_mark text ps is unmarked) in
-      begun_before ps ps 0 (subst (λ k. AreTextAt 0 (drop k text) ps) place is) unmarked refl (ap (λ k. tokens_from k first ps) place) (unmarked_indent ps unmarked)
+      begun_before ps ps 0 (subst (λ k. AreTextAt 0 (drop k text) ps) place is) unmarked refl
+      (ap (λ k. tokens_from k first ps) place) (unmarked_indent ps unmarked)
 
   pub begun : HaveRead text first start first t
   begun [] is = begun_unmarked [] is refl

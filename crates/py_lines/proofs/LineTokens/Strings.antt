@@ -102,7 +102,8 @@ begins_string bytes p is begin =
     let at = subst (λ (k : Class). AreTextAt begin.depth bytes (piece k p.text ∷ begin.others)) is begin.text in
     let one : List Piece = piece string p.text ∷ [] in
     let less = fields_less 0 begin.depth (omega arith) in
-    let room : StringsFit 0 one = ((λ here. string_map (ShallowFields begin.depth) (ShallowFields 0) less p.text (at.strings.0 here)), tt) in
+    let room : StringsFit 0 one
+    = ((λ here. string_map (ShallowFields begin.depth) (ShallowFields 0) less p.text (at.strings.0 here)), tt) in
     let fit = AreReadBefore-first one begin.others at.after at.fit in
     let reached = reach one [] (spelled begin.others ++ at.after) fit (keeps [] (piece string p.text) [] refl refl refl) room in
     record {
@@ -154,10 +155,12 @@ module _ {bytes text : List ℕ} (b : BeginsString bytes text) where
           let on = sym (begun b.to d w (more ++ b.after) (start_of d) stops refl) ∙ then_on text (d ∷ w) b.to b.steps
           ∙ ap (scan_steps (Some (line_start modes.Free))) (sym is) ∙ steps in
           let one : List Piece = piece string text ∷ [] in
-          inr (kept_on one (started (pieces_at b.to) d (start_of d)) w s (started_grows (pieces_at b.to) one [] d (start_of d) b.pieces_are) on)
+          inr (kept_on one (started (pieces_at b.to) d (start_of d)) w s
+          (started_grows (pieces_at b.to) one [] d (start_of d) b.pieces_are) on)
 
   -- where it has found one piece, and may stop, that is the string
-  pub whole_read : (read y : List ℕ) (s : Scanned) {st : List Bracket} → text ++ b.more ≡ read ++ y → ComesTo read s → brackets_of s.done ≡ Some st
+  pub whole_read : (read y : List ℕ) (s : Scanned) {st : List Bracket} → text ++ b.more ≡ read ++ y → ComesTo read s
+      → brackets_of s.done ≡ Some st
       → length (pieces_at s) ≤ 1 → 0 < byte_len read → MayStop s.mode y → read ≡ text
   whole_read read y s at steps stack few some stops = sym spell ∙ by (has_come read y s at steps)
     where
@@ -240,7 +243,8 @@ breaks_out modes.Fielded depth held c breaks = absurd (fielded (string_state hel
         (λ room. by t.outer (field_move t.mode t.held c) (field_step t c)) (λ full same. cc) h
 breaks_out m depth held c breaks = breaks
 
-one_closed : (s : Scanned) (c : ℕ) → s.done ≡ [] → (is_free s.mode ≡ false → meet_of s.mode c ≡ moves.Breaks → ⊥) → ClosesOne (scan_step s c)
+one_closed : (s : Scanned) (c : ℕ) → s.done ≡ [] → (is_free s.mode ≡ false → meet_of s.mode c ≡ moves.Breaks → ⊥)
+    → ClosesOne (scan_step s c)
 one_closed s c none on = go (move_at s c) refl
   where
     starts_one : (o : Start) (done : List Piece) → done ≡ [] → ClosesOne (started done c o)
@@ -410,7 +414,8 @@ module _ {bytes : List ℕ} {scan : Scan} {rest : List ℕ} (at : InFirst bytes 
               let more = drop (len_utf8 c) rest in
               let counts = taken.tallies.counts in
               let nothing : taken.next.done ≡ [] = ⊎_elim (λ none_yet. none_yet)
-              (λ one. absurd (both_ways _ other (ap is_free (counts.mode ∙ ap (λ (t : Scanned). t.mode) one.1)))) (closes_one taken.next taken.goes) in
+              (λ one. absurd (both_ways _ other (ap is_free (counts.mode ∙ ap (λ (t : Scanned). t.mode) one.1))))
+              (closes_one taken.next taken.goes) in
               record {
                 reached = reached_character modes.Free 1 bytes scan new rest more c at.reached next.scalar (sym next.spell) (taken, line);
                 first = counts.start ∙ ap (λ (l : List Piece). byte_len (spelled l)) nothing;
@@ -490,7 +495,8 @@ begins_after q [] quote is plain = record {
   };
   unreturned = one_unreturned [] q (quote-no_break q quote);
 }
-begins_after q (c ∷ cs) quote is plain = after_word q quote (spelling_on (first_spelling c) cs) start (c ∷ cs) 0 [] (rw (plain, is)) (in_prefix c cs is)
+begins_after q (c ∷ cs) quote is plain =
+    after_word q quote (spelling_on (first_spelling c) cs) start (c ∷ cs) 0 [] (rw (plain, is)) (in_prefix c cs is)
 
 -- a string that was passed after its prefix, or with none, from where it begins so
 string_taken : {begins : BeforePiece → List ℕ → ℕ → List Bracket → Type 0} (bytes : List ℕ) (n : ℕ) (p : Passed) → n ≤ length bytes → 2 < p.len → encode_utf8_all (take n bytes) ≡ take n bytes
@@ -510,7 +516,12 @@ string_taken {begins} bytes n p within some low has begun q string_is first =
     let b = begins_string bytes q string_is first in
     let (y, cut, spells) = prefix_chars whole (q.text ++ b.more) after (b.spell ∙ sym spell) in
     let size : byte_len whole ≡ n + p.len
-    = ap length encodes ∙ omega (arith, length-append word (take p.len rest), length-take-le n bytes within, length-take-le p.len rest is.part.within) in
+    = ap length encodes ∙ omega (
+      arith,
+      length-append word (take p.len rest),
+      length-take-le n bytes within,
+      length-take-le p.len rest is.part.within,
+    ) in
     let same : whole ≡ q.text
     = whole_read b whole y (fresh (piece string ended.text ∷ [])) cut ended.come.steps ended.come.stacked (omega arith)
     (omega (arith, size, some)) (free_stops modes.Free y refl) in
@@ -531,11 +542,13 @@ plain_taken bytes n p quotes is plain some has =
 
 -- one with fields
 pub fields_taken : (bytes : List ℕ) (n len : ℕ) → begins is_quote (drop n bytes) ≡ true → is_prefix_word (take n bytes) ≡ true
-    → is_field_spelling (word_spelling (take n bytes)) ≡ true → IsQuotedText (rest_of bytes n) len → IsFirstString bytes (token_piece kind.Str (n + len))
+    → is_field_spelling (word_spelling (take n bytes)) ≡ true → IsQuotedText (rest_of bytes n) len
+    → IsFirstString bytes (token_piece kind.Str (n + len))
 fields_taken bytes n len quotes is field text =
     let has = subst (λ t. IsQuotedText t len) (rest_is bytes n) text in
     string_taken bytes n (record { len = len; line_ends = 0 }) (quote_within bytes n quotes) (fields_some (drop n bytes) len has)
-    (word_low (take n bytes) is) (fields_passed (drop n bytes) len (word_spelling (take n bytes)) field has) (omega arith, on (take n bytes) is field)
+    (word_low (take n bytes) is) (fields_passed (drop n bytes) len (word_spelling (take n bytes)) field has)
+    (omega arith, on (take n bytes) is field)
   where
     on : (word : List ℕ) → is_prefix_word word ≡ true → is_field_spelling (word_spelling word) ≡ true
         → IsInPieceAfter (modes.Word (word_spelling word)) start word 0 []

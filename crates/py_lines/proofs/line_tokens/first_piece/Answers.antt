@@ -19,7 +19,8 @@ returns-in-Quote c = λ p b. c.string.ensures p (class_is b c.of.ensures c.in-Qu
 pub returns-in-Operator : goal.returns-in-Operator
 returns-in-Operator c = λ p b.
     subst (IsTakenFor p) (sym c.token.ensures) (operator_taken b
-    (⊎_elim (λ is. class_is b c.of.ensures is) (⊎_elim (λ is. class_is b c.of.ensures is) (λ is. class_is b c.of.ensures is)) c.in-Operator.is))
+    (⊎_elim (λ is. class_is b c.of.ensures is)
+    (⊎_elim (λ is. class_is b c.of.ensures is) (λ is. class_is b c.of.ensures is)) c.in-Operator.is))
 
 pub returns-in-Hash : goal.returns-in-Hash
 returns-in-Hash c = λ p b.

@@ -12,7 +12,8 @@ plain_string-requires-clause-quote c = quote_of_rest c.args.bytes.now c.args.pre
 pub returns-in-Some : goal.returns-in-Some
 returns-in-Some c =
     subst (IsFirstString c.args.bytes.now) (sym c.token.ensures)
-    (fields_taken c.args.bytes.now c.args.prefix c.in-Some.len c.requires.quote c.requires.prefix (sym c.requires.fields ∙ c.if-has_fields.true)
+    (fields_taken c.args.bytes.now c.args.prefix c.in-Some.len c.requires.quote c.requires.prefix
+    (sym c.requires.fields ∙ c.if-has_fields.true)
     c.in-Some.ensures)
 
 pub returns-then-passed-gt2 : goal.returns-then-passed-gt2

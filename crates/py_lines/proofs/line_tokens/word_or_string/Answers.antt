@@ -8,7 +8,8 @@ pub string-requires-clause-quote : goal.string-requires-clause-quote
 string-requires-clause-quote c = (and_parts _ _ (sym c.ends_prefix.ensures ∙ c.if-ends_prefix.true)).0
 
 pub string-requires-clause-prefix : goal.string-requires-clause-prefix
-string-requires-clause-prefix c = prefix_word (take c.len_in-len.result c.args.bytes.now) (and_parts _ _ (sym c.ends_prefix.ensures ∙ c.if-ends_prefix.true)).1
+string-requires-clause-prefix c =
+    prefix_word (take c.len_in-len.result c.args.bytes.now) (and_parts _ _ (sym c.ends_prefix.ensures ∙ c.if-ends_prefix.true)).1
 
 pub string-requires-clause-string : goal.string-requires-clause-string
 string-requires-clause-string c =
@@ -17,7 +18,8 @@ string-requires-clause-string c =
 
 pub returns-then-ends_prefix : goal.returns-then-ends_prefix
 returns-then-ends_prefix c = λ p b.
-    c.string.ensures p (is_string b c.len_in-len.result c.requires.word c.len_in-len.ensures (sym c.ends_prefix.ensures ∙ c.if-ends_prefix.true)) b
+    c.string.ensures p (is_string b c.len_in-len.result c.requires.word c.len_in-len.ensures
+    (sym c.ends_prefix.ensures ∙ c.if-ends_prefix.true)) b
 
 pub returns-else-ends_prefix : goal.returns-else-ends_prefix
 returns-else-ends_prefix c = λ p b.
