@@ -65,6 +65,7 @@ impl Brackets {
     /// How many brackets are open.
     #[tactic(auto, using(crate::proofs::LineScan::BracketStack::depth_is))]
     #[inline(always)]
+    #[tactic(auto, using(crate::proofs::LineScan::BracketStack::depth_is))]
     pub fn len(&self) -> usize
         ensures { result ≡ depth_of self.now }
     {
@@ -74,6 +75,7 @@ impl Brackets {
     /// Whether no bracket is open.
     #[tactic(auto, using(crate::proofs::LineScan::BracketStack::depth_is, crate::proofs::LineScan::BracketStack::none_length))]
     #[inline(always)]
+    #[tactic(auto, using(crate::proofs::LineScan::BracketStack::depth_is, crate::proofs::LineScan::BracketStack::none_length))]
     pub fn is_empty(&self) -> bool
         ensures { result ≡ none_open (stack_of self.now) }
     {
@@ -123,6 +125,7 @@ impl Brackets {
 
     /// Whether an operator may stand at this byte: a closing bracket closes the innermost open one, and an opening one
     /// finds room. Then it has done so.
+    #[tactic(auto, using(crate::proofs::LineScan::BracketStack::keeps_at))]
     pub fn meet(&mut self, c: char, place: usize) -> bool
         ensures { Meets self.old c place result self.new }
     {

@@ -120,6 +120,7 @@ impl FieldScan {
     }
 
     /// Takes an opening bracket in a field's code.
+    #[tactic(auto, using(crate::proofs::FieldScans::Openings::bracket_too_deep))]
     fn open_bracket(&mut self, c: char, place: usize, depth: usize) -> FieldProgress
         requires bytes { place + len_utf8 c < 2 ^ 64 }
         requires inside { self.old.frames ≡ [] → ⊥ }
@@ -269,6 +270,7 @@ impl FieldScan {
     }
 
     /// Opens a field in a specification, by its `{` at this byte.
+    #[tactic(auto, using(crate::proofs::FieldScans::Openings::shut_there))]
     fn open_field(
         &mut self,
         host: StringWithFields,
@@ -329,6 +331,7 @@ impl FieldScan {
     }
 
     /// How many bytes of ASCII leave all of the open piece as it is except its text, and end no line.
+    #[tactic(auto, using(crate::proofs::FieldScans::Runs::holds_field))]
     fn keep(&self, bytes: &[u8]) -> usize
         ensures { (depth place : ℕ) → HoldsField self.now depth place bytes.now result self.now }
     {
@@ -341,6 +344,7 @@ impl FieldScan {
 
     /// Whether the literal part is open, between two parts of it, and there is room for all that simple text opens. The string's
     /// quote then.
+    #[tactic(auto, using(crate::proofs::LineScan::Runs::quote_ascii))]
     fn open_text(&self, depth: usize) -> Option<u8>
         ensures { StandsInText self.now depth result }
     {

@@ -155,6 +155,7 @@ impl Frames {
     }
 
     /// How many brackets and fields are open.
+    #[tactic(auto, using(crate::proofs::FieldScans::FrameArrays::first_frames_length))]
     pub fn len(&self) -> usize
         ensures { result ≡ length self.now }
     {

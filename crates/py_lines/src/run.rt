@@ -223,6 +223,7 @@ impl ByteRun {
 
 /// How many bytes of an open word that is spelled so a text begins with: none where it may be the prefix of a string. After a character
 /// of another script it mostly begins with none.
+#[tactic(auto, using(crate::proofs::LineScan::Spans::word_spans))]
 fn word_run(spelling: Spelling, bytes: &[u8]) -> usize
     ensures { Spans (stays (Word spelling)) bytes.now result }
 {

@@ -90,6 +90,7 @@ pub struct Scan {
 
 impl Scan {
     /// At the start of a line.
+    #[tactic(auto, using(crate::proofs::LineScan::StringSteps::counts_nothing))]
     pub fn new(mode: Mode, line: u64) -> Scan
         requires { mode ≡ Fielded → ⊥ }
         ensures start { Tallies result (line_start mode) }
@@ -107,6 +108,7 @@ impl Scan {
     }
 
     /// Begins a line anew.
+    #[tactic(auto, using(crate::proofs::LineScan::StringSteps::counts_nothing))]
     pub fn restart(&mut self, mode: Mode, line: u64)
         requires { mode ≡ Fielded → ⊥ }
         ensures start { Tallies self.new (line_start mode) }
@@ -199,6 +201,7 @@ impl Scan {
     }
 
     /// Takes the next character in a string with fields.
+    #[tactic(auto, using(crate::proofs::LineScan::StringSteps::goes_on, crate::proofs::LineScan::StringSteps::closes_it, crate::proofs::LineScan::StringSteps::refuses_it))]
     fn push_in_string(&mut self, c: char) -> Progress
         requires bytes { self.old.stop + len_utf8 c < 2 ^ 64 }
         requires lines { self.old.count.line + 1 < 2 ^ 64 }
@@ -221,6 +224,7 @@ impl Scan {
     }
 
     /// Takes the character with which a string with fields holds something, or has its three quotes.
+    #[tactic(auto, using(crate::proofs::LineScan::NextCharacter::enters_after))]
     fn enter_string(&mut self, c: char) -> Progress
         requires bytes { self.old.stop + len_utf8 c < 2 ^ 64 }
         requires lines { self.old.count.line + 1 < 2 ^ 64 }
@@ -295,6 +299,7 @@ impl Scan {
     }
 
     /// What is wrong where `c` is refused.
+    #[tactic(auto, using(crate::proofs::LineScan::StringSteps::refusal_in))]
     pub fn refusal(&self, c: char) -> LineFault
         ensures { IsRefusal self.now c result }
     {
@@ -324,6 +329,7 @@ impl Scan {
     }
 
     /// What is wrong where the text ends here, if it may not: what is open.
+    #[tactic(auto, using(crate::proofs::LineScan::StringSteps::unfinished_in))]
     pub fn unfinished(&self) -> Option<LineFault>
         ensures { IsUnfinished self.now result }
     {
@@ -356,6 +362,7 @@ impl Scan {
     }
 
     /// How many bytes of whole characters leave the open piece as it is, and end no line. In a string with fields they are taken there.
+    #[tactic(auto, using(crate::proofs::LineScan::Runs::held_in, crate::proofs::LineScan::Runs::string_held))]
     fn hold_run(&mut self, bytes: &[u8]) -> usize
         requires bytes { self.old.stop + length bytes.now < 2 ^ 64 }
         requires quote { HasAsciiQuote self.old.piece.mode }

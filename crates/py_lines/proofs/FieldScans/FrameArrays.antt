@@ -10,12 +10,12 @@ use Rattle.py_lines.specs.Private.Frames.{AreNested, frame_of, frames_in}
 abbrev pub first_frames : List Slot → ℕ → List Frame
 first_frames ss n = frames_in (take n ss)
 
-pub first_frames-length : (ss : List Slot) (n : ℕ) → length ss ≡ 200 → n ≤ 200 → length (first_frames ss n) ≡ n
-first_frames-length ss n size few = length-reverse (map frame_of (take n ss)) ∙ length-map (take n ss) frame_of ∙ length-take-le n ss (omega (arith, size, few))
+pub first_frames_length : (ss : List Slot) (n : ℕ) → length ss ≡ 200 → n ≤ 200 → length (first_frames ss n) ≡ n
+first_frames_length ss n size few = length-reverse (map frame_of (take n ss)) ∙ length-map (take n ss) frame_of ∙ length-take-le n ss (omega (arith, size, few))
 
 -- where fewer than 200 are open there is room for one more
 pub room_left : (ss : List Slot) (n : ℕ) (fs : List Frame) → length ss ≡ 200 → n ≤ 200 → first_frames ss n ≡ fs → length fs < 200 → n < length ss
-room_left ss n fs size few are room = omega (arith, size, first_frames-length ss n size few, ap length are, room)
+room_left ss n fs size few are room = omega (arith, size, first_frames_length ss n size few, ap length are, room)
 
 -- with one more
 pub first_frames-push : (ss : List Slot) (n : ℕ) (s : Slot) (f : Frame) → frame_of s ≡ f → n < length ss → first_frames (set ss n s) (n + 1) ≡ f ∷ first_frames ss n

@@ -1,5 +1,5 @@
 -- What a character does in a string with fields: the code's words say the machine's, and what each move of the machine leaves open.
-use Rattle.std.proofs.Common.{◌≡◌, ℕ, Bool, true, false, not, ◌&&◌, ◌==◌, Some, List, [], ◌∷◌, ◌++◌, refl, sym, ap, ◌∙◌, subst, append-nil}
+use Rattle.std.proofs.Common.{◌≡◌, ℕ, Bool, true, false, not, ◌&&◌, ◌==◌, List, [], ◌∷◌, ◌++◌, refl, sym, ap, ◌∙◌, subst, append-nil}
 use Rattle.std.specs.Str.{byte}
 use Rattle.std.proofs.lemmas.Bool.{cond_both, both_ways, and_parts, not-true}
 use Rattle.py_lines.specs.Character.{is_line_feed, is_return, is_break, is_backslash, is_brace}
@@ -12,7 +12,7 @@ use Rattle.py_lines.specs.declared.mode.Move.TheVariants as moves
 use Rattle.py_lines.specs.declared.mode.Start.TheVariants as starts
 use Rattle.py_lines.specs.declared.field_mode.FieldMode.{FieldMode}
 use Rattle.py_lines.specs.declared.field_mode.FieldMode.TheVariants as field_modes
-use Rattle.py_lines.specs.Private.Machine.{Bracket, brackets_of, Holds, closed, class_of, move_of, start_of}
+use Rattle.py_lines.specs.Private.Machine.{Holds, closed, class_of, move_of, start_of}
 use Rattle.py_lines.specs.Private.FieldMachine as spots
 use Rattle.py_lines.specs.Private.FieldMachine.{At, between, after_one, after_two, after_slash, after_return, after_name, after_brace, plain, opened, empty, body, FieldMove, grows, closes, breaks, begins_code, opens_field, ends_field, refused, host_of, long_host, begins_host, plain_move, between_move, escape_move, body_move, closing_move, opening_move, ending_move, is_after_two, with_quote, is_barred_escape, is_after_brace, field_move, field_closed, field_class_of, text_place}
 use Rattle.py_lines.specs.Private.ScanMachine.{meet_of}

@@ -16,7 +16,6 @@ use Rattle.py_lines.specs.Private.ScanMachine.{string_move, fielded_move, IsInSt
 use Rattle.py_lines.specs.Private.FieldScan.{Follows, FramesFollow, freed_at, ComesTo, mode_from, meets_field, HoldsCode}
 use Rattle.std.specs.Char.{len_utf8}
 use Rattle.std.proofs.lemmas.Str.{len_utf8_ascii}
-use Rattle.py_lines.specs.Character.{is_line_feed}
 use Rattle.py_lines.specs.Balance.{is_opening}
 use Rattle.py_lines.specs.declared.mode.Mode.{Mode}
 use Rattle.py_lines.specs.declared.mode.Start.TheVariants as starts

@@ -1,12 +1,8 @@
 use Rattle.std.proofs.Common.{◌+◌, List, ap, sym, ◌∙◌}
 use Rattle.py_lines.specs.declared.frames.Frame.{Frame}
 use Rattle.py_lines.specs.Private.FieldScan.{freed_at}
-use Rattle.py_lines.proofs.FieldScans.Openings.{bracket_opens, bracket_too_deep}
+use Rattle.py_lines.proofs.FieldScans.Openings.{bracket_opens}
 use Rattle.py_lines.proofs.field_scan.FieldScan.open_bracket.Goals as goal
-
-pub returns-then-not-has_room-clause-takes : goal.returns-then-not-has_room-clause-takes
-returns-then-not-has_room-clause-takes c = λ base t follow inside at is.
-    bracket_too_deep c.args.self.now base c.args.depth c.args.c c.args.place t follow inside at is c.requires.operator c.requires.opens (sym c.has_room.ensures ∙ c.if-not-has_room.true)
 
 pub returns-clause-takes : goal.returns-clause-takes
 returns-clause-takes c = λ base t follow inside at is.

@@ -1,9 +1,6 @@
 use Rattle.std.proofs.Common.{sym, ◌∙◌}
-use Rattle.py_lines.proofs.FieldScans.Openings.{opens_there, shut_there}
+use Rattle.py_lines.proofs.FieldScans.Openings.{opens_there}
 use Rattle.py_lines.proofs.field_scan.FieldScan.open_field.Goals as goal
-
-pub returns-then-not-has_room-clause-takes : goal.returns-then-not-has_room-clause-takes
-returns-then-not-has_room-clause-takes c = λ base t f inside at is. shut_there c.args.self.now base c.args.depth c.args.c c.args.place c.args.host t f at is (sym c.has_room.ensures ∙ c.if-not-has_room.true)
 
 pub returns-clause-takes : goal.returns-clause-takes
 returns-clause-takes c = λ base t f inside at is. opens_there c.args.self.now base c.args.depth c.args.c c.args.place c.args.host t f at is (sym c.has_room.ensures ∙ c.if-not-has_room.false) _ c.enter.ensures

@@ -1,6 +1,6 @@
-use Rattle.std.proofs.Common.{refl, sym, ap, ◌∙◌}
+use Rattle.std.proofs.Common.{refl}
 use Rattle.py_lines.specs.Private.FieldMachine.{grows, closes, breaks, begins_code, opens_field, ends_field, refused}
-use Rattle.py_lines.specs.Private.FieldScan.{field_move_from, mode_from}
+use Rattle.py_lines.specs.Private.FieldScan.{mode_from}
 use Rattle.py_lines.specs.Private.ScanMachine.{host_in}
 use Rattle.py_lines.proofs.FieldScans.Taking.{grown, moves_so, no_step}
 use Rattle.py_lines.proofs.FieldScans.Places.{moved_placed}
@@ -9,34 +9,34 @@ use Rattle.py_lines.proofs.field_scan.FieldScan.push.Goals as goal
 pub returns-in-Grows-clause-takes : goal.returns-in-Grows-clause-takes
 returns-in-Grows-clause-takes c = λ base t f inside at.
     grown c.args.self.now base c.args.depth t c.args.c c.args.place f inside at c.in-Grows.mode (mode_from c.in-Grows.mode)
-    (moves_so c.args.self.now base t c.args.c (grows (mode_from c.in-Grows.mode)) f (sym (ap field_move_from c.in-Grows.is) ∙ c.meet.ensures)) refl
+    (moves_so c.args.self.now base t c.args.c (grows (mode_from c.in-Grows.mode)) f c.in-Grows.ensures) refl
 
 pub returns-in-Closes-clause-takes : goal.returns-in-Closes-clause-takes
-returns-in-Closes-clause-takes c = λ base t f inside at. c.close.ensures.takes c.args.depth base t f inside at (moves_so c.args.self.now base t c.args.c closes f (sym (ap field_move_from c.in-Closes.is) ∙ c.meet.ensures))
+returns-in-Closes-clause-takes c = λ base t f inside at. c.close.ensures.takes c.args.depth base t f inside at (moves_so c.args.self.now base t c.args.c closes f c.in-Closes.ensures)
 
 pub returns-in-Breaks-clause-takes : goal.returns-in-Breaks-clause-takes
-returns-in-Breaks-clause-takes c = λ base t f inside at. c.begin_piece.ensures.takes base t f inside at (moves_so c.args.self.now base t c.args.c breaks f (sym (ap field_move_from c.in-Breaks.is) ∙ c.meet.ensures))
+returns-in-Breaks-clause-takes c = λ base t f inside at. c.begin_piece.ensures.takes base t f inside at (moves_so c.args.self.now base t c.args.c breaks f c.in-Breaks.ensures)
 
 pub returns-in-BeginsCode-clause-takes : goal.returns-in-BeginsCode-clause-takes
-returns-in-BeginsCode-clause-takes c = λ base t f inside at. c.begin_code.ensures.takes base t f inside at (moves_so c.args.self.now base t c.args.c (begins_code (host_in c.in-BeginsCode.host)) f (sym (ap field_move_from c.in-BeginsCode.is) ∙ c.meet.ensures))
+returns-in-BeginsCode-clause-takes c = λ base t f inside at. c.begin_code.ensures.takes base t f inside at (moves_so c.args.self.now base t c.args.c (begins_code (host_in c.in-BeginsCode.host)) f c.in-BeginsCode.ensures)
 
 pub returns-in-OpensField-clause-takes : goal.returns-in-OpensField-clause-takes
-returns-in-OpensField-clause-takes c = λ base t f inside at. c.open_field.ensures.takes base t f inside at (moves_so c.args.self.now base t c.args.c (opens_field (host_in c.in-OpensField.host)) f (sym (ap field_move_from c.in-OpensField.is) ∙ c.meet.ensures))
+returns-in-OpensField-clause-takes c = λ base t f inside at. c.open_field.ensures.takes base t f inside at (moves_so c.args.self.now base t c.args.c (opens_field (host_in c.in-OpensField.host)) f c.in-OpensField.ensures)
 
 pub returns-in-EndsField-clause-takes : goal.returns-in-EndsField-clause-takes
-returns-in-EndsField-clause-takes c = λ base t f inside at. c.end_field.ensures.takes c.args.c c.args.place c.args.depth base t f inside at (moves_so c.args.self.now base t c.args.c ends_field f (sym (ap field_move_from c.in-EndsField.is) ∙ c.meet.ensures))
+returns-in-EndsField-clause-takes c = λ base t f inside at. c.end_field.ensures.takes c.args.c c.args.place c.args.depth base t f inside at (moves_so c.args.self.now base t c.args.c ends_field f c.in-EndsField.ensures)
 
 pub returns-in-Refused-clause-takes : goal.returns-in-Refused-clause-takes
-returns-in-Refused-clause-takes c = λ base t f inside at. no_step base c.args.depth t c.args.c refused (moves_so c.args.self.now base t c.args.c refused f (sym (ap field_move_from c.in-Refused.is) ∙ c.meet.ensures)) c.args.self.now refl
+returns-in-Refused-clause-takes c = λ base t f inside at. no_step base c.args.depth t c.args.c refused (moves_so c.args.self.now base t c.args.c refused f c.in-Refused.ensures) c.args.self.now refl
 
 pub returns-in-Grows-clause-placed : goal.returns-in-Grows-clause-placed
-returns-in-Grows-clause-placed c = moved_placed c.args.self.now c.args.c (grows (mode_from c.in-Grows.mode)) (sym (ap field_move_from c.in-Grows.is) ∙ c.meet.ensures) c.requires.placed
+returns-in-Grows-clause-placed c = moved_placed c.args.self.now c.args.c (grows (mode_from c.in-Grows.mode)) c.in-Grows.ensures c.requires.placed
 
 pub begin_piece-requires-clause-inside : goal.begin_piece-requires-clause-inside
-begin_piece-requires-clause-inside c = moved_placed c.args.self.now c.args.c breaks (sym (ap field_move_from c.in-Breaks.is) ∙ c.meet.ensures) c.requires.placed
+begin_piece-requires-clause-inside c = moved_placed c.args.self.now c.args.c breaks c.in-Breaks.ensures c.requires.placed
 
 pub open_field-requires-clause-field : goal.open_field-requires-clause-field
-open_field-requires-clause-field c = moved_placed c.args.self.now c.args.c (opens_field (host_in c.in-OpensField.host)) (sym (ap field_move_from c.in-OpensField.is) ∙ c.meet.ensures) c.requires.placed
+open_field-requires-clause-field c = moved_placed c.args.self.now c.args.c (opens_field (host_in c.in-OpensField.host)) c.in-OpensField.ensures c.requires.placed
 
 pub end_field-requires : goal.end_field-requires
-end_field-requires c = record { field = moved_placed c.args.self.now c.args.c ends_field (sym (ap field_move_from c.in-EndsField.is) ∙ c.meet.ensures) c.requires.placed }
+end_field-requires c = record { field = moved_placed c.args.self.now c.args.c ends_field c.in-EndsField.ensures c.requires.placed }

@@ -1,11 +1,8 @@
 use Rattle.std.proofs.Common.{sym, ap, ◌∙◌}
 use Rattle.py_lines.specs.declared.mode.Mode.{Mode}
 use Rattle.py_lines.specs.Private.ScanMachine.{meet_of}
-use Rattle.py_lines.proofs.LineScan.NextCharacter.{enters_after, takes_opened, takes_emptied}
+use Rattle.py_lines.proofs.LineScan.NextCharacter.{takes_opened, takes_emptied}
 use Rattle.py_lines.proofs.scan.Scan.enter_string.Goals as goal
-
-pub unreachable-requires : goal.unreachable-requires
-unreachable-requires c = enters_after c.args.self.now.piece.mode c.args.c c.in_default.not-FieldOpened c.in_default.not-FieldEmpty c.requires.enters
 
 pub returns-in-FieldOpened : goal.returns-in-FieldOpened
 returns-in-FieldOpened c = λ s read on not_yet.
