@@ -7,6 +7,5 @@ pub mod Texts
 pub mod TextLengths
 pub mod Taking
 pub mod Openings
-pub mod CodeRuns
 pub mod FieldFaults
 pub mod Places

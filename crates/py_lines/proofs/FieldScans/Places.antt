@@ -10,7 +10,6 @@ use Rattle.py_lines.specs.declared.host.Region.{Region}
 use Rattle.py_lines.specs.declared.host.Region.TheVariants as regions
 use Rattle.py_lines.specs.declared.field_mode.FieldMode.{FieldMode}
 use Rattle.py_lines.specs.declared.field_mode.FieldMode.TheVariants as field_modes
-use Rattle.py_lines.specs.declared.frames.OpenField.{OpenField}
 use Rattle.py_lines.specs.declared.frames.Frame.{Frame}
 use Rattle.py_lines.specs.declared.frames.Frame.TheVariants as frame
 use Rattle.py_lines.specs.declared.field_scan.FieldScan.{FieldScan}
@@ -46,9 +45,6 @@ code_in m fs placed = placed
 -- something is open
 pub some_open : (fs others : List Frame) (f : Frame) → fs ≡ f ∷ others → fs ≡ [] → ⊥
 some_open fs others f is none = absurd (cc (is, none))
-
-pub field_open : (fs others : List Frame) (field : OpenField) → fs ≡ frame.Field field ∷ others → InField fs
-field_open fs others field is = subst InField (sym is) tt
 
 -- where a quote would close a string whose specification is open, that stands in its field
 code_quotes : (m : Mode) (c : ℕ) → quotes_specification (code_mode m) c ≡ false
@@ -113,7 +109,7 @@ moved_placed old c v is placed = subst (λ (x : FieldMove). Placed x old.frames)
 -- so it is wherever the scan follows the machine from the string's start
 specification_in : (base : ℕ) (outer : List Level) (text : List ℕ) (done : List Piece) (openers : List ℕ) (fs : List Frame) → HoldsLevels no_limit specification outer text → openers ≡ [] → FramesFollow base outer done openers fs → InField fs
 specification_in base [] text done openers fs levels none frames = absurd levels
-specification_in base (l ∷ ls) text done openers fs levels none ([], field, others, stack, openers_are, frames_are, at) = field_open fs others field frames_are
+specification_in base (l ∷ ls) text done openers fs levels none ([], field, others, stack, openers_are, frames_are, at) = subst InField (sym frames_are) tt
 specification_in base (l ∷ ls) text done openers fs levels none ((b ∷ bs), field, others, stack, openers_are, frames_are, at) = absurd (cc (none, openers_are))
 
 pub scan_placed : (scan : FieldScan) (base : ℕ) (held : List ℕ) (t : FieldScanned) → string_state held ≡ Some t → IsInString t → Follows scan base t → IsInPlace scan

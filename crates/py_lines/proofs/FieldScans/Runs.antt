@@ -1,13 +1,12 @@
--- Characters that leave the open piece of a string with fields as it is are held in one step.
-use Rattle.std.proofs.Common.{◌≡◌, ℕ, ◌+◌, ◌<◌, ◌≤◌, Bool, true, false, not, ◌&&◌, ◌==◌, List, [], ◌∷◌, ◌++◌, length, take, drop, slice_index, refl, sym, ap, ◌∙◌, subst, append_assoc, append-nil, arith, take-append-drop}
+-- What is held in one step in a string with fields: characters that leave the open piece as it is, simple text, and words, spaces and
+-- signs of a field's code up to the last sign.
+use Rattle.std.proofs.Common.{◌≡◌, ℕ, ◌+◌, ◌<◌, ◌≤◌, true, false, not, ◌&&◌, ◌==◌, List, [], ◌∷◌, ◌++◌, length, take, drop, slice_index, refl, sym, ap, ◌∙◌, subst, append_assoc, append-nil, arith, take-append-drop, ◌-◌, ◌||◌, ⊎_elim}
 use Rattle.std.specs.Prelude.{nat_lt, Some}
-use Rattle.std.specs.Str.{byte}
 use Rattle.std.specs.List.{list_all}
-use Rattle.std.proofs.lemmas.Bool.{and_parts, and_from, both_ways, not-true}
-use Rattle.std.proofs.lemmas.Bool.Decides.{nat_tests}
-use Rattle.std.proofs.lemmas.List.{length-take-le}
-use Rattle.py_lines.specs.Character.{is_backslash, is_brace, is_break, is_quote}
-use Rattle.py_lines.specs.FieldStrings.{Host, Place, literal}
+use Rattle.std.proofs.lemmas.Bool.{and_parts, and_from, both_ways, not-true, lt-ltb, or_cases}
+use Rattle.std.proofs.lemmas.List.{length-take-le, get_or-take, take_more}
+use Rattle.py_lines.specs.Character.{is_backslash, is_brace, is_break, is_quote, is_operator}
+use Rattle.py_lines.specs.FieldStrings.{literal}
 use Rattle.py_lines.specs.declared.host.StringWithFields.{StringWithFields}
 use Rattle.py_lines.specs.declared.mode.Spelling.TheVariants as spellings
 use Rattle.py_lines.specs.declared.mode.Mode.{Mode}
@@ -18,16 +17,26 @@ use Rattle.py_lines.specs.declared.field_mode.At.TheVariants as ats
 use Rattle.py_lines.specs.declared.host.Region.TheVariants as regions
 use Rattle.py_lines.specs.declared.field_scan.FieldScan.{FieldScan}
 use Rattle.py_lines.specs.Private.Machine.{move_of, short_move, long_move, spelling_with}
-use Rattle.py_lines.specs.Private.FieldMachine.{body, between, grows, Level, FieldScanned, field_state, field_move, field_moved, body_move, between_move, levels_open}
-use Rattle.py_lines.specs.Private.FieldScan.{region_in, mode_from, code_mode, code_move, meets_field, stays_code, stays_field, keeps_byte, HoldsCode, Follows, GoesThrough, HoldsField, StandsInText}
+use Rattle.py_lines.specs.Private.FieldMachine.{body, between, grows, Level, FieldScanned, field_state, field_move, field_moved, levels_open, plain, field_fresh, before}
+use Rattle.py_lines.specs.Private.FieldScan.{region_in, mode_from, code_mode, code_move, meets_field, stays_code, stays_field, keeps_byte, HoldsCode, Follows, GoesThrough, HoldsField, StandsInText, freed_at}
 use Rattle.py_lines.specs.Private.FieldText.{HasText, InText, Leads}
 use Rattle.py_lines.specs.LogicalLine.{byte_len}
 use Rattle.py_lines.specs.Private.ScanMachine.{host_in, meet_of, string_state, IsInString}
 use Rattle.py_lines.proofs.FieldScans.Moves.{meets}
-use Rattle.py_lines.proofs.FieldScans.Frames.{frames-length}
-use Rattle.py_lines.proofs.FieldScans.Taking.{grown_follows}
-use Rattle.py_lines.proofs.LineScan.StringSteps.{string_grows}
+use Rattle.py_lines.proofs.FieldScans.Frames.{frames-length, AreOpenAlike, frames_alike}
+use Rattle.py_lines.proofs.FieldScans.Taking.{grown_follows, follows_free}
+use Rattle.py_lines.proofs.LineScan.StringSteps.{string_grows, here_at, string_through}
 use Rattle.py_lines.proofs.LineScan.AsciiRuns.{all_pass, is_low, is_low_from, low_encodes, low_is}
+use Rattle.py_lines.specs.Balance.{is_opening, is_closing}
+use Rattle.py_lines.specs.Piece.{Piece, spelled}
+use Rattle.py_lines.specs.declared.class.Class.TheVariants as class
+use Rattle.py_lines.specs.Private.Marks.{is_of_class}
+use Rattle.py_lines.specs.Private.Run.{IsRunOf, is_ascii_word, is_code_byte, is_code_sign}
+use Rattle.py_lines.specs.Private.WholePieces.{IsOperatorEnd}
+use Rattle.py_lines.proofs.LineScan.Runs.{space_low, word_byte_low}
+use Rattle.py_lines.proofs.LogicalLines.Cuts.{byte_len-append}
+use Rattle.py_lines.proofs.Text.CharacterTests.{operator_ascii}
+use Rattle.py_lines.proofs.FieldScans.Texts.{text_stays, two_false, codes_go, ends_in_word, goes_on-append, passes_code, operator-not-word, operator_others, sign_cases, sign_goes}
 
 -- what a character is that passes
 record Keeps (m : FieldMode) (c : ℕ) : Type 0 where
@@ -41,9 +50,6 @@ keeps_parts m c h =
     let others = and_parts (not (is_break c)) (stays_field m c) parts.1 in
     record { low = low_is c parts.0; none = not-true (is_break c) others.0; stays = others.1 }
 
-pub two_false : (a b : Bool) → not a && not b ≡ true → (a ≡ false) × (b ≡ false)
-two_false a b h = let parts = and_parts (not a) (not b) h in (not-true a parts.0, not-true b parts.1)
-
 -- it grows the open piece of code, in its mode
 met_stays : (m : Mode) (c : ℕ) → stays_code m c ≡ true → is_break c ≡ false → code_move m c ≡ grows (code_mode m)
 unfolding code_move meet_of move_of short_move long_move spelling_with
@@ -54,15 +60,6 @@ met_stays (modes.Word spellings.Name) c h none = rw h refl
 met_stays modes.Space c h none = rw h refl
 met_stays modes.Comment c h none = rw none refl
 met_stays m c h none = absurd (both_ways _ refl h)
-
--- and the text of a string
-brace_parts : (c : ℕ) → is_brace c ≡ false → (c == byte "{" ≡ false) × (c == byte "}" ≡ false)
-unfolding is_brace
-brace_parts c h = (grind (arith, nat_tests), grind (arith, nat_tests))
-
-pub text_stays : (h : Host) (place : Place) (named : Bool) (c : ℕ) → c == h.quote ≡ false → is_backslash c ≡ false → is_break c ≡ false → is_brace c ≡ false → body_move h place named between c ≡ grows (body h place named between)
-unfolding body_move between_move
-text_stays h place named c quote slash none brace = let braces = brace_parts c brace in rw (quote, slash, none, braces.0, braces.1) refl
 
 field_stays : (m : FieldMode) (c : ℕ) → stays_field m c ≡ true → is_break c ≡ false → meets_field m c ≡ grows (mode_from m)
 field_stays (field_modes.Code m) c h none = met_stays m c h none
@@ -115,15 +112,11 @@ holds_ascii old new depth place bytes n within low none follows =
       stay = follows;
     }
 
--- a scan that stays as it is
-still_holds : (scan : FieldScan) (depth place : ℕ) (bytes : List ℕ) (n : ℕ) → n ≤ length bytes → list_all is_low (take n bytes) ≡ true → ((base : ℕ) (t : FieldScanned) → Follows scan base t → (u : FieldScanned) × GoesThrough depth t (take n bytes) u × Follows scan base u) → HoldsField scan depth place bytes n scan
-still_holds scan depth place bytes n within low follows = holds_ascii scan scan depth place bytes n within low (λ nothing. refl) (λ base held t steps at on inside. follows base t on)
-
 pub holds_field : (scan : FieldScan) (depth place : ℕ) (bytes : List ℕ) (n : ℕ) → n ≤ length bytes → ((i : ℕ) → i < n → keeps_byte scan.mode (slice_index bytes i) ≡ true) → HoldsField scan depth place bytes n scan
 holds_field scan depth place bytes n within each =
     let all : list_all (keeps_byte scan.mode) (take n bytes) ≡ true = all_pass (keeps_byte scan.mode) bytes n within each in
     let low : list_all is_low (take n bytes) ≡ true = all_pass is_low bytes n within (λ i less. (and_parts (nat_lt (slice_index bytes i) 128) _ (each i less)).0) in
-    still_holds scan depth place bytes n within low (λ base t follows. let (goes, on) = follows_run scan base depth t (take n bytes) all follows in (with_text t (take n bytes), goes, on))
+    holds_ascii scan scan depth place bytes n within low (λ nothing. refl) (λ base held t steps at on inside. let (goes, after) = follows_run scan base depth t (take n bytes) all on in (with_text t (take n bytes), goes, after))
 
 -- text of which the machine knows where it leads
 pub goes_low : (depth : ℕ) (t : FieldScanned) (run : List ℕ) (u : FieldScanned) → GoesThrough depth t run u → list_all is_low run ≡ true
@@ -156,4 +149,63 @@ text_follows scan base depth quote bytes n t h mode same quotes room text follow
 
 pub holds_text : (scan : FieldScan) (depth place quote : ℕ) (bytes : List ℕ) (n : ℕ) → StandsInText scan depth (Some quote) → HasText quote bytes n → HoldsField scan depth place bytes n scan
 holds_text scan depth place quote bytes n (h, mode, same, quotes, room) text =
-    still_holds scan depth place bytes n text.0 (leads_low quote (take n bytes) quotes text.1) (λ base t follows. text_follows scan base depth quote bytes n t h mode same quotes room text follows)
+    holds_ascii scan scan depth place bytes n text.0 (leads_low quote (take n bytes) quotes text.1) (λ nothing. refl) (λ base held t steps at on inside. text_follows scan base depth quote bytes n t h mode same quotes room text on)
+
+-- such a byte is ASCII
+code_low : (c : ℕ) → is_code_byte c ≡ true → nat_lt c 128 ≡ true
+code_low c h = lt-ltb c 128 (⊎_elim (word_byte_low c) (λ sign. sign_cases (c < 128) c sign (space_low c) (λ is opens closes colon. operator_ascii c is)) (or_cases (is_ascii_word c) (is_code_sign c) h))
+
+-- a sign is no bracket, and no `:`
+sign_is : (P : Type 0) (c : ℕ) → is_code_byte c ≡ true → is_of_class class.Operator c ≡ true → (is_operator c ≡ true → is_opening c ≡ false → is_closing c ≡ false → c == 58 ≡ false → P) → P
+sign_is P c h sign by =
+    let is = (and_parts (is_operator c) (not (is_opening c || is_closing c)) sign).0 in
+    ⊎_elim (λ (word : is_ascii_word c ≡ true). absurd (both_ways _ (operator-not-word c is) word))
+    (λ other. sign_cases P c other (λ space. absurd (both_ways _ (operator_others c is).0 space)) by) (or_cases (is_ascii_word c) (is_code_sign c) h)
+
+-- the first bytes, up to a sign
+pub holds_code : (first : FieldScan) (depth place : ℕ) (bytes : List ℕ) (all len : ℕ) → first.mode ≡ field_modes.Code modes.Free → IsRunOf is_code_byte bytes all → IsOperatorEnd (take all bytes) len → 0 < len → HoldsField first depth place bytes len (freed_at first (place + len))
+holds_code first depth place bytes all len free run (within, nothing_or_sign) some =
+    holds_ascii first (freed_at first (place + len)) depth place bytes len short low (λ none. absurd (omega (arith, none, some)))
+    (λ base held t steps at follows inside.
+    let at_start : List ℕ → FieldScanned = λ text. field_state t.outer t.done t.openers (plain modes.Free) text in
+    let is : t ≡ at_start t.held = ap (λ m. field_state t.outer t.done t.openers m t.held) (sym follows.mode ∙ ap mode_from free) in
+    let k = codes_go false depth t.outer t.done t.openers modes.Free t.held front refl front_code in
+    let (done, goes, alike) = sign_is ((done : List Piece) × GoesThrough depth (field_state t.outer k.done t.openers (plain k.mode) k.held) (last ∷ []) (field_fresh t.outer done t.openers) × AreOpenAlike k.done done) last last_code last_sign
+    (λ is_sign opens closes colon. sign_goes depth t.outer k.done t.openers k.mode k.held last (passes_code (ends_in_word false front) k.mode k.simple) is_sign opens closes colon) in
+    let u : FieldScanned = field_fresh t.outer done t.openers in
+    let through : GoesThrough depth t (take len bytes) u = subst (λ x. GoesThrough depth x (take len bytes) u) (sym is) (subst (λ cs. GoesThrough depth (at_start t.held) cs u) (sym split) (goes_on-append depth _ _ u front (last ∷ []) k.goes goes)) in
+    let stands : byte_len (before literal t.outer ++ (spelled done ++ [])) ≡ byte_len (held ++ take len bytes) = here_at (held ++ take len bytes) u (string_through depth held (take len bytes) t u steps through) in
+    let more : byte_len (take len bytes) ≡ len = ap length (low_encodes is_low (take len bytes) low_is low).0 ∙ length-take-le len bytes short in (
+      u,
+      through,
+      follows_free first base t.outer done t.openers (place + len) (frames_alike base t.outer t.done done t.openers first.frames (λ st same. alike st (k.alike st same)) follows.frames)
+          (omega (arith, at, more, byte_len-append held (take len bytes), sym stands ∙ ap (λ x. byte_len (before literal t.outer ++ x)) (append-nil (spelled done)))),
+    ))
+  where
+    least : len ≤ all
+    least = omega (arith, within, length-take-le all bytes run.within)
+
+    short : len ≤ length bytes
+    short = omega (arith, least, run.within)
+
+    low : list_all is_low (take len bytes) ≡ true
+    low = all_pass is_low bytes len short (λ i early. code_low (slice_index bytes i) (run.each i (omega (arith, early, least))))
+
+    front : List ℕ
+    front = take (len - 1) bytes
+
+    last : ℕ
+    last = slice_index bytes (len - 1)
+
+    split : take len bytes ≡ front ++ last ∷ []
+    split = ap (λ n. take n bytes) (omega (arith, some)) ∙ take_more bytes (len - 1) 0 (omega (arith, some, short))
+
+    front_code : list_all is_code_byte front ≡ true
+    front_code = all_pass is_code_byte bytes (len - 1) (omega (arith, short)) (λ i early. run.each i (omega (arith, early, least)))
+
+    last_code : is_code_byte last ≡ true
+    last_code = run.each (len - 1) (omega (arith, some, least))
+
+    last_sign : is_of_class class.Operator last ≡ true
+    last_sign = ⊎_elim (λ (none : len ≡ 0). absurd (omega (arith, none, some)))
+        (λ (sign : is_of_class class.Operator (slice_index (take all bytes) (len - 1)) ≡ true). subst (λ (b : ℕ). is_of_class class.Operator b ≡ true) (get_or-take all bytes (len - 1) 0 (omega (arith, some, within, length-take-le all bytes run.within))) sign) nothing_or_sign

@@ -3,6 +3,7 @@ use Rattle.std.proofs.Common.{◌≡◌, ℕ, ◌+◌, ◌<◌, ◌≤◌, Bool,
 use Rattle.std.specs.Prelude.{nat_lt, codes}
 use Rattle.std.proofs.lemmas.Bool.Decides.{nat_tests}
 use Rattle.std.specs.List.{list_all}
+use Rattle.std.specs.Str.{byte}
 use Rattle.std.proofs.lemmas.Bool.{and_parts, and_right, or_cases, both_ways, eq-eqb, not-true}
 use Rattle.py_lines.specs.Character.{is_one_of, is_space, is_word_character, is_quote, is_operator, is_break, is_backslash, is_brace}
 use Rattle.py_lines.specs.Piece.{Piece, spelled, operator, string}
@@ -30,7 +31,6 @@ use Rattle.py_lines.proofs.FieldMachine.CodeRuns.{brace_ends, code_moves, colon_
 use Rattle.py_lines.proofs.ScanMachine.Follows.{room_closes}
 use Rattle.py_lines.proofs.FieldScans.Frames.{AreOpenAlike, neutral_alike}
 use Rattle.py_lines.proofs.FieldScans.Openings.{no_colon}
-use Rattle.py_lines.proofs.FieldScans.Runs.{text_stays, two_false}
 use Rattle.py_lines.proofs.FieldScans.Taking.{no_opening, goes_through, keeps_open, some_level}
 use Rattle.py_lines.proofs.LineScan.StringSteps.{string_grows}
 use Rattle.py_lines.proofs.LineScan.AsciiRuns.{low_is, quote-no_break, space-not-quote, word_byte_continues, word_byte_low, word_byte_starts}
@@ -71,6 +71,19 @@ leads-run passes quote P each [] all = λ outer l depth t same quotes room at. (
 leads-run passes quote P each (c ∷ cs) all =
     let parts = and_parts (passes c) (list_all passes cs) all in
     leads-append quote P P P (c ∷ []) cs (each c parts.0) (leads-run passes quote P each cs parts.1)
+
+-- two tests that both fail
+pub two_false : (a b : Bool) → not a && not b ≡ true → (a ≡ false) × (b ≡ false)
+two_false a b h = let parts = and_parts (not a) (not b) h in (not-true a parts.0, not-true b parts.1)
+
+-- what grows a string's text
+brace_parts : (c : ℕ) → is_brace c ≡ false → (c == byte "{" ≡ false) × (c == byte "}" ≡ false)
+unfolding is_brace
+brace_parts c h = (grind (arith, nat_tests), grind (arith, nat_tests))
+
+pub text_stays : (h : Host) (place : Place) (named : Bool) (c : ℕ) → c == h.quote ≡ false → is_backslash c ≡ false → is_break c ≡ false → is_brace c ≡ false → body_move h place named between c ≡ grows (body h place named between)
+unfolding body_move between_move
+text_stays h place named c quote slash none brace = let braces = brace_parts c brace in rw (quote, slash, none, braces.0, braces.1) refl
 
 -- what a character of text is
 pub record IsLiteral (quote c : ℕ) : Type 0 where

@@ -2,7 +2,7 @@
 use Rattle.std.proofs.Common.{◌≡◌, ℕ, ◌+◌, inl, inr, true, false, Some, List, [], ◌∷◌, ◌++◌, refl, sym, ap, ◌∙◌, subst, append-nil, arith}
 use Rattle.std.specs.Prelude.{encode_utf8_all}
 use Rattle.std.proofs.lemmas.Bool.{both_ways, and_right, false_from_ne_true}
-use Rattle.std.proofs.lemmas.Str.{encode_ascii, encodes_same}
+use Rattle.std.proofs.lemmas.Str.{encode_ascii}
 use Rattle.py_lines.specs.Character.{is_line_feed, is_return}
 use Rattle.py_lines.specs.Piece.{line_end, Piece, ends, begins, spelled}
 use Rattle.py_lines.specs.Fields.{AreReadBefore, fielded}
@@ -72,10 +72,6 @@ returned m old read rest way start returns empty follows =
           tallies = closes_shut old done modes.Return held sound.holds tallies;
         }
     go k is done held steps sound tallies stacked none = absurd (both_ways _ refl is)
-
--- what follows begins with another character, or is nothing
-pub follows_nothing : (rest after : List ℕ) → rest ≡ [] → encode_utf8_all after ≡ rest → begins is_line_feed after ≡ false
-follows_nothing rest after none spells = ap (begins is_line_feed) (encodes_same after [] (spells ∙ none))
 
 -- characters whose first byte is no LF begin with no LF
 no_feed_first : (cs tail rest : List ℕ) (b : ℕ) → encode_utf8_all cs ++ tail ≡ b ∷ rest → (b ≡ 10 → ⊥) → begins is_line_feed cs ≡ false

@@ -31,7 +31,7 @@ use Rattle.py_lines.proofs.LogicalLines.Cuts.{uncut}
 use Rattle.py_lines.proofs.Lexings.LineEnds.{ends-line, ends-append}
 use Rattle.py_lines.proofs.LineScan.LineCount.{line_ends-bytes}
 use Rattle.py_lines.proofs.LineScan.NextCharacter.{return_mode, takes_fielded}
-use Rattle.py_lines.proofs.LineScan.LineSteps.{way_here, way_keeps, way_stop, at_line_end, returned, follows_nothing, follows_whole}
+use Rattle.py_lines.proofs.LineScan.LineSteps.{way_here, way_keeps, way_stop, at_line_end, returned, follows_whole}
 use Rattle.py_lines.specs.Private.FieldScan.{IsInPlace}
 use Rattle.py_lines.specs.Private.FieldMachine.{FieldScanned}
 use Rattle.py_lines.proofs.LineScan.StringSteps.{fielded_at}
@@ -269,7 +269,7 @@ pub scans_returned : {m : Mode} {line : ℕ} {text : List ℕ} {old : Scan} → 
 scans_returned {m = m} {old = old} utf8 start scans ended =
     let parts = and_parts (is_return_mode old.piece.mode) (none_open (stack_of old.brackets)) ended in
     as_text utf8 scans (returned m old scans.read _ scans.stops.0 start parts.0 parts.1
-    (λ more spells. follows_nothing _ more (text_none scans.rest (after utf8 scans) scans.stops.1) spells))
+    (λ more spells. ap (begins is_line_feed) (encodes_same more [] (spells ∙ text_none scans.rest (after utf8 scans) scans.stops.1))))
 
 -- and elsewhere it stops as it does in the line
 pub scans_alone : {m : Mode} {line : ℕ} {text : List ℕ} {scan : Scan} (stop : Stop) → IsUtf8 text

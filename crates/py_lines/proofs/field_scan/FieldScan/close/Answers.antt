@@ -1,6 +1,5 @@
-use Rattle.std.proofs.Common.{◌+◌, ℕ, sym, ap, ◌∙◌}
+use Rattle.std.proofs.Common.{refl, sym, ◌∙◌}
 use Rattle.std.proofs.lemmas.Bool.{eqb-true, both_ways, eq-eqb}
-use Rattle.py_lines.specs.Private.FieldScan.{freed_at}
 use Rattle.py_lines.proofs.FieldScans.Frames.{none_in, none_outside}
 use Rattle.py_lines.proofs.FieldScans.Taking.{closed_in, closed_out}
 use Rattle.py_lines.proofs.field_scan.FieldScan.close.Goals as goal
@@ -12,5 +11,5 @@ returns-then-is_empty-clause-takes c = λ depth base t follow inside at is.
 
 pub returns-clause-takes : goal.returns-clause-takes
 returns-clause-takes c = λ depth base t follow inside at is.
-    closed_in c.args.self.now base depth t c.args.c c.args.place follow inside at is
-    (λ outside. both_ways _ c.if-is_empty.false (c.is_empty.ensures ∙ eq-eqb _ 0 (none_in base t.outer t.done t.openers c.args.self.now.frames outside follow.frames))) _ (c.free.ensures ∙ ap (λ (k : ℕ). freed_at c.args.self.now (c.args.place + k)) c.len_utf8.ensures.value)
+    rw (c.free.ensures, c.len_utf8.ensures.value) (closed_in c.args.self.now base depth t c.args.c c.args.place follow inside at is
+    (λ outside. both_ways _ c.if-is_empty.false (c.is_empty.ensures ∙ eq-eqb _ 0 (none_in base t.outer t.done t.openers c.args.self.now.frames outside follow.frames))) _ refl)

@@ -1,10 +1,8 @@
-use Rattle.std.proofs.Common.{List, drop, ap, ◌∙◌}
-use Rattle.py_lines.specs.declared.frames.Frame.{Frame}
-use Rattle.py_lines.specs.Private.FieldScan.{ended_in}
+use Rattle.std.proofs.Common.{refl}
 use Rattle.py_lines.proofs.FieldScans.Openings.{ends_there}
 use Rattle.py_lines.proofs.field_scan.FieldScan.end_field.Goals as goal
 
 pub returns-clause-takes : goal.returns-clause-takes
 returns-clause-takes c = λ character place depth base t f inside at is.
     let top = rw c.in-Some-Field.field-0-is at c.in-Some-Field.ensures in
-    ends_there c.args.self.now base depth character c.in-Some-Field.field top.0 top.1 t f is _ (c.leave.ensures.back ∙ ap (λ (fs : List Frame). ended_in c.in-Some-Field.field (drop 1 fs)) top.1)
+    rw (c.leave.ensures.back, top.1) (ends_there c.args.self.now base depth character c.in-Some-Field.field top.0 top.1 t f is _ refl)

@@ -1,8 +1,5 @@
-use Rattle.std.proofs.Common.{◌≡◌, [], ◌+◌, List, drop, sym, ap, ◌∙◌, subst}
-use Rattle.py_lines.specs.declared.field_scan.FieldScan.{FieldScan}
-use Rattle.py_lines.specs.declared.frames.Frame.{Frame}
+use Rattle.std.proofs.Common.{drop, refl, sym, ap, ◌∙◌}
 use Rattle.py_lines.specs.declared.frames.Frame.TheVariants as frame
-use Rattle.py_lines.specs.Private.FieldScan.{IsInPlace, freed_at}
 use Rattle.py_lines.proofs.FieldScans.Openings.{bracket_closes, bracket_wrong, bracket_passes}
 use Rattle.py_lines.proofs.FieldScans.Places.{some_open}
 use Rattle.py_lines.proofs.field_scan.FieldScan.take_in_bracket.Goals as goal
@@ -17,24 +14,21 @@ returns-then-c-closing_of-clause-takes c = λ depth base t follow inside at is.
 pub returns-clause-takes : goal.returns-clause-takes
 returns-clause-takes c = λ depth base t follow inside at is.
     let (spot, (others, top)) = c.requires.innermost in
-    let free = λ (n : FieldScan). freed_at n (c.args.place + 1) in
     elim c.if-is_closing.branch [
       | then-is_closing+else-c-closing_of w ↦
-          bracket_closes c.args.self.now base depth c.args.c c.args.place t follow inside at is c.requires.operator c.args.opener spot others top
-          (sym c.is_closing.ensures ∙ w.if-is_closing.true) (w.if-c-closing_of.false ∙ w.closing_of.ensures) _
-          (c.free.ensures ∙ ap free (w.self-is ∙ ap (λ (fs : List Frame). record c.args.self.now { frames = fs }) (w.pop.ensures.rest ∙ ap (drop 1) top)))
+          rw (c.free.ensures, w.self-is, w.pop.ensures.rest ∙ ap (drop 1) top)
+          (bracket_closes c.args.self.now base depth c.args.c c.args.place t follow inside at is c.requires.operator c.args.opener spot others top
+          (sym c.is_closing.ensures ∙ w.if-is_closing.true) (w.if-c-closing_of.false ∙ w.closing_of.ensures) _ refl)
       | else-is_closing w ↦
-          bracket_passes c.args.self.now base depth c.args.c c.args.place t follow inside at is c.requires.operator c.args.opener spot others top c.requires.other (sym c.is_closing.ensures ∙ w.if-is_closing.false) _
-          (c.free.ensures ∙ ap free w.self-is)
+          rw (c.free.ensures, w.self-is)
+          (bracket_passes c.args.self.now base depth c.args.c c.args.place t follow inside at is c.requires.operator c.args.opener spot others top c.requires.other (sym c.is_closing.ensures ∙ w.if-is_closing.false) _ refl)
     ]
 
 pub returns-clause-placed : goal.returns-clause-placed
 returns-clause-placed c = λ old.
-    let top = c.requires.innermost.1 in
-    let last : Frame = frame.Bracket c.args.opener c.requires.innermost.0 in
-    subst IsInPlace (sym c.free.ensures)
-    (elim c.if-is_closing.branch [
-      | then-is_closing+else-c-closing_of w ↦
-          subst (λ (n : FieldScan). n.frames ≡ [] → ⊥) (sym w.self-is) (λ none. w.pop.ensures.nested last top.0 top.1 (sym (w.pop.ensures.rest ∙ ap (drop 1) top.1) ∙ none))
-      | else-is_closing w ↦ subst (λ (n : FieldScan). n.frames ≡ [] → ⊥) (sym w.self-is) (some_open c.args.self.now.frames top.0 last top.1)
-    ])
+    let (spot, (others, top)) = c.requires.innermost in
+    let last = frame.Bracket c.args.opener spot in
+    elim c.if-is_closing.branch [
+      | then-is_closing+else-c-closing_of w ↦ rw (c.free.ensures, w.self-is, w.pop.ensures.rest ∙ ap (drop 1) top) (w.pop.ensures.nested last others top)
+      | else-is_closing w ↦ rw (c.free.ensures, w.self-is) (some_open c.args.self.now.frames others last top)
+    ]

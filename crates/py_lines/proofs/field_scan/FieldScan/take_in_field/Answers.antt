@@ -1,6 +1,4 @@
-use Rattle.std.proofs.Common.{List, drop, refl, sym, ap, ◌∙◌}
-use Rattle.py_lines.specs.declared.frames.Frame.{Frame}
-use Rattle.py_lines.specs.Private.FieldScan.{ended_in}
+use Rattle.std.proofs.Common.{refl, sym, ◌∙◌}
 use Rattle.py_lines.proofs.FieldScans.Openings.{field_ends, field_specifies, field_closes_none, field_passes}
 use Rattle.py_lines.proofs.field_scan.FieldScan.take_in_field.Goals as goal
 
@@ -12,8 +10,8 @@ returns-then-is_closing-clause-takes c = λ depth base t follow inside at is.
 pub returns-then-c-eq125-clause-takes : goal.returns-then-c-eq125-clause-takes
 returns-then-c-eq125-clause-takes c = λ depth base t follow inside at is.
     let top = c.requires.innermost in
-    field_ends c.args.self.now base depth c.args.c c.args.place t follow inside at is c.requires.operator c.args.field top.0 top.1 c.if-c-eq125.true _
-    (c.leave.ensures.back ∙ ap (λ (fs : List Frame). ended_in c.args.field (drop 1 fs)) top.1)
+    rw (c.leave.ensures.back, top.1)
+    (field_ends c.args.self.now base depth c.args.c c.args.place t follow inside at is c.requires.operator c.args.field top.0 top.1 c.if-c-eq125.true _ refl)
 
 pub returns-then-c-eq58-clause-takes : goal.returns-then-c-eq58-clause-takes
 returns-then-c-eq58-clause-takes c = λ depth base t follow inside at is.

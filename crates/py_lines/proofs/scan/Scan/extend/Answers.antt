@@ -1,7 +1,5 @@
-use Rattle.std.proofs.Common.{◌-◌, length, take, drop, sym, subst, arith, ◌∙◌}
-use Rattle.py_lines.specs.declared.scan.Scan.{Scan}
-use Rattle.py_lines.specs.declared.scan.Stop.TheVariants as stops
-use Rattle.py_lines.proofs.LineScan.LineStops.{GoesTo, StopsNow, gone, goes_long, left_ends, left_goes, goes_run, goes_character, stops_line, stops_returned, stops_refused, stops_text}
+use Rattle.std.proofs.Common.{◌-◌, length, take, drop, sym, arith, ◌∙◌}
+use Rattle.py_lines.proofs.LineScan.LineStops.{GoesTo, gone, goes_long, left_ends, left_goes, goes_run, goes_character, stops_line, stops_returned, stops_refused, stops_text}
 use Rattle.py_lines.proofs.Text.FirstCharacters.{first_size}
 use Rattle.py_lines.proofs.scan.Scan.extend.Goals as goal
 use Rattle.py_lines.proofs.scan.Scan.extend.Goals.{In-Bytes, In-Going}
@@ -34,7 +32,7 @@ returns-in_default c = record { stops = stops_text (left_to (goal.at.returns-in_
 
 pub returns-then-ends_before : goal.returns-then-ends_before
 returns-then-ends_before c = record {
-  stops = subst (λ (x : Scan). StopsNow c.args.self.now c.args.bytes.now x (stops.LineEnd 1)) (sym c.free.ensures)
+  stops = rw c.free.ensures
       (stops_returned (left_to (goal.at.returns-then-ends_before c).In-Bytes) c.in-Some.ensures (sym c.ends_before.ensures ∙ c.if-ends_before.true));
 }
 

@@ -1,6 +1,6 @@
-use Rattle.std.proofs.Common.{◌≡◌, ℕ, ◌<◌, ◌≤◌, ◌⊎◌, List, inl, inr, sym, subst}
+use Rattle.std.proofs.Common.{◌≡◌, ◌<◌, ◌≤◌, ◌⊎◌, inl, inr}
 use Rattle.std.proofs.lemmas.List.{take_rest}
-use Rattle.py_lines.specs.Private.Run.{with_bytes, HoldsRun}
+use Rattle.py_lines.specs.Private.Run.{with_bytes}
 use Rattle.py_lines.proofs.LineScan.Runs.{holds_run}
 use Rattle.py_lines.proofs.scan.Scan.hold.Goals as goal
 use Rattle.py_lines.proofs.scan.Scan.hold.Goals.{then-len-gt0, else-len-gt0}
@@ -17,4 +17,4 @@ returns c =
       | then-len-gt0 w ↦ inl (w.if-len-gt0.true, w.self-is)
       | else-len-gt0 w ↦ inr (w.if-len-gt0.false, w.self-is)
     ] in
-    subst (λ (r : List ℕ). HoldsRun old bytes r new) (sym (take_rest bytes len)) (holds_run old mid new bytes len c.hold_run-len.ensures how)
+    rw (take_rest bytes len) (holds_run old mid new bytes len c.hold_run-len.ensures how)

@@ -1,5 +1,4 @@
-use Rattle.std.proofs.Common.{refl, sym, ap, ◌∙◌}
-use Rattle.py_lines.specs.declared.scan.Scan.{Scan}
+use Rattle.std.proofs.Common.{refl, sym, ◌∙◌}
 use Rattle.py_lines.specs.Private.Scan.{ScansIn}
 use Rattle.py_lines.proofs.LineScan.LineStops.{begun_reached, scans_returned, scans_alone}
 use Rattle.py_lines.proofs.scan.Scan.scan_text.Goals.{After-extend-stop}
@@ -17,7 +16,7 @@ returns-then-is_returned c =
     let scans = scanned (goal.at.returns-then-is_returned c).After-extend-stop in
     record {
       stops = rw c.free.ensures (scans_returned c.utf8.text c.requires.sound (rw c.in-TextEnd.is at scans) (sym c.is_returned.ensures ∙ c.if-is_returned.true));
-      line = ap (λ (x : Scan). x.line) c.free.ensures ∙ scans.number;
+      line = rw c.free.ensures scans.number;
     }
 
 pub returns-else-is_returned : goal.returns-else-is_returned
