@@ -9,15 +9,8 @@ use Rattle.unicode_ident.specs.Ident.{is_xid_start}
 use Rattle.py_lines.specs.Character.{is_word_start, is_word_character, is_digit}
 use Rattle.py_lines.specs.PieceGrammar.{IsWord}
 
-letter_is_ascii : (c : ℕ) → is_ascii_alphabetic c ≡ true → c < 128
-letter_is_ascii c h = grind (arith, nat_tests)
-
 letter_starts : (c : ℕ) → is_ascii_alphabetic c ≡ true → is_xid_start c ≡ true
-letter_starts c h = is_xid_start-ascii c (letter_is_ascii c h) ∙ h
-
-begins_word : (c : ℕ) → is_ascii_alphabetic c ≡ true → is_word_start c ≡ true
-unfolding is_word_start
-begins_word c h = ap (λ (b : Bool). b || (c == 95) || is_digit c) (letter_starts c h)
+letter_starts c h = is_xid_start-ascii c (grind (arith, nat_tests)) ∙ h
 
 continue_word : (cs : List ℕ) → list_all is_ascii_alphabetic cs ≡ true → list_all is_word_character cs ≡ true
 unfolding is_word_character
@@ -25,4 +18,5 @@ continue_word [] h = refl
 continue_word (c ∷ cs) h = let both = and_parts _ _ h in and_from _ _ (is_xid_start-is_xid_continue c (letter_starts c both.0)) (continue_word cs both.1)
 
 pub letters_word : (first : ℕ) (others : List ℕ) → list_all is_ascii_alphabetic (first ∷ others) ≡ true → IsWord (first ∷ others)
-letters_word first others h = let both = and_parts _ _ h in (first, others, refl, begins_word first both.0, continue_word others both.1)
+unfolding is_word_start
+letters_word first others h = let both = and_parts _ _ h in (first, others, refl, ap (λ (b : Bool). b || (first == 95) || is_digit first) (letter_starts first both.0), continue_word others both.1)

@@ -237,6 +237,7 @@ fn word_run(spelling: Spelling, bytes: &[u8]) -> usize
 }
 
 /// How many bytes a text begins with that end no line.
+#[tactic(auto, using(crate::proofs::Text::CharacterTests::comment_goes_on, crate::proofs::Text::CharacterTests::comment_stops))]
 pub fn comment_run(bytes: &[u8]) -> usize
     ensures { IsRunOf is_comment_byte bytes.now result }
 {
@@ -250,6 +251,7 @@ pub fn comment_run(bytes: &[u8]) -> usize
 }
 
 /// How many bytes the comment has that a text begins with, if it is whole characters and a line end follows it.
+#[tactic(auto, using(crate::proofs::LineScan::Spans::ascii_comment))]
 #[inline(always)]
 pub fn whole_comment(bytes: &[u8]) -> Option<usize>
     ensures { IsWholeComment bytes.now result }

@@ -34,6 +34,7 @@ fn ascii_blocks(bytes: &[u8]) -> usize
 }
 
 /// Whether the bytes are few, and ASCII.
+#[tactic(auto, using(crate::proofs::Text::Utf8Prefixes::ascii_text))]
 #[inline(always)]
 fn is_short_ascii(bytes: &[u8]) -> bool
     ensures { IsTrue result → IsUtf8 bytes.now }
@@ -49,6 +50,7 @@ fn is_short_ascii(bytes: &[u8]) -> bool
 }
 
 /// The text that the bytes begin with, up to the first that begin no character.
+#[tactic(auto, using(crate::proofs::Text::Utf8Prefixes::whole_text))]
 #[inline(always)]
 pub fn utf8_prefix(bytes: &[u8]) -> &str
     ensures prefix { result.now ≡ take (length result.now) bytes.now }

@@ -52,20 +52,9 @@ EachAtDepth-parts P d (p ∷ ps) qs h =
 -- a balanced list leaves the depth as it was
 pub balanced_depth : (ps : List Piece) → IsBalanced ps → (d : ℕ) → depth_through d ps ≡ d
 balanced_depth ps (balance.none _ is) d = ap (depth_through d) is
-balanced_depth ps (balance.one _ p is other) d =
-    let parts = or_parts (is_opener p) (is_closer p) other in
-    ap (depth_through d) is ∙ depth-other d p parts.0 parts.1
-balanced_depth ps (balance.pair _ inner a b is both within) d =
-    ap (depth_through d) is
-    ∙ depth_through-append d (a ∷ inner) (b ∷ [])
-    ∙ ap (λ (n : ℕ). depth_after (depth_through n inner) b) (depth-opener d a both.opens)
-    ∙ ap (λ (n : ℕ). depth_after n b) (balanced_depth inner within (suc d))
-    ∙ depth-closer d b both.closes
-balanced_depth ps (balance.both _ first second is left right) d =
-    ap (depth_through d) is
-    ∙ depth_through-append d first second
-    ∙ ap (λ (n : ℕ). depth_through n second) (balanced_depth first left d)
-    ∙ balanced_depth second right d
+balanced_depth ps (balance.one _ p is other) d = let parts = or_parts (is_opener p) (is_closer p) other in cc (depth-other d p parts.0 parts.1)
+balanced_depth ps (balance.pair _ inner a b is both within) d = cc (depth_through-append d (a ∷ inner) (b ∷ []), depth-opener d a both.opens, balanced_depth inner within (suc d), depth-closer d b both.closes)
+balanced_depth ps (balance.both _ first second is left right) d = cc (depth_through-append d first second, balanced_depth first left d, balanced_depth second right d)
 
 -- stacks, one list of pieces after another
 pub through-append : (o : Option (List Bracket)) (done ps qs : List Piece) → brackets_through o done (ps ++ qs) ≡ brackets_through (brackets_through o done ps) (done ++ ps) qs
@@ -93,24 +82,16 @@ pair_kind a b both = sym (kinds_agree a.text b.text (operator_begins is_opening 
 -- a balanced list leaves the stack as it was
 pub balanced_through : (ps : List Piece) → IsBalanced ps → (st : List Bracket) (done : List Piece) → IsShallowPlain (length st) ps → brackets_through (Some st) done ps ≡ Some st
 balanced_through ps (balance.none _ is) st done shallow = ap (brackets_through (Some st) done) is
-balanced_through ps (balance.one _ p is other) st done shallow =
-    let parts = or_parts (is_opener p) (is_closer p) other in
-    ap (brackets_through (Some st) done) is ∙ ap (λ o. brackets_through o (done ++ p ∷ []) []) (other_keeps st (byte_len (spelled done)) p parts.0 parts.1)
+balanced_through ps (balance.one _ p is other) st done shallow = let parts = or_parts (is_opener p) (is_closer p) other in cc (other_keeps st (byte_len (spelled done)) p parts.0 parts.1)
 balanced_through ps (balance.pair _ inner a b is both within) st done shallow =
     let parts = EachAtDepth-parts OpensShallow (length st) (a ∷ inner) (b ∷ []) (subst (IsShallowPlain (length st)) is shallow) in
     let top : Bracket = record { opener = first_or_zero a.text; place = byte_len (spelled done) } in
-    let middle : List Piece = done ++ a ∷ [] in
-    ap (brackets_through (Some st) done) is
-    ∙ through-append (Some st) done (a ∷ inner) (b ∷ [])
-    ∙ ap (λ o. brackets_through (brackets_through o middle inner) (done ++ a ∷ inner) (b ∷ [])) (opener_pushes st (byte_len (spelled done)) a both.opens (parts.0.0 both.opens))
-    ∙ ap (λ o. brackets_through o (done ++ a ∷ inner) (b ∷ [])) (balanced_through inner within (top ∷ st) middle (subst (λ (n : ℕ). IsShallowPlain n inner) (depth-opener (length st) a both.opens) parts.0.1))
-    ∙ ap (λ o. brackets_through o ((done ++ a ∷ inner) ++ b ∷ []) []) (closer_pops st (byte_len (spelled (done ++ a ∷ inner))) top b both.closes (pair_kind a b both))
+    let inside = balanced_through inner within (top ∷ st) (done ++ a ∷ []) (subst (λ (n : ℕ). IsShallowPlain n inner) (depth-opener (length st) a both.opens) parts.0.1) in
+    cc (through-append (Some st) done (a ∷ inner) (b ∷ []), opener_pushes st (byte_len (spelled done)) a both.opens (parts.0.0 both.opens), inside, closer_pops st (byte_len (spelled (done ++ a ∷ inner))) top b both.closes (pair_kind a b both))
 balanced_through ps (balance.both _ first second is left right) st done shallow =
     let parts = EachAtDepth-parts OpensShallow (length st) first second (subst (IsShallowPlain (length st)) is shallow) in
-    ap (brackets_through (Some st) done) is
-    ∙ through-append (Some st) done first second
-    ∙ ap (λ o. brackets_through o (done ++ first) second) (balanced_through first left st done parts.0)
-    ∙ balanced_through second right st (done ++ first) (subst (λ (n : ℕ). IsShallowPlain n second) (balanced_depth first left (length st)) parts.1)
+    let later = balanced_through second right st (done ++ first) (subst (λ (n : ℕ). IsShallowPlain n second) (balanced_depth first left (length st)) parts.1) in
+    cc (through-append (Some st) done first second, balanced_through first left st done parts.0, later)
 
 -- the brackets that are open after pieces, each with the balanced pieces after it
 pub data StandsAt : List Bracket → List Piece → Type 0 where

@@ -1,5 +1,5 @@
 -- Lists of pieces one after another.
-use Rattle.std.proofs.Common.{◌≡◌, ℕ, false, List, [], ◌∷◌, ◌++◌, refl, sym, ap, ◌∙◌, subst, append_assoc, append-nil}
+use Rattle.std.proofs.Common.{◌≡◌, ℕ, false, List, [], ◌∷◌, ◌++◌, refl, sym, ap, ◌∙◌, subst, append_assoc, append-nil, arith}
 use Rattle.py_lines.specs.Piece.{Class, Piece, is_mark_class, begins_marked, spelled}
 use Rattle.py_lines.specs.PieceGrammar.{Grammar, InClassIn, MayPrecedeIn, AreReadIn, joined}
 use Rattle.py_lines.specs.Fields.{fielded, InClass, MayPrecede, AreReadBefore}
@@ -17,8 +17,7 @@ MayFollow [] qs = Unit {0}
 MayFollow (p ∷ ps) qs = begins_marked qs ≡ false
 
 begins_marked-append : (ps qs : List Piece) → begins_marked ps ≡ false → begins_marked qs ≡ false → begins_marked (ps ++ qs) ≡ false
-begins_marked-append [] qs first second = second
-begins_marked-append (p ∷ ps) qs first second = first
+begins_marked-append ps qs first second = grind (arith, first, second)
 
 -- pieces that are read before others, and these before the rest, by any grammar of strings
 pub AreReadIn-append : (grammar : Grammar) (ps qs : List Piece) (rest : List ℕ) → AreReadIn grammar ps (spelled qs ++ rest) → AreReadIn grammar qs rest → MayFollow ps qs → AreReadIn grammar (ps ++ qs) rest
@@ -52,8 +51,7 @@ spelled-push ps class text = spelled-append ps (piece class text ∷ []) ∙ ap 
 
 -- a piece that is no mark follows any pieces
 pub follows_any : (ps : List Piece) (class : Class) (text : List ℕ) → is_mark_class class ≡ false → MayFollow ps (piece class text ∷ [])
-follows_any [] class text h = tt
-follows_any (p ∷ ps) class text h = h
+follows_any ps class text h = grind (arith, h)
 
 pub joined-append : (xs ys : List (List ℕ)) → joined (xs ++ ys) ≡ joined xs ++ joined ys
 joined-append [] ys = refl

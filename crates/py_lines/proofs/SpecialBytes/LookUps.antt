@@ -91,5 +91,4 @@ special_bits bytes uppers bits agree enough fits e f k less =
     start = omega arith
 
     back : (b : Bool) → eqb (cond b 1 0) 1 ≡ b
-    back true = refl
-    back false = refl
+    back b = grind arith

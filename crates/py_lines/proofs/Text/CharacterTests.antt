@@ -1,4 +1,6 @@
 -- What a test of a character says where the character is one of a list.
+use Rattle.py_lines.specs.Private.Run.{is_comment_byte}
+use Rattle.memchr.specs.Find.{is_byte2}
 use Rattle.std.proofs.Common.{◌≡◌, ℕ, ◌<◌, leb, Bool, true, false, ◌||◌, ◌&&◌, eqb, List, [], ◌∷◌, refl, sym, ap, ◌∙◌, subst, ⊎_elim, arith}
 use Rattle.std.specs.Prelude.{codes}
 use Rattle.std.specs.List.{list_any, list_all}
@@ -135,3 +137,12 @@ break-not-others c h =
 pub return-not-brace : (c : ℕ) → is_return c ≡ true → is_brace c ≡ false
 unfolding is_return is_brace
 return-not-brace c h = none_of is_brace (codes "\r") c refl h
+
+-- bytes that end no line, as the search for one tells them
+pub comment_goes_on : (x : ℕ) → (is_byte2 10 13 x ≡ true → ⊥) → is_comment_byte x ≡ true
+unfolding is_break
+comment_goes_on x none = grind arith
+
+pub comment_stops : (x : ℕ) → is_byte2 10 13 x ≡ true → is_comment_byte x ≡ false
+unfolding is_break
+comment_stops x is = grind arith

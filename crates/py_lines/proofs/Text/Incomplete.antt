@@ -6,7 +6,7 @@ use Rattle.std.specs.Str.{StartsWithNoChar, IsUtf8, IsValidUpTo}
 use Rattle.py_lines.specs.Private.Feed.{TellsHopeless}
 use Rattle.std.specs.Str.Lossy.{utf8_error_len, error_len_of_some, error_len_after_one, error_len_after_two, second_byte_min, second_byte_max}
 use Rattle.std.specs.Int.{is_in_range, IsInRange, IsOutOfRange}
-use Rattle.std.proofs.lemmas.Bool.{cond_both, both_ways, eqb-true, eq-eqb, ltb-true, leb-true, leb-false, cases_lt, and_parts, le-ltb, ne_eqb}
+use Rattle.std.proofs.lemmas.Bool.{cond_both, both_ways, eqb-true, eq-eqb, ltb-true, leb-true, leb-false, cases_lt, and_parts, le-ltb, ne_eqb, cases_Bool}
 use Rattle.std.proofs.Math.Utf8.{next, low_scalar}
 use Rattle.py_lines.proofs.Text.Utf8Shapes.{Follows, no_longer, one, two, three, four, high_scalar}
 use Rattle.std.proofs.lemmas.List.{take-append-drop}
@@ -79,16 +79,11 @@ out_of_bounds x y low high out f three four = grind (arith, nat_tests)
 
 -- what `error_len` says of bytes that begin no character
 abbrev pub Verdict : List ℕ → Option ℕ → Type 0
-Verdict bytes None = ¬ (IsHopeless bytes)
-Verdict bytes (Some k) = IsHopeless bytes
+Verdict bytes len = TellsHopeless bytes (is_some len)
 
 in_or_out : (a b c : ℕ) (P : Bool → Type 0) → (IsInRange a b c → P true) → (IsOutOfRange a b c → P false) → P (is_in_range a b c)
-in_or_out a b c P inside outside = go (leb a c) (leb c b) refl refl
-  where
-    go : (p q : Bool) → leb a c ≡ p → leb c b ≡ q → P (p && q)
-    go true true h k = inside (leb-true a c h, leb-true c b k)
-    go true false h k = outside (inr (leb-false c b k))
-    go false q h k = outside (inl (leb-false a c h))
+in_or_out a b c P inside outside =
+    ⊎_elim (λ h. subst P (sym h) (inside (grind (arith, nat_tests, h)))) (λ h. subst P (sym h) (outside (grind (arith, nat_tests, h)))) (cases_Bool (is_in_range a b c))
 
 -- from the third byte on
 after_two : (x y : ℕ) (r : List ℕ) → 194 ≤ x → x ≤ 244 → In x y → StartsWithNoChar (x ∷ y ∷ r) → Verdict (x ∷ y ∷ r) (error_len_after_two (x ∷ y ∷ r))
@@ -141,8 +136,5 @@ tells_ok bytes utf8 none =
     subst (λ t. ¬ (IsHopeless t)) (sym empty) part_none
 
 pub tells_error : (bytes : List ℕ) (n : ℕ) (len : Option ℕ) → StartsWithNoChar bytes → IsValidUpTo bytes n → len ≡ utf8_error_len (drop n bytes) → (b : Bool) → b ≡ is_some len → TellsHopeless bytes b
-tells_error bytes n len none valid is b same = subst (TellsHopeless bytes) (sym same) (go len (subst (Verdict bytes) (sym (is ∙ ap (λ (m : ℕ). utf8_error_len (drop m bytes)) (valid_none bytes n none valid))) (verdict bytes none)))
-  where
-    go : (o : Option ℕ) → Verdict bytes o → TellsHopeless bytes (is_some o)
-    go None says = says
-    go (Some k) says = says
+tells_error bytes n len none valid is b same =
+    subst (TellsHopeless bytes) (sym same) (subst (Verdict bytes) (sym (is ∙ ap (λ (m : ℕ). utf8_error_len (drop m bytes)) (valid_none bytes n none valid))) (verdict bytes none))

@@ -5,9 +5,6 @@ use Rattle.std.proofs.lemmas.List.{take_rest}
 use Rattle.py_lines.proofs.LineScan.Spans.{ascii_comment, wide_comment}
 use Rattle.py_lines.proofs.run.whole_comment.Goals as goal
 
-pub returns-then-is_ascii : goal.returns-then-is_ascii
-returns-then-is_ascii c = ascii_comment c.args.bytes.now c.len_in-ascii.result c.len_in-ascii.ensures (omega (arith, c.len_in-ascii.ensures.within, c.if-ascii-bytes.false)) (ltb-true _ 128 (sym c.is_ascii.ensures ∙ c.if-is_ascii.true))
-
 pub returns : goal.returns
 returns c =
     let bytes = c.args.bytes.now in

@@ -4,16 +4,11 @@ use Rattle.std.specs.Bool.{MatchBool}
 use Rattle.std.specs.Str.{IsAscii, IsNotAscii}
 use Rattle.std.proofs.lemmas.List.{take-append-drop}
 use Rattle.std.proofs.lemmas.Str.{IsUtf8-from_ascii, IsUtf8-append}
+use Rattle.py_lines.proofs.Text.Utf8Prefixes.{ascii_text}
 use Rattle.py_lines.proofs.utf8.is_short_ascii.Goals as goal
-
-utf8_of : (bs : List ℕ) (b : Bool) → MatchBool b (IsAscii bs) (IsNotAscii bs) → IsTrue b → IsUtf8 bs
-utf8_of bs b cases is = IsUtf8-from_ascii bs (subst (λ (t : Bool). MatchBool t (IsAscii bs) (IsNotAscii bs)) is cases)
-
-pub returns-then-bytes-le-SHORT : goal.returns-then-bytes-le-SHORT
-returns-then-bytes-le-SHORT c = utf8_of c.args.bytes.now c.is_ascii.result c.is_ascii.ensures.cases
 
 pub returns-then-is_ascii : goal.returns-then-is_ascii
 returns-then-is_ascii c = λ is.
     let prefix = IsUtf8-from_ascii c.split_at.result.0.now c.if-is_ascii.ensures.cases in
-    let back = utf8_of c.split_at.result.1.now c.is_ascii-then-is_ascii.result c.is_ascii-then-is_ascii.ensures.cases is in
+    let back = ascii_text c.split_at.result.1.now c.is_ascii-then-is_ascii.result c.is_ascii-then-is_ascii.ensures.cases is in
     subst IsUtf8 (ap (λ (l : List ℕ). l ++ c.split_at.result.1.now) c.split_at.ensures.front ∙ ap (λ (l : List ℕ). take 64 c.args.bytes.now ++ l) c.split_at.ensures.back ∙ take-append-drop 64 c.args.bytes.now) (IsUtf8-append c.split_at.result.0.now c.split_at.result.1.now prefix back)

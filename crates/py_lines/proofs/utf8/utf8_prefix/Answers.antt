@@ -1,16 +1,10 @@
 use Rattle.std.proofs.Common.{length, ◌+◌, ◌-◌, take, drop, sym, ap, ◌∙◌, subst, length-take-le}
 use Rattle.std.specs.Str.{StartsWithNoChar, IsValidUpTo}
-use Rattle.py_lines.proofs.Text.Utf8Prefixes.{whole_text, joined_text, joined_prefix}
+use Rattle.py_lines.proofs.Text.Utf8Prefixes.{joined_text, joined_prefix}
 use Rattle.py_lines.proofs.utf8.utf8_prefix.Goals as goal
-
-pub returns-then-is_short_ascii-clause-bad : goal.returns-then-is_short_ascii-clause-bad
-returns-then-is_short_ascii-clause-bad c = whole_text c.from_utf8_unchecked.result.now c.args.bytes.now c.from_utf8_unchecked.ensures
 
 pub from_utf8_unchecked-requires-in-Ok : goal.from_utf8_unchecked-requires-in-Ok
 from_utf8_unchecked-requires-in-Ok c = joined_text c.args.bytes.now c.ascii_blocks-ascii.result c.ascii_blocks-ascii.ensures.utf8 c.in-Ok.ensures.cases.1
-
-pub returns-in-Ok-clause-bad : goal.returns-in-Ok-clause-bad
-returns-in-Ok-clause-bad c = whole_text c.from_utf8_unchecked-in-Ok.result.now c.args.bytes.now c.from_utf8_unchecked-in-Ok.ensures
 
 pub from_utf8_unchecked-requires-in-Err : goal.from_utf8_unchecked-requires-in-Err
 from_utf8_unchecked-requires-in-Err c =
