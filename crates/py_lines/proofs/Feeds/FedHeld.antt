@@ -2,31 +2,26 @@
 use Rattle.std.proofs.Common.{◌≡◌, ℕ, ◌+◌, ◌<◌, true, false, ◌&&◌, None, Some, List, [], ◌∷◌, ◌++◌, length, take, refl, sym, ap, ◌∙◌, subst, ⊎_elim, inl, inr, append-nil, arith, length-append}
 use Rattle.std.specs.Prelude.{encode_utf8_all}
 use Rattle.std.proofs.lemmas.Bool.{cases_lt}
-use Rattle.std.proofs.lemmas.List.{take_all}
 use Rattle.py_lines.specs.Character.{is_return}
 use Rattle.py_lines.specs.Piece.{ends, spelled}
 use Rattle.py_lines.specs.LogicalLine.{LogicalLine, line_of}
-use Rattle.py_lines.specs.Fields.{AreReadBefore}
-use Rattle.py_lines.specs.Reading.{Decodes, IsBalancedReading, EndsLine}
-use Rattle.py_lines.specs.Faults.{IsLive}
-use Rattle.py_lines.specs.Settled.{IsHopeless, IsSettled, Decides, DecideNone}
+use Rattle.std.specs.Str.{all_scalars}
+use Rattle.py_lines.specs.Lexed.{IsLexed}
+use Rattle.py_lines.specs.Settled.{IsSettled, Decides, DecideNone}
 use Rattle.py_lines.specs.Given.{AreFirstLines}
 use Rattle.py_lines.specs.ScannerState.{GoesOnWith, EndsExactly, HoldsReady}
-use Rattle.py_lines.specs.declared.fault.Fault.{Fault}
 use Rattle.py_lines.specs.declared.feed.Feed.{Feed}
 use Rattle.py_lines.specs.declared.mode.Mode.{Mode}
 use Rattle.py_lines.specs.declared.scan.Scan.{Scan}
 use Rattle.py_lines.specs.declared.scan.Stop.TheVariants as stops
-use Rattle.py_lines.specs.Private.Scan.{IsApart, ScansIn, line_start, is_return_mode, none_open, stack_of, EndsWhole}
+use Rattle.py_lines.specs.Private.Scan.{IsApart, ScansIn, is_return_mode, none_open, stack_of, EndsWhole}
 use Rattle.py_lines.specs.Private.LineState.{first_mode}
 use Rattle.py_lines.specs.Private.Feed.{IsScanned}
-use Rattle.py_lines.proofs.Text.Utf8Prefixes.{nothing_bad}
-use Rattle.py_lines.proofs.Text.Incomplete.{part_none}
-use Rattle.py_lines.proofs.Lexings.Existence.{reading_live}
-use Rattle.py_lines.proofs.Faults.Verdict.{not_live}
-use Rattle.py_lines.proofs.Text.Decoding.{decoded}
+use Rattle.py_lines.proofs.Text.Utf8Prefixes.{all_scalars-parts, nothing_bad}
+use Rattle.py_lines.proofs.Lexings.DecidedFaults.{decided_fault}
+use Rattle.py_lines.proofs.Lexings.FirstLines.{first_reading}
 use Rattle.py_lines.proofs.LineScan.TextSteps.{way_goes}
-use Rattle.py_lines.proofs.Feeds.Known.{IsKnown, both_none, known_after, is_known}
+use Rattle.py_lines.proofs.Feeds.Known.{IsKnown, given_bytes, is_known}
 use Rattle.py_lines.proofs.Feeds.SettledSoFar.{settled_open, settled_ready, ended_before, IsNextLine}
 use Rattle.py_lines.proofs.Feeds.DecidedSoFar.{undecided}
 use Rattle.py_lines.proofs.Feeds.ReadyLines.{ended_alone, ended_scan, pieces_alone, same_before}
@@ -84,28 +79,18 @@ module _ (text : List ℕ) (place : ℕ) {line : ℕ} {bytes : List ℕ} {scan :
       text_is : encode_utf8_all (spelled (pieces_alone s)) ≡ encode_utf8_all s.read
       text_is = ap encode_utf8_all (ended_alone s).line.spell
 
--- nothing is decided where the lines given end
-module _ (text : List ℕ) (place line : ℕ) (lines : List LogicalLine) (first : AreFirstLines text place line lines) (fault : Fault) where
-  after_line : EndsLine first.pieces → ¬ (Decides (take (place + 0) text) fault)
-  after_line ends =
-      let k = known_after text place line lines [] [] first refl refl ends in
-      undecided text place line lines [] [] k (line_start (first_mode place)) [] (record { run = refl; stack = refl }) nothing_bad part_none fault
-
-  after_text : first.rest ++ first.tail ≡ [] → ¬ (Decides (take (place + 0) text) fault)
-  after_text nothing d =
-      let parts = both_none first.rest first.tail nothing in
-      let characters : first.characters ≡ spelled first.pieces = sym first.spell ∙ ap (λ t. spelled first.pieces ++ t) parts.0 ∙ append-nil (spelled first.pieces) in
-      let size : length text ≡ place = ap length (sym first.decodes.spell) ∙ ap (λ t. length (encode_utf8_all first.characters ++ t)) parts.1 ∙ ap length (append-nil (encode_utf8_all first.characters)) ∙ ap (λ t. length (encode_utf8_all t)) characters ∙ sym first.here in
-      let all : take (place + 0) text ≡ text = take_all (place + 0) text (omega (arith, size)) in
-      let same = decoded (take (place + 0) text) first.characters d.characters first.tail d.tail (subst (λ t. Decodes t first.characters first.tail) (sym all) first.decodes) d.decodes in
-      let reading : IsBalancedReading first.pieces (spelled first.pieces) = record { reads = record { spell = refl; fit = subst (AreReadBefore first.pieces) parts.0 first.fit }; balanced = first.balanced; shallow = first.shallow } in
-      ⊎_elim
-      (λ dies. not_live d.characters fault.kind fault.offset dies (subst IsLive (sym characters ∙ same.0) (reading_live first.pieces (spelled first.pieces) reading)))
-      (λ stays. part_none (subst IsHopeless (sym same.1 ∙ parts.1) stays.1))
-      d.stays
-
-  pub undecided_first : ¬ (Decides (take (place + 0) text) fault)
-  undecided_first d = ⊎_elim (λ good. after_line good.0 d) (λ nothing. after_text nothing d) first.ended
+-- nothing is decided where the lines given end: they are all the lines of the text up to there
+pub undecided_first : (text : List ℕ) (place line : ℕ) (lines : List LogicalLine) (first : AreFirstLines text place line lines) → DecideNone (take (place + 0) text)
+undecided_first text place line lines first fault d =
+    let bytes : take (place + 0) text ≡ encode_utf8_all (spelled first.pieces) ++ [] = ap (λ (n : ℕ). take n text) (omega arith) ∙ given_bytes first ∙ sym (append-nil (encode_utf8_all (spelled first.pieces))) in
+    let lexed : IsLexed (take (place + 0) text ++ []) lines None = record {
+      characters = spelled first.pieces;
+      pieces = first.pieces;
+      decodes = record { are = (all_scalars-parts (spelled first.pieces) first.rest (ap all_scalars first.spell ∙ first.decodes.are)).0; spell = sym (append-nil (take (place + 0) text) ∙ bytes); bad = nothing_bad };
+      reading = first_reading text place line lines first;
+      cut = first.cut;
+    } in
+    absurd (let h = decided_fault (take (place + 0) text) [] fault lines None d lexed in cc)
 
 -- no line has ended in what is held, which was scanned
 module _ (f : Feed) (s : IsScanned f None) (text : List ℕ) (lines : List LogicalLine) (first : AreFirstLines text f.state.place f.state.line lines) (goes : GoesOnWith text f.state.place f.held.items) where

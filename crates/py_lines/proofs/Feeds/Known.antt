@@ -22,12 +22,8 @@ use Rattle.py_lines.proofs.Pieces.OpenBrackets.{stack-from_balanced}
 use Rattle.py_lines.proofs.Pieces.ShallowPieces.{brackets_shallow, strings_shallow}
 use Rattle.py_lines.proofs.Fields.OneReading.{read_before}
 use Rattle.py_lines.proofs.ScanMachine.Advance.{GoesTo}
-use Rattle.py_lines.proofs.Lexings.LineEnds.{ended_reading}
+use Rattle.py_lines.proofs.Lexings.LineEnds.{ended_reading, none_both}
 use Rattle.py_lines.proofs.LineScan.TextSteps.{Base, base_of, Joined, joined}
-
-pub both_none : (a b : List ℕ) → a ++ b ≡ [] → (a ≡ []) × (b ≡ [])
-both_none [] b none = (refl, none)
-both_none (x ∷ xs) b none = absurd (cc)
 
 -- some of the bytes that the text goes on with
 pub goes_with_first : (text : List ℕ) (place : ℕ) (first later : List ℕ) → GoesOnWith text place (first ++ later) → GoesOnWith text place first
@@ -39,20 +35,12 @@ goes_with_first text place first later goes =
 -- what it goes on with after the first of these bytes
 pub goes_after : (text : List ℕ) (place : ℕ) (first later : List ℕ) → GoesOnWith text place (first ++ later) → GoesOnWith text (place + length first) later
 goes_after text place first later goes =
-    ap (take (length later)) (sym (drop-drop (length first) place text))
-    ∙ sym (drop-take (length first) (length later) (drop place text))
-    ∙ ap (λ (n : ℕ). drop (length first) (take n (drop place text))) (sym (length-append first later))
-    ∙ ap (drop (length first)) goes
-    ∙ drop-append_seam first later
+    rw (← drop-drop (length first) place text, ← drop-take (length first) (length later) (drop place text), ← length-append first later, goes)
+    (drop-append_seam first later)
 
 -- bytes that the text goes on with, and then more
 pub goes_joined : (text : List ℕ) (place : ℕ) (a b : List ℕ) → GoesOnWith text place a → GoesOnWith text (place + length a) b → GoesOnWith text place (a ++ b)
-goes_joined text place a b one two =
-    ap (λ (n : ℕ). take n (drop place text)) (length-append a b)
-    ∙ take-add (length a) (length b) (drop place text)
-    ∙ ap (λ t. t ++ take (length b) (drop (length a) (drop place text))) one
-    ∙ ap (λ t. a ++ take (length b) t) (drop-drop (length a) place text)
-    ∙ ap (λ t. a ++ t) two
+goes_joined text place a b one two = rw (length-append a b, take-add (length a) (length b) (drop place text), one, drop-drop (length a) place text, two)
 
 -- the same from the same place on
 pub goes_at : (text : List ℕ) {place here : ℕ} {held items : List ℕ} → here ≡ place → items ≡ held → GoesOnWith text place held → GoesOnWith text here items
@@ -88,14 +76,16 @@ left_after first =
 from_there : {text : List ℕ} {place line : ℕ} {lines : List LogicalLine} (first : AreFirstLines text place line lines) → drop place text ≡ encode_utf8_all first.rest ++ first.tail
 from_there {text} first = ap (λ (n : ℕ). drop n text) first.here ∙ ap (drop (byte_len (spelled first.pieces))) (left_after first) ∙ drop-append_seam (encode_utf8_all (spelled first.pieces)) (encode_utf8_all first.rest ++ first.tail)
 
--- where the lines given end a line
-pub known_after : (text : List ℕ) (place line : ℕ) (lines : List LogicalLine) (read rest : List ℕ) (first : AreFirstLines text place line lines) → all_scalars read ≡ true → GoesOnWith text place (encode_utf8_all read ++ rest) → EndsLine first.pieces → IsKnown text place line lines read rest
-known_after text place line lines read rest first fine goes ends =
+-- the bytes of the lines given
+pub given_bytes : {text : List ℕ} {place line : ℕ} {lines : List LogicalLine} (first : AreFirstLines text place line lines) → take place text ≡ encode_utf8_all (spelled first.pieces)
+given_bytes {text} first = ap (λ (n : ℕ). take n text) first.here ∙ ap (take (byte_len (spelled first.pieces))) (left_after first) ∙ take-append_seam (encode_utf8_all (spelled first.pieces)) (encode_utf8_all first.rest ++ first.tail)
+
+-- where bytes follow them they end a line
+pub is_known : (text : List ℕ) (place line : ℕ) (lines : List LogicalLine) (read rest : List ℕ) → AreFirstLines text place line lines → all_scalars read ≡ true → GoesOnWith text place (encode_utf8_all read ++ rest) → 0 < length (encode_utf8_all read ++ rest) → IsKnown text place line lines read rest
+is_known text place line lines read rest first fine goes some =
     let base = first.pieces in
     let held = encode_utf8_all read ++ rest in
     let left = encode_utf8_all first.rest ++ first.tail in
-    let bytes = encode_utf8_all (spelled base) in
-    let prefix : take place text ≡ bytes = ap (λ (n : ℕ). take n text) first.here ∙ ap (take (byte_len (spelled base))) (left_after first) ∙ take-append_seam bytes left in
     let taken : take (length held) left ≡ held = ap (take (length held)) (sym (from_there first)) ∙ goes in
     let split : encode_utf8_all read ++ (rest ++ drop (length held) left) ≡ left = sym (append_assoc (encode_utf8_all read) rest (drop (length held) left)) ∙ ap (λ t. t ++ drop (length held) left) (sym taken) ∙ take-append-drop (length held) left in
     let parts = all_scalars-parts (spelled base) first.rest (ap all_scalars first.spell ∙ first.decodes.are) in
@@ -106,24 +96,19 @@ known_after text place line lines read rest first fine goes ends =
       fit = subst (AreReadBefore base) on.split first.fit;
       balanced = first.balanced;
       shallow = first.shallow;
-      ended = ends;
+      ended = ⊎_elim (λ good. good.0) (λ nothing. absurd (
+          let none = none_both first.rest first.tail nothing in
+          omega (arith, some, length-append (encode_utf8_all first.rest) first.tail, ap byte_len none.0, ap length none.1, ap length taken, length-take (length held) left))) first.ended;
       here = first.here;
       number = first.number;
       cut = first.cut;
       scalars = all_scalars-append (spelled base) read parts.0 fine;
-      known = take-add place (length held) text ∙ ap (λ t. t ++ take (length held) (drop place text)) prefix ∙ ap (λ t. bytes ++ t) goes ∙ sym (append_assoc bytes (encode_utf8_all read) rest) ∙ ap (λ t. t ++ rest) (sym (encodes-append (spelled base) read));
+      known = take-add place (length held) text ∙ ap (λ t. t ++ take (length held) (drop place text)) (given_bytes first) ∙ ap (λ t. encode_utf8_all (spelled base) ++ t) goes ∙ sym (append_assoc (encode_utf8_all (spelled base)) (encode_utf8_all read) rest) ∙ ap (λ t. t ++ rest) (sym (encodes-append (spelled base) read));
       tail = first.tail;
       decodes = subst (λ t. Decodes text t first.tail) (sym first.spell ∙ ap (λ t. spelled base ++ t) on.split) first.decodes;
       beyond = drop (length held) left;
       follow = on.left;
     }
-
--- and they do, where bytes follow them
-pub is_known : (text : List ℕ) (place line : ℕ) (lines : List LogicalLine) (read rest : List ℕ) → AreFirstLines text place line lines → all_scalars read ≡ true → GoesOnWith text place (encode_utf8_all read ++ rest) → 0 < length (encode_utf8_all read ++ rest) → IsKnown text place line lines read rest
-is_known text place line lines read rest first fine goes some = known_after text place line lines read rest first fine goes (⊎_elim (λ good. good.0) (λ nothing. absurd (
-    let held = encode_utf8_all read ++ rest in
-    let none = both_none first.rest first.tail nothing in
-    omega (arith, some, length-append (encode_utf8_all first.rest) first.tail, ap byte_len none.0, ap length none.1, ap length goes, ap length (from_there first), length-take (length held) (drop place text)))) first.ended)
 
 module _ (text : List ℕ) (place line : ℕ) (lines : List LogicalLine) (read rest : List ℕ) (k : IsKnown text place line lines read rest) where
   abbrev pub bytes : List ℕ

@@ -86,9 +86,6 @@ ended_holds f end_len s = holds_line f end_len s.read s.rest (pieces_alone s) s.
 
 module _ (f : Feed) (end_len : ℕ) (h : HoldsLine f end_len) where
   -- its text
-  pub held_text : (line_held f end_len h).text ≡ take f.state.scan.stop f.held.items
-  held_text = h.text.spell
-
   pub held_within : f.state.scan.stop ≤ length f.held.items
   held_within = omega (arith, h.stop, ap length h.spell, length-append (encode_utf8_all h.read) h.rest)
 

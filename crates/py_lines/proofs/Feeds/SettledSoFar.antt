@@ -25,7 +25,7 @@ use Rattle.py_lines.proofs.Text.Utf8Prefixes.{goes_on, all_scalars-append, nothi
 use Rattle.py_lines.proofs.Text.Utf8Shapes.{no_char}
 use Rattle.py_lines.proofs.LogicalLines.NextLine.{texts, texts-lines}
 use Rattle.py_lines.proofs.Lexings.LinePrefix.{EndsNoneYet, settled_at, settled_line}
-use Rattle.py_lines.proofs.Lexings.LineEnds.{ended_reading}
+use Rattle.py_lines.proofs.Lexings.LineEnds.{ended_reading, none_both}
 use Rattle.py_lines.proofs.Machine.PieceSteps.{scanned, pieces_at}
 use Rattle.py_lines.proofs.ScanMachine.Advance.{GoesTo}
 use Rattle.py_lines.proofs.LineScan.NextCharacter.{closed_one_line}
@@ -34,7 +34,7 @@ use Rattle.py_lines.proofs.LineScan.TextSteps.{begun_sound}
 use Rattle.py_lines.proofs.Readers.LineAnswers.{IsReadLine, balanced_after, ends_after, fits_after, shallow_after, spelled_after}
 use Rattle.py_lines.proofs.Feeds.LastBytes.{ends-later}
 use Rattle.py_lines.proofs.Feeds.Known as of
-use Rattle.py_lines.proofs.Feeds.Known.{IsKnown, both_none}
+use Rattle.py_lines.proofs.Feeds.Known.{IsKnown}
 
 -- no line has ended, where a CR that ends the line, unless LF follows, is the last byte known
 ends_none : (m : Mode) (done : List Piece) (held read rest : List ℕ) (st : List Bracket) → IsScanSound (scanned done m held) read → brackets_of done ≡ Some st → EndsNoLine 0 done → (is_return_mode m && none_open st ≡ true → rest ≡ []) → EndsNoneYet (pieces_at (scanned done m held)) rest
@@ -51,7 +51,7 @@ module _ (text : List ℕ) (place line : ℕ) (lines : List LogicalLine) (read r
       let good : EndsForGood k.base (read ++ rest) = (
         k.ended,
         λ none.
-            let parts = both_none read rest none in
+            let parts = none_both read rest none in
             absurd (omega (arith, some, length-append (encode_utf8_all read) rest, ap (λ t. length (encode_utf8_all t)) parts.0, ap length parts.1)),
       ) in
       record {
@@ -123,7 +123,7 @@ module _ (text : List ℕ) (place line : ℕ) (lines : List LogicalLine) (read r
       let ended : EndsForGood (k.base ++ u) (on.rest ++ s.tail) = (
         ends_line,
         λ none.
-            let parts = both_none on.rest s.tail none in
+            let parts = none_both on.rest s.tail none in
             last_ends ∙ good (sym on.left ∙ ap (λ t. encode_utf8_all t ++ s.tail) parts.0 ∙ parts.1),
       ) in
       let bound = s.prefix.longest (k.base ++ u) on.rest spell all_reading ended in

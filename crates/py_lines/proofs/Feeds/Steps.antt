@@ -27,7 +27,7 @@ use Rattle.py_lines.proofs.LineScan.LineSteps.{returned, way_stop}
 use Rattle.py_lines.proofs.LineScan.LineStops.{return_ends}
 use Rattle.py_lines.proofs.LineScan.TextSteps.{begun_sound, way_goes}
 use Rattle.py_lines.proofs.Readers.LineFaults.{Within}
-use Rattle.py_lines.proofs.Feeds.Known.{both_none}
+use Rattle.py_lines.proofs.Lexings.LineEnds.{none_both}
 
 -- the scan of a line that is open where it stops has come there
 abbrev pub reached_by : {m : Mode} {line : ℕ} {whole : List ℕ} {scan : Scan} {stop : Stop} (s : ScansIn m line whole scan stop)
@@ -42,7 +42,7 @@ pub reached_next : (f : Feed) (rest chunk : List ℕ) → IsOpen f rest → f.he
 reached_next f rest chunk o none = record {
   read = o.read;
   way = o.way;
-  spell = ap (λ t. t ++ chunk) (both_none (encode_utf8_all o.read) rest (o.spell ∙ none)).0;
+  spell = ap (λ t. t ++ chunk) (none_both (encode_utf8_all o.read) rest (o.spell ∙ none)).0;
   scalars = o.scalars;
   line = o.line;
 }

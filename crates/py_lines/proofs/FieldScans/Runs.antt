@@ -26,17 +26,17 @@ use Rattle.py_lines.proofs.FieldScans.Moves.{meets}
 use Rattle.py_lines.proofs.FieldScans.Frames.{frames-length, AreOpenAlike, frames_alike}
 use Rattle.py_lines.proofs.FieldScans.Taking.{grown_follows, follows_free}
 use Rattle.py_lines.proofs.LineScan.StringSteps.{string_grows, here_at, string_through}
-use Rattle.py_lines.proofs.LineScan.AsciiRuns.{all_pass, is_low, is_low_from, low_encodes, low_is}
+use Rattle.py_lines.proofs.LineScan.AsciiRuns.{all_pass, is_low, is_low_from, low_encodes, low_is, word_byte_low}
+use Rattle.py_lines.proofs.LineScan.Runs.{space_low}
+use Rattle.py_lines.proofs.LogicalLines.Cuts.{byte_len-append}
+use Rattle.py_lines.proofs.Text.CharacterTests.{operator_ascii}
+use Rattle.py_lines.proofs.FieldScans.Texts.{text_stays, two_false, codes_go, ends_in_word, goes_on-append, passes_code, operator-not-word, operator_others, sign_cases, sign_goes}
 use Rattle.py_lines.specs.Balance.{is_opening, is_closing}
 use Rattle.py_lines.specs.Piece.{Piece, spelled}
 use Rattle.py_lines.specs.declared.class.Class.TheVariants as class
 use Rattle.py_lines.specs.Private.Marks.{is_of_class}
 use Rattle.py_lines.specs.Private.Run.{IsRunOf, is_ascii_word, is_code_byte, is_code_sign}
 use Rattle.py_lines.specs.Private.WholePieces.{IsOperatorEnd}
-use Rattle.py_lines.proofs.LineScan.Runs.{space_low, word_byte_low}
-use Rattle.py_lines.proofs.LogicalLines.Cuts.{byte_len-append}
-use Rattle.py_lines.proofs.Text.CharacterTests.{operator_ascii}
-use Rattle.py_lines.proofs.FieldScans.Texts.{text_stays, two_false, codes_go, ends_in_word, goes_on-append, passes_code, operator-not-word, operator_others, sign_cases, sign_goes}
 
 -- what a character is that passes
 record Keeps (m : FieldMode) (c : ℕ) : Type 0 where

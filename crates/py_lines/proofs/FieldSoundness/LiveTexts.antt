@@ -20,7 +20,6 @@ use Rattle.py_lines.proofs.FieldMachine.Runs.{HasRoomFor, Goes, goes-append, goe
 use Rattle.py_lines.proofs.FieldMachine.StringParts.{goes_on, body_moves, second_brace}
 use Rattle.py_lines.proofs.FieldMachine.ListBrackets.{closing_pops, none_some}
 use Rattle.py_lines.proofs.FieldMachine.CodeRuns.{end_moves, brace_ends}
-use Rattle.py_lines.proofs.FieldMachine.FieldRuns.{end_moves, brace_ends}
 use Rattle.py_lines.proofs.FieldSoundness.Holds.{Limit, HoldsLevels, HoldsAt, IsFieldSound}
 use Rattle.py_lines.proofs.FieldMachine.PlainSteps.{plain_moves}
 use Rattle.py_lines.proofs.FieldMachine.Completeness.{reading_reached}

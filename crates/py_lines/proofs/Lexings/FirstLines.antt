@@ -186,7 +186,7 @@ ends_for_good pieces [] ended = inr refl
 ends_for_good pieces (c ∷ cs) ended = inl (ended, λ none. absurd (cc))
 
 -- first lines are read by themselves
-first_reading : (text : List ℕ) (place line : ℕ) (lines : List LogicalLine) (f : AreFirstLines text place line lines) → IsBalancedReading f.pieces (spelled f.pieces)
+pub first_reading : (text : List ℕ) (place line : ℕ) (lines : List LogicalLine) (f : AreFirstLines text place line lines) → IsBalancedReading f.pieces (spelled f.pieces)
 first_reading text place line lines f = ⊎_elim (λ good. ended_reading f.pieces f.rest f.fit f.balanced f.shallow good.0)
     (λ none. record {
       reads = record { spell = refl; fit = subst (AreReadBefore f.pieces) (none_both f.rest f.tail none).0 f.fit };

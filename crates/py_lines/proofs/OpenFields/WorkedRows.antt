@@ -14,7 +14,7 @@ use Rattle.py_lines.proofs.FieldSoundness.HostSteps.{sound_at}
 use Rattle.py_lines.proofs.FieldSoundness.WholeTexts.{no_limit, any_rooms}
 use Rattle.py_lines.proofs.FieldSoundness.OpenEnds.{code_open_at, short_is_open, specification_is_open}
 use Rattle.py_lines.proofs.FieldMachine.WorkedRows.{tested}
-use Rattle.py_lines.proofs.Fields.WorkedRows.{piece, short, tested}
+use Rattle.py_lines.proofs.Fields.WorkedRows.{piece, short}
 
 -- where the machine with fields comes to, it is sound
 sound : (text : List ℕ) (s : FieldScanned) → field_steps_from (Some field_text_start) text ≡ Some s → IsFieldSound no_limit s text
