@@ -221,11 +221,7 @@ impl Feed {
         requires { self.now.state.scan.stop + 1 < 2 ^ 64 }
         ensures { result ≡ whole_end self.now.state.scan }
     {
-        if self.state.scan.count.after_return {
-            self.state.scan.stop + 1
-        } else {
-            self.state.scan.stop
-        }
+        self.state.scan.stop + self.state.scan.count.after_return as usize
     }
 
     /// Where a line is ready, lets go what was taken after it. More than `before` bytes stay held, if more are.

@@ -10,9 +10,9 @@ use Rattle.py_lines.specs.Character.{is_line_feed}
 use Rattle.py_lines.specs.Piece.{line_end, Piece, spelled}
 use Rattle.py_lines.specs.Fields.{AreReadBefore}
 use Rattle.py_lines.specs.Reading.{Decodes}
-use Rattle.py_lines.specs.Faults.{IsCharacterFault, IsLive, IsLexicalFault}
+use Rattle.py_lines.specs.Faults.{IsCharacterFault, IsLive}
 use Rattle.py_lines.specs.Lexed.{IsLexed, IsLexedToFault}
-use Rattle.py_lines.specs.Settled.{IsHopeless, Decides}
+use Rattle.py_lines.specs.Settled.{IsHopeless, Decides, StaysFaulty}
 use Rattle.py_lines.specs.Given.{AreFirstLines}
 use Rattle.py_lines.specs.LogicalLine.{LogicalLine, byte_len}
 use Rattle.py_lines.specs.ScannerState.{GoesOnWith}
@@ -67,6 +67,10 @@ open_return modes.Return done held c [] stacked refuses not_yet is =
     (λ feeds none. let clash : Some [] ≡ None = sym (keeps done (piece line_end (held ++ c ∷ [])) [] refl refl stacked) ∙ none in cc)
     (λ other none. both_ways _ not_yet (ap not other)) refuses)
 open_return m done held c st stacked refuses not_yet is = absurd (cc)
+
+-- a fault that stays is decided
+decides : {text : List ℕ} {lines : List LogicalLine} {fault : Fault} (lexed : IsLexedToFault text lines fault) → StaysFaulty fault.kind lexed.characters lexed.tail fault.offset → Decides text fault
+decides lexed stays = record { characters = lexed.characters; tail = lexed.tail; decodes = lexed.decodes; refused = lexed.refused; stays = stays }
 
 -- the known bytes decide nothing where the machine has gone through them and more may complete those that are left
 pub undecided : (text : List ℕ) (place line : ℕ) (lines : List LogicalLine) (read rest : List ℕ) (k : IsKnown text place line lines read rest) (s : Scanned) (st : List Bracket) → GoesTo (line_start (first_mode place)) read s st → StartsWithNoChar rest → ¬ (IsHopeless rest) → (fault : Fault) → ¬ (Decides (of.bytes text place line lines read rest k) fault)
@@ -126,16 +130,8 @@ module _ (text : List ℕ) (state : LineState) (lines : List LogicalLine) (read 
       decided_bytes hopeless =
           let bad : StartsWithNoChar rest = subst StartsWithNoChar (append-nil rest) (hopeless []) in
           let lexed = refused_bytes bad in
-          let same = decoded (of.bytes text state.place state.line lines read rest k) (spelled k.base ++ read) lexed.characters rest lexed.tail (of.decodes text state.place state.line lines read rest k bad) lexed.decodes in (
-            record {
-              characters = lexed.characters;
-              tail = lexed.tail;
-              decodes = lexed.decodes;
-              refused = lexed.refused;
-              stays = inr (at.is, subst IsHopeless same.1 hopeless);
-            },
-            lexed,
-          )
+          let same = decoded (of.bytes text state.place state.line lines read rest k) (spelled k.base ++ read) lexed.characters rest lexed.tail (of.decodes text state.place state.line lines read rest k bad) lexed.decodes in
+          (decides lexed (inr (at.is, subst IsHopeless same.1 hopeless)), lexed)
 
 -- the next character is refused
 module _ (text : List ℕ) (state : LineState) (lines : List LogicalLine) (read : List ℕ) (c : ℕ) (k : IsKnown text state.place state.line lines (read ++ c ∷ []) []) where
@@ -162,17 +158,9 @@ module _ (text : List ℕ) (state : LineState) (lines : List LogicalLine) (read 
       let is : IsCharacterFault fault.kind characters fault.offset = rw (at.is, place) (subst (λ t. IsCharacterFault line_fault.kind t (byte_len (spelled k.base) + line_fault.place)) spell found) in
       let longer : Within (read ++ c ∷ []) line_fault.place = record { prefix = w.prefix; later = w.later ++ c ∷ []; split = sym (append_assoc w.prefix w.later (c ∷ [])) ∙ ap (λ t. t ++ c ∷ []) w.split; size = w.size } in
       let lexed = refused_at_character all_known characters [] (spelled k.base ++ read) [] c j.state j.st k.base fault decodes spell j.steps (dead_at k.base read (c ∷ k.more) k.more s st c j level refl refuses) prefix is
-      (line_after text state lines (read ++ c ∷ []) [] k line_fault.kind line_fault.place fault longer at) in (
-        record {
-          characters = characters;
-          tail = [];
-          decodes = decodes;
-          refused = (let same = decoded all_known characters lexed.characters [] lexed.tail decodes lexed.decodes in
-              subst (λ t. IsLexicalFault characters t fault) (sym same.1) (subst (λ t. IsLexicalFault t lexed.tail fault) (sym same.0) lexed.refused));
-          stays = inl is;
-        },
-        subst (λ l. IsLexedToFault all_known l fault) (sym k.cut) lexed,
-      )
+      (line_after text state lines (read ++ c ∷ []) [] k line_fault.kind line_fault.place fault longer at) in
+      let same = decoded all_known characters lexed.characters [] lexed.tail decodes lexed.decodes in
+      (decides lexed (inl (subst (λ t. IsCharacterFault fault.kind t fault.offset) same.0 is)), subst (λ l. IsLexedToFault all_known l fault) (sym k.cut) lexed)
 
 -- what the first bytes decide after the lines given, all do
 decided_whole : (text : List ℕ) (place : ℕ) (lines : List LogicalLine) (n most : ℕ) (fault : Fault) → n ≤ most → Decides (take (place + n) text) fault × IsLexed (take (place + n) text) lines (Some fault) → IsDecidedAt text place lines most fault

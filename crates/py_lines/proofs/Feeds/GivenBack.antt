@@ -38,7 +38,7 @@ module _ {m : Mode} {line : ℕ} {bytes : List ℕ} {scan : Scan} {end_len : ℕ
 
   -- where it ends: after CR one byte more is part of it
   more : (n : ℕ) × (whole_end scan ≡ byte_len s.read + n) × (n ≤ length s.rest) × EndsExactly s.read (take n s.rest)
-  more = cond_both scan.count.after_return (scan.stop + 1) scan.stop (λ (k : ℕ). (n : ℕ) × (k ≡ byte_len s.read + n) × (n ≤ length s.rest) × EndsExactly s.read (take n s.rest))
+  more = cond_both scan.count.after_return 1 0 (λ (k : ℕ). (n : ℕ) × (scan.stop + k ≡ byte_len s.read + n) × (n ≤ length s.rest) × EndsExactly s.read (take n s.rest))
       (λ h. let returned = sym line_returned ∙ h in (1, omega (arith, (ended_alone s).stop), rest_some s.rest returned s.stops.1, exact_return s.read s.rest returned s.stops.1))
       (λ h. (0, omega (arith, (ended_alone s).stop), omega arith, inl (sym line_returned ∙ h, refl)))
     where

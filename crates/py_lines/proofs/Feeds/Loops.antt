@@ -79,13 +79,8 @@ begun_open was new b = record {
 pub begun_unchanged : (old new : Feed) (was : LineState) → new.ready ≡ None → Holds old old.held.items old.state.fault (record new { state = was })
     → BeginsAnew was new.state → IsUnchanged old new
 begun_unchanged old new was ready same begins = (
-  record {
-    held = same.held;
-    place = ap (λ (s : LineState). s.place) begins.same ∙ same.place;
-    line = ap (λ (s : LineState). s.line) begins.same ∙ same.line;
-    ended = same.ended;
-    fault = ap (λ (s : LineState). s.fault) begins.same ∙ same.fault;
-  },
+  subst (λ (s : LineState). Holds old old.held.items old.state.fault (record new { state = s })) (sym begins.same)
+      (record { held = same.held; place = same.place; line = same.line; ended = same.ended; fault = same.fault }),
   ready,
   (new.held.items, begun_open was new begins),
 )
@@ -103,14 +98,11 @@ dropped old mid new bytes {before} more size d = begun_unchanged old new mid.sta
 
 module _ (f new : Feed) (kind : FaultKind) (offset : ℕ) (error : LexError) (fails : FailsAt f kind offset error new) where
   -- a fault keeps all that is held
+  fails_is : new ≡ record f { state = record f.state { fault = Some fails.keeps.fault } }
+  fails_is = fails.same ∙ ap (λ (s : LineState). record f { state = s }) fails.keeps.same
+
   pub fails_keep : Holds f f.held.items (Some fails.keeps.fault) new
-  fails_keep = record {
-    held = ap (λ (x : Feed). x.held.items) fails.same;
-    place = ap (λ (s : LineState). s.place) fails.keeps.same;
-    line = ap (λ (s : LineState). s.line) fails.keeps.same;
-    ended = ap (λ (x : Feed). x.ended) fails.same;
-    fault = ap (λ (s : LineState). s.fault) fails.keeps.same;
-  }
+  fails_keep = subst (Holds f f.held.items (Some fails.keeps.fault)) (sym fails_is) (record { held = refl; place = refl; line = refl; ended = refl; fault = refl })
 
   pub fails_ready : f.ready ≡ None → new.ready ≡ None
   fails_ready none = ap (λ (x : Feed). x.ready) fails.same ∙ none

@@ -119,7 +119,7 @@ IsUnchanged old new = Holds old old.held.items old.state.fault new × (new.ready
 
 -- where what is held of a line that is ready ends, with the byte after CR
 abbrev pub whole_end : Scan → ℕ
-whole_end scan = if scan.count.after_return then scan.stop + 1 else scan.stop
+whole_end scan = scan.stop + (if scan.count.after_return then 1 else 0)
 
 -- These bytes begin with characters of a logical line: the one of these pieces, which begins on this line. The scan stopped after
 -- them, and has counted so far.

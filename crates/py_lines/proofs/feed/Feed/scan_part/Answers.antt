@@ -6,7 +6,7 @@ use Rattle.py_lines.specs.Settled.{IsHopeless}
 use Rattle.py_lines.specs.declared.scan.Scan.{Scan}
 use Rattle.py_lines.specs.Private.Feed.{IsScanned, ScansHeld}
 use Rattle.py_lines.proofs.Text.Incomplete.{part_none}
-use Rattle.py_lines.proofs.Feeds.Steps.{open_stop, open_size, open_within, within_held, next_is, ends_returned, reached_by}
+use Rattle.py_lines.proofs.Feeds.Steps.{open_stop, open_size, within_held, next_is, ends_returned, reached_by}
 use Rattle.py_lines.proofs.Feeds.Loops.{holds_self, part_fails}
 use Rattle.py_lines.proofs.Readers.LineAnswers.{all_within}
 use Rattle.py_lines.proofs.feed.Feed.scan_part.Goals as goal
@@ -27,12 +27,6 @@ returns-then-is_returned c =
     let some : 0 < length s.rest = omega (arith, open_stop f s.rest o, open_size f s.rest o, c.len.ensures, c.if-len-self.false) in
     subst (λ (t : Scan). ScansHeld f (Ok tt) (record f { state = record f.state { scan = t }; ready = Some 1 })) (sym c.free.ensures)
     (record { held = refl; place = refl; line = refl; ended = refl; fault = refl }, ends_returned f s some (sym c.is_returned.ensures ∙ c.if-is_returned.true))
-
-pub slice_bounds-is_hopeless-count : goal.slice_bounds-is_hopeless-count
-slice_bounds-is_hopeless-count c = let s = c.requires.stops in omega (arith, open_within c.args.self.now s.rest (reached_by s s.stops.0) _ c.deref.ensures.value)
-
-pub slice_bounds-is_hopeless-start : goal.slice_bounds-is_hopeless-start
-slice_bounds-is_hopeless-start c = let s = c.requires.stops in omega (arith, open_within c.args.self.now s.rest (reached_by s s.stops.0) _ c.deref.ensures.value)
 
 pub is_hopeless-requires : goal.is_hopeless-requires
 is_hopeless-requires c =
