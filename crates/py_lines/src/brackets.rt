@@ -63,7 +63,6 @@ impl Brackets {
     }
 
     /// How many brackets are open.
-    #[tactic(auto, using(crate::proofs::LineScan::BracketStack::depth_is))]
     #[inline(always)]
     #[tactic(auto, using(crate::proofs::LineScan::BracketStack::depth_is))]
     pub fn len(&self) -> usize
@@ -73,7 +72,6 @@ impl Brackets {
     }
 
     /// Whether no bracket is open.
-    #[tactic(auto, using(crate::proofs::LineScan::BracketStack::depth_is, crate::proofs::LineScan::BracketStack::none_length))]
     #[inline(always)]
     #[tactic(auto, using(crate::proofs::LineScan::BracketStack::depth_is, crate::proofs::LineScan::BracketStack::none_length))]
     pub fn is_empty(&self) -> bool

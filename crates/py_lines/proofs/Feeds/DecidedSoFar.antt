@@ -16,20 +16,15 @@ use Rattle.py_lines.specs.Settled.{IsHopeless, Decides, StaysFaulty}
 use Rattle.py_lines.specs.Given.{AreFirstLines}
 use Rattle.py_lines.specs.LogicalLine.{LogicalLine, byte_len}
 use Rattle.py_lines.specs.ScannerState.{GoesOnWith}
-use Rattle.py_lines.specs.declared.fault.Fault.{Fault}
-use Rattle.py_lines.specs.declared.fault.FaultKind.{FaultKind}
-use Rattle.py_lines.specs.declared.fault.FaultKind.TheVariants as faults
 use Rattle.py_lines.specs.declared.line_state.LineState.{LineState}
 use Rattle.py_lines.specs.declared.mode.Mode.{Mode}
-use Rattle.py_lines.specs.declared.mode.Mode.TheVariants as modes
 use Rattle.py_lines.specs.declared.mode.Move.{Move}
 use Rattle.py_lines.specs.declared.scan.LineFault.{LineFault}
-use Rattle.py_lines.specs.declared.scan.Scan.{Scan}
 use Rattle.py_lines.specs.Private.Machine.{Scanned, Bracket, brackets_of, moved, move_of}
 use Rattle.py_lines.specs.Private.ScanMachine.{meet_of, scan_step}
 use Rattle.py_lines.specs.Private.Scan.{line_start, IsNotEnded, IsUnderWay, is_returned, none_open, is_return_mode, stack_of, stack_if, IsRefusal}
 use Rattle.py_lines.specs.Private.LineState.{IsFaultAfter, first_mode}
-use Rattle.py_lines.specs.Private.Feed.{IsDecidedAt}
+use Rattle.py_lines.specs.Private.Feed.{IsDecidedAt, Fault, FaultKind, Scan}
 use Rattle.py_lines.proofs.Text.Utf8Prefixes.{nothing_bad, scalars_more, spell_more}
 use Rattle.py_lines.proofs.Text.Decoding.{decoded}
 use Rattle.py_lines.proofs.Pieces.PieceLists.{piece}
@@ -51,19 +46,19 @@ use Rattle.py_lines.proofs.Feeds.Known.{IsKnown, goes_with_first, is_known}
 use Rattle.py_lines.proofs.Feeds.Known as of
 
 -- a CR that was read last ends no line inside brackets
-end_return : (m : Mode) (st : List Bracket) → is_return_mode m && none_open st ≡ false → m ≡ modes.Return → none_open st ≡ false
-end_return modes.Return st not_yet is = not_yet
+end_return : (m : Mode) (st : List Bracket) → is_return_mode m && none_open st ≡ false → m ≡ Mode.Return → none_open st ≡ false
+end_return Mode.Return st not_yet is = not_yet
 end_return m st not_yet is = absurd (cc)
 
-pub way_open : (m : Mode) (scan : Scan) (read : List ℕ) (way : IsUnderWay m scan read) → is_returned scan ≡ false → way.state.mode ≡ modes.Return → none_open (stack_of scan.brackets) ≡ false
+pub way_open : (m : Mode) (scan : Scan) (read : List ℕ) (way : IsUnderWay m scan read) → is_returned scan ≡ false → way.state.mode ≡ Mode.Return → none_open (stack_of scan.brackets) ≡ false
 way_open m scan read way not_yet = end_return way.state.mode (stack_of scan.brackets) (ap (λ (n : Mode). is_return_mode n && none_open (stack_of scan.brackets)) (sym way.tallies.counts.mode) ∙ not_yet)
 
 -- a CR that a line ends with isn't refused its next character
-open_return : (m : Mode) (done : List Piece) (held : List ℕ) (c : ℕ) (st : List Bracket) → brackets_of done ≡ Some st → stack_if (scan_step (scanned done m held) c) ≡ None → (is_return_mode m && none_open st) && not (is_line_feed c) ≡ false → m ≡ modes.Return → none_open st ≡ false
+open_return : (m : Mode) (done : List Piece) (held : List ℕ) (c : ℕ) (st : List Bracket) → brackets_of done ≡ Some st → stack_if (scan_step (scanned done m held) c) ≡ None → (is_return_mode m && none_open st) && not (is_line_feed c) ≡ false → m ≡ Mode.Return → none_open st ≡ false
 unfolding meet_of move_of
-open_return modes.Return done held c (b ∷ bs) stacked refuses not_yet is = refl
-open_return modes.Return done held c [] stacked refuses not_yet is =
-    absurd (cond_both (is_line_feed c) _ _ (λ (v : Move). stack_if (moved (scanned done modes.Return held) c v) ≡ None → ⊥)
+open_return Mode.Return done held c (b ∷ bs) stacked refuses not_yet is = refl
+open_return Mode.Return done held c [] stacked refuses not_yet is =
+    absurd (cond_both (is_line_feed c) _ _ (λ (v : Move). stack_if (moved (scanned done Mode.Return held) c v) ≡ None → ⊥)
     (λ feeds none. let clash : Some [] ≡ None = sym (keeps done (piece line_end (held ++ c ∷ [])) [] refl refl stacked) ∙ none in cc)
     (λ other none. both_ways _ not_yet (ap not other)) refuses)
 open_return m done held c st stacked refuses not_yet is = absurd (cc)
@@ -108,7 +103,7 @@ module _ (text : List ℕ) (state : LineState) (lines : List LogicalLine) (read 
     }
 
     -- bytes that begin no character are left
-    module _ (some : 0 < length rest) (fault : Fault) (at : IsFaultAfter state faults.BadUtf8 state.scan.stop (encode_utf8_all read) fault) where
+    module _ (some : 0 < length rest) (fault : Fault) (at : IsFaultAfter state FaultKind.BadUtf8 state.scan.stop (encode_utf8_all read) fault) where
       pub refused_bytes : StartsWithNoChar rest → IsLexedToFault (of.bytes text state.place state.line lines read rest k) lines fault
       refused_bytes bad = go rest refl
         where
@@ -123,7 +118,7 @@ module _ (text : List ℕ) (state : LineState) (lines : List LogicalLine) (read 
               subst (λ l. IsLexedToFault known l fault) (sym k.cut)
               (refused_at_bytes known (spelled k.base ++ read) d ds joined_here.state joined_here.st k.base fault decodes joined_here.steps prefix_of at.is
               (omega (arith, at.place, stop, k.here, byte_len-append (spelled k.base) read))
-              (line_after faults.BadUtf8 state.scan.stop fault (record { prefix = read; later = []; split = append-nil read; size = stop }) at))
+              (line_after FaultKind.BadUtf8 state.scan.stop fault (record { prefix = read; later = []; split = append-nil read; size = stop }) at))
 
       -- no bytes complete them
       pub decided_bytes : IsHopeless rest → Decides (of.bytes text state.place state.line lines read rest k) fault × IsLexed (of.bytes text state.place state.line lines read rest k) lines (Some fault)
@@ -187,7 +182,7 @@ module _ (text : List ℕ) (state : LineState) (lines : List LogicalLine) (held 
       (decided_character text state lines read c k way refuses not_yet line_fault is_line_fault fault w at)
 
   -- nothing completes the bytes that are left
-  pub by_bytes : is_returned state.scan ≡ false → 0 < length rest → IsHopeless rest → (fault : Fault) → IsFaultAfter state faults.BadUtf8 state.scan.stop (encode_utf8_all read) fault → IsDecidedAt text state.place lines (length held) fault
+  pub by_bytes : is_returned state.scan ≡ false → 0 < length rest → IsHopeless rest → (fault : Fault) → IsFaultAfter state FaultKind.BadUtf8 state.scan.stop (encode_utf8_all read) fault → IsDecidedAt text state.place lines (length held) fault
   by_bytes not_yet some hopeless fault at =
       let more : 0 < length (encode_utf8_all read ++ rest) = omega (arith, length-append (encode_utf8_all read) rest, some) in
       let k = is_known text state.place state.line lines read rest first scalars (subst (GoesOnWith text state.place) (sym spell) goes) more in

@@ -7,8 +7,6 @@ use Rattle.py_lines.specs.Piece.{spelled}
 use Rattle.py_lines.specs.Reading.{Decodes, IsBalancedReading}
 use Rattle.py_lines.specs.Lexed.{IsLexed, IsLexedToFault}
 use Rattle.py_lines.specs.LogicalLine.{LogicalLine, cut, byte_len, line_of}
-use Rattle.py_lines.specs.declared.fault.Fault.{Fault}
-use Rattle.py_lines.specs.declared.fault.FaultKind.TheVariants.{BadUtf8}
 use Rattle.py_lines.specs.declared.line_state.LineState.{LineState}
 use Rattle.py_lines.specs.declared.scan.LineFault.{LineFault}
 use Rattle.py_lines.specs.Private.Machine.{Scanned, is_final}
@@ -24,13 +22,14 @@ use Rattle.py_lines.proofs.Readers.LineFaults.{Within, unfinished_fault}
 use Rattle.py_lines.proofs.Feeds.Known as of
 use Rattle.py_lines.proofs.Feeds.Known.{IsKnown}
 use Rattle.py_lines.proofs.Feeds.DecidedSoFar.{joined_here, line_after, prefix_of, refused_bytes}
+use Rattle.py_lines.specs.Private.Feed.{Fault, FaultKind}
 
 module _ (text : List ℕ) (state : LineState) (lines : List LogicalLine) (read rest : List ℕ) (k : IsKnown text state.place state.line lines read rest) (whole : length text ≡ state.place + length (encode_utf8_all read ++ rest)) (way : IsUnderWay (first_mode state.place) state.scan read) where
   all : of.bytes text state.place state.line lines read rest k ≡ text
   all = take_all (state.place + length (encode_utf8_all read ++ rest)) text (omega (arith, whole))
 
   -- the text ends in a part of a character, or in bytes that begin none
-  pub ended_bytes : is_returned state.scan ≡ false → 0 < length rest → (fault : Fault) → IsFaultAfter state BadUtf8 state.scan.stop (encode_utf8_all read) fault → StartsWithNoChar rest → IsLexed text lines (Some fault)
+  pub ended_bytes : is_returned state.scan ≡ false → 0 < length rest → (fault : Fault) → IsFaultAfter state FaultKind.BadUtf8 state.scan.stop (encode_utf8_all read) fault → StartsWithNoChar rest → IsLexed text lines (Some fault)
   ended_bytes not_yet some fault at bad = subst (λ t. IsLexedToFault t lines fault) all (refused_bytes text state lines read rest k way not_yet some fault at bad)
 
   all_decoded : rest ≡ [] → Decodes text (spelled k.base ++ read) []

@@ -7,11 +7,6 @@ use Rattle.std.proofs.lemmas.List.{nil_from_length, take_all}
 use Rattle.py_lines.specs.LogicalLine.{LogicalLine, byte_len}
 use Rattle.py_lines.specs.Lexed.{IsLexed}
 use Rattle.py_lines.specs.ScannerState.{IsScanning, WhereWhole, fed_of, EndsScan, Finishes, ScannerState}
-use Rattle.py_lines.specs.ScannerState.View.{scanning_of, ready_of}
-use Rattle.py_lines.specs.declared.fault.FaultKind.{FaultKind}
-use Rattle.py_lines.specs.declared.fault.FaultKind.TheVariants.{BadUtf8}
-use Rattle.py_lines.specs.declared.fault.LexError.{LexError}
-use Rattle.py_lines.specs.declared.feed.Feed.{Feed}
 use Rattle.py_lines.specs.declared.scan.LineFault.{LineFault}
 use Rattle.py_lines.specs.Private.Machine.{is_final}
 use Rattle.py_lines.specs.Private.Scan.{is_returned, is_return_mode, none_open, stack_of, line_start, IsUnfinished, IsUnderWay}
@@ -19,6 +14,7 @@ use Rattle.py_lines.specs.Private.LineState.{IsEndLineFault, first_mode}
 use Rattle.py_lines.specs.Private.Run.{Reached}
 use Rattle.py_lines.specs.Private.Feed.{EndsText, FailsAt, Holds, IsScanned, HasEndedText, HasReadTokens, HasRoom, HoldsSo, IsHeldOpen}
 use Rattle.py_lines.specs.Private.Feed.{IsSoundFeed, ReadsTokens, ScansHeld, StandsSo, StopsHeld, StopsWith, line_held, with_line}
+use Rattle.py_lines.specs.Private.Feed.{FaultKind, LexError, Stop, Feed, scanning_of, ready_of}
 use Rattle.py_lines.proofs.LineScan.NextCharacter.{empty_stack}
 use Rattle.py_lines.proofs.Machine.PieceSteps.{pieces_at}
 use Rattle.py_lines.proofs.Readers.LineAnswers.{IsScannedLine, line_at_text_end, line_at_return, returned_final, all_within}
@@ -29,19 +25,16 @@ use Rattle.py_lines.proofs.Feeds.Ended.{ended_bytes, ended_unfinished, ended_lin
 use Rattle.py_lines.proofs.Feeds.Loops.{fails_keep, fails_ready, fault_after, holds_on, dropped, holds_self, room_more, runs_out, scans_on}
 use Rattle.py_lines.proofs.Feeds.Steps.{open_stands, open_stop, open_size, reached_by}
 use Rattle.py_lines.proofs.Feeds.ReadyLines.{holds_line, ended_holds, some_is}
-use Rattle.py_lines.specs.declared.scan.Stop.{Stop}
 use Rattle.py_lines.proofs.Lexings.FirstLines.{all_first}
 use Rattle.py_lines.proofs.Feeds.FedHeld.{never_before}
 use Rattle.py_lines.proofs.Feeds.Taken.{settled_held}
-use Rattle.py_lines.specs.declared.fault.LexError.TheVariants as lex
-use Rattle.py_lines.specs.declared.scan.Stop.TheVariants as stops
 
 -- a fault of the scan
 pub text_fault : (old mid new : Feed) {stop : Stop} (error : LexError) → StopsWith old old.held.items stop mid → ScansHeld mid (Err error) new → EndsText old (Err error) new
-text_fault old mid new (lex.Fault f) stops failed =
-    let (text, none, decided) = scans_on old mid new (Err (lex.Fault f)) stops failed in
+text_fault old mid new (LexError.Fault f) stops failed =
+    let (text, none, decided) = scans_on old mid new (Err (LexError.Fault f)) stops failed in
     record { text = text; none_ready = none; lexed = λ whole lines s all. (decided whole lines s.first s.held).lexed }
-text_fault old mid new lex.Memory stops never = absurd never
+text_fault old mid new LexError.Memory stops never = absurd never
 
 -- nothing is held
 pub text_empty : {old : Feed} → old.ready ≡ None → IsHeldOpen old → old.held.items ≡ [] → EndsText old (Ok tt) old
@@ -59,7 +52,7 @@ text_empty {old} not_ready opens none = record {
 pub text_left : (old mid : Feed) → Holds old old.held.items old.state.fault mid → is_some mid.ready ≡ true → old.ready ≡ None → IsScanned mid mid.ready → EndsText old (Ok tt) mid
 text_left old mid keeps some not_ready scanned =
     let r = some_is mid.ready some in
-    let s : StopsHeld mid (stops.LineEnd r.0) = subst (IsScanned mid) r.1 scanned in
+    let s : StopsHeld mid (Stop.LineEnd r.0) = subst (IsScanned mid) r.1 scanned in
     let h = ended_holds mid r.0 s in
     record {
       text = keeps;
@@ -105,11 +98,11 @@ module _ (old f : Feed) (keeps : Holds old old.held.items old.state.fault f) (s 
     })
 
     -- bytes that begin no character are left
-    ends_in_bytes : 0 < length s.0.rest → FailsAt f BadUtf8 f.state.scan.stop error new → EndsText old (Err error) new
-    ends_in_bytes more fails = end_fault BadUtf8 f.state.scan.stop fails (λ text lines scanning whole.
+    ends_in_bytes : 0 < length s.0.rest → FailsAt f FaultKind.BadUtf8 f.state.scan.stop error new → EndsText old (Err error) new
+    ends_in_bytes more fails = end_fault FaultKind.BadUtf8 f.state.scan.stop fails (λ text lines scanning whole.
         ended_bytes text f.state lines s.0.read s.0.rest (known_at text lines scanning whole) (whole_at text lines scanning whole) way
         (false_from_ne_true _ (λ returned. omega (arith, more, ap length (s.2 returned)))) more fails.keeps.fault
-        (fault_after f new BadUtf8 f.state.scan.stop error fails s.0.rest o (record { prefix = s.0.read; later = []; split = append-nil s.0.read; size = open_stop f s.0.rest o })) s.0.stops.1)
+        (fault_after f new FaultKind.BadUtf8 f.state.scan.stop error fails s.0.rest o (record { prefix = s.0.read; later = []; split = append-nil s.0.read; size = open_stop f s.0.rest o })) s.0.stops.1)
 
     -- something is open
     ends_open : (line_fault : LineFault) → s.0.rest ≡ [] → is_returned f.state.scan ≡ false → IsUnfinished f.state.scan (Some line_fault) → FailsAt f line_fault.kind line_fault.place error new → EndsText old (Err error) new
@@ -218,5 +211,5 @@ module _ {old f : Feed} (sound : IsSoundFeed old) (no_fault : old.state.fault �
   -- where there is no memory for them
   pub finish_short : old.ready ≡ None → {all : ℕ} → all ≡ length f.held.items → {new : Feed} (error : LexError) → ReadsTokens f all (Err error) new
       → Finishes (scanning_of old) (Err error) (scanning_of new) × IsSoundFeed new
-  finish_short not_ready size (lex.Fault x) never = absurd never
-  finish_short not_ready size {new} lex.Memory drops = runs_out sound no_fault not_ready (dropped old f new [] last_text (size ∙ ap length e.text.held) drops)
+  finish_short not_ready size (LexError.Fault x) never = absurd never
+  finish_short not_ready size {new} LexError.Memory drops = runs_out sound no_fault not_ready (dropped old f new [] last_text (size ∙ ap length e.text.held) drops)

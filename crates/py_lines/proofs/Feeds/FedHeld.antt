@@ -10,13 +10,10 @@ use Rattle.py_lines.specs.Lexed.{IsLexed}
 use Rattle.py_lines.specs.Settled.{IsSettled, Decides, DecideNone}
 use Rattle.py_lines.specs.Given.{AreFirstLines}
 use Rattle.py_lines.specs.ScannerState.{GoesOnWith, EndsExactly, HoldsReady}
-use Rattle.py_lines.specs.declared.feed.Feed.{Feed}
 use Rattle.py_lines.specs.declared.mode.Mode.{Mode}
-use Rattle.py_lines.specs.declared.scan.Scan.{Scan}
-use Rattle.py_lines.specs.declared.scan.Stop.TheVariants as stops
 use Rattle.py_lines.specs.Private.Scan.{IsApart, ScansIn, is_return_mode, none_open, stack_of, EndsWhole}
 use Rattle.py_lines.specs.Private.LineState.{first_mode}
-use Rattle.py_lines.specs.Private.Feed.{IsScanned}
+use Rattle.py_lines.specs.Private.Feed.{IsScanned, Scan, Stop, Feed}
 use Rattle.py_lines.proofs.Text.Utf8Prefixes.{all_scalars-parts, nothing_bad}
 use Rattle.py_lines.proofs.Lexings.DecidedFaults.{decided_fault}
 use Rattle.py_lines.proofs.Lexings.FirstLines.{first_reading}
@@ -33,7 +30,7 @@ abbrev pub SettleNone : List ℕ → ℕ → List ℕ → List LogicalLine → T
 SettleNone text place items lines = 0 < length items → IsSettled (take (place + length items) text) lines
 
 -- a line has ended in these bytes, which a text goes on with after the lines given
-module _ (text : List ℕ) (place : ℕ) {line : ℕ} {bytes : List ℕ} {scan : Scan} {end_len : ℕ} (lines : List LogicalLine) (s : ScansIn (first_mode place) line bytes scan (stops.LineEnd end_len)) (first : AreFirstLines text place line lines) (goes : GoesOnWith text place bytes) where
+module _ (text : List ℕ) (place : ℕ) {line : ℕ} {bytes : List ℕ} {scan : Scan} {end_len : ℕ} (lines : List LogicalLine) (s : ScansIn (first_mode place) line bytes scan (Stop.LineEnd end_len)) (first : AreFirstLines text place line lines) (goes : GoesOnWith text place bytes) where
   known : IsKnown text place line lines s.read s.rest
   known = is_known text place line lines s.read s.rest first s.scalars (subst (GoesOnWith text place) (sym s.spell) goes) (omega (arith, (ended_alone s).line.some, length-append (encode_utf8_all s.read) s.rest))
 

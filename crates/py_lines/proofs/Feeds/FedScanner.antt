@@ -3,11 +3,8 @@ use Rattle.std.proofs.Common.{◌≡◌, ℕ, ◌+◌, ◌≤◌, ◌^◌, ◌�
 use Rattle.std.specs.Prelude.{is_some}
 use Rattle.py_lines.specs.LogicalLine.{LogicalLine}
 use Rattle.py_lines.specs.ScannerState.{ScannerState, TakesBytes, ScannerRunsOut, Feeds, FeedsNaming, LacksBoth, Releases, TakesNaming}
-use Rattle.py_lines.specs.ScannerState.View.{line_of_feed, ready_of, scanning_of}
-use Rattle.py_lines.specs.declared.fault.LexError.{LexError}
-use Rattle.py_lines.specs.declared.fault.LexError.TheVariants as lex
-use Rattle.py_lines.specs.declared.feed.Feed.{Feed}
 use Rattle.py_lines.specs.Private.Feed.{HasReadTokens, HoldsSo, IsSoundFeed, LetsGo, ReadsTokens, StandsSo, TakesLine, line_held, with_line}
+use Rattle.py_lines.specs.Private.Feed.{LexError, Feed, line_of_feed, ready_of, scanning_of}
 use Rattle.py_lines.proofs.Feeds.ReadyLines.{line_stands, none_read, none_ready, some_is, text_stands}
 use Rattle.py_lines.proofs.Feeds.Loops.{dropped, runs_out}
 use Rattle.py_lines.proofs.Feeds.Released.{released_sound, releases}
@@ -78,8 +75,8 @@ module _ {old new : Feed} {piece : List ℕ} {n : ℕ} (t : TakesLine old piece 
   -- where there is no memory for the tokens
   pub fed_short : IsSoundFeed old → old.ready ≡ None → {held : ℕ} → held ≡ length old.held.items → {now : Feed} (error : LexError) → ReadsTokens new held (Err error) now
       → Feeds (scanning_of old) piece (Err error) (scanning_of now) × IsSoundFeed now
-  fed_short sound was size (lex.Fault f) never = absurd never
-  fed_short sound was size {now} lex.Memory drops = runs_out sound t.takes.fault was (dropped old new now (take n piece) (record {
+  fed_short sound was size (LexError.Fault f) never = absurd never
+  fed_short sound was size {now} LexError.Memory drops = runs_out sound t.takes.fault was (dropped old new now (take n piece) (record {
     held = t.takes.held;
     place = t.takes.place;
     line = t.takes.line;
@@ -110,5 +107,5 @@ module _ {old new : Feed} {piece : List ℕ} {n : ℕ} (t : TakesLine old piece 
 -- an error is the same where lines are released at once
 pub naming_error : (word other : List ℕ) (old new : ScannerState) (piece : List ℕ) (error : LexError)
     → Feeds old piece (Err error) new → FeedsNaming word other old piece (Err error) new
-naming_error word other old new piece (lex.Fault f) feeds = feeds
-naming_error word other old new piece lex.Memory feeds = feeds
+naming_error word other old new piece (LexError.Fault f) feeds = feeds
+naming_error word other old new piece LexError.Memory feeds = feeds

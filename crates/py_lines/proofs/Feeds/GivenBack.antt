@@ -9,14 +9,10 @@ use Rattle.std.proofs.Math.Seq.{take-append-add, take-append_seam}
 use Rattle.py_lines.specs.Character.{is_return}
 use Rattle.py_lines.specs.Piece.{ends, spelled}
 use Rattle.py_lines.specs.LogicalLine.{byte_len}
-use Rattle.py_lines.specs.declared.feed.Feed.{Feed}
 use Rattle.py_lines.specs.declared.mode.Mode.{Mode}
-use Rattle.py_lines.specs.declared.scan.Scan.{Scan}
 use Rattle.py_lines.specs.Private.Scan.{EndsWhole, ScansIn}
-use Rattle.py_lines.specs.declared.scan.Stop.{Stop}
-use Rattle.py_lines.specs.declared.scan.Stop.TheVariants as stops
 use Rattle.py_lines.specs.ScannerState.{EndsExactly}
-use Rattle.py_lines.specs.Private.Feed.{EndsWithLine, GivesBack, IsScanned, StopsHeld, whole_end}
+use Rattle.py_lines.specs.Private.Feed.{EndsWithLine, GivesBack, IsScanned, StopsHeld, whole_end, Scan, Stop, Feed}
 use Rattle.py_lines.proofs.Feeds.ReadyLines.{ended_alone, none_is, some_is}
 
 -- a line's end stays whole where one byte after CR stays
@@ -32,7 +28,7 @@ exact_return all after returned (inl feed) = absurd (both_ways _ feed returned)
 exact_return all after returned (inr (b, m, is, other)) = inr (returned, (b, ap (take 1) is, other))
 
 -- a line that has ended in these bytes
-module _ {m : Mode} {line : ℕ} {bytes : List ℕ} {scan : Scan} {end_len : ℕ} (s : ScansIn m line bytes scan (stops.LineEnd end_len)) where
+module _ {m : Mode} {line : ℕ} {bytes : List ℕ} {scan : Scan} {end_len : ℕ} (s : ScansIn m line bytes scan (Stop.LineEnd end_len)) where
   line_returned : scan.count.after_return ≡ ends is_return s.read
   line_returned = let at = s.stops.0 [] (λ returned. refl) in at.tallies.counts.after ∙ ap (ends is_return) (append-nil (spelled (at.body ++ at.last ∷ [])) ∙ at.spell)
 
@@ -65,7 +61,7 @@ module _ {m : Mode} {line : ℕ} {bytes : List ℕ} {scan : Scan} {end_len : ℕ
       let parts : n ≡ byte_len s.read + (n - byte_len s.read) = omega (arith, more.1, within) in
       sym (ap (take n) (sym s.spell) ∙ ap (λ (k : ℕ). take k (encode_utf8_all s.read ++ s.rest)) parts ∙ take-append-add (encode_utf8_all s.read) s.rest (n - byte_len s.read))
 
-  pub ends_in_first : (n : ℕ) (items : List ℕ) → items ≡ take n bytes → whole_end scan ≤ n → ScansIn m line items scan (stops.LineEnd end_len)
+  pub ends_in_first : (n : ℕ) (items : List ℕ) → items ≡ take n bytes → whole_end scan ≤ n → ScansIn m line items scan (Stop.LineEnd end_len)
   ends_in_first n items is within = record {
     read = s.read;
     rest = take (n - byte_len s.read) s.rest;
@@ -92,7 +88,7 @@ holds_bytes {m} {line} {bytes} {scan} {stop} s = record {
   stops = λ items is. subst (λ t. ScansIn m line t scan stop) (sym (is ∙ take_all (length bytes) bytes (omega arith))) s;
 }
 
-pub holds_line_end : {m : Mode} {line : ℕ} {bytes : List ℕ} {scan : Scan} {end_len : ℕ} → ScansIn m line bytes scan (stops.LineEnd end_len) → HoldsStop m line bytes scan (stops.LineEnd end_len) (whole_end scan)
+pub holds_line_end : {m : Mode} {line : ℕ} {bytes : List ℕ} {scan : Scan} {end_len : ℕ} → ScansIn m line bytes scan (Stop.LineEnd end_len) → HoldsStop m line bytes scan (Stop.LineEnd end_len) (whole_end scan)
 holds_line_end {m} {line} {bytes} {scan} s = record { some = λ none. absurd (omega (arith, none, end_some s)); within = end_within s; stops = λ items is. ends_in_first s (whole_end scan) items is (omega arith) }
 
 module _ (f : Feed) (before : ℕ) (scanned : IsScanned f f.ready) where
@@ -106,7 +102,7 @@ module _ (f : Feed) (before : ℕ) (scanned : IsScanned f f.ready) where
   }
 
   module _ (some : is_some f.ready ≡ true) where
-    abbrev line_ready : StopsHeld f (stops.LineEnd (some_is f.ready some).0)
+    abbrev line_ready : StopsHeld f (Stop.LineEnd (some_is f.ready some).0)
     line_ready = subst (IsScanned f) (some_is f.ready some).1 scanned
 
     -- the scan stops within what is held

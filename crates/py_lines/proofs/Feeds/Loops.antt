@@ -5,21 +5,14 @@ use Rattle.std.proofs.lemmas.Bool.{cases_lt}
 use Rattle.std.proofs.lemmas.List.{nil_from_length}
 use Rattle.std.proofs.Math.Seq.{take-append_seam}
 use Rattle.py_lines.specs.Settled.{IsHopeless}
-use Rattle.py_lines.specs.declared.fault.Fault.{Fault}
-use Rattle.py_lines.specs.declared.fault.FaultKind.{FaultKind}
-use Rattle.py_lines.specs.declared.fault.FaultKind.TheVariants.{BadUtf8}
 use Rattle.py_lines.specs.ScannerState.{ScannerRunsOut}
-use Rattle.py_lines.specs.ScannerState.View.{ready_of, scanning_of}
-use Rattle.py_lines.specs.declared.fault.LexError.{LexError}
-use Rattle.py_lines.specs.declared.fault.LexError.TheVariants as lex
-use Rattle.py_lines.specs.declared.feed.Feed.{Feed}
 use Rattle.py_lines.specs.declared.line_state.LineState.{LineState}
 use Rattle.py_lines.specs.declared.scan.LineFault.{LineFault}
-use Rattle.py_lines.specs.declared.scan.Stop.{Stop}
-use Rattle.py_lines.specs.declared.scan.Stop.TheVariants as stops
 use Rattle.py_lines.specs.Private.Scan.{IsUnderWay, line_start, is_returned, IsRefusal}
 use Rattle.py_lines.specs.Private.LineState.{BeginsAnew, IsFaultAfter, first_mode}
-use Rattle.py_lines.specs.Private.Feed.{DropsLine, FailsAt, HasRoom, Holds, HoldsAt, IsDecidedAt, IsOpen, IsSoundFeed, IsUnchanged, ScansHeld, ScansTo, StandsSo, StopsHeld, StopsWith, WhereHeld}
+use Rattle.py_lines.specs.Private.Feed.{DropsLine, FailsAt, HasRoom, Holds, HoldsAt, IsDecidedAt, IsOpen, IsSoundFeed, IsUnchanged}
+use Rattle.py_lines.specs.Private.Feed.{ScansHeld, ScansTo, StandsSo, StopsHeld, StopsWith, WhereHeld, Fault, FaultKind, LexError, Stop}
+use Rattle.py_lines.specs.Private.Feed.{Feed, ready_of, scanning_of}
 use Rattle.py_lines.proofs.Text.Incomplete.{part_none}
 use Rattle.py_lines.proofs.Readers.LineFaults.{Within, refused_within}
 use Rattle.py_lines.proofs.Feeds.DecidedSoFar.{by_bytes, by_character}
@@ -37,8 +30,8 @@ holds_on a b is same = record { held = b.held ∙ is; place = b.place ∙ a.plac
 -- what is held was scanned after it came to be held
 pub scans_on : (old mid new : Feed) {items : List ℕ} {stop : Stop} (result : Result (Unit {0}) LexError) → StopsWith old items stop mid → ScansHeld mid result new → ScansTo old items result new
 scans_on old mid new (Ok done) w (text, scanned) = (holds_on w.text text w.text.held w.text.fault, scanned)
-scans_on old mid new (Err (lex.Fault f)) w (text, ready, decided) = (holds_on w.text text w.text.held refl, ready, rw (← w.text.held, ← w.text.place, ← w.text.line) decided)
-scans_on old mid new (Err lex.Memory) w none = none
+scans_on old mid new (Err (LexError.Fault f)) w (text, ready, decided) = (holds_on w.text text w.text.held refl, ready, rw (← w.text.held, ← w.text.place, ← w.text.line) decided)
+scans_on old mid new (Err LexError.Memory) w none = none
 
 -- the state stays sound where more bytes are held
 pub room_more : (old new : Feed) (bytes : List ℕ) {known : Option Fault} → IsSoundFeed old → old.state.place + length old.held.items + length bytes ≤ 2 ^ 62
@@ -118,16 +111,16 @@ module _ (f new : Feed) (kind : FaultKind) (offset : ℕ) (error : LexError) (fa
 
 module _ (f new : Feed) (error : LexError) (not_ready : f.ready ≡ None) where
   -- what is left begins no character, whatever follows
-  pub part_fails : (s : StopsHeld f stops.TextEnd) → IsHopeless s.rest → is_returned f.state.scan ≡ false → FailsAt f BadUtf8 f.state.scan.stop error new → ScansHeld f (Err error) new
+  pub part_fails : (s : StopsHeld f Stop.TextEnd) → IsHopeless s.rest → is_returned f.state.scan ≡ false → FailsAt f FaultKind.BadUtf8 f.state.scan.stop error new → ScansHeld f (Err error) new
   part_fails s hopeless not_yet fails =
       let o = reached_by s s.stops.0 in
       let some : 0 < length s.rest = ⊎_elim (λ more. more) (λ none. absurd (part_none (subst IsHopeless (nil_from_length s.rest (omega (arith, none))) hopeless))) (cases_lt 0 (length s.rest)) in
-      fails_held f new BadUtf8 f.state.scan.stop error fails not_ready (λ text lines first goes.
+      fails_held f new FaultKind.BadUtf8 f.state.scan.stop error fails not_ready (λ text lines first goes.
       by_bytes text f.state lines f.held.items s.read s.rest first goes s.scalars s.spell s.stops.0 not_yet some hopeless fails.keeps.fault
-      (fault_after f new BadUtf8 f.state.scan.stop error fails s.rest o (record { prefix = s.read; later = []; split = append-nil s.read; size = open_stop f s.rest o })))
+      (fault_after f new FaultKind.BadUtf8 f.state.scan.stop error fails s.rest o (record { prefix = s.read; later = []; split = append-nil s.read; size = open_stop f s.rest o })))
 
   -- the next character is refused
-  pub held_refused : (c : ℕ) (s : StopsHeld f (stops.Refused c)) (line_fault : LineFault) → IsRefusal f.state.scan c line_fault → FailsAt f line_fault.kind line_fault.place error new → ScansHeld f (Err error) new
+  pub held_refused : (c : ℕ) (s : StopsHeld f (Stop.Refused c)) (line_fault : LineFault) → IsRefusal f.state.scan c line_fault → FailsAt f line_fault.kind line_fault.place error new → ScansHeld f (Err error) new
   held_refused c s line_fault is_line_fault fails =
       let (way, after, scalar, spell, refuses, not_yet) = s.stops in
       let w = refused_within f.state.place f.state.scan s.read way c refuses line_fault is_line_fault in

@@ -8,16 +8,13 @@ use Rattle.std.proofs.Math.Seq.{take-append_seam}
 use Rattle.py_lines.specs.Piece.{Piece, ends, line_end, spelled}
 use Rattle.py_lines.specs.LogicalLine.{LogicalLine, byte_len, line_ends}
 use Rattle.py_lines.specs.Token.{EachLiesIn}
-use Rattle.py_lines.specs.ScannerState.View.{line_of_feed, ready_of, scanning_of}
-use Rattle.py_lines.specs.declared.feed.Feed.{Feed}
 use Rattle.py_lines.specs.declared.line_state.LineState.{LineState}
 use Rattle.py_lines.specs.declared.mode.Mode.{Mode}
-use Rattle.py_lines.specs.declared.scan.Scan.{Scan}
-use Rattle.py_lines.specs.declared.scan.Stop.TheVariants as stops
 use Rattle.py_lines.specs.Private.Scan.{IsApart, ScansIn, line_start}
 use Rattle.py_lines.specs.Private.LineState.{first_mode, with_tokens}
 use Rattle.py_lines.specs.Private.LineTokens.{AreLineText, HoldsTokens, IsLineText}
 use Rattle.py_lines.specs.Private.Feed.{HasReadTokens, HasRoom, HoldsLine, HoldsSo, IsReady, StandsSo, StopsHeld, line_held, with_line}
+use Rattle.py_lines.specs.Private.Feed.{Scan, Stop, Feed, line_of_feed, ready_of, scanning_of}
 use Rattle.py_lines.proofs.Fields.OneReading.{one_fielded_reading}
 use Rattle.py_lines.proofs.Lexings.LineEnds.{read-alone}
 use Rattle.py_lines.proofs.LogicalLines.TokenPlaces.{each_after}
@@ -58,7 +55,7 @@ same_pieces text body others last end ends also one two =
     (record { spell = refl; fit = read-alone others end two.after also two.fit })
 
 -- a line that its line end has closed
-module _ {m : Mode} {line : ℕ} {bytes : List ℕ} {scan : Scan} {end_len : ℕ} (s : ScansIn m line bytes scan (stops.LineEnd end_len)) where
+module _ {m : Mode} {line : ℕ} {bytes : List ℕ} {scan : Scan} {end_len : ℕ} (s : ScansIn m line bytes scan (Stop.LineEnd end_len)) where
   -- its pieces, before what follows
   abbrev pub pieces_before : (after : List ℕ) → IsApart s.read after → List Piece
   pieces_before after h = (s.stops.0 after h).body ++ (s.stops.0 after h).last ∷ []
@@ -81,7 +78,7 @@ module _ {m : Mode} {line : ℕ} {bytes : List ℕ} {scan : Scan} {end_len : ℕ
       (line_text (line_start m) scan s.read end_len (pieces_before after h) s.scalars (ended_scan after h))
       (line_text (line_start m) scan s.read end_len pieces_alone s.scalars ended_alone)
 
-abbrev pub ended_holds : (f : Feed) (end_len : ℕ) → StopsHeld f (stops.LineEnd end_len) → HoldsLine f end_len
+abbrev pub ended_holds : (f : Feed) (end_len : ℕ) → StopsHeld f (Stop.LineEnd end_len) → HoldsLine f end_len
 ended_holds f end_len s = holds_line f end_len s.read s.rest (pieces_alone s) s.scalars s.spell s.number (ended_alone s)
 
 module _ (f : Feed) (end_len : ℕ) (h : HoldsLine f end_len) where

@@ -18,7 +18,6 @@ use Rattle.py_lines.specs.Private.ScanMachine.{IsScanSound}
 use Rattle.py_lines.specs.Private.Scan.{EndsNoLine, is_return_mode, line_start, none_open}
 use Rattle.py_lines.specs.Private.LineState.{first_mode}
 use Rattle.py_lines.specs.declared.mode.Mode.{Mode}
-use Rattle.py_lines.specs.declared.mode.Mode.TheVariants as modes
 use Rattle.std.proofs.Math.Utf8.{low_scalar}
 use Rattle.py_lines.proofs.Text.CharacterTests.{return_is, feed_is}
 use Rattle.py_lines.proofs.Text.Utf8Prefixes.{goes_on, all_scalars-append, nothing_bad}
@@ -38,8 +37,8 @@ use Rattle.py_lines.proofs.Feeds.Known.{IsKnown}
 
 -- no line has ended, where a CR that ends the line, unless LF follows, is the last byte known
 ends_none : (m : Mode) (done : List Piece) (held read rest : List ℕ) (st : List Bracket) → IsScanSound (scanned done m held) read → brackets_of done ≡ Some st → EndsNoLine 0 done → (is_return_mode m && none_open st ≡ true → rest ≡ []) → EndsNoneYet (pieces_at (scanned done m held)) rest
-ends_none modes.Return done held read rest [] sound stacked one_line last = EndsNoneYet.by_return done held refl one_line (sound.holds.0.1 ∙ ap (λ d. d ∷ []) (return_is sound.holds.0.0 sound.holds.0.2)) (last refl)
-ends_none modes.Return done held read rest (b ∷ bs) sound stacked one_line last = EndsNoneYet.none (closed_one_line modes.Return done held (b ∷ bs) stacked one_line (λ same. refl))
+ends_none Mode.Return done held read rest [] sound stacked one_line last = EndsNoneYet.by_return done held refl one_line (sound.holds.0.1 ∙ ap (λ d. d ∷ []) (return_is sound.holds.0.0 sound.holds.0.2)) (last refl)
+ends_none Mode.Return done held read rest (b ∷ bs) sound stacked one_line last = EndsNoneYet.none (closed_one_line Mode.Return done held (b ∷ bs) stacked one_line (λ same. refl))
 ends_none m done held read rest st sound stacked one_line last = EndsNoneYet.none (closed_one_line m done held st stacked one_line (λ same. absurd (cc)))
 
 module _ (text : List ℕ) (place line : ℕ) (lines : List LogicalLine) (read rest : List ℕ) (k : IsKnown text place line lines read rest) where

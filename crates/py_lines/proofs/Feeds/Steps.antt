@@ -11,15 +11,11 @@ use Rattle.std.proofs.Math.Seq.{take-append_seam, drop-append_seam}
 use Rattle.py_lines.specs.Character.{is_line_feed}
 use Rattle.py_lines.specs.Piece.{begins}
 use Rattle.py_lines.specs.LogicalLine.{byte_len}
-use Rattle.py_lines.specs.declared.feed.Feed.{Feed}
 use Rattle.py_lines.specs.declared.mode.Mode.{Mode}
-use Rattle.py_lines.specs.declared.scan.Scan.{Scan}
-use Rattle.py_lines.specs.declared.scan.Stop.{Stop}
-use Rattle.py_lines.specs.declared.scan.Stop.TheVariants as stops
 use Rattle.py_lines.specs.Private.Run.{Reached}
 use Rattle.py_lines.specs.Private.Scan.{is_return_mode, is_returned, freed, stack_of, EndsWhole, IsUnderWay, ScansIn}
 use Rattle.py_lines.specs.Private.LineState.{first_mode}
-use Rattle.py_lines.specs.Private.Feed.{IsCutAt, IsOpen, StopsHeld}
+use Rattle.py_lines.specs.Private.Feed.{IsCutAt, IsOpen, StopsHeld, Scan, Stop, Feed}
 use Rattle.py_lines.proofs.Text.Utf8Prefixes.{all_scalars-parts}
 use Rattle.py_lines.proofs.LogicalLines.Cuts.{byte_len-append}
 use Rattle.py_lines.proofs.ScanMachine.Soundness.{StandsSound, stands_sound}
@@ -92,7 +88,7 @@ returned_whole read (b ∷ more) some none = inr (b, more, refl, no_feed b more 
 abbrev pub scan_freed : Feed → Feed
 scan_freed f = record f { state = record f.state { scan = freed f.state.scan } }
 
-pub ends_returned : (f : Feed) (s : StopsHeld f stops.TextEnd) → 0 < length s.rest → is_returned f.state.scan ≡ true → StopsHeld (scan_freed f) (stops.LineEnd 1)
+pub ends_returned : (f : Feed) (s : StopsHeld f Stop.TextEnd) → 0 < length s.rest → is_returned f.state.scan ≡ true → StopsHeld (scan_freed f) (Stop.LineEnd 1)
 ends_returned f s some is =
     let way = s.stops.0 in
     let parts = and_parts _ _ is in

@@ -7,13 +7,8 @@ use Rattle.py_lines.specs.LogicalLine.{LogicalLine}
 use Rattle.py_lines.specs.Settled.{Decides, DecideNone, IsSettled}
 use Rattle.py_lines.specs.Given.{AreFirstLines}
 use Rattle.py_lines.specs.ScannerState.{ScannerState, GoesOnWith, HoldsReady, IsScanning, MeetsFault, TakesBytes, WhereFed, fed_of, ready_lines}
-use Rattle.py_lines.specs.ScannerState.View.{ready_of, scanning_of}
-use Rattle.py_lines.specs.declared.fault.Fault.{Fault}
-use Rattle.py_lines.specs.declared.fault.LexError.{LexError}
-use Rattle.py_lines.specs.declared.fault.LexError.TheVariants as lex
-use Rattle.py_lines.specs.declared.feed.Feed.{Feed}
-use Rattle.py_lines.specs.declared.scan.Stop.{Stop}
-use Rattle.py_lines.specs.Private.Feed.{EndsWithLine, GivesBack, Holds, HoldsSo, IsSoundFeed, ScansHeld, StandsSo, StopsWith, TakesLine, TakesSo, line_held, with_line}
+use Rattle.py_lines.specs.Private.Feed.{EndsWithLine, GivesBack, Holds, HoldsSo, IsSoundFeed, ScansHeld, StandsSo, StopsWith, TakesLine}
+use Rattle.py_lines.specs.Private.Feed.{TakesSo, line_held, with_line, Fault, LexError, Stop, Feed, ready_of, scanning_of}
 use Rattle.py_lines.proofs.Lexings.DecidedFaults.{decided_more}
 use Rattle.py_lines.proofs.Feeds.Known.{first_at, goes_after, goes_at, goes_joined, goes_with_first}
 use Rattle.py_lines.proofs.Feeds.FedHeld.{SettleNone, holds_exactly, never_before, scanned_open, settled_fed}
@@ -100,8 +95,8 @@ module _ (old : Feed) (sound : IsSoundFeed old) (no_fault : old.state.fault ≡ 
 
   -- or they decide a fault with what was held
   pub fails : (mid new : Feed) {stop : Stop} (error : LexError) → StopsWith old (old.held.items ++ take n piece) stop mid → ScansHeld mid (Err error) new → TakesSo old piece (Err error) new
-  fails mid new (lex.Fault fault) stops failed =
-      let (text, none, decided) = scans_on old mid new (Err (lex.Fault fault)) stops failed in (
+  fails mid new (LexError.Fault fault) stops failed =
+      let (text, none, decided) = scans_on old mid new (Err (LexError.Fault fault)) stops failed in (
         record {
           decided = λ whole lines s go.
               let part = goes_with_first whole (fed_of (scanning_of old)) (take n piece) (drop n piece) (subst (GoesOnWith whole (fed_of (scanning_of old))) (sym (take-append-drop n piece)) go) in
@@ -120,7 +115,7 @@ module _ (old : Feed) (sound : IsSoundFeed old) (no_fault : old.state.fault ≡ 
         },
         record { room = room_more old new (take n piece) sound few text; state = subst (StandsSo new) (sym none) (λ no_more. absurd (let h = sym text.fault ∙ no_more in cc)) },
       )
-  fails mid new lex.Memory stops never = absurd never
+  fails mid new LexError.Memory stops never = absurd never
 
 -- what stays held of what was held and first bytes of a piece
 pub taken_back : (old mid new : Feed) → IsSoundFeed old → old.state.fault ≡ None → old.ready ≡ None → (piece : List ℕ) → old.state.place + length old.held.items + length piece ≤ 2 ^ 62

@@ -40,10 +40,10 @@ use Rattle.py_lines.specs.Private.LineTokens.{AreLineText}
 use Rattle.py_lines.specs.Private.Source.{line_of_source, scanned_text, GivesTokens, HasScanned, FailsAfter}
 use Rattle.py_lines.proofs.Lexings.Existence.{first_at}
 use Rattle.py_lines.proofs.Text.Utf8Prefixes.{prefix_chars, all_scalars-parts, one_decoding}
-use Rattle.py_lines.proofs.Pieces.PieceLists.{spelled-append, AreReadIn-append, AreReadBefore-second, piece, AreReadBefore-append}
+use Rattle.py_lines.proofs.Pieces.PieceLists.{spelled-append, AreReadIn-append, AreReadBefore-second, piece}
 use Rattle.py_lines.proofs.Lexings.LineEnds.{line_first}
-use Rattle.py_lines.proofs.LogicalLines.TokenPlaces.{each_after, tokens_lie}
-use Rattle.py_lines.proofs.LogicalLines.Cuts.{byte_len-append, one_line, line_depth, one_part, last_part}
+use Rattle.py_lines.proofs.LogicalLines.TokenPlaces.{each_after}
+use Rattle.py_lines.proofs.LogicalLines.Cuts.{byte_len-append, one_line, line_depth, one_part}
 use Rattle.py_lines.proofs.LineScan.LineCount.{line_ends-bytes}
 use Rattle.py_lines.proofs.LineScan.TextSteps.{follows_base, begun_sound}
 use Rattle.py_lines.proofs.Lexings.FirstLines.{base_lines, ends_for_good, given_begin, piece_some}

@@ -9,19 +9,17 @@ use Rattle.py_lines.specs.Lexed.{IsLexed}
 use Rattle.py_lines.specs.Settled.{IsHopeless, Decides}
 use Rattle.py_lines.specs.Given.{AreFirstLines}
 use Rattle.py_lines.specs.ScannerState.{ScannerState, EndsExactly, Feeds, GoesOnWith, HoldsLast, TakesBytes, WhereWhole, ready_lines}
-use Rattle.py_lines.specs.ScannerState.View.{line_of_feed, scanning_of}
+pub use Rattle.py_lines.specs.ScannerState.View.{line_of_feed, ready_of, scanning_of}
 use Rattle.py_lines.specs.Private.Scan.{ScansIn, is_returned}
 use Rattle.py_lines.specs.Private.Run.{Reached}
 use Rattle.py_lines.specs.Private.LineState.{BeginsAnew, KeepsFault, first_mode}
 use Rattle.py_lines.specs.Private.LineTokens.{AreLineText}
-use Rattle.py_lines.specs.declared.fault.Fault.{Fault}
-use Rattle.py_lines.specs.declared.fault.FaultKind.{FaultKind}
-use Rattle.py_lines.specs.declared.fault.LexError.{LexError}
-use Rattle.py_lines.specs.declared.fault.LexError.TheVariants as lex
-use Rattle.py_lines.specs.declared.scan.Scan.{Scan}
-use Rattle.py_lines.specs.declared.scan.Stop.{Stop}
-use Rattle.py_lines.specs.declared.scan.Stop.TheVariants as stops
-use Rattle.py_lines.specs.declared.feed.Feed.{Feed}
+pub use Rattle.py_lines.specs.declared.fault.Fault.{Fault}
+pub use Rattle.py_lines.specs.declared.fault.FaultKind.{FaultKind}
+pub use Rattle.py_lines.specs.declared.fault.LexError.{LexError}
+pub use Rattle.py_lines.specs.declared.scan.Scan.{Scan}
+pub use Rattle.py_lines.specs.declared.scan.Stop.{Stop}
+pub use Rattle.py_lines.specs.declared.feed.Feed.{Feed}
 
 -- whether no bytes complete these
 abbrev pub TellsHopeless : List ℕ → Bool → Type 0
@@ -61,8 +59,8 @@ StopsHeld f stop = ScansIn (first_mode f.state.place) f.state.line f.held.items 
 
 -- all that is held was scanned, except a part of a character, or up to a line's end
 abbrev pub IsScanned : Feed → Option ℕ → Type 0
-IsScanned f None = (s : StopsHeld f stops.TextEnd) × ¬ (IsHopeless s.rest) × (is_returned f.state.scan ≡ true → s.rest ≡ [])
-IsScanned f (Some end_len) = StopsHeld f (stops.LineEnd end_len)
+IsScanned f None = (s : StopsHeld f Stop.TextEnd) × ¬ (IsHopeless s.rest) × (is_returned f.state.scan ≡ true → s.rest ≡ [])
+IsScanned f (Some end_len) = StopsHeld f (Stop.LineEnd end_len)
 
 -- whole characters end after so many of the bytes that are held
 abbrev pub IsCutAt : Feed → ℕ → Type 0
@@ -106,8 +104,8 @@ pub record StopsWith (old : Feed) (items : List ℕ) (stop : Stop) (new : Feed) 
 -- what a scan of these bytes, which are held then, answers and leaves
 abbrev pub ScansTo : Feed → List ℕ → Result (Unit {0}) LexError → Feed → Type 0
 ScansTo old items (Ok done) new = Holds old items old.state.fault new × IsScanned new new.ready
-ScansTo old items (Err (lex.Fault f)) new = FailsIn old items f new
-ScansTo old items (Err lex.Memory) new = ⊥
+ScansTo old items (Err (LexError.Fault f)) new = FailsIn old items f new
+ScansTo old items (Err LexError.Memory) new = ⊥
 
 -- what a scan of what is held does
 abbrev pub ScansHeld : Feed → Result (Unit {0}) LexError → Feed → Type 0
@@ -177,8 +175,8 @@ pub record HasReadTokens (old new : Feed) : Type 0 where
 -- what a call that reads the tokens answers and leaves
 abbrev pub ReadsTokens : Feed → ℕ → Result (Unit {0}) LexError → Feed → Type 0
 ReadsTokens old before (Ok done) new = HasReadTokens old new
-ReadsTokens old before (Err (lex.Fault f)) new = ⊥
-ReadsTokens old before (Err lex.Memory) new = DropsLine old before new
+ReadsTokens old before (Err (LexError.Fault f)) new = ⊥
+ReadsTokens old before (Err LexError.Memory) new = DropsLine old before new
 
 -- Some of these bytes, if there are any, are held after those that were, and the scan has stopped so in them. Or there is no memory.
 abbrev pub HoldsPiece : Feed → List ℕ → Result Stop AllocError → Feed → Type 0
@@ -191,8 +189,8 @@ HoldsPiece old piece (Err error) new = IsUnchanged old new
 abbrev pub EndsWithLine : List ℕ → Feed → Option ℕ → Type 0
 EndsWithLine before f None = IsScanned f None
 EndsWithLine before f (Some end_len) =
-    (s : StopsHeld f (stops.LineEnd end_len))
-    × (EndsExactly s.read s.rest ⊎ ScansIn (first_mode f.state.place) f.state.line before f.state.scan (stops.LineEnd end_len))
+    (s : StopsHeld f (Stop.LineEnd end_len))
+    × (EndsExactly s.read s.rest ⊎ ScansIn (first_mode f.state.place) f.state.line before f.state.scan (Stop.LineEnd end_len))
 
 -- so many bytes stay held, or all: more than these, if more are held
 pub record GivesBack (old : Feed) (before : ℕ) (new : Feed) : Type 0 where
@@ -216,8 +214,8 @@ TakesSo old piece (Err error) new = Feeds (scanning_of old) piece (Err error) (s
 -- whether a line is ready, where no fault was met
 abbrev pub WaitsSo : Feed → Result Bool LexError → Type 0
 WaitsSo f (Ok waits) = (f.state.fault ≡ None) × (waits ≡ is_some f.ready)
-WaitsSo f (Err (lex.Fault fault)) = f.state.fault ≡ Some fault
-WaitsSo f (Err lex.Memory) = ⊥
+WaitsSo f (Err (LexError.Fault fault)) = f.state.fault ≡ Some fault
+WaitsSo f (Err LexError.Memory) = ⊥
 
 -- the text that ends with what is held has this fault, which is kept
 pub record HasEndFault (old : Feed) (fault : Fault) (new : Feed) : Type 0 where
@@ -235,8 +233,8 @@ pub record HasEndedText (old new : Feed) : Type 0 where
 -- what a call that ends the text answers and leaves
 abbrev pub EndsText : Feed → Result (Unit {0}) LexError → Feed → Type 0
 EndsText old (Ok done) new = HasEndedText old new
-EndsText old (Err (lex.Fault f)) new = HasEndFault old f new
-EndsText old (Err lex.Memory) new = ⊥
+EndsText old (Err (LexError.Fault f)) new = HasEndFault old f new
+EndsText old (Err LexError.Memory) new = ⊥
 
 -- the line that was ready is let go: what is held begins after it, and so does the scan of the next line
 pub record LetsGo (old new : Feed) : Type 0 where

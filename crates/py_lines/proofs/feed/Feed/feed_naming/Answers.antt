@@ -2,8 +2,7 @@ use Rattle.std.proofs.Common.{ℕ, List, not, inl, sym, ap, ◌∙◌, subst, le
 use Rattle.std.proofs.lemmas.List.{length-take-le}
 use Rattle.std.proofs.lemmas.Result.{err_from_is_err_and}
 use Rattle.py_lines.specs.ScannerState.{LacksBoth}
-use Rattle.py_lines.specs.ScannerState.View.{ready_of, scanning_of}
-use Rattle.py_lines.specs.Private.Feed.{HoldsLine}
+use Rattle.py_lines.specs.Private.Feed.{HoldsLine, ready_of, scanning_of}
 use Rattle.py_lines.proofs.Feeds.FedScanner.{fed_named, fed_released, fed_short, naming_error, naming_same, takes_open, waits_so}
 use Rattle.py_lines.proofs.Feeds.ReadyLines.{held_within, line_stands, none_is}
 use Rattle.py_lines.proofs.feed.Feed.feed_naming.Goals.{Else-is_none}

@@ -1,10 +1,9 @@
 use Rattle.std.proofs.Common.{ℕ, ◌++◌, length, take, refl, sym, ap, ◌∙◌, subst, append_assoc, length-append, arith}
 use Rattle.std.specs.Prelude.{encode_utf8_all}
 use Rattle.std.proofs.lemmas.List.{length-take-le}
-use Rattle.py_lines.specs.declared.scan.Stop.{Stop}
 use Rattle.py_lines.specs.Private.LineState.{first_mode}
 use Rattle.py_lines.specs.Private.Scan.{ScansIn}
-use Rattle.py_lines.specs.Private.Feed.{whole_end}
+use Rattle.py_lines.specs.Private.Feed.{whole_end, Stop}
 use Rattle.py_lines.proofs.LineScan.TextSteps.{begun_sound}
 use Rattle.py_lines.proofs.Feeds.GivenBack.{HoldsStop, holds_bytes, holds_line_end, stop_within}
 use Rattle.py_lines.proofs.Feeds.Loops.{begun_unchanged}

@@ -1,6 +1,5 @@
 use Rattle.std.proofs.Common.{refl, subst}
-use Rattle.py_lines.specs.Private.Feed.{StopsHeld}
-use Rattle.py_lines.specs.declared.scan.Stop.TheVariants as stops
+use Rattle.py_lines.specs.Private.Feed.{StopsHeld, Stop}
 use Rattle.py_lines.proofs.Feeds.Steps.{reached_by, within_held}
 use Rattle.py_lines.proofs.Readers.LineFaults.{refused_within}
 use Rattle.py_lines.proofs.Feeds.Loops.{held_refused}
@@ -8,7 +7,7 @@ use Rattle.py_lines.proofs.feed.Feed.meet.Goals as goal
 use Rattle.py_lines.proofs.feed.Feed.meet.Goals.{In-LineEnd, In-Refused}
 
 -- what the scan of the characters came to
-refused : (c : In-Refused) → StopsHeld c.args.self.now (stops.Refused c.in-Refused.c)
+refused : (c : In-Refused) → StopsHeld c.args.self.now (Stop.Refused c.in-Refused.c)
 refused c = subst (StopsHeld c.args.self.now) c.in-Refused.is c.requires.stops
 
 pub returns-in-LineEnd : goal.returns-in-LineEnd

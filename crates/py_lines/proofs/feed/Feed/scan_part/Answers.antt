@@ -3,8 +3,7 @@ use Rattle.std.proofs.lemmas.Bool.{both_ways, cases_lt}
 use Rattle.std.proofs.lemmas.List.{nil_from_length}
 use Rattle.std.specs.Str.{StartsWithNoChar}
 use Rattle.py_lines.specs.Settled.{IsHopeless}
-use Rattle.py_lines.specs.declared.scan.Scan.{Scan}
-use Rattle.py_lines.specs.Private.Feed.{IsScanned, ScansHeld}
+use Rattle.py_lines.specs.Private.Feed.{IsScanned, ScansHeld, Scan}
 use Rattle.py_lines.proofs.Text.Incomplete.{part_none}
 use Rattle.py_lines.proofs.Feeds.Steps.{open_stop, open_size, within_held, next_is, ends_returned, reached_by}
 use Rattle.py_lines.proofs.Feeds.Loops.{holds_self, part_fails}

@@ -1,13 +1,13 @@
 use Rattle.std.proofs.Common.{◌++◌, ◌∷◌, []}
 use Rattle.std.proofs.lemmas.Result.{err_from_is_err_and}
-use Rattle.py_lines.specs.declared.scan.Stop.TheVariants.{LineEnd}
 use Rattle.py_lines.proofs.Readers.LineAnswers.{all_within, place_boundary, line_ended, is_line_text, few_lines_line, continues_line}
 use Rattle.py_lines.proofs.source.Source.end_line.Goals as goal
+use Rattle.py_lines.specs.declared.scan.Stop.{Stop}
 
 pub give-requires : goal.give-requires
 give-requires c =
     let s = c.args.self.now in
-    let stop = LineEnd c.args.len in
+    let stop = Stop.LineEnd c.args.len in
     let at = c.requires.scans.stops in
     let ended = line_ended s c.args.len c.requires in
     record {

@@ -1,10 +1,7 @@
 use Rattle.std.proofs.Common.{◌≡◌, ℕ, ◌-◌, ◌≤◌, Some, Err, inl, inr, true, length, sym, ap, ◌∙◌, subst, arith}
 use Rattle.std.proofs.lemmas.Result.{err_from_is_err_and}
-use Rattle.py_lines.specs.declared.fault.FaultKind.{FaultKind}
-use Rattle.py_lines.specs.declared.fault.LexError.{LexError}
 use Rattle.py_lines.specs.declared.mode.Mode.{Mode}
 use Rattle.py_lines.specs.declared.scan.LineFault.{LineFault}
-use Rattle.py_lines.specs.declared.scan.Stop.TheVariants.{TextEnd}
 use Rattle.py_lines.specs.declared.source.Source.{Source}
 use Rattle.py_lines.specs.Private.LineState.{IsEndLineFault}
 use Rattle.py_lines.specs.Private.Machine.{is_final}
@@ -13,12 +10,13 @@ use Rattle.py_lines.proofs.Machine.PieceSteps.{pieces_at}
 use Rattle.py_lines.proofs.Readers.LineAnswers.{all_within, place_boundary, is_line_text, stop_size, fails_at_bytes, fails_at_end, end_within, last_line, continues_text, few_lines_text}
 use Rattle.py_lines.proofs.Readers.LineFaults.{Within, finished}
 use Rattle.py_lines.proofs.source.Source.end_text.Goals as goal
+use Rattle.py_lines.specs.Private.Feed.{FaultKind, LexError, Stop}
 
-line_fault_within : (s : Source) (has : HasScanned s TextEnd) (rest : ℕ) (line_fault : LineFault) → (rest ≡ 0 → length s.bytes.now ≤ length s.characters.now) → IsEndLineFault s.state.scan rest (Some line_fault) → Within has.scans.read line_fault.place
+line_fault_within : (s : Source) (has : HasScanned s Stop.TextEnd) (rest : ℕ) (line_fault : LineFault) → (rest ≡ 0 → length s.bytes.now ≤ length s.characters.now) → IsEndLineFault s.state.scan rest (Some line_fault) → Within has.scans.read line_fault.place
 line_fault_within s has rest line_fault full (inl (some, kind, place)) = subst (Within has.scans.read) (sym place) (all_within has.scans.read s.state.scan.stop (stop_size s has))
 line_fault_within s has rest line_fault full (inr (none, unfinished)) = end_within s has (full none) line_fault unfinished
 
-line_fault_fails : (s : Source) (has : HasScanned s TextEnd) (line_fault : LineFault) → IsEndLineFault s.state.scan (length s.bytes.now - length s.characters.now) (Some line_fault) → (error : LexError) (new : Source) → FailsAfter s line_fault.kind line_fault.place error new → Advances s (Err error) new
+line_fault_fails : (s : Source) (has : HasScanned s Stop.TextEnd) (line_fault : LineFault) → IsEndLineFault s.state.scan (length s.bytes.now - length s.characters.now) (Some line_fault) → (error : LexError) (new : Source) → FailsAfter s line_fault.kind line_fault.place error new → Advances s (Err error) new
 line_fault_fails s has line_fault (inl (some, kind, place)) error new at =
     let moved = subst (λ (k : FaultKind). FailsAfter s k s.state.scan.stop error new) kind (subst (λ (n : ℕ). FailsAfter s line_fault.kind n error new) place at) in
     subst (λ (e : LexError). Advances s (Err e) new) (sym moved.keeps.error_is) (fails_at_bytes s has new error moved (omega (arith, some)))
@@ -28,12 +26,12 @@ line_fault_fails s has line_fault (inr (none, unfinished)) error new at =
 pub fail-requires : goal.fail-requires
 fail-requires c =
     let s = c.args.self.now in
-    place_boundary s TextEnd c.requires c.in-Some.line_fault.place (line_fault_within s c.requires (length s.bytes.now - length s.characters.now) c.in-Some.line_fault (λ none. omega (arith, none)) c.in-Some.ensures)
+    place_boundary s Stop.TextEnd c.requires c.in-Some.line_fault.place (line_fault_within s c.requires (length s.bytes.now - length s.characters.now) c.in-Some.line_fault (λ none. omega (arith, none)) c.in-Some.ensures)
 
 pub returns-in-Some : goal.returns-in-Some
 returns-in-Some c = line_fault_fails c.args.self.now c.requires c.in-Some.line_fault c.in-Some.ensures c.fail.result c.fail.new.self c.fail.ensures
 
-final_mode : (s : Source) (has : HasScanned s TextEnd) → is_final s.state.scan.piece.mode ≡ true → is_final has.scans.stops.0.state.mode ≡ true
+final_mode : (s : Source) (has : HasScanned s Stop.TextEnd) → is_final s.state.scan.piece.mode ≡ true → is_final has.scans.stops.0.state.mode ≡ true
 final_mode s has final = ap (λ (m : Mode). is_final m) (sym has.scans.stops.0.tallies.counts.mode) ∙ final
 
 pub give-requires : goal.give-requires
@@ -43,9 +41,9 @@ give-requires c =
     let done = finished s.state.scan c.in_default.ensures.1 in
     let pieces = pieces_at c.requires.scans.stops.0.state in
     record {
-      boundary = place_boundary s TextEnd c.requires s.state.scan.stop (all_within c.requires.scans.read s.state.scan.stop (stop_size s c.requires));
+      boundary = place_boundary s Stop.TextEnd c.requires s.state.scan.stop (all_within c.requires.scans.read s.state.scan.stop (stop_size s c.requires));
       lines = few_lines_text s c.requires;
-      text = (pieces, is_line_text s TextEnd c.requires 0 pieces (last_line s c.requires (final_mode s c.requires done.0) done.1 (omega (arith, c.in_default.ensures.0))));
+      text = (pieces, is_line_text s Stop.TextEnd c.requires 0 pieces (last_line s c.requires (final_mode s c.requires done.0) done.1 (omega (arith, c.in_default.ensures.0))));
     }
 
 pub returns-in_err-give : goal.returns-in_err-give

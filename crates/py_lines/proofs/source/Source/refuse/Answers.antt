@@ -1,14 +1,13 @@
 use Rattle.std.proofs.Common.{sym, subst, Err}
-use Rattle.py_lines.specs.declared.fault.LexError.{LexError}
-use Rattle.py_lines.specs.declared.scan.Stop.TheVariants.{Refused}
 use Rattle.py_lines.specs.Private.Source.{Advances}
 use Rattle.py_lines.proofs.Readers.LineAnswers.{place_boundary, refused_place_within, fails_at_character}
 use Rattle.py_lines.proofs.source.Source.refuse.Goals as goal
+use Rattle.py_lines.specs.Private.Feed.{LexError, Stop}
 
 pub fail-requires : goal.fail-requires
 fail-requires c =
     let s = c.args.self.now in
-    place_boundary s (Refused c.args.c) c.requires c.refusal-line_fault.result.place (refused_place_within s c.args.c c.requires c.refusal-line_fault.result c.refusal-line_fault.ensures)
+    place_boundary s (Stop.Refused c.args.c) c.requires c.refusal-line_fault.result.place (refused_place_within s c.args.c c.requires c.refusal-line_fault.result c.refusal-line_fault.ensures)
 
 pub returns : goal.returns
 returns c =
