@@ -1,7 +1,6 @@
 -- What stays held where a line is ready.
-use Rattle.std.proofs.Common.{◌≡◌, ℕ, zero, suc, ◌+◌, ◌-◌, ◌<◌, ◌≤◌, ◌⊎◌, true, false, List, [], ◌∷◌, ◌++◌, length, take, drop, refl}
-use Rattle.std.proofs.Common.{sym, ap, ◌∙◌, subst, ⊎_elim, inl, inr, append-nil, arith, length-append}
-use Rattle.std.specs.Prelude.{encode_utf8_all, is_some, max}
+use Rattle.std.proofs.Common.{◌≡◌, ℕ, zero, suc, ◌+◌, ◌-◌, ◌<◌, ◌≤◌, ◌⊎◌, true, false, List, [], ◌∷◌, ◌++◌, length, take, drop, refl, sym}
+use Rattle.std.proofs.Common.{ap, ◌∙◌, subst, ⊎_elim, inl, inr, append-nil, arith, length-append, encode_utf8_all, is_some, max}
 use Rattle.std.specs.Global.{Vec}
 use Rattle.std.proofs.lemmas.Bool.{both_ways, false_from_ne_true, cond_both, cases_lt}
 use Rattle.std.proofs.lemmas.List.{take_all, take-take, take-append-drop, length-take-le}

@@ -1,5 +1,4 @@
-use Rattle.std.proofs.Common.{◌≡◌, Bool, ℕ, ◌∷◌, ◌++◌, [], length, drop, slice_index, sym, ap, ◌∙◌, subst, arith}
-use Rattle.std.specs.Prelude.{if◌then◌else◌}
+use Rattle.std.proofs.Common.{◌≡◌, Bool, ℕ, ◌∷◌, ◌++◌, [], length, drop, slice_index, sym, ap, ◌∙◌, subst, arith, if◌then◌else◌}
 use Rattle.std.proofs.Math.Seq.{drop-append_seam}
 use Rattle.py_lines.specs.ScannerState.{HoldsAfterLines}
 use Rattle.py_lines.proofs.Feeds.PassedLines.{byte_after, byte_follows, nothing_after}

@@ -1,5 +1,4 @@
-use Rattle.std.proofs.Common.{◌∙◌, ap}
-use Rattle.std.specs.Prelude.{is_some}
+use Rattle.std.proofs.Common.{◌∙◌, ap, is_some}
 use Rattle.py_lines.proofs.Text.Incomplete.{tells_ok, tells_error}
 use Rattle.py_lines.proofs.feed.is_hopeless.Goals as goal
 

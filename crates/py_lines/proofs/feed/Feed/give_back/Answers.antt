@@ -1,5 +1,4 @@
-use Rattle.std.proofs.Common.{ℕ, ◌+◌, sym, ap, ◌∙◌, arith}
-use Rattle.std.specs.Prelude.{max}
+use Rattle.std.proofs.Common.{ℕ, ◌+◌, sym, ap, ◌∙◌, arith, max}
 use Rattle.py_lines.proofs.Feeds.GivenBack.{gives_line, gives_none, stop_small}
 use Rattle.py_lines.proofs.feed.Feed.give_back.Goals as goal
 
