@@ -62,100 +62,92 @@ text_left old mid keeps some not_ready scanned =
     }
 
 -- what is held was scanned, and no line has ended in it
-module _ (old f : Feed) (keeps : Holds old old.held.items old.state.fault f) (s : IsScanned f None) (some : 0 < length f.held.items) where
-  abbrev way : IsUnderWay (first_mode f.state.place) f.state.scan s.0.read
-  way = s.0.stops.0
+pub record IsLeftOpen (old f : Feed) : Type 0 where
+  pub keeps : Holds old old.held.items old.state.fault f
+  pub scanned : IsScanned f None
+  pub some : 0 < length f.held.items
 
-  abbrev o : Reached (first_mode f.state.place) f.state.line f.held.items f.state.scan s.0.rest
-  o = reached_by s.0 way
+module _ {old f : Feed} (h : IsLeftOpen old f) where
+  abbrev way : IsUnderWay (first_mode f.state.place) f.state.scan h.scanned.0.read
+  way = h.scanned.0.stops.0
+
+  abbrev o : Reached (first_mode f.state.place) f.state.line f.held.items f.state.scan h.scanned.0.rest
+  o = reached_by h.scanned.0 way
 
   module _ (text : List ℕ) (lines : List LogicalLine) (scanning : IsScanning (scanning_of old) text lines) (whole : length text ≡ fed_of (scanning_of old)) where
     -- what is known where the text ends
-    known_at : IsKnown text f.state.place f.state.line lines s.0.read s.0.rest
-    known_at = is_known text f.state.place f.state.line lines s.0.read s.0.rest (first_at keeps.place keeps.line scanning.first) s.0.scalars (goes_at text keeps.place (s.0.spell ∙ keeps.held) scanning.held) (omega (arith, some, ap length s.0.spell))
+    known_at : IsKnown text f.state.place f.state.line lines h.scanned.0.read h.scanned.0.rest
+    known_at = is_known text f.state.place f.state.line lines h.scanned.0.read h.scanned.0.rest (first_at h.keeps.place h.keeps.line scanning.first) h.scanned.0.scalars (goes_at text h.keeps.place (h.scanned.0.spell ∙ h.keeps.held) scanning.held) (omega (arith, h.some, ap length h.scanned.0.spell))
 
-    whole_at : length text ≡ f.state.place + length (encode_utf8_all s.0.read ++ s.0.rest)
-    whole_at = omega (arith, whole, keeps.place, ap length keeps.held, ap length s.0.spell)
+    whole_at : length text ≡ f.state.place + length (encode_utf8_all h.scanned.0.read ++ h.scanned.0.rest)
+    whole_at = omega (arith, whole, h.keeps.place, ap length h.keeps.held, ap length h.scanned.0.spell)
 
   -- what these come to
-  pub all_scanned : length f.held.items ≤ f.state.scan.stop → s.0.rest ≡ []
-  all_scanned full = nil_from_length s.0.rest (omega (arith, full, open_stop f s.0.rest o, open_size f s.0.rest o))
+  pub all_scanned : length f.held.items ≤ f.state.scan.stop → h.scanned.0.rest ≡ []
+  all_scanned full = nil_from_length h.scanned.0.rest (omega (arith, full, open_stop f h.scanned.0.rest o, open_size f h.scanned.0.rest o))
 
-  read_some : s.0.rest ≡ [] → 0 < byte_len s.0.read
-  read_some none = omega (arith, some, open_size f s.0.rest o, ap length none)
+  read_some : h.scanned.0.rest ≡ [] → 0 < byte_len h.scanned.0.read
+  read_some none = omega (arith, h.some, open_size f h.scanned.0.rest o, ap length none)
 
-  unfinished_in : s.0.rest ≡ [] → (line_fault : LineFault) → IsUnfinished f.state.scan (Some line_fault) → Within s.0.read line_fault.place
-  unfinished_in none line_fault is = unfinished_within f.state.place f.state.scan s.0.read way (read_some none) line_fault is
+  unfinished_in : h.scanned.0.rest ≡ [] → (line_fault : LineFault) → IsUnfinished f.state.scan (Some line_fault) → Within h.scanned.0.read line_fault.place
+  unfinished_in none line_fault is = unfinished_within f.state.place f.state.scan h.scanned.0.read way (read_some none) line_fault is
 
   -- the fault that the text has there is kept
-  module _ (not_ready : f.ready ≡ None) (new : Feed) (error : LexError) where
-    end_fault : (kind : FaultKind) (offset : ℕ) (fails : FailsAt f kind offset error new) → WhereWhole (scanning_of old) (λ text lines. IsLexed text lines (Some fails.keeps.fault)) → EndsText old (Err error) new
-    end_fault kind offset fails lexed = subst (λ (e : LexError). EndsText old (Err e) new) (sym fails.keeps.error_is) (record {
-      text = holds_on keeps (fails_keep f new kind offset error fails) keeps.held refl;
-      none_ready = fails_ready f new kind offset error fails not_ready;
-      lexed = lexed;
-    })
+  end_fault : f.ready ≡ None → (new : Feed) (error : LexError) (kind : FaultKind) (offset : ℕ) (fails : FailsAt f kind offset error new) → WhereWhole (scanning_of old) (λ text lines. IsLexed text lines (Some fails.keeps.fault)) → EndsText old (Err error) new
+  end_fault not_ready new error kind offset fails lexed = subst (λ (e : LexError). EndsText old (Err e) new) (sym fails.keeps.error_is) (record {
+    text = holds_on h.keeps (fails_keep f new kind offset error fails) h.keeps.held refl;
+    none_ready = fails_ready f new kind offset error fails not_ready;
+    lexed = lexed;
+  })
 
-    -- bytes that begin no character are left
-    ends_in_bytes : 0 < length s.0.rest → FailsAt f FaultKind.BadUtf8 f.state.scan.stop error new → EndsText old (Err error) new
-    ends_in_bytes more fails = end_fault FaultKind.BadUtf8 f.state.scan.stop fails (λ text lines scanning whole.
-        ended_bytes text f.state lines s.0.read s.0.rest (known_at text lines scanning whole) (whole_at text lines scanning whole) way
-        (false_from_ne_true _ (λ returned. omega (arith, more, ap length (s.2 returned)))) more fails.keeps.fault
-        (fault_after f new FaultKind.BadUtf8 f.state.scan.stop error fails s.0.rest o (record { prefix = s.0.read; later = []; split = append-nil s.0.read; size = open_stop f s.0.rest o })) s.0.stops.1)
-
-    -- something is open
-    ends_open : (line_fault : LineFault) → s.0.rest ≡ [] → is_returned f.state.scan ≡ false → IsUnfinished f.state.scan (Some line_fault) → FailsAt f line_fault.kind line_fault.place error new → EndsText old (Err error) new
-    ends_open line_fault none not_yet unfinished fails = end_fault line_fault.kind line_fault.place fails (λ text lines scanning whole.
-        let w = unfinished_in none line_fault unfinished in
-        ended_unfinished text f.state lines s.0.read s.0.rest (known_at text lines scanning whole) (whole_at text lines scanning whole) way not_yet none (read_some none) line_fault unfinished fails.keeps.fault w
-        (fault_after f new line_fault.kind line_fault.place error fails s.0.rest o w))
-
-  -- what is wrong there
+  -- what is wrong there: bytes that begin no character are left, or something is open
   module _ (held : ℕ) (all : held ≡ length f.held.items) (line_fault : LineFault) where
-    pub end_fault_within : IsEndLineFault f.state.scan (held - f.state.scan.stop) (Some line_fault) → Within s.0.read line_fault.place
-    end_fault_within (inl (more, kind, place)) = subst (Within s.0.read) (sym place) (all_within s.0.read f.state.scan.stop (open_stop f s.0.rest o))
+    pub end_fault_within : IsEndLineFault f.state.scan (held - f.state.scan.stop) (Some line_fault) → Within h.scanned.0.read line_fault.place
+    end_fault_within (inl (more, kind, place)) = subst (Within h.scanned.0.read) (sym place) (all_within h.scanned.0.read f.state.scan.stop (open_stop f h.scanned.0.rest o))
     end_fault_within (inr (none, unfinished)) = unfinished_in (all_scanned (omega (arith, all, none))) line_fault unfinished
 
     pub end_fault_fails : f.ready ≡ None → is_returned f.state.scan ≡ false → (new : Feed) (error : LexError) → FailsAt f line_fault.kind line_fault.place error new
         → IsEndLineFault f.state.scan (held - f.state.scan.stop) (Some line_fault) → EndsText old (Err error) new
     end_fault_fails not_ready not_yet new error fails (inl (more, kind, place)) =
-        ends_in_bytes not_ready new error (omega (arith, all, more, open_size f s.0.rest o, open_stop f s.0.rest o))
-        (subst (λ (k : FaultKind). FailsAt f k f.state.scan.stop error new) kind (subst (λ (n : ℕ). FailsAt f line_fault.kind n error new) place fails))
+        let left : 0 < length h.scanned.0.rest = omega (arith, all, more, open_size f h.scanned.0.rest o, open_stop f h.scanned.0.rest o) in
+        let here = subst (λ (k : FaultKind). FailsAt f k f.state.scan.stop error new) kind (subst (λ (n : ℕ). FailsAt f line_fault.kind n error new) place fails) in
+        end_fault not_ready new error FaultKind.BadUtf8 f.state.scan.stop here (λ text lines scanning whole.
+        ended_bytes text f.state lines h.scanned.0.read h.scanned.0.rest (known_at text lines scanning whole) (whole_at text lines scanning whole) way not_yet left here.keeps.fault
+        (fault_after f new FaultKind.BadUtf8 f.state.scan.stop error here h.scanned.0.rest o (record { prefix = h.scanned.0.read; later = []; split = append-nil h.scanned.0.read; size = open_stop f h.scanned.0.rest o })) h.scanned.0.stops.1)
     end_fault_fails not_ready not_yet new error fails (inr (none, unfinished)) =
-        ends_open not_ready new error line_fault (all_scanned (omega (arith, all, none))) not_yet unfinished fails
+        let empty = all_scanned (omega (arith, all, none)) in
+        let w = unfinished_in empty line_fault unfinished in
+        end_fault not_ready new error line_fault.kind line_fault.place fails (λ text lines scanning whole.
+        ended_unfinished text f.state lines h.scanned.0.read h.scanned.0.rest (known_at text lines scanning whole) (whole_at text lines scanning whole) way not_yet empty (read_some empty) line_fault unfinished fails.keeps.fault w
+        (fault_after f new line_fault.kind line_fault.place error fails h.scanned.0.rest o w))
 
-  -- CR closes the line
-  returned_parts : is_returned f.state.scan ≡ true → (is_return_mode f.state.scan.piece.mode ≡ true) × (stack_of f.state.scan.brackets ≡ [])
-  returned_parts returned =
-      let parts = and_parts (is_return_mode f.state.scan.piece.mode) (none_open (stack_of f.state.scan.brackets)) returned in
-      (parts.0, empty_stack (stack_of f.state.scan.brackets) parts.1)
-
-  -- it is ready
-  last_line : (end_len : ℕ) → s.0.rest ≡ [] → is_final f.state.scan.piece.mode ≡ true → stack_of f.state.scan.brackets ≡ []
-      → IsScannedLine (line_start (first_mode f.state.place)) f.state.scan s.0.read end_len (pieces_at way.state) → EndsText old (Ok tt) (record f { ready = Some end_len })
+  -- the last line is ready
+  last_line : (end_len : ℕ) → h.scanned.0.rest ≡ [] → is_final f.state.scan.piece.mode ≡ true → stack_of f.state.scan.brackets ≡ []
+      → IsScannedLine (line_start (first_mode f.state.place)) f.state.scan h.scanned.0.read end_len (pieces_at way.state) → EndsText old (Ok tt) (record f { ready = Some end_len })
   last_line end_len none final empty line = record {
-    text = record { held = keeps.held; place = keeps.place; line = keeps.line; ended = keeps.ended; fault = keeps.fault };
+    text = record { held = h.keeps.held; place = h.keeps.place; line = h.keeps.line; ended = h.keeps.ended; fault = h.keeps.fault };
     line = _;
-    holds = (holds_line f end_len s.0.read s.0.rest (pieces_at way.state) s.0.scalars s.0.spell s.0.number line, refl);
+    holds = (holds_line f end_len h.scanned.0.read h.scanned.0.rest (pieces_at way.state) h.scanned.0.scalars h.scanned.0.spell h.scanned.0.number line, refl);
     lexed = λ text lines scanning whole. (
-      ended_line text f.state lines s.0.read s.0.rest (known_at text lines scanning whole) (whole_at text lines scanning whole) way none empty
+      ended_line text f.state lines h.scanned.0.read h.scanned.0.rest (known_at text lines scanning whole) (whole_at text lines scanning whole) way none empty
           (ap is_final (sym way.tallies.counts.mode) ∙ final) line.line.some line.line.whole,
-      sym s.0.spell ∙ ap (λ t. encode_utf8_all s.0.read ++ t) none ∙ append-nil (encode_utf8_all s.0.read) ∙ ap encode_utf8_all (sym line.line.spell),
+      sym h.scanned.0.spell ∙ ap (λ t. encode_utf8_all h.scanned.0.read ++ t) none ∙ append-nil (encode_utf8_all h.scanned.0.read) ∙ ap encode_utf8_all (sym line.line.spell),
     );
   }
 
-  pub ends_plain : s.0.rest ≡ [] → is_returned f.state.scan ≡ false → IsUnfinished f.state.scan None → EndsText old (Ok tt) (record f { ready = Some 0 })
+  pub ends_plain : h.scanned.0.rest ≡ [] → is_returned f.state.scan ≡ false → IsUnfinished f.state.scan None → EndsText old (Ok tt) (record f { ready = Some 0 })
   ends_plain none not_yet unfinished =
       let (final, empty) = finished f.state.scan unfinished in
-      last_line 0 none final empty (line_at_text_end (first_mode f.state.place) f.state.scan s.0.read way (open_stands f s.0.rest o) (ap is_final (sym way.tallies.counts.mode) ∙ final)
-      (way_open (first_mode f.state.place) f.state.scan s.0.read way not_yet) empty (read_some none))
+      last_line 0 none final empty (line_at_text_end (first_mode f.state.place) f.state.scan h.scanned.0.read way (open_stands f h.scanned.0.rest o) (ap is_final (sym way.tallies.counts.mode) ∙ final)
+      (way_open (first_mode f.state.place) f.state.scan h.scanned.0.read way not_yet) empty (read_some none))
 
   pub ends_returned : is_returned f.state.scan ≡ true → EndsText old (Ok tt) (record f { ready = Some 1 })
   ends_returned returned =
-      let (mode, empty) = returned_parts returned in
-      let none = s.2 returned in
-      last_line 1 none (returned_final f.state.scan.piece.mode mode) empty
-      (line_at_return (first_mode f.state.place) f.state.scan s.0.read way (open_stands f s.0.rest o) mode empty (read_some none))
+      let parts = and_parts (is_return_mode f.state.scan.piece.mode) (none_open (stack_of f.state.scan.brackets)) returned in
+      let empty = empty_stack (stack_of f.state.scan.brackets) parts.1 in
+      let none = h.scanned.2 returned in
+      last_line 1 none (returned_final f.state.scan.piece.mode parts.0) empty
+      (line_at_return (first_mode f.state.place) f.state.scan h.scanned.0.read way (open_stands f h.scanned.0.rest o) parts.0 empty (read_some none))
 
 -- the text has ended
 abbrev pub ended_now : Feed → Feed

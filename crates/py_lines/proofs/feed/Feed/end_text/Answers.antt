@@ -3,7 +3,7 @@ use Rattle.std.specs.Vec.{vec_len}
 use Rattle.std.proofs.lemmas.Bool.{eqb-false}
 use Rattle.std.proofs.lemmas.Result.{err_from_is_err_and}
 use Rattle.py_lines.specs.Private.Feed.{Holds, IsScanned}
-use Rattle.py_lines.proofs.Feeds.EndedHeld.{all_scanned, end_fault_fails, end_fault_within, ends_plain, ends_returned}
+use Rattle.py_lines.proofs.Feeds.EndedHeld.{IsLeftOpen, all_scanned, end_fault_fails, end_fault_within, ends_plain, ends_returned}
 use Rattle.py_lines.proofs.Feeds.EndedHeld.{text_fault, text_left, text_empty}
 use Rattle.py_lines.proofs.Feeds.Loops.{scans_on}
 use Rattle.py_lines.proofs.Feeds.ReadyLines.{none_is}
@@ -33,47 +33,39 @@ returns-then-is_some c =
     let (keeps, scanned) = scans_on _ _ _ (Ok tt) c.scan_held-stop.ensures c.in_ok-meet.ensures in
     text_left _ _ keeps (sym c.is_some.ensures ∙ c.if-is_some.true) c.requires.not_ready scanned
 
--- what is held was scanned, and something is
-keeps_here : (c : Else-is_some) → Holds c.args.self.now c.args.self.now.held.items c.args.self.now.state.fault c.meet.new.self
-keeps_here c = (scans_on _ _ _ (Ok tt) c.scan_held-stop.ensures c.in_ok-meet.ensures).0
-
-scanned_here : (c : Else-is_some) → IsScanned c.meet.new.self None
-scanned_here c = subst (IsScanned c.meet.new.self) (none_is c.meet.new.self.ready (sym c.is_some.ensures ∙ c.if-is_some.false)) c.in_ok-meet.ensures.1
-
-some_here : (c : Else-is_some) → 0 < length c.meet.new.self.held.items
-some_here c =
+-- a line is left open in what is held
+left_open : (c : Else-is_some) → IsLeftOpen c.args.self.now c.meet.new.self
+left_open c =
+    let keeps = (scans_on _ _ _ (Ok tt) c.scan_held-stop.ensures c.in_ok-meet.ensures).0 in
     let other : vec_len c.args.self.now.held ≢ 0 = eqb-false (vec_len c.args.self.now.held) 0 (sym c.is_empty.ensures ∙ c.if-is_empty.false) in
-    omega (arith, other, ap length (keeps_here c).held)
+    record {
+      keeps = keeps;
+      scanned = subst (IsScanned c.meet.new.self) (none_is c.meet.new.self.ready (sym c.is_some.ensures ∙ c.if-is_some.false)) c.in_ok-meet.ensures.1;
+      some = omega (arith, other, ap length keeps.held);
+    }
 
 pub returns-then-is_returned : goal.returns-then-is_returned
-returns-then-is_returned c =
-    let b = (goal.at.returns-then-is_returned c).Else-is_some in
-    ends_returned c.args.self.now c.meet.new.self (keeps_here b) (scanned_here b) (some_here b) (sym c.is_returned.ensures ∙ c.if-is_returned.true)
+returns-then-is_returned c = ends_returned (left_open (goal.at.returns-then-is_returned c).Else-is_some) (sym c.is_returned.ensures ∙ c.if-is_returned.true)
 
 pub overflow_sub-rest : goal.overflow_sub-rest
 overflow_sub-rest c =
-    let s = scanned_here (goal.at.overflow_sub-rest c).Else-is_some in
+    let s = (left_open (goal.at.overflow_sub-rest c).Else-is_some).scanned in
     let o = reached_by s.0 s.0.stops.0 in
     let f = c.meet.new.self in
     omega (arith, c.len.ensures, open_size f s.0.rest o, open_stop f s.0.rest o)
 
 pub fail-requires-clause-cut : goal.fail-requires-clause-cut
 fail-requires-clause-cut c =
-    let b = (goal.at.fail-requires-clause-cut c).Else-is_some in
-    let s = scanned_here b in
-    (within_held c.meet.new.self s.0.rest (reached_by s.0 s.0.stops.0) c.in-Some.line_fault.place
-    (end_fault_within c.args.self.now c.meet.new.self (keeps_here b) s (some_here b) c.len.result (omega (arith, c.len.ensures)) c.in-Some.line_fault c.in-Some.ensures)).0
+    let h = left_open (goal.at.fail-requires-clause-cut c).Else-is_some in
+    (within_held c.meet.new.self h.scanned.0.rest (reached_by h.scanned.0 h.scanned.0.stops.0) c.in-Some.line_fault.place
+    (end_fault_within h c.len.result (omega (arith, c.len.ensures)) c.in-Some.line_fault c.in-Some.ensures)).0
 
 pub returns-in-Some : goal.returns-in-Some
 returns-in-Some c =
-    let b = (goal.at.returns-in-Some c).Else-is_some in
-    let f = c.meet.new.self in
-    end_fault_fails c.args.self.now f (keeps_here b) (scanned_here b) (some_here b) c.len.result (omega (arith, c.len.ensures)) c.in-Some.line_fault
-    (none_is f.ready (sym c.is_some.ensures ∙ c.if-is_some.false)) (sym c.is_returned.ensures ∙ c.if-is_returned.false) c.fail.new.self c.fail.result c.fail.ensures c.in-Some.ensures
+    end_fault_fails (left_open (goal.at.returns-in-Some c).Else-is_some) c.len.result (omega (arith, c.len.ensures)) c.in-Some.line_fault
+    (none_is c.meet.new.self.ready (sym c.is_some.ensures ∙ c.if-is_some.false)) (sym c.is_returned.ensures ∙ c.if-is_returned.false) c.fail.new.self c.fail.result c.fail.ensures c.in-Some.ensures
 
 pub returns : goal.returns
 returns c =
-    let b = (goal.at.returns c).Else-is_some in
-    let f = c.meet.new.self in
-    let none = all_scanned c.args.self.now f (keeps_here b) (scanned_here b) (some_here b) (omega (arith, c.len.ensures, c.in_default.ensures.0)) in
-    ends_plain c.args.self.now f (keeps_here b) (scanned_here b) (some_here b) none (sym c.is_returned.ensures ∙ c.if-is_returned.false) c.in_default.ensures.1
+    let h = left_open (goal.at.returns c).Else-is_some in
+    ends_plain h (all_scanned h (omega (arith, c.len.ensures, c.in_default.ensures.0))) (sym c.is_returned.ensures ∙ c.if-is_returned.false) c.in_default.ensures.1

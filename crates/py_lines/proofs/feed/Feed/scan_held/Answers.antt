@@ -11,17 +11,18 @@ slice_bounds-extend-count c = let o = c.requires.opens in omega (arith, open_wit
 pub slice_bounds-extend-start : goal.slice_bounds-extend-start
 slice_bounds-extend-start c = let o = c.requires.opens in omega (arith, open_within c.args.self.now o.0 o.1 _ c.deref.ensures.value)
 
-pub extend-requires-clause-way : goal.extend-requires-clause-way
-extend-requires-clause-way c =
+-- the line that is open, whose next bytes the scan is given
+pub extend-requires : goal.extend-requires
+extend-requires c =
     let o = c.requires.opens in
     let f = c.args.self.now in
-    (first_mode f.state.place, f.state.line, f.held.items, begun_sound f.state.place, subst (Reached (first_mode f.state.place) f.state.line f.held.items f.state.scan) (sym (next_is f o.0 o.1 c.deref.result.now c.deref.ensures.value)) o.1)
-
-pub extend-requires-clause-lines : goal.extend-requires-clause-lines
-extend-requires-clause-lines c =
-    let o = c.requires.opens in
-    let f = c.args.self.now in
-    omega (arith, open_stop f o.0 o.1, open_size f o.0 o.1, o.1.line, c.requires.room.fits, c.requires.room.few_lines, ap length (next_is f o.0 o.1 c.deref.result.now c.deref.ensures.value))
+    let next = next_is f o.0 o.1 c.deref.result.now c.deref.ensures.value in
+    let size = ap length next in
+    record {
+      way = (first_mode f.state.place, f.state.line, f.held.items, begun_sound f.state.place, subst (Reached (first_mode f.state.place) f.state.line f.held.items f.state.scan) (sym next) o.1);
+      bytes = omega (arith, open_stop f o.0 o.1, open_size f o.0 o.1, c.requires.room.fits, size);
+      lines = omega (arith, open_stop f o.0 o.1, open_size f o.0 o.1, o.1.line, c.requires.room.fits, c.requires.room.few_lines, size);
+    }
 
 pub returns : goal.returns
 returns c =

@@ -10,15 +10,12 @@ from_utf8_unchecked-text-requires c =
     let r : IsReady f c.in_ok-end_len.end_len = subst (StandsSo f) c.in_ok-end_len.was c.requires.state in
     subst (λ (t : List ℕ). IsUtf8 (take f.state.scan.stop t)) (sym c.deref.ensures.value) (held_utf8 f c.in_ok-end_len.end_len r.holds)
 
-pub unit-requires-clause-tokens : goal.unit-requires-clause-tokens
-unit-requires-clause-tokens c =
+pub unit-requires : goal.unit-requires
+unit-requires c =
     let f = c.args.self.now in
     let r : IsReady f c.in_ok-end_len.end_len = subst (StandsSo f) c.in_ok-end_len.was c.requires.state in
     let text : c.from_utf8_unchecked-text.result.now ≡ take f.state.scan.stop f.held.items = c.from_utf8_unchecked-text.ensures ∙ ap (take f.state.scan.stop) c.deref.ensures.value in
-    subst (λ (t : List ℕ). EachLiesIn t f.state.tokens.tokens.items) (sym text) (ready_lies f c.in_ok-end_len.end_len r)
-
-pub unit-requires-clause-fits : goal.unit-requires-clause-fits
-unit-requires-clause-fits c =
-    let f = c.args.self.now in
-    let text : c.from_utf8_unchecked-text.result.now ≡ take f.state.scan.stop f.held.items = c.from_utf8_unchecked-text.ensures ∙ ap (take f.state.scan.stop) c.deref.ensures.value in
-    omega (arith, ap length text, length-take f.state.scan.stop f.held.items, c.requires.room.fits)
+    record {
+      tokens = subst (λ (t : List ℕ). EachLiesIn t f.state.tokens.tokens.items) (sym text) (ready_lies f c.in_ok-end_len.end_len r);
+      fits = omega (arith, ap length text, length-take f.state.scan.stop f.held.items, c.requires.room.fits);
+    }
