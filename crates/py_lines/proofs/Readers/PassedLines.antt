@@ -33,7 +33,6 @@ use Rattle.py_lines.proofs.LineScan.TextSteps.{begun_sound}
 use Rattle.py_lines.proofs.LogicalLines.Cuts.{one_line}
 use Rattle.py_lines.proofs.SimpleLines.Tails.{ended_stack, return_returns}
 use Rattle.py_lines.proofs.SimpleLines.Lines.{lines_few, lines_scalars}
-use Rattle.py_lines.proofs.SimpleLines.UnderWay.{passed_line}
 use Rattle.py_lines.proofs.Readers.LineAnswers.{IsReadLine, text_from}
 use Rattle.py_lines.specs.Settled.{IsSettled}
 use Rattle.py_lines.specs.Given.{AreFirstLines}
@@ -42,6 +41,36 @@ use Rattle.py_lines.proofs.Feeds.Known.{IsKnown, goes_with_first, is_known}
 use Rattle.py_lines.proofs.Feeds.SettledSoFar.{IsNextLine, settled_ready}
 use Rattle.py_lines.proofs.Feeds.Released.{released}
 use Rattle.py_lines.proofs.Lexings.FirstLines.{given_begin}
+
+-- the pieces of a line that was passed, and what may follow them
+pub record IsPassedLine (read : List ℕ) (pieces : List Piece) : Type 0 where
+  pub spell : spelled pieces ≡ read
+  pub strings : StringsFit 0 pieces
+  pub fit : (more : List ℕ) → (ends is_return read ≡ true → begins is_line_feed more ≡ false) → AreReadBefore pieces more
+
+pub passed_line : (read : List ℕ) (n : ℕ) (after : List ℕ) (line : IsWholeLine read n after) → IsPassedLine read (line.body ++ line.last ∷ [])
+passed_line read n after line = by line.ended
+  where
+    sound : IsScanSound line.state read
+    sound = sound_steps modes.Free read line.state (begun_sound 1) line.steps (ended_stack line.state line.body line.last line.are line.ended)
+
+    by : IsEndedBy line.state line.body line.last → IsPassedLine read (line.body ++ line.last ∷ [])
+    by (inl is) =
+        let closed = subst (λ (s : Scanned). IsScanSound s read) is sound in
+        record {
+          spell = sym (append-nil (spelled (line.body ++ line.last ∷ []))) ∙ closed.spell;
+          strings = closed.strings;
+          fit = λ more none. closed.fit more;
+        }
+    by (inr (is, last)) =
+        let open_yet = subst (λ (s : Scanned). IsScanSound s read) is sound in
+        let returned : ends is_return read ≡ true = ap (ends is_return) (sym open_yet.spell) ∙ ends-last is_return (spelled line.body) 13 ∙ return_returns in
+        subst (λ (p : Piece). IsPassedLine read (line.body ++ p ∷ [])) (sym last)
+        (record {
+          spell = spelled-push line.body line_end (13 ∷ []) ∙ open_yet.spell;
+          strings = line_string line.body (piece line_end (13 ∷ [])) refl open_yet.strings;
+          fit = λ more none. returned_fit line.body (13 ∷ []) read more open_yet refl (none returned);
+        })
 
 -- a character at which the machine begins a line is no mark, so it begins the text's first line as well
 first_steps : (place : ℕ) (read : List ℕ) (s : Scanned) → 0 < length read → scan_steps (Some (line_start modes.Free)) read ≡ Some s → scan_steps (Some (line_start (first_mode place))) read ≡ Some s
@@ -55,7 +84,7 @@ first_steps zero (c ∷ cs) s some steps =
 
 pub whole_read : (place : ℕ) (read : List ℕ) (n : ℕ) (after : List ℕ) → 0 < length read → (line : IsWholeLine read n after) → IsReadLine (line_start (first_mode place)) read (line.body ++ line.last ∷ [])
 whole_read place read n after some line =
-    let passed = passed_line modes.Free read n after (begun_sound 1) line in
+    let passed = passed_line read n after line in
     record {
       to = line.state;
       steps = first_steps place read line.state some line.steps;
@@ -88,7 +117,7 @@ pub lines_spell : (texts : List (List ℕ)) (place line : ℕ) (read : List ℕ)
 lines_spell [] place line read n after are = ap encode_utf8_all (sym are.0)
 lines_spell (t ∷ texts) place line read n after are =
     let others = flat_map (λ (l : LogicalLine). l.text) (lines_at texts (place + byte_len t) (line + are.own) are.later are.more after are.lines) in
-    ap (λ u. u ++ others) (ap encode_utf8_all (passed_line modes.Free t are.own (encode_utf8_all are.later ++ after) (begun_sound 1) are.whole).spell)
+    ap (λ u. u ++ others) (ap encode_utf8_all (passed_line t are.own (encode_utf8_all are.later ++ after) are.whole).spell)
     ∙ ap (λ u. encode_utf8_all t ++ u) (lines_spell texts (place + byte_len t) (line + are.own) are.later are.more after are.lines)
     ∙ sym (ap encode_utf8_all are.spell ∙ encodes-append t are.later)
 
@@ -133,7 +162,7 @@ module _ (text : List ℕ) (place line : ℕ) (given : List LogicalLine) (first 
     is = refl;
     class = whole.are.class;
     level = whole.are.level;
-    fit = (passed_line modes.Free read n after (begun_sound 1) whole).fit known.more (follows_whole read more known.more known.tail known.beyond (exactly_whole read more exact) known.follow);
+    fit = (passed_line read n after whole).fit known.more (follows_whole read more known.more known.tail known.beyond (exactly_whole read more exact) known.follow);
     line = as_line;
   }
 

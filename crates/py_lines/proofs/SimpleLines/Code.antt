@@ -111,24 +111,29 @@ line_end_unreturned false read = ends-last is_return read 10 ∙ feed_unreturned
 line_end_unreturned true read = ap (ends is_return) (sym (append_assoc read (13 ∷ []) (10 ∷ []))) ∙ ends-last is_return (read ++ 13 ∷ []) 10 ∙ feed_unreturned
 
 pub tail_code : (t : Option Spelling) (m : Mode) → IsTail t m → is_code_mode m ≡ true
-tail_code None m apart = grind arith
+tail_code None modes.Free apart = refl
+tail_code None modes.Space apart = refl
+tail_code None m apart = absurd (both_ways _ refl apart)
 tail_code (Some s) m is = ap is_code_mode is
 
 -- the mode breaks before such characters
 pub apart_breaks : (m : Mode) (c : ℕ) → is_apart_mode m ≡ true → is_space c ≡ false → meet_of m c ≡ moves.Breaks
 unfolding meet_of move_of
-apart_breaks m c apart space = grind arith
+apart_breaks modes.Free c apart space = refl
+apart_breaks modes.Space c apart space = rw space refl
+apart_breaks m c apart space = absurd (both_ways _ refl apart)
 
 word_ends : (s : Spelling) (c : ℕ) → is_word_character c ≡ false → is_quote c ≡ false → meet_of (modes.Word s) c ≡ moves.Breaks
 unfolding meet_of
 word_ends s c word quote = rw (word, quote) refl
 
 code_breaks : (m : Mode) (c : ℕ) → is_code_mode m ≡ true → c < 128 → stands_in_code c ≡ false → meet_of m c ≡ moves.Breaks
-unfolding meet_of move_of
 code_breaks (modes.Word s) c code low apart =
     let begins = or_parts (is_ascii_word c) (is_quote c) (or_parts (is_ascii_word c || is_quote c) (is_space c) apart).0 in
     word_ends s c (word_byte_continues c low ∙ begins.0) begins.1
-code_breaks m c code low apart = grind arith
+code_breaks modes.Free c code low apart = apart_breaks modes.Free c refl (or_parts (is_ascii_word c || is_quote c) (is_space c) apart).1
+code_breaks modes.Space c code low apart = apart_breaks modes.Space c refl (or_parts (is_ascii_word c || is_quote c) (is_space c) apart).1
+code_breaks m c code low apart = absurd (both_ways _ refl code)
 
 -- what the machine has come to, with more characters
 pub come_over : {initial : Mode} {read : List ℕ} {n k : ℕ} {st after : List Bracket} {s t : Scanned} (run : List ℕ) → HasCome initial read n st s → scan_steps (Some s) run ≡ Some t
@@ -425,7 +430,8 @@ pub outer_end_returns : (text after read : List ℕ) → IsOuterEnd text after
 outer_end_returns text after read (inl (returned, is)) = rw is (fed returned ∙ sym (line_end_unreturned returned read))
   where
     fed : (b : Bool) → (slice_index (line_end_of b) (length (line_end_of b) - 1) == 13) ≡ false
-    fed b = grind arith
+    fed true = refl
+    fed false = refl
 outer_end_returns text after read (inr (is, other)) = rw is (sym (ends-last is_return read 13 ∙ return_returns))
 
 -- in brackets the line goes on, after CR alone with a piece open

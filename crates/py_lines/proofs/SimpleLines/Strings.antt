@@ -90,7 +90,9 @@ unfolding meet_of quote_move
 prefix_quote s q quote plain = rw (quote-not-word q quote, quote) (by (moves.Grows (modes.FieldOpened (record { quote = q; is_long = false; is_raw = is_raw_spelling s }))) (is_field_spelling s) (begins_string s) plain)
   where
     by : (other : Move) (f b : Bool) → (if f then false else b) ≡ true → (if f then other else (if b then moves.Grows (modes.Opened q) else moves.Breaks)) ≡ moves.Grows (modes.Opened q)
-    by other f b h = grind arith
+    by other true b h = absurd (both_ways _ refl h)
+    by other false true h = refl
+    by other false false h = absurd (both_ways _ refl h)
 
 -- what the bytes begin with that a backslash escapes
 pub escapes_byte : (bytes : List ℕ) → 1 < length bytes → slice_index bytes 0 ≡ 92 → slice_index bytes 1 < 128 → is_break (slice_index bytes 1) ≡ false → HasEscape bytes (Some (record { len = 2; line_ends = 0 }))
@@ -245,14 +247,16 @@ module _ (q : ℕ) (quote : is_quote q ≡ true) where
 
   in_short : (b : Bool) (c : ℕ) → c == q ≡ false → meet_of (short_is b) c ≡ short_move q c
   unfolding meet_of move_of
-  in_short b c other = grind arith
+  in_short true c other = rw other
+  in_short false c other = rw other
 
   abbrev long_is : Bool → Mode
   long_is b = if b then modes.LongOne q else modes.Long q
 
   in_long : (b : Bool) (c : ℕ) → c == q ≡ false → meet_of (long_is b) c ≡ long_move q c
   unfolding meet_of move_of
-  in_long b c other = grind arith
+  in_long true c other = rw other
+  in_long false c other = rw other
 
   pub short_later : (len : ℕ) → 1 < len → short_mode q len ≡ modes.Inside q
   short_later len more = ap short_is (false_from_ne_true (len == 1) (λ h. omega (arith, more, eqb-true len 1 h)))

@@ -1,5 +1,5 @@
 -- Where no piece is open, no word is, and CR doesn't stand last.
-use Rattle.std.proofs.Common.{◌≡◌, ℕ, inl, inr, Bool, true, false, not, ◌&&◌, ◌||◌, Option, None, Some, List, [], ◌∷◌, ◌++◌, refl, sym, ap, ◌∙◌, subst, append-nil, arith, lit<, ⊎_elim}
+use Rattle.std.proofs.Common.{◌≡◌, ℕ, inl, inr, Bool, true, false, not, ◌&&◌, ◌||◌, Option, None, Some, List, [], ◌∷◌, ◌++◌, refl, sym, ap, ◌∙◌, subst, append-nil, lit<, ⊎_elim}
 use Rattle.std.specs.Prelude.{codes}
 use Rattle.std.proofs.lemmas.Bool.{and_from, both_ways, cond_both, not-true, or_parts}
 use Rattle.py_lines.specs.Character.{is_break, is_line_feed, is_operator, is_quote, is_return, is_space}
@@ -42,7 +42,8 @@ pub tail_push : (read : List ℕ) (c : ℕ) → tail_of (read ++ c ∷ []) ≡ t
 tail_push read c = tail_on-append None read (c ∷ [])
 
 pub no_tail_with : (t : Option Spelling) (c : ℕ) → is_ascii_word c ≡ false → tail_with t c ≡ None
-no_tail_with t c none = grind arith
+no_tail_with None c none = rw none refl
+no_tail_with (Some s) c none = rw none refl
 
 pub no_tail : (read : List ℕ) (c : ℕ) → is_ascii_word c ≡ false → tail_of (read ++ c ∷ []) ≡ None
 no_tail read c none = tail_push read c ∙ no_tail_with (tail_of read) c none

@@ -63,42 +63,12 @@ free_way m scan read n st free mode start stop line after stack =
       one_line = free.come.one_line;
     }
 
--- the pieces of a line that has ended, and what may follow them
-pub record IsPassedLine (read : List ℕ) (pieces : List Piece) : Type 0 where
-  pub spell : spelled pieces ≡ read
-  pub strings : StringsFit 0 pieces
-  pub fit : (more : List ℕ) → (ends is_return read ≡ true → begins is_line_feed more ≡ false) → AreReadBefore pieces more
-
-pub passed_line : (m : Mode) (read : List ℕ) (n : ℕ) (after : List ℕ) → IsScanSound (line_start m) [] → (line : IsLine m read n after) → IsPassedLine read (line.body ++ line.last ∷ [])
-passed_line m read n after begun line = by line.ended
-  where
-    sound : IsScanSound line.state read
-    sound = sound_steps m read line.state begun line.steps (ended_stack line.state line.body line.last line.are line.ended)
-
-    by : IsEndedBy line.state line.body line.last → IsPassedLine read (line.body ++ line.last ∷ [])
-    by (inl is) =
-        let closed = subst (λ (s : Scanned). IsScanSound s read) is sound in
-        record {
-          spell = sym (append-nil (spelled (line.body ++ line.last ∷ []))) ∙ closed.spell;
-          strings = closed.strings;
-          fit = λ more none. closed.fit more;
-        }
-    by (inr (is, last)) =
-        let held = subst (λ (s : Scanned). IsScanSound s read) is sound in
-        let returned : ends is_return read ≡ true = ap (ends is_return) (sym held.spell) ∙ ends-last is_return (spelled line.body) 13 ∙ return_returns in
-        rw last (record {
-          spell = spelled-push line.body line_end (13 ∷ []) ∙ held.spell;
-          strings = line_string line.body (piece line_end (13 ∷ [])) refl held.strings;
-          fit = λ more none. returned_fit line.body (13 ∷ []) read more held refl (none returned);
-        })
-
--- it is a line for the scan too, where that is set after it
+-- a line that has ended is one for the scan too, where it is set after it
 pub line_before : (m : Mode) (read : List ℕ) (n : ℕ) (after : List ℕ) (scan : Scan) → IsScanSound (line_start m) []
     → (line : IsLine m read n after) → scan.piece.mode ≡ modes.Free → scan.piece.start ≡ byte_len read → scan.stop ≡ byte_len read
     → scan.count.line ≡ scan.line + n → scan.count.after_return ≡ ends is_return read → IsLineBefore m scan read line.len
 line_before m read n after scan begun line mode start stop here returned more apart =
-    let passed = passed_line m read n after begun line in
-    let spell = passed.spell in
+    let (spell, fit, strings) = by line.state line.last (sound_steps m read line.state begun line.steps (ended_stack line.state line.body line.last line.are line.ended)) line.ended in
     let closed : read ≡ spelled (line.body ++ line.last ∷ []) ++ [] = sym (append-nil (spelled (line.body ++ line.last ∷ [])) ∙ spell) in
     record {
       body = line.body;
@@ -107,8 +77,8 @@ line_before m read n after scan begun line mode start stop here returned more ap
       to = line.state;
       steps = line.steps;
       spell = spell;
-      fit = λ beyond same. passed.fit beyond (λ returns. ap (begins is_line_feed) (encodes_same beyond more same) ∙ apart returns);
-      strings = passed.strings;
+      fit = fit;
+      strings = strings;
       tallies = record {
         counts = record {
           mode = mode;
@@ -120,3 +90,20 @@ line_before m read n after scan begun line mode start stop here returned more ap
         fields = tt;
       };
     }
+  where
+    by : (s : Scanned) (last : Piece) → IsScanSound s read → IsEndedBy s line.body last → (spelled (line.body ++ last ∷ []) ≡ read)
+        × ((beyond : List ℕ) → encode_utf8_all beyond ≡ encode_utf8_all more → AreReadBefore (line.body ++ last ∷ []) beyond)
+        × StringsFit 0 (line.body ++ last ∷ [])
+    by s last sound (inl is) =
+        let closed = subst (λ (t : Scanned). IsScanSound t read) is sound in
+        (sym (append-nil (spelled (line.body ++ last ∷ []))) ∙ closed.spell, (λ beyond same. closed.fit beyond), closed.strings)
+    by s last sound (inr (is, last_is)) =
+        let held = subst (λ (t : Scanned). IsScanSound t read) is sound in
+        let returns : ends is_return read ≡ true =
+        ap (ends is_return) (sym held.spell) ∙ ends-last is_return (spelled line.body) 13 ∙ return_returns in
+        rw last_is (
+          spelled-push line.body line_end (13 ∷ []) ∙ held.spell,
+          (λ beyond same. returned_fit line.body (13 ∷ []) read beyond held refl
+              (ap (begins is_line_feed) (encodes_same beyond more same) ∙ apart returns)),
+          line_string line.body (piece line_end (13 ∷ [])) refl held.strings,
+        )
