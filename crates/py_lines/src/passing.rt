@@ -1,6 +1,6 @@
 //! Bytes of a line that are passed over at once, from one that isn't plain to the next.
 
-ghost use Rattle.std.specs.Prelude.{◌≡◌, ℕ, ◌+◌, ◌<◌, ◌≤◌, ◌^◌, Bool, true, List, None, length, slice_index, take};
+ghost use Rattle.std.specs.Prelude.{◌≡◌, ℕ, ◌+◌, ◌<◌, ◌≤◌, ◌^◌, Bool, false, true, IsTrue, List, None, length, slice_index, take};
 ghost use Rattle.py_lines.specs.Character.{is_hash, is_quote};
 ghost use Rattle.py_lines.specs.Private.Marks.{HasMarks, is_of_class};
 ghost use Rattle.py_lines.specs.Private.Outline.{tail_of};
@@ -13,7 +13,7 @@ use crate::brackets::Brackets;
 use crate::character::is_break;
 use crate::class::Class;
 use crate::marks::Marks;
-use crate::outline::{PassedPiece, outer_end_len, piece};
+use crate::outline::{outer_end_len, piece};
 use crate::plain_strings::Passed;
 use crate::prefix::Prefix;
 use crate::whole_strings::MAX_DEPTH_AROUND_STRING;
@@ -40,15 +40,6 @@ pub struct Passing {
     pub marks: Marks,
 }
 
-/// A piece that was passed.
-#[derive(Clone, Copy)]
-pub struct MarkedPiece {
-    /// Its bytes.
-    pub piece: PassedPiece,
-    /// The bytes after them that are not plain.
-    pub marks: Marks,
-}
-
 /// How many plain bytes there are up to the last operator, and with it.
 #[inline(always)]
 pub fn last_operator_end(plain: &[u8]) -> usize
@@ -59,86 +50,6 @@ pub fn last_operator_end(plain: &[u8]) -> usize
         len -= 1;
     }
     len
-}
-
-/// The string that the quote at this byte begins, if it has no fields and the next byte that isn't plain closes it. Most strings are so.
-#[inline(always)]
-fn marked_string(mut marks: Marks, bytes: &[u8], at: usize) -> Option<MarkedPiece>
-    requires within { at < length bytes.now }
-    requires quote { is_quote (slice_index bytes.now at) ≡ true }
-    requires marked { HasMarks bytes.now (at + 1) marks }
-    ensures { PassesMarked bytes.now at result }
-{
-    let end = marks.next(bytes);
-    if end >= bytes.len() || bytes[end] != bytes[at] || end == at + 1 {
-        return None;
-    }
-    let Prefix::Plain = Prefix::before(bytes, at) else {
-        return None;
-    };
-    let passed = Passed {
-        len: end + 1 - at,
-        line_ends: 0,
-    };
-    let closes = true;
-    let piece = PassedPiece { passed, closes };
-    Some(MarkedPiece { piece, marks })
-}
-
-/// The comment that the `#` at this byte begins, if it is ASCII and a line end follows it.
-#[inline(always)]
-fn marked_comment(mut marks: Marks, bytes: &[u8], at: usize) -> Option<MarkedPiece>
-    requires within { at < length bytes.now }
-    requires hash { is_hash (slice_index bytes.now at) ≡ true }
-    requires marked { HasMarks bytes.now (at + 1) marks }
-    ensures { PassesMarked bytes.now at result }
-{
-    let mut end = marks.next(bytes);
-    'specials: while end < bytes.len() && bytes[end] < 128 && !is_break(bytes[end] as char) {
-        end = marks.next(bytes);
-    }
-    if end >= bytes.len() || bytes[end] >= 128 {
-        return None;
-    }
-    marks.keep(end);
-    let passed = Passed {
-        len: end - at,
-        line_ends: 0,
-    };
-    let closes = false;
-    let piece = PassedPiece { passed, closes };
-    Some(MarkedPiece { piece, marks })
-}
-
-/// Such a comment or string, if one begins at this byte.
-#[inline(always)]
-fn marked_piece(marks: Marks, bytes: &[u8], class: Class, at: usize) -> Option<MarkedPiece>
-    requires within { at < length bytes.now }
-    requires class { is_of_class class (slice_index bytes.now at) ≡ true }
-    requires marked { HasMarks bytes.now (at + 1) marks }
-    ensures { PassesMarked bytes.now at result }
-{
-    match class {
-        Class::Quote => marked_string(marks, bytes, at),
-        Class::Hash => marked_comment(marks, bytes, at),
-        _ => None,
-    }
-}
-
-/// The comment, the join or the string that begins at this byte.
-#[inline(always)]
-fn whole_piece(mut marks: Marks, bytes: &[u8], class: Class, at: usize) -> Option<MarkedPiece>
-    requires within { at < length bytes.now }
-    requires class { is_of_class class (slice_index bytes.now at) ≡ true }
-    requires marked { HasMarks bytes.now (at + 1) marks }
-    ensures { PassesMarked bytes.now at result }
-{
-    if let Some(marked) = marked_piece(marks, bytes, class, at) {
-        return Some(marked);
-    }
-    let piece = piece(bytes, class, at)?;
-    marks.pass(bytes, at + piece.passed.len);
-    Some(MarkedPiece { piece, marks })
 }
 
 impl Passing {
@@ -231,6 +142,71 @@ impl Passing {
         Special::Passed
     }
 
+    /// Passes the string that the quote at this byte begins, if it has no fields and the next byte that isn't plain closes it: whether
+    /// it is so. Most strings are.
+    #[inline(always)]
+    fn pass_plain_string(&mut self, bytes: &[u8], at: usize) -> bool
+        requires within { at < length bytes.now }
+        requires quote { is_quote (slice_index bytes.now at) ≡ true }
+        requires marked { HasMarks bytes.now (at + 1) self.old.marks }
+        requires few { self.old.all.line_ends ≤ at }
+        ensures passed { IsTrue result → PassesMarked bytes.now at self.old self.new }
+        ensures same { result ≡ false → self.new ≡ self.old }
+    {
+        let mut marks = self.marks;
+        let end = marks.next(bytes);
+        if end >= bytes.len() || bytes[end] != bytes[at] || end == at + 1 {
+            return false;
+        }
+        let Prefix::Plain = Prefix::before(bytes, at) else {
+            return false;
+        };
+        self.marks = marks;
+        self.pass_to(end + 1, 0, true);
+        true
+    }
+
+    /// Passes the comment that the `#` at this byte begins, if it is ASCII and a line end follows it: whether it is so.
+    #[inline(always)]
+    fn pass_ascii_comment(&mut self, bytes: &[u8], at: usize) -> bool
+        requires within { at < length bytes.now }
+        requires hash { is_hash (slice_index bytes.now at) ≡ true }
+        requires marked { HasMarks bytes.now (at + 1) self.old.marks }
+        requires few { self.old.all.line_ends ≤ at }
+        ensures passed { IsTrue result → PassesMarked bytes.now at self.old self.new }
+        ensures same { result ≡ false → self.new ≡ self.old }
+    {
+        let mut marks = self.marks;
+        let mut end = marks.next(bytes);
+        'specials: while end < bytes.len() && bytes[end] < 128 && !is_break(bytes[end] as char) {
+            end = marks.next(bytes);
+        }
+        if end >= bytes.len() || bytes[end] >= 128 {
+            return false;
+        }
+        marks.keep(end);
+        self.marks = marks;
+        self.pass_to(end, 0, false);
+        true
+    }
+
+    /// Passes such a comment or string, if one begins at this byte: whether it does.
+    #[inline(always)]
+    fn pass_marked(&mut self, bytes: &[u8], class: Class, at: usize) -> bool
+        requires within { at < length bytes.now }
+        requires class { is_of_class class (slice_index bytes.now at) ≡ true }
+        requires marked { HasMarks bytes.now (at + 1) self.old.marks }
+        requires few { self.old.all.line_ends ≤ at }
+        ensures passed { IsTrue result → PassesMarked bytes.now at self.old self.new }
+        ensures same { result ≡ false → self.new ≡ self.old }
+    {
+        match class {
+            Class::Quote => self.pass_plain_string(bytes, at),
+            Class::Hash => self.pass_ascii_comment(bytes, at),
+            _ => false,
+        }
+    }
+
     /// Passes the comment, the join or the string that begins at this byte, where so few brackets are open that there is room for
     /// all that a string with fields opens.
     #[inline(always)]
@@ -245,12 +221,15 @@ impl Passing {
         if brackets.len() > MAX_DEPTH_AROUND_STRING {
             return Special::Unpassed;
         }
-        let Some(whole) = whole_piece(self.marks, bytes, class, at) else {
+        if self.pass_marked(bytes, class, at) {
+            return Special::Passed;
+        }
+        let Some(piece) = piece(bytes, class, at) else {
             return Special::Unpassed;
         };
-        self.marks = whole.marks;
-        let to = at + whole.piece.passed.len;
-        self.pass_to(to, whole.piece.passed.line_ends, whole.piece.closes);
+        let to = at + piece.passed.len;
+        self.marks.pass(bytes, to);
+        self.pass_to(to, piece.passed.line_ends, piece.closes);
         Special::Passed
     }
 

@@ -1,6 +1,5 @@
 -- Strings with fields are passed over, where they are short and their text is simple.
 use Rattle.std.proofs.Common.{◌≡◌, ℕ, ◌+◌, ◌<◌, ◌≤◌, true, false, not, None, Some, List, [], ◌∷◌, ◌++◌, length, take, drop, slice_index, refl, sym, ap, ◌∙◌, subst, append_assoc, arith, length-append, ⊎_elim}
-use Rattle.std.specs.Prelude.{nat_lt}
 use Rattle.std.specs.List.{list_all}
 use Rattle.std.proofs.lemmas.List.{drop_more}
 use Rattle.std.proofs.Math.Seq.{take-append_seam}
@@ -95,7 +94,7 @@ fields_passed bytes len s field is =
 pub fields_at : (bytes : List ℕ) (at len : ℕ) (s : Spelling) → at < length bytes → is_quote (slice_index bytes at) ≡ true → tail_of (take at bytes) ≡ Some s → is_field_spelling s ≡ true
     → IsQuotedText (rest_of bytes at) len → PassesStringAt bytes at (Some (record { len = len; line_ends = 0 }))
 fields_at bytes at len s within quote tail field found =
-    string_at bytes at (record { len = len; line_ends = 0 }) (nat_lt 2 len) within (fields_passed (drop at bytes) len s field (subst (λ (t : List ℕ). IsQuotedText t len) (rest_is bytes at) found))
+    string_at bytes at (record { len = len; line_ends = 0 }) within (fields_passed (drop at bytes) len s field (subst (λ (t : List ℕ). IsQuotedText t len) (rest_is bytes at) found))
     (λ m read n st known shallow on.
     let before = subst (λ (t : List ℕ). StandsBefore t m read n st) (drop_more bytes at 0 within) on in
     let (done, in_word) = word_open (drop (at + 1) bytes) m read n st (slice_index bytes at) s (known ∙ tail) quote before in

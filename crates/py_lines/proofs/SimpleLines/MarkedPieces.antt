@@ -8,7 +8,7 @@ use Rattle.py_lines.specs.Balance.{is_closing, is_opening}
 use Rattle.py_lines.specs.declared.marks.Marks.{Marks}
 use Rattle.py_lines.specs.declared.plain_strings.Passed.{Passed}
 use Rattle.py_lines.specs.Private.Marks.{FindsNext, is_plain}
-use Rattle.py_lines.specs.Private.Outline.{HasClosedString, PassesAt, PassesPart, StringBegins, is_plain_prefix, tail_of}
+use Rattle.py_lines.specs.Private.Outline.{HasString, PassesAt, is_plain_prefix, tail_of}
 use Rattle.py_lines.specs.Private.Run.{IsRunOf, IsWholeComment, is_ascii_word, is_body_byte, is_remark_byte, is_text_byte}
 use Rattle.py_lines.proofs.LineScan.AsciiRuns.{is_low_from}
 use Rattle.py_lines.proofs.LineScan.Spans.{ascii_comment, text_spans}
@@ -16,7 +16,7 @@ use Rattle.py_lines.proofs.Text.CharacterTests.{excluded, none_of}
 use Rattle.py_lines.proofs.SimpleLines.Code.{code_low, plain_code}
 use Rattle.py_lines.proofs.SimpleLines.CommentsAndJoins.{comment_passed}
 use Rattle.py_lines.proofs.FieldScans.TextLengths.{later, rest_is, rest_of}
-use Rattle.py_lines.proofs.SimpleLines.Strings.{after, plain_begins, short_first, short_last, short_run, string_at}
+use Rattle.py_lines.proofs.SimpleLines.Strings.{after, short_ended, short_first, short_run, plain_at}
 use Rattle.py_lines.proofs.SimpleLines.FirstBytes.{first_later}
 use Rattle.py_lines.proofs.LineScan.Runs.{break_low}
 
@@ -64,29 +64,39 @@ module _ (bytes : List ℕ) (at end : ℕ) (further : at < end) (within : end < 
         ap passes (rest_byte (end - at - 1) ∙ ap (λ (k : ℕ). slice_index bytes k) last) ∙ stops;
   }
 
+  first_is : slice_index rest 0 ≡ slice_index bytes at
+  first_is = first_later bytes at
+
   -- a string without a prefix of its own
   module _ (quote : is_quote (slice_index bytes at) ≡ true) (plain : Between is_plain bytes at end) (closes : slice_index bytes end ≡ slice_index bytes at) where
-    abbrev q : ℕ
-    q = slice_index bytes at
+    quote_first : is_quote (slice_index rest 0) ≡ true
+    quote_first = ap is_quote first_is ∙ quote
 
-    text : IsRunOf (is_text_byte q) (drop 1 rest) (end - at - 1)
+    text : IsRunOf (is_text_byte (slice_index rest 0)) (drop 1 rest) (end - at - 1)
     unfolding is_body_byte
-    text = run_of (is_text_byte q) (λ i more less. plain_text q (slice_index bytes i) quote (plain i more less)) (rw (eq-eqb (slice_index bytes end) q closes) refl)
+    text = run_of (is_text_byte (slice_index rest 0)) (λ i more less. plain_text (slice_index rest 0) (slice_index bytes i) quote_first (plain i more less)) closing
+      where
+        closing : is_text_byte (slice_index rest 0) (slice_index bytes end) ≡ false
+        closing = rw (eq-eqb (slice_index bytes end) (slice_index rest 0) (closes ∙ sym first_is)) refl
 
     pub marked_string : at + 1 < end → is_plain_prefix (tail_of (take at bytes)) ≡ true → PassesAt bytes at (record { len = end + 1 - at; line_ends = 0 }) true
     marked_string some prefix =
         let k = end - at - 1 in
-        let begun = short_first q quote rest (omega (arith, further, within, length-drop at bytes)) (first_later bytes at) in
-        let read = after rest 1 0 k 0 0 (omega arith) begun (short_run q quote (drop 1 rest) 1 k (omega arith) (text_spans q (drop 1 rest) k text)) in
+        let room : 1 < length rest = omega (arith, some, within, length-drop at bytes) in
+        let spans = text_spans (slice_index rest 0) (drop 1 rest) k text in
+        let begun = short_first (slice_index rest 0) quote_first rest (omega (arith, room)) refl in
+        let read = after rest 1 0 k 0 0 (omega arith) begun (short_run (slice_index rest 0) quote_first (drop 1 rest) 1 k (omega arith) spans) in
+        let second : slice_index rest 1 ≡ slice_index bytes (at + 1) = later bytes at 1 in
+        let holds : slice_index rest 1 ≡ slice_index rest 0 → ⊥ = λ same.
+        both_ways _ (quote-not-plain (slice_index rest 0) quote_first) (ap is_plain (sym same ∙ second) ∙ plain (at + 1) (omega arith) some) in
         let there : at + (1 + k) ≡ end = omega (arith, further) in
-        let last = first_later rest (1 + k) ∙ later bytes at (1 + k) ∙ ap (λ (i : ℕ). slice_index bytes i) there ∙ closes in
-        let room : 0 < length (drop (1 + k) rest) = omega (arith, further, within, length-drop at bytes, length-drop (1 + k) rest) in
-        let whole = after rest (1 + k) 0 1 0 0 (omega arith) read (short_last q quote (drop (1 + k) rest) (1 + k) (omega (arith, some)) room last) in
+        let last : slice_index rest (1 + k) ≡ slice_index rest 0 = later bytes at (1 + k) ∙ ap (λ (i : ℕ). slice_index bytes i) there ∙ closes ∙ sym first_is in
+        let ended = short_ended rest quote_first (1 + k) 0 (omega arith) holds read (omega arith) (omega (arith, further, within, length-drop at bytes)) last in
         let size : 1 + k + 1 ≡ end + 1 - at = omega (arith, further) in
-        let here : at < length bytes = omega (arith, further, within) in
-        string_at bytes at (record { len = end + 1 - at; line_ends = 0 }) true here
-        (record { some = omega (arith, further); few = omega arith; part = subst (λ (n : ℕ). PassesPart rest n 0 (StringBegins q) HasClosedString) size whole })
-        (plain_begins bytes at here quote prefix)
+        subst (PassesAt bytes at (record { len = end + 1 - at; line_ends = 0 })) (lt-ltb 2 (end + 1 - at) (omega (arith, some)))
+        (plain_at bytes at (Some (record { len = end + 1 - at; line_ends = 0 })) (omega (arith, further, within)) quote prefix
+        (subst (λ (t : List ℕ). HasString t (Some (record { len = end + 1 - at; line_ends = 0 }))) (sym (rest_is bytes at))
+        (subst (λ (n : ℕ). HasString rest (Some (record { len = n; line_ends = 0 }))) size ended)))
 
   -- a comment
   pub marked_comment : is_hash (slice_index bytes at) ≡ true → Between is_remark_byte bytes at end → is_break (slice_index bytes end) ≡ true → PassesAt bytes at (record { len = end - at; line_ends = 0 }) false

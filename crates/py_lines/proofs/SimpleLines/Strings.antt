@@ -286,7 +286,7 @@ module _ (q : ℕ) (quote : is_quote q ≡ true) where
       subst (λ (m : Mode). IsInPieceAfter m initial (read ++ 92 ∷ has.text) (n + p.line_ends) st) (sym (short_later (len + p.len) (omega (arith, some, has.some))))
       (escaped (short_mode q len) (modes.Escape q) (modes.EscapeReturn q) (modes.Inside q) initial read has.text n p.line_ends st (in_short (len == 1) 92 (unlike 92 refl)) (λ c other. rw other refl) refl refl has.escaped on))
 
-  pub short_last : (bytes : List ℕ) (len : ℕ) → 1 < len → 0 < length bytes → slice_index bytes 0 ≡ q → PassesPart bytes 1 0 (IsInShort q len) HasClosedString
+  short_last : (bytes : List ℕ) (len : ℕ) → 1 < len → 0 < length bytes → slice_index bytes 0 ≡ q → PassesPart bytes 1 0 (IsInShort q len) HasClosedString
   short_last bytes len more within is = low_still bytes (q ∷ []) 1 within (and_from _ _ low refl) (taken_one bytes within ∙ ap (λ (c : ℕ). c ∷ []) is) (λ initial read n st on.
       closes (modes.Inside q) initial read n st (λ s. ap (moved (scanned initial.done (modes.Inside q) s.held) q) (inside_closes q)) (subst (λ (m : Mode). IsInPieceAfter m initial read n st) (short_later len more) on))
 
@@ -420,12 +420,11 @@ ends_closed true rest before read n st ends = record { done = _; come = ends.com
 ends_closed false rest before read n st ends = ends
 
 -- a string at a byte of a line, where it begins so
-pub string_at : {begins : BeforePiece → List ℕ → ℕ → List Bracket → Type 0} (bytes : List ℕ) (at : ℕ) (p : Passed) (closes : Bool) → at < length bytes
-    → Passes (drop at bytes) p begins (StringEnds closes (drop p.len (drop at bytes)))
+pub string_at : {begins : BeforePiece → List ℕ → ℕ → List Bracket → Type 0} (bytes : List ℕ) (at : ℕ) (p : Passed) → at < length bytes → PassesString begins (drop at bytes) p
     → ((m : Mode) (read : List ℕ) (n : ℕ) (st : List Bracket) → tail_of read ≡ tail_of (take at bytes) → length st ≤ 100 → StandsBefore (drop at bytes) m read n st
         → (done : List Piece) × begins (record { mode = m; done = done }) read n st)
-    → PassesAt bytes at p closes
-string_at bytes at p closes within is begins =
+    → PassesAt bytes at p (nat_lt 2 p.len)
+string_at bytes at p within is begins =
     let room : at + p.len ≤ length bytes = omega (arith, is.part.within, within, length-drop at bytes) in
     (room, is.some, is.few, λ place st shallow. record {
       some = is.some;
@@ -437,19 +436,13 @@ string_at bytes at p closes within is begins =
           let (done, begun) = begins m read n st tail shallow on in
           let before : BeforePiece = record { mode = m; done = done } in
           rw (← drop-drop p.len at bytes)
-          (ends_closed closes (drop p.len (drop at bytes)) before (read ++ is.part.run) (n + p.line_ends) st (is.part.leads before read n st begun));
+          (ends_closed (nat_lt 2 p.len) (drop p.len (drop at bytes)) before (read ++ is.part.run) (n + p.line_ends) st (is.part.leads before read n st begun));
     })
 
--- where one without fields begins
-pub plain_begins : (bytes : List ℕ) (at : ℕ) → at < length bytes → is_quote (slice_index bytes at) ≡ true → is_plain_prefix (tail_of (take at bytes)) ≡ true
-    → (m : Mode) (read : List ℕ) (n : ℕ) (st : List Bracket) → tail_of read ≡ tail_of (take at bytes) → length st ≤ 100 → StandsBefore (drop at bytes) m read n st
-    → (done : List Piece) × StringBegins (slice_index bytes at) (record { mode = m; done = done }) read n st
-plain_begins bytes at within quote plain m read n st tail shallow on =
-    string_begins (slice_index bytes at) quote (drop (at + 1) bytes) m read n st (ap is_plain_prefix tail ∙ plain)
-    (subst (λ (t : List ℕ). StandsBefore t m read n st) (drop_more bytes at 0 within) on)
-
+-- one without fields
 pub plain_at : (bytes : List ℕ) (at : ℕ) (found : Option Passed) → at < length bytes → is_quote (slice_index bytes at) ≡ true → is_plain_prefix (tail_of (take at bytes)) ≡ true → HasString (rest_of bytes at) found → PassesStringAt bytes at found
 plain_at bytes at None within quote plain has = tt
 plain_at bytes at (Some p) within quote plain has =
-    string_at bytes at p (nat_lt 2 p.len) within (subst (λ (t : List ℕ). HasString t (Some p)) (rest_is bytes at) has)
-    (λ m read n st tail shallow on. rw (first_later bytes at) (plain_begins bytes at within quote plain m read n st tail shallow on))
+    string_at bytes at p within (subst (λ (t : List ℕ). HasString t (Some p)) (rest_is bytes at) has) (λ m read n st tail shallow on.
+    let before = subst (λ (t : List ℕ). StandsBefore t m read n st) (drop_more bytes at 0 within) on in
+    rw (first_later bytes at) (string_begins (slice_index bytes at) quote (drop (at + 1) bytes) m read n st (ap is_plain_prefix tail ∙ plain) before))

@@ -7,14 +7,13 @@ use Rattle.py_lines.specs.declared.brackets.Brackets.{Brackets}
 use Rattle.py_lines.specs.declared.class.Class.TheVariants as class
 use Rattle.py_lines.specs.declared.marks.Marks.{Marks}
 use Rattle.py_lines.specs.declared.mode.Mode.{Mode}
-use Rattle.py_lines.specs.declared.passing.MarkedPiece.{MarkedPiece}
 use Rattle.py_lines.specs.declared.passing.Passing.{Passing}
 use Rattle.py_lines.specs.declared.passing.Special.{Special}
 use Rattle.py_lines.specs.declared.passing.Special.TheVariants as special
 use Rattle.py_lines.specs.declared.plain_strings.Passed.{Passed}
 use Rattle.py_lines.specs.Private.Machine.{Bracket}
 use Rattle.py_lines.specs.Private.Marks.{HasMarks, is_of_class}
-use Rattle.py_lines.specs.Private.Outline.{BeginsOuterEnd, IsFreeAfter, IsLine, PassesAt, PassesOver}
+use Rattle.py_lines.specs.Private.Outline.{BeginsOuterEnd, IsFreeAfter, IsLine, PassesOver}
 use Rattle.py_lines.specs.Private.Scan.{depth_of, none_open, stack_of}
 
 -- nothing was passed
@@ -68,10 +67,9 @@ abbrev pub IsMet : Bool → ℕ → Passing → Special → Passing → Type 0
 IsMet true at old result new = (result ≡ special.Passed) × (new ≡ passed_to old (at + 1) 0 true)
 IsMet false at old result new = (result ≡ special.Unpassed) × (new ≡ old)
 
--- the piece at this byte was passed, and what follows it is marked
-abbrev pub PassesMarked : List ℕ → ℕ → Option MarkedPiece → Type 0
-PassesMarked bytes at None = Unit {0}
-PassesMarked bytes at (Some p) = PassesAt bytes at p.piece.passed p.piece.closes × HasMarks bytes (at + p.piece.passed.len) p.marks
+-- it, or the piece that it begins, was passed, where few brackets are open, which stay as they are
+abbrev pub PassesMarked : List ℕ → ℕ → Passing → Passing → Type 0
+PassesMarked bytes at old new = (place : ℕ) (b : Brackets) → depth_of b ≤ 100 → PassesSo bytes at place old.all old.closed b new b
 
 -- so many bytes go up to an operator that is no bracket, and with it; or none
 abbrev pub IsOperatorEnd : List ℕ → ℕ → Type 0

@@ -1,12 +1,12 @@
-use Rattle.std.proofs.Common.{◌≡◌, ℕ, subst, ◌+◌, ◌-◌, ◌<◌, ◌∙◌, ap, arith, false, length, not, slice_index, sym, true}
+use Rattle.std.proofs.Common.{◌≡◌, ◌+◌, ◌-◌, ◌<◌, ◌∙◌, ap, arith, false, length, not, slice_index, sym, true}
 use Rattle.std.proofs.lemmas.Bool.{and_from}
 use Rattle.py_lines.specs.Character.{is_break}
-use Rattle.py_lines.specs.Private.Marks.{HasMarks}
 use Rattle.py_lines.specs.Private.Run.{is_remark_byte}
 use Rattle.py_lines.proofs.LineScan.AsciiRuns.{is_low_from}
 use Rattle.py_lines.proofs.SimpleLines.MarkedPieces.{comment_begun, comment_further, marked_comment}
-use Rattle.py_lines.proofs.passing.marked_comment.Goals.{then-specials-test+then-bytes-end-lt128+else-not-is_break, then-specials-test+else-bytes-end-lt128, else-specials-test}
-use Rattle.py_lines.proofs.passing.marked_comment.Goals as goal
+use Rattle.py_lines.proofs.SimpleLines.Passing.{piece_passed}
+use Rattle.py_lines.proofs.passing.Passing.pass_ascii_comment.Goals.{then-specials-test+then-bytes-end-lt128+else-not-is_break, then-specials-test+else-bytes-end-lt128, else-specials-test}
+use Rattle.py_lines.proofs.passing.Passing.pass_ascii_comment.Goals as goal
 
 pub specials-init : goal.specials-init
 specials-init c = comment_begun c.args.bytes.now c.args.at c.next-end.result c.next-end.new.self (c.next-end.ensures (c.args.at + 1) c.requires.marked)
@@ -25,8 +25,8 @@ specials-preserved c =
     let remark : is_remark_byte (slice_index bytes end) ≡ true = and_from _ _ (ap not whole) (is_low_from (slice_index bytes end) c.if-bytes-end-lt128.true) in
     comment_further bytes c.args.at end c.next-end-in-specials.result c.specials.marks c.next-end-in-specials.new.self c.specials.invariant remark next
 
-pub returns : goal.returns
-returns c =
+pub returns-clause-passed : goal.returns-clause-passed
+returns-clause-passed c = λ _ place brackets shallow.
     let bytes = c.args.bytes.now in
     let at = c.args.at in
     let end = c.specials.end in
@@ -37,7 +37,7 @@ returns c =
       | then-specials-test+else-bytes-end-lt128 w ↦ absurd (omega (arith, w.if-bytes-end-lt128.false, c.if-bytes-end-ge128.false))
       | else-specials-test w ↦ absurd (omega (arith, w.specials-test.false, c.if-end-bytes.false))
     ] in
-    let size : end ≡ at + (end - at) = omega (arith, read.further) in (
-      marked_comment bytes at end read.further within c.requires.hash read.each breaks,
-      subst (λ (k : ℕ). HasMarks bytes k c.keep.new.self) size (c.keep.ensures bytes (within, read.next.special within) (read.next.rest within)),
-    )
+    let passes = marked_comment bytes at end read.further within c.requires.hash read.each breaks in
+    let there = c.keep.ensures bytes (within, read.next.special within) (read.next.rest within) in
+    piece_passed bytes at c.args.self.now c.requires.within c.requires.marked place brackets (record { len = end - at; line_ends = 0 }) false end c.keep.new.self c.pass_to.new.self shallow passes
+    (omega (arith, read.further)) there c.pass_to.ensures
