@@ -6,7 +6,8 @@ pub mod Runs
 pub mod Prefixes
 pub mod Strings
 pub mod FieldStrings
-pub mod CommentsAndJoins
+pub mod Comments
+pub mod Joins
 pub mod Further
 pub mod Lines
 pub mod UnderWay

@@ -78,7 +78,7 @@ pub fn piece(bytes: &[u8], class: Class, at: usize) -> Option<PassedPiece>
                 len: 1 + line_end,
                 line_ends: 1,
             };
-            let closes = bytes[at + line_end] == b'\n';
+            let closes = rest[line_end] == b'\n';
             Some(PassedPiece { passed, closes })
         }
         // A third quote may follow two.

@@ -95,7 +95,7 @@ pub fields_at : (bytes : List ℕ) (at len : ℕ) (s : Spelling) → at < length
     → IsQuotedText (rest_of bytes at) len → PassesStringAt bytes at (Some (record { len = len; line_ends = 0 }))
 fields_at bytes at len s within quote tail field found =
     string_at bytes at (record { len = len; line_ends = 0 }) within (fields_passed (drop at bytes) len s field (subst (λ (t : List ℕ). IsQuotedText t len) (rest_is bytes at) found))
-    (λ m read n st known shallow on.
-    let before = subst (λ (t : List ℕ). StandsBefore t m read n st) (drop_more bytes at 0 within) on in
-    let (done, in_word) = word_open (drop (at + 1) bytes) m read n st (slice_index bytes at) s (known ∙ tail) quote before in
-    (done, (shallow, in_word)))
+    (λ m read n st on.
+    let before = subst (λ (t : List ℕ). StandsBefore t m read n st) (drop_more bytes at 0 within) on.2 in
+    let (done, in_word) = word_open (drop (at + 1) bytes) m read n st (slice_index bytes at) s (on.0 ∙ tail) quote before in
+    (done, (on.1, in_word)))

@@ -1,8 +1,8 @@
 -- The bytes that a slice begins with: one, two or three of them, or a line end.
-use Rattle.std.proofs.Common.{◌≡◌, ℕ, ◌+◌, ◌<◌, ◌≤◌, length-drop, inl, inr, Bool, true, false, Option, None, Some, List, [], ◌∷◌, ◌++◌, length, take, drop, slice_index, refl, ap, ◌∙◌, arith, add-zero, suc, sym, subst, get_or-drop}
+use Rattle.std.proofs.Common.{◌≡◌, ℕ, ◌+◌, ◌<◌, inl, inr, Bool, true, false, Option, None, Some, List, [], ◌∷◌, ◌++◌, length, take, drop, slice_index, refl, ap, ◌∙◌, arith, add-zero, suc, sym, subst, get_or-drop}
 use Rattle.std.specs.List.{list_all}
 use Rattle.std.proofs.Math.Seq.{take-add}
-use Rattle.py_lines.specs.Private.Outline.{HasLineEnd, HasOuterEnd, IsOuterEnd, line_end_of}
+use Rattle.py_lines.specs.Private.Outline.{HasLineEnd, HasOuterEnd, IsOuterEnd, line_end_of, PassesFirst}
 use Rattle.py_lines.proofs.LineScan.AsciiRuns.{is_low}
 
 pub first_later : (bytes : List ℕ) (at : ℕ) → slice_index (drop at bytes) 0 ≡ slice_index bytes at
@@ -58,3 +58,12 @@ return_found (b ∷ c ∷ cs) within first other = record {
   within = omega arith;
   is = inr (ap (λ (d : ℕ). d ∷ []) first, other);
 }
+
+-- a piece that begins with this byte
+pub passed_from : (bytes : List ℕ) (c len feeds : ℕ) (closes : Bool) → 0 < length bytes → slice_index bytes 0 ≡ c → PassesFirst (c ∷ drop 1 bytes) (record { len = suc len; line_ends = feeds }) closes
+    → PassesFirst bytes (record { len = 1 + len; line_ends = feeds }) closes
+passed_from [] c len feeds closes some is passes = absurd (omega (arith, some))
+passed_from (b ∷ cs) c len feeds closes some is passes =
+    let size : suc len ≡ 1 + len = omega arith in
+    subst (λ (k : ℕ). PassesFirst (b ∷ cs) (record { len = k; line_ends = feeds }) closes) size
+    (subst (λ (d : ℕ). PassesFirst (d ∷ cs) (record { len = suc len; line_ends = feeds }) closes) (sym is) passes)

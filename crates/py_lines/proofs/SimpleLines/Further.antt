@@ -18,8 +18,8 @@ use Rattle.py_lines.specs.declared.passing.Passing.{Passing}
 use Rattle.py_lines.specs.declared.plain_strings.Passed.{Passed}
 use Rattle.py_lines.specs.Private.Machine.{Bracket}
 use Rattle.py_lines.specs.Private.Marks.{FindsNext, HasMarks, is_of_class, is_plain}
-use Rattle.py_lines.specs.Private.Outline.{BeginsOuterEnd, IsFreeAfter, PassesOver, StandsBefore, StandsClosed, tail_of, tail_on}
-use Rattle.py_lines.specs.Private.Passing.{Comes, EndsLine, EndsLineSo, EndsSo, LeavesLine, PassesOperators, PassesSo, Stand, passed_to}
+use Rattle.py_lines.specs.Private.Outline.{BeginsOuterEnd, IsFreeAfter, StandsBefore, StandsClosed, tail_of, tail_on}
+use Rattle.py_lines.specs.Private.Passing.{Comes, EndsLine, EndsLineSo, EndsSo, LeavesLine, PassesOperators, PassesOver, PassesSo, Stand, passed_to}
 use Rattle.py_lines.specs.Private.Scan.{none_open, stack_of}
 use Rattle.py_lines.proofs.FieldScans.TextLengths.{later}
 use Rattle.py_lines.proofs.LineScan.AsciiRuns.{all_pass, low_encodes}

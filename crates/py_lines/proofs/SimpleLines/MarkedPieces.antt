@@ -2,21 +2,20 @@
 use Rattle.std.proofs.Common.{◌≡◌, ℕ, ◌+◌, ◌-◌, ◌<◌, Bool, true, false, not, ◌==◌, Some, List, length, take, drop, slice_index, refl, sym, ap, ◌∙◌, subst, arith, eqb-true, inl, inr, length-drop}
 use Rattle.std.specs.Prelude.{codes}
 use Rattle.std.proofs.lemmas.Bool.{and_from, both_ways, cases_order, eq-eqb, false_from_ne_true, lt-ltb}
-use Rattle.std.proofs.lemmas.List.{drop-drop}
 use Rattle.py_lines.specs.Character.{is_break, is_hash, is_one_of, is_operator, is_quote, is_space}
 use Rattle.py_lines.specs.Balance.{is_closing, is_opening}
 use Rattle.py_lines.specs.declared.marks.Marks.{Marks}
 use Rattle.py_lines.specs.declared.plain_strings.Passed.{Passed}
 use Rattle.py_lines.specs.Private.Marks.{FindsNext, is_plain}
-use Rattle.py_lines.specs.Private.Outline.{HasString, PassesAt, is_plain_prefix, tail_of}
+use Rattle.py_lines.specs.Private.Outline.{HasString, PassesAt, PassesFirst, is_plain_prefix, tail_of}
 use Rattle.py_lines.specs.Private.Run.{IsRunOf, IsWholeComment, is_ascii_word, is_body_byte, is_remark_byte, is_text_byte}
 use Rattle.py_lines.proofs.LineScan.AsciiRuns.{is_low_from}
 use Rattle.py_lines.proofs.LineScan.Spans.{ascii_comment, text_spans}
 use Rattle.py_lines.proofs.Text.CharacterTests.{excluded, none_of}
 use Rattle.py_lines.proofs.SimpleLines.Code.{code_low, plain_code}
-use Rattle.py_lines.proofs.SimpleLines.CommentsAndJoins.{comment_passed}
+use Rattle.py_lines.proofs.SimpleLines.Comments.{comment_passed}
 use Rattle.py_lines.proofs.FieldScans.TextLengths.{later, rest_is, rest_of}
-use Rattle.py_lines.proofs.SimpleLines.Strings.{after, short_ended, short_first, short_run, plain_at}
+use Rattle.py_lines.proofs.SimpleLines.Strings.{after, piece_at, short_ended, short_first, short_run, plain_at}
 use Rattle.py_lines.proofs.SimpleLines.FirstBytes.{first_later}
 use Rattle.py_lines.proofs.LineScan.Runs.{break_low}
 
@@ -47,6 +46,11 @@ plain_remark c plain = and_from _ _ (ap not (false_from_ne_true _ (λ h. both_wa
 -- the first bytes from there on, so many of them, are such bytes
 abbrev pub Between : (ℕ → Bool) → List ℕ → ℕ → ℕ → Type 0
 Between passes bytes at end = (i : ℕ) → at < i → i < end → passes (slice_index bytes i) ≡ true
+
+-- a piece with which the bytes from there on begin
+pub first_piece : (bytes : List ℕ) (at : ℕ) (p : Passed) (closes : Bool) → at < length bytes → PassesFirst (rest_of bytes at) p closes → PassesAt bytes at p closes
+first_piece bytes at p closes here found =
+    piece_at bytes at p closes here (subst (λ (t : List ℕ). PassesFirst t p closes) (rest_is bytes at) found) (λ m read n st on. (m, on.2, λ later k come. come))
 
 module _ (bytes : List ℕ) (at end : ℕ) (further : at < end) (within : end < length bytes) where
   abbrev rest : List ℕ
@@ -108,9 +112,11 @@ module _ (bytes : List ℕ) (at end : ℕ) (further : at < end) (within : end < 
       let last : slice_index (drop 1 rest) k ≡ slice_index bytes end = rest_byte k ∙ ap (λ (i : ℕ). slice_index bytes i) there in
       let low : slice_index (drop 1 rest) k < 128 = subst (λ (c : ℕ). c < 128) (sym last) (break_low (slice_index bytes end) breaks) in
       let whole = ascii_comment (drop 1 rest) k run (omega (arith, further, within, length-drop at bytes, length-drop 1 rest)) low in
+      let first = comment_passed rest k (omega (arith, further, within, length-drop at bytes)) (ap is_hash first_is ∙ hash) (subst (λ (t : List ℕ). IsWholeComment t (Some k)) (sym (rest_is rest 1)) whole) in
       let size : 1 + k ≡ end - at = omega (arith, further) in
-      subst (λ (n : ℕ). PassesAt bytes at (record { len = n; line_ends = 0 }) false) size
-      (comment_passed bytes at k (omega (arith, further, within)) hash (subst (λ (t : List ℕ). IsWholeComment t (Some k)) (drop-drop 1 at bytes) whole))
+      first_piece bytes at (record { len = end - at; line_ends = 0 }) false (omega (arith, further, within))
+      (subst (λ (t : List ℕ). PassesFirst t (record { len = end - at; line_ends = 0 }) false) (sym (rest_is bytes at))
+      (subst (λ (n : ℕ). PassesFirst rest (record { len = n; line_ends = 0 }) false) size first))
 
 -- a comment of ASCII goes on up to the next byte that isn't plain
 pub record ReadsComment (bytes : List ℕ) (at end : ℕ) (marks : Marks) : Type 0 where

@@ -13,8 +13,8 @@ use Rattle.py_lines.specs.declared.passing.Special.TheVariants as special
 use Rattle.py_lines.specs.declared.plain_strings.Passed.{Passed}
 use Rattle.py_lines.specs.Private.Machine.{Bracket, brackets_after}
 use Rattle.py_lines.specs.Private.Marks.{HasMarks}
-use Rattle.py_lines.specs.Private.Outline.{BeginsOuterEnd, IsOuterEnd, PassesAt, PassesOver, StandsBefore}
-use Rattle.py_lines.specs.Private.Passing.{IsMet, PassesSo, PassesSpecial, passed_to}
+use Rattle.py_lines.specs.Private.Outline.{BeginsOuterEnd, IsOuterEnd, PassesAt, StandsBefore}
+use Rattle.py_lines.specs.Private.Passing.{IsMet, PassesOver, PassesSo, PassesSpecial, passed_to}
 use Rattle.py_lines.specs.Private.Scan.{Meets, depth_of, none_open, stack_of}
 use Rattle.py_lines.proofs.Pieces.PieceLists.{piece}
 use Rattle.py_lines.proofs.LineScan.AsciiRuns.{is_low, low_encodes, low_is}
@@ -41,6 +41,18 @@ module _ (bytes : List ℕ) (at : ℕ) (within : at < length bytes) where
             (ap (λ (k : ℕ). brackets_after st k (piece operator (c ∷ []))) here ∙ may)
             (subst (λ (t : List ℕ). StandsBefore t m read n st) (drop_more bytes at 0 within) on));
       }
+
+  -- over a piece
+  pub piece_over : (place : ℕ) (b : Brackets) (p : Passed) (closes : Bool) → depth_of b ≤ 100 → PassesAt bytes at p closes
+      → PassesOver bytes at place p.len p.line_ends closes (stack_of b) (stack_of b)
+  piece_over place b p closes few (room, passes) = record {
+    some = passes.some;
+    within = room;
+    few = passes.few;
+    run = passes.part.run;
+    spell = passes.part.spell;
+    leads = λ m read n tail here on. rw (← drop-drop p.len at bytes) (passes.part.leads m read n (stack_of b) (tail, few, on));
+  }
 
 -- a line end
 module _ (bytes : List ℕ) (at : ℕ) (within : at < length bytes) (len : ℕ) (ends : BeginsOuterEnd (drop at bytes) len) where
@@ -136,7 +148,7 @@ module _ (bytes : List ℕ) (at : ℕ) (old : Passing) (within : at < length byt
         len = p.len;
         more = p.line_ends;
         closes = closes;
-        over = passes.3 place (stack_of b) few;
+        over = piece_over bytes at within place b p closes few passes;
         kept = λ _. refl;
         is = refl;
         marked = rw there has;

@@ -4,7 +4,7 @@ use Rattle.std.specs.Prelude.{codes, encode_utf8_all, if◌then◌else◌, nat_l
 use Rattle.std.specs.Str.{all_scalars}
 use Rattle.std.specs.List.{list_all}
 use Rattle.std.proofs.lemmas.Bool.{and_from, and_parts, both_ways, eqb-true, false_from_ne_true, lt-ltb, cases_lt}
-use Rattle.std.proofs.lemmas.List.{drop-drop, drop_more, length-take-le}
+use Rattle.std.proofs.lemmas.List.{drop_more, length-take-le}
 use Rattle.std.proofs.lemmas.Str.{encodes-append, length-le-encodes}
 use Rattle.std.proofs.Math.Seq.{take-add}
 use Rattle.py_lines.specs.Character.{is_one_of, is_quote, is_backslash, is_break, is_return, is_line_feed}
@@ -19,7 +19,7 @@ use Rattle.py_lines.specs.declared.plain_strings.Passed.{Passed}
 use Rattle.py_lines.specs.Private.Machine.{fresh, moved, Bracket, long_move, move_of, short_move}
 use Rattle.py_lines.specs.Private.ScanMachine.{begins_string, is_field_spelling, is_raw_spelling, meet_of, quote_move, scan_step}
 use Rattle.py_lines.specs.Private.Run.{HasLongText, Spans, is_body_byte, is_long_byte, stays}
-use Rattle.py_lines.specs.Private.Outline.{BeginsLineEnd, BeginsLong, EndsBefore, HasEscape, HasLineEnd, BeforePiece, HasClosedString, HasString, HoldsLineEnds, IsEscaped, IsInLong, IsInPieceAfter, IsInShort, Passes, PassesPart, PassesAt, PassesOrNot, PassesString, PassesStringAt, StandsBefore, StandsClosed, StringBegins, StringEnds, is_plain_prefix, line_end_of, short_mode, tail_of}
+use Rattle.py_lines.specs.Private.Outline.{BeginsLineEnd, BeginsLong, EndsBefore, HasEscape, HasLineEnd, BeforePiece, HasClosedString, HasString, HoldsLineEnds, IsEscaped, IsInLong, IsInPieceAfter, IsInShort, Passes, PassesPart, PassesAt, PassesOrNot, PassesString, PassesStringAt, StandsAt, StandsBefore, StandsClosed, StringBegins, StringEnds, is_plain_prefix, line_end_of, short_mode, tail_of}
 use Rattle.py_lines.proofs.Pieces.PieceLists.{piece}
 use Rattle.py_lines.proofs.Machine.Starts.{start-quote}
 use Rattle.py_lines.proofs.Machine.PieceSteps.{scanned}
@@ -33,7 +33,7 @@ use Rattle.py_lines.proofs.LineScan.PlainStrings.{inside_closes}
 use Rattle.py_lines.proofs.Text.CharacterTests.{none_of, quote-not-word}
 use Rattle.py_lines.proofs.SimpleLines.Code.{WordOrEnds, come_on, grown, holds_return, holds_returned, holds_line_end, holds_more, holds_one, one_unreturned, opens, pieces, quote-not-space, word_or_ends}
 use Rattle.py_lines.proofs.SimpleLines.Tails.{feed_unreturned, no_tail, quote-no-word}
-use Rattle.py_lines.proofs.SimpleLines.CommentsAndJoins.{slash-not-break}
+use Rattle.py_lines.proofs.SimpleLines.Joins.{slash-not-break}
 use Rattle.py_lines.proofs.SimpleLines.FirstBytes.{first_then, line_end_low, taken_one, taken_two, first_later}
 use Rattle.py_lines.proofs.SimpleLines.Runs.{goes_on, lines_go_on, stay_spelled}
 
@@ -419,30 +419,42 @@ ends_closed : (b : Bool) (rest : List ℕ) (before : BeforePiece) (read : List �
 ends_closed true rest before read n st ends = record { done = _; come = ends.come }
 ends_closed false rest before read n st ends = ends
 
--- a string at a byte of a line, where it begins so
-pub string_at : {begins : BeforePiece → List ℕ → ℕ → List Bracket → Type 0} (bytes : List ℕ) (at : ℕ) (p : Passed) → at < length bytes → PassesString begins (drop at bytes) p
-    → ((m : Mode) (read : List ℕ) (n : ℕ) (st : List Bracket) → tail_of read ≡ tail_of (take at bytes) → length st ≤ 100 → StandsBefore (drop at bytes) m read n st
-        → (done : List Piece) × begins (record { mode = m; done = done }) read n st)
-    → PassesAt bytes at p (nat_lt 2 p.len)
-string_at bytes at p within is begins =
-    let room : at + p.len ≤ length bytes = omega (arith, is.part.within, within, length-drop at bytes) in
-    (room, is.some, is.few, λ place st shallow. record {
-      some = is.some;
-      within = room;
-      few = is.few;
+-- a piece at a byte of a line, which the bytes from there on begin with
+pub piece_at : {Before : Type 0} {begins comes : Before → List ℕ → ℕ → List Bracket → Type 0} (bytes : List ℕ) (at : ℕ) (p : Passed) (closes : Bool)
+    → at < length bytes → Passes (drop at bytes) p begins comes
+    → ((m : Mode) (read : List ℕ) (n : ℕ) (st : List Bracket) → StandsAt bytes at m read n st
+    → (b : Before) × begins b read n st
+    × ((later : List ℕ) (k : ℕ) → comes b later k st → StandsClosed closes (drop p.len (drop at bytes)) m later k st))
+    → PassesAt bytes at p closes
+piece_at bytes at p closes within is begins = (
+  omega (arith, is.part.within, within, length-drop at bytes),
+  record {
+    some = is.some;
+    few = is.few;
+    part = record {
+      within = is.part.within;
       run = is.part.run;
       spell = is.part.spell;
-      leads = λ m read n tail here on.
-          let (done, begun) = begins m read n st tail shallow on in
-          let before : BeforePiece = record { mode = m; done = done } in
-          rw (← drop-drop p.len at bytes)
-          (ends_closed (nat_lt 2 p.len) (drop p.len (drop at bytes)) before (read ++ is.part.run) (n + p.line_ends) st (is.part.leads before read n st begun));
-    })
+      leads = λ m read n st on.
+          let (b, begun, closed) = begins m read n st on in
+          closed (read ++ is.part.run) (n + p.line_ends) (is.part.leads b read n st begun);
+    };
+  },
+)
+
+-- a string
+pub string_at : {begins : BeforePiece → List ℕ → ℕ → List Bracket → Type 0} (bytes : List ℕ) (at : ℕ) (p : Passed) → at < length bytes → PassesString begins (drop at bytes) p
+    → ((m : Mode) (read : List ℕ) (n : ℕ) (st : List Bracket) → StandsAt bytes at m read n st → (done : List Piece) × begins (record { mode = m; done = done }) read n st) → PassesAt bytes at p (nat_lt 2 p.len)
+string_at bytes at p within is begins =
+    piece_at bytes at p (nat_lt 2 p.len) within is (λ m read n st on.
+    let (done, begun) = begins m read n st on in
+    let before : BeforePiece = record { mode = m; done = done } in
+    (before, begun, λ later k. ends_closed (nat_lt 2 p.len) (drop p.len (drop at bytes)) before later k st))
 
 -- one without fields
 pub plain_at : (bytes : List ℕ) (at : ℕ) (found : Option Passed) → at < length bytes → is_quote (slice_index bytes at) ≡ true → is_plain_prefix (tail_of (take at bytes)) ≡ true → HasString (rest_of bytes at) found → PassesStringAt bytes at found
 plain_at bytes at None within quote plain has = tt
 plain_at bytes at (Some p) within quote plain has =
-    string_at bytes at p within (subst (λ (t : List ℕ). HasString t (Some p)) (rest_is bytes at) has) (λ m read n st tail shallow on.
-    let before = subst (λ (t : List ℕ). StandsBefore t m read n st) (drop_more bytes at 0 within) on in
-    rw (first_later bytes at) (string_begins (slice_index bytes at) quote (drop (at + 1) bytes) m read n st (ap is_plain_prefix tail ∙ plain) before))
+    string_at bytes at p within (subst (λ (t : List ℕ). HasString t (Some p)) (rest_is bytes at) has) (λ m read n st on.
+    let before = subst (λ (t : List ℕ). StandsBefore t m read n st) (drop_more bytes at 0 within) on.2 in
+    rw (first_later bytes at) (string_begins (slice_index bytes at) quote (drop (at + 1) bytes) m read n st (ap is_plain_prefix on.0 ∙ plain) before))

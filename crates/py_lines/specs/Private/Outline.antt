@@ -3,7 +3,7 @@ use Rattle.std.specs.Prelude.{◌≡◌, ℕ, ◌+◌, ◌<◌, ◌≤◌, ◌�
 use Rattle.std.specs.Str.{all_scalars}
 use Rattle.py_lines.specs.Character.{is_break, is_quote, is_return}
 use Rattle.py_lines.specs.Piece.{Piece, ends, line_end, string}
-use Rattle.py_lines.specs.LogicalLine.{byte_len, line_ends}
+use Rattle.py_lines.specs.LogicalLine.{line_ends}
 use Rattle.py_lines.specs.Private.Machine.{Scanned, fresh, Bracket, brackets_of, first_spelling, spelling_with}
 use Rattle.py_lines.specs.Private.ScanMachine.{IsScanSound, begins_string, is_field_spelling, meet_of, scan_steps}
 use Rattle.py_lines.specs.Private.Scan.{AreLine, EndsNoLine, EndsWhole, line_start, none_open}
@@ -206,21 +206,15 @@ abbrev pub HasEscape : List ℕ → Option Passed → Type 0
 HasEscape bytes None = Unit {0}
 HasEscape bytes (Some p) = BeginsEscape bytes p
 
--- wherever the bytes stand so in a line, at this byte of it, so many of them can be passed, with so many line ends
-pub record PassesOver (bytes : List ℕ) (at place len more : ℕ) (closes : Bool) (st after : List Bracket) : Type 0 where
-  pub some : 0 < len
-  pub within : at + len ≤ length bytes
-  pub few : more ≤ len
-  pub run : List ℕ
-  pub spell : encode_utf8_all run ≡ take len (drop at bytes)
-  pub leads : (m : Mode) (read : List ℕ) (n : ℕ) → tail_of read ≡ tail_of (take at bytes) → byte_len read ≡ place
-      → StandsBefore (drop at bytes) m read n st → StandsClosed closes (drop (at + len) bytes) m (read ++ run) (n + more) after
+-- the piece at a byte of a line, which stands there so; it is known how the bytes up to it end, and that few brackets are open
+abbrev pub StandsAt : List ℕ → ℕ → Mode → List ℕ → ℕ → List Bracket → Type 0
+StandsAt bytes at m read n st =
+    (tail_of read ≡ tail_of (take at bytes)) × (length st ≤ 100) × StandsBefore (drop at bytes) m read n st
 
--- the piece at a byte was passed, where few brackets are open, which stay so; it may be known to have closed itself
+-- it was passed, and may be known to have closed itself
 abbrev pub PassesAt : List ℕ → ℕ → Passed → Bool → Type 0
 PassesAt bytes at p closes =
-    (at + p.len ≤ length bytes) × (0 < p.len) × (p.line_ends ≤ p.len)
-    × ((place : ℕ) (st : List Bracket) → length st ≤ 100 → PassesOver bytes at place p.len p.line_ends closes st st)
+    (at + p.len ≤ length bytes) × Passes (drop at bytes) p (StandsAt bytes at) (StandsClosed closes (drop p.len (drop at bytes)))
 
 abbrev pub PassesPiece : List ℕ → ℕ → Option PassedPiece → Type 0
 PassesPiece bytes at None = Unit {0}
@@ -230,6 +224,10 @@ PassesPiece bytes at (Some p) = PassesAt bytes at p.passed p.closes
 abbrev pub PassesStringAt : List ℕ → ℕ → Option Passed → Type 0
 PassesStringAt bytes at None = Unit {0}
 PassesStringAt bytes at (Some p) = PassesAt bytes at p (nat_lt 2 p.len)
+
+-- so the comment or the join that the bytes begin with
+abbrev pub PassesFirst : List ℕ → Passed → Bool → Type 0
+PassesFirst bytes p closes = Passes bytes p (StandsBefore bytes) (StandsClosed closes (drop p.len bytes))
 
 -- so a string, from where it begins so
 abbrev pub PassesString : (BeforePiece → List ℕ → ℕ → List Bracket → Type 0) → List ℕ → Passed → Type 0

@@ -13,7 +13,7 @@ use Rattle.py_lines.specs.declared.passing.Special.TheVariants as special
 use Rattle.py_lines.specs.declared.plain_strings.Passed.{Passed}
 use Rattle.py_lines.specs.Private.Machine.{Bracket}
 use Rattle.py_lines.specs.Private.Marks.{HasMarks, is_of_class}
-use Rattle.py_lines.specs.Private.Outline.{BeginsOuterEnd, IsFreeAfter, IsLine, PassesOver}
+use Rattle.py_lines.specs.Private.Outline.{BeginsOuterEnd, IsFreeAfter, IsLine, StandsBefore, StandsClosed, tail_of}
 use Rattle.py_lines.specs.Private.Scan.{depth_of, none_open, stack_of}
 
 -- nothing was passed
@@ -32,7 +32,17 @@ up_to old to n = record { len = to; line_ends = old.line_ends + n }
 abbrev pub passed_to : Passing → ℕ → ℕ → Bool → Passing
 passed_to old to n closes = record old { all = up_to old.all to n; closed = if closes then up_to old.all to n else old.closed }
 
--- bytes were passed, after others: the open brackets change only where no piece is open after them
+-- wherever the bytes stand so in a line, at this byte of it, so many of them can be passed, with so many line ends
+pub record PassesOver (bytes : List ℕ) (at place len more : ℕ) (closes : Bool) (st after : List Bracket) : Type 0 where
+  pub some : 0 < len
+  pub within : at + len ≤ length bytes
+  pub few : more ≤ len
+  pub run : List ℕ
+  pub spell : encode_utf8_all run ≡ take len (drop at bytes)
+  pub leads : (m : Mode) (read : List ℕ) (n : ℕ) → tail_of read ≡ tail_of (take at bytes) → byte_len read ≡ place
+      → StandsBefore (drop at bytes) m read n st → StandsClosed closes (drop (at + len) bytes) m (read ++ run) (n + more) after
+
+-- they were passed, after others: the open brackets change only where no piece is open after them
 pub record PassesSo (bytes : List ℕ) (at place : ℕ) (all closed : Passed) (b : Brackets) (new : Passing) (c : Brackets) : Type 0 where
   pub len : ℕ
   pub more : ℕ

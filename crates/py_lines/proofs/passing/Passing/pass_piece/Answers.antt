@@ -17,12 +17,12 @@ returns-in_default c = λ place. (c.pass_marked.ensures.same c.if-pass_marked.fa
 pub pass-requires-clause-base : goal.pass-requires-clause-base
 pass-requires-clause-base c =
     let base = ap (λ (p : Passing). p.marks.base) (c.pass_marked.ensures.same c.if-pass_marked.false) in
-    omega (arith, base, c.requires.marked.base, c.in-Some.ensures.1)
+    omega (arith, base, c.requires.marked.base, c.in-Some.ensures.1.some)
 
 pub pass_to-requires : goal.pass_to-requires
 pass_to-requires c =
     let ends = ap (λ (p : Passing). p.all.line_ends) (c.pass_marked.ensures.same c.if-pass_marked.false) in
-    search (rules, ends, c.in-Some.ensures.2, c.in-Some.ensures.0, c.requires.few)
+    search (rules, ends, c.in-Some.ensures.1.few, c.in-Some.ensures.0, c.requires.few)
 
 pub returns : goal.returns
 returns c = λ place.
@@ -34,4 +34,4 @@ returns c = λ place.
     subst (λ (p : Passing). PassesSpecial bytes at place p c.args.brackets.now special.Passed c.pass_to.new.self c.args.brackets.now) same
     (piece_passed bytes at c.pass_marked.new.self c.requires.within marked place c.args.brackets.now c.in-Some.piece.passed c.in-Some.piece.closes
     (at + c.in-Some.piece.passed.len) c.pass.new.self c.pass_to.new.self shallow c.in-Some.ensures refl
-    (c.pass.ensures (at + 1) marked (omega (arith, c.in-Some.ensures.1))) c.pass_to.ensures)
+    (c.pass.ensures (at + 1) marked (omega (arith, c.in-Some.ensures.1.some))) c.pass_to.ensures)
