@@ -60,9 +60,9 @@
 -- Simple lines (proofs/SimpleLines) are passed over from one such byte to the next. After each step (Passing) the machine of the
 -- scan has gone through the line so far, and a piece is open that goes on or ends there; the word that the bytes end with is
 -- known from the bytes alone. Where marks alone show the end of a string or a comment, its bytes are known from them
--- (MarkedPieces). The open brackets are kept as the scan keeps them (LineScan/BracketStack). So a line comes further, up to its
--- end, from where no piece is open in it (Further); it may have begun in the scan, or where another was passed (Lines). That lines
--- that were passed are the text's next is in Readers/PassedLines, and where it comes in pieces in Feeds/PassedLines.
+-- (MarkedPieces). The open brackets are kept as the scan keeps them (LineScan/BracketStack). After a line end outside brackets
+-- the line is whole, and the machine begins the next one (Lines). That such lines are the text's next is in Readers/PassedLines,
+-- and where it comes in pieces in Feeds/PassedLines.
 --
 -- The reader (proofs/Readers) puts these together for one call: a line, a fault or the end.
 --
