@@ -8,7 +8,6 @@ pub mod Strings
 pub mod FieldStrings
 pub mod Comments
 pub mod Joins
-pub mod Further
 pub mod Lines
 pub mod UnderWay
 pub mod Passing

@@ -14,9 +14,9 @@ use crate::field_mode::{At, FieldMode, FieldMove};
 use crate::frames::{Frame, Frames, OpenField};
 use crate::host::{Region, StringWithFields};
 use crate::mode::{Mode, Start};
-use crate::passing::last_operator_end;
 use crate::run::ByteRun;
 use crate::scan::LineFault;
+use crate::whole_pieces::last_operator_end;
 use crate::whole_strings::text_len;
 
 /// What a character came to in a string with fields.

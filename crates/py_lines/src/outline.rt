@@ -7,7 +7,7 @@ ghost use Rattle.py_lines.specs.Private.Outline.{BeginWithLines, HasOuterEnd, Pa
 
 use crate::brackets::Brackets;
 use crate::class::Class;
-use crate::passing::Passing;
+use crate::passing::{Passing, Special};
 use crate::plain_strings::{Passed, line_end_len, plain_string};
 use crate::prefix::Prefix;
 use crate::run::whole_comment;
@@ -99,10 +99,14 @@ pub fn simple_lines(brackets: &mut Brackets, bytes: &[u8]) -> Passed
     brackets.clear();
     let mut passing = Passing::new(bytes);
     let mut lines = passing.all;
-    'lines: loop {
-        let Some(_) = passing.pass_line(brackets, bytes, 0) else {
-            return lines;
-        };
-        lines = passing.all;
+    let mut at = passing.marks.next(bytes);
+    'specials: while at < bytes.len() {
+        match passing.pass(brackets, bytes, at, at - lines.len) {
+            Special::Passed => {}
+            Special::LineEnd(_) => lines = passing.all,
+            Special::Unpassed => return lines,
+        }
+        at = passing.marks.next(bytes);
     }
+    lines
 }

@@ -1,12 +1,10 @@
 //! Bytes of a line that are passed over at once, from one that isn't plain to the next.
 
-ghost use Rattle.std.specs.Prelude.{◌≡◌, ℕ, ◌+◌, ◌<◌, ◌≤◌, ◌^◌, Bool, false, true, IsTrue, List, None, length, slice_index, take};
+ghost use Rattle.std.specs.Prelude.{◌≡◌, ℕ, ◌+◌, ◌<◌, ◌≤◌, ◌^◌, Bool, false, true, IsTrue, List, length, slice_index};
 ghost use Rattle.py_lines.specs.Character.{is_hash, is_quote};
 ghost use Rattle.py_lines.specs.Private.Marks.{HasMarks, is_of_class};
-ghost use Rattle.py_lines.specs.Private.Outline.{tail_of};
-ghost use Rattle.py_lines.specs.Private.Passing.{IsLineEndAt, IsMet, IsOperatorEnd, PassesLine, PassesMarked};
-ghost use Rattle.py_lines.specs.Private.Passing.{PassesOperators, PassesSpecial, nothing_passed, passed_to};
-ghost use Rattle.py_lines.specs.Private.Scan.{stack_of};
+ghost use Rattle.py_lines.specs.Private.Passing.{IsLineEndAt, IsMet, PassesMarked, PassesSpecial};
+ghost use Rattle.py_lines.specs.Private.Passing.{nothing_passed, passed_to};
 ghost use Rattle.py_lines.specs.declared.marks.Marks.{Marks};
 
 use crate::brackets::Brackets;
@@ -40,18 +38,6 @@ pub struct Passing {
     pub marks: Marks,
 }
 
-/// How many plain bytes there are up to the last operator, and with it.
-#[inline(always)]
-pub fn last_operator_end(plain: &[u8]) -> usize
-    ensures { IsOperatorEnd plain.now result }
-{
-    let mut len = plain.len();
-    while len > 0 && !matches!(Class::of(plain[len - 1]), Class::Operator) {
-        len -= 1;
-    }
-    len
-}
-
 impl Passing {
     /// No byte is passed yet.
     #[inline(always)]
@@ -72,7 +58,7 @@ impl Passing {
 
     /// Passes the bytes up to this one, with so many more line ends. It may be known that no piece is open there.
     #[inline(always)]
-    fn pass_to(&mut self, to: usize, line_ends: u64, closes: bool)
+    pub fn pass_to(&mut self, to: usize, line_ends: u64, closes: bool)
         requires { self.old.all.line_ends + line_ends < 2 ^ 64 }
         ensures { self.new ≡ passed_to self.old to line_ends closes }
     {
@@ -235,7 +221,7 @@ impl Passing {
 
     /// Passes the byte at this place, which is not plain, or the piece that it begins. In its line it stands at the byte `place`.
     #[inline(always)]
-    fn pass(
+    pub fn pass(
         &mut self,
         brackets: &mut Brackets,
         bytes: &[u8],
@@ -261,65 +247,5 @@ impl Passing {
             }
             class => self.pass_piece(brackets, bytes, class, at),
         }
-    }
-
-    /// Passes the plain bytes before this one up to the last operator, if one stands among them. No piece is open after it.
-    #[inline(always)]
-    fn pass_operators(&mut self, bytes: &[u8], at: usize)
-        requires after { self.old.all.len ≤ at }
-        requires within { at ≤ length bytes.now }
-        requires few { self.old.all.line_ends ≤ at }
-        ensures { PassesOperators bytes.now at self.old self.new }
-    {
-        let len = last_operator_end(&bytes[self.all.len..at]);
-        if len > 0 {
-            let to = self.all.len + len;
-            self.pass_to(to, 0, true);
-        }
-    }
-
-    /// The same, where what was passed need not have closed itself, as an empty string.
-    #[inline(always)]
-    fn close(&mut self, bytes: &[u8], at: usize)
-        requires after { self.old.all.len ≤ at }
-        requires within { at ≤ length bytes.now }
-        requires few { self.old.all.line_ends ≤ at }
-        ensures { PassesOperators bytes.now at self.old self.new }
-    {
-        if self.closed.len < self.all.len {
-            self.pass_operators(bytes, at);
-        }
-    }
-
-    /// Passes bytes of a line, as far as they are simple, up to its end: how many bytes are its line end, if it was reached. Here no piece
-    /// is open, and the line has so many bytes. Pieces that have not closed themselves are closed by the next operator: so no place where
-    /// all are closed is missed.
-    #[inline(always)]
-    pub fn pass_line(
-        &mut self,
-        brackets: &mut Brackets,
-        bytes: &[u8],
-        place: usize,
-    ) -> Option<usize>
-        requires fits { place + length bytes.now < 2 ^ 64 }
-        requires marked { HasMarks bytes.now self.old.all.len self.old.marks }
-        requires few { self.old.all.line_ends ≤ self.old.all.len }
-        requires apart { tail_of (take self.old.all.len bytes.now) ≡ None }
-        ensures { PassesLine bytes.now place self.old.all (stack_of brackets.old) result
-            self.new brackets.new }
-    {
-        let from = self.all.len;
-        self.closed = self.all;
-        let mut at = self.marks.next(bytes);
-        'specials: while at < bytes.len() {
-            self.close(bytes, at);
-            match self.pass(brackets, bytes, at, place + (at - from)) {
-                Special::Passed => at = self.marks.next(bytes),
-                Special::LineEnd(len) => return Some(len),
-                Special::Unpassed => break,
-            }
-        }
-        self.pass_operators(bytes, at);
-        None
     }
 }

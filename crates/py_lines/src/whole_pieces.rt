@@ -1,11 +1,12 @@
 //! Pieces that bytes hold whole. After closed ones they are passed at once, from one byte that isn't plain to the next.
 
-ghost use Rattle.std.specs.Prelude.{◌≡◌, ◌+◌, ◌<◌, ◌^◌, length};
+ghost use Rattle.std.specs.Prelude.{◌≡◌, ◌+◌, ◌<◌, ◌≤◌, ◌^◌, length};
 ghost use Rattle.py_lines.specs.Private.Run.{WhereverReached};
-ghost use Rattle.py_lines.specs.Private.WholePieces.{IsNoLonger, LeavesOff, closed_after};
+ghost use Rattle.py_lines.specs.Private.WholePieces.{IsNoLonger, IsOperatorEnd, LeavesOff, PassesOperators, closed_after};
 
+use crate::class::Class;
 use crate::mode::Mode;
-use crate::passing::Passing;
+use crate::passing::{Passing, Special};
 use crate::plain_strings::Passed;
 use crate::scan::{OpenPiece, Scan};
 
@@ -16,6 +17,31 @@ pub enum Left<'s> {
     Bytes(&'s [u8]),
     /// The line has ended: so many bytes are its line end.
     LineEnd(usize),
+}
+
+/// How many plain bytes there are up to the last operator, and with it.
+#[inline(always)]
+pub fn last_operator_end(plain: &[u8]) -> usize
+    ensures { IsOperatorEnd plain.now result }
+{
+    let mut len = plain.len();
+    while len > 0 && !matches!(Class::of(plain[len - 1]), Class::Operator) {
+        len -= 1;
+    }
+    len
+}
+
+/// Passes the plain bytes before this one up to the last operator, if one stands among them. No piece is open after it.
+#[inline(never)]
+fn pass_operators(passing: &mut Passing, bytes: &[u8], at: usize)
+    requires after { passing.old.all.len ≤ at }
+    requires within { at ≤ length bytes.now }
+    requires few { passing.old.all.line_ends ≤ at }
+    ensures { PassesOperators bytes.now at passing.old passing.new }
+{
+    let len = last_operator_end(&bytes[passing.all.len..at]);
+    let to = passing.all.len + len;
+    passing.pass_to(to, 0, len > 0);
 }
 
 impl Scan {
@@ -35,7 +61,9 @@ impl Scan {
         };
     }
 
-    /// Takes pieces, as long as they follow one another, up to the line's end. It stops at the last place where all are closed.
+    /// Takes pieces, as long as they follow one another, up to the line's end. It stops at the last place where all are closed. A piece
+    /// that has not closed itself, as an empty string, is closed by the next operator: so no such place is missed, and no byte is passed
+    /// twice.
     #[inline(always)]
     pub fn take_pieces<'s>(&mut self, bytes: &'s [u8]) -> Left<'s>
         requires bytes { self.old.stop + length bytes.now < 2 ^ 64 }
@@ -48,15 +76,22 @@ impl Scan {
             return Left::Bytes(bytes);
         }
         let mut passing = Passing::new(bytes);
-        match passing.pass_line(&mut self.brackets, bytes, self.stop) {
-            Some(len) => {
-                self.close_after(passing.all, bytes[passing.all.len - 1] == b'\r');
-                Left::LineEnd(len)
+        let mut at = passing.marks.next(bytes);
+        'specials: while at < bytes.len() {
+            if passing.closed.len < passing.all.len {
+                pass_operators(&mut passing, bytes, at);
             }
-            None => {
-                self.close_after(passing.closed, false);
-                Left::Bytes(&bytes[passing.closed.len..])
+            match passing.pass(&mut self.brackets, bytes, at, self.stop + at) {
+                Special::Passed => at = passing.marks.next(bytes),
+                Special::LineEnd(len) => {
+                    self.close_after(passing.all, bytes[passing.all.len - 1] == b'\r');
+                    return Left::LineEnd(len);
+                }
+                Special::Unpassed => break,
             }
         }
+        pass_operators(&mut passing, bytes, at);
+        self.close_after(passing.closed, false);
+        Left::Bytes(&bytes[passing.closed.len..])
     }
 }

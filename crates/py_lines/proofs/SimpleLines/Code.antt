@@ -3,7 +3,7 @@ use Rattle.std.proofs.Common.{◌≡◌, ◌==◌, ℕ, ◌+◌, ◌-◌, length
 use Rattle.std.specs.Prelude.{codes, encode_utf8, encode_utf8_all}
 use Rattle.std.specs.Str.{all_scalars}
 use Rattle.std.specs.List.{list_all}
-use Rattle.std.proofs.lemmas.Bool.{and_from, and_parts, both_ways, cases_lt, false_from_ne_true, not-true, or_cases, or_parts}
+use Rattle.std.proofs.lemmas.Bool.{and_from, and_parts, both_ways, cases_lt, false_from_ne_true, or_parts}
 use Rattle.std.proofs.lemmas.Bool.Decides.{nat_tests}
 use Rattle.py_lines.specs.Character.{is_break, is_line_feed, is_operator, is_quote, is_return, is_space, is_word_character}
 use Rattle.py_lines.specs.Piece.{operator, line_end, Piece, ends}
@@ -19,7 +19,6 @@ use Rattle.py_lines.specs.declared.mode.Start.TheVariants as starts
 use Rattle.py_lines.specs.Private.Machine.{Scanned, fresh, moved, started, start_of, first_spelling, spelling_with, Bracket, brackets_after, brackets_of, move_of}
 use Rattle.py_lines.specs.Private.ScanMachine.{meet_of, move_at, move_in, scan_step, scan_steps}
 use Rattle.py_lines.specs.Private.Scan.{EndsNoLine, EndsWhole, counts_after, line_start, none_open}
-use Rattle.py_lines.specs.Private.Marks.{is_plain}
 use Rattle.py_lines.specs.Private.Run.{is_ascii_word}
 use Rattle.py_lines.specs.Private.FieldText.{is_apart_mode, is_code_mode}
 use Rattle.py_lines.specs.Private.Outline.{IsEndedBy, BeginOther, HoldsLineEnds, BeforePiece, HasCome, GoesOnAfter, IsFreeAfter, EndsBefore, StandsBefore, StandsClosed, IsInPieceAfter, IsLine, IsOuterEnd, IsTail, line_end_of, tail_of, tail_on, tail_with}
@@ -451,19 +450,6 @@ code_low c (inl word) = word_byte_low c word
 code_low c (inr (inl space)) = space_low c space
 code_low c (inr (inr (stands, opens, closes))) = operator_ascii c stands
 
--- a plain byte is one of code
-pub plain_code : (c : ℕ) → is_plain c ≡ true → IsCodeByte c
-unfolding is_plain
-plain_code c h = ⊎_elim (λ word. inl word)
-    (λ rest. inr (⊎_elim (λ space. inl space) (λ sign. inr (operator sign)) (or_cases (is_space c) (is_operator c && not (is_opening c || is_closing c)) rest)))
-    (or_cases (is_ascii_word c) (is_space c || (is_operator c && not (is_opening c || is_closing c))) h)
-  where
-    operator : is_operator c && not (is_opening c || is_closing c) ≡ true → (is_operator c ≡ true) × (is_opening c ≡ false) × (is_closing c ≡ false)
-    operator e =
-        let parts = and_parts (is_operator c) (not (is_opening c || is_closing c)) e in
-        let none = or_parts (is_opening c) (is_closing c) (not-true _ parts.1) in
-        (parts.0, none.0, none.1)
-
 -- what a character ends with is what its bytes end with
 high-no_word : (c : ℕ) → 128 ≤ c → is_ascii_word c ≡ false
 high-no_word c wide = false_from_ne_true _ (λ word. omega (arith, wide, word_byte_low c word))
@@ -486,8 +472,10 @@ tail-encoded t (c ∷ cs) =
     ∙ tail-encoded (tail_with t c) cs
 
 -- a line has begun
-pub begun : IsFreeAfter modes.Free [] 0 []
+pub begun : GoesOnAfter modes.Free [] 0 []
 begun = record {
-  done = [];
+  state = line_start modes.Free;
   come = record { start = begun_sound 1; steps = refl; stacked = refl; one_line = tt; holds = record { scalars = refl; count = refl } };
+  tail = refl;
+  unreturned = refl;
 }

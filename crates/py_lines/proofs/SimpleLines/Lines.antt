@@ -1,25 +1,52 @@
--- Simple lines follow one another.
-use Rattle.std.proofs.Common.{◌≡◌, ℕ, ◌+◌, ◌-◌, ◌==◌, ◌<◌, ◌≤◌, true, Option, None, Some, List, [], ◌∷◌, ◌++◌, length, take, drop, slice_index, refl, sym, ap, ◌∙◌, subst, append_assoc, append-nil, arith, length-append, length-drop}
-use Rattle.std.specs.Prelude.{encode_utf8_all}
+-- Simple lines follow one another: from one byte that is not plain to the next, and from line end to line end.
+use Rattle.std.proofs.Common.{◌≡◌, ℕ, ◌+◌, ◌-◌, ◌<◌, ◌≤◌, ◌==◌, inl, inr, Bool, true, false, not, ◌&&◌, ◌||◌, Option, None, Some, List, [], ◌∷◌, ◌++◌, length, take, drop, slice_index, refl, sym, ap, ◌∙◌, subst, append_assoc, append-nil, arith, length-drop, ⊎_elim}
+use Rattle.std.specs.List.{list_all}
 use Rattle.std.specs.Str.{all_scalars}
-use Rattle.std.proofs.lemmas.List.{append_cancel_left, length-take-le, take-append-drop}
+use Rattle.std.proofs.lemmas.Bool.{and_parts, or_cases, or_parts, not-true}
+use Rattle.std.proofs.lemmas.List.{append_cancel_left, drop-drop, length-take-le, take-append-drop}
 use Rattle.std.proofs.lemmas.Str.{encodes-append}
+use Rattle.std.proofs.Math.Seq.{take-add}
+use Rattle.std.specs.Prelude.{encode_utf8_all}
+use Rattle.py_lines.specs.Balance.{is_closing, is_opening}
+use Rattle.py_lines.specs.Character.{is_operator, is_return, is_space}
+use Rattle.py_lines.specs.Piece.{ends}
 use Rattle.py_lines.specs.LogicalLine.{byte_len}
 use Rattle.py_lines.specs.declared.brackets.Brackets.{Brackets}
+use Rattle.py_lines.specs.declared.marks.Marks.{Marks}
+use Rattle.py_lines.specs.declared.mode.Mode.{Mode}
 use Rattle.py_lines.specs.declared.mode.Mode.TheVariants as modes
 use Rattle.py_lines.specs.declared.mode.Spelling.{Spelling}
 use Rattle.py_lines.specs.declared.passing.Passing.{Passing}
 use Rattle.py_lines.specs.declared.plain_strings.Passed.{Passed}
-use Rattle.py_lines.specs.Private.Marks.{HasMarks}
-use Rattle.py_lines.specs.Private.Outline.{AreWholeLines, BeginWithLines, BeginsOuterEnd, IsWholeLine, tail_of, tail_on}
-use Rattle.py_lines.specs.Private.Passing.{Comes, EndsLine, EndsSo, nothing_passed}
-use Rattle.py_lines.specs.Private.Scan.{stack_of}
+use Rattle.py_lines.specs.Private.Machine.{Bracket}
+use Rattle.py_lines.specs.Private.Marks.{FindsNext, HasMarks, is_plain}
+use Rattle.py_lines.specs.Private.Run.{is_ascii_word}
+use Rattle.py_lines.specs.Private.Scan.{none_open, stack_of}
+use Rattle.py_lines.specs.Private.Outline.{AreWholeLines, BeginWithLines, BeginsOuterEnd, IsLine, IsWholeLine, StandsBefore, StandsClosed, tail_of, tail_on}
+use Rattle.py_lines.specs.Private.Passing.{EndsLineSo, PassesOver, PassesSo, nothing_passed, up_to}
+use Rattle.py_lines.proofs.FieldScans.TextLengths.{later}
 use Rattle.py_lines.proofs.LineScan.LineCount.{line_ends-bytes}
+use Rattle.py_lines.proofs.LineScan.NextCharacter.{empty_stack}
+use Rattle.py_lines.proofs.LineScan.AsciiRuns.{all_pass, low_encodes}
 use Rattle.py_lines.proofs.LogicalLines.Cuts.{byte_len-append}
 use Rattle.py_lines.proofs.Text.Utf8Prefixes.{all_scalars-append}
-use Rattle.py_lines.proofs.SimpleLines.Code.{begun, tail-encoded}
-use Rattle.py_lines.proofs.SimpleLines.Tails.{tail_on-append}
+use Rattle.py_lines.proofs.SimpleLines.Code.{IsCodeByte, begun, code_low, code_run, outer_end_returns, outer_end_whole, tail-encoded}
+use Rattle.py_lines.proofs.SimpleLines.Tails.{closed_stands, stands, tail_on-append, stands_holds}
 use Rattle.py_lines.proofs.SimpleLines.FirstBytes.{feed_found, outer_found, first_later}
+use Rattle.py_lines.proofs.SimpleLines.Passing.{end_is, end_last, end_spells, end_split, end_within, passed_further}
+
+-- a plain byte is one of code
+pub plain_code : (c : ℕ) → is_plain c ≡ true → IsCodeByte c
+unfolding is_plain
+plain_code c h = ⊎_elim (λ word. inl word)
+    (λ rest. inr (⊎_elim (λ space. inl space) (λ sign. inr (operator sign)) (or_cases (is_space c) (is_operator c && not (is_opening c || is_closing c)) rest)))
+    (or_cases (is_ascii_word c) (is_space c || (is_operator c && not (is_opening c || is_closing c))) h)
+  where
+    operator : is_operator c && not (is_opening c || is_closing c) ≡ true → (is_operator c ≡ true) × (is_opening c ≡ false) × (is_closing c ≡ false)
+    operator e =
+        let parts = and_parts (is_operator c) (not (is_opening c || is_closing c)) e in
+        let none = or_parts (is_opening c) (is_closing c) (not-true _ parts.1) in
+        (parts.0, none.0, none.1)
 
 -- one more line after others
 line_push : (texts : List (List ℕ)) (read line : List ℕ) (n k : ℕ) (after : List ℕ) → AreWholeLines texts read n (encode_utf8_all line ++ after) → 0 < length line → IsWholeLine line k after → AreWholeLines (texts ++ line ∷ []) (read ++ line) (n + k) after
@@ -46,7 +73,12 @@ line_push (t ∷ texts) read line n k after are some whole = record {
   lines = line_push texts are.later line are.more k after are.lines some whole;
 }
 
--- the characters of lines; lines have no more line ends than bytes
+-- lines end with no word, and have no more line ends than bytes
+lines_tail : (texts : List (List ℕ)) (read : List ℕ) (n : ℕ) (after : List ℕ) → AreWholeLines texts read n after → tail_of read ≡ None
+lines_tail [] read n after are = ap tail_of are.0
+lines_tail (t ∷ texts) read n after are =
+    ap tail_of are.spell ∙ tail_on-append None t are.later ∙ ap (λ (o : Option Spelling). tail_on o are.later) are.whole.tail ∙ lines_tail texts are.later are.more after are.lines
+
 pub lines_scalars : (texts : List (List ℕ)) (read : List ℕ) (n : ℕ) (after : List ℕ) → AreWholeLines texts read n after → all_scalars read ≡ true
 lines_scalars [] read n after are = ap all_scalars are.0
 lines_scalars (t ∷ texts) read n after are =
@@ -66,64 +98,248 @@ feed_ends bytes at within is =
 none_passed : (bytes : List ℕ) → BeginWithLines bytes (record { len = 0; line_ends = 0 })
 none_passed bytes = record { within = omega arith; read = []; spell = refl; texts = []; whole = (refl, refl) }
 
+-- how a line stands, in such a mode, after such characters
+abbrev pub Stand : Type 1
+Stand = Mode → List ℕ → ℕ → List Bracket → Type 0
+
+-- the bytes up to this one spell characters of earlier lines, and more, after which a line stands so that has begun with others
+pub record ComesTo (bytes : List ℕ) (m : Mode) (past before : List ℕ) (at n : ℕ) (st : List Bracket) (holds : Stand) : Type 0 where
+  pub within : at ≤ length bytes
+  pub run : List ℕ
+  pub spell : encode_utf8_all (past ++ run) ≡ take at bytes
+  pub stands : holds m (before ++ run) n st
+
+-- a line has ended after these characters, with so many bytes of them, of which CR may be the last
+pub record EndsSo (len : ℕ) (after : List ℕ) (returned : Bool) (m : Mode) (read : List ℕ) (n : ℕ) (st : List Bracket) : Type 0 where
+  pub line : IsLine m read n after
+  pub size : line.len ≡ len
+  pub returns : returned ≡ ends is_return read
+
+module _ (bytes : List ℕ) (m : Mode) (past before : List ℕ) where
+  abbrev pub Comes : ℕ → ℕ → List Bracket → Stand → Type 0
+  Comes at n st stands = ComesTo bytes m past before at n st stands
+
+  abbrev pub ComesBefore : ℕ → ℕ → List Bracket → Type 0
+  ComesBefore at n st = Comes at n st (StandsBefore (drop at bytes))
+
+  -- the line comes so many bytes further
+  further : (at len n k : ℕ) (st after : List Bracket) (stands comes : Stand) → (c : Comes at n st stands) → at + len ≤ length bytes
+      → (run : List ℕ) → encode_utf8_all run ≡ take len (drop at bytes) → comes m ((before ++ c.run) ++ run) k after
+      → Comes (at + len) k after comes
+  further at len n k st after stands comes c room run spell on = record {
+    within = room;
+    run = c.run ++ run;
+    spell = ap encode_utf8_all (sym (append_assoc past c.run run)) ∙ encodes-append (past ++ c.run) run
+        ∙ ap (λ t. t ++ encode_utf8_all run) c.spell ∙ ap (λ t. take at bytes ++ t) spell ∙ sym (take-add at len bytes);
+    stands = subst (λ (t : List ℕ). comes m t k after) (append_assoc before c.run run) on;
+  }
+
+  -- over plain bytes
+  pub plain_further : (from at n : ℕ) (st : List Bracket) → ComesBefore from n st → from ≤ at → at ≤ length bytes
+      → ((i : ℕ) → from ≤ i → i < at → is_plain (slice_index bytes i) ≡ true) → ComesBefore at n st
+  plain_further from at n st come after within plain =
+      let len = at - from in
+      let there : from + len ≡ at = omega (arith, after) in
+      let run = take len (drop from bytes) in
+      let all : list_all is_plain run ≡ true = all_pass is_plain (drop from bytes) len (omega (arith, within, length-drop from bytes))
+      (λ i less. ap is_plain (later bytes from i) ∙ plain (from + i) (omega arith) (omega (arith, less))) in
+      let spell = (low_encodes is_plain run (λ c is. code_low c (plain_code c is)) all).0 in
+      let split : drop from bytes ≡ run ++ drop (from + len) bytes =
+      sym (take-append-drop len (drop from bytes)) ∙ ap (λ t. run ++ t) (drop-drop len from bytes) in
+      subst (λ (k : ℕ). ComesBefore k n st) there
+      (further from len n n st st (StandsBefore (drop from bytes)) (StandsBefore (drop (from + len) bytes)) come (omega (arith, there, within)) run spell
+      (code_run is_plain m (before ++ come.run) run (drop (from + len) bytes) n st plain_code all
+      (subst (λ (t : List ℕ). StandsBefore t m (before ++ come.run) n st) split come.stands)))
+
+  -- over what is passed at a byte that isn't plain
+  pub over_further : (at place len more n : ℕ) (closes : Bool) (st after : List Bracket) → tail_of past ≡ None → tail_of before ≡ None
+      → (c : ComesBefore at n st) → byte_len (before ++ c.run) ≡ place → PassesOver bytes at place len more closes st after
+      → Comes (at + len) (n + more) after (StandsClosed closes (drop (at + len) bytes))
+  over_further at place len more n closes st after none apart c here over =
+      let tail : tail_of (before ++ c.run) ≡ tail_of (take at bytes) =
+      tail_on-append None before c.run ∙ ap (λ (o : Option Spelling). tail_on o c.run) (apart ∙ sym none) ∙ sym (tail_on-append None past c.run)
+      ∙ sym (tail-encoded None (past ++ c.run)) ∙ ap tail_of c.spell in
+      further at len n (n + more) st after (StandsBefore (drop at bytes)) (StandsClosed closes (drop (at + len) bytes)) c over.within
+      over.run over.spell (over.leads m (before ++ c.run) n tail here c.stands)
+
+  pub stands_there : (at n : ℕ) (st : List Bracket) (closes : Bool) → Comes at n st (StandsClosed closes (drop at bytes)) → ComesBefore at n st
+  stands_there at n st closes c = record {
+    within = c.within;
+    run = c.run;
+    spell = c.spell;
+    stands = closed_stands closes (drop at bytes) m (before ++ c.run) n st c.stands;
+  }
+
+  -- over a line end that ends the line
+  pub end_further : (at len n : ℕ) (st : List Bracket) → ComesBefore at n st → at < length bytes → BeginsOuterEnd (drop at bytes) len
+      → none_open st ≡ true → Comes (at + len) (n + 1) [] (EndsSo len (drop (at + len) bytes) (slice_index bytes (at + len - 1) == 13))
+  end_further at len n st come within found none =
+      let text = take len (drop at bytes) in
+      let after = drop (at + len) bytes in
+      let read = before ++ come.run in
+      let is = end_is bytes at within len found in
+      let spell = end_spells bytes at within len found in
+      let line_is = outer_end_whole text after m read n is (rw (← empty_stack st none, ← end_split bytes at within len found) come.stands) in
+      further at len n (n + 1) st [] (StandsBefore (drop at bytes)) (EndsSo len after (slice_index bytes (at + len - 1) == 13)) come
+      (end_within bytes at within len found) text spell (record {
+        line = line_is.0;
+        size = line_is.1 ∙ ap length spell ∙ length-take-le len (drop at bytes) found.within;
+        returns = ap (λ (c : ℕ). c == 13) (end_last bytes at within len found) ∙ outer_end_returns text after read is;
+      })
+
+-- after such lines the next has come to this byte; so many line ends stand before it, and these brackets are open
+pub record HasComeTo (bytes : List ℕ) (lines : Passed) (at n : ℕ) (st : List Bracket) : Type 0 where
+  pub ordered : lines.len ≤ at
+  pub lines_are : BeginWithLines bytes lines
+  more : ℕ
+  count : n ≡ lines.line_ends + more
+  come : ComesTo bytes modes.Free lines_are.read [] at more st (StandsBefore (drop at bytes))
+
 some_characters : (cs : List ℕ) → 0 < byte_len cs → 0 < length cs
 some_characters [] some = absurd (omega (arith, some))
 some_characters (c ∷ cs) some = omega arith
 
--- lines were passed, and the next one begins
-pub record LinesStand (bytes : List ℕ) (lines : Passed) (p : Passing) (b : Brackets) : Type 0 where
-  pub same : lines ≡ p.all
-  pub are : BeginWithLines bytes p.all
-  pub few : p.all.line_ends ≤ p.all.len
+module _ (bytes : List ℕ) where
+  -- the next line begins after such lines
+  line_begins : (lines : Passed) → BeginWithLines bytes lines → HasComeTo bytes lines lines.len lines.line_ends []
+  line_begins lines are = record {
+    ordered = omega arith;
+    lines_are = are;
+    more = 0;
+    count = omega arith;
+    come = record {
+      within = are.within;
+      run = [];
+      spell = ap encode_utf8_all (append-nil are.read) ∙ are.spell;
+      stands = stands (drop lines.len bytes) modes.Free [] 0 [] begun;
+    };
+  }
+
+  -- the bytes of the lines, and its own
+  line_size : (lines : Passed) (at more : ℕ) (st : List Bracket) (stands : Stand) (are : BeginWithLines bytes lines)
+      → (c : ComesTo bytes modes.Free are.read [] at more st stands) → lines.len + byte_len c.run ≡ at
+  line_size lines at more st stands are c =
+      omega (arith, byte_len-append are.read c.run, ap length c.spell, length-take-le at bytes c.within, ap length are.spell, length-take-le lines.len bytes are.within)
+
+  -- over plain bytes
+  plain_on : (lines : Passed) (from at n : ℕ) (st : List Bracket) (marks : Marks) → HasComeTo bytes lines from n st → FindsNext bytes from at marks → HasComeTo bytes lines at n st
+  plain_on lines from at n st marks on next = record {
+    ordered = omega (arith, on.ordered, next.after);
+    lines_are = on.lines_are;
+    more = on.more;
+    count = on.count;
+    come = plain_further bytes modes.Free on.lines_are.read [] from at on.more st on.come next.after next.within next.plain;
+  }
+
+  -- over what is passed at a byte that isn't plain
+  passed_on : (lines : Passed) (at n len more : ℕ) (closes : Bool) (st after : List Bracket) → HasComeTo bytes lines at n st
+      → PassesOver bytes at (at - lines.len) len more closes st after → HasComeTo bytes lines (at + len) (n + more) after
+  passed_on lines at n len more closes st after on over =
+      let past = on.lines_are in
+      record {
+        ordered = omega (arith, on.ordered);
+        lines_are = past;
+        more = on.more + more;
+        count = omega (arith, on.count);
+        come = stands_there bytes modes.Free past.read [] (at + len) (on.more + more) after closes
+            (over_further bytes modes.Free past.read [] at (at - lines.len) len more on.more closes st after
+            (lines_tail past.texts past.read lines.line_ends (drop lines.len bytes) past.whole) refl on.come
+            (omega (arith, line_size lines at on.more st (StandsBefore (drop at bytes)) past on.come)) over);
+      }
+
+  -- over a line end that ends the line
+  line_end_ends_line : (lines : Passed) (at n len : ℕ) (st : List Bracket) → HasComeTo bytes lines at n st → at < length bytes
+      → BeginsOuterEnd (drop at bytes) len → none_open st ≡ true → HasComeTo bytes (record { len = at + len; line_ends = n + 1 }) (at + len) (n + 1) st
+  line_end_ends_line lines at n len st on within found none =
+      let past = on.lines_are in
+      let after = drop (at + len) bytes in
+      let holds : Stand = EndsSo len after (slice_index bytes (at + len - 1) == 13) in
+      let c = end_further bytes modes.Free past.read [] at len on.more st on.come within found none in
+      let size = line_size lines (at + len) (on.more + 1) [] holds past c in
+      let count : lines.line_ends + (on.more + 1) ≡ n + 1 = omega (arith, on.count) in
+      let some : 0 < length c.run = some_characters c.run (omega (arith, size, on.ordered, found.some)) in
+      let split : drop lines.len bytes ≡ encode_utf8_all c.run ++ after =
+      append_cancel_left (take lines.len bytes) _ _ (take-append-drop lines.len bytes ∙ sym (take-append-drop (at + len) bytes)
+      ∙ ap (λ t. t ++ after) (sym c.spell ∙ encodes-append past.read c.run ∙ ap (λ t. t ++ encode_utf8_all c.run) past.spell)
+      ∙ append_assoc (take lines.len bytes) (encode_utf8_all c.run) after) in
+      let pushed = line_push past.texts past.read c.run lines.line_ends (on.more + 1) after (subst (AreWholeLines past.texts past.read lines.line_ends) split past.whole) some c.stands.line in
+      rw (empty_stack st none) (line_begins (record { len = at + len; line_ends = n + 1 }) (record {
+        within = c.within;
+        read = past.read ++ c.run;
+        spell = c.spell;
+        texts = past.texts ++ c.run ∷ [];
+        whole = subst (λ (k : ℕ). AreWholeLines (past.texts ++ c.run ∷ []) (past.read ++ c.run) k after) count pushed;
+      }))
+
+  -- the line ends are no more than the bytes
+  few_ends : (lines : Passed) (at n : ℕ) (st : List Bracket) → HasComeTo bytes lines at n st → n ≤ at
+  few_ends lines at n st on =
+      let past = on.lines_are in
+      let before = lines_few past.texts past.read lines.line_ends (drop lines.len bytes) past.whole in
+      let holds = stands_holds (drop at bytes) modes.Free on.come.run on.more st on.come.stands in
+      omega (
+        arith,
+        on.count,
+        before,
+        holds.count,
+        line_ends-bytes on.come.run,
+        line_size lines at on.more st (StandsBefore (drop at bytes)) past on.come,
+        ap length past.spell,
+        length-take-le lines.len bytes past.within,
+      )
+
+-- the line that is open after these lines has come to this byte, which isn't plain, or the bytes end there
+pub record StandsAt (bytes : List ℕ) (lines : Passed) (at : ℕ) (p : Passing) (b : Brackets) : Type 0 where
+  pub come : HasComeTo bytes lines at p.all.line_ends (stack_of b)
+  pub marked : at < length bytes → HasMarks bytes (at + 1) p.marks
+
+-- it has come further than this byte, after bytes that were passed
+pub record HasComeFurther (bytes : List ℕ) (lines : Passed) (at : ℕ) (p : Passing) (b : Brackets) : Type 0 where
+  pub further : at < p.all.len
+  pub come : HasComeTo bytes lines p.all.len p.all.line_ends (stack_of b)
   pub marked : HasMarks bytes p.all.len p.marks
-  pub apart : tail_of (take p.all.len bytes) ≡ None
-  pub none : stack_of b ≡ []
 
-pub lines_begin : (bytes : List ℕ) (p : Passing) (b : Brackets) → p ≡ nothing_passed p.marks → HasMarks bytes 0 p.marks → stack_of b ≡ []
-    → LinesStand bytes p.all p b
-lines_begin bytes p b nothing marked none = subst (λ (q : Passed). LinesStand bytes q (record { all = q; closed = p.closed; marks = p.marks }) b)
-    (sym (ap (λ (q : Passing). q.all) nothing))
-    (record { same = refl; are = none_passed bytes; few = omega arith; marked = marked; apart = refl; none = none })
-
--- one more was passed
-pub line_added : (bytes : List ℕ) (lines : Passed) (p q : Passing) (b c : Brackets) (len : ℕ) → LinesStand bytes lines p b
-    → EndsLine bytes 0 p.all (stack_of b) len q c → LinesStand bytes q.all q c
-line_added bytes lines p q b c len past ends = record {
-  same = refl;
-  are = record {
-    within = come.within;
-    read = past.are.read ++ come.run;
-    spell = encodes-append past.are.read come.run ∙ ap (λ t. t ++ encode_utf8_all come.run) past.are.spell ∙ come.spell;
-    texts = past.are.texts ++ come.run ∷ [];
-    whole = subst (λ (k : ℕ). AreWholeLines (past.are.texts ++ come.run ∷ []) (past.are.read ++ come.run) k after) (sym come.count)
-        (line_push past.are.texts past.are.read come.run p.all.line_ends come.more after
-        (subst (AreWholeLines past.are.texts past.are.read p.all.line_ends) split past.are.whole) some line);
-  };
-  few = ends.few;
-  marked = ends.marked;
-  apart = ap tail_of (sym come.spell) ∙ tail_on-append None (take p.all.len bytes) (encode_utf8_all come.run)
-      ∙ ap (λ (o : Option Spelling). tail_on o (encode_utf8_all come.run)) past.apart ∙ tail-encoded None come.run ∙ line.tail;
-  none = ends.none;
+-- from where bytes were passed to the next one that isn't plain
+pub next_at : (bytes : List ℕ) (lines : Passed) (at : ℕ) (p : Passing) (marks : Marks) (b : Brackets)
+    → HasComeTo bytes lines p.all.len p.all.line_ends (stack_of b) → FindsNext bytes p.all.len at marks
+    → StandsAt bytes lines at (record p { marks = marks }) b
+next_at bytes lines at p marks b come next = record {
+  come = plain_on bytes lines p.all.len at p.all.line_ends (stack_of b) marks come next;
+  marked = next.rest;
 }
-  where
-    come : Comes bytes 0 p.all (stack_of b) q.all.len q.all.line_ends [] (EndsSo len (drop q.all.len bytes) (slice_index bytes (q.all.len - 1) == 13))
-    come = ends.come
 
-    after : List ℕ
-    after = drop q.all.len bytes
+pub begins_at : (bytes : List ℕ) (at : ℕ) (p : Passing) (marks : Marks) (b : Brackets) → stack_of b ≡ []
+    → p ≡ nothing_passed p.marks → FindsNext bytes 0 at marks → StandsAt bytes p.all at (record p { marks = marks }) b
+begins_at bytes at p marks b none nothing next =
+    let start = sym (ap (λ (q : Passing). q.all) nothing) in
+    next_at bytes p.all at p marks b
+    (subst (λ (q : Passed). HasComeTo bytes q q.len q.line_ends (stack_of b)) start (subst (HasComeTo bytes _ 0 0) (sym none) (line_begins bytes _ (none_passed bytes))))
+    (subst (λ (q : Passed). FindsNext bytes q.len at marks) start next)
 
-    line : IsWholeLine come.run come.more after
-    line = subst (λ (k : ℕ). IsWholeLine come.run k after) (omega arith) (come.leads modes.Free [] 0 refl (rw past.none begun)).line
+module _ (bytes : List ℕ) (lines : Passed) (at : ℕ) (p : Passing) (b : Brackets) (on : StandsAt bytes lines at p b) where
+  pub own_few : p.all.line_ends ≤ at
+  own_few = few_ends bytes lines at p.all.line_ends (stack_of b) on.come
 
-    some : 0 < length come.run
-    some =
-        let own = length-take-le p.all.len bytes past.are.within in
-        let all = length-take-le q.all.len bytes come.within in
-        some_characters come.run
-        (omega (arith, ends.further, ap length come.spell, length-append (take p.all.len bytes) (encode_utf8_all come.run), own, all))
+  -- over what was passed there
+  pub goes_on : (q : Passing) (c : Brackets) → PassesSo bytes at (at - lines.len) p.all p.closed b q c → HasComeFurther bytes lines at q c
+  goes_on q c so =
+      let far = passed_further bytes at (at - lines.len) p.all p.closed b q c so in
+      record {
+        further = far.0;
+        come = subst (λ (x : Passing). HasComeTo bytes lines x.all.len x.all.line_ends (stack_of c)) (sym so.is)
+            (passed_on bytes lines at p.all.line_ends so.len so.more so.closes (stack_of b) (stack_of c) on.come so.over);
+        marked = far.1;
+      }
 
-    split : drop p.all.len bytes ≡ encode_utf8_all come.run ++ after
-    split =
-        append_cancel_left (take p.all.len bytes) _ _
-        (take-append-drop p.all.len bytes ∙ sym (take-append-drop q.all.len bytes) ∙ ap (λ t. t ++ after) (sym come.spell)
-        ∙ append_assoc (take p.all.len bytes) (encode_utf8_all come.run) after)
+  pub ends_line : (len : ℕ) (q : Passing) (c : Brackets) → at < length bytes → EndsLineSo bytes at p.all b len q c
+      → HasComeFurther bytes q.all at q c
+  ends_line len q c within so =
+      let size : q.all.len ≡ at + len = ap (λ (x : Passed). x.len) so.is in
+      record {
+        further = omega (arith, so.ends.some, size);
+        come = subst (λ (x : Passed). HasComeTo bytes x x.len x.line_ends (stack_of c)) (sym so.is)
+            (subst (λ (k : Brackets). HasComeTo bytes (up_to p.all (at + len) 1) (at + len) (p.all.line_ends + 1) (stack_of k))
+            (sym so.kept)
+            (line_end_ends_line bytes lines at p.all.line_ends len (stack_of b) on.come within so.ends so.none));
+        marked = subst (λ (k : ℕ). HasMarks bytes k q.marks) (sym size) so.marked;
+      }

@@ -12,8 +12,9 @@ use Rattle.py_lines.specs.Private.Run.{IsRunOf, IsWholeComment, is_ascii_word, i
 use Rattle.py_lines.proofs.LineScan.AsciiRuns.{is_low_from}
 use Rattle.py_lines.proofs.LineScan.Spans.{ascii_comment, text_spans}
 use Rattle.py_lines.proofs.Text.CharacterTests.{excluded, none_of}
-use Rattle.py_lines.proofs.SimpleLines.Code.{code_low, plain_code}
+use Rattle.py_lines.proofs.SimpleLines.Code.{code_low}
 use Rattle.py_lines.proofs.SimpleLines.Comments.{comment_passed}
+use Rattle.py_lines.proofs.SimpleLines.Lines.{plain_code}
 use Rattle.py_lines.proofs.FieldScans.TextLengths.{later, rest_is, rest_of}
 use Rattle.py_lines.proofs.SimpleLines.Strings.{after, piece_at, short_ended, short_first, short_run, plain_at}
 use Rattle.py_lines.proofs.SimpleLines.FirstBytes.{first_later}

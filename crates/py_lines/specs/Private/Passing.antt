@@ -1,10 +1,7 @@
 -- Bytes of a line that are passed over at one that isn't plain: what that comes to, wherever in a line they stand.
-use Rattle.std.specs.Prelude.{◌≡◌, ℕ, ◌+◌, ◌-◌, ◌<◌, ◌≤◌, ◌⊎◌, ◌==◌, Bool, true, false, if◌then◌else◌, Option, None, Some, List, [], ◌++◌, length, take, drop, slice_index, encode_utf8_all}
-use Rattle.py_lines.specs.Character.{is_return}
-use Rattle.py_lines.specs.Piece.{ends}
+use Rattle.std.specs.Prelude.{◌≡◌, ℕ, ◌+◌, ◌-◌, ◌<◌, ◌≤◌, ◌==◌, Bool, true, false, if◌then◌else◌, List, ◌++◌, length, take, drop, slice_index, encode_utf8_all}
 use Rattle.py_lines.specs.LogicalLine.{byte_len}
 use Rattle.py_lines.specs.declared.brackets.Brackets.{Brackets}
-use Rattle.py_lines.specs.declared.class.Class.TheVariants as class
 use Rattle.py_lines.specs.declared.marks.Marks.{Marks}
 use Rattle.py_lines.specs.declared.mode.Mode.{Mode}
 use Rattle.py_lines.specs.declared.passing.Passing.{Passing}
@@ -12,8 +9,8 @@ use Rattle.py_lines.specs.declared.passing.Special.{Special}
 use Rattle.py_lines.specs.declared.passing.Special.TheVariants as special
 use Rattle.py_lines.specs.declared.plain_strings.Passed.{Passed}
 use Rattle.py_lines.specs.Private.Machine.{Bracket}
-use Rattle.py_lines.specs.Private.Marks.{HasMarks, is_of_class}
-use Rattle.py_lines.specs.Private.Outline.{BeginsOuterEnd, IsFreeAfter, IsLine, StandsBefore, StandsClosed, tail_of}
+use Rattle.py_lines.specs.Private.Marks.{HasMarks}
+use Rattle.py_lines.specs.Private.Outline.{BeginsOuterEnd, StandsBefore, StandsClosed, tail_of}
 use Rattle.py_lines.specs.Private.Scan.{depth_of, none_open, stack_of}
 
 -- nothing was passed
@@ -80,52 +77,3 @@ IsMet false at old result new = (result ≡ special.Unpassed) × (new ≡ old)
 -- it, or the piece that it begins, was passed, where few brackets are open, which stay as they are
 abbrev pub PassesMarked : List ℕ → ℕ → Passing → Passing → Type 0
 PassesMarked bytes at old new = (place : ℕ) (b : Brackets) → depth_of b ≤ 100 → PassesSo bytes at place old.all old.closed b new b
-
--- so many bytes go up to an operator that is no bracket, and with it; or none
-abbrev pub IsOperatorEnd : List ℕ → ℕ → Type 0
-IsOperatorEnd plain len = (len ≤ length plain) × ((len ≡ 0) ⊎ (is_of_class class.Operator (slice_index plain (len - 1)) ≡ true))
-
--- up to the last operator among the plain bytes that stand before this one they were passed, if there is one
-abbrev pub PassesOperators : List ℕ → ℕ → Passing → Passing → Type 0
-PassesOperators bytes at old new =
-    (new ≡ old)
-    ⊎ ((len : ℕ) × (0 < len) × IsOperatorEnd (take (at - old.all.len) (drop old.all.len bytes)) len
-    × (new ≡ passed_to old (old.all.len + len) 0 true))
-
--- how a line stands: in the mode that it began in, after such characters with so many line ends, where these brackets are open
-abbrev pub Stand : Type 1
-Stand = Mode → List ℕ → ℕ → List Bracket → Type 0
-
--- a line in which no piece is open after these bytes, and which has so many bytes there, comes to this byte, with so many line ends
--- before it in all, and stands so
-pub record Comes (bytes : List ℕ) (place : ℕ) (from : Passed) (st : List Bracket) (at n : ℕ) (after : List Bracket) (stands : Stand) : Type 0 where
-  pub within : at ≤ length bytes
-  pub more : ℕ
-  pub count : n ≡ from.line_ends + more
-  pub run : List ℕ
-  pub spell : take from.len bytes ++ encode_utf8_all run ≡ take at bytes
-  pub leads : (m : Mode) (read : List ℕ) (k : ℕ) → byte_len read ≡ place → IsFreeAfter m read k st → stands m (read ++ run) (k + more) after
-
--- a line has ended after these characters, with so many bytes of them, of which CR may be the last
-pub record EndsSo (len : ℕ) (after : List ℕ) (returned : Bool) (m : Mode) (read : List ℕ) (n : ℕ) (st : List Bracket) : Type 0 where
-  pub line : IsLine m read n after
-  pub size : line.len ≡ len
-  pub returns : returned ≡ ends is_return read
-
--- the line was passed up to its end, and so many bytes are its line end
-pub record EndsLine (bytes : List ℕ) (place : ℕ) (from : Passed) (st : List Bracket) (len : ℕ) (new : Passing) (c : Brackets) : Type 0 where
-  pub further : from.len < new.all.len
-  pub few : new.all.line_ends ≤ new.all.len
-  pub marked : HasMarks bytes new.all.len new.marks
-  pub none : stack_of c ≡ []
-  pub come : Comes bytes place from st new.all.len new.all.line_ends []
-      (EndsSo len (drop new.all.len bytes) (slice_index bytes (new.all.len - 1) == 13))
-
--- or as far as it is known that no piece is open
-pub record LeavesLine (bytes : List ℕ) (place : ℕ) (from : Passed) (st : List Bracket) (new : Passing) (c : Brackets) : Type 0 where
-  pub few : new.closed.line_ends ≤ length bytes
-  pub come : Comes bytes place from st new.closed.len new.closed.line_ends (stack_of c) IsFreeAfter
-
-abbrev pub PassesLine : List ℕ → ℕ → Passed → List Bracket → Option ℕ → Passing → Brackets → Type 0
-PassesLine bytes place from st None new c = LeavesLine bytes place from st new c
-PassesLine bytes place from st (Some len) new c = EndsLine bytes place from st len new c

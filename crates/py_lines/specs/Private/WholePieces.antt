@@ -1,12 +1,16 @@
 -- Whole pieces, which the scan of a line passes over: what they leave.
-use Rattle.std.specs.Prelude.{ℕ, ◌+◌, ◌≤◌, Bool, List, length}
+use Rattle.std.specs.Prelude.{◌≡◌, ℕ, ◌+◌, ◌-◌, ◌≤◌, ◌⊎◌, Bool, true, List, length, nat_lt, take, drop, slice_index}
+use Rattle.py_lines.specs.declared.class.Class.TheVariants as class
 use Rattle.py_lines.specs.declared.mode.Mode.{Mode}
 use Rattle.py_lines.specs.declared.mode.Mode.TheVariants as modes
+use Rattle.py_lines.specs.declared.passing.Passing.{Passing}
 use Rattle.py_lines.specs.declared.plain_strings.Passed.{Passed}
 use Rattle.py_lines.specs.declared.scan.Scan.{Scan}
 use Rattle.py_lines.specs.declared.scan.Stop.TheVariants as stops
 use Rattle.py_lines.specs.declared.whole_pieces.Left.{Left}
 use Rattle.py_lines.specs.declared.whole_pieces.Left.TheVariants as left
+use Rattle.py_lines.specs.Private.Marks.{is_of_class}
+use Rattle.py_lines.specs.Private.Passing.{passed_to}
 use Rattle.py_lines.specs.Private.Run.{Reached}
 use Rattle.py_lines.specs.Private.Scan.{ScansIn}
 
@@ -19,6 +23,16 @@ IsNoLonger bytes (left.LineEnd len) = Unit {0}
 abbrev pub LeavesOff : Mode → ℕ → List ℕ → Scan → Left → Type 0
 LeavesOff m line whole scan (left.Bytes rest) = Reached m line whole scan rest.now
 LeavesOff m line whole scan (left.LineEnd len) = ScansIn m line whole scan (stops.LineEnd len)
+
+-- so many bytes go up to an operator that is no bracket, and with it; or none
+abbrev pub IsOperatorEnd : List ℕ → ℕ → Type 0
+IsOperatorEnd plain len = (len ≤ length plain) × ((len ≡ 0) ⊎ (is_of_class class.Operator (slice_index plain (len - 1)) ≡ true))
+
+-- up to the last operator among the plain bytes that stand before this one, if there is one, they were passed, and close what was
+abbrev pub PassesOperators : List ℕ → ℕ → Passing → Passing → Type 0
+PassesOperators bytes at old new =
+    (len : ℕ) × IsOperatorEnd (take (at - old.all.len) (drop old.all.len bytes)) len
+    × (new ≡ passed_to old (old.all.len + len) 0 (nat_lt 0 len))
 
 -- the scan where no piece is open after these bytes; CR may stand last
 abbrev pub closed_after : Scan → Passed → Bool → Scan

@@ -1,9 +1,9 @@
 use Rattle.std.proofs.Common.{◌-◌, length}
-use Rattle.py_lines.proofs.SimpleLines.Lines.{LinesStand}
+use Rattle.py_lines.proofs.SimpleLines.Lines.{StandsAt}
 use Rattle.py_lines.proofs.outline.simple_lines.Given as goal
 
-abbrev pub invariant-lines : goal.invariant-lines
-invariant-lines l = LinesStand l.bytes l.lines l.passing l.brackets
+abbrev pub invariant-specials : goal.invariant-specials
+invariant-specials l = StandsAt l.bytes l.lines l.at l.passing l.brackets
 
-abbrev pub decreases-lines : goal.decreases-lines
-decreases-lines l = length l.bytes - l.passing.all.len
+abbrev pub decreases-specials : goal.decreases-specials
+decreases-specials l = length l.bytes - l.at

@@ -1,21 +1,58 @@
-use Rattle.std.proofs.Common.{ap, sym, subst, ◌∙◌}
-use Rattle.std.proofs.lemmas.List.{take_rest}
-use Rattle.py_lines.specs.declared.scan.Scan.{Scan}
-use Rattle.py_lines.specs.declared.scan.Stop.TheVariants as stops
-use Rattle.py_lines.specs.Private.Scan.{ScansIn}
+use Rattle.std.proofs.Common.{refl, sym, ap, ◌∙◌, arith}
 use Rattle.py_lines.specs.declared.passing.Passing.{Passing}
 use Rattle.py_lines.proofs.LineScan.AsciiRuns.{free_is}
-use Rattle.py_lines.proofs.LineScan.WholePieces.{closed_reached, line_reached}
+use Rattle.py_lines.proofs.LineScan.WholePieces.{StandsAt, begins_passing, operators_passed, stands_ended, stands_left, stands_next}
+use Rattle.py_lines.proofs.SimpleLines.Passing.{passed_further}
+use Rattle.py_lines.proofs.scan.Scan.take_pieces.Goals.{After-pass_operators-2, else-specials-test, then-specials-test+in-Unpassed, then-passing, else-passing}
 use Rattle.py_lines.proofs.scan.Scan.take_pieces.Goals as goal
 
-pub returns-in-Some-clause-reached : goal.returns-in-Some-clause-reached
-returns-in-Some-clause-reached c = λ m line whole start r.
-    subst (λ (s : Scan). ScansIn m line whole s (stops.LineEnd c.in-Some.len)) (sym c.close_after.ensures)
-    (line_reached c.args.self.now c.args.bytes.now (free_is _ (sym c.is_free.ensures ∙ c.if-not-is_free.false)) m line whole start r c.pass_line.new.self
-    c.pass_line.new.brackets c.in-Some.len (rw (← ap (λ (p : Passing). p.all) c.new-passing.ensures.nothing) c.in-Some.ensures))
+pub specials-init : goal.specials-init
+specials-init c = record {
+  same = refl;
+  passed = begins_passing c.args.self.now c.args.bytes.now c.new-passing.result
+      (free_is c.args.self.now.piece.mode (sym c.is_free.ensures ∙ c.if-not-is_free.false)) c.new-passing.ensures.nothing;
+  next = rw (ap (λ (p : Passing). p.all.len) c.new-passing.ensures.nothing) (c.next-at.ensures 0 c.new-passing.ensures.marked);
+}
 
-pub returns-in-None-clause-reached : goal.returns-in-None-clause-reached
-returns-in-None-clause-reached c = λ m line whole start r.
-    rw (c.close_after-in-None.ensures, take_rest c.args.bytes.now c.pass_line.new.self.closed.len)
-    (closed_reached c.args.self.now c.args.bytes.now (free_is _ (sym c.is_free.ensures ∙ c.if-not-is_free.false)) m line whole start r
-    c.pass_line.new.self c.pass_line.new.brackets (rw (← ap (λ (p : Passing). p.all) c.new-passing.ensures.nothing) c.in-None.ensures))
+pub specials-smaller : goal.specials-smaller
+specials-smaller c =
+    let q = c.pass.new.self in
+    let far = passed_further _ _ _ _ _ _ q _ c.in-Passed.ensures in
+    let next = c.next-at-in-Passed.ensures q.all.len far.1 in
+    let further = far.0 in
+    omega (arith, further, next.after, next.within)
+
+pub specials-preserved : goal.specials-preserved
+specials-preserved c =
+    let q = c.pass.new.self in
+    let far = passed_further _ _ _ _ _ _ q _ c.in-Passed.ensures in
+    stands_next c.args.self.now c.args.bytes.now c.specials.at c.specials.self c.if-passing.passing (elim c.if-passing.branch [
+      | then-passing w ↦ rw w.passing-is (operators_passed _ _ _ _ _ c.specials.invariant _ w.pass_operators.ensures)
+      | else-passing w ↦ rw w.passing-is c.specials.invariant
+    ]) c.pass.new.brackets q
+    c.next-at-in-Passed.result c.next-at-in-Passed.new.self c.in-Passed.ensures (c.next-at-in-Passed.ensures q.all.len far.1)
+
+pub returns-in-LineEnd-clause-reached : goal.returns-in-LineEnd-clause-reached
+returns-in-LineEnd-clause-reached c =
+    stands_ended c.args.self.now c.args.bytes.now c.specials.at c.specials.self c.if-passing.passing (elim c.if-passing.branch [
+      | then-passing w ↦ rw w.passing-is (operators_passed _ _ _ _ _ c.specials.invariant _ w.pass_operators.ensures)
+      | else-passing w ↦ rw w.passing-is c.specials.invariant
+    ]) c.in-LineEnd.len
+    c.close_after.new.self c.pass.new.self c.pass.new.brackets c.specials-test.true c.in-LineEnd.ensures c.close_after.ensures
+
+-- where the loop has ended
+stands : (c : After-pass_operators-2)
+    → StandsAt c.args.self.now c.args.bytes.now c.specials.at c.specials-test.self c.specials-test.passing
+stands c = elim c.specials-test.branch [
+  | else-specials-test w ↦ rw (w.self-is, w.passing-is) c.specials.invariant
+  | then-specials-test+in-Unpassed w ↦ rw (w.self-is, w.passing-is, w.in-Unpassed.ensures.1, w.in-Unpassed.ensures.0) (elim w.if-passing.branch [
+    | then-passing v ↦ rw v.passing-is (operators_passed _ _ _ _ _ c.specials.invariant _ v.pass_operators.ensures)
+    | else-passing v ↦ rw v.passing-is c.specials.invariant
+  ])
+]
+
+pub returns-clause-reached : goal.returns-clause-reached
+returns-clause-reached c =
+    stands_left c.args.self.now c.args.bytes.now c.specials.at c.specials-test.self c.pass_operators-2.new.passing
+    (operators_passed _ _ _ _ _ (stands (goal.at.returns-clause-reached c).After-pass_operators-2) _ c.pass_operators-2.ensures)
+    c.close_after-2.new.self c.close_after-2.ensures

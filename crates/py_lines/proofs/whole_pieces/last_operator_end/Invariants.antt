@@ -1,5 +1,5 @@
 use Rattle.std.proofs.Common.{◌≤◌, length}
-use Rattle.py_lines.proofs.passing.last_operator_end.Given as goal
+use Rattle.py_lines.proofs.whole_pieces.last_operator_end.Given as goal
 
 abbrev pub invariant-loop-len : goal.invariant-loop-len
 invariant-loop-len l = l.len ≤ length l.plain
