@@ -36,7 +36,7 @@ use Rattle.py_lines.specs.Piece.{Piece, spelled}
 use Rattle.py_lines.specs.declared.class.Class.TheVariants as class
 use Rattle.py_lines.specs.Private.Marks.{is_of_class}
 use Rattle.py_lines.specs.Private.Run.{IsRunOf, is_ascii_word, is_code_byte, is_code_sign}
-use Rattle.py_lines.specs.Private.Passing.{IsOperatorEnd}
+use Rattle.py_lines.specs.Private.WholePieces.{IsOperatorEnd}
 
 -- what a character is that passes
 record Keeps (m : FieldMode) (c : ℕ) : Type 0 where
