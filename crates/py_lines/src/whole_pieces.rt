@@ -1,6 +1,6 @@
 //! Pieces that bytes hold whole. After closed ones they are passed at once, from one byte that isn't plain to the next.
 
-ghost use Rattle.std.specs.Prelude.{◌≡◌, ◌+◌, ◌<◌, ◌≤◌, ◌^◌, length};
+ghost use Rattle.std.specs.Prelude.{◌≡◌, ◌+◌, ◌<◌, ◌≤◌, ◌^◌, ◌⊎◌, length};
 ghost use Rattle.py_lines.specs.Private.Run.{WhereverReached};
 ghost use Rattle.py_lines.specs.Private.WholePieces.{IsNoLonger, IsOperatorEnd, LeavesOff, PassesOperators, closed_after};
 
@@ -44,6 +44,20 @@ fn pass_operators(passing: &mut Passing, bytes: &[u8], at: usize)
     passing.pass_to(to, 0, len > 0);
 }
 
+/// The same, where what was passed has not closed itself, as an empty string.
+#[inline(always)]
+fn close_passed(passing: &mut Passing, bytes: &[u8], at: usize)
+    requires after { passing.old.all.len ≤ at }
+    requires within { at ≤ length bytes.now }
+    requires few { passing.old.all.line_ends ≤ at }
+    ensures { (passing.new ≡ passing.old)
+        ⊎ PassesOperators bytes.now at passing.old passing.new }
+{
+    if passing.closed.len < passing.all.len {
+        pass_operators(passing, bytes, at);
+    }
+}
+
 impl Scan {
     /// The bytes were passed, and no piece is open after them. CR may stand last.
     #[inline(always)]
@@ -61,9 +75,8 @@ impl Scan {
         };
     }
 
-    /// Takes pieces, as long as they follow one another, up to the line's end. It stops at the last place where all are closed. A piece
-    /// that has not closed itself, as an empty string, is closed by the next operator: so no such place is missed, and no byte is passed
-    /// twice.
+    /// Takes pieces, as long as they follow one another, up to the line's end. It stops at a place where all are closed. A piece that has
+    /// not closed itself, as an empty string, is closed by the next operator: else lists of such pieces would be passed again and again.
     #[inline(always)]
     pub fn take_pieces<'s>(&mut self, bytes: &'s [u8]) -> Left<'s>
         requires bytes { self.old.stop + length bytes.now < 2 ^ 64 }
@@ -78,11 +91,11 @@ impl Scan {
         let mut passing = Passing::new(bytes);
         let mut at = passing.marks.next(bytes);
         'specials: while at < bytes.len() {
-            if passing.closed.len < passing.all.len {
-                pass_operators(&mut passing, bytes, at);
-            }
             match passing.pass(&mut self.brackets, bytes, at, self.stop + at) {
-                Special::Passed => at = passing.marks.next(bytes),
+                Special::Passed => {
+                    at = passing.marks.next(bytes);
+                    close_passed(&mut passing, bytes, at);
+                }
                 Special::LineEnd(len) => {
                     self.close_after(passing.all, bytes[passing.all.len - 1] == b'\r');
                     return Left::LineEnd(len);
