@@ -2,10 +2,11 @@
 use Rattle.std.proofs.Common.{◌≡◌, ℕ, ◌+◌, ◌-◌, ◌<◌, ◌≤◌, Bool, true, false, not, ◌||◌, Option, None, Some, List, [], ◌∷◌, ◌++◌, length, nat_lt, refl, sym, ap, ◌∙◌, subst, inl, inr, append_assoc, append-nil, arith}
 use Rattle.std.proofs.lemmas.Bool.{both_ways, cond_both, ltb-true, ltb-false}
 use Rattle.py_lines.specs.Piece.{operator, Piece, spelled}
+use Rattle.py_lines.specs.Balance as balance
 use Rattle.py_lines.specs.Balance.{is_opener, is_closer, depth_after, depth_through}
 use Rattle.py_lines.specs.Fields.{IsShallow}
 use Rattle.py_lines.specs.Faults.{IsFieldDue, OpensBraceTooDeep, InOpenBracket, Unfinished, open_brace, open_short, open_long, open_inside, IsOpenAtEnd}
-use Rattle.py_lines.specs.OpenFields.{IsSlash, AreBegun, BeginsList, IsPlainShortPrefix, IsPlainLongPrefix}
+use Rattle.py_lines.specs.OpenFields.{IsSlash, AreBegun, BeginsList, IsPlainShortPrefix, IsPlainLongPrefix, in_field, InFieldCode}
 use Rattle.py_lines.specs.LogicalLine.{byte_len}
 use Rattle.py_lines.specs.FieldStrings.{Host, Place, literal, specification, begins_open}
 use Rattle.py_lines.specs.declared.mode.Mode.{Mode}
@@ -19,7 +20,7 @@ use Rattle.py_lines.proofs.FieldSoundness.OpenLists.{Opens, level, inside, opens
 use Rattle.py_lines.proofs.FieldSoundness.Holds.{Limit, HoldsAt, HoldsParts, HoldsList, HoldsLevels, IsFieldSound}
 use Rattle.py_lines.proofs.FieldSoundness.Lists.{not_specification, stands_at}
 use Rattle.py_lines.proofs.FieldSoundness.WholeTexts.{code_at_end, list_ends, two_hundred}
-use Rattle.py_lines.proofs.FieldSoundness.OpenEnds.{begun_before, parts_at, stands_open, list_begins, literal_is_open, opened_is_open, specification_is_open, short_is_open, long_is_open, piece_open, code_open_at, brace_is_open}
+use Rattle.py_lines.proofs.FieldSoundness.OpenEnds.{begun_before, parts_at, stands_open, list_begins, literal_is_open, opened_is_open, specification_is_open, short_is_open, long_is_open, piece_open, code_open_at}
 
 -- within the limit at most 200 brackets and fields are open
 shallow_through : (depth : ℕ) (ps : List Piece) → depth ≤ 200 → IsShallow depth ps → depth_through depth ps ≤ 200
@@ -78,9 +79,8 @@ bracket_is_open limit outer done o os m held read sound may =
 pub due_at : (limit : Limit) (outer : List Level) (done : List Piece) (openers : List ℕ) (m : FieldMode) (held read : List ℕ) → IsFieldSound limit (field_state outer done openers m held) read → (host : Host) (place : Place) (text after more : List ℕ) → text_place m ≡ place → text ++ (123 ∷ after) ≡ held ++ more → (place ≡ literal → begins_open after ≡ false) → HoldsParts limit outer (length openers + levels_open outer) host place false text (123 ∷ []) → IsFieldDue place (length openers + levels_open outer) (before place outer ++ (spelled done ++ text)) after
 due_at limit outer done openers m held read sound host place text after more at same single h =
     let depth = length openers + levels_open outer in
-    let list = subst (λ p. HoldsList limit outer p done openers held) at sound.list in
-    let levels = subst (λ p. HoldsLevels limit p outer (spelled done ++ held)) at sound.levels in
-    let so = stands_open limit place outer done openers host false text (123 ∷ after) held more same list (parts_at limit outer depth host place false text (123 ∷ []) after h) levels in
+    let here = stands_at limit outer done openers m held read place sound at in
+    let so = stands_open limit place outer done openers host false text (123 ∷ after) held more same here.list (parts_at limit outer depth host place false text (123 ∷ []) after h) here.levels in
     record {
       outside = so.outside;
       base = so.base;
@@ -97,23 +97,29 @@ due_at limit outer done openers m held read sound host place text after more at 
       deep = so.depth_is;
     }
 
--- a field that would open at depth 200, with its `{` directly before what follows
+-- directly after the `{` of a literal part: it may open a field before what follows
+brace_due : (limit : Limit) (outer : List Level) (done : List Piece) (openers : List ℕ) (host : Host) (named : Bool) (held read : List ℕ) → IsFieldSound limit (field_state outer done openers (body host literal named after_brace) held) read → (after : List ℕ) → begins_open after ≡ false → (start : List ℕ) × (start ++ 123 ∷ [] ≡ read) × IsFieldDue literal (length openers + levels_open outer) start after
+brace_due limit outer done openers host named held read sound after single =
+    let (text, is, at, unnamed, h) = sound.mode in
+    let parts = subst (λ n. HoldsParts limit outer (length openers + levels_open outer) host literal n text (123 ∷ [])) unnamed h in
+    let spell : (before literal outer ++ (spelled done ++ text)) ++ 123 ∷ [] ≡ read = (simp append_assoc) ∙ ap (λ t. before literal outer ++ (spelled done ++ t)) (sym is) ∙ sound.spell in
+    let same : text ++ (123 ∷ after) ≡ held ++ after = sym (append_assoc text (123 ∷ []) after) ∙ ap (λ t. t ++ after) (sym is) in
+    (_, spell, due_at limit outer done openers (body host literal named after_brace) held read sound host literal text after after refl same (λ at. single) parts)
+
+-- a field would open at depth 200
 pub brace_is_due : (limit : Limit) (outer : List Level) (done : List Piece) (openers : List ℕ) (host : Host) (named : Bool) (held read : List ℕ) → IsFieldSound limit (field_state outer done openers (body host literal named after_brace) held) read → (after : List ℕ) → begins_open after ≡ false → length openers + levels_open outer ≡ 200 → (offset : ℕ) × OpensBraceTooDeep read after offset
 brace_is_due limit outer done openers host named held read sound after single full =
-    let (text, is, at, unnamed, h) = sound.mode in
-    let depth = length openers + levels_open outer in
-    let start : List ℕ = before literal outer ++ (spelled done ++ text) in
-    let parts = subst (λ n. HoldsParts limit outer depth host literal n text (123 ∷ [])) unnamed h in
-    let due = due_at limit outer done openers (body host literal named after_brace) held read sound host literal text after after refl (sym (append_assoc text (123 ∷ []) after) ∙ ap (λ t. t ++ after) (sym is)) (λ same. single) parts in (
-      byte_len start,
-      record {
-        start = start;
-        spell = append_assoc (before literal outer) (spelled done ++ text) (123 ∷ [])
-            ∙ ap (λ t. before literal outer ++ t) (append_assoc (spelled done) text (123 ∷ []) ∙ ap (λ t. spelled done ++ t) (sym is)) ∙ sound.spell;
-        due = subst (λ n. IsFieldDue literal n start after) full due;
-        place = refl;
-      },
-    )
+    let (start, spell, due) = brace_due limit outer done openers host named held read sound after single in
+    (byte_len start, record { start = start; spell = spell; due = subst (λ n. IsFieldDue literal n start after) full due; place = refl })
+
+-- and at the end it is open
+brace_is_open : (limit : Limit) (outer : List Level) (done : List Piece) (openers : List ℕ) (host : Host) (named : Bool) (held read : List ℕ) → IsFieldSound limit (field_state outer done openers (body host literal named after_brace) held) read → (start : List ℕ) × InFieldCode read start
+brace_is_open limit outer done openers host named held read sound =
+    let depth = length openers + levels_open outer + 1 in
+    let (start, spell, due) = brace_due limit outer done openers host named held read sound [] refl in
+    let list = in_field (start ++ 123 ∷ []) [] depth due.outside due.base due.pieces due.front due.host due.spot (ap (λ t. t ++ 123 ∷ []) (sym due.spell) ∙ simp append_assoc) due.list due.begun due.string due.may (omega (arith, due.deep)) in
+    let begun : AreBegun depth [] [] = record { fit = tt; others = []; balanced = balance.none [] refl; inside = λ deep. (refl, tt) } in
+    (start, record { depth = depth; pieces = []; list = list; begun = begun; deep = omega arith; balanced = balance.none [] refl; spell = spell })
 
 -- no `{` of a specification waits for the next character
 pub no_brace_at : (outer : List Level) (depth : ℕ) (held : List ℕ) (host : Host) (named : Bool) (at : At) → HoldsAt two_hundred outer depth host specification named at held → at ≡ after_brace → ⊥

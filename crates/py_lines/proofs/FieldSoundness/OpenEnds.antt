@@ -71,7 +71,7 @@ pub record IsOpenBefore (place : Place) (outer : List Level) (done : List Piece)
   pub depth_is : base + depth_through 0 pieces + spot.specifications ≡ length openers + levels_open outer
 
 -- directly after the `{` of a field, a list begins
-pub begins_in : (l : Level) (ls : List Level) (text rest : List ℕ) → l.front ≡ text ++ byte "{" ∷ [] → (l.place ≡ literal → begins_open rest ≡ false) → IsOpenBefore l.place ls l.done l.openers l.host false text (byte "{" ∷ rest) → BeginsList (before literal (l ∷ ls)) rest (levels_open (l ∷ ls))
+begins_in : (l : Level) (ls : List Level) (text rest : List ℕ) → l.front ≡ text ++ byte "{" ∷ [] → (l.place ≡ literal → begins_open rest ≡ false) → IsOpenBefore l.place ls l.done l.openers l.host false text (byte "{" ∷ rest) → BeginsList (before literal (l ∷ ls)) rest (levels_open (l ∷ ls))
 begins_in l ls text rest front single inner =
     in_field (before literal (l ∷ ls)) rest (levels_open (l ∷ ls)) inner.outside inner.base inner.pieces text l.host inner.spot
     (ap (λ t. before l.place ls ++ (spelled l.done ++ t)) front ∙ (simp append_assoc) ∙ ap (λ t. t ++ (text ++ 123 ∷ [])) inner.before_is ∙ simp append_assoc) inner.list inner.begun inner.string
@@ -296,25 +296,3 @@ code_open_at limit l ls done m held read start sound may brace =
       balanced = balanced_at [] pieces refl ends.opens;
       spell = sym (append_assoc start (123 ∷ []) (spelled pieces)) ∙ ap (λ t. t ++ spelled pieces) (sym brace) ∙ ap (λ t. before literal (l ∷ ls) ++ t) ends.spell ∙ here.spell;
     }
-
--- and directly after its `{`
-pub brace_is_open : (limit : Limit) (outer : List Level) (done : List Piece) (openers : List ℕ) (host : Host) (named : Bool) (held read : List ℕ) → IsFieldSound limit (field_state outer done openers (body host literal named after_brace) held) read → (start : List ℕ) × InFieldCode read start
-brace_is_open limit outer done openers host named held read sound =
-    let (text, is, at, unnamed, h) = sound.mode in
-    let depth = length openers + levels_open outer in
-    let level : Level = record { done = done; openers = openers; host = host; place = literal; front = held } in
-    let parts = subst (λ n. PartsAt limit outer depth host literal n text (123 ∷ [])) unnamed (parts_at limit outer depth host literal named text (123 ∷ []) [] h) in
-    let so = stands_open limit literal outer done openers host false text (123 ∷ []) held [] (sym is ∙ sym (append-nil held)) sound.list parts sound.levels in
-    let start = before literal outer ++ (spelled done ++ text) in
-    let brace : before literal outer ++ (spelled done ++ held) ≡ start ++ 123 ∷ [] = ap (λ t. before literal outer ++ (spelled done ++ t)) is ∙ simp append_assoc in (
-      start,
-      record {
-        depth = levels_open (level ∷ outer);
-        pieces = [];
-        list = subst (λ t. BeginsList t [] (levels_open (level ∷ outer))) brace (begins_in level outer text [] is (λ same. refl) so);
-        begun = record { fit = tt; others = []; balanced = balance.none [] refl; inside = λ deep. (refl, tt) };
-        deep = omega arith;
-        balanced = balance.none [] refl;
-        spell = sym brace ∙ sound.spell;
-      },
-    )
