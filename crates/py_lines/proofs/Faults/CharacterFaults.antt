@@ -1,6 +1,6 @@
 -- Where the machine with fields can't go on, or has no room to, the text dies: its state and the character tell the cause of the
 -- fault, and the fault's byte.
-use Rattle.std.proofs.Common.{◌≡◌, ℕ, Bool, true, false, not, ◌&&◌, ◌||◌, ◌==◌, List, [], ◌⊎◌, inl, inr, refl, sym, ap, ◌∙◌, subst, ◌+◌, None, Some, ◌∷◌, ◌++◌, length, append_assoc, append-nil, arith, ◌≤◌, nat_lt}
+use Rattle.std.proofs.Common.{⊎_elim, ◌≡◌, ℕ, Bool, true, false, not, ◌&&◌, ◌||◌, ◌==◌, List, [], ◌⊎◌, inl, inr, refl, sym, ap, ◌∙◌, subst, ◌+◌, None, Some, ◌∷◌, ◌++◌, length, append_assoc, append-nil, arith, ◌≤◌, nat_lt}
 use Rattle.std.specs.Prelude.{if◌then◌else◌, codes}
 use Rattle.std.proofs.lemmas.Bool.{both_ways, cond_both, and_from, or_parts, or_from, not_from_false, eq-eqb, and_parts, eqb-true, ltb-false}
 use Rattle.py_lines.specs.Character.{is_quote, is_line_feed, is_return, is_break}
@@ -212,13 +212,11 @@ module _ (read : List ℕ) (s : FieldScanned) (steps : field_steps_from (Some fi
   -- where a cause fits, its byte is that of the state
   pub place_is : (cause : Cause) (c offset : ℕ) → Explains cause read c offset → offset ≡ cause_place s cause
   place_is brace_too_deep c offset fits = omega (arith, fits.place, brace_more fits.start read fits.spell, text_is read s steps room)
-  place_is breaks_string c offset fits = go fits.inside
-    where
-      go : InOpenShort read fits.start ⊎ InShortSpecification read fits.start → offset ≡ piece_start s
-      go (inl short) = (end_named read s steps room open_short offset (fits.start, short, fits.place)).1
-      go (inr is) =
-          let own = comes_to read _ s (specification_comes is.host read is.field is.inside) steps in
-          fits.place ∙ ap byte_len (sym (own.0.string_is ∙ own.1 ∙ is.before)) ∙ ap (λ p. byte_len (before p s.outer ++ spelled s.done)) (sym (specification_says s.outer s.openers is.host s.mode own.0.mode_is).2)
+  place_is breaks_string c offset fits =
+      ⊎_elim (λ short. (end_named read s steps room open_short offset (fits.start, short, fits.place)).1)
+      (λ is.
+      let own = comes_to read _ s (specification_comes is.host read is.field is.inside) steps in
+      fits.place ∙ ap byte_len (sym (own.0.string_is ∙ own.1 ∙ is.before)) ∙ ap (λ p. byte_len (before p s.outer ++ spelled s.done)) (sym (specification_says s.outer s.openers is.host s.mode own.0.mode_is).2)) fits.inside
   place_is breaks_join c offset fits = (end_named read s steps room open_join offset (fits.start, fits.after, fits.place)).1
   place_is closes_wrong c offset fits = fits.place ∙ sym (text_is read s steps room)
   place_is opens_too_deep c offset fits = fits.place ∙ sym (text_is read s steps room)
@@ -324,15 +322,14 @@ module _ (s : FieldScanned) (read : List ℕ) (c : ℕ) (after : List ℕ) (step
 
   -- a line end that is refused
   break_fits : is_deep ≡ false → is_break c ≡ true → (offset : ℕ) × BreaksString read c offset
-  break_fits shallow break = inside (short_here shallow break)
-    where
-      inside : IsShortHere s.mode → (offset : ℕ) × BreaksString read c offset
-      inside (inl short) =
-          let (offset, (start, is, place)) = subst (EndsSo s read) (short_unfinished s.outer s.openers s.mode short).0 (open_now read s steps room) in
-          (offset, record { start = start; breaks = break; inside = inl is; place = place })
-      inside (inr (host, is, short)) =
-          let own = short_specification s read c sound steps s.mode host is short sound in
-          (byte_len own.0, record { start = own.0; breaks = break; inside = inr own.1; place = refl })
+  break_fits shallow break =
+      ⊎_elim
+      (λ short.
+      let (offset, (start, is, place)) = subst (EndsSo s read) (short_unfinished s.outer s.openers s.mode short).0 (open_now read s steps room) in
+      (offset, record { start = start; breaks = break; inside = inl is; place = place }))
+      (λ (host, is, short).
+      let own = short_specification s read c sound steps s.mode host is short sound in
+      (byte_len own.0, record { start = own.0; breaks = break; inside = inr own.1; place = refl })) (short_here shallow break)
 
   -- the character opens a field at depth 200, in a specification
   opens_due : (m : FieldMode) (h : Host) → text_place m ≡ specification → field_move m s.held c ≡ opens_field h → IsFieldSound two_hundred (field_state s.outer s.done s.openers m s.held) read → frames s ≡ 200 → IsFieldDue specification 200 read []

@@ -126,15 +126,12 @@ literal_readies : (Room : ℕ → Type 0) (outer : List Level) (done : List Piec
 unfolding field_move body_move between_move
 literal_readies Room outer done openers host named held quotes = go host.is_long refl
   where
-    q : ℕ
-    q = host.quote
-
     go : (b : Bool) → host.is_long ≡ b → Readies Room (field_state outer done openers (body host literal named between) held)
-    go false short = closes_last Room _ q (quote_one q quotes) (rw (eq-eqb q q refl, short))
+    go false short = closes_last Room _ host.quote (quote_one host.quote quotes) (rw (eq-eqb host.quote host.quote refl, short))
     go true long =
-        grows_first Room _ (body host literal named after_one) q (quote_one q quotes) (rw (eq-eqb q q refl, long))
-        (grows_first Room _ (body host literal named after_two) q (quote_one q quotes) (rw (eq-eqb q q refl, long))
-        (closes_last Room _ q (quote_one q quotes) (rw (eq-eqb q q refl, long))))
+        grows_first Room _ (body host literal named after_one) host.quote (quote_one host.quote quotes) (rw (eq-eqb host.quote host.quote refl, long))
+        (grows_first Room _ (body host literal named after_two) host.quote (quote_one host.quote quotes) (rw (eq-eqb host.quote host.quote refl, long))
+        (closes_last Room _ host.quote (quote_one host.quote quotes) (rw (eq-eqb host.quote host.quote refl, long))))
 
 -- a letter, and `}`, in a string
 letter_moves : (host : Host) (place : Place) (named : Bool) (at : At) (held : List ℕ) → is_quote host.quote ≡ true → (at ≡ after_brace → ⊥) → field_move (body host place named at) held 97 ≡ grows (body host place named between)
