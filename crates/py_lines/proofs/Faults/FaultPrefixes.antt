@@ -1,5 +1,5 @@
 -- The place of a fault of a text with fields stands after some characters of the text.
-use Rattle.std.proofs.Common.{◌≡◌, ℕ, List, [], ◌∷◌, ◌++◌, sym, ap, ◌∙◌, inl, inr, ◌⊎◌, append_assoc, append-nil}
+use Rattle.std.proofs.Common.{⊎_elim, ◌≡◌, ℕ, List, [], ◌∷◌, ◌++◌, sym, ap, ◌∙◌, inl, inr, ◌⊎◌, append_assoc, append-nil}
 use Rattle.std.specs.Str.{byte}
 use Rattle.py_lines.specs.Piece.{spelled}
 use Rattle.py_lines.specs.PieceGrammar.{joined}
@@ -42,15 +42,6 @@ specification_begins host characters start is =
           ∙ is.stands.spell,
     )
 
-string_begins : (characters start : List ℕ) → InOpenShort characters start ⊎ InShortSpecification characters start → Begins start characters
-string_begins characters start (inl is) = (is.front, is.spell)
-string_begins characters start (inr is) = (is.inside.stands.front, ap (λ t. t ++ is.inside.stands.front) (sym is.before) ∙ is.inside.stands.spell)
-
-bracket_begins : (characters start : List ℕ) → InOpenBracket characters start → Begins start characters
-bracket_begins characters start is =
-    let later = spelled (is.opener ∷ is.inner) in
-    (later, ap (λ t. t ++ later) (sym is.before) ∙ append_assoc is.outside (spelled is.outer) later ∙ ap (λ t. is.outside ++ t) (sym (spelled-append is.outer (is.opener ∷ is.inner))) ∙ is.spell)
-
 -- so each place ends a prefix of the text
 prefix_to : (before rest characters start : List ℕ) (offset : ℕ) → before ++ rest ≡ characters → Begins start before → offset ≡ byte_len start → PrefixTo characters offset
 prefix_to before rest characters start offset whole begin_here place = record {
@@ -65,7 +56,9 @@ itself before = ([], append-nil before)
 
 pub explained : (cause : Cause) (before rest characters : List ℕ) (c offset : ℕ) → before ++ rest ≡ characters → Explains cause before c offset → PrefixTo characters offset
 explained brace_too_deep before rest characters c offset whole fits = prefix_to before rest characters fits.start offset whole (byte "{" ∷ [], fits.spell) fits.place
-explained breaks_string before rest characters c offset whole fits = prefix_to before rest characters fits.start offset whole (string_begins before fits.start fits.inside) fits.place
+explained breaks_string before rest characters c offset whole fits =
+    let string : Begins fits.start before = ⊎_elim (λ is. (is.front, is.spell)) (λ is. (is.inside.stands.front, ap (λ t. t ++ is.inside.stands.front) (sym is.before) ∙ is.inside.stands.spell)) fits.inside in
+    prefix_to before rest characters fits.start offset whole string fits.place
 explained breaks_join before rest characters c offset whole fits = prefix_to before rest characters fits.start offset whole (fits.after.front, fits.after.spell) fits.place
 explained closes_wrong before rest characters c offset whole fits = prefix_to before rest characters before offset whole (itself before) fits.place
 explained opens_too_deep before rest characters c offset whole fits = prefix_to before rest characters before offset whole (itself before) fits.place
@@ -77,7 +70,10 @@ ended open_brace characters offset is = prefix_to characters [] characters is.st
 ended open_short characters offset (start, is, place) = prefix_to characters [] characters start offset (append-nil characters) (is.front, is.spell) place
 ended open_long characters offset (start, is, place) = prefix_to characters [] characters start offset (append-nil characters) (is.front, is.spell) place
 ended open_join characters offset (start, is, place) = prefix_to characters [] characters start offset (append-nil characters) (is.front, is.spell) place
-ended open_bracket characters offset (start, is, place) = prefix_to characters [] characters start offset (append-nil characters) (bracket_begins characters start is) place
+ended open_bracket characters offset (start, is, place) =
+    let later = spelled (is.opener ∷ is.inner) in
+    let spell = ap (λ t. t ++ later) (sym is.before) ∙ append_assoc is.outside (spelled is.outer) later ∙ ap (λ t. is.outside ++ t) (sym (spelled-append is.outer (is.opener ∷ is.inner))) ∙ is.spell in
+    prefix_to characters [] characters start offset (append-nil characters) (later, spell) place
 ended open_inside characters offset (start, inl is, place, other) = prefix_to characters [] characters start offset (append-nil characters) (byte "{" ∷ spelled is.pieces, is.spell) place
 ended open_inside characters offset (start, inr (host, is), place, other) = prefix_to characters [] characters start offset (append-nil characters) (specification_begins host characters start is) place
 
