@@ -10,7 +10,7 @@ use Rattle.py_lines.specs.declared.mode.Mode.TheVariants as modes
 use Rattle.py_lines.specs.declared.mode.Move.{Move}
 use Rattle.py_lines.specs.Private.Machine.{Holds, move_of, short_move, long_move, start_of}
 use Rattle.py_lines.specs.Private.FieldMachine.{text_place, At, between, after_brace, FieldMode, plain, opened, empty, body, FieldMove, breaks, begins_code, opens_field, ends_field, refused, Level, is_after_brace, body_move, field_move, plain_move, begins_host, in_open_short, after_open_backslash, InSpecificationOf, before, FieldScanned, field_state, field_fresh, field_text_start, field_moved, field_started, field_step, field_steps_from, levels_open, frames, has_room, has_room_at, have_room, grows, closes, field_pieces, opened_level}
-use Rattle.py_lines.specs.Private.FieldFaults.{is_waiting, quotes_specification, cause_in, cause_place, piece_start}
+use Rattle.py_lines.specs.Private.FieldFaults.{is_waiting, quotes_specification, cause_in, cause_place}
 use Rattle.py_lines.proofs.FieldSoundness.Holds.{Limit, HoldsMode, IsFieldSound}
 use Rattle.py_lines.proofs.FieldSoundness.BodyMoves.{Moved, body_moves}
 use Rattle.py_lines.proofs.FieldSoundness.Lists.{not_specification}
@@ -21,7 +21,7 @@ use Rattle.py_lines.specs.Piece.{operator, Piece, begins_marked, spelled}
 use Rattle.py_lines.specs.Balance.{IsBalanced, is_opening, depth_after, depth_through, is_closing}
 use Rattle.py_lines.specs.Fields.{HasNoColon, fielded}
 use Rattle.py_lines.specs.Faults.{IsLive, DiesAt, IsAtDepth, InShortSpecification, IsFieldDue, OpensBraceTooDeep, BreaksString, OpensTooDeep, Cause, brace_too_deep, breaks_string, breaks_join, closes_wrong, opens_too_deep, ends_specification, begins_nothing, kind_of_cause, Explains, causes_before, NoneExplains, IsCharacterFault, open_short, open_join}
-use Rattle.py_lines.specs.OpenFields.{BeginsList, InSpecification, InOpenShort}
+use Rattle.py_lines.specs.OpenFields.{BeginsList, InSpecification}
 use Rattle.py_lines.proofs.Pieces.PieceLists.{piece, spelled-push, AreReadIn-first}
 use Rattle.py_lines.proofs.FieldSoundness.WholeTexts.{no_limit, any_rooms, two_hundred}
 use Rattle.py_lines.proofs.FieldSoundness.OpenEnds.{are_begun, list_begins, specification_is_open}

@@ -17,7 +17,7 @@ use Rattle.py_lines.specs.Private.FieldFaults.{is_waiting, unfinished_code, unfi
 use Rattle.py_lines.proofs.Pieces.PieceLists.{piece}
 use Rattle.py_lines.proofs.Machine.OpenStrings.{slash_held}
 use Rattle.py_lines.proofs.FieldSoundness.OpenLists.{Opens, level, inside, opens-depth}
-use Rattle.py_lines.proofs.FieldSoundness.Holds.{Limit, HoldsAt, HoldsParts, HoldsList, HoldsLevels, IsFieldSound}
+use Rattle.py_lines.proofs.FieldSoundness.Holds.{Limit, HoldsAt, HoldsParts, HoldsLevels, IsFieldSound}
 use Rattle.py_lines.proofs.FieldSoundness.Lists.{not_specification, stands_at}
 use Rattle.py_lines.proofs.FieldSoundness.WholeTexts.{code_at_end, list_ends, two_hundred}
 use Rattle.py_lines.proofs.FieldSoundness.OpenEnds.{begun_before, parts_at, stands_open, list_begins, literal_is_open, opened_is_open, specification_is_open, short_is_open, long_is_open, piece_open, code_open_at}

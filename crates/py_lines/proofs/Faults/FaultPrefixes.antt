@@ -1,10 +1,10 @@
 -- The place of a fault of a text with fields stands after some characters of the text.
-use Rattle.std.proofs.Common.{⊎_elim, ◌≡◌, ℕ, List, [], ◌∷◌, ◌++◌, sym, ap, ◌∙◌, inl, inr, ◌⊎◌, append_assoc, append-nil}
+use Rattle.std.proofs.Common.{⊎_elim, ◌≡◌, ℕ, List, [], ◌∷◌, ◌++◌, sym, ap, ◌∙◌, inl, inr, append_assoc, append-nil}
 use Rattle.std.specs.Str.{byte}
 use Rattle.py_lines.specs.Piece.{spelled}
 use Rattle.py_lines.specs.PieceGrammar.{joined}
-use Rattle.py_lines.specs.Faults.{InShortSpecification, InOpenBracket, Cause, brace_too_deep, breaks_string, breaks_join, closes_wrong, opens_too_deep, ends_specification, begins_nothing, kind_of_cause, Explains, kind_of_unfinished, IsUndecodable, Unfinished, open_brace, open_short, open_long, open_join, open_bracket, open_inside, IsOpenAtEnd, IsFaultAt, at_character, at_bytes, at_end}
-use Rattle.py_lines.specs.OpenFields.{Spot, IsOpenString, in_literal, in_specification, InOpenShort, InSpecification}
+use Rattle.py_lines.specs.Faults.{Cause, brace_too_deep, breaks_string, breaks_join, closes_wrong, opens_too_deep, ends_specification, begins_nothing, kind_of_cause, Explains, kind_of_unfinished, IsUndecodable, Unfinished, open_brace, open_short, open_long, open_join, open_bracket, open_inside, IsOpenAtEnd, IsFaultAt, at_character, at_bytes, at_end}
+use Rattle.py_lines.specs.OpenFields.{Spot, IsOpenString, in_literal, in_specification, InSpecification}
 use Rattle.py_lines.specs.LogicalLine.{byte_len}
 use Rattle.py_lines.specs.FieldStrings.{Host, literal, specification}
 use Rattle.py_lines.specs.declared.fault.FaultKind.{FaultKind}

@@ -23,7 +23,7 @@ more_quotes host quotes held c same h = record {
   raw = h.raw;
 }
 
--- after the opening of a string, no part of it
+-- one quote opens a short string
 pub short_opens : (host : Host) (held : List ℕ) → host.is_long ≡ false → OpensHost host (host.quote ∷ []) held → OpensHost host (quotes_of host) held
 short_opens host held short h = subst (λ t. OpensHost host t held) (sym (short_quotes host short)) h
 
