@@ -3,6 +3,7 @@ use Rattle.std.proofs.Common.{◌≡◌, ℕ, Bool, true, false, not, cond, ◌&
 use Rattle.std.specs.List.{list_all}
 use Rattle.std.proofs.lemmas.List.Folds.{list_all-append}
 use Rattle.std.proofs.lemmas.Bool.{and_parts, and_from, or_parts, eq-eqb, eqb-true, both_ways, not-true}
+use Rattle.std.specs.Prelude.{if◌then◌else◌}
 use Rattle.py_lines.specs.Character.{is_quote, is_line_feed, is_return, is_backslash, is_barred}
 use Rattle.py_lines.specs.Piece.{string}
 use Rattle.py_lines.specs.PieceGrammar.{is_prefix, IsPrefix, is_item, is_bare, is_short_item, joined, begins_triple, has_triple, MayPrecedePlain}
@@ -46,22 +47,10 @@ GrownTo IsSuch from text = (to : Mode) × IsSuch to × Grown from text to
 
 grown-item : (q : ℕ) (m : Mode) (item : List ℕ) → IsShortMode q m → is_quote q ≡ true → is_short_item q item ≡ true → GrownTo (HoldsShort q) m item
 unfolding move_of short_move
-grown-item q m (c ∷ []) short quotes is =
-    let parts = and_parts (not (is_backslash c)) (not (is_barred q c)) is in
-    let bare = unbarred q c (not-true _ parts.1) in
-    (Mode.Inside q, inl refl, (Mode.Inside q, short_moves q c m short bare.0 bare.1 ∙ rw (not-true _ parts.0, bare.2), refl))
-grown-item q m (c ∷ d ∷ []) short quotes is = go (is_return d) refl
-  where
-    escapes : move_of m c ≡ Move.Grows (Mode.Escape q)
-    escapes = short_escapes q c m short quotes (and_parts (is_backslash c) true is).0
-
-    go : (b : Bool) → is_return d ≡ b → GrownTo (HoldsShort q) m (c ∷ d ∷ [])
-    go true h = (Mode.EscapeReturn q, inr refl, (Mode.Escape q, escapes, (Mode.EscapeReturn q, rw h, refl)))
-    go false h = (Mode.Inside q, inl refl, (Mode.Escape q, escapes, (Mode.Inside q, rw h, refl)))
+grown-item q m (c ∷ []) short quotes is = (Mode.Inside q, inl refl, grind (arith, short_moves q c m short, unbarred q c))
+grown-item q m (c ∷ d ∷ []) short quotes is = ((if is_return d then Mode.EscapeReturn q else Mode.Inside q), grind arith, grind (arith, short_escapes q c m short quotes))
 grown-item q m (c ∷ d ∷ e ∷ []) short quotes is =
-    let first = and_parts (is_backslash c && is_return d) (is_line_feed e) (and_parts _ true is).0 in
-    let second = and_parts (is_backslash c) (is_return d) first.0 in
-    (Mode.Inside q, inl refl, (Mode.Escape q, short_escapes q c m short quotes second.0, (Mode.EscapeReturn q, rw second.1, (Mode.Inside q, rw first.1, refl))))
+    (Mode.Inside q, inl refl, (Mode.Escape q, grind (arith, short_escapes q c m short quotes), (Mode.EscapeReturn q, grind arith, (Mode.Inside q, grind arith, refl))))
 grown-item q m item short quotes is = absurd (both_ways _ refl is)
 
 -- the items of a short string, if there are some
@@ -133,11 +122,7 @@ grown-other : (q : ℕ) (seen : QuotesBefore) (item : List ℕ) → is_quote q �
 unfolding move_of long_move
 grown-other q seen (c ∷ []) quotes is other = (Mode.Long q, long_moves q c seen other ∙ rw (not-true _ is), refl)
 grown-other q seen (c ∷ d ∷ []) quotes is other = (Mode.LongEscape q, long_escapes q c seen quotes is, (Mode.Long q, refl, refl))
-grown-other q seen (c ∷ d ∷ e ∷ []) quotes is other =
-    let first = and_parts (is_backslash c && is_return d) (is_line_feed e) is in
-    let slash = (and_parts (is_backslash c) (is_return d) first.0).0 in
-    let feed : move_of (Mode.Long q) e ≡ Move.Grows (Mode.Long q) = long_moves q e none (not_quote e q quotes (feed-not-others e first.1).0) ∙ rw (feed-not-others e first.1).1 in
-    (Mode.LongEscape q, long_escapes q c seen quotes slash, (Mode.Long q, refl, (Mode.Long q, feed, refl)))
+grown-other q seen (c ∷ d ∷ e ∷ []) quotes is other = grind (arith, long_escapes q c seen quotes, long_moves q e none, not_quote e q quotes, feed-not-others e)
 grown-other q seen item quotes is other = absurd (both_ways _ refl is)
 
 bare_quote : (q : ℕ) (item : List ℕ) → is_bare (λ c. c == q) item ≡ true → item ≡ q ∷ []

@@ -43,14 +43,11 @@ Stays s c (Some n) = n.mode ≡ Mode.Fielded → (n.done ≡ s.done) × (n.held 
 
 started_stays : (s : Scanned) (all : List Piece) (c : ℕ) (x : Start) → StartsSo c x → Stays s c (started all c x)
 started_stays s all c (Start.Open Mode.Fielded) so = absurd so
-started_stays s all c Start.Nothing so = tt
-started_stays s all c x so = λ is. absurd (cc)
+started_stays s all c x so = grind arith
 
 moved_stays : (s : Scanned) (c : ℕ) (v : Move) → Stays s c (moved s c v)
-moved_stays s c (Move.Grows m) = λ is. (refl, refl)
-moved_stays s c Move.Closes = λ is. absurd (cc)
 moved_stays s c Move.Breaks = started_stays s (closed s.mode s.done s.held) c (start_of c) (starts_so c)
-moved_stays s c Move.Refused = tt
+moved_stays s c v = grind arith
 
 -- a string alone has nothing before it
 level_bare : (l : Level) (ls : List Level) (ps : List Piece) (os : List ℕ) → IsBare (based [] [] l ls) ps os
