@@ -40,8 +40,7 @@ open_after (Mode.Word s) c = grind arith
 open_after m c = grind arith
 
 pub no_host : (m : Mode) (held : List ℕ) (c : ℕ) (cs : List ℕ) → IsQuiet m (c ∷ cs) → begins_host m held c ≡ false
-no_host (Mode.Word s) held c cs (inl other) = absurd (both_ways _ other refl)
-no_host (Mode.Word s) held c cs (inr none) = ap (λ b. is_field_prefix held && b) (or_parts (is_quote c) (list_any is_quote cs) none).0 ∙ none_false (is_field_prefix held)
+no_host (Mode.Word s) held c cs quiet = grind arith
 no_host m held c cs quiet = refl
 
 pub plain_moves : (m : Mode) (held : List ℕ) (c : ℕ) → begins_host m held c ≡ false → field_move (plain m) held c ≡ plain_move (move_of m c)

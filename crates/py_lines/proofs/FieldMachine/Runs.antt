@@ -52,9 +52,7 @@ steps_of Room s t (c ∷ cs) (next, step, room, others) = ap (λ o. field_steps_
 pub room_at : (depth c : ℕ) (move : FieldMove) → HasRoomFor BelowLimit depth c move → has_room_at depth c move ≡ true
 unfolding has_room_at
 room_at depth c breaks room = grind (arith, nat_tests)
-room_at depth c (begins_code host) room = grind (arith, nat_tests)
-room_at depth c (opens_field host) room = grind (arith, nat_tests)
-room_at depth c move room = refl
+room_at depth c move room = grind (arith, nat_tests)
 
 pub room_of : (s t : FieldScanned) (text : List ℕ) → Goes BelowLimit s text t → have_room (Some s) text ≡ true
 room_of s t [] goes = refl

@@ -18,21 +18,16 @@ after_if ps None = None
 after_if ps (Some s) = Some (after_pieces ps s)
 
 pub closed-after : (ps done : List Piece) (m : Mode) (held : List ℕ) → closed m (ps ++ done) held ≡ ps ++ closed m done held
-closed-after ps done Mode.Start held = refl
 closed-after ps done Mode.Free held = refl
-closed-after ps done m held = append_assoc ps done _
+closed-after ps done m held = grind (arith, append_assoc)
 
 pub started-after : (ps done : List Piece) (c : ℕ) (st : Start) → started (ps ++ done) c st ≡ after_if ps (started done c st)
-started-after ps done c (Start.Open m) = refl
-started-after ps done c Start.Operator = ap (λ l. Some (fresh l)) (append_assoc ps done (piece operator (c ∷ []) ∷ []))
-started-after ps done c Start.LineEnd = ap (λ l. Some (fresh l)) (append_assoc ps done (piece line_end (c ∷ []) ∷ []))
-started-after ps done c Start.Nothing = refl
+started-after ps done c Start.Operator = grind (arith, append_assoc)
+started-after ps done c st = grind (arith, append_assoc)
 
 pub moved-after : (ps : List Piece) (s : Scanned) (c : ℕ) (v : Move) → moved (after_pieces ps s) c v ≡ after_if ps (moved s c v)
-moved-after ps s c (Move.Grows m) = refl
-moved-after ps s c Move.Closes = ap (λ l. Some (fresh l)) (append_assoc ps s.done (piece (class_of s.mode) (s.held ++ c ∷ []) ∷ []))
 moved-after ps s c Move.Breaks = ap (λ l. started l c (start_of c)) (closed-after ps s.done s.mode s.held) ∙ started-after ps (closed s.mode s.done s.held) c (start_of c)
-moved-after ps s c Move.Refused = refl
+moved-after ps s c v = grind (arith, append_assoc)
 
 -- where its brackets are closed, the scanning machine too
 pub step-after : (ps : List Piece) (s : Scanned) (c : ℕ) → depth_through 0 ps ≡ 0 → scan_step (after_pieces ps s) c ≡ after_if ps (scan_step s c)

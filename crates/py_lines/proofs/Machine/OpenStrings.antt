@@ -33,16 +33,14 @@ short_held (Mode.Opened q) done held holds is = still_open _ _ q held held [] (s
 short_held (Mode.Inside q) done held holds is = still_open _ _ q held held [] (sym (append-nil held)) holds.0 (inl refl)
 short_held (Mode.Escape q) done held holds is = still_open _ _ q held holds.0 (holds.1 ∷ []) holds.2 holds.3 (inr (holds.1, refl, holds.4))
 short_held (Mode.EscapeReturn q) done held holds is = still_open _ _ q held held [] (sym (append-nil held)) (returned_items q done held holds).0 (inl refl)
-short_held (Mode.FieldOpened h) done held holds is = absurd holds
-short_held m done held holds is = absurd (both_ways _ refl is)
+short_held m done held holds is = absurd (grind arith)
 
 pub long_held : (m : Mode) (done : List Piece) (held : List ℕ) → Holds m done held → in_long m ≡ true → IsLongPrefix held
 long_held (Mode.Long q) done held holds is = still_open _ _ q held held [] (sym (append-nil held)) (opening_none q held holds) (inl refl)
 long_held (Mode.LongOne q) done held holds is = still_open _ _ q held (holds.0 ++ q ∷ []) [] (holds.1 ∙ sym (append-nil _)) (opening_one q holds.0 holds.2) (inl refl)
 long_held (Mode.LongTwo q) done held holds is = still_open _ _ q held (holds.0 ++ q ∷ q ∷ []) [] (holds.1 ∙ sym (append-nil _)) (opening_two q holds.0 holds.2) (inl refl)
 long_held (Mode.LongEscape q) done held holds is = still_open _ _ q held holds.0 (holds.1 ∷ []) holds.2 holds.3 (inr (holds.1, refl, holds.4))
-long_held Mode.Fielded done held holds is = absurd holds
-long_held m done held holds is = absurd (both_ways _ refl is)
+long_held m done held holds is = absurd (grind arith)
 
 pub slash_held : (m : Mode) (done : List Piece) (held : List ℕ) → Holds m done held → is_after_backslash m ≡ true → (slash : ℕ) × (held ≡ slash ∷ []) × (is_backslash slash ≡ true)
 slash_held Mode.Backslash done held holds is = holds

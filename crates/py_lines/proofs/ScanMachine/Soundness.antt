@@ -106,9 +106,8 @@ module _ (s : Scanned) (read : List ℕ) (c : ℕ) (sound : IsScanSound s read) 
 
 -- where the scanning machine takes a character, the other has room for it and takes it too
 both_take : (n : Scanned) (b : Bool) (p : Option FieldScanned) → Alike (Some n) (roomy b p) → (f : FieldScanned) × (st : List Bracket) × (b ≡ true) × (p ≡ Some f) × IsTied f n st
-both_take n false p tie = absurd tie
-both_take n true None tie = absurd tie
 both_take n true (Some f) (st, tied) = (f, st, refl, refl, tied)
+both_take n b p tie = absurd (grind arith)
 
 -- characters, one after another
 run_sound : (m : Mode) (cs : List ℕ) (s : Scanned) (read : List ℕ) (st : List Bracket) → StandsSound m read s st → (u : Scanned) (last : List Bracket) → GoesTo s cs u last → StandsSound m (read ++ cs) u last
