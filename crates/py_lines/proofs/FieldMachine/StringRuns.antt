@@ -61,8 +61,7 @@ pub data IsInLiteral (host : Host) (named : Bool) (mode : FieldMode) (text rest 
 
 -- after one quote, what isn't a second one is read as between parts
 pub moved_between : (outer : List Level) (done : List Piece) (openers : List ℕ) (host : Host) (held : List ℕ) (c : ℕ) (v : FieldMove) → field_moved (field_state outer done openers (opened host) held) c v ≡ field_moved (field_state outer done openers (body host literal false between) held) c v
-moved_between outer done openers host held c (grows m) = refl
-moved_between outer done openers host held c v = refl
+moved_between outer done openers host held c v = grind arith
 
 pub opened_moves : (host : Host) (held : List ℕ) (c : ℕ) → eqb c host.quote ≡ false → field_move (opened host) held c ≡ field_move (body host literal false between) held c
 unfolding field_move

@@ -40,15 +40,12 @@ not_one b (c ∷ cs) q r h = cc
 pub something : (prefix body : List ℕ) (q : ℕ) (text rest : List ℕ) → text ≡ prefix ++ (q ∷ body ++ q ∷ []) → IsPrefix prefix → is_quote q ≡ true → IsFull body → MayPrecedePlain string text rest
 something prefix [] q text rest is begun opens full other r spell also quotes = absurd full
 something prefix (b ∷ bs) q text rest is begun opens full other r spell also quotes =
-    let same : q ∷ b ∷ (bs ++ q ∷ []) ≡ r ∷ r ∷ [] = same_quotes prefix other q r (b ∷ (bs ++ q ∷ [])) (r ∷ []) (sym is ∙ spell) begun also opens quotes in
-    let later : b ∷ (bs ++ q ∷ []) ≡ r ∷ [] = cc in
-    absurd (not_one b bs q r later)
+    absurd (not_one b bs q r (cc (same_quotes prefix other q r (b ∷ (bs ++ q ∷ [])) (r ∷ []) (sym is ∙ spell) begun also opens quotes)))
 
 -- nor is a long one
 pub long_something : (prefix body : List ℕ) (q : ℕ) (text rest : List ℕ) → text ≡ prefix ++ (q ∷ q ∷ q ∷ body) → IsPrefix prefix → is_quote q ≡ true → MayPrecedePlain string text rest
 long_something prefix body q text rest is begun opens other r spell also quotes =
-    let same : q ∷ q ∷ q ∷ body ≡ r ∷ r ∷ [] = same_quotes prefix other q r (q ∷ q ∷ body) (r ∷ []) (sym is ∙ spell) begun also opens quotes in
-    absurd (cc)
+    absurd (cc (same_quotes prefix other q r (q ∷ q ∷ body) (r ∷ []) (sym is ∙ spell) begun also opens quotes))
 
 -- more items
 items_push : (quotes : List ℕ) (MayHold MayGoOn : List (List ℕ) → Type 0) (q : ℕ) (held : List ℕ) (more : List (List ℕ)) → ((items : List (List ℕ)) → MayHold items → MayGoOn (items ++ more)) → HoldsItems quotes MayHold q held → HoldsItems quotes MayGoOn q (held ++ joined more)

@@ -108,8 +108,7 @@ alike_if : (b : Bool) (u : Scanned) (x : FieldScanned) (st : List Bracket) → b
 alike_if b u x st room tied = subst (λ (r : Bool). Alike (kept_if (Some u)) (roomy r (Some x))) (sym room) (alike_kept u x st tied)
 
 pub none_alike : (b : Bool) → Alike None (roomy b None)
-none_alike true = tt
-none_alike false = tt
+none_alike b = grind arith
 
 -- an operator meets the brackets of both machines alike
 module _ (done : List Piece) (c : ℕ) where

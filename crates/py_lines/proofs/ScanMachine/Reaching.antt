@@ -1,7 +1,7 @@
 -- What is proved of the machine with fields, said of the scanning machine: a text is live exactly where it goes through it, with its brackets,
 -- and where it may end its pieces read the text; it goes through every list of pieces that is read before what follows, and finds those
 -- pieces, where their brackets and the fields of their strings are not too deep.
-use Rattle.std.proofs.Common.{◌≡◌, ℕ, true, false, Some, List, [], ◌∷◌, refl, sym, ap, ◌∙◌, Option, None, subst}
+use Rattle.std.proofs.Common.{◌≡◌, ℕ, true, false, Some, List, [], ◌∷◌, refl, sym, ap, ◌∙◌, Option, None, subst, arith}
 use Rattle.std.proofs.lemmas.Bool.{both_ways, and_parts}
 use Rattle.py_lines.specs.Character.{is_mark}
 use Rattle.py_lines.specs.Piece.{Piece, begins, spelled}
@@ -89,11 +89,7 @@ stack_openers ps st (inside _ _ b others outer inner a is spell out opens kind p
 -- where the machine with fields may end, in no field, the other may, and has found the same
 final_alike : (m : Mode) (done : List Piece) (held os : List ℕ) (t : FieldScanned) → flat m done os held ≡ Some t → Own m (depth_through 0 done) held → t.outer ≡ [] → may_end t.mode ≡ true → (is_final m ≡ true) × (field_pieces t ≡ closed m done held)
 final_alike Mode.Fielded done held os t is own none ends =
-    let x : FieldScanned = own.state in
-    let whole : rebased done os x ≡ t = some_is _ t (sym (ap (rebased_if done os) own.goes.steps) ∙ is) in
-    let (host, place, named, at, body_mode) = own.inside (none_based done os x.outer x.done x.openers x.mode x.held (ap (λ (u : FieldScanned). u.outer) whole ∙ none)) in
-    let mode : x.mode ≡ t.mode = ap (λ (u : FieldScanned). u.mode) whole in
-    absurd (both_ways _ (ap may_end (sym mode ∙ body_mode)) ends)
+    absurd (grind (arith, none_based done os own.state.outer own.state.done own.state.openers own.state.mode own.state.held, own.goes.steps, own.inside))
 final_alike m done held os t is own none ends = (ap (λ (x : FieldScanned). may_end x.mode) (some_is _ t is) ∙ ends, ap field_pieces (sym (some_is _ t is)))
 
 -- so before any rest
