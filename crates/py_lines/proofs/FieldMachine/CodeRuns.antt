@@ -4,9 +4,9 @@ use Rattle.std.proofs.lemmas.Bool.{both_ways}
 use Rattle.py_lines.specs.Piece.{Class, mark, string, operator, Piece, is_mark_class, begins_marked, spelled}
 use Rattle.py_lines.specs.PieceGrammar.{InClassIn, MayPrecedeIn, AreReadIn, joined, has_triple}
 use Rattle.py_lines.specs.Balance.{is_opener, depth_after, is_opening}
-use Rattle.py_lines.specs.Fields.{HasNoColon, AreInside, IsSpecification, IsField, simple, specified}
+use Rattle.py_lines.specs.Fields.{HasNoColon, AreInside, IsField, simple, specified}
 use Rattle.py_lines.specs.FieldStrings.{Host, with_fields, Place, literal, specification, begins_double, named_through, AreParts}
-use Rattle.py_lines.specs.Private.FieldMachine.{Level, FieldScanned, field_state, field_closed, field_pieces, openers_by, openers_through, levels_open, frames, At, between, after_brace, FieldMode, body, begins_code, ends_field, field_fresh, field_ended, opening_move, between_move, body_move, field_move, field_moved, field_started, code_operator}
+use Rattle.py_lines.specs.Private.FieldMachine.{Level, FieldScanned, field_state, field_pieces, openers_by, openers_through, levels_open, frames, At, between, after_brace, FieldMode, body, begins_code, ends_field, field_fresh, field_ended, opening_move, between_move, body_move, field_move, field_moved, field_started, code_operator}
 use Rattle.py_lines.proofs.Pieces.PieceLists.{piece}
 use Rattle.py_lines.proofs.Fields.Parts.{BeginOpen, some_head}
 use Rattle.py_lines.proofs.Pieces.OpenBrackets.{some_before}

@@ -1,7 +1,6 @@
 -- The machine with fields goes through the text of a piece that has no fields.
 use Rattle.std.proofs.Common.{◌≡◌, ℕ, true, false, ◌&&◌, ◌==◌, Some, List, [], ◌∷◌, ◌++◌, length, refl, sym, ap, ◌∙◌, subst, inl, inr, append_assoc, arith}
 use Rattle.std.specs.List.{list_all}
-use Rattle.std.proofs.lemmas.Bool.{both_ways}
 use Rattle.std.proofs.lemmas.Bool.Decides.{nat_tests}
 use Rattle.py_lines.specs.Character.{is_word_character, is_word_start, is_quote, is_operator}
 use Rattle.py_lines.specs.Piece.{Class, word, string, operator, line_end, Piece, begins}
@@ -20,7 +19,6 @@ use Rattle.py_lines.proofs.Fields.Prefixes.{word_quotes}
 use Rattle.py_lines.proofs.Fields.Elsewhere.{precede_without, either_prefix}
 use Rattle.py_lines.proofs.FieldMachine.Runs.{Goes, StopsAt, goes-append, goes-grown, goes-to, goes-grows, goes-closes, goes-begins, stops-fresh}
 use Rattle.py_lines.proofs.FieldMachine.PlainSteps.{no_host, plain_moves, grown-alike, grown-quiet, front_quiet}
-use Rattle.py_lines.proofs.FieldMachine.ListBrackets.{none_some}
 
 -- the machine goes from a state through a text, finds these pieces after those it had, with these brackets open after them, and
 -- may stop before the rest

@@ -1,15 +1,13 @@
 -- The machine with fields goes through the text of a piece without fields as the other machine does.
-use Rattle.std.proofs.Common.{◌≡◌, ℕ, Bool, true, false, ◌&&◌, List, [], ◌∷◌, ◌++◌, refl, sym, ap, ◌∙◌, subst, inl, inr, arith}
+use Rattle.std.proofs.Common.{◌≡◌, ℕ, Bool, true, false, List, [], ◌∷◌, ◌++◌, refl, sym, ap, ◌∙◌, subst, inl, inr, arith}
 use Rattle.std.specs.List.{list_any}
 use Rattle.std.proofs.lemmas.List.Folds.{list_any-append}
 use Rattle.std.proofs.lemmas.Bool.{or_parts, both_ways}
 use Rattle.py_lines.specs.Character.{is_quote}
-use Rattle.py_lines.specs.FieldStrings.{is_field_prefix}
 use Rattle.py_lines.specs.Piece.{Class}
 use Rattle.py_lines.specs.Private.Machine.{Mode, Move, class_of, move_of, short_move, long_move}
 use Rattle.py_lines.specs.Private.FieldMachine.{plain, plain_move, begins_host, field_move}
 use Rattle.py_lines.proofs.Machine.PieceSteps.{Grown, is_word_mode, IsQuiet}
-use Rattle.py_lines.proofs.Fields.Elsewhere.{none_false}
 use Rattle.py_lines.proofs.FieldMachine.Runs.{GrowsTo}
 
 -- whether a string with fields is open

@@ -1,16 +1,15 @@
 -- The machine with fields goes through the parts of a string, where it goes through the fields among them.
-use Rattle.std.proofs.Common.{◌≡◌, ℕ, Bool, true, false, not, ◌&&◌, ◌||◌, ◌==◌, eqb, List, [], ◌∷◌, ◌++◌, refl, sym, ap, ◌∙◌, subst, append_assoc, append-nil, arith}
-use Rattle.std.specs.Prelude.{if◌then◌else◌}
+use Rattle.std.proofs.Common.{◌≡◌, ℕ, Bool, true, false, not, ◌&&◌, ◌||◌, eqb, List, [], ◌∷◌, ◌++◌, refl, sym, ap, ◌∙◌, subst, append_assoc, append-nil, arith}
 use Rattle.std.proofs.Math.Bool.{and-true}
-use Rattle.std.proofs.lemmas.Bool.{eq-eqb, eqb-true, or_right, and_right, and_from}
+use Rattle.std.proofs.lemmas.Bool.{eq-eqb, eqb-true}
 use Rattle.std.proofs.lemmas.Bool.Decides.{nat_tests}
 use Rattle.py_lines.specs.Character.{is_quote, is_line_feed, is_return, is_break, is_backslash, is_barred, is_brace}
 use Rattle.py_lines.specs.Piece.{Piece, begins}
 use Rattle.py_lines.specs.PieceGrammar.{joined, has_triple}
 use Rattle.py_lines.specs.FieldStrings.{Host, Place, literal, specification, is_ordinary, may_stand, may_be_escaped, names, begins_open, begins_double, IsPart, bare, slash, escape, escaped_end, name, double, field, named_after, named_through, AreParts}
-use Rattle.py_lines.specs.Private.FieldMachine.{At, between, after_one, after_two, after_slash, after_return, after_name, after_brace, FieldMode, body, grows, Level, FieldScanned, field_state, is_after_brace, is_after_two, with_quote, opening_move, between_move, is_barred_escape, escape_move, body_move, field_move}
+use Rattle.py_lines.specs.Private.FieldMachine.{At, between, after_one, after_two, after_slash, after_return, after_name, after_brace, FieldMode, body, grows, Level, FieldScanned, field_state, is_after_brace, is_after_two, with_quote, opening_move, between_move, escape_move, body_move, field_move}
 use Rattle.py_lines.proofs.Text.CharacterTests.{none_of, not_quote, slash-not-quote, return-not-brace}
-use Rattle.py_lines.proofs.Fields.Parts.{BeginOpen, ordinary, names_is, name-not-brace, name-not-return}
+use Rattle.py_lines.proofs.Fields.Parts.{BeginOpen, ordinary, names_is}
 use Rattle.py_lines.proofs.Machine.StringSteps.{later_triple}
 use Rattle.py_lines.proofs.FieldMachine.Runs.{Goes, GrowsTo, goes-append, goes-to, goes-grown}
 

@@ -1,7 +1,6 @@
 -- What is open at a place is told by the state of the machine with fields there, so nothing else is: a string, a backslash, a
 -- specification, code of a field, or a spot where a field may open.
 use Rattle.std.proofs.Common.{◌≡◌, ℕ, Bool, true, false, Some, List, [], ◌∷◌, ◌++◌, inl, inr, refl, sym, ap, ◌∙◌, subst, append_assoc, ⊎_elim, ◌<◌, append-nil, arith}
-use Rattle.std.proofs.lemmas.Bool.{both_ways}
 use Rattle.py_lines.specs.Character.{is_mark, is_quote}
 use Rattle.py_lines.specs.Piece.{begins, spelled}
 use Rattle.py_lines.specs.PieceGrammar.{IsPrefix}

@@ -1,11 +1,11 @@
 -- From pieces that it had, a machine goes as it goes alone: those stay, and it finds the same after them. So do its brackets.
 use Rattle.std.proofs.Common.{◌≡◌, ℕ, ◌+◌, Option, None, Some, List, [], ◌∷◌, ◌++◌, length, refl, sym, ap, ◌∙◌, subst, append_assoc, append-nil, arith}
-use Rattle.py_lines.specs.Piece.{operator, line_end, Piece, spelled}
+use Rattle.py_lines.specs.Piece.{Piece, spelled}
 use Rattle.py_lines.specs.Balance.{depth_through}
 use Rattle.py_lines.specs.LogicalLine.{byte_len}
-use Rattle.py_lines.specs.Private.Machine.{Mode, Move, Start, Scanned, fresh, class_of, closed, moved, started, steps_by, start_of, Bracket, brackets_after, brackets_through, brackets_of}
+use Rattle.py_lines.specs.Private.Machine.{Mode, Move, Start, Scanned, closed, moved, started, steps_by, start_of, Bracket, brackets_after, brackets_through, brackets_of}
 use Rattle.py_lines.specs.Private.ScanMachine.{move_in, move_at, scan_step, scan_steps}
-use Rattle.py_lines.proofs.Pieces.PieceLists.{piece, spelled-append}
+use Rattle.py_lines.proofs.Pieces.PieceLists.{spelled-append}
 use Rattle.py_lines.proofs.Pieces.OpenBrackets.{through-append, depth_through-append, stack_before}
 use Rattle.py_lines.proofs.LogicalLines.Cuts.{byte_len-append}
 

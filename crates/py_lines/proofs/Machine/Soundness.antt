@@ -1,9 +1,9 @@
 -- What each character does to the open piece alone; so where the machine has come, the pieces that it found spell what it read,
 -- and are read before whatever follows.
-use Rattle.std.proofs.Common.{◌≡◌, ℕ, Bool, true, false, ◌&&◌, eqb, Option, None, Some, List, [], ◌∷◌, ◌++◌, refl, sym, ap, ◌∙◌, subst, inl, inr, append_assoc, append-nil, arith}
-use Rattle.std.proofs.lemmas.Bool.{cond_both, and_parts, and_from, and_left, and_right, eqb-true, both_ways, not_from_false}
+use Rattle.std.proofs.Common.{◌≡◌, ℕ, true, false, eqb, Option, None, Some, List, [], ◌∷◌, ◌++◌, refl, sym, ap, ◌∙◌, subst, inl, inr, append_assoc, append-nil, arith}
+use Rattle.std.proofs.lemmas.Bool.{cond_both, and_from, and_left, and_right, eqb-true}
 use Rattle.std.proofs.lemmas.Bool.Decides.{nat_tests}
-use Rattle.py_lines.specs.Character.{is_mark, is_space, is_word_character, is_quote, is_line_feed, is_return, is_break, is_backslash}
+use Rattle.py_lines.specs.Character.{is_mark, is_space, is_word_character, is_quote, is_line_feed, is_return, is_break}
 use Rattle.py_lines.specs.Piece.{Class, mark, string, operator, line_end, Piece, ends, spelled}
 use Rattle.py_lines.specs.PieceGrammar.{feed, return_feed, return, without_fields, InPlainClass, is_prefix, joined, MayPrecedePlain, AreReadPlain}
 use Rattle.py_lines.specs.Private.Machine.{Spelling, Mode, Move, Start, IsSound, Holds, HoldsShort, HoldsSome, HoldsQuotes, HoldsPrefix, HoldsLong, Scanned, fresh, class_of, closed, started, moved, step, move_of, short_move, long_move, start_of, first_spelling, spelling_with, is_prefix_spelling, is_final}

@@ -1,5 +1,5 @@
 -- A word's spelling, as the machine keeps it, says whether the word is the prefix of a string, with fields or without.
-use Rattle.std.proofs.Common.{◌≡◌, ℕ, List, [], ◌∷◌, ◌++◌, refl, sym, ap, ◌∙◌, ⊎_elim, ◌⊎◌, arith, true, false}
+use Rattle.std.proofs.Common.{◌≡◌, ℕ, List, [], ◌∷◌, ◌++◌, refl, ◌⊎◌, arith, true, false}
 use Rattle.py_lines.specs.PieceGrammar.{is_prefix}
 use Rattle.py_lines.specs.Private.Machine.{Spelling, first_spelling, spelling_with, is_prefix_spelling, spelling_on, Mode, Holds}
 use Rattle.py_lines.proofs.Text.CharacterTests.{digit-not-letter, r-not-others, t-not-u, b-not-others}

@@ -1,11 +1,9 @@
 -- What leaves a string with fields open: a character that its body grows by, and all that stands in its fields.
-use Rattle.std.proofs.Common.{◌≡◌, ℕ, Bool, false, ◌==◌, Option, None, Some, List, [], ◌∷◌, ◌++◌, refl, arith}
-use Rattle.std.specs.Str.{byte}
-use Rattle.std.proofs.lemmas.Bool.{cond_both}
-use Rattle.py_lines.specs.Piece.{Piece, spelled}
-use Rattle.py_lines.specs.FieldStrings.{Host, Place, literal, specification}
+use Rattle.std.proofs.Common.{◌≡◌, ℕ, Bool, Option, None, Some, List, [], ◌∷◌, arith}
+use Rattle.py_lines.specs.Piece.{Piece}
+use Rattle.py_lines.specs.FieldStrings.{Host, Place, literal}
 use Rattle.py_lines.specs.Private.Machine.{Start, start_of}
-use Rattle.py_lines.specs.Private.FieldMachine.{At, between, FieldMode, body, FieldMove, grows, closes, breaks, begins_code, opens_field, ends_field, refused, Level, FieldScanned, field_state, field_moved, field_started, field_operator, field_closed, code_operator, after_operator, openers_with, opened_level, field_ended}
+use Rattle.py_lines.specs.Private.FieldMachine.{At, FieldMode, body, FieldMove, grows, closes, breaks, begins_code, Level, FieldScanned, field_state, field_moved, field_started, field_operator, field_closed, code_operator, opened_level}
 use Rattle.py_lines.specs.Private.ScanMachine.{IsInString}
 
 -- a mode in the body

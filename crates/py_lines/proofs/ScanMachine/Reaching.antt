@@ -2,7 +2,7 @@
 -- and where it may end its pieces read the text; it goes through every list of pieces that is read before what follows, and finds those
 -- pieces, where their brackets and the fields of their strings are not too deep.
 use Rattle.std.proofs.Common.{◌≡◌, ℕ, true, false, Some, List, [], ◌∷◌, refl, sym, ap, ◌∙◌, Option, None, subst, arith}
-use Rattle.std.proofs.lemmas.Bool.{both_ways, and_parts}
+use Rattle.std.proofs.lemmas.Bool.{and_parts}
 use Rattle.py_lines.specs.Character.{is_mark}
 use Rattle.py_lines.specs.Piece.{Piece, begins, spelled}
 use Rattle.py_lines.specs.Balance.{depth_through}
@@ -17,10 +17,9 @@ use Rattle.py_lines.proofs.Machine.PieceSteps.{pieces_at}
 use Rattle.py_lines.proofs.Machine.ReadingSteps.{ReachesBy}
 use Rattle.py_lines.proofs.FieldMachine.Runs.{BelowLimit, StopsAt, steps_of, room_of}
 use Rattle.py_lines.proofs.FieldMachine.ListBrackets.{openers_through-append, opener_pushes, balanced_openers}
-use Rattle.py_lines.proofs.FieldMachine.PieceRuns.{FieldFinds}
 use Rattle.py_lines.proofs.FieldMachine.Completeness.{passed_shallow, begin_shallow, shallow_run, reached}
 use Rattle.py_lines.proofs.ScanMachine.Steps.{StopsBefore}
-use Rattle.py_lines.proofs.ScanMachine.Rebased.{rebased, rebased_if, none_based}
+use Rattle.py_lines.proofs.ScanMachine.Rebased.{none_based}
 use Rattle.py_lines.proofs.ScanMachine.Follows.{openers_of, flat, Own, IsTied, some_is, roomy, Alike}
 use Rattle.py_lines.proofs.ScanMachine.Runs.{tied_step}
 use Rattle.py_lines.proofs.ScanMachine.Soundness.{start_tied, comes_along, ends_sound}

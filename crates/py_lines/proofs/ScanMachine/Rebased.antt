@@ -4,7 +4,7 @@ use Rattle.std.proofs.Common.{◌≡◌, ℕ, ◌+◌, Option, None, Some, List,
 use Rattle.py_lines.specs.Piece.{Piece}
 use Rattle.py_lines.specs.FieldStrings.{literal}
 use Rattle.py_lines.specs.Private.Machine.{Start, start_of}
-use Rattle.py_lines.specs.Private.FieldMachine.{FieldMode, FieldMove, closes, breaks, begins_code, ends_field, Level, FieldScanned, field_state, field_move, field_moved, field_step, field_started, field_operator, field_closed, code_operator, opened_level, levels_open, frames}
+use Rattle.py_lines.specs.Private.FieldMachine.{FieldMode, FieldMove, breaks, begins_code, ends_field, Level, FieldScanned, field_state, field_move, field_moved, field_step, field_started, field_operator, field_closed, code_operator, opened_level, levels_open, frames}
 use Rattle.py_lines.proofs.ScanMachine.BodyMoves.{KeepsString}
 
 -- what stands in the innermost field, or in none
