@@ -34,8 +34,7 @@ FieldsRun Room F = (outer : List Level) (done : List Piece) (openers : List ℕ)
 
 -- in a field, no `:` stands outside brackets
 abbrev pub HasNoColonIn : List Level → ℕ → List Piece → Type 0
-HasNoColonIn [] depth ps = Unit {0}
-HasNoColonIn (level ∷ outer) depth ps = HasNoColon depth ps
+HasNoColonIn outer depth ps = (outer ≡ [] → ⊥) → HasNoColon depth ps
 
 module _ (Room : ℕ → Type 0) (F : ℕ → Host → List ℕ → Type 0) (begin : (depth : ℕ) → BeginOpen (F depth)) (run : FieldsRun Room F) where
   same_openers : (from : FieldScanned) (text : List ℕ) (ps : List Piece) (after rest : List ℕ) → Some from.openers ≡ Some after → FieldFinds Room from text ps from.openers rest → FieldFinds Room from text ps after rest
@@ -49,7 +48,7 @@ module _ (Room : ℕ → Type 0) (F : ℕ → Host → List ℕ → Type 0) (beg
     where
       no_colon : (outer : List Level) → HasNoColonIn outer (length from.openers) (piece operator (c ∷ []) ∷ []) → IsNoColon outer from.openers c
       no_colon [] h = tt
-      no_colon (level ∷ outer) h = h.0
+      no_colon (level ∷ outer) h = (h (λ is. absurd (cc))).0
   one_found G from string text after rest unmarked is before room own opens none stops = same_openers from text _ after rest opens (either (own refl))
     where
       either : (with_fields (F (frames from))).IsString text → FieldFinds Room from text (piece string text ∷ []) from.openers rest
@@ -67,10 +66,10 @@ module _ (Room : ℕ → Type 0) (F : ℕ → Host → List ℕ → Type 0) (beg
       same_openers from [] [] after rest opens (record { done = from.done; mode = from.mode; held = from.held; goes = refl; pieces_are = sym (append-nil (field_pieces from)); stops = stops })
   all_found G from (p ∷ ps) after rest fit unmarked passed opens none stops =
       let (mid, is) = some_before (λ o. openers_through o ps) refl (openers_by from.openers p.class p.text) after opens in
-      let first = one_found G from p.class p.text mid (spelled ps ++ rest) unmarked fit.0 fit.1 passed.0 passed.1 is (first_colon from.outer none) (subst (StopsAt from.mode from.held) (append_assoc p.text (spelled ps) rest) stops) in
+      let first = one_found G from p.class p.text mid (spelled ps ++ rest) unmarked fit.0 fit.1 passed.0 passed.1 is (λ some. ((none some).0, tt)) (subst (StopsAt from.mode from.held) (append_assoc p.text (spelled ps) rest) stops) in
       let s : FieldScanned = field_state from.outer first.done mid first.mode first.held in
       let found = all_found G s ps after rest fit.3 fit.2 (subst (λ n. ArePassed Room F n ps) (depth_is from.openers mid p.class p.text (levels_open from.outer) is) passed.2)
-      (sym (ap (λ o. openers_through o ps) is) ∙ opens) (later_colon from.outer mid is none) first.stops in
+      (sym (ap (λ o. openers_through o ps) is) ∙ opens) (λ some. subst (λ n. HasNoColon n ps) (ap (λ n. depth_after n p) (sym (add-zero (length from.openers))) ∙ depth_is from.openers mid p.class p.text 0 is ∙ add-zero (length mid)) (none some).1) first.stops in
       record {
         done = found.done;
         mode = found.mode;
@@ -79,15 +78,6 @@ module _ (Room : ℕ → Type 0) (F : ℕ → Host → List ℕ → Type 0) (beg
         pieces_are = simp (found.pieces_are, first.pieces_are, append_assoc);
         stops = found.stops;
       }
-    where
-      later_colon : (outer : List Level) (mid : List ℕ) → openers_by from.openers p.class p.text ≡ Some mid → HasNoColonIn outer (length from.openers) (p ∷ ps) → HasNoColonIn outer (length mid) ps
-      later_colon [] mid is h = tt
-      later_colon (level ∷ outer) mid is h =
-          subst (λ n. HasNoColon n ps) (ap (λ n. depth_after n p) (sym (add-zero (length from.openers))) ∙ depth_is from.openers mid p.class p.text 0 is ∙ add-zero (length mid)) h.1
-
-      first_colon : (outer : List Level) → HasNoColonIn outer (length from.openers) (p ∷ ps) → HasNoColonIn outer (length from.openers) (p ∷ [])
-      first_colon [] h = tt
-      first_colon (level ∷ outer) h = (h.0, tt)
 
 -- after `{` in a literal part, what isn't another
 pub code_moves : (host : Host) (named : Bool) (held : List ℕ) (c : ℕ) → c == 123 ≡ false → field_move (body host literal named after_brace) held c ≡ begins_code host
@@ -167,7 +157,7 @@ module _ (Room : ℕ → Type 0) (outer : List Level) (done : List Piece) (opene
     code_goes : (place : Place) (held : List ℕ) (inside : List Piece) (e : ℕ) (t : List Piece → FieldScanned) → AreInside (with_fields G) inside (e ∷ []) → ArePassed Room F (depth + 1) inside → start_of e ≡ Start.Operator → is_opening e ≡ false → ((ps : List Piece) → code_operator (level_at place held) outer ps e ≡ Some (t ps)) → Goes Room (in_field place held) (spelled inside ++ e ∷ []) (t inside)
     code_goes place held inside e t is passed starts_as no_bracket ends =
         let found = all_found Room F begin run G (in_field place held) inside [] (e ∷ []) is.fit is.unmarked (subst (λ n. ArePassed Room F n inside) (sym (deeper place held)) passed)
-        (balanced_openers inside is.balanced []) is.colon (stops-fresh (spelled inside ++ e ∷ [])) in
+        (balanced_openers inside is.balanced []) (λ some. is.colon) (stops-fresh (spelled inside ++ e ∷ [])) in
         let level : Level = level_at place held in
         let s : FieldScanned = field_state (level ∷ outer) found.done [] found.mode found.held in
         let last : Goes Room s (e ∷ []) (t (field_pieces s)) =

@@ -98,7 +98,7 @@ module _ (Room : ℕ → Type 0) (F : ℕ → Host → List ℕ → Type 0) (beg
           let c = h.0.0 in
           let move : field_move (plain Mode.Start) [] c ≡ closes = rw h.0.2 in
           let marked : FieldScanned = field_fresh [] (piece mark (c ∷ []) ∷ []) [] in
-          let found = all_found Room F begin run G marked ps after rest h.3 h.2 k.2 l tt (stops-fresh _) in
+          let found = all_found Room F begin run G marked ps after rest h.3 h.2 k.2 l (λ some. absurd (some refl)) (stops-fresh _) in
           let last : FieldScanned = field_state [] found.done after found.mode found.held in
           rw h.0.1 (record {
             done = found.done;
@@ -109,7 +109,7 @@ module _ (Room : ℕ → Type 0) (F : ℕ → Host → List ℕ → Type 0) (beg
             stops = found.stops;
           })
       go class text h k l =
-          let found = all_found Room F begin run G (field_fresh [] [] []) (piece class text ∷ ps) after rest h refl k l tt (stops-fresh _) in
+          let found = all_found Room F begin run G (field_fresh [] [] []) (piece class text ∷ ps) after rest h refl k l (λ some. absurd (some refl)) (stops-fresh _) in
           record {
             done = found.done;
             mode = found.mode;

@@ -57,7 +57,7 @@ pieces_run outer depth pieces rest deep begun may = go outer deep
         record { done = found.done; after = open_after.0; mode = found.mode; held = found.held; goes = found.goes; pieces_are = found.pieces_are; stops = found.stops; opens = open_after.1; deep = many }
     go (l ∷ ls) is =
         let inside = begun.inside (omega (arith, is)) in
-        let found = fields_found (field_fresh (l ∷ ls) [] []) pieces open_after.0 rest begun.fit inside.0 open_after.1 inside.1 (stops-fresh (spelled pieces ++ rest)) in
+        let found = fields_found (field_fresh (l ∷ ls) [] []) pieces open_after.0 rest begun.fit inside.0 open_after.1 (λ some. inside.1) (stops-fresh (spelled pieces ++ rest)) in
         record { done = found.done; after = open_after.0; mode = found.mode; held = found.held; goes = found.goes; pieces_are = found.pieces_are; stops = found.stops; opens = open_after.1; deep = many }
 
 -- directly after the `{` of a field, where the text ends

@@ -76,8 +76,7 @@ itself_grows host specification named at c other no_slash no_break itself = grin
 
 -- after one quote more
 quote_seen : (q : ℕ) (at : At) (tail : List (List ℕ)) → has_triple q (quotes_seen q at ++ (q ∷ []) ∷ tail) ≡ false → (is_after_two (settled at) ≡ false) × (has_triple q (quotes_seen q (with_quote (settled at)) ++ tail) ≡ false)
-quote_seen q after_two tail h = grind (arith, eq-eqb q q refl)
-quote_seen q at tail h = (refl, h)
+quote_seen q at tail h = grind (arith, eq-eqb q q refl)
 
 -- a backslash and another character
 pub other_escaped : (host : Host) (place : Place) (named : Bool) (held : List ℕ) (c : ℕ) → is_brace c ≡ false → may_be_escaped host place c ≡ true → is_return c ≡ false → names host c ≡ false → field_move (body host place named after_slash) held c ≡ grows (body host place named between)
