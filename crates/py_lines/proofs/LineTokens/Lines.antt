@@ -134,15 +134,9 @@ pub whole_read : {text : List ℕ} {pieces : List Piece} {first start line : ℕ
     → HaveReadOf text pieces left first start line t → length text ≤ start → AreTokensOf pieces first t
 whole_read [] h end = record { kind = sym h.kind; indent = h.indent; tokens = sym (h.tokens ∙ append-nil _) }
 whole_read {text = text} {start = start} (p ∷ qs) h end =
-    absurd (omega (
-      arith,
-      end,
-      ap length h.are.spell,
-      length-drop start text,
-      byte_len-append p.text (spelled qs),
-      piece_some p.class p.text h.are.fit.0,
-      length-le-encodes p.text,
-    ))
+    let some = piece_some p.class p.text h.are.fit.0 in
+    let left = ap length h.are.spell ∙ length-drop start text in
+    absurd (omega (arith, end, left, some, byte_len-append p.text (spelled qs), length-le-encodes p.text))
 
 -- the mark in UTF-8
 abbrev mark_bytes : List ℕ

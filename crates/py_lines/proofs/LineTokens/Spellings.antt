@@ -61,15 +61,7 @@ prefix_low (a ∷ cs) begun = by cs (fielded_spelling a cs ∙ begun)
     by [] is = and_from (is_low a) true (low_unless a (λ no. both_ways _ (rw (no.0, no.1, no.2, no.3, no.4)) is)) refl
     by (b ∷ []) is =
         and_from (is_low a) _ (low_unless a (λ no. both_ways _ (rw (no.0, no.1, no.2, no.3)) is))
-        (and_from (is_low b) true (low_unless b (λ no. both_ways _ (rw (
-          no.0,
-          no.1,
-          no.2,
-          no.3,
-          and-false (is_r a),
-          and-false (is_b a || is_f a),
-          and-false (is_f a || is_t a),
-        )) is)) refl)
+        (and_from (is_low b) true (low_unless b (λ no. both_ways _ (simp (no.0, no.1, no.2, no.3, and-false)) is)) refl)
     by (b ∷ c ∷ others) is = absurd (both_ways _ refl is)
 
 -- the bytes of a character that isn't ASCII

@@ -4,7 +4,7 @@ use Rattle.std.specs.Prelude.{encode_utf8_all, if◌then◌else◌}
 use Rattle.std.specs.Str.{all_scalars, StartsWithNoChar}
 use Rattle.std.specs.Char.{len_utf8}
 use Rattle.std.specs.List.{list_all}
-use Rattle.std.proofs.lemmas.Bool.{both_ways, and_right, cases_Bool, cond_both, lt-ltb, cases_lt}
+use Rattle.std.proofs.lemmas.Bool.{both_ways, cases_Bool, cond_both, lt-ltb, cases_lt, false_from_ne_true, not-true, and_parts}
 use Rattle.std.proofs.lemmas.List.{append_cancel_left, length-take-le, take-append-drop, drop_all}
 use Rattle.std.proofs.lemmas.Str.{cons_from_encodes, encodes_same, length-le-encodes, encodes-append}
 use Rattle.py_lines.specs.Character.{is_line_feed, is_break, is_quote, is_word_character, is_word_start}
@@ -300,11 +300,8 @@ counted new s read text tallies sound line is =
 not_returned : (m : Mode) (c : ℕ) (b : Bool) → (is_free m ≡ false → meet_of m c ≡ moves.Breaks → ⊥)
     → (is_return_mode m && b) && not (is_line_feed c) ≡ false
 unfolding meet_of move_of
-not_returned modes.Return c b on = go (is_line_feed c) refl
-  where
-    go : (f : Bool) → is_line_feed c ≡ f → b && not (is_line_feed c) ≡ false
-    go true feeds = ap (λ f. b && not f) feeds ∙ and_right b false refl
-    go false other = absurd (on refl (ap (λ f. if f then moves.Closes else moves.Breaks) other))
+not_returned modes.Return c b on = false_from_ne_true _ (λ ends.
+    on refl (ap (λ f. if f then moves.Closes else moves.Breaks) (not-true (is_line_feed c) (and_parts b _ ends).1)))
 not_returned m c b on = refl
 
 module _ {bytes : List ℕ} {scan : Scan} {rest : List ℕ} (at : InFirst bytes scan rest) where
@@ -515,12 +512,8 @@ string_taken {begins} bytes n p within some low has begun q string_is first =
     let b = begins_string bytes q string_is first in
     let (y, cut, spells) = prefix_chars whole (q.text ++ b.more) after (b.spell ∙ sym spell) in
     let size : byte_len whole ≡ n + p.len
-    = ap length encodes ∙ omega (
-      arith,
-      length-append word (take p.len rest),
-      length-take-le n bytes within,
-      length-take-le p.len rest is.part.within,
-    ) in
+    = ap length encodes ∙ length-append word (take p.len rest)
+    ∙ omega (arith, length-take-le n bytes within, length-take-le p.len rest is.part.within) in
     let same : whole ≡ q.text
     = whole_read b whole y (fresh (piece string ended.text ∷ [])) cut ended.come.steps ended.come.stacked (omega arith)
     (omega (arith, size, some)) (free_stops modes.Free y refl) in

@@ -7,7 +7,7 @@ use Rattle.std.specs.Char.{IsScalar}
 use Rattle.std.proofs.lemmas.List.{append_cancel_left, drop-append-le, take-append-drop, take_all, drop_all, nil_from_length}
 use Rattle.std.proofs.lemmas.Str.{length-le-encodes, encodes-append, IsUtf8-drop, IsUtf8-had, IsCharBoundary-from_rest, IsCharBoundary-at_seam, encodes_same}
 use Rattle.std.proofs.Math.Seq.{take-append_seam}
-use Rattle.std.proofs.lemmas.Bool.{both_ways, and_from, eq-eqb, and_parts}
+use Rattle.std.proofs.lemmas.Bool.{both_ways, and_from, eq-eqb, and_parts, false_from_ne_true}
 use Rattle.py_lines.specs.Piece.{Class, line_end, Piece, spelled}
 use Rattle.py_lines.specs.Fields.{InClass, AreReadBefore, IsShallow, fielded}
 use Rattle.py_lines.specs.Reading.{Decodes, EndsLine}
@@ -378,11 +378,8 @@ fails_at_character old new c line_fault error has at is_line_fault =
 -- a line whose last brackets are closed ends with no line end, if it has none
 end_len-none : (d : ℕ) (ps : List Piece) → EndsNoLine d ps → depth_through d ps ≡ 0 → end_len_of ps ≡ 0
 end_len-none d [] none deep = refl
-end_len-none d (p ∷ []) none deep = go (is_line_end_class p.class) refl
-  where
-    go : (b : Bool) → is_line_end_class p.class ≡ b → (if is_line_end_class p.class then byte_len p.text else 0) ≡ 0
-    go true is = absurd (both_ways _ none.0 (and_from _ _ is (eq-eqb d 0 (sym (line_depth p d is) ∙ deep))))
-    go false is = ap (λ (b : Bool). if b then byte_len p.text else 0) is
+end_len-none d (p ∷ []) none deep = ap (λ (b : Bool). if b then byte_len p.text else 0) (false_from_ne_true (is_line_end_class p.class)
+    (λ is. both_ways _ none.0 (and_from _ _ is (eq-eqb d 0 (sym (line_depth p d is) ∙ deep)))))
 end_len-none d (p ∷ q ∷ ps) none deep = end_len-none (depth_after d p) (q ∷ ps) none.1 deep
 
 one_or : (ps : List Piece) → EndsNoLine 0 ps → (ps ≡ [] → ⊥) → cut 0 ps ≡ ps ∷ []

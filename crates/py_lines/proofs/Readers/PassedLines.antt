@@ -1,11 +1,11 @@
 -- Lines that were passed over are the text's next.
-use Rattle.std.proofs.Common.{◌≡◌, ℕ, zero, suc, ◌+◌, ◌-◌, ◌<◌, ◌≤◌, inl, inr, true, false, None, Some, List, [], ◌∷◌, ◌++◌, length, take, drop, refl, sym, ap, ◌∙◌, subst, append_assoc, append-nil, arith, Bool, length-append}
+use Rattle.std.proofs.Common.{◌≡◌, ℕ, zero, suc, ◌+◌, ◌-◌, ◌<◌, ◌≤◌, inl, inr, true, false, None, Some, List, [], ◌∷◌, ◌++◌, length, take, drop, refl, sym, ap, ◌∙◌, subst, append_assoc, append-nil, arith, length-append, ⊎_elim}
 use Rattle.std.specs.Prelude.{encode_utf8_all, flat_map}
 use Rattle.std.specs.Str.{all_scalars, IsCharBoundary, IsUtf8}
 use Rattle.std.proofs.lemmas.List.{drop-drop, length-append, length-take-le, length-drop, take-append-drop, take-append-le, take_all}
 use Rattle.std.proofs.lemmas.Str.{IsCharBoundary-from_rest, IsCharBoundary-from_take, IsUtf8-drop, IsUtf8-had, encodes-append, length-le-encodes}
 use Rattle.std.proofs.Math.Seq.{drop-append_seam, take-append_seam}
-use Rattle.std.proofs.lemmas.Bool.{cond_both, both_ways}
+use Rattle.std.proofs.lemmas.Bool.{cond_both, both_ways, cases_Bool}
 use Rattle.py_lines.specs.Character.{is_line_feed, is_mark, is_return}
 use Rattle.py_lines.specs.Fields.{AreReadBefore}
 use Rattle.py_lines.specs.Piece.{line_end, Piece, begins, ends, spelled}
@@ -129,12 +129,10 @@ pub record IsShown (line following : List ℕ) : Type 0 where
   pub spell : following ≡ more ++ unseen
 
 pub shown : (line following : List ℕ) → EndsWhole line following → IsShown line following
-shown line following whole = by (ends is_return line) refl whole
-  where
-    by : (b : Bool) → ends is_return line ≡ b → EndsWhole line following → IsShown line following
-    by false other ended = record { more = []; unseen = following; exact = inl (other, refl); spell = refl }
-    by true is (inl feed) = absurd (both_ways _ feed is)
-    by true is (inr (b, others, spell, other)) = record { more = b ∷ []; unseen = others; exact = inr (is, (b, refl, other)); spell = spell }
+shown line following whole = ⊎_elim
+    (λ returned. ⊎_elim (λ feed. absurd (both_ways _ feed returned))
+    (λ next. record { more = next.0 ∷ []; unseen = next.1; exact = inr (returned, (next.0, refl, next.3)); spell = next.2 }) whole)
+    (λ other. record { more = []; unseen = following; exact = inl (other, refl); spell = refl }) (cases_Bool (ends is_return line))
 
 exactly_whole : (line more : List ℕ) → EndsExactly line more → EndsWhole line more
 exactly_whole line more (inl (feed, none)) = inl feed
