@@ -1,5 +1,6 @@
 -- The frames that the scan of a string with fields keeps are the brackets and fields that are open in the machine.
 use Rattle.std.proofs.Common.{◌≡◌, ℕ, suc, ◌+◌, ◌<◌, true, false, ◌==◌, Some, List, [], ◌∷◌, ◌++◌, length, refl, ap, ◌∙◌, subst, arith, length-append}
+use Rattle.std.proofs.lemmas.List.{length-map}
 use Rattle.py_lines.specs.Piece.{Class, operator, Piece, spelled}
 use Rattle.py_lines.specs.LogicalLine.{byte_len}
 use Rattle.py_lines.specs.Balance.{is_opening, is_closing, is_opener, is_closer, closing_of}
@@ -15,19 +16,11 @@ use Rattle.py_lines.proofs.Pieces.OpenBrackets.{stack_push, opener_pushes, close
 use Rattle.py_lines.proofs.LogicalLines.Cuts.{byte_len-append}
 
 -- so many are open
-bracket_frames-length : (start : ℕ) (bs : List Bracket) → length (bracket_frames start bs) ≡ length (bracket_openers bs)
-bracket_frames-length start [] = refl
-bracket_frames-length start (b ∷ bs) = ap suc (bracket_frames-length start bs)
-
-openers-length : (bs : List Bracket) → length (bracket_openers bs) ≡ length bs
-openers-length [] = refl
-openers-length (b ∷ bs) = ap suc (openers-length bs)
-
 pub frames-length : (base : ℕ) (outer : List Level) (done : List Piece) (openers : List ℕ) (fs : List Frame) → FramesFollow base outer done openers fs → length fs ≡ length openers + levels_open outer
 frames-length base [] done openers fs (no_openers, no_frames) = omega (arith, ap length no_openers, ap length no_frames)
 frames-length base (l ∷ ls) done openers fs (bs, field, others, stack, openers_are, frames_are, at) =
     let start = base + byte_len (before literal (l ∷ ls)) in
-    omega (arith, ap length frames_are ∙ length-append (bracket_frames start bs) (frame.Field field ∷ others), bracket_frames-length start bs, ap length openers_are, frames-length base ls l.done l.openers others at.round)
+    omega (arith, ap length frames_are ∙ length-append (bracket_frames start bs) (frame.Field field ∷ others), length-map bs (λ (b : Bracket). frame.Bracket b.opener (start + b.place)), length-map bs (λ (b : Bracket). b.opener), ap length openers_are, frames-length base ls l.done l.openers others at.round)
 
 -- other finished pieces with the same open brackets
 abbrev pub AreOpenAlike : List Piece → List Piece → Type 0
@@ -82,7 +75,7 @@ bracket_opened base [] done openers fs c place inside follow opens room at = abs
 bracket_opened base (l ∷ ls) done openers fs c place inside (bs, field, others, stack, openers_are, frames_are, is) opens room at =
     let p : Piece = piece operator (c ∷ []) in
     let b : Bracket = record { opener = c; place = byte_len (spelled done) } in
-    let deep : length bs < 200 = omega (arith, room, ap length openers_are, openers-length bs) in
+    let deep : length bs < 200 = omega (arith, room, ap length openers_are, length-map bs (λ (b : Bracket). b.opener)) in
     let first : place ≡ base + byte_len (before literal (l ∷ ls)) + byte_len (spelled done) = omega (arith, at, byte_len-append (before literal (l ∷ ls)) (spelled done)) in
     (b ∷ bs, field, others, stack_push done p bs stack ∙ opener_pushes bs (byte_len (spelled done)) p opens deep, ap (λ (os : List ℕ). c ∷ os) openers_are, cc (first, frames_are), is)
 

@@ -1,6 +1,6 @@
 -- What the scan of a string with fields keeps, in the words of the machine with fields. It serves the contracts of private
 -- functions.
-use Rattle.std.specs.Prelude.{◌≡◌, ℕ, ◌+◌, ◌-◌, ◌<◌, ◌≤◌, ◌==◌, ◌&&◌, not, nat_lt, Bool, true, false, Option, None, Some, List, [], ◌∷◌, ◌++◌, length, drop, encode_utf8_all, if◌then◌else◌}
+use Rattle.std.specs.Prelude.{◌≡◌, ℕ, ◌+◌, ◌-◌, ◌<◌, ◌≤◌, ◌==◌, ◌&&◌, not, nat_lt, Bool, true, false, Option, None, Some, List, [], ◌∷◌, ◌++◌, length, drop, map, encode_utf8_all, if◌then◌else◌}
 use Rattle.std.specs.Str.{all_scalars}
 use Rattle.py_lines.specs.Character.{is_backslash, is_brace, is_break, is_quote, is_space, is_word_character}
 use Rattle.py_lines.specs.LogicalLine.{byte_len}
@@ -106,12 +106,10 @@ keeps_byte m b = nat_lt b 128 && (not (is_break b) && stays_field m b)
 
 -- the frames of brackets, where their list starts at this byte
 abbrev pub bracket_frames : ℕ → List Bracket → List Frame
-bracket_frames start [] = []
-bracket_frames start (b ∷ bs) = frame.Bracket b.opener (start + b.place) ∷ bracket_frames start bs
+bracket_frames start bs = map (λ b. frame.Bracket b.opener (start + b.place)) bs
 
 abbrev pub bracket_openers : List Bracket → List ℕ
-bracket_openers [] = []
-bracket_openers (b ∷ bs) = b.opener ∷ bracket_openers bs
+bracket_openers bs = map (λ b. b.opener) bs
 
 -- no list stands within a specification
 abbrev pub NoListAt : Place → List Piece → List ℕ → Type 0

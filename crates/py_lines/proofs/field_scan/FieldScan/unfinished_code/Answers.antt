@@ -7,10 +7,12 @@ use Rattle.py_lines.proofs.field_scan.FieldScan.unfinished_code.Goals.{then-in_b
 use Rattle.py_lines.proofs.field_scan.FieldScan.unfinished_code.Goals as goal
 
 pub returns : goal.returns
-returns c = λ base depth t f is inside. elim c.if-in_bracket.branch [
-  | then-in_bracket w ↦ code_end c.args.self.now base depth t c.args.mode _ c.last_place.result f is inside (sym c.if-in_short.ensures) (sym c.if-in_long.ensures) (sym c.if-is_after_backslash.ensures) (λ bracket same. w.kind-is ∙ ap (λ (b : Bool). if b then OpenBracket else OpenField) (sym (w.if-in_bracket.true) ∙ c.in_bracket.ensures ∙ same)) c.last_place.ensures
-  | else-in_bracket w ↦ code_end c.args.self.now base depth t c.args.mode _ c.last_place.result f is inside (sym c.if-in_short.ensures) (sym c.if-in_long.ensures) (sym c.if-is_after_backslash.ensures) (λ bracket same. w.kind-is ∙ ap (λ (b : Bool). if b then OpenBracket else OpenField) (sym (w.if-in_bracket.false) ∙ c.in_bracket.ensures ∙ same)) c.last_place.ensures
-]
+returns c = λ base depth t f is inside.
+    code_end c.args.self.now base depth t c.args.mode _ c.last_place.result f is inside (sym c.if-in_short.ensures) (sym c.if-in_long.ensures) (sym c.if-is_after_backslash.ensures)
+    (λ bracket same. elim c.if-in_bracket.branch [
+      | then-in_bracket w ↦ w.kind-is ∙ ap (λ (b : Bool). if b then OpenBracket else OpenField) (sym w.if-in_bracket.true ∙ c.in_bracket.ensures ∙ same)
+      | else-in_bracket w ↦ w.kind-is ∙ ap (λ (b : Bool). if b then OpenBracket else OpenField) (sym w.if-in_bracket.false ∙ c.in_bracket.ensures ∙ same)
+    ]) c.last_place.ensures
 
 pub returns-then-in_short : goal.returns-then-in_short
 returns-then-in_short c = λ base depth t f is inside. (open_short, what_round c.args.mode depth t is ∙ rw (sym c.in_short.ensures ∙ c.if-in_short.true), refl, f.start)

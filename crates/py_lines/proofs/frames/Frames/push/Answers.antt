@@ -1,6 +1,5 @@
-use Rattle.std.proofs.Common.{◌<◌, List, ◌∷◌, length, sym, ap, ◌∙◌, subst, arith, length-set}
+use Rattle.std.proofs.Common.{◌<◌, List, ◌∷◌, length, ap, ◌∙◌, arith, length-set}
 use Rattle.py_lines.specs.declared.frames.Frame.{Frame}
-use Rattle.py_lines.specs.Private.Frames.{AreNested, OpensIn}
 use Rattle.py_lines.proofs.FieldScans.FrameArrays.{first_frames-push, room_left}
 use Rattle.py_lines.proofs.frames.Frames.push.Goals as goal
 
@@ -14,5 +13,4 @@ pub invariant_of-self : goal.invariant_of-self
 invariant_of-self c =
     let q = c.self.inside in
     let within : q.depth < length q.slots = room_left q.slots q.depth _ c.self.invariant.0 c.self.invariant.1 c.self.view_is c.requires.room in
-    let opens = subst (OpensIn c.args.frame) (sym c.self.view_is) c.requires.opens in
-    (length-set q.slots q.depth c.of.result ∙ c.self.invariant.0, omega (arith, within, c.self.invariant.0), subst AreNested (sym (first_frames-push q.slots q.depth c.of.result c.args.frame c.of.ensures within)) (opens, c.self.invariant.2))
+    (length-set q.slots q.depth c.of.result ∙ c.self.invariant.0, omega (arith, within, c.self.invariant.0), rw (first_frames-push q.slots q.depth c.of.result c.args.frame c.of.ensures within) (rw c.self.view_is c.requires.opens, c.self.invariant.2))

@@ -1,10 +1,11 @@
-use Rattle.std.proofs.Common.{◌≡◌, ◌-◌, length, take, drop, sym, ap, ◌∙◌, subst, arith, List, ℕ, length-append}
+use Rattle.std.proofs.Common.{◌≡◌, ◌-◌, length, take, drop, sym, ap, ◌∙◌, arith, List, ℕ, length-append}
 use Rattle.std.specs.Prelude.{encode_utf8_all}
 use Rattle.std.specs.Char.{len_utf8}
 use Rattle.std.proofs.lemmas.List.{take_rest}
 use Rattle.std.proofs.lemmas.Str.{len_utf8_bounds}
 use Rattle.py_lines.specs.Private.Run.{HoldsRun}
 use Rattle.py_lines.proofs.LineTokens.Strings.{InFirst, at_start, begins_string, first_run, first_stands, passed_all, passed_before, passed_with, still_first}
+use Rattle.py_lines.proofs.LineTokens.StringScans.{InFirst, at_start, begins_string, first_run, first_stands, passed_all, passed_before, passed_with, still_first}
 use Rattle.py_lines.proofs.Text.FirstCharacters.{first_size}
 use Rattle.py_lines.proofs.scan.Scan.take_first.Goals as goal
 use Rattle.py_lines.proofs.scan.Scan.take_first.Goals.{Else-is_free}
@@ -59,8 +60,7 @@ hold-rest-requires c =
 pub characters-preserved : goal.characters-preserved
 characters-preserved c =
     let after = after_is c.characters.rest.now c.in-Some.c c.len_utf8.result c.len_utf8.ensures.value in
-    let Held : List ℕ → Type 0 = λ t. HoldsRun c.push.new.self t c.hold-rest.result.now c.hold-rest.new.self in
-    record { first = first_run (goes (goal.at.characters-preserved c).Else-is_free) (subst Held after c.hold-rest.ensures) }
+    record { first = first_run (goes (goal.at.characters-preserved c).Else-is_free) (rw after at c.hold-rest.ensures) }
 
 pub slice_bounds-hold-count : goal.slice_bounds-hold-count
 slice_bounds-hold-count c = omega (arith, c.len_utf8.ensures.value, first_size c.in-Some.ensures)
