@@ -139,6 +139,7 @@ impl FieldScan {
     }
 
     /// Takes another operator inside brackets of a field's code.
+    #[tactic(auto, using(crate::proofs::FieldScans::Openings::bracket_wrong))]
     fn take_in_bracket(&mut self, c: char, opener: char, place: usize) -> FieldProgress
         requires bytes { place + len_utf8 c < 2 ^ 64 }
         requires operator { start_of c ≡ Operator }
@@ -160,6 +161,7 @@ impl FieldScan {
     }
 
     /// Takes another operator outside brackets of a field's code: `}` ends the field, and `:` begins its specification.
+    #[tactic(auto, using(crate::proofs::FieldScans::Openings::field_closes_none))]
     fn take_in_field(&mut self, c: char, field: OpenField, place: usize) -> FieldProgress
         requires bytes { place + len_utf8 c < 2 ^ 64 }
         requires operator { start_of c ≡ Operator }

@@ -251,6 +251,7 @@ impl Scan {
     }
 
     /// Takes the next character of the line, after closed pieces or in the open one.
+    #[tactic(auto, using(crate::proofs::LineScan::NextCharacter::takes_fielded))]
     fn push(&mut self, c: char) -> Progress
         requires bytes { self.old.stop + len_utf8 c < 2 ^ 64 }
         requires lines { self.old.count.line + 1 < 2 ^ 64 }
@@ -433,6 +434,7 @@ impl Scan {
 
     /// Takes characters that go on in the line, up to its end, bytes that begin no character, or a character that is
     /// refused. A CR at the end of the bytes stays open.
+    #[tactic(auto, using(crate::proofs::LineScan::LineStops::left_ends))]
     pub fn extend(&mut self, bytes: &[u8]) -> Stop
         requires way { ReachedInSomeLine self.old bytes.now }
         requires bytes { self.old.stop + length bytes.now < 2 ^ 64 }

@@ -1,15 +1,9 @@
 use Rattle.std.proofs.Common.{drop, refl, sym, ap, ◌∙◌}
 use Rattle.py_lines.specs.declared.frames.Frame.TheVariants as frame
-use Rattle.py_lines.proofs.FieldScans.Openings.{bracket_closes, bracket_wrong, bracket_passes}
+use Rattle.py_lines.proofs.FieldScans.Openings.{bracket_closes, bracket_passes}
 use Rattle.py_lines.proofs.FieldScans.Places.{some_open}
 use Rattle.py_lines.proofs.field_scan.FieldScan.take_in_bracket.Goals as goal
 use Rattle.py_lines.proofs.field_scan.FieldScan.take_in_bracket.Goals.{then-is_closing+else-c-closing_of, else-is_closing}
-
-pub returns-then-c-closing_of-clause-takes : goal.returns-then-c-closing_of-clause-takes
-returns-then-c-closing_of-clause-takes c = λ depth base t follow inside at is.
-    let (spot, (others, top)) = c.requires.innermost in
-    bracket_wrong c.args.self.now base depth c.args.c c.args.place t follow inside at is c.requires.operator c.args.opener spot others top
-    (sym c.is_closing.ensures ∙ c.if-is_closing.true) (λ like. c.if-c-closing_of.true (like ∙ sym c.closing_of.ensures))
 
 pub returns-clause-takes : goal.returns-clause-takes
 returns-clause-takes c = λ depth base t follow inside at is.

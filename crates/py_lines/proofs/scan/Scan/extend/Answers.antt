@@ -16,16 +16,10 @@ goes c left =
     goes_character left c.in-Some.ensures (sym c.ends_before.ensures ∙ c.if-ends_before.false) c.push.result c.push.new.self c.push.ensures c.in-Going.is
     c.len_utf8-len.result c.len_utf8-len.ensures.value
 
-pub characters-init : goal.characters-init
-characters-init c = record { goes = λ m line whole start r. r }
-
 pub take_pieces-requires : goal.take_pieces-requires
 take_pieces-requires c =
     let at = gone c.requires.way c.characters.invariant.goes in
     record { bytes = omega (arith, c.requires.bytes, at.room); lines = omega (arith, c.requires.lines, at.room, at.lines) }
-
-pub returns-in-LineEnd : goal.returns-in-LineEnd
-returns-in-LineEnd c = record { stops = left_ends c.characters.invariant.goes c.in-LineEnd.is c.take_pieces.ensures.reached }
 
 pub returns-in_default : goal.returns-in_default
 returns-in_default c = record { stops = stops_text (left_to (goal.at.returns-in_default c).In-Bytes) c.in_default.ensures }
