@@ -1,5 +1,5 @@
 -- The frames that the scan of a string with fields keeps are the brackets and fields that are open in the machine.
-use Rattle.std.proofs.Common.{◌≡◌, ℕ, suc, ◌+◌, ◌<◌, true, false, ◌==◌, Some, List, [], ◌∷◌, ◌++◌, length, refl, ap, ◌∙◌, subst, arith, length-append}
+use Rattle.std.proofs.Common.{◌≡◌, ℕ, ◌+◌, ◌<◌, true, false, ◌==◌, Some, List, [], ◌∷◌, ◌++◌, length, refl, ap, ◌∙◌, subst, arith, length-append}
 use Rattle.std.proofs.lemmas.List.{length-map}
 use Rattle.py_lines.specs.Piece.{Class, operator, Piece, spelled}
 use Rattle.py_lines.specs.LogicalLine.{byte_len}

@@ -1,8 +1,7 @@
-use Rattle.std.proofs.Common.{ℕ, List, subst, length-take, ◌-◌, length, drop, take, sym, ap, ◌∙◌, arith, length-drop, take_all}
+use Rattle.std.proofs.Common.{ℕ, List, subst, length-take, ◌-◌, length, drop, take, ap, arith, length-drop, take_all}
 use Rattle.std.specs.Prelude.{IsUtf8}
-use Rattle.std.proofs.lemmas.Bool.{ltb-true}
 use Rattle.std.proofs.lemmas.List.{take_rest}
-use Rattle.py_lines.proofs.LineScan.Spans.{ascii_comment, wide_comment}
+use Rattle.py_lines.proofs.LineScan.Spans.{wide_comment}
 use Rattle.py_lines.proofs.run.whole_comment.Goals as goal
 
 pub returns : goal.returns

@@ -1,5 +1,5 @@
 use Rattle.std.proofs.Common.{◌-◌, length, take, drop, sym, arith, ◌∙◌}
-use Rattle.py_lines.proofs.LineScan.LineStops.{GoesTo, gone, goes_long, left_ends, left_goes, goes_run, goes_character, stops_line, stops_returned, stops_refused, stops_text}
+use Rattle.py_lines.proofs.LineScan.LineStops.{GoesTo, gone, goes_long, left_goes, goes_run, goes_character, stops_line, stops_returned, stops_refused, stops_text}
 use Rattle.py_lines.proofs.Text.FirstCharacters.{first_size}
 use Rattle.py_lines.proofs.scan.Scan.extend.Goals as goal
 use Rattle.py_lines.proofs.scan.Scan.extend.Goals.{In-Bytes, In-Going}
